@@ -1,0 +1,91 @@
+-- The graph of objects, as a program sees its heap: nothing moves and nothing is freed.
+use Rattle.std.specs.Prelude.{ℕ, ◌+◌, ◌==◌, Bool, true, false, ◌&&◌, List, [], Option, Some, None, replicate, slice_get, slice_set, unwrap_or, if◌then◌else◌, nat_le}
+use Rattle.shen_graph.specs.declared.name.Name.{Name}
+
+-- a reference: null, or the name of an object
+abbrev pub Reference : Type 0
+Reference = Option Name
+
+-- an object: its reference fields and its numbers
+pub record Object : Type 0 where
+  pub refs : List Reference
+  pub nums : List ℕ
+
+-- for each name the object, if there is one; for each thread, counted from 1, its roots; how many objects each thread made
+pub record Graph : Type 0 where
+  pub object : Name → Option Object
+  pub root : ℕ → ℕ → Reference
+  pub count : ℕ → ℕ
+
+abbrev pub same_name : Name → Name → Bool
+same_name a b = (a.thread == b.thread) && (a.count == b.count)
+
+-- equal references: both null, or of one name
+abbrev pub same_reference : Reference → Reference → Bool
+same_reference None None = true
+same_reference None (Some b) = false
+same_reference (Some a) None = false
+same_reference (Some a) (Some b) = same_name a b
+
+-- a new object: its references are null and its numbers are 0
+abbrev pub blank : ℕ → ℕ → Object
+blank refs nums = record { refs = replicate refs None; nums = replicate nums 0 }
+
+-- what a reference names: null names nothing, which has no field and no number
+abbrev pub named : Graph → Reference → Object
+named g None = record { refs = []; nums = [] }
+named g (Some n) = unwrap_or (g.object n) (record { refs = []; nums = [] })
+
+-- the field of the object that a root of the thread names. There is none where the root is null, or the object has no such field
+abbrev pub field_at : Graph → ℕ → ℕ → ℕ → Option Reference
+field_at g thread root field = slice_get (named g (g.root thread root)).refs field
+
+-- the same for a number
+abbrev pub number_at : Graph → ℕ → ℕ → ℕ → Option ℕ
+number_at g thread root index = slice_get (named g (g.root thread root)).nums index
+
+-- The graph where one thing is another, and all else is as before.
+
+abbrev pub with_root : Graph → ℕ → ℕ → Reference → Graph
+with_root g thread root value =
+    record g { root = λ t r. if (t == thread) && (r == root) then value else g.root t r }
+
+abbrev pub with_object : Graph → Name → Object → Graph
+with_object g name object =
+    record g { object = λ n. if same_name n name then Some object else g.object n }
+
+-- the object that a reference names is another; null names nothing
+abbrev pub with_named : Graph → Reference → Object → Graph
+with_named g None object = g
+with_named g (Some n) object = with_object g n object
+
+abbrev pub with_field : Graph → ℕ → ℕ → ℕ → Reference → Graph
+with_field g thread root field value =
+    let r = g.root thread root in
+    with_named g r (record { refs = slice_set (named g r).refs field value; nums = (named g r).nums })
+
+abbrev pub with_number : Graph → ℕ → ℕ → ℕ → ℕ → Graph
+with_number g thread root index value =
+    let r = g.root thread root in
+    with_named g r (record { refs = (named g r).refs; nums = slice_set (named g r).nums index value })
+
+-- the name of the thread's next object
+abbrev pub fresh : Graph → ℕ → Name
+fresh g thread = record { thread = thread; count = g.count thread + 1 }
+
+-- the thread made one object more, of its fresh name
+abbrev pub with_fresh : Graph → ℕ → Object → Graph
+with_fresh g thread object =
+    record (with_object g (fresh g thread) object) { count = λ t. if t == thread then g.count t + 1 else g.count t }
+
+-- the object that is there from the start, in root 0 of each thread: 16 references and no number
+abbrev pub hub : Name
+hub = record { thread = 0; count = 1 }
+
+-- how the threads 1 to `threads` begin
+abbrev pub opening : ℕ → Graph
+opening threads = record {
+  object = λ n. if same_name n hub then Some (blank 16 0) else None;
+  root = λ t r. if nat_le 1 t && nat_le t threads && (r == 0) then Some hub else None;
+  count = λ _. 0;
+}

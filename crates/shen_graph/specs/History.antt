@@ -1,0 +1,45 @@
+-- Histories: the commands of all threads in one order, each with its reply.
+use Rattle.std.specs.Prelude.{ℕ, ◌≢◌, ◌==◌, List, [], ◌∷◌, filter, map, Bool, true, false, if◌then◌else◌, All}
+use Rattle.shen_graph.specs.declared.command.Command.{Command}
+use Rattle.shen_graph.specs.declared.command.Reply.{Reply}
+use Rattle.shen_graph.specs.declared.command.Reply.TheVariants as reply
+use Rattle.shen_graph.specs.Graph.{Graph}
+use Rattle.shen_graph.specs.Step.{IsLegal, outcome}
+
+-- a thread's command, and what it was answered
+pub record Entry : Type 0 where
+  pub thread : ℕ
+  pub command : Command
+  pub reply : Reply
+
+abbrev pub is_full : Reply → Bool
+is_full reply.Full = true
+is_full _ = false
+
+-- the graph after an entry
+abbrev pub after_entry : Graph → Entry → Graph
+after_entry g e = if is_full e.reply then g else (outcome g e.thread e.command).graph
+
+-- the graph after these entries, in order
+abbrev pub after : Graph → List Entry → Graph
+after g [] = g
+after g (e ∷ es) = after (after_entry g e) es
+
+-- each entry is legal in the graph after the entries before it
+abbrev pub EachIsLegal : Graph → List Entry → Type 0
+EachIsLegal g [] = Unit {0}
+EachIsLegal g (e ∷ es) = IsLegal g e.thread e.command e.reply (after_entry g e) × EachIsLegal (after_entry g e) es
+
+-- the entries of one thread, in their order
+abbrev pub of_thread : List Entry → ℕ → List Entry
+of_thread history thread = filter (λ e. e.thread == thread) history
+
+abbrev pub commands_of : List Entry → List Command
+commands_of es = map (λ e. e.command) es
+
+abbrev pub replies_of : List Entry → List Reply
+replies_of es = map (λ e. e.reply) es
+
+-- no allocation was refused
+abbrev pub IsWithoutFull : List Entry → Type 0
+IsWithoutFull history = All (λ e. e.reply ≢ reply.Full) history

@@ -1,0 +1,6 @@
+pub mod Valid
+pub mod Graph
+pub mod Step
+pub mod History
+pub mod Reach
+pub mod Crowd

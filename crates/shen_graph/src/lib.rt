@@ -1,0 +1,16 @@
+//! The graph that a heap stands for: names, commands and replies, scripts and what they were answered, and the rows of
+//! a graph that is to be written.
+//!
+//! The definitions that the whole project is believed by stand in `specs/`: the graph and the step of each command
+//! (`Graph`, `Step`), histories (`History`), reachability (`Reach`) and crowding (`Crowd`).
+#![tactic(auto)]
+
+mod command;
+mod name;
+
+pub use command::{Command, Reply};
+pub use name::Name;
+
+/// Memory was refused. Nothing was changed.
+#[derive(Clone, Copy, Debug, PartialEq, Eq)]
+pub struct NoMemory;
