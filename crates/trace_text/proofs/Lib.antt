@@ -1,0 +1,4 @@
+pub mod Digits
+pub mod Turns
+pub mod Numbers
+pub mod Lines

@@ -1,0 +1,67 @@
+-- How traces are spelled. Each trace has spellings that differ only in how the threads' lines are mixed.
+use Rattle.std.specs.Prelude.{ℕ, ◌^◌, ◌<◌, ◌≤◌, List, [], ◌∷◌, ◌++◌, codes}
+use Rattle.std.specs.List.{flat_map}
+use Rattle.std.specs.Fmt.{decimal}
+use Rattle.shen_graph.specs.declared.command.Command.{Command}
+use Rattle.shen_graph.specs.declared.command.Command.TheVariants.{New, Get, Set, Cas, Xchg, Rd, Wr, Copy, Drop, Same, Gc}
+
+use Rattle.shen_graph.specs.Valid.{IsValid}
+
+-- the byte between two words, and the one at the end of a line
+abbrev pub space : ℕ
+space = 32
+
+abbrev pub newline : ℕ
+newline = 10
+
+-- each number, after one space
+abbrev pub numbers : List ℕ → List ℕ
+numbers ns = flat_map (λ n. space ∷ decimal n) ns
+
+-- the word of a command
+abbrev pub word_of : Command → List ℕ
+word_of (New dst refs nums) = codes "new"
+word_of (Get dst src field) = codes "get"
+word_of (Set obj field val) = codes "set"
+word_of (Cas obj field expect val) = codes "cas"
+word_of (Xchg dst obj field val) = codes "xchg"
+word_of (Rd obj index) = codes "rd"
+word_of (Wr obj index value) = codes "wr"
+word_of (Copy dst src) = codes "copy"
+word_of (Drop dst) = codes "drop"
+word_of (Same a b) = codes "same"
+word_of Gc = codes "gc"
+
+-- the numbers behind it
+abbrev pub numbers_of : Command → List ℕ
+numbers_of (New dst refs nums) = dst ∷ refs ∷ nums ∷ []
+numbers_of (Get dst src field) = dst ∷ src ∷ field ∷ []
+numbers_of (Set obj field val) = obj ∷ field ∷ val ∷ []
+numbers_of (Cas obj field expect val) = obj ∷ field ∷ expect ∷ val ∷ []
+numbers_of (Xchg dst obj field val) = dst ∷ obj ∷ field ∷ val ∷ []
+numbers_of (Rd obj index) = obj ∷ index ∷ []
+numbers_of (Wr obj index value) = obj ∷ index ∷ value ∷ []
+numbers_of (Copy dst src) = dst ∷ src ∷ []
+numbers_of (Drop dst) = dst ∷ []
+numbers_of (Same a b) = a ∷ b ∷ []
+numbers_of Gc = []
+
+-- a line of a command: the thread, the command's word and its numbers
+pub record Line : Type 0 where
+  pub thread : ℕ
+  pub command : Command
+
+abbrev pub line : Line → List ℕ
+line l = decimal l.thread ++ space ∷ (word_of l.command ++ (numbers (numbers_of l.command) ++ newline ∷ []))
+
+-- a number that is written fits 64 bits
+abbrev pub FitsValue : Command → Type 0
+FitsValue (Wr obj index value) = value < 2 ^ 64
+FitsValue _ = Unit {0}
+
+-- what may stand on a line where there are so many threads, counted from 1
+pub record IsLine (threads : ℕ) (l : Line) : Type 0 where
+  pub from_one : 1 ≤ l.thread
+  pub to_last : l.thread ≤ threads
+  pub valid : IsValid l.command
+  pub fits : FitsValue l.command

@@ -1,0 +1,6 @@
+//! Traces and answers as text.
+#![tactic(auto)]
+
+mod scan;
+mod kind;
+mod line;
