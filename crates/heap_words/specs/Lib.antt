@@ -1,0 +1,4 @@
+pub mod Ranges
+pub mod Faults
+pub mod Encoding
+pub mod Place
