@@ -1,0 +1,21 @@
+//! Bytes in and bytes out, with faults that are counted: what a program reads from and writes to,
+//! the standard library's readers and writers behind it, and sources and sinks in memory for tests.
+#![tactic(auto)]
+
+mod source;
+
+pub use source::Source;
+
+mod sink;
+
+pub use sink::Sink;
+
+/// A read or a write did not take place, and the object that was asked counted a fault.
+#[derive(Clone, Copy, Debug, PartialEq, Eq)]
+pub enum Failed {
+    Failed,
+}
+
+/// The allocator refused a request for memory.
+#[derive(Clone, Copy, Debug, PartialEq, Eq)]
+pub struct NoMemory;
