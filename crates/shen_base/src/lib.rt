@@ -2,13 +2,16 @@
 //! the standard library's readers and writers behind it, and sources and sinks in memory for tests.
 #![tactic(auto)]
 
+mod adapter;
+mod count;
+mod memory;
+mod sink;
 mod source;
 
-pub use source::Source;
-
-mod sink;
-
+pub use adapter::{InSource, OutSink};
+pub use memory::{MemorySink, MemorySource, PlainSource};
 pub use sink::Sink;
+pub use source::Source;
 
 /// A read or a write did not take place, and the object that was asked counted a fault.
 #[derive(Clone, Copy, Debug, PartialEq, Eq)]
@@ -19,3 +22,6 @@ pub enum Failed {
 /// The allocator refused a request for memory.
 #[derive(Clone, Copy, Debug, PartialEq, Eq)]
 pub struct NoMemory;
+
+#[cfg(test)]
+mod tests;
