@@ -1,0 +1,29 @@
+//! Where bytes go.
+ghost use Rattle.std.specs.Prelude.{◌≡◌, ℕ, ◌≤◌, List, Option, length, take, IfOk, OnErr};
+ghost use Rattle.std.specs.Io.KnownBytes.{Appends, Keeps};
+ghost use Rattle.shen_base.specs.Count.{Rose};
+
+use crate::Failed;
+
+/// Where bytes go, in order, with a count of the faults so far.
+pub trait Sink {
+    // The bytes that were written so far, where they are told.
+    ghost written: { Self → Option (List ℕ) };
+
+    // The faults so far, a count that stands still at its last value.
+    ghost faults: { Self → ℕ };
+
+    /// Writes bytes of the front of `piece`, and returns how many. It may take fewer than there are, but takes none
+    /// only of an empty piece.
+    fn write(&mut self, piece: &[u8]) -> Result<usize, Failed>
+        // At Ok the front of the piece was appended.
+        ensures within { IfOk result (λ n. n ≤ length piece.now) }
+        ensures appended { IfOk result (λ n. Appends (written self.old) (written self.new) (take n piece.now)) }
+        ensures none_only_of_empty { IfOk result (λ n. n ≡ 0 → length piece.now ≡ 0) }
+
+        // At Failed no byte was written, and a fault was counted.
+        ensures failed_writes_none { OnErr result (Keeps (written self.old) (written self.new)) }
+        ensures failed_only_by_fault { OnErr result (Rose (faults self.old) (faults self.new)) }
+
+        ensures faults_never_fall { faults self.old ≤ faults self.new };
+}

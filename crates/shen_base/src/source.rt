@@ -1,0 +1,29 @@
+//! Where bytes come from.
+ghost use Rattle.std.specs.Prelude.{◌≡◌, ℕ, ◌<◌, ◌≤◌, List, Option, length, take, IfOk, OnErr};
+ghost use Rattle.std.specs.Io.KnownBytes.{Consumes, IsAtEnd, Keeps};
+ghost use Rattle.shen_base.specs.Count.{Rose};
+
+use crate::Failed;
+
+/// Where bytes come from, in order, with a count of the faults so far.
+pub trait Source {
+    // The bytes that reads will give from here on, where they are told.
+    ghost left: { Self → Option (List ℕ) };
+
+    // The faults so far, a count that stands still at its last value.
+    ghost faults: { Self → ℕ };
+
+    /// Puts the next bytes at the front of `buf`, and returns how many. It may give fewer than there is room for;
+    /// none at room for some is the end of the input. What stands in `buf` behind them, or after `Failed`, is not told.
+    fn read(&mut self, buf: &mut [u8]) -> Result<usize, Failed>
+        // At Ok the front of the buffer holds the next bytes, and no byte is lost.
+        ensures within { IfOk result (λ n. n ≤ length buf.new) }
+        ensures next_bytes { IfOk result (λ n. Consumes (left self.old) (left self.new) (take n buf.new)) }
+        ensures none_only_at_end { IfOk result (λ n. n ≡ 0 → 0 < length buf.new → IsAtEnd (left self.new)) }
+
+        // At Failed no byte was taken, and a fault was counted.
+        ensures failed_takes_none { OnErr result (Keeps (left self.old) (left self.new)) }
+        ensures failed_only_by_fault { OnErr result (Rose (faults self.old) (faults self.new)) }
+
+        ensures faults_never_fall { faults self.old ≤ faults self.new };
+}
