@@ -1,0 +1,2 @@
+//! The graph that the words of a heap stand for, while no object has a second copy.
+#![tactic(auto)]
