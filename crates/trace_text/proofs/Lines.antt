@@ -226,12 +226,12 @@ unfolding command_at
 command_takes bytes x e =
     then_some (kind_among kinds bytes) (λ k. numbers_at (limits k.0) k.1 >>= λ ns. Some (command_from k.0 ns.0, ns.1)) x e (λ k at_k e1.
     then_some (numbers_at (limits k.0) k.1) (λ ns. Some (command_from k.0 ns.0, ns.1)) x e1 (λ ns at_ns e2.
-        let kind = kind_takes kinds bytes k at_k in
-        let rest = numbers_take (limits k.0) k.1 ns (limits_small k.0) at_ns in
-        let made : Command × List ℕ = (command_from k.0 ns.0, ns.1) in
-        let valid = made_valid k.0 ns.0 rest.1 in
-        let spelled : bytes ≡ word_of made.0 ++ (numbers (numbers_of made.0) ++ made.1) = rw (made_word k.0 ns.0, made_numbers k.0 ns.0 rest.1) (kind ∙ ap (λ (bs : List ℕ). word k.0 ++ bs) rest.0) in
-        subst (λ (y : Command × List ℕ). (bytes ≡ word_of y.0 ++ (numbers (numbers_of y.0) ++ y.1)) × IsValid y.0 × FitsValue y.0) (same_some made x e2) (spelled, valid.0, valid.1)))
+    let kind = kind_takes kinds bytes k at_k in
+    let rest = numbers_take (limits k.0) k.1 ns (limits_small k.0) at_ns in
+    let made : Command × List ℕ = (command_from k.0 ns.0, ns.1) in
+    let valid = made_valid k.0 ns.0 rest.1 in
+    let spelled : bytes ≡ word_of made.0 ++ (numbers (numbers_of made.0) ++ made.1) = rw (made_word k.0 ns.0, made_numbers k.0 ns.0 rest.1) (kind ∙ ap (λ (bs : List ℕ). word k.0 ++ bs) rest.0) in
+    subst (λ (y : Command × List ℕ). (bytes ≡ word_of y.0 ++ (numbers (numbers_of y.0) ++ y.1)) × IsValid y.0 × FitsValue y.0) (same_some made x e2) (spelled, valid.0, valid.1)))
 
 command_again_at : (c : Command) (rest : List ℕ) → IsValid c → FitsValue c → NoDigit rest → command_at (word_of c ++ (numbers (numbers_of c) ++ rest)) ≡ Some (c, rest)
 unfolding command_at
@@ -254,12 +254,12 @@ line_takes threads bytes x small e =
     then_some (behind (32 ∷ []) t.1) (λ rest. command_at rest >>= λ c. behind (10 ∷ []) c.1 >>= λ end. Some (record { thread = t.0; command = c.0 }, end)) x e1 (λ rest at_rest e2.
     then_some (command_at rest) (λ c. behind (10 ∷ []) c.1 >>= λ end. Some (record { thread = t.0; command = c.0 }, end)) x e2 (λ c at_c e3.
     then_some (behind (10 ∷ []) c.1) (λ end. Some (record { thread = t.0; command = c.0 }, end)) x e3 (λ end at_end e4.
-        let thread = thread_takes threads bytes t small at_t in
-        let command = command_takes rest c at_c in
-        let made : Line × List ℕ = (record { thread = t.0; command = c.0 }, end) in
-        let spelled : bytes ≡ line made.0 ++ made.1 = line_parts bytes t.1 rest c.1 end made.0 thread.0 (behind_takes (32 ∷ []) t.1 rest at_rest) command.0 (behind_takes (10 ∷ []) c.1 end at_end) in
-        subst (λ (y : Line × List ℕ). (bytes ≡ line y.0 ++ y.1) × IsLine threads y.0) (same_some made x e4)
-        (spelled, record { from_one = thread.1; to_last = thread.2; valid = command.1; fits = command.2 })))))
+    let thread = thread_takes threads bytes t small at_t in
+    let command = command_takes rest c at_c in
+    let made : Line × List ℕ = (record { thread = t.0; command = c.0 }, end) in
+    let spelled : bytes ≡ line made.0 ++ made.1 = line_parts bytes t.1 rest c.1 end made.0 thread.0 (behind_takes (32 ∷ []) t.1 rest at_rest) command.0 (behind_takes (10 ∷ []) c.1 end at_end) in
+    subst (λ (y : Line × List ℕ). (bytes ≡ line y.0 ++ y.1) × IsLine threads y.0) (same_some made x e4)
+    (spelled, record { from_one = thread.1; to_last = thread.2; valid = command.1; fits = command.2 })))))
 
 pub line_again : (threads : ℕ) (l : Line) (rest : List ℕ) → threads < 2 ^ 64 → IsLine threads l → line_at threads (line l ++ rest) ≡ Some (l, rest)
 unfolding line_at

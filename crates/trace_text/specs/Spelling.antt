@@ -4,8 +4,8 @@ use Rattle.std.specs.List.{flat_map}
 use Rattle.std.specs.Fmt.{decimal}
 use Rattle.shen_graph.specs.declared.command.Command.{Command}
 use Rattle.shen_graph.specs.declared.command.Command.TheVariants.{New, Get, Set, Cas, Xchg, Rd, Wr, Copy, Drop, Same, Gc}
-
 use Rattle.shen_graph.specs.Valid.{IsValid}
+use Rattle.heap_words.specs.declared.config.Config.{Config}
 
 -- the byte between two words, and the one at the end of a line
 abbrev pub space : ℕ
@@ -65,3 +65,11 @@ pub record IsLine (threads : ℕ) (l : Line) : Type 0 where
   pub to_last : l.thread ≤ threads
   pub valid : IsValid l.command
   pub fits : FitsValue l.command
+
+-- a title and numbers, on a line of their own
+abbrev pub titled : List ℕ → List ℕ → List ℕ
+titled title ns = title ++ (numbers ns ++ newline ∷ [])
+
+-- the three lines at the head of a trace
+abbrev pub header : Config → List ℕ
+header c = titled (codes "shen") (1 ∷ []) ++ (titled (codes "heap") (c.regions ∷ c.region_words ∷ c.reserve ∷ []) ++ titled (codes "threads") (c.mutators ∷ c.helpers ∷ []))

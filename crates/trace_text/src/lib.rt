@@ -1,6 +1,10 @@
 //! Traces and answers as text.
 #![tactic(auto)]
 
-mod scan;
 mod kind;
 mod line;
+mod scan;
+mod source_bytes;
+mod trace;
+
+pub use trace::{Scripts, Trace, TraceFault};

@@ -14,7 +14,11 @@ fn thread_at(threads: u32, bytes: &[u8]) -> Option<(u64, &[u8])>
     ensures { option_map (λ x. (x.0, x.1.now)) result ≡ thread_at threads bytes.now }
 {
     let (thread, rest) = number_at(u64::from(threads), bytes)?;
-    if thread == 0 { None } else { Some((thread, rest)) }
+    if thread == 0 {
+        None
+    } else {
+        Some((thread, rest))
+    }
 }
 
 /// The command at the front, and what is behind its numbers.

@@ -1,0 +1,59 @@
+//! Traces: a configuration, and a script for each thread.
+ghost use Rattle.std.specs.Prelude.{◌≡◌};
+
+use heap_words::Config;
+use shen_graph::Script;
+use std::marker::Model;
+
+/// The scripts of the threads, that of thread 1 first. Contracts see them as a list of lists of commands.
+#[derive(Debug, Drop)]
+pub struct Scripts {
+    scripts: Vec<Script>,
+}
+
+impl Model for Scripts {
+    ghost use Rattle.std.specs.Prelude.{List};
+    ghost use Rattle.shen_graph.specs.declared.command.Command.{Command};
+
+    ghost Value = { List (List Command) };
+
+    ghost view = { λ s. s.scripts.items };
+}
+
+impl Scripts {
+    /// The scripts of these threads.
+    pub fn from_vec(scripts: Vec<Script>) -> Scripts
+        ensures { result ≡ scripts.items }
+    {
+        Scripts { scripts }
+    }
+
+    /// The scripts, that of thread 1 first.
+    pub fn list(&self) -> &[Script]
+        ensures { result.now ≡ self.now }
+    {
+        &self.scripts
+    }
+}
+
+/// A trace: the sizes of the heap, and what each thread is to run.
+#[derive(Debug, Drop)]
+pub struct Trace {
+    /// The sizes of the heap, and how many machines work on it.
+    pub config: Config,
+    /// A script for each mutator.
+    pub scripts: Scripts,
+}
+
+/// Why no trace was read.
+#[derive(Clone, Copy, Debug, PartialEq, Eq)]
+pub enum TraceFault {
+    /// The bytes are no trace.
+    NotRead,
+    /// There are more bytes than a trace may have. So many were read.
+    TooLong { bytes: u64 },
+    /// The source failed.
+    ReadFault,
+    /// Memory was refused.
+    NoMemory,
+}
