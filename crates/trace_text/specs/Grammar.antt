@@ -1,5 +1,5 @@
 -- Which bytes are a trace, and of which scripts.
-use Rattle.std.specs.Prelude.{ℕ, ◌≡◌, ◌≤◌, ◌==◌, List, [], ◌++◌, length, map, filter, All}
+use Rattle.std.specs.Prelude.{ℕ, ◌≡◌, ◌-◌, ◌≤◌, ◌==◌, List, [], ◌∷◌, ◌++◌, length, slice_index_or, slice_set, map, filter, All}
 use Rattle.std.specs.List.{flat_map, range_with_len, AllByRecursion}
 use Rattle.std.specs.Io.KnownBytes.{Consumes, IsAtEnd}
 use Rattle.std.specs.Prelude.{Option}
@@ -19,6 +19,17 @@ script_of lines thread = map (λ l. l.command) (filter (λ l. l.thread == thread
 -- the scripts of the threads 1 to `threads`
 abbrev pub scripts_of : ℕ → List Line → List (List Command)
 scripts_of threads lines = map (script_of lines) (range_with_len 1 threads)
+
+-- the scripts, with the command of one line more
+abbrev pub with_line : List (List Command) → Line → List (List Command)
+with_line scripts l = slice_set scripts (l.thread - 1) (slice_index_or scripts (l.thread - 1) [] ++ l.command ∷ [])
+
+-- these lines were taken from the front of the bytes, and what they say is in the scripts
+pub record HasTaken (threads : ℕ) (bytes rest : List ℕ) (scripts : List (List Command)) : Type 0 where
+  pub lines : List Line
+  pub in_range : AllByRecursion (IsLine threads) lines
+  pub spelled : bytes ≡ flat_map line lines ++ rest
+  pub by_thread : scripts ≡ scripts_of threads lines
 
 -- The bytes are the head of a trace and then lines of commands, and these are the threads' scripts.
 pub record Reads (bytes : List ℕ) (config : Config) (scripts : List (List Command)) : Type 0 where

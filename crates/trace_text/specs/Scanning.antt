@@ -1,5 +1,5 @@
 -- Reading from left to right. Each reader gives what it read and the bytes behind it, or nothing.
-use Rattle.std.specs.Prelude.{ℕ, ◌==◌, Bool, true, false, ◌&&◌, ◌||◌, List, [], ◌∷◌, ◌++◌, length, take, drop, Option, Some, None, nat_lt, slice_index, if◌then◌else◌}
+use Rattle.std.specs.Prelude.{ℕ, ◌==◌, Bool, true, false, ◌&&◌, ◌||◌, List, [], ◌∷◌, ◌++◌, codes, length, take, drop, Option, Some, None, nat_lt, slice_index, if◌then◌else◌}
 use Rattle.std.specs.Option.{option_and_then}
 use Rattle.std.specs.List.{prefix_len}
 use Rattle.std.specs.Char.{is_ascii_digit}
@@ -82,3 +82,13 @@ line_at threads bytes = do
   c ← command_at rest
   end ← behind (10 ∷ []) c.1
   Some (record { thread = t.0; command = c.0 }, end)
+
+-- the numbers at the head of a trace: those of its heap, and those of its threads
+unfoldable pub sizes_at : List ℕ → Option ((List ℕ × List ℕ) × List ℕ)
+sizes_at bytes = do
+  first ← behind (codes "shen 1" ++ 10 ∷ codes "heap") bytes
+  heap ← numbers_at (64 ∷ 1024 ∷ 63 ∷ []) first
+  second ← behind (10 ∷ codes "threads") heap.1
+  threads ← numbers_at (8 ∷ 3 ∷ []) second
+  end ← behind (10 ∷ []) threads.1
+  Some ((heap.0, threads.0), end)

@@ -3,6 +3,7 @@
 
 mod kind;
 mod line;
+mod read;
 mod scan;
 mod source_bytes;
 mod trace;
