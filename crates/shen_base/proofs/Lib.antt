@@ -1,2 +1,3 @@
-mod Lists
 pub mod CountLemmas
+mod Lists
+pub mod Runs
