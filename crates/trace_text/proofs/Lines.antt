@@ -92,7 +92,7 @@ kind_of (command.Drop dst) = Drop
 kind_of (command.Same a b) = Same
 kind_of command.Gc = Gc
 
-within_length : (bounds ns : List ℕ) → AreWithin bounds ns → length ns ≡ length bounds
+pub within_length : (bounds ns : List ℕ) → AreWithin bounds ns → length ns ≡ length bounds
 within_length [] [] h = refl
 within_length [] (n ∷ ns) h = absurd h
 within_length (b ∷ bounds) [] h = absurd h
@@ -107,11 +107,11 @@ one_listed : (ns : List ℕ) → length ns ≡ 1 → get_or ns 0 0 ∷ [] ≡ ns
 one_listed [] e = absurd (omega arith)
 one_listed (a ∷ ns) e = ap (λ (xs : List ℕ). a ∷ xs) (none_listed ns (omega arith))
 
-two_listed : (ns : List ℕ) → length ns ≡ 2 → get_or ns 0 0 ∷ get_or ns 1 0 ∷ [] ≡ ns
+pub two_listed : (ns : List ℕ) → length ns ≡ 2 → get_or ns 0 0 ∷ get_or ns 1 0 ∷ [] ≡ ns
 two_listed [] e = absurd (omega arith)
 two_listed (a ∷ ns) e = ap (λ (xs : List ℕ). a ∷ xs) (one_listed ns (omega arith))
 
-three_listed : (ns : List ℕ) → length ns ≡ 3 → get_or ns 0 0 ∷ get_or ns 1 0 ∷ get_or ns 2 0 ∷ [] ≡ ns
+pub three_listed : (ns : List ℕ) → length ns ≡ 3 → get_or ns 0 0 ∷ get_or ns 1 0 ∷ get_or ns 2 0 ∷ [] ≡ ns
 three_listed [] e = absurd (omega arith)
 three_listed (a ∷ ns) e = ap (λ (xs : List ℕ). a ∷ xs) (two_listed ns (omega arith))
 

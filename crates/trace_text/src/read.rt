@@ -40,15 +40,16 @@ fn config_at(bytes: &[u8]) -> Option<(Config, &[u8])>
     let (heap, threads, rest) = sizes_at(bytes)?;
     let [regions, region_words, reserve, _] = heap;
     let [mutators, helpers, _, _] = threads;
-    let config = Config::new(
+    match Config::new(
         regions as usize,
         region_words as usize,
         mutators as usize,
         helpers as usize,
         reserve as usize,
-    )
-    .ok()?;
-    Some((config, rest))
+    ) {
+        Ok(config) => Some((config, rest)),
+        Err(_) => None,
+    }
 }
 
 /// Takes one line, and adds its command to the script of its thread.
