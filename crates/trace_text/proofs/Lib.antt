@@ -3,3 +3,4 @@ pub mod Turns
 pub mod Numbers
 pub mod Lines
 pub mod Header
+pub mod Traces
