@@ -1,18 +1,16 @@
 -- The two laws of the reader of a trace's head.
-use Rattle.std.proofs.Common.{◌≡◌, ℕ, ◌^◌, ◌<◌, ◌≤◌, List, [], ◌∷◌, ◌++◌, length, get_or, take, Option, Some, None, Result, Ok, Err, refl, sym, ap, subst, ◌∙◌, append_assoc, lit<, arith, rules}
+use Rattle.std.proofs.Common.{◌≡◌, ℕ, ◌<◌, List, [], ◌∷◌, ◌++◌, length, get_or, take, Option, Some, None, Result, Ok, Err, refl, sym, ap, subst, ◌∙◌, append_assoc, lit<, arith}
 use Rattle.std.specs.Prelude.{codes}
 use Rattle.std.specs.Result.{result_err, result_ok}
-use Rattle.std.specs.Fmt.{decimal}
 use Rattle.std.proofs.lemmas.Bool.Decides.{nat_tests}
 use Rattle.std.proofs.lemmas.Fmt.{decimal_digit}
 use Rattle.std.proofs.lemmas.List.{get_or-take}
 use Rattle.heap_words.specs.declared.config.Config.{Config}
 use Rattle.heap_words.specs.declared.config.BadConfig.{BadConfig}
 use Rattle.heap_words.specs.Faults.{fault_of}
-use Rattle.trace_text.specs.Spelling.{numbers, titled, header, space, newline}
-use Rattle.trace_text.specs.Kinds.{AreWithin}
+use Rattle.trace_text.specs.Spelling.{numbers, titled, header}
 use Rattle.trace_text.specs.Scanning.{◌>>=◌, behind, numbers_at, sizes_at}
-use Rattle.trace_text.proofs.Numbers.{then_some, same_some, behind_takes, behind_again, numbers_take, numbers_again}
+use Rattle.trace_text.proofs.Numbers.{then_some, same_some, behind_takes, numbers_take, numbers_again}
 use Rattle.trace_text.proofs.Lines.{three_listed, two_listed, within_length}
 
 -- the head that has these numbers

@@ -1,7 +1,6 @@
 -- The two laws of the reader of a command's line.
-use Rattle.std.proofs.Common.{◌≡◌, ℕ, zero, suc, ◌+◌, ◌^◌, ◌<◌, ◌≤◌, Bool, true, false, cond, eqb, List, [], ◌∷◌, ◌++◌, length, get_or, take, Option, Some, None, refl, sym, ap, subst, ◌∙◌, append_assoc, lit<, arith, rules}
+use Rattle.std.proofs.Common.{◌≡◌, ℕ, zero, suc, ◌^◌, ◌<◌, ◌≤◌, false, cond, eqb, List, [], ◌∷◌, ◌++◌, length, get_or, take, Option, Some, None, refl, sym, ap, subst, ◌∙◌, append_assoc, lit<, arith}
 use Rattle.std.specs.Fmt.{decimal}
-use Rattle.std.specs.Char.{is_ascii_digit}
 use Rattle.std.proofs.lemmas.Bool.Decides.{nat_tests}
 use Rattle.std.proofs.lemmas.List.{get_or-take}
 use Rattle.shen_graph.specs.declared.command.Command.{Command}
@@ -9,10 +8,10 @@ use Rattle.shen_graph.specs.declared.command.Command.TheVariants as command
 use Rattle.shen_graph.specs.Valid.{IsValid}
 use Rattle.trace_text.specs.declared.kind.Kind.{Kind}
 use Rattle.trace_text.specs.declared.kind.Kind.TheVariants.{New, Get, Set, Cas, Xchg, Rd, Wr, Copy, Drop, Same, Gc}
-use Rattle.trace_text.specs.Spelling.{Line, IsLine, FitsValue, line, numbers, word_of, numbers_of, space, newline}
+use Rattle.trace_text.specs.Spelling.{Line, IsLine, FitsValue, line, numbers, word_of, numbers_of}
 use Rattle.trace_text.specs.Kinds.{kinds, word, limits, command_from, AreWithin, Suit}
 use Rattle.trace_text.specs.Scanning.{◌>>=◌, behind, found, number_at, thread_at, numbers_at, kind_among, command_at, line_at}
-use Rattle.trace_text.proofs.Numbers.{NoDigit, AreSmall, bind_some, then_some, not_stopped, same_some, behind_takes, behind_again, number_takes, number_again, numbers_take, numbers_again}
+use Rattle.trace_text.proofs.Numbers.{NoDigit, AreSmall, bind_some, then_some, not_stopped, same_some, behind_takes, number_takes, number_again, numbers_take, numbers_again}
 
 -- ---- kinds
 

@@ -1,5 +1,4 @@
 -- Why no trace is read.
-use Rattle.std.specs.Prelude.{ℕ}
 use Rattle.trace_text.specs.declared.trace.TraceFault.{TraceFault}
 use Rattle.trace_text.specs.declared.trace.TraceFault.TheVariants.{NotRead, TooLong, ReadFault, NoMemory}
 
@@ -9,3 +8,10 @@ IsReadingFault NotRead = ⊥
 IsReadingFault (TooLong bytes) = ⊥
 IsReadingFault ReadFault = Unit {0}
 IsReadingFault NoMemory = Unit {0}
+
+-- the bytes are no trace, or memory was refused
+abbrev pub IsTextFault : TraceFault → Type 0
+IsTextFault NotRead = Unit {0}
+IsTextFault (TooLong bytes) = ⊥
+IsTextFault ReadFault = ⊥
+IsTextFault NoMemory = Unit {0}

@@ -46,12 +46,16 @@ IsEarly (Get dst src field) = Unit {0}
 IsEarly (Set obj field val) = Unit {0}
 IsEarly _ = ⊥
 
--- what the first version of the program reads: one thread, no helper, and three kinds of commands
-pub record ReadsEarly (bytes : List ℕ) (config : Config) (scripts : List (List Command)) : Type 0 where
-  pub reads : Reads bytes config scripts
+-- what the first version of the program runs: one thread, no helper, and three kinds of commands
+pub record IsEarlyTrace (config : Config) (scripts : List (List Command)) : Type 0 where
   pub one_thread : config.mutators ≡ 1
   pub no_helper : config.helpers ≡ 0
   pub early : All (All IsEarly) scripts
+
+-- the bytes are a trace that the first version of the program runs
+pub record ReadsEarly (bytes : List ℕ) (config : Config) (scripts : List (List Command)) : Type 0 where
+  pub reads : Reads bytes config scripts
+  pub early : IsEarlyTrace config scripts
 
 -- these bytes came, and no more are left, where that is told
 pub record Came (before after : Option (List ℕ)) (bytes : List ℕ) : Type 0 where

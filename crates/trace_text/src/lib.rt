@@ -8,4 +8,5 @@ mod scan;
 mod source_bytes;
 mod trace;
 
+pub use read::read_trace;
 pub use trace::{Scripts, Trace, TraceFault};

@@ -1,5 +1,5 @@
 //! Reading a trace.
-ghost use Rattle.std.specs.Prelude.{◌≡◌, ◌≢◌, ℕ, ◌+◌, ◌<◌, ◌≤◌, List, [], ◌++◌, Err, length, take, IfSome, IfNone, IfOk, OnOk};
+ghost use Rattle.std.specs.Prelude.{◌≡◌, ◌≢◌, ◌↔◌, ℕ, ◌+◌, ◌<◌, ◌≤◌, List, [], ◌++◌, Err, length, take, IfSome, IfNone, IfOk, OnOk, IfErr, IsTrue, All};
 ghost use Rattle.std.specs.List.{flat_map, AllByRecursion};
 ghost use Rattle.std.specs.Option.{option_map};
 ghost use Rattle.std.specs.Io.KnownBytes.{Consumes};
@@ -8,7 +8,8 @@ ghost use Rattle.shen_graph.specs.declared.command.Command.{Command};
 ghost use Rattle.heap_words.specs.declared.config.Config.{Config as Sizes};
 ghost use Rattle.trace_text.specs.Spelling.{Line, IsLine, line, header};
 ghost use Rattle.trace_text.specs.Scanning.{sizes_at};
-ghost use Rattle.trace_text.specs.Grammar.{most_bytes, with_line, scripts_of, HasTaken, ReadsEarly, Came};
+ghost use Rattle.trace_text.specs.Grammar.{most_bytes, with_line, scripts_of, HasTaken, IsEarly, IsEarlyTrace, Reads, ReadsEarly, Came};
+ghost use Rattle.trace_text.specs.Faults.{IsTextFault};
 
 use crate::line::line_at;
 use crate::scan::{numbers_at, text_at};
@@ -61,6 +62,7 @@ fn take_line<'a>(
 ) -> Result<&'a [u8], TraceFault>
     requires { length scripts.old.items ≡ threads }
     ensures ok { IfOk result (λ rest. (l : Line) × IsLine threads l × (bytes.now ≡ line l ++ rest.now) × (scripts.new.items ≡ with_line scripts.old.items l)) }
+    ensures fault { IfErr result IsTextFault }
     ensures not_read { result ≡ Err TraceFault.NotRead → (l : Line) (rest : List ℕ) → IsLine threads l → bytes.now ≢ line l ++ rest }
 {
     let Some((thread, command, rest)) = line_at(threads, bytes) else {
@@ -70,4 +72,107 @@ fn take_line<'a>(
         Ok(()) => Ok(rest),
         Err(_) => Err(TraceFault::NoMemory),
     }
+}
+
+/// Takes all lines, to the end of the bytes.
+fn take_lines(
+    alloc: Global,
+    threads: u32,
+    bytes: &[u8],
+    scripts: &mut Vec<Script>,
+) -> Result<(), TraceFault>
+    requires { scripts.old.items ≡ scripts_of threads [] }
+    ensures ok { OnOk result (HasTaken threads bytes.now [] scripts.new.items) }
+    ensures fault { IfErr result IsTextFault }
+    ensures not_read { result ≡ Err TraceFault.NotRead → (lines : List Line) → AllByRecursion (IsLine threads) lines → bytes.now ≢ flat_map line lines }
+{
+    let mut rest = bytes;
+    'lines: while !rest.is_empty() {
+        rest = take_line(alloc, threads, rest, scripts)?;
+    }
+    Ok(())
+}
+
+/// A script without a command for each of so many threads.
+fn empty_scripts(alloc: Global, threads: u32) -> Result<Vec<Script>, TraceFault>
+    ensures ok { IfOk result (λ scripts. scripts.items ≡ scripts_of threads []) }
+    ensures fault { IfErr result (λ e. e ≡ TraceFault.NoMemory) }
+{
+    let mut scripts = Vec::new(alloc);
+    for _ in 0..threads {
+        let Ok(script) = Script::open(alloc) else {
+            return Err(TraceFault::NoMemory);
+        };
+        if scripts.push(script).is_err() {
+            return Err(TraceFault::NoMemory);
+        }
+    }
+    Ok(scripts)
+}
+
+/// The trace that these bytes spell.
+fn trace_of(alloc: Global, bytes: &[u8]) -> Result<Trace, TraceFault>
+    requires { length bytes.now ≤ most_bytes }
+    ensures ok { IfOk result (λ trace. Reads bytes.now trace.config trace.scripts) }
+    ensures fault { IfErr result IsTextFault }
+    ensures not_read { result ≡ Err TraceFault.NotRead → (config : Sizes) (scripts : List (List Command)) → Reads bytes.now config scripts → ⊥ }
+{
+    let Some((config, rest)) = config_at(bytes) else {
+        return Err(TraceFault::NotRead);
+    };
+    let threads = config.mutators() as u32;
+    let mut scripts = empty_scripts(alloc, threads)?;
+    take_lines(alloc, threads, rest, &mut scripts)?;
+    Ok(Trace {
+        config,
+        scripts: Scripts::from_vec(scripts),
+    })
+}
+
+/// Whether the first version of the program runs a command.
+fn is_early(command: &Command) -> bool
+    ensures { IsTrue result ↔ IsEarly command.now }
+{
+    match command {
+        Command::New { .. } | Command::Get { .. } | Command::Set { .. } => true,
+        _ => false,
+    }
+}
+
+/// Whether the first version of the program runs each command of a script.
+fn all_early(script: &Script) -> bool
+    ensures { IsTrue result ↔ All IsEarly script.now }
+{
+    script.list().iter().all(is_early)
+}
+
+/// Whether the first version of the program runs a trace.
+fn is_early_trace(trace: &Trace) -> bool
+    ensures { IsTrue result ↔ IsEarlyTrace trace.now.config trace.now.scripts }
+{
+    trace.config.mutators() == 1
+        && trace.config.helpers() == 0
+        && trace.scripts.list().iter().all(all_early)
+}
+
+/// Reads a trace of one thread that allocates, stores and loads. It reads to the end of the source, or until one byte
+/// more came than a trace may have, and then looks at the lines.
+pub fn read_trace<S: Source>(alloc: Global, source: &mut S) -> Result<Trace, TraceFault>
+    ensures ok { IfOk result (λ trace. (bytes : List ℕ) × Came (S.left source.old) (S.left source.new) bytes × ReadsEarly bytes trace.config trace.scripts) }
+
+    // The bytes came whole, and are outside the grammar.
+    ensures not_read { result ≡ Err TraceFault.NotRead → (bytes : List ℕ) × Came (S.left source.old) (S.left source.new) bytes × (length bytes ≤ most_bytes)
+        × ((config : Sizes) (scripts : List (List Command)) → ReadsEarly bytes config scripts → ⊥) }
+
+    ensures too_long { (n : ℕ) → result ≡ Err (TraceFault.TooLong n) → (n ≡ most_bytes + 1)
+        × ((bytes : List ℕ) × Consumes (S.left source.old) (S.left source.new) bytes × (length bytes ≡ most_bytes + 1)) }
+    ensures read_fault { result ≡ Err TraceFault.ReadFault → Rose (S.faults source.old) (S.faults source.new) }
+    ensures faults_never_fall { S.faults source.old ≤ S.faults source.new }
+{
+    let bytes = all_bytes(alloc, source)?;
+    let trace = trace_of(alloc, &bytes)?;
+    if !is_early_trace(&trace) {
+        return Err(TraceFault::NotRead);
+    }
+    Ok(trace)
 }

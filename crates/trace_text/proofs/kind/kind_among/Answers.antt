@@ -1,5 +1,4 @@
-use Rattle.std.proofs.Common.{◌≡◌, None, ap, sym, ◌∙◌}
-use Rattle.trace_text.specs.Scanning.{behind}
+use Rattle.std.proofs.Common.{sym}
 use Rattle.trace_text.proofs.Turns.{kind_found, kind_goes_on, kinds_end}
 use Rattle.trace_text.proofs.kind.kind_among.Goals as goal
 

@@ -1,4 +1,4 @@
-use Rattle.std.proofs.Common.{◌≡◌, ℕ, ◌-◌, ◌∷◌, [], ◌++◌, List, Some, slice_set, sym, ap, ◌∙◌, arith}
+use Rattle.std.proofs.Common.{ℕ, ◌-◌, ◌∷◌, [], ◌++◌, List, slice_set, sym, ap, ◌∙◌, arith}
 use Rattle.std.proofs.lemmas.List.{get_or_read}
 use Rattle.shen_graph.specs.declared.command.Command.{Command}
 use Rattle.trace_text.specs.Spelling.{Line}
@@ -24,8 +24,9 @@ pub returns-in-Ok-clause-ok : goal.returns-in-Ok-clause-ok
 returns-in-Ok-clause-ok c =
     let l : Line = record { thread = c.in-Some.thread; command = c.in-Some.command } in
     let taken = line_takes c.args.threads c.args.bytes.now (l, c.in-Some.rest.now) (omega arith) (sym c.in-Some.ensures) in
-    let before = get_or_read c.args.scripts.now.items _ _ (omega (arith, taken.1.from_one, taken.1.to_last)) c.index_mut.ensures.value [] in
-    ( l
-    , taken.1
-    , taken.0
-    , ap (slice_set c.args.scripts.now.items (c.in-Some.thread - 1)) (c.in-Ok.ensures.added ∙ ap (λ (script : List Command). script ++ c.in-Some.command ∷ []) before) )
+    let before = get_or_read c.args.scripts.now.items _ _ (omega (arith, taken.1.from_one, taken.1.to_last)) c.index_mut.ensures.value [] in (
+      l,
+      taken.1,
+      taken.0,
+      ap (slice_set c.args.scripts.now.items (c.in-Some.thread - 1)) (c.in-Ok.ensures.added ∙ ap (λ (script : List Command). script ++ c.in-Some.command ∷ []) before),
+    )

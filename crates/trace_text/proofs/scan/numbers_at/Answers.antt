@@ -1,8 +1,7 @@
-use Rattle.std.proofs.Common.{◌≡◌, ◌+◌, ◌++◌, ◌∷◌, [], ℕ, ◌≤◌, Some, length, take, set, ap, subst, sym, ◌∙◌, arith, rules}
-use Rattle.std.specs.Option.{option_map}
+use Rattle.std.proofs.Common.{◌≡◌, ℕ, Some, length, take, subst, sym, arith}
 use Rattle.std.proofs.lemmas.List.{length-set, take_more_set}
 use Rattle.trace_text.specs.Scanning.{numbers_at}
-use Rattle.trace_text.proofs.Turns.{with_front, number_goes_on, number_fails, numbers_end}
+use Rattle.trace_text.proofs.Turns.{number_goes_on, number_fails, numbers_end}
 use Rattle.trace_text.proofs.scan.numbers_at.Goals as goal
 
 pub loop-i-preserved : goal.loop-i-preserved

@@ -1,5 +1,4 @@
-use Rattle.std.proofs.Common.{◌≡◌, length, eqb, take, drop, sym, ◌∙◌}
-use Rattle.std.specs.Cmp.Lexicographic.{pointwise}
+use Rattle.std.proofs.Common.{sym, ◌∙◌}
 use Rattle.trace_text.proofs.Digits.{behind_by_front, stripped}
 use Rattle.trace_text.proofs.scan.text_at.Goals as goal
 
