@@ -1,5 +1,5 @@
 -- Histories: the commands of all threads in one order, each with its reply.
-use Rattle.std.specs.Prelude.{ℕ, ◌≢◌, ◌==◌, List, [], ◌∷◌, filter, map, Bool, true, false, if◌then◌else◌, All}
+use Rattle.std.specs.Prelude.{ℕ, zero, suc, ◌≡◌, ◌≢◌, ◌==◌, List, [], ◌∷◌, filter, map, slice_index_or, Bool, true, false, if◌then◌else◌, All}
 use Rattle.shen_graph.specs.declared.command.Command.{Command}
 use Rattle.shen_graph.specs.declared.command.Reply.{Reply}
 use Rattle.shen_graph.specs.declared.command.Reply.TheVariants as reply
@@ -43,3 +43,12 @@ replies_of es = map (λ e. e.reply) es
 -- no allocation was refused
 abbrev pub IsWithoutFull : List Entry → Type 0
 IsWithoutFull history = All (λ e. e.reply ≢ reply.Full) history
+
+-- the script of a thread, counted from 1. A thread that has none runs nothing
+abbrev pub script_of : List (List Command) → ℕ → List Command
+script_of scripts zero = []
+script_of scripts (suc thread) = slice_index_or scripts thread []
+
+-- the commands of each thread are its script, whole and in order
+abbrev pub Follows : List (List Command) → List Entry → Type 0
+Follows scripts history = (thread : ℕ) → commands_of (of_thread history thread) ≡ script_of scripts thread
