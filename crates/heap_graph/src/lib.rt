@@ -1,2 +1,4 @@
 //! The graph that the words of a heap stand for, while no object has a second copy.
 #![tactic(auto)]
+
+mod walk;
