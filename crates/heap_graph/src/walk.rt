@@ -38,8 +38,8 @@ fn take_each_down(first: u64, words: &[u64], marks: &mut [bool], order: &mut Vec
     }
 }
 
-// The references of the object whose header is the word at an index.
-fn references(heap: &[u64], index: usize) -> &[u64]
+/// The references of the object whose header is the word at an index.
+pub(crate) fn references(heap: &[u64], index: usize) -> &[u64]
     requires { index + words_at heap.now index ≤ length heap.now }
     ensures { result.now ≡ refs_at heap.now index }
 {
@@ -59,7 +59,8 @@ pub(crate) fn find_reachable(
     requires sound { IsSound first heap.now roots.now }
     requires flags { length marks.old ≡ length heap.now }
     requires room { length heap.now ≤ vec_capacity order.old }
-    ensures { IsWalk first heap.now roots.now order.new.items }
+    ensures walk { IsWalk first heap.now roots.now order.new.items }
+    ensures room { vec_capacity order.new ≡ vec_capacity order.old }
 {
     marks.fill(false);
     order.clear();

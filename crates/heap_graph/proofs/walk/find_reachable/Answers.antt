@@ -80,8 +80,8 @@ loop-next-preserved c =
       closed = (rw taken (closed_step first heap order words c.loop-next.next low fields c.loop-next.invariant.closed));
     }
 
-pub returns : goal.returns
-returns c =
+pub returns-clause-walk : goal.returns-clause-walk
+returns-clause-walk c =
     IsWalk-from c.args.first c.args.heap.now c.args.roots.now c.loop-next.order.items c.loop-next.marks c.loop-next.next
     c.loop-next.invariant.marked c.loop-next.invariant.led c.loop-next.invariant.roots c.loop-next.invariant.closed
     (omega arith)

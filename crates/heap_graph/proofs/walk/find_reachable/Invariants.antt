@@ -5,7 +5,7 @@ use Rattle.heap_graph.proofs.walk.find_reachable.Given as goal
 abbrev pub invariant-loop-next : goal.invariant-loop-next
 invariant-loop-next l = record {
   marked : IsMarked l.first l.marks l.order.items;
-  room : length l.marks ≤ vec_capacity l.order;
+  room : vec_capacity l.order ≡ vec_capacity l.fn.order;
   flags : length l.marks ≡ length l.heap;
   within : l.next ≤ vec_len l.order;
   led : (a : ℕ) → has l.order.items a ≡ true → Leads l.first l.heap l.roots a;
