@@ -4,3 +4,7 @@ pub mod Step
 pub mod History
 pub mod Reach
 pub mod Crowd
+pub mod Work
+pub mod GraphText
+pub mod TextLayout
+pub mod TextRoom
