@@ -1,8 +1,6 @@
-ghost use Rattle.std.specs.Prelude.{◌≡◌, ℕ, ◌+◌, ◌<◌, ◌≤◌, Bool, true, false, List, [], ◌++◌, Option, length, take, OnOk, OnErr};
+ghost use Rattle.std.specs.Prelude.{◌≡◌, ℕ, ◌<◌, ◌≤◌, Bool, true, false, List, [], ◌++◌, Option, length, take};
 ghost use Rattle.std.specs.Fmt.{decimal};
-ghost use Rattle.std.specs.Io.KnownBytes.{Appends};
-ghost use Rattle.shen_base.specs.Count.{Rose};
-ghost use Rattle.text_writer.specs.Sending.{AppendsFront, HasTaken, Puts, stage};
+ghost use Rattle.text_writer.specs.Sending.{HasTaken, Puts, Writes, stage};
 
 use crate::number::spell;
 use crate::send::{WriteFault, write_all};
@@ -114,16 +112,9 @@ impl Block {
     /// Sends what the block holds, and tells whether all that was put was written. After `WriteFault` a front of it was
     /// written.
     pub fn finish<K: Sink>(self, sink: &mut K) -> Result<(), WriteFault>
-        ensures all { OnOk result ((first : Option (List ℕ)) (before : ℕ) (text : List ℕ) →
+        ensures { (first : Option (List ℕ)) (before : ℕ) (text : List ℕ) →
             HasTaken (stage (K.written sink.old) (K.faults sink.old) self) first before text →
-            Appends first (K.written sink.new) text) }
-        ensures front { OnErr result ((first : Option (List ℕ)) (before : ℕ) (text : List ℕ) →
-            HasTaken (stage (K.written sink.old) (K.faults sink.old) self) first before text →
-            AppendsFront first (K.written sink.new) text) }
-        ensures only_by_fault { OnErr result ((first : Option (List ℕ)) (before : ℕ) (text : List ℕ) →
-            HasTaken (stage (K.written sink.old) (K.faults sink.old) self) first before text →
-            Rose before (K.faults sink.new)) }
-        ensures faults_never_fall { K.faults sink.old ≤ K.faults sink.new }
+            Writes result first (K.written sink.new) before (K.faults sink.new) text }
     {
         let mut block = self;
         block.send(sink);

@@ -1,7 +1,4 @@
-ghost use Rattle.std.specs.Prelude.{◌≤◌, OnOk, OnErr};
-ghost use Rattle.std.specs.Io.KnownBytes.{Appends};
-ghost use Rattle.shen_base.specs.Count.{Rose};
-ghost use Rattle.text_writer.specs.Sending.{AppendsFront};
+ghost use Rattle.text_writer.specs.Sending.{Writes};
 
 use shen_base::Sink;
 
@@ -12,10 +9,7 @@ pub struct WriteFault;
 /// Writes `text` to the sink, in as many pieces as the sink makes of it: at most one call per byte, since each call takes
 /// a byte or is the last. After `WriteFault` a front of the text was written.
 pub fn write_all<K: Sink>(sink: &mut K, text: &[u8]) -> Result<(), WriteFault>
-    ensures all { OnOk result (Appends (K.written sink.old) (K.written sink.new) text.now) }
-    ensures front { OnErr result (AppendsFront (K.written sink.old) (K.written sink.new) text.now) }
-    ensures only_by_fault { OnErr result (Rose (K.faults sink.old) (K.faults sink.new)) }
-    ensures faults_never_fall { K.faults sink.old ≤ K.faults sink.new }
+    ensures { Writes result (K.written sink.old) (K.written sink.new) (K.faults sink.old) (K.faults sink.new) text.now }
 {
     let mut rest = text;
     while !rest.is_empty() {

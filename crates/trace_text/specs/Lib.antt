@@ -1,3 +1,5 @@
 pub mod Spelling
 pub mod Kinds
 pub mod Scanning
+pub mod Message
+pub mod Answer

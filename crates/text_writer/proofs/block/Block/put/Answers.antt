@@ -26,9 +26,9 @@ pub returns-else-not-self-clause-put : goal.returns-else-not-self-clause-put
 returns-else-not-self-clause-put g c =
     let (done, put, split) = c.loop-rest.invariant.done in
     let failed : c.loop-rest.self.failed ≡ true = search rules in
-    puts_same _ _ _ _ split (puts_more_stopped _ _ done c.loop-rest.rest.now failed put)
+    puts_same split (puts_more_stopped _ _ done c.loop-rest.rest.now failed put)
 
 pub returns-after-loop-rest-clause-put : goal.returns-after-loop-rest-clause-put
 returns-after-loop-rest-clause-put g c =
     let (done, put, split) = c.loop-rest.invariant.done in
-    puts_same _ _ _ _ (front_is_all _ done c.loop-rest.rest.now (search rules) split) put
+    puts_same (front_is_all _ done c.loop-rest.rest.now (search rules) split) put
