@@ -3,3 +3,5 @@ pub mod Kinds
 pub mod Scanning
 pub mod Grammar
 pub mod Faults
+pub mod Message
+pub mod Answer

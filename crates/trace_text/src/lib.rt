@@ -1,12 +1,17 @@
 //! Traces and answers as text.
 #![tactic(auto)]
 
+mod answer;
 mod kind;
 mod line;
+mod message;
 mod read;
 mod scan;
 mod source_bytes;
 mod trace;
 
+pub use answer::{Answer, write_answer};
+pub use message::{Line, write_line};
 pub use read::read_trace;
+pub use text_writer::WriteFault;
 pub use trace::{Scripts, Trace, TraceFault};

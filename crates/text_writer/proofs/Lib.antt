@@ -1,0 +1,3 @@
+pub mod Stages
+mod Digits
+mod Fronts

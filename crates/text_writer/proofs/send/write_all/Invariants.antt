@@ -1,0 +1,13 @@
+-- What is gone from the rest was appended.
+use Rattle.std.proofs.Common.{◌≡◌, ◌≤◌, ℕ, List, ◌++◌, length}
+use Rattle.std.specs.Io.KnownBytes.{Appends}
+use Rattle.text_writer.proofs.send.write_all.Given as goal
+
+abbrev pub invariant-loop-rest : goal.invariant-loop-rest
+invariant-loop-rest g l = record {
+  done : (done : List ℕ) × Appends (g.K.Sink.written l.initial.sink) (g.K.Sink.written l.sink) done × (done ++ l.rest ≡ l.text);
+  never_fell : g.K.Sink.faults l.initial.sink ≤ g.K.Sink.faults l.sink;
+}
+
+abbrev pub decreases-loop-rest : goal.decreases-loop-rest
+decreases-loop-rest g l = length l.rest

@@ -1,0 +1,103 @@
+-- How the lines of an answer come together from what is put.
+use Rattle.std.proofs.Common.{◌≡◌, ℕ, ◌+◌, ◌-◌, ◌<◌, ◌≤◌, List, [], ◌∷◌, ◌++◌, length, map, take, get_or, codes, sym, ap, ◌∙◌, refl, subst, append_assoc, append-nil, arith}
+use Rattle.std.specs.List.{flat_map, join_with_byte, range_with_len}
+use Rattle.std.proofs.lemmas.List.{take_more, take_all, map-id}
+use Rattle.std.proofs.lemmas.List.Concat.{flat_map-append}
+use Rattle.std.proofs.lemmas.List.Folds.{flat_map-map}
+use Rattle.std.proofs.lemmas.List.FromFn.{map-range_with_len_more}
+use Rattle.std.specs.Fmt.{decimal}
+use Rattle.shen_graph.specs.declared.name.Name.{Name}
+use Rattle.shen_graph.specs.Graph.{Reference}
+use Rattle.shen_graph.specs.GraphText.{Row}
+use Rattle.text_writer.specs.Sending.{Stage, Puts}
+use Rattle.text_writer.proofs.Stages.{puts_both, puts_same}
+use Rattle.trace_text.specs.Spelling.{space, newline}
+use Rattle.trace_text.specs.Answer.{line_of, name_word, reference_word, object_line, roots_line, root_words}
+
+-- Loops over a list.
+
+-- the texts of one element more
+flat_map-take_more : {X : Type 0} (f : X → List ℕ) (xs : List X) (i : ℕ) (d : X) → i < length xs
+    → flat_map f (take i xs) ++ f (get_or xs i d) ≡ flat_map f (take (i + 1) xs)
+flat_map-take_more f xs i d h =
+    let x = get_or xs i d in
+    ap (λ t. flat_map f (take i xs) ++ t) (sym (append-nil (f x)))
+    ∙ sym (flat_map-append f (take i xs) (x ∷ []))
+    ∙ sym (ap (flat_map f) (take_more xs i d h))
+
+-- the text of the next element was put
+pub puts_next : {X : Type 0} {a b c : Stage} (f : X → List ℕ) (xs : List X) (i : ℕ) (x d : X) → i < length xs → x ≡ get_or xs i d
+    → Puts a b (flat_map f (take i xs)) → Puts b c (f x) → Puts a c (flat_map f (take (i + 1) xs))
+puts_next f xs i x d h e p q =
+    puts_same (ap (λ y. flat_map f (take i xs) ++ f y) e ∙ flat_map-take_more f xs i d h) (puts_both p q)
+
+-- the texts of all elements were put
+pub puts_each : {X : Type 0} {a b : Stage} (f : X → List ℕ) (xs : List X) (n : ℕ) → length xs ≤ n → Puts a b (flat_map f (take n xs)) → Puts a b (flat_map f xs)
+puts_each f xs n h p = puts_same (ap (flat_map f) (take_all n xs h)) p
+
+-- Loops over numbers.
+
+-- the texts of one number more
+flat_map-range_more : (f : ℕ → List ℕ) (from n next : ℕ) → from + n ≡ next
+    → flat_map f (range_with_len from n) ++ f next ≡ flat_map f (range_with_len from (n + 1))
+flat_map-range_more f from n next e =
+    let longer : range_with_len from (n + 1) ≡ range_with_len from n ++ next ∷ [] =
+    sym (map-id (range_with_len from (n + 1))) ∙ map-range_with_len_more (λ x. x) from n next e
+    ∙ ap (λ t. t ++ next ∷ []) (map-id (range_with_len from n)) in
+    ap (λ t. flat_map f (range_with_len from n) ++ t) (sym (append-nil (f next)))
+    ∙ sym (flat_map-append f (range_with_len from n) (next ∷ []))
+    ∙ sym (ap (flat_map f) longer)
+
+-- the text of the next number was put
+pub puts_next_number : {a b c : Stage} (f : ℕ → List ℕ) (from n next : ℕ) → from + n ≡ next
+    → Puts a b (flat_map f (range_with_len from n)) → Puts b c (f next) → Puts a c (flat_map f (range_with_len from (n + 1)))
+puts_next_number f from n next e p q = puts_same (flat_map-range_more f from n next e) (puts_both p q)
+
+-- the texts of all numbers were put
+pub puts_each_number : {a b : Stage} (f : ℕ → List ℕ) (from n m : ℕ) → n ≡ m → Puts a b (flat_map f (range_with_len from n)) → Puts a b (flat_map f (range_with_len from m))
+puts_each_number f from n m e p = puts_same (ap (λ k. flat_map f (range_with_len from k)) e) p
+
+-- Words.
+
+-- words with a space between: the first, and the others each after a space
+pub joined : (w : List ℕ) (ws : List (List ℕ)) → join_with_byte space (w ∷ ws) ≡ w ++ flat_map (λ v. space ∷ v) ws
+joined w [] = sym (append-nil w)
+joined w (v ∷ vs) = ap (λ t. w ++ space ∷ t) (joined v vs)
+
+regroup : (o n r s d : List ℕ) → (((o ++ n) ++ r) ++ s) ++ d ≡ o ++ (n ++ (r ++ (s ++ d)))
+regroup o n r s d = simp append_assoc
+
+-- the words of an object behind its name, each after a space
+field_words : (r : Row) → flat_map (λ v. space ∷ v) (map reference_word r.refs ++ codes "/" ∷ map decimal r.nums)
+    ≡ flat_map (λ x. space ∷ reference_word x) r.refs ++ (codes " /" ++ flat_map (λ n. space ∷ decimal n) r.nums)
+field_words r =
+    flat_map-append (λ v. space ∷ v) (map reference_word r.refs) (codes "/" ∷ map decimal r.nums)
+    ∙ ap (λ t. t ++ flat_map (λ v. space ∷ v) (codes "/" ∷ map decimal r.nums)) (flat_map-map (λ v. space ∷ v) reference_word r.refs)
+    ∙ ap (λ t. flat_map (λ x. space ∷ reference_word x) r.refs ++ (codes " /" ++ t)) (flat_map-map (λ v. space ∷ v) decimal r.nums)
+
+-- the line of an object, as it is put
+pub object_line_is : (r : Row) (name : Name) → name ≡ r.name
+    → ((((codes "object " ++ name_word name) ++ flat_map (λ x. space ∷ reference_word x) r.refs) ++ codes " /") ++ flat_map (λ n. space ∷ decimal n) r.nums) ++ newline ∷ [] ≡ object_line r
+object_line_is r name e =
+    let refs = flat_map (λ x. space ∷ reference_word x) r.refs in
+    let nums = flat_map (λ n. space ∷ decimal n) r.nums in
+    ap (λ t. t ++ newline ∷ [])
+    (regroup (codes "object ") (name_word name) refs (codes " /") nums
+    ∙ ap (λ t. codes "object " ++ (name_word t ++ (refs ++ (codes " /" ++ nums)))) e
+    ∙ ap (λ t. codes "object " ++ (name_word r.name ++ t)) (sym (field_words r))
+    ∙ sym (joined (codes "object") (name_word r.name ∷ (map reference_word r.refs ++ codes "/" ∷ map decimal r.nums))))
+
+-- the line of a thread's roots, as it is put
+pub roots_line_is : (thread : ℕ) (root : ℕ → Reference)
+    → ((codes "roots " ++ decimal thread) ++ flat_map (λ w. space ∷ w) (root_words root)) ++ newline ∷ [] ≡ roots_line thread root
+roots_line_is thread root =
+    let words = root_words root in
+    ap (λ t. t ++ newline ∷ [])
+    (append_assoc (codes "roots ") (decimal thread) (flat_map (λ w. space ∷ w) words) ∙ sym (joined (codes "roots") (decimal thread ∷ words)))
+
+-- the words of 16 roots, each after a space
+pub root_words_are : (root : ℕ → Reference) (n : ℕ) → n ≡ 16 → flat_map (λ i. space ∷ reference_word (root i)) (range_with_len 0 n) ≡ flat_map (λ w. space ∷ w) (root_words root)
+unfolding root_words
+root_words_are root n e =
+    ap (λ k. flat_map (λ i. space ∷ reference_word (root i)) (range_with_len 0 k)) e
+    ∙ sym (flat_map-map (λ w. space ∷ w) (λ i. reference_word (root i)) (range_with_len 0 16))
