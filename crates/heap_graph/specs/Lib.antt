@@ -1,1 +1,4 @@
 pub mod Stands
+pub mod Walk
+pub mod Rows
+pub mod Shows

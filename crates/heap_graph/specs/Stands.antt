@@ -1,5 +1,5 @@
 -- When the words of a heap stand for a graph, while no object has a second copy.
-use Rattle.std.specs.Prelude.{ℕ, ◌≡◌, ◌+◌, ◌<◌, ◌≤◌, length, Option, Some, None, slice_get}
+use Rattle.std.specs.Prelude.{ℕ, ◌≡◌, ◌+◌, ◌^◌, ◌<◌, ◌≤◌, length, Option, Some, None, slice_get}
 use Rattle.shen_graph.specs.declared.name.Name.{Name}
 use Rattle.shen_graph.specs.Graph.{Graph, Object, Reference}
 use Rattle.shen_graph.specs.Reach.{size}
@@ -19,6 +19,7 @@ pub record IsObject (heap : ℕ → ℕ) (at : ℕ → Option Name) (a : ℕ) (n
   pub nums : (i x : ℕ) → slice_get o.nums i ≡ Some x → heap (a + 3 + length o.refs + i) ≡ x
   pub few_refs : length o.refs ≤ 16
   pub few_nums : length o.nums ≤ 16
+  pub short_count : n.count < 2 ^ 32
 
 -- an object of the graph stands at the address, and all of it among the words from `first` to before `end`
 pub record IsAt (first end : ℕ) (heap : ℕ → ℕ) (at : ℕ → Option Name) (g : Graph) (a : ℕ) (n : Name) (o : Object) : Type 0 where

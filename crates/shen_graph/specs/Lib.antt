@@ -5,3 +5,6 @@ pub mod History
 pub mod Reach
 pub mod Crowd
 pub mod Work
+pub mod GraphText
+pub mod TextLayout
+pub mod TextRoom

@@ -8,11 +8,13 @@
 use std::alloc::{AllocError, AllocFailed};
 
 mod command;
+mod graph_text;
 mod name;
 mod script;
 mod work;
 
 pub use command::{Command, Reply};
+pub use graph_text::GraphText;
 pub use name::Name;
 pub use script::Script;
 pub use work::{Replies, Work};

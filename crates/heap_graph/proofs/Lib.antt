@@ -1,0 +1,5 @@
+pub mod Marks
+pub mod Walks
+pub mod Objects
+pub mod Texts
+pub mod RootRows

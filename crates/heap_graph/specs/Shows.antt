@@ -1,0 +1,24 @@
+-- When a text shows a graph.
+use Rattle.std.specs.Prelude.{ℕ, ◌≡◌, ◌+◌, ◌-◌, Option, Some, List, map, length, slice_index}
+use Rattle.shen_graph.specs.declared.name.Name.{Name}
+use Rattle.shen_graph.specs.Graph.{Graph, named}
+use Rattle.shen_graph.specs.GraphText.{Text, Row, names_of}
+use Rattle.shen_graph.specs.Reach.{IsReach}
+use Rattle.heap_graph.specs.Stands.{Stands}
+use Rattle.heap_graph.specs.Rows.{root_word, root_rows}
+
+-- the object of a name, as a row
+abbrev pub row_in : Graph → Name → Row
+row_in g n = record { name = n; refs = (named g (Some n)).refs; nums = (named g (Some n)).nums }
+
+-- The text has the row of each object that can be reached, in the order of names, and no other row, and the roots of
+-- each thread.
+pub record Shows (text : Text) (threads : ℕ) (g : Graph) : Type 0 where
+  pub reach : IsReach g (names_of text)
+  pub rows : text.rows ≡ map (row_in g) (names_of text)
+  pub roots : text.roots ≡ root_rows g.root threads
+
+-- The words of the addresses from `first` on, and the words of the roots, 16 for each thread, stand for the graph.
+abbrev pub WordsStand : (first : ℕ) (heap roots : List ℕ) → (ℕ → Option Name) → Graph → Type 0
+WordsStand first heap roots at g =
+    Stands first (first + length heap) (λ a. slice_index heap (a - first)) (root_word roots) at g

@@ -1,0 +1,74 @@
+//! Finds the addresses that roots lead to.
+
+ghost use Rattle.std.specs.Prelude.{◌≡◌, ◌+◌, ◌-◌, ◌<◌, ◌≤◌, ◌≢◌, ℕ, All, length, vec_capacity};
+ghost use Rattle.heap_graph.specs.Walk.{refs_at, words_at, IsSound, IsAmong, IsMarked, IsWalk, with_address, with_addresses};
+
+use heap_words::refs_of;
+
+// Takes an address down, unless it is null or was taken down before.
+fn take_down(first: u64, address: u64, marks: &mut [bool], order: &mut Vec<u64>)
+    requires marked { IsMarked first marks.old order.old.items }
+    requires among { IsAmong first (length marks.old) address }
+    requires room { length marks.old ≤ vec_capacity order.old }
+    ensures marked { IsMarked first marks.new order.new.items }
+    ensures room { vec_capacity order.new ≡ vec_capacity order.old }
+    ensures taken { order.new.items ≡ with_address order.old.items address }
+{
+    if address == 0 {
+        return;
+    }
+    let index = (address - first) as usize;
+    if !marks[index] {
+        marks[index] = true;
+        order.push_reserved(address);
+    }
+}
+
+// Takes down the addresses that some words hold.
+fn take_each_down(first: u64, words: &[u64], marks: &mut [bool], order: &mut Vec<u64>)
+    requires marked { IsMarked first marks.old order.old.items }
+    requires among { All (IsAmong first (length marks.old)) words.now }
+    requires room { length marks.old ≤ vec_capacity order.old }
+    ensures marked { IsMarked first marks.new order.new.items }
+    ensures room { vec_capacity order.new ≡ vec_capacity order.old }
+    ensures taken { order.new.items ≡ with_addresses order.old.items words.now }
+{
+    for word in words {
+        take_down(first, *word, marks, order);
+    }
+}
+
+/// The references of the object whose header is the word at an index.
+pub(crate) fn references(heap: &[u64], index: usize) -> &[u64]
+    requires { index + words_at heap.now index ≤ length heap.now }
+    ensures { result.now ≡ refs_at heap.now index }
+{
+    let count = refs_of(heap[index + 1]) as usize;
+    &heap[index + 3..index + 3 + count]
+}
+
+/// Writes the address of each object that the roots lead to into `order`, each once. `heap` has a word for each address
+/// from `first` on, and `marks` a flag for each of them. No memory is taken.
+pub(crate) fn find_reachable(
+    first: u64,
+    heap: &[u64],
+    roots: &[u64],
+    marks: &mut [bool],
+    order: &mut Vec<u64>,
+)
+    requires sound { IsSound first heap.now roots.now }
+    requires flags { length marks.old ≡ length heap.now }
+    requires room { length heap.now ≤ vec_capacity order.old }
+    ensures walk { IsWalk first heap.now roots.now order.new.items }
+    ensures room { vec_capacity order.new ≡ vec_capacity order.old }
+{
+    marks.fill(false);
+    order.clear();
+    take_each_down(first, roots, marks, order);
+    let mut next = 0;
+    while next < order.len() {
+        let index = (order[next] - first) as usize;
+        take_each_down(first, references(heap, index), marks, order);
+        next += 1;
+    }
+}

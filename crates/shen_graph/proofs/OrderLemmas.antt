@@ -1,0 +1,44 @@
+-- Names in order.
+use Rattle.std.proofs.Common.{ℕ, suc, ◌≡◌, ◌+◌, ◌<◌, false, List, [], ◌∷◌, map, length, get_or, arith, is_lt, nat_cmp}
+use Rattle.std.specs.Ordering.{ordering_then}
+use Rattle.std.specs.declared.cmp.Ordering.{Ordering}
+use Rattle.std.specs.List.{IsDistinct}
+use Rattle.std.specs.List.Sorted.{IsSortedByKey, IsPermutation}
+use Rattle.std.proofs.lemmas.List.{get_or-map, length-map}
+use Rattle.std.proofs.lemmas.Map.Keys.{apart_from_distinct, IsDistinct-IsPermutation}
+use Rattle.std.proofs.lemmas.Bool.Decides.{nat_tests}
+use Rattle.shen_graph.specs.declared.name.Name.{Name}
+use Rattle.shen_graph.specs.Graph.{same_name}
+use Rattle.shen_graph.specs.Reach.{IsBefore, InOrder}
+
+-- the order that a sort by names has
+abbrev pub name_cmp : Name → Name → Ordering
+name_cmp a b = ordering_then (nat_cmp a.thread b.thread) (nat_cmp a.count b.count)
+
+pub same_name-flip : (a b : Name) → same_name a b ≡ same_name b a
+same_name-flip a b = grind (arith, nat_tests)
+
+-- of two names that differ, the one that is not after the other is before it
+pub IsBefore-from_sorted : (a b : Name) → is_lt (name_cmp b a) ≡ false → same_name a b ≡ false → IsBefore a b
+IsBefore-from_sorted a b sorted apart = grind (arith, nat_tests)
+
+pub InOrder-from_adjacent : (xs : List Name) → ((k : ℕ) (d : Name) → k + 1 < length xs → IsBefore (get_or xs k d) (get_or xs (k + 1) d)) → InOrder xs
+InOrder-from_adjacent [] h = tt
+InOrder-from_adjacent (n ∷ []) h = tt
+InOrder-from_adjacent (n ∷ m ∷ ns) h =
+    (h 0 n (omega arith), InOrder-from_adjacent (m ∷ ns) (λ k d below. let next : suc k + 1 ≡ suc (k + 1) = omega arith in rw next at (h (suc k) d (omega arith))))
+
+-- a list that is sorted by names which differ
+pub InOrder-from_sorted : {X : Type 0} (key : X → Name) (xs : List X) → IsSortedByKey key name_cmp xs → IsDistinct same_name (map key xs) → InOrder (map key xs)
+InOrder-from_sorted key [] sorted distinct = tt
+InOrder-from_sorted key (x ∷ xs) sorted distinct =
+    InOrder-from_adjacent (map key (x ∷ xs)) (λ k d below.
+    let inside : k + 1 < length (x ∷ xs) = omega (arith, length-map (x ∷ xs) key) in
+    let first = get_or-map key (x ∷ xs) k x d (omega arith) in
+    let second = get_or-map key (x ∷ xs) (k + 1) x d inside in
+    let apart = apart_from_distinct same_name (map key (x ∷ xs)) k (k + 1) d distinct (omega arith) below in
+    rw (first, second) (IsBefore-from_sorted (key (get_or (x ∷ xs) k x)) (key (get_or (x ∷ xs) (k + 1) x)) (sorted k x (omega arith) inside) (rw (first, second) at apart)))
+
+-- names that differ, in another order
+pub IsDistinct-permutation : (xs ys : List Name) → IsPermutation xs ys → IsDistinct same_name xs → IsDistinct same_name ys
+IsDistinct-permutation xs ys moved distinct = IsDistinct-IsPermutation same_name same_name-flip xs ys moved distinct

@@ -1,0 +1,191 @@
+-- Rows that lie in memory: what a longer list leaves as it was, and how the last row grows.
+use Rattle.std.proofs.Common.{ℕ, suc, add-zero, ◌≡◌, ◌+◌, ◌-◌, ◌<◌, ◌≤◌, List, [], ◌∷◌, ◌++◌, map, length, drop, get_or, refl, sym, ap, ◌∙◌, subst, arith, length-append, length-drop, set}
+use Rattle.std.specs.Prelude.{sum_by, All}
+use Rattle.std.proofs.lemmas.List.{length-take-le, map_push, take_all, take-append-le, drop-append-le, drop_at}
+use Rattle.std.proofs.lemmas.List.Elements.{All-nil, All-cons, All-head, All-tail, All-weaker, All-push}
+use Rattle.std.proofs.lemmas.List.Sums.{sum_by_push, sum_by-cons}
+use Rattle.shen_graph.specs.declared.graph_text.Span.{Span}
+use Rattle.shen_graph.specs.declared.graph_text.Place.{Place}
+use Rattle.shen_graph.specs.Graph.{Reference}
+use Rattle.shen_graph.specs.GraphText.{Row, change_last, add_reference, add_number}
+use Rattle.shen_graph.specs.TextLayout.{part, row_at, span_length, Within, EndsAt, IsLaid}
+
+-- what comes after its end changes no part
+pub part-append : {A : Type 0} (xs ys : List A) (s : Span) → s.from ≤ s.to → s.to ≤ length xs → part (xs ++ ys) s ≡ part xs s
+part-append xs ys s ordered within =
+    let start : s.from ≤ length xs = omega arith in
+    let short : s.to - s.from ≤ length (drop s.from xs) = omega (arith, length-drop s.from xs) in
+    rw (drop-append-le s.from xs ys start) (take-append-le (s.to - s.from) (drop s.from xs) ys short)
+
+pub length-part : {A : Type 0} (xs : List A) (s : Span) → s.from ≤ s.to → s.to ≤ length xs → length (part xs s) ≡ span_length s
+length-part xs s ordered within = length-take-le (s.to - s.from) (drop s.from xs) (omega (arith, length-drop s.from xs))
+
+-- a part that ends where the list ends is all that is left there
+pub part_to_end : {A : Type 0} (xs : List A) (s : Span) → length xs ≤ s.to → part xs s ≡ drop s.from xs
+part_to_end xs s past = take_all (s.to - s.from) (drop s.from xs) (omega (arith, length-drop s.from xs))
+
+-- one element more at the end of a list, and of a part that ends there
+abbrev pub longer : Span → Span
+longer s = record { from = s.from; to = s.to + 1 }
+
+pub part-push : {A : Type 0} (xs : List A) (x : A) (s : Span) → s.from ≤ s.to → s.to ≡ length xs → part (xs ++ x ∷ []) (longer s) ≡ part xs s ++ x ∷ []
+part-push xs x s ordered ends =
+    let past : length (xs ++ x ∷ []) ≤ s.to + 1 = omega (arith, length-append xs (x ∷ [])) in
+    let start : s.from ≤ length xs = omega arith in
+    part_to_end (xs ++ x ∷ []) (longer s) past ∙ drop-append-le s.from xs (x ∷ []) start ∙ ap (λ l. l ++ x ∷ []) (sym (part_to_end xs s (omega arith)))
+
+-- what was put at the end
+pub part_appended : {A : Type 0} (xs ys : List A) (s : Span) → s.from ≡ length xs → s.to ≡ length xs + length ys → part (xs ++ ys) s ≡ ys
+part_appended xs ys s begins ends =
+    part_to_end (xs ++ ys) s (omega (arith, length-append xs ys)) ∙ drop_at xs ys s.from (sym begins)
+
+-- rows are as before where both lists grow at their ends
+pub row_at-append : (refs more_refs : List Reference) (nums more_nums : List ℕ) (p : Place) → Within (length refs) (length nums) p → row_at (refs ++ more_refs) (nums ++ more_nums) p ≡ row_at refs nums p
+row_at-append refs more_refs nums more_nums p h =
+    let r = part-append refs more_refs p.refs h.0 h.1 in
+    let n = part-append nums more_nums p.nums h.2 h.3 in
+    rw (r, n) refl
+
+pub rows-append : (refs more_refs : List Reference) (nums more_nums : List ℕ) (ps : List Place) → All (Within (length refs) (length nums)) ps → map (row_at (refs ++ more_refs) (nums ++ more_nums)) ps ≡ map (row_at refs nums) ps
+rows-append refs more_refs nums more_nums [] h = refl
+rows-append refs more_refs nums more_nums (p ∷ ps) h =
+    let first = row_at-append refs more_refs nums more_nums p (All-head (Within (length refs) (length nums)) p ps h) in
+    let rest = rows-append refs more_refs nums more_nums ps (All-tail (Within (length refs) (length nums)) p ps h) in
+    cc
+
+-- a write of the last element
+pub set_last : {A : Type 0} (f : A → A) (xs : List A) (d : A) → 0 < length xs → set xs (length xs - 1) (f (get_or xs (length xs - 1) d)) ≡ change_last f xs
+set_last f [] d h = absurd (omega arith)
+set_last f (x ∷ []) d h = refl
+set_last f (x ∷ y ∷ xs) d h =
+    let last : length (x ∷ y ∷ xs) - 1 ≡ suc (length (y ∷ xs) - 1) = omega arith in
+    subst (λ (n : ℕ). set (x ∷ y ∷ xs) n (f (get_or (x ∷ y ∷ xs) n d)) ≡ change_last f (x ∷ y ∷ xs)) (sym last) (ap (λ l. x ∷ l) (set_last f (y ∷ xs) d (omega arith)))
+
+-- the place of a row that grows by a reference, and by a number
+abbrev pub grow_refs : Place → Place
+grow_refs p = record { name = p.name; refs = longer p.refs; nums = p.nums }
+
+abbrev pub grow_nums : Place → Place
+grow_nums p = record { name = p.name; refs = p.refs; nums = longer p.nums }
+
+-- the rows where the last one grows
+pub rows-grow : (f : Place → Place) (g : Row → Row) (was now : Place → Row) (r n : ℕ)
+    → ((p : Place) → Within r n p → now p ≡ was p)
+    → ((p : Place) → Within r n p → p.refs.to ≡ r → p.nums.to ≡ n → now (f p) ≡ g (was p))
+    → (ps : List Place) → All (Within r n) ps → EndsAt r n ps → map now (change_last f ps) ≡ change_last g (map was ps)
+rows-grow f g was now r n same last [] h e = refl
+rows-grow f g was now r n same last (p ∷ []) h e =
+    ap (λ x. x ∷ []) (last p (All-head (Within r n) p [] h) e.0 e.1)
+rows-grow f g was now r n same last (p ∷ q ∷ ps) h e =
+    let first = same p (All-head (Within r n) p (q ∷ ps) h) in
+    let rest = rows-grow f g was now r n same last (q ∷ ps) (All-tail (Within r n) p (q ∷ ps) h) e in
+    cc
+
+pub rows-grow_refs : (refs : List Reference) (nums : List ℕ) (to : Reference) (ps : List Place) → IsLaid ps (length refs) (length nums)
+    → map (row_at (refs ++ to ∷ []) nums) (change_last grow_refs ps) ≡ change_last (add_reference to) (map (row_at refs nums) ps)
+rows-grow_refs refs nums to ps h =
+    rows-grow grow_refs (add_reference to) (row_at refs nums) (row_at (refs ++ to ∷ []) nums) (length refs) (length nums)
+    (λ p w. ap (λ l. record { name = p.name; refs = l; nums = part nums p.nums }) (part-append refs (to ∷ []) p.refs w.0 w.1))
+    (λ p w r n. ap (λ l. record { name = p.name; refs = l; nums = part nums p.nums }) (part-push refs to p.refs w.0 r))
+    ps h.within h.ends
+
+pub rows-grow_nums : (refs : List Reference) (nums : List ℕ) (value : ℕ) (ps : List Place) → IsLaid ps (length refs) (length nums)
+    → map (row_at refs (nums ++ value ∷ [])) (change_last grow_nums ps) ≡ change_last (add_number value) (map (row_at refs nums) ps)
+rows-grow_nums refs nums value ps h =
+    rows-grow grow_nums (add_number value) (row_at refs nums) (row_at refs (nums ++ value ∷ [])) (length refs) (length nums)
+    (λ p w. ap (λ l. record { name = p.name; refs = part refs p.refs; nums = l }) (part-append nums (value ∷ []) p.nums w.2 w.3))
+    (λ p w r n. ap (λ l. record { name = p.name; refs = part refs p.refs; nums = l }) (part-push nums value p.nums w.2 n))
+    ps h.within h.ends
+
+-- a row more, which begins where the others end
+pub EndsAt-push : (ps : List Place) (p : Place) → EndsAt p.refs.to p.nums.to (ps ++ p ∷ [])
+EndsAt-push [] p = (refl, refl)
+EndsAt-push (q ∷ []) p = (refl, refl)
+EndsAt-push (q ∷ r ∷ ps) p = EndsAt-push (r ∷ ps) p
+
+pub Within-longer : (r r' n n' : ℕ) → r ≤ r' → n ≤ n' → (p : Place) → Within r n p → Within r' n' p
+Within-longer r r' n n' more_refs more_nums p h = (h.0, omega arith, h.2, omega arith)
+
+pub IsLaid-push : (ps : List Place) (r n : ℕ) (p : Place) → IsLaid ps r n → p.refs.from ≡ r → p.nums.from ≡ n → r ≤ p.refs.to → n ≤ p.nums.to → IsLaid (ps ++ p ∷ []) p.refs.to p.nums.to
+IsLaid-push ps r n p h refs nums more_refs more_nums = record {
+  within = All-push (Within p.refs.to p.nums.to) ps p
+      (All-weaker (Within r n) (Within p.refs.to p.nums.to) (Within-longer r p.refs.to n p.nums.to more_refs more_nums) ps h.within)
+      (omega arith, omega arith, omega arith, omega arith);
+  ends = EndsAt-push ps p;
+  fills_refs = sum_by_push (λ p. span_length p.refs) ps p ∙ omega (arith, h.fills_refs);
+  fills_nums = sum_by_push (λ p. span_length p.nums) ps p ∙ omega (arith, h.fills_nums);
+}
+
+-- the last row grows by so many references and numbers
+pub IsLaid-grow : (f : Place → Place) (a b : ℕ)
+    → ((p : Place) → ((f p).refs.from ≡ p.refs.from) × ((f p).refs.to ≡ p.refs.to + a) × ((f p).nums.from ≡ p.nums.from) × ((f p).nums.to ≡ p.nums.to + b))
+    → (ps : List Place) (r n : ℕ) → 0 < length ps → IsLaid ps r n → IsLaid (change_last f ps) (r + a) (n + b)
+IsLaid-grow f a b grows ps r n some h = record {
+  within = within ps h.within;
+  ends = ends ps h.ends;
+  fills_refs = sums (λ p. span_length p.refs) a (λ p w. let g = grows p in omega arith) ps some h.within ∙ ap (λ k. k + a) h.fills_refs;
+  fills_nums = sums (λ p. span_length p.nums) b (λ p w. let g = grows p in omega arith) ps some h.within ∙ ap (λ k. k + b) h.fills_nums;
+} where
+  within : (ps : List Place) → All (Within r n) ps → All (Within (r + a) (n + b)) (change_last f ps)
+  within [] h = All-nil (Within (r + a) (n + b))
+  within (p ∷ []) h =
+      let w = All-head (Within r n) p [] h in
+      let g = grows p in
+      All-cons (Within (r + a) (n + b)) (f p) [] (omega arith, omega arith, omega arith, omega arith) (All-nil (Within (r + a) (n + b)))
+  within (p ∷ q ∷ ps) h =
+      let w = All-head (Within r n) p (q ∷ ps) h in
+      All-cons (Within (r + a) (n + b)) p (change_last f (q ∷ ps)) (w.0, omega arith, w.2, omega arith) (within (q ∷ ps) (All-tail (Within r n) p (q ∷ ps) h))
+
+  ends : (ps : List Place) → EndsAt r n ps → EndsAt (r + a) (n + b) (change_last f ps)
+  ends [] e = tt
+  ends (p ∷ []) e = let g = grows p in (omega (arith, e.0), omega (arith, e.1))
+  ends (p ∷ q ∷ []) e = let g = grows q in (omega (arith, e.0), omega (arith, e.1))
+  ends (p ∷ q ∷ s ∷ ps) e = ends (q ∷ s ∷ ps) e
+
+  sums : (size : Place → ℕ) (k : ℕ) → ((p : Place) → Within r n p → size (f p) ≡ size p + k) → (ps : List Place) → 0 < length ps → All (Within r n) ps → sum_by size (change_last f ps) ≡ sum_by size ps + k
+  sums size k more [] some h = absurd (omega arith)
+  sums size k more (p ∷ []) some h = omega (arith, more p (All-head (Within r n) p [] h))
+  sums size k more (p ∷ q ∷ ps) some h =
+      omega (arith, sums size k more (q ∷ ps) (omega arith) (All-tail (Within r n) p (q ∷ ps) h), sum_by-cons size p (change_last f (q ∷ ps)), sum_by-cons size p (q ∷ ps))
+
+pub IsLaid-grow_refs : (ps : List Place) (r n : ℕ) → 0 < length ps → IsLaid ps r n → IsLaid (change_last grow_refs ps) (r + 1) n
+IsLaid-grow_refs ps r n some h =
+    subst (λ (k : ℕ). IsLaid (change_last grow_refs ps) (r + 1) k) (add-zero n)
+    (IsLaid-grow grow_refs 1 0 (λ p. (refl, refl, refl, omega arith)) ps r n some h)
+
+pub IsLaid-grow_nums : (ps : List Place) (r n : ℕ) → 0 < length ps → IsLaid ps r n → IsLaid (change_last grow_nums ps) r (n + 1)
+IsLaid-grow_nums ps r n some h =
+    subst (λ (k : ℕ). IsLaid (change_last grow_nums ps) k (n + 1)) (add-zero r)
+    (IsLaid-grow grow_nums 0 1 (λ p. (refl, omega arith, refl, refl)) ps r n some h)
+
+-- a write of the last element, as it was read
+pub set_last_read : {A : Type 0} (f : A → A) (xs : List A) (n : ℕ) (x : A) → 0 < length xs → n ≡ length xs → x ≡ get_or xs (n - 1) x → set xs (n - 1) (f x) ≡ change_last f xs
+set_last_read f xs n x some last read =
+    let at : get_or xs (n - 1) x ≡ get_or xs (length xs - 1) x = ap (λ k. get_or xs (k - 1) x) last in
+    let e = set_last f xs x some in
+    let w : f x ≡ f (get_or xs (length xs - 1) x) = ap f (read ∙ at) in
+    ap (λ k. set xs (k - 1) (f x)) last ∙ ap (λ y. set xs (length xs - 1) y) w ∙ e
+
+-- a row's fields go to the ends of two other lists
+pub row_carried : (refs : List Reference) (nums : List ℕ) (moved_refs : List Reference) (moved_nums : List ℕ) (p q : Place)
+    → q.name ≡ p.name → q.refs ≡ record { from = length moved_refs; to = length moved_refs + span_length p.refs } → q.nums ≡ record { from = length moved_nums; to = length moved_nums + span_length p.nums }
+    → Within (length refs) (length nums) p → row_at (moved_refs ++ part refs p.refs) (moved_nums ++ part nums p.nums) q ≡ row_at refs nums p
+row_carried refs nums moved_refs moved_nums p q name to_refs to_nums w =
+    let r = part_appended moved_refs (part refs p.refs) q.refs (ap (λ s. s.from) to_refs) (ap (λ s. s.to) to_refs ∙ ap (λ k. length moved_refs + k) (sym (length-part refs p.refs w.0 w.1))) in
+    let n = part_appended moved_nums (part nums p.nums) q.nums (ap (λ s. s.from) to_nums) (ap (λ s. s.to) to_nums ∙ ap (λ k. length moved_nums + k) (sym (length-part nums p.nums w.2 w.3))) in
+    rw (name, r, n) refl
+
+-- one row more was moved
+pub rows-carried : (refs : List Reference) (nums : List ℕ) (moved_refs : List Reference) (moved_nums : List ℕ) (done : List Place) (rows : List Row) (p q : Place)
+    → q.name ≡ p.name → q.refs ≡ record { from = length moved_refs; to = length moved_refs + span_length p.refs } → q.nums ≡ record { from = length moved_nums; to = length moved_nums + span_length p.nums }
+    → Within (length refs) (length nums) p → IsLaid done (length moved_refs) (length moved_nums) → map (row_at moved_refs moved_nums) done ≡ rows
+    → map (row_at (moved_refs ++ part refs p.refs) (moved_nums ++ part nums p.nums)) (done ++ q ∷ []) ≡ rows ++ row_at refs nums p ∷ []
+rows-carried refs nums moved_refs moved_nums done rows p q name to_refs to_nums w laid same =
+    let last = row_carried refs nums moved_refs moved_nums p q name to_refs to_nums w in
+    let others = rows-append moved_refs (part refs p.refs) moved_nums (part nums p.nums) done laid.within in
+    map_push (row_at (moved_refs ++ part refs p.refs) (moved_nums ++ part nums p.nums)) done q ∙ rw (others, last, same) refl
+
+-- a row has the name of its place
+pub names-rows : (refs : List Reference) (nums : List ℕ) (ps : List Place) → map (λ (r : Row). r.name) (map (row_at refs nums) ps) ≡ map (λ (p : Place). p.name) ps
+names-rows refs nums [] = refl
+names-rows refs nums (p ∷ ps) = ap (λ l. p.name ∷ l) (names-rows refs nums ps)

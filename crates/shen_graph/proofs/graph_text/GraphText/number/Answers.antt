@@ -1,0 +1,35 @@
+use Rattle.std.proofs.Common.{◌≡◌, ◌+◌, ◌<◌, ◌≤◌, [], ◌∷◌, ◌++◌, length, vec_len, vec_capacity, arith, rules, refl}
+use Rattle.std.proofs.lemmas.Grind.{common_steps}
+use Rattle.shen_graph.proofs.TextLemmas.{IsLaid-grow_nums, rows-grow_nums, grow_nums, set_last_read}
+use Rattle.shen_graph.proofs.graph_text.GraphText.number.Goals as goal
+
+pub invariant_of-self : goal.invariant_of-self
+invariant_of-self c =
+    let room = c.self.invariant in
+    let spare : 1 ≤ c.self.inside.spare = search rules in
+    let some : 0 < length c.self.inside.places.items = grind (arith, common_steps) in
+    let fits : vec_len c.self.inside.numbers < vec_capacity c.self.inside.numbers = omega (arith, room.words, room.numbers) in
+    let last : c.len-last.result ≡ length c.self.inside.places.items = grind (arith, common_steps) in
+    let grown = set_last_read grow_nums c.self.inside.places.items c.len-last.result c.index_mut-place.result.now some last c.index_mut-place.ensures.value in
+    let pushed : vec_len c.push.new.self ≡ vec_len c.self.inside.numbers + 1 = grind arith in
+    record {
+      laid = rw (grown, pushed) (IsLaid-grow_nums c.self.inside.places.items (vec_len c.self.inside.references) (vec_len c.self.inside.numbers) some room.laid);
+      words = grind arith;
+      places = room.places;
+      references = omega (arith, room.references, c.push.ensures.capacity);
+      numbers = omega (arith, room.numbers, c.push.ensures.capacity);
+      moved_references = room.moved_references;
+      moved_numbers = room.moved_numbers;
+    }
+
+pub returns : goal.returns
+returns c =
+    let room = c.self.invariant in
+    let spare : 1 ≤ c.self.inside.spare = search rules in
+    let some : 0 < length c.self.inside.places.items = grind (arith, common_steps) in
+    let fits : vec_len c.self.inside.numbers < vec_capacity c.self.inside.numbers = omega (arith, room.words, room.numbers) in
+    let last : c.len-last.result ≡ length c.self.inside.places.items = grind (arith, common_steps) in
+    let grown = set_last_read grow_nums c.self.inside.places.items c.len-last.result c.index_mut-place.result.now some last c.index_mut-place.ensures.value in
+    let pushed : c.push.new.self.items ≡ c.self.inside.numbers.items ++ c.args.value ∷ [] = grind (arith, common_steps) in
+    let rows = rows-grow_nums c.self.inside.references.items c.self.inside.numbers.items c.args.value c.self.inside.places.items (grind (arith, common_steps)) in
+    rw (← c.self.view_is, grown, pushed, rows) refl

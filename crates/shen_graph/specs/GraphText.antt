@@ -1,0 +1,77 @@
+-- A graph as it is to be written: rows of objects, and rows of roots.
+use Rattle.std.specs.Prelude.{ℕ, ◌-◌, List, [], ◌∷◌, ◌++◌, map, replicate, length, None, slice_index_or, slice_set}
+use Rattle.std.specs.List.{IsDistinct}
+use Rattle.shen_graph.specs.declared.name.Name.{Name}
+use Rattle.shen_graph.specs.Graph.{Reference, hub, same_name}
+
+-- an object: its name, its references and its numbers
+pub record Row : Type 0 where
+  pub name : Name
+  pub refs : List Reference
+  pub nums : List ℕ
+
+-- the rows of objects, a row of 16 roots for each thread, the words of room that are left, and the words of room in all
+pub record Text : Type 0 where
+  pub rows : List Row
+  pub roots : List (List Reference)
+  pub spare : ℕ
+  pub room : ℕ
+
+-- no object yet, all roots null
+abbrev pub empty : ℕ → ℕ → Text
+empty words threads = record { rows = []; roots = replicate threads (replicate 16 None); spare = words; room = words }
+
+-- the same room, and nothing in it
+abbrev pub cleared : Text → Text
+cleared t = empty t.room (length t.roots)
+
+-- an object without a field
+abbrev pub bare : Name → Row
+bare name = record { name = name; refs = []; nums = [] }
+
+-- an object more, which takes 3 words
+abbrev pub with_row : Text → Name → Text
+with_row t name = record t { rows = t.rows ++ bare name ∷ []; spare = t.spare - 3 }
+
+-- the last of a list is changed
+abbrev pub change_last : {A : Type 0} → (A → A) → List A → List A
+change_last f [] = []
+change_last f (x ∷ []) = f x ∷ []
+change_last f (x ∷ y ∷ xs) = x ∷ change_last f (y ∷ xs)
+
+abbrev pub add_reference : Reference → Row → Row
+add_reference to r = record r { refs = r.refs ++ to ∷ [] }
+
+abbrev pub add_number : ℕ → Row → Row
+add_number value r = record r { nums = r.nums ++ value ∷ [] }
+
+-- the last object has a reference more, which takes 1 word
+abbrev pub with_reference : Text → Reference → Text
+with_reference t to = record t { rows = change_last (add_reference to) t.rows; spare = t.spare - 1 }
+
+-- the last object has a number more, which takes 1 word
+abbrev pub with_number : Text → ℕ → Text
+with_number t value = record t { rows = change_last (add_number value) t.rows; spare = t.spare - 1 }
+
+-- the roots of a thread, counted from 1
+abbrev pub roots_of : Text → ℕ → List Reference
+roots_of t thread = slice_index_or t.roots (thread - 1) []
+
+abbrev pub root_of : Text → ℕ → ℕ → Reference
+root_of t thread index = slice_index_or (roots_of t thread) index None
+
+-- a root of a thread is another
+abbrev pub with_root_of : Text → ℕ → ℕ → Reference → Text
+with_root_of t thread index to = record t { roots = slice_set t.roots (thread - 1) (slice_set (roots_of t thread) index to) }
+
+-- the row with that number, counted from 0
+abbrev pub row_of : Text → ℕ → Row
+row_of t row = slice_index_or t.rows row (bare hub)
+
+-- the names of the objects, in the order of their rows
+abbrev pub names_of : Text → List Name
+names_of t = map (λ r. r.name) t.rows
+
+-- no name stands twice
+abbrev pub NamesDiffer : Text → Type 0
+NamesDiffer t = IsDistinct same_name (names_of t)
