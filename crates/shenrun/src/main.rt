@@ -1,0 +1,34 @@
+//! `shenrun` runs traces of commands on a region heap.
+#![tactic(auto)]
+
+mod replay;
+mod status;
+
+use replay::shenrun;
+use shen_base::{InSource, OutSink};
+use std::alloc::AllocError;
+use std::process::ExitCode;
+use std::{env, io};
+
+/// The status number where the system refuses the words of the command line.
+const NO_WORDS: u8 = 8;
+
+/// The status number where there is no memory for the list of words.
+const NO_ROOM_FOR_WORDS: u8 = 9;
+
+fn main(rt: HostRuntime) -> ExitCode {
+    let args = match env::args(&rt) {
+        Ok(args) => args,
+        Err(_) => return ExitCode::from(NO_WORDS),
+    };
+    let mut words = Vec::new(rt.alloc());
+    for word in args.skip(1) {
+        if words.push(word).is_err() {
+            return ExitCode::from(NO_ROOM_FOR_WORDS);
+        }
+    }
+    let mut source = InSource::new(rt.stdin());
+    let mut sink = OutSink::new(rt.stdout());
+    let status = shenrun(rt.alloc(), &words, &mut source, &mut sink);
+    ExitCode::from(status.number())
+}
