@@ -8,4 +8,3 @@ pub mod Work
 pub mod GraphText
 pub mod TextLayout
 pub mod TextRoom
-pub mod PlainGraph
