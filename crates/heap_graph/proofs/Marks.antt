@@ -18,7 +18,7 @@ pub has-push : (order : List ℕ) (a q : ℕ) → has (order ++ a ∷ []) q ≡ 
 has-push order a q = list_any-append (nat_eq q) order (a ∷ []) ∙ ap (λ b. has order q || b) (or_false (nat_eq q a))
 
 -- a range has each number in it
-has-range : (first n q : ℕ) → first ≤ q → q < first + n → has (range_with_len first n) q ≡ true
+pub has-range : (first n q : ℕ) → first ≤ q → q < first + n → has (range_with_len first n) q ≡ true
 has-range first n q low high =
     let below : q - first < n = omega arith in
     let within : q - first < length (range_with_len first n) = rw length-range_with_len below in

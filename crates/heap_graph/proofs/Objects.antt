@@ -1,5 +1,5 @@
 -- The references and the numbers of an object, where its words lie in the heap.
-use Rattle.std.proofs.Common.{ℕ, ◌≡◌, ◌+◌, ◌-◌, ◌<◌, ◌≤◌, List, length, get_or, take, drop, arith, ap, ◌∙◌, length-drop}
+use Rattle.std.proofs.Common.{ℕ, ◌≡◌, ◌+◌, ◌-◌, ◌<◌, ◌≤◌, List, length, get_or, take, drop, arith, ◌∙◌, length-drop}
 use Rattle.std.proofs.lemmas.List.{length-take-le, get_or-take, get_or-drop}
 use Rattle.heap_words.specs.Encoding.{refs_in, nums_in}
 use Rattle.heap_graph.specs.Walk.{shape_at, refs_at, nums_at, words_at}

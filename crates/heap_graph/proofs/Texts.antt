@@ -1,5 +1,5 @@
 -- What adding to the last row of a text makes of it.
-use Rattle.std.proofs.Common.{ℕ, suc, zero, ◌≡◌, ◌+◌, ◌-◌, ◌<◌, ◌≤◌, List, [], ◌∷◌, ◌++◌, length, arith, refl, ap, sym, ◌∙◌}
+use Rattle.std.proofs.Common.{ℕ, suc, ◌≡◌, ◌+◌, ◌-◌, List, [], ◌∷◌, ◌++◌, length, arith, refl, ap, sym, ◌∙◌}
 use Rattle.std.proofs.lemmas.List.{append_assoc, append-nil}
 use Rattle.shen_graph.specs.declared.name.Name.{Name}
 use Rattle.shen_graph.specs.Graph.{Reference}
@@ -36,7 +36,7 @@ less a n = omega arith
 
 with_references-ending : (rs : List Reference) (rows : List Row) (roots : List (List Reference)) (room spare : ℕ) (r : Row)
     → with_references (ending rows roots room spare r) rs
-      ≡ ending rows roots room (spare - length rs) (record r { refs = r.refs ++ rs })
+    ≡ ending rows roots room (spare - length rs) (record r { refs = r.refs ++ rs })
 with_references-ending [] rows roots room spare r =
     ap (λ qs. ending rows roots room spare (record r { refs = qs })) (sym (append-nil r.refs))
     ∙ ap (λ n. ending rows roots room n (record r { refs = r.refs ++ [] })) (all spare)
@@ -49,7 +49,7 @@ with_references-ending (q ∷ rs) rows roots room spare r =
 
 with_numbers-ending : (xs : List ℕ) (rows : List Row) (roots : List (List Reference)) (room spare : ℕ) (r : Row)
     → with_numbers (ending rows roots room spare r) xs
-      ≡ ending rows roots room (spare - length xs) (record r { nums = r.nums ++ xs })
+    ≡ ending rows roots room (spare - length xs) (record r { nums = r.nums ++ xs })
 with_numbers-ending [] rows roots room spare r =
     ap (λ ys. ending rows roots room spare (record r { nums = ys })) (sym (append-nil r.nums))
     ∙ ap (λ n. ending rows roots room n (record r { nums = r.nums ++ [] })) (all spare)
@@ -63,7 +63,7 @@ with_numbers-ending (x ∷ xs) rows roots room spare r =
 -- a row, its references and its numbers are a whole row
 pub whole : (t : Text) (name : Name) (refs : List Reference) (nums : List ℕ)
     → with_numbers (with_references (with_row t name) refs) nums
-      ≡ with_whole_row t (record { name = name; refs = refs; nums = nums })
+    ≡ with_whole_row t (record { name = name; refs = refs; nums = nums })
 whole t name refs nums =
     let e : t.spare - 3 - length refs - length nums ≡ t.spare - (3 + length refs + length nums) = omega arith in
     ap (λ u. with_numbers u nums)

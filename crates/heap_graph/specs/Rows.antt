@@ -1,5 +1,5 @@
 -- The rows that objects are written as, by the words of the heap alone.
-use Rattle.std.specs.Prelude.{ℕ, ◌+◌, ◌-◌, ◌*◌, ◌≢◌, ◌<◌, ◌≤◌, ◌==◌, ◌&&◌, nat_le, nat_lt, List, [], ◌∷◌, ◌++◌, Some, None, map, slice_index, length, if◌then◌else◌}
+use Rattle.std.specs.Prelude.{ℕ, ◌+◌, ◌-◌, ◌*◌, ◌≢◌, ◌≤◌, ◌==◌, ◌&&◌, nat_le, nat_lt, List, [], ◌∷◌, ◌++◌, Some, None, map, slice_index, length, if◌then◌else◌}
 use Rattle.std.specs.List.{range_with_len}
 use Rattle.heap_words.specs.Encoding.{thread_in, count_in}
 use Rattle.shen_graph.specs.declared.name.Name.{Name}

@@ -1,4 +1,4 @@
-use Rattle.std.proofs.Common.{◌≡◌, ◌+◌, ◌<◌, length, get_or, take, arith, ap, sym, ◌∙◌}
+use Rattle.std.proofs.Common.{length, get_or, take, arith, ap, sym, ◌∙◌}
 use Rattle.std.proofs.lemmas.List.{take_more}
 use Rattle.shen_graph.specs.GraphText.{add_number, with_number}
 use Rattle.heap_graph.specs.Rows.{with_numbers}
@@ -16,6 +16,6 @@ loop-word-preserved c =
       rows = ap (λ t. length t.rows) made ∙ length-change_last (add_number word) text.rows ∙ c.loop-word.invariant.rows;
       spare = omega (arith, ap (λ t. t.spare) made);
       added = (made ∙ ap (λ t. with_number t word) c.loop-word.invariant.added
-        ∙ sym (with_numbers-push c.args.text.now (take i words) word)
-        ∙ ap (with_numbers c.args.text.now) (sym (take_more words i 0 (omega arith))));
+          ∙ sym (with_numbers-push c.args.text.now (take i words) word)
+          ∙ ap (with_numbers c.args.text.now) (sym (take_more words i 0 (omega arith))));
     }

@@ -1,4 +1,4 @@
-use Rattle.std.proofs.Common.{ℕ, ◌≡◌, ◌+◌, ◌-◌, ◌<◌, ◌≤◌, List, [], ◌∷◌, ◌++◌, length, map, get_or, take, sum_by, arith, ap, sym, ◌∙◌}
+use Rattle.std.proofs.Common.{ℕ, ◌+◌, ◌-◌, ◌<◌, ◌≤◌, [], ◌∷◌, ◌++◌, length, map, get_or, take, arith, ap, sym, ◌∙◌}
 use Rattle.std.proofs.lemmas.List.{take_more, map-append, append_assoc, length-map}
 use Rattle.std.proofs.lemmas.List.Sums.{sum_by_more, sum_by_more_le}
 use Rattle.heap_graph.specs.Walk.{refs_at, words_at}
@@ -27,11 +27,18 @@ loop-address-preserved c =
     let before = map (row_at first heap) (take i order) in
     record {
       rows = (ap (λ t. t.rows) made ∙ ap (λ xs. xs ++ row ∷ []) c.loop-address.invariant.rows
-        ∙ append_assoc c.args.text.now.rows before (row ∷ [])
-        ∙ ap (λ xs. c.args.text.now.rows ++ xs)
-        (sym (map-append (row_at first heap) (take i order) (address ∷ [])) ∙ ap (map (row_at first heap)) (sym (take_more order i 0 low))));
+          ∙ append_assoc c.args.text.now.rows before (row ∷ [])
+          ∙ ap (λ xs. c.args.text.now.rows ++ xs)
+          (sym (map-append (row_at first heap) (take i order) (address ∷ [])) ∙ ap (map (row_at first heap)) (sym (take_more order i 0 low))));
       roots = ap (λ t. t.roots) made ∙ c.loop-address.invariant.roots;
       room = ap (λ t. t.room) made ∙ c.loop-address.invariant.room;
-      spare = (omega (arith, ap (λ t. t.spare) made, sum_by_more words order i 0 low, sum_by_more_le words order i 0 low,
-          length-map (refs_at heap k) (reference_in first heap), length-refs_at heap k within, length-nums_at heap k within));
+      spare = (omega (
+        arith,
+        ap (λ t. t.spare) made,
+        sum_by_more words order i 0 low,
+        sum_by_more_le words order i 0 low,
+        length-map (refs_at heap k) (reference_in first heap),
+        length-refs_at heap k within,
+        length-nums_at heap k within,
+      ));
     }

@@ -1,4 +1,4 @@
-use Rattle.std.proofs.Common.{◌≡◌, ◌+◌, ◌<◌, List, [], ◌∷◌, ◌++◌, length, map, get_or, take, arith, ap, sym, ◌∙◌}
+use Rattle.std.proofs.Common.{[], ◌∷◌, length, map, get_or, take, arith, ap, sym, ◌∙◌}
 use Rattle.std.proofs.lemmas.List.{take_more, map-append}
 use Rattle.shen_graph.specs.GraphText.{add_reference, with_reference}
 use Rattle.heap_graph.specs.Rows.{reference_in, with_references}
@@ -17,7 +17,7 @@ loop-word-preserved c =
       rows = ap (λ t. length t.rows) made ∙ length-change_last (add_reference (shown word)) text.rows ∙ c.loop-word.invariant.rows;
       spare = omega (arith, ap (λ t. t.spare) made);
       added = (made ∙ ap (λ t. with_reference t (shown word)) c.loop-word.invariant.added
-        ∙ sym (with_references-push c.args.text.now (map shown (take i words)) (shown word))
-        ∙ ap (with_references c.args.text.now)
-        (sym (map-append shown (take i words) (word ∷ [])) ∙ ap (map shown) (sym (take_more words i 0 (omega arith)))));
+          ∙ sym (with_references-push c.args.text.now (map shown (take i words)) (shown word))
+          ∙ ap (with_references c.args.text.now)
+          (sym (map-append shown (take i words) (word ∷ [])) ∙ ap (map shown) (sym (take_more words i 0 (omega arith)))));
     }

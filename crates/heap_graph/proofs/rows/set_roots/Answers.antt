@@ -1,4 +1,4 @@
-use Rattle.std.proofs.Common.{ℕ, ◌≡◌, ◌+◌, ◌-◌, ◌/◌, ◌%◌, List, [], ◌<◌, ◌≤◌, length, get_or, set, arith, ap, sym, ◌∙◌}
+use Rattle.std.proofs.Common.{ℕ, ◌≡◌, ◌+◌, ◌-◌, ◌/◌, ◌%◌, [], ◌<◌, length, get_or, set, arith, ap, ◌∙◌}
 use Rattle.std.proofs.lemmas.List.{length-set}
 use Rattle.heap_graph.specs.Rows.{reference_in}
 use Rattle.heap_graph.proofs.RootRows.{AreFull-with_root, AreSet-with_root, all_set}
@@ -13,12 +13,12 @@ loop-position-preserved c =
     let back : p / 16 + 1 - 1 ≡ p / 16 = omega arith in
     let to = c.reference_to.result in
     let made = ap (λ t. t.roots) c.root.ensures
-      ∙ ap (λ i. set rows i (set (get_or rows i []) (p % 16) to)) back in
+    ∙ ap (λ i. set rows i (set (get_or rows i []) (p % 16) to)) back in
     record {
       rows = ap (λ t. t.rows) c.root.ensures ∙ c.loop-position.invariant.rows;
       room = ap (λ t. t.room) c.root.ensures ∙ c.loop-position.invariant.room;
       count = (ap length made ∙ length-set rows (p / 16) (set (get_or rows (p / 16) []) (p % 16) to)
-        ∙ c.loop-position.invariant.count);
+          ∙ c.loop-position.invariant.count);
       full = rw made (AreFull-with_root rows p to low c.loop-position.invariant.full);
       done = (rw made (AreSet-with_root shown rows p to low c.loop-position.invariant.full c.reference_to.ensures
           c.loop-position.invariant.done));

@@ -1,0 +1,229 @@
+-- What follows where the words of a heap stand for a graph.
+use Rattle.std.proofs.Common.{ℕ, ◌≡◌, ◌≢◌, ◌+◌, ◌-◌, ◌*◌, ◌/◌, ◌%◌, ◌^◌, ◌<◌, ◌≤◌, ◌==◌, ◌&&◌, true, Option, Some, None, List, [], length, get_or, slice_get, unwrap_or, map, nat_eq, ltb, leb, arith, refl, ap, sym, ◌∙◌, subst, inl, inr}
+use Rattle.std.proofs.lemmas.List.{get_or_past, get_or_default, ext_get_or, length-map, get_or-map}
+use Rattle.std.proofs.lemmas.List.Folds.{list_any_at}
+use Rattle.std.proofs.lemmas.Option.{slice_get-get_or, slice_get_within}
+use Rattle.std.proofs.lemmas.Bool.{eq-eqb, ne_eqb, cond-true, cond-false, cases_lt, cases_Bool}
+use Rattle.std.proofs.lemmas.Map.Views.{Contains-from_any, exact_unsigned_eq}
+use Rattle.heap_words.specs.Encoding.{refs_in, nums_in, shape_word, thread_in, count_in, name_code}
+use Rattle.shen_graph.specs.declared.name.Name.{Name}
+use Rattle.shen_graph.specs.Graph.{Graph, Object, Reference, named}
+use Rattle.shen_graph.specs.Reach.{IsReachable, from_root as reach_root, from_field as reach_field, size}
+use Rattle.heap_graph.specs.Stands.{Refers}
+use Rattle.heap_graph.specs.Walk.{has, shape_at, refs_at, nums_at, words_at, Leads, from_root, from_field, IsSound}
+use Rattle.heap_graph.specs.Rows.{name_at, reference_in, row_at, root_word}
+use Rattle.heap_graph.specs.Shows.{row_in, WordsStand}
+use Rattle.heap_graph.proofs.Objects.{length-refs_at, length-nums_at, get_or-refs_at, get_or-nums_at}
+use Rattle.heap_graph.proofs.RootRows.{root_word-at}
+
+-- what is known of the object at an address
+pub record Facts (first : ℕ) (heap : List ℕ) (g : Graph) (a : ℕ) (n : Name) (o : Object) : Type 0 where
+  pub refs : refs_in (shape_at heap (a - first)) ≡ length o.refs
+  pub nums : nums_in (shape_at heap (a - first)) ≡ length o.nums
+  pub words : words_at heap (a - first) ≡ size o
+  pub within : a - first + words_at heap (a - first) ≤ length heap
+  pub name : name_at heap (a - first) ≡ n
+  pub object : named g (Some n) ≡ o
+
+shape_refs : (r m : ℕ) → r ≤ 16 → m ≤ 16 → refs_in (shape_word r m) ≡ r
+shape_refs r m few_r few_m = omega arith
+
+shape_nums : (r m : ℕ) → r ≤ 16 → m ≤ 16 → nums_in (shape_word r m) ≡ m
+shape_nums r m few_r few_m = omega arith
+
+code_thread : (t k : ℕ) → k < 2 ^ 32 → thread_in (name_code t k) ≡ t
+code_thread t k h = omega arith
+
+code_count : (t k : ℕ) → k < 2 ^ 32 → count_in (name_code t k) ≡ k
+code_count t k h = omega arith
+
+name_back : (n : Name) (code : ℕ) → n.count < 2 ^ 32 → code ≡ name_code n.thread n.count
+    → record { thread = thread_in code; count = count_in code } ≡ n
+name_back n code h e =
+    ap (λ t. record { thread = t; count = count_in code }) (ap thread_in e ∙ code_thread n.thread n.count h)
+    ∙ ap (λ k. record { thread = n.thread; count = k }) (ap count_in e ∙ code_count n.thread n.count h)
+
+-- a root that is not null is one of the roots' words
+has-root_word : (roots : List ℕ) (t i : ℕ) → root_word roots t i ≢ 0 → has roots (root_word roots t i) ≡ true
+has-root_word roots t i ne =
+    let k = 16 * (t - 1) + i in
+    elim (cases_Bool (leb 1 t && ltb i 16)) [
+      | inl is ↦ (let e : root_word roots t i ≡ get_or roots k 0 = cond-true (leb 1 t && ltb i 16) (get_or roots k 0) 0 is in
+          elim (cases_lt k (length roots)) [
+            | inl low ↦ list_any_at (nat_eq (root_word roots t i)) roots k 0 low (eq-eqb (root_word roots t i) (get_or roots k 0) e)
+            | inr past ↦ absurd (ne (e ∙ get_or_past roots k 0 past))
+          ])
+      | inr not' ↦ absurd (ne (cond-false (leb 1 t && ltb i 16) (get_or roots k 0) 0 not'))
+    ]
+
+-- where a word that a list has stands in it
+place_from-has : (xs : List ℕ) (a : ℕ) → has xs a ≡ true → (k : ℕ) × (k < length xs) × (get_or xs k 0 ≡ a)
+place_from-has xs a h =
+    let c = Contains-from_any exact_unsigned_eq a xs h in
+    (c.0, c.1, get_or_default xs c.0 0 a c.1 ∙ c.2)
+
+-- a word of an object, by its address and by its index
+shift : (first a n : ℕ) → first ≤ a → a + n - first ≡ a - first + n
+shift first a n h = omega arith
+
+shift_field : (first a i : ℕ) → first ≤ a → a + 3 + i - first ≡ a - first + 3 + i
+shift_field first a i h = omega arith
+
+shift_number : (first a n r i : ℕ) → first ≤ a → r ≡ n → a - first + 3 + r + i ≡ a + 3 + n + i - first
+shift_number first a n r i h e = omega arith
+
+module _ (first : ℕ) (heap roots : List ℕ) (at : ℕ → Option Name) (g : Graph) (one : 1 ≤ first) (s : WordsStand first heap roots at g) where
+  -- no object stands at 0
+  never_null : (w : ℕ) (n : Name) → at w ≡ Some n → w ≢ 0
+  never_null w n here zero' = omega (arith, (s.each w n here).1.above)
+
+  -- a word that is not null and stands for a reference is where the object of a name stands
+  refers-some : (w : ℕ) (r : Reference) → Refers at w r → w ≢ 0 → (n : Name) × (r ≡ Some n) × (at w ≡ Some n)
+  refers-some w None h ne = absurd (ne h)
+  refers-some w (Some n) h ne = (n, refl, h)
+
+  pub facts : (a : ℕ) (n : Name) (here : at a ≡ Some n) → Facts first heap g a n (s.each a n here).0
+  facts a n here =
+      let o = (s.each a n here).0 in
+      let i = (s.each a n here).1 in
+      let w = i.words in
+      let above = i.above in
+      let next = sym (shift first a 1 above) in
+      let shape : shape_at heap (a - first) ≡ shape_word (length o.refs) (length o.nums) = ap (λ k. get_or heap k 0) next ∙ w.shape in
+      let refs : refs_in (shape_at heap (a - first)) ≡ length o.refs =
+      ap refs_in shape ∙ shape_refs (length o.refs) (length o.nums) w.few_refs w.few_nums in
+      let nums : nums_in (shape_at heap (a - first)) ≡ length o.nums =
+      ap nums_in shape ∙ shape_nums (length o.refs) (length o.nums) w.few_refs w.few_nums in
+      let words : words_at heap (a - first) ≡ size o = omega (arith, refs, nums) in
+      let second = sym (shift first a 2 above) in
+      record {
+        refs = refs;
+        nums = nums;
+        words = words;
+        within = omega (arith, i.below, words);
+        name = name_back n (get_or heap (a - first + 2) 0) w.short_count (ap (λ k. get_or heap k 0) second ∙ w.name);
+        object = ap (λ q. unwrap_or q (record { refs = []; nums = [] })) i.object;
+      }
+
+  -- where a root's word is not null, an object stands that can be reached
+  root_name : (k a : ℕ) → get_or roots k 0 ≡ a → a ≢ 0 → (n : Name) × (at a ≡ Some n) × IsReachable g n
+  root_name k a is ne =
+      let t = k / 16 + 1 in
+      let i = k % 16 in
+      let place : 16 * (k / 16) + k % 16 ≡ k = omega arith in
+      let word : root_word roots t i ≡ a = root_word-at roots (k / 16) i (omega arith) ∙ ap (λ j. get_or roots j 0) place ∙ is in
+      let r = refers-some a (g.root t i) (subst (λ (w : ℕ). Refers at w (g.root t i)) word (s.roots t i)) ne in
+      (r.0, r.2, reach_root t i r.0 r.1)
+
+  -- and so where a field's word of such an object is not null
+  field_name : (m a k : ℕ) (n : Name) (here : at m ≡ Some n) → IsReachable g n
+      → k < length (refs_at heap (m - first)) → get_or (refs_at heap (m - first)) k 0 ≡ a → a ≢ 0
+      → (q : Name) × (at a ≡ Some q) × IsReachable g q
+  field_name m a k n here reach h is ne =
+      let o = (s.each m n here).0 in
+      let f = facts m n here in
+      let field : k < refs_in (shape_at heap (m - first)) = omega (arith, length-refs_at heap (m - first) f.within, h) in
+      let low : k < length o.refs = omega (arith, f.refs, field) in
+      let above = (s.each m n here).1.above in
+      let place = shift_field first m k above in
+      let word : get_or heap (m + 3 + k - first) 0 ≡ a =
+      ap (λ j. get_or heap j 0) place ∙ sym (get_or-refs_at heap (m - first) k field) ∙ is in
+      let q = get_or o.refs k None in
+      let got : slice_get o.refs k ≡ Some q = slice_get-get_or o.refs k None low in
+      let r = refers-some a q (subst (λ (w : ℕ). Refers at w q) word ((s.each m n here).1.words.refs k q got)) ne in
+      (r.0, r.2, reach_field n r.0 k reach (ap (λ b. slice_get b.refs k) f.object ∙ got ∙ ap (λ b. Some b) r.1))
+
+  -- an address that roots lead to is where an object stands that can be reached
+  pub led_name : (a : ℕ) → Leads first heap roots a → (n : Name) × (at a ≡ Some n) × IsReachable g n
+  led_name a (from_root a' ne h) =
+      let c = place_from-has roots a h in
+      root_name c.0 a c.2 ne
+  led_name a (from_field m a' led ne h) =
+      let u = led_name m led in
+      let c = place_from-has (refs_at heap (m - first)) a h in
+      field_name m a c.0 u.0 u.1 u.2 c.1 c.2 ne
+
+  -- and each object that can be reached stands at such an address
+  pub name_led : (n : Name) → IsReachable g n → (a : ℕ) × (at a ≡ Some n) × Leads first heap roots a
+  name_led n (reach_root t i n' e) =
+      let w = root_word roots t i in
+      let here : at w ≡ Some n = subst (λ (r : Reference). Refers at w r) e (s.roots t i) in
+      (w, here, from_root w (never_null w n here) (has-root_word roots t i (never_null w n here)))
+  name_led n (reach_field m n' f r e) =
+      let u = name_led m r in
+      let o = (s.each u.0 m u.1).0 in
+      let fa = facts u.0 m u.1 in
+      let k = u.0 - first in
+      let got : slice_get o.refs f ≡ Some (Some n) = ap (λ b. slice_get b.refs f) (sym fa.object) ∙ e in
+      let low : f < length o.refs = slice_get_within o.refs f (Some n) got in
+      let field : f < refs_in (shape_at heap k) = omega (arith, fa.refs, low) in
+      let w = get_or heap (u.0 + 3 + f - first) 0 in
+      let here : at w ≡ Some n = (s.each u.0 m u.1).1.words.refs f (Some n) got in
+      let above = (s.each u.0 m u.1).1.above in
+      let place = shift_field first u.0 f above in
+      let inside : has (refs_at heap k) w ≡ true =
+      list_any_at (nat_eq w) (refs_at heap k) f 0 (omega (arith, length-refs_at heap k fa.within, field))
+      (eq-eqb w (get_or (refs_at heap k) f 0) (ap (λ j. get_or heap j 0) place ∙ sym (get_or-refs_at heap k f field))) in
+      (w, here, from_field u.0 w u.2 (never_null w n here) inside)
+
+  pub sound : IsSound first heap roots
+  sound = record {
+    above = λ a led. let u = led_name a led in (s.each a u.0 u.1).1.above;
+    below = (λ a led. let u = led_name a led in
+        omega (arith, (facts a u.0 u.1).words, (s.each a u.0 u.1).1.below));
+    apart = (λ a b la lb lt. let u = led_name a la in
+        let v = led_name b lb in
+        omega (arith, (facts a u.0 u.1).words, s.apart a b u.0 v.0 (s.each a u.0 u.1).0 u.1 v.1 (s.each a u.0 u.1).1.object lt));
+  }
+
+  -- the reference that a word stands for is the one that is read from it
+  pub reference_same : (w : ℕ) (r : Reference) → Refers at w r → reference_in first heap w ≡ r
+  reference_same w None h = cond-true (w == 0) None (Some (name_at heap (w - first))) (eq-eqb w 0 h)
+  reference_same w (Some n) h =
+      cond-false (w == 0) None (Some (name_at heap (w - first))) (ne_eqb w 0 (never_null w n h))
+      ∙ ap (λ b. Some b) (facts w n h).name
+
+  refs_same : (a : ℕ) (n : Name) (here : at a ≡ Some n)
+      → map (reference_in first heap) (refs_at heap (a - first)) ≡ (s.each a n here).0.refs
+  refs_same a n here =
+      let o = (s.each a n here).0 in
+      let f = facts a n here in
+      let k = a - first in
+      let above = (s.each a n here).1.above in
+      let count : length (refs_at heap k) ≡ length o.refs = length-refs_at heap k f.within ∙ f.refs in
+      let shown = reference_in first heap in
+      let many : length (map shown (refs_at heap k)) ≡ length o.refs = length-map (refs_at heap k) shown ∙ count in
+      ext_get_or None (map shown (refs_at heap k)) o.refs many
+      (λ i h.
+      let low : i < length o.refs = omega (arith, many, h) in
+      let within : i < length (refs_at heap k) = omega (arith, count, low) in
+      let field : i < refs_in (shape_at heap k) = omega (arith, f.refs, low) in
+      let place = sym (shift_field first a i above) in
+      let q = get_or o.refs i None in
+      get_or-map shown (refs_at heap k) i 0 None within
+      ∙ ap shown (get_or-refs_at heap k i field ∙ ap (λ j. get_or heap j 0) place)
+      ∙ reference_same (get_or heap (a + 3 + i - first) 0) q
+      ((s.each a n here).1.words.refs i q (slice_get-get_or o.refs i None low)))
+
+  nums_same : (a : ℕ) (n : Name) (here : at a ≡ Some n) → nums_at heap (a - first) ≡ (s.each a n here).0.nums
+  nums_same a n here =
+      let o = (s.each a n here).0 in
+      let f = facts a n here in
+      let k = a - first in
+      let above = (s.each a n here).1.above in
+      let count : length (nums_at heap k) ≡ length o.nums = length-nums_at heap k f.within ∙ f.nums in
+      ext_get_or 0 (nums_at heap k) o.nums count
+      (λ i h.
+      let low : i < length o.nums = omega (arith, count, h) in
+      let field : i < nums_in (shape_at heap k) = omega (arith, f.nums, low) in
+      let place = shift_number first a (length o.refs) (refs_in (shape_at heap k)) i above f.refs in
+      get_or-nums_at heap k i field ∙ ap (λ j. get_or heap j 0) place
+      ∙ (s.each a n here).1.words.nums i (get_or o.nums i 0) (slice_get-get_or o.nums i 0 low))
+
+  -- the row by the words of an object is its row in the graph
+  pub row_same : (a : ℕ) (n : Name) → at a ≡ Some n → row_at first heap a ≡ row_in g n
+  row_same a n here =
+      let f = facts a n here in
+      ap (λ m. record { name = m; refs = map (reference_in first heap) (refs_at heap (a - first)); nums = nums_at heap (a - first) }) f.name
+      ∙ ap (λ rs. record { name = n; refs = rs; nums = nums_at heap (a - first) }) (refs_same a n here ∙ ap (λ b. b.refs) (sym f.object))
+      ∙ ap (λ ns. record { name = n; refs = (named g (Some n)).refs; nums = ns }) (nums_same a n here ∙ ap (λ b. b.nums) (sym f.object))
