@@ -1,6 +1,10 @@
 //! Writes objects and roots as rows.
 
-ghost use Rattle.std.specs.Prelude.{◌≡◌, ◌+◌, ◌-◌, ◌*◌, ◌^◌, ◌<◌, ◌≤◌, ◌++◌, ℕ, All, length, map, sum_by};
+ghost use Rattle.std.specs.Prelude.{◌≡◌, ◌+◌, ◌-◌, ◌*◌, ◌^◌, ◌<◌, ◌≤◌, ◌++◌, ℕ, All, length, map, sum_by, IsPermutation};
+ghost use Rattle.std.specs.List.{IsDistinct};
+ghost use Rattle.shen_graph.specs.Graph.{same_name};
+ghost use Rattle.shen_graph.specs.Reach.{InOrder};
+ghost use Rattle.shen_graph.specs.GraphText.{names_of};
 ghost use Rattle.heap_graph.specs.Walk.{refs_at, nums_at, words_at};
 ghost use Rattle.heap_graph.specs.Rows.{name_at, IsNamed, reference_in, row_at, with_references, with_numbers, with_whole_row, root_word, root_rows};
 
@@ -78,8 +82,8 @@ fn add_object(first: u64, heap: &[u64], address: u64, text: &mut GraphText)
     add_numbers(numbers(heap, index), text);
 }
 
-/// Adds the row of the object at each of some addresses. `heap` has a word for each address from `first` on.
-pub(crate) fn add_objects(first: u64, heap: &[u64], order: &[u64], text: &mut GraphText)
+// Adds the row of the object at each of some addresses.
+fn add_objects(first: u64, heap: &[u64], order: &[u64], text: &mut GraphText)
     requires above { All (λ a. first ≤ a) order.now }
     requires below { All (λ a. a + words_at heap.now (a - first) ≤ first + length heap.now) order.now }
     requires named { All (λ a. All (IsNamed first (length heap.now)) (refs_at heap.now (a - first))) order.now }
@@ -91,6 +95,23 @@ pub(crate) fn add_objects(first: u64, heap: &[u64], order: &[u64], text: &mut Gr
     for address in order {
         add_object(first, heap, *address, text);
     }
+}
+
+/// Adds the row of the object at each of some addresses, and brings all rows into the order of names. `heap` has a word
+/// for each address from `first` on.
+pub(crate) fn write_objects(first: u64, heap: &[u64], order: &[u64], text: &mut GraphText)
+    requires above { All (λ a. first ≤ a) order.now }
+    requires below { All (λ a. a + words_at heap.now (a - first) ≤ first + length heap.now) order.now }
+    requires named { All (λ a. All (IsNamed first (length heap.now)) (refs_at heap.now (a - first))) order.now }
+    requires room { sum_by (λ a. words_at heap.now (a - first)) order.now ≤ text.old.spare }
+    requires differ { IsDistinct same_name (map (λ r. r.name) (text.old.rows ++ map (row_at first heap.now) order.now)) }
+    ensures rows { IsPermutation (text.old.rows ++ map (row_at first heap.now) order.now) text.new.rows }
+    ensures order { InOrder (names_of text.new) }
+    ensures roots { text.new.roots ≡ text.old.roots }
+    ensures room { text.new.room ≡ text.old.room }
+{
+    add_objects(first, heap, order, text);
+    text.sort();
 }
 
 /// Sets the roots of all threads, each 16 words of `roots`, to what these stand for.

@@ -5,7 +5,7 @@ ghost use Rattle.shen_graph.specs.declared.name.Name.{Name};
 ghost use Rattle.shen_graph.specs.Graph.{Graph};
 ghost use Rattle.heap_graph.specs.Shows.{Shows, WordsStand};
 
-use crate::rows::{add_objects, set_roots};
+use crate::rows::{set_roots, write_objects};
 use crate::walk::find_reachable;
 use shen_graph::GraphText;
 
@@ -40,7 +40,6 @@ pub fn write_graph(
 {
     text.clear();
     find_reachable(first, heap, roots, marks, order);
-    add_objects(first, heap, order, text);
-    text.sort();
+    write_objects(first, heap, order, text);
     set_roots(first, heap, roots, text);
 }

@@ -1,18 +1,17 @@
 -- What a small heap stands for once a root or a field was written.
-use Rattle.std.proofs.Common.{◌≡◌, ℕ, ◌+◌, ◌-◌, ◌*◌, ◌<◌, ◌≤◌, Bool, true, false, cond, eqb, ◌&&◌, List, length, Option, Some, None, set, get_or, refl, sym, ap, ◌∙◌, subst, inl, inr, ◌⊎◌, arith, length-set, get_or-set_same, get_or-set_other}
-use Rattle.std.proofs.lemmas.Bool.{cases_eq, cond-true, cond-false, eq-eqb, ne_eqb}
+use Rattle.std.proofs.Common.{◌≡◌, ℕ, ◌+◌, ◌-◌, ◌*◌, ◌<◌, ◌≤◌, true, false, cond, eqb, List, length, Option, Some, None, set, get_or, refl, sym, ap, ◌∙◌, subst, inl, inr, arith, length-set, get_or-set_same, get_or-set_other}
+use Rattle.std.proofs.lemmas.Bool.{cases_eq, eq-eqb, ne_eqb}
 use Rattle.std.proofs.Math.Nat.{mul-le-mul}
 use Rattle.shen_graph.specs.declared.name.Name.{Name}
-use Rattle.shen_graph.specs.declared.command.Command.TheVariants.{New, Get, Set}
+use Rattle.shen_graph.specs.declared.command.Command.TheVariants.{Get, Set}
 use Rattle.shen_graph.specs.declared.command.Reply.{Reply}
 use Rattle.shen_graph.specs.declared.command.Reply.TheVariants as reply
-use Rattle.shen_graph.specs.Graph.{Graph, Object, Reference, field_at, with_root, with_field, with_object}
-use Rattle.shen_graph.specs.Reach.{size}
+use Rattle.shen_graph.specs.Graph.{Graph, Reference, field_at, with_root, with_field, with_object}
 use Rattle.shen_graph.specs.Step.{Outcome, on, answers, shown, outcome}
-use Rattle.heap_graph.specs.Stands.{Refers, IsObject, IsAt, Stands}
+use Rattle.heap_graph.specs.Stands.{Refers}
 use Rattle.small_heap.specs.Content.{Content, word_of, root_of, place_of, end_of}
 use Rattle.small_heap.specs.Reading.{field_of, reply_of}
-use Rattle.small_heap.specs.Holds.{IsSound, IsUsedTo, Holds, HoldsSomewhere, Answers}
+use Rattle.small_heap.specs.Holds.{Holds, HoldsSomewhere, Answers}
 use Rattle.small_heap.proofs.Graphs.{with_field_named}
 use Rattle.small_heap.proofs.Objects.{with_ref}
 use Rattle.small_heap.proofs.Standing.{stands_roots, stands_ref, after_ref}
@@ -38,29 +37,32 @@ pub root_agrees : (at : ℕ → Option Name) (g : Graph) (roots : List ℕ) (roo
     → (t i : ℕ) → Refers at (cond (eqb t 1) (get_or (set roots root w) i 0) 0) ((with_root g 1 root r).root t i)
 root_agrees at g roots root w r below e old t i =
     elim (cases_eq t 1) [
-      inr other ↦
-        let off : eqb t 1 ≡ false = ne_eqb t 1 other in
-        let was : Refers at (cond (eqb t 1) (get_or roots i 0) 0) (g.root t i) = old t i in
-        rw off (rw off at was)
-    | inl one ↦
-        let on_it : eqb t 1 ≡ true = eq-eqb t 1 one in
-        let was : Refers at (cond (eqb t 1) (get_or roots i 0) 0) (g.root t i) = old t i in
-        elim (cases_eq i root) [
-          inl same ↦
-            let it : eqb i root ≡ true = eq-eqb i root same in
-            rw (on_it, it, same) (rw get_or-set_same e)
-        | inr differs ↦
-            let off : eqb i root ≡ false = ne_eqb i root differs in
-            rw (on_it, off) (rw get_or-set_other (rw on_it at was))
-        ]
+      | inr other ↦
+          let off : eqb t 1 ≡ false = ne_eqb t 1 other in
+          let was : Refers at (cond (eqb t 1) (get_or roots i 0) 0) (g.root t i) = old t i in
+          rw off (rw off at was)
+      | inl one ↦
+          let on_it : eqb t 1 ≡ true = eq-eqb t 1 one in
+          let was : Refers at (cond (eqb t 1) (get_or roots i 0) 0) (g.root t i) = old t i in
+          elim (cases_eq i root) [
+            | inl same ↦
+                let it : eqb i root ≡ true = eq-eqb i root same in
+                rw (on_it, it, same) (rw get_or-set_same e)
+            | inr differs ↦
+                let off : eqb i root ≡ false = ne_eqb i root differs in
+                rw (on_it, off) (rw get_or-set_other (rw on_it at was))
+          ]
     ]
 
 pub holds_root : (h : Content) (at : ℕ → Option Name) (g : Graph) (root w : ℕ) (r : Reference)
     → Holds h at g → root < 16 → Refers at w r → Holds (with_root_word h root w) at (with_root g 1 root r)
 holds_root h at g root w r x below e = record {
   sound = record {
-    words = x.sound.words; roots = length-set h.roots root w ∙ x.sound.roots; within = x.sound.within;
-    room = x.sound.room; few = x.sound.few;
+    words = x.sound.words;
+    roots = length-set h.roots root w ∙ x.sound.roots;
+    within = x.sound.within;
+    room = x.sound.room;
+    few = x.sound.few;
   };
   stands = stands_roots h.config.region_words (end_of h) (word_of h) (root_of h) (root_of (with_root_word h root w)) at g (with_root g 1 root r)
       x.stands (λ n. refl) (root_agrees at g h.roots root w r (omega (arith, x.sound.roots)) e x.stands.roots);
@@ -79,14 +81,17 @@ holds_field h at g obj field val a x f =
     let index : a - first < length h.words = omega (arith, f.low, f.high, x.sound.words) in
     let here : word_of later a ≡ root_of h 1 val = get_or-set_same h.words (a - first) (root_of h 1 val) 0 index in
     let there : (b : ℕ) → first ≤ b → (b ≡ a → ⊥) → word_of later b ≡ word_of h b =
-        λ b low d. get_or-set_other h.words (a - first) (b - first) (root_of h 1 val) 0 (λ e. d (omega (arith, f.low))) in
+    λ b low d. get_or-set_other h.words (a - first) (b - first) (root_of h 1 val) 0 (λ e. d (omega (arith, f.low))) in
     let behind : a < place_of h = omega (arith, f.address, f.inside, x.used.before base n.name n.object n.there n.is_at.object) in
     let is : with_field g 1 obj field (g.root 1 val) ≡ new = with_field_named g 1 obj field (g.root 1 val) n.name n.object n.root_is n.is_at.object in
     let P : Graph → Type 0 = λ k. Holds later at k in
     subst P (sym is) (record {
       sound = record {
-        words = length-set h.words (a - first) (root_of h 1 val) ∙ x.sound.words; roots = x.sound.roots; within = x.sound.within;
-        room = x.sound.room; few = x.sound.few;
+        words = length-set h.words (a - first) (root_of h 1 val) ∙ x.sound.words;
+        roots = x.sound.roots;
+        within = x.sound.within;
+        room = x.sound.room;
+        few = x.sound.few;
       };
       stands = stands_ref first (end_of h) (word_of h) (word_of later) (root_of h) at g base n.name n.object field (root_of h 1 val) (g.root 1 val)
           x.stands n.there n.is_at.object f.inside (x.stands.roots 1 val)
@@ -97,7 +102,8 @@ holds_field h at g obj field val a x f =
             let q = after_ref g n.name n.object field (g.root 1 val) m p n.is_at.object k in
             omega (arith, x.used.before b m q.0 e q.1, q.2);
         free = λ b low. there b (omega (arith, f.low)) (λ e. omega arith) ∙ x.used.free b low;
-        counted = x.used.counted; given = x.used.given;
+        counted = x.used.counted;
+        given = x.used.given;
       };
     })
 

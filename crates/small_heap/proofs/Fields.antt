@@ -1,13 +1,13 @@
 -- A Get and a Set of a small heap, where what the code has opened is what the heap shows.
-use Rattle.std.proofs.Common.{◌≡◌, ℕ, ◌+◌, ◌-◌, ◌<◌, ◌≤◌, List, length, Option, Some, None, set, sym, ap, ◌∙◌, subst, ◌⊎◌, arith}
-use Rattle.shen_graph.specs.declared.command.Command.TheVariants.{New, Get, Set}
+use Rattle.std.proofs.Common.{◌≡◌, ℕ, ◌+◌, ◌-◌, ◌<◌, ◌≤◌, Some, set, sym, subst, ◌⊎◌}
+use Rattle.shen_graph.specs.declared.command.Command.TheVariants.{Get, Set}
 use Rattle.shen_graph.specs.declared.command.Reply.{Reply}
 use Rattle.shen_graph.specs.declared.command.Reply.TheVariants as reply
 use Rattle.shen_graph.specs.Graph.{with_root, with_field}
 use Rattle.small_heap.specs.Content.{Content, word_of, root_of, end_of}
 use Rattle.small_heap.specs.Reading.{field_of, reply_of}
-use Rattle.small_heap.specs.Holds.{Holds, HoldsSomewhere, HoldsSome, Answers}
-use Rattle.small_heap.proofs.Holding.{FieldAt, field_some, field_read, leads}
+use Rattle.small_heap.specs.Holds.{HoldsSome, Answers}
+use Rattle.small_heap.proofs.Holding.{field_some, field_read, leads}
 use Rattle.small_heap.proofs.Changing.{with_root_word, with_word, holds_root, holds_field, answers_get, answers_set}
 
 -- a field that there is lies inside the heap

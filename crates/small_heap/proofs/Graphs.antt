@@ -1,9 +1,9 @@
 -- Graphs in which one object or one root is another.
-use Rattle.std.proofs.Common.{◌≡◌, ℕ, Bool, true, false, cond, eqb, List, Option, Some, None, set, refl, sym, ap, ◌∙◌, inl, inr, ◌⊎◌, arith}
-use Rattle.std.proofs.lemmas.Bool.{cases_Bool, eqb-true, eq-eqb, and_parts, and_from, cond-true, cond-false, false_from_ne_true}
+use Rattle.std.proofs.Common.{◌≡◌, ℕ, true, Some, set, refl, inl, inr, ◌⊎◌, arith}
+use Rattle.std.proofs.lemmas.Bool.{cases_Bool, eq-eqb, and_from, cond-true, cond-false, false_from_ne_true}
 use Rattle.std.proofs.lemmas.Bool.Decides.{nat_tests}
 use Rattle.shen_graph.specs.declared.name.Name.{Name}
-use Rattle.shen_graph.specs.Graph.{Graph, Object, Reference, same_name, named, field_at, with_object, with_field, with_root}
+use Rattle.shen_graph.specs.Graph.{Graph, Object, Reference, same_name, named, with_object, with_field}
 
 pub same_name_refl : (n : Name) → same_name n n ≡ true
 same_name_refl n = and_from _ _ (eq-eqb n.thread n.thread refl) (eq-eqb n.count n.count refl)
@@ -14,8 +14,8 @@ same_name_true a b e = grind (arith, nat_tests)
 pub name_cases : (a b : Name) → (a ≡ b) ⊎ (a ≡ b → ⊥)
 name_cases a b =
     elim (cases_Bool (same_name a b)) [
-      inl e ↦ inl (same_name_true a b e)
-    | inr e ↦ inr (λ (s : a ≡ b). grind (arith, nat_tests))
+      | inl e ↦ inl (same_name_true a b e)
+      | inr e ↦ inr (λ (s : a ≡ b). grind (arith, nat_tests))
     ]
 
 pub object_set : (g : Graph) (n : Name) (p : Object) → (with_object g n p).object n ≡ Some p

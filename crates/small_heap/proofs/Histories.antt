@@ -1,9 +1,9 @@
 -- One command more was answered.
-use Rattle.std.proofs.Common.{◌≡◌, ◌≢◌, ℕ, ◌+◌, ◌-◌, ◌<◌, ◌≤◌, Bool, true, false, cond, leb, ltb, List, [], ◌∷◌, ◌++◌, map, length, take, drop, get_or, set, Option, Some, None, refl, sym, ap, ◌∙◌, subst, inl, inr, ◌⊎◌, arith, zero-add, length-set, get_or-set_same, get_or-set_other}
-use Rattle.std.specs.Prelude.{slice_get, slice_index_or, slice_set, unwrap_or, is_some, IsSome, IsNone}
+use Rattle.std.proofs.Common.{◌≡◌, ◌≢◌, ℕ, ◌+◌, ◌-◌, ◌<◌, ◌≤◌, false, leb, List, [], ◌∷◌, ◌++◌, length, take, drop, get_or, Option, Some, None, refl, sym, ap, ◌∙◌, subst, inl, inr, arith, zero-add, get_or-set_other}
+use Rattle.std.specs.Prelude.{slice_get, unwrap_or}
 use Rattle.std.specs.List.{All}
-use Rattle.std.proofs.lemmas.Bool.{cases_Bool, cases_lt, cond-true, cond-false, cond_both, true≢false}
-use Rattle.std.proofs.lemmas.Option.{slice_get_within, get_or_from_slice_get, slice_get-get_or, none-some, same_Some}
+use Rattle.std.proofs.lemmas.Bool.{cases_Bool, cases_lt, cond-false, true≢false}
+use Rattle.std.proofs.lemmas.Option.{slice_get_within, get_or_from_slice_get, slice_get-get_or, none-some}
 use Rattle.std.proofs.lemmas.List.{take_more, drop_more, take_all, drop_all, map_push, length_push}
 use Rattle.std.proofs.lemmas.List.Elements.{All-push, All-get_or}
 use Rattle.shen_graph.specs.declared.command.Command.{Command}
@@ -12,12 +12,12 @@ use Rattle.shen_graph.specs.declared.command.Reply.{Reply}
 use Rattle.shen_graph.specs.declared.command.Reply.TheVariants as reply
 use Rattle.shen_graph.specs.Graph.{Graph, Reference, opening, field_at, with_root, with_field}
 use Rattle.shen_graph.specs.Step.{Outcome, on, answers, shown, outcome, IsLegal}
-use Rattle.shen_graph.specs.History.{Entry, is_full, after, after_entry, commands_of, replies_of, EachIsLegal, IsWithoutFull}
+use Rattle.shen_graph.specs.History.{Entry, is_full, after, after_entry, EachIsLegal}
 use Rattle.shen_graph.specs.Work as work
 use Rattle.shen_graph.specs.Work.{Progress, HasScript, script_of, progress_of, with_reply, answered, begun}
 use Rattle.small_heap.specs.Content.{Content, limit_of}
 use Rattle.small_heap.specs.Placing.{regions_more, regions_needed, sizes_of, taken_after, Places}
-use Rattle.small_heap.specs.Holds.{Holds, HoldsSomewhere, IsFresh, IsBuilt, Answers}
+use Rattle.small_heap.specs.Holds.{HoldsSomewhere, IsFresh, IsBuilt, Answers}
 use Rattle.small_heap.specs.Running.{HasRun, KeepsScripts}
 
 pub after_push : (g : Graph) (es : List Entry) (e : Entry) → after g (es ++ e ∷ []) ≡ after_entry (after g es) e
@@ -83,8 +83,8 @@ has_run_more cs rs h later c r x built a =
 more_first : (w room size : ℕ) (sizes : List ℕ) → regions_more w room (size ∷ []) ≤ regions_more w room (size ∷ sizes)
 more_first w room size sizes =
     elim (cases_Bool (leb size room)) [
-      inl e ↦ rw e (omega arith)
-    | inr e ↦ rw e (omega arith)
+      | inl e ↦ rw e (omega arith)
+      | inr e ↦ rw e (omega arith)
     ]
 
 pub after_first : (h : Content) (c : Command) (cs : List Command) → taken_after h (c ∷ []) ≤ taken_after h (c ∷ cs)
@@ -166,14 +166,15 @@ under_way_last start h script old now x is next =
     let k : ℕ = length (work.replies_of now 0) in
     let at_k : slice_get script k ≡ None = ap (λ s. slice_get s k) (sym is ∙ sym x.keeps.script) ∙ next in
     let past : length script ≤ k =
-        elim (cases_lt k (length script)) [
-          inl below ↦ absurd (some_within script k below at_k)
-        | inr above ↦ above
-        ] in
+    elim (cases_lt k (length script)) [
+      | inl below ↦ absurd (some_within script k below at_k)
+      | inr above ↦ above
+    ] in
     let P : List Command → Type 0 = λ cs. HasRun cs (work.replies_of now 0) h in
-    let none : drop k script ≡ [] = drop_all k script past in
-    (subst P (take_all k script past) x.run,
-     omega (arith, x.regions, ap (λ cs. taken_after h cs) none, x.run.holds.1.sound.within, ap (λ f. f.regions) x.config, ap (λ f. f.reserve) x.config))
+    let none : drop k script ≡ [] = drop_all k script past in (
+      subst P (take_all k script past) x.run,
+      omega (arith, x.regions, ap (λ cs. taken_after h cs) none, x.run.holds.1.sound.within, ap (λ f. f.regions) x.config, ap (λ f. f.reserve) x.config),
+    )
 
 -- where an object of the script finds no region
 pub under_way_small : (start h : Content) (script : List Command) (old now : List (Option Progress)) (c : Command)
@@ -188,3 +189,15 @@ under_way_small start h script old now c x is next none =
     let over : limit_of h < taken_after h (c ∷ []) = omega (arith, none) in
     let more = after_first h c (drop (k + 1) script) in
     omega (arith, over, more, x.regions, ap (λ cs. taken_after h cs) rest, ap (λ f. f.regions) x.config, ap (λ f. f.reserve) x.config)
+
+-- a script has fewer commands left once one more is answered
+pub told_shorter : (now later : List (Option Progress)) (c : Command) (r : Reply)
+    → HasScript now 0 → work.next_of now 0 ≡ Some c → later ≡ with_reply now 0 r
+    → length (script_of later 0) - length (work.replies_of later 0) < length (script_of now 0) - length (work.replies_of now 0)
+told_shorter now later c r has next is =
+    let t = told_first now r has in
+    let P : List (Option Progress) → Type 0 = λ w. length (script_of w 0) - length (work.replies_of w 0) < length (script_of now 0) - length (work.replies_of now 0) in
+    let below : length (work.replies_of now 0) < length (script_of now 0) = slice_get_within (script_of now 0) (length (work.replies_of now 0)) c next in
+    let long : length (work.replies_of (with_reply now 0 r) 0) ≡ length (work.replies_of now 0) + 1 = ap length t.2 ∙ length_push (work.replies_of now 0) r in
+    let script : length (script_of (with_reply now 0 r) 0) ≡ length (script_of now 0) = ap length t.1 in
+    subst P (sym is) (omega arith)

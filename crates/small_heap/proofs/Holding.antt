@@ -1,20 +1,18 @@
 -- What is read from a small heap that stands for a graph, and what a write leaves.
-use Rattle.std.proofs.Common.{◌≡◌, ℕ, ◌+◌, ◌-◌, ◌*◌, ◌^◌, ◌<◌, ◌≤◌, Bool, true, false, cond, eqb, ltb, List, length, Option, Some, None, set, get_or, refl, sym, ap, ◌∙◌, subst, inl, inr, ◌⊎◌, arith, length-set, get_or-set_same, get_or-set_other}
+use Rattle.std.proofs.Common.{◌≡◌, ℕ, ◌+◌, ◌^◌, ◌<◌, ◌≤◌, false, cond, eqb, ltb, length, Option, Some, None, get_or, refl, sym, ap, ◌∙◌, subst, inl, inr, ◌⊎◌, arith}
 use Rattle.std.specs.Prelude.{slice_get}
-use Rattle.std.proofs.lemmas.Bool.{cases_eq, cond-true, cond-false, eq-eqb, ne_eqb}
+use Rattle.std.proofs.lemmas.Bool.{cond-false, ne_eqb}
 use Rattle.std.proofs.lemmas.Bool.Decides.{nat_tests}
-use Rattle.std.proofs.lemmas.Option.{slice_get_within, slice_get_past, same_Some, slice_get-get_or}
+use Rattle.std.proofs.lemmas.Option.{slice_get_past, slice_get-get_or}
 use Rattle.shen_graph.specs.declared.name.Name.{Name}
 use Rattle.shen_graph.specs.declared.command.Reply.TheVariants as reply
-use Rattle.shen_graph.specs.Graph.{Graph, Object, Reference, named, field_at, with_root}
-use Rattle.shen_graph.specs.Reach.{size}
+use Rattle.shen_graph.specs.Graph.{Graph, Object, Reference, named, field_at}
 use Rattle.shen_graph.specs.Step.{shown}
 use Rattle.heap_words.specs.Encoding.{shape_word, refs_in, name_code, thread_in, count_in}
-use Rattle.heap_graph.specs.Stands.{Refers, IsObject, IsAt, Stands}
-use Rattle.small_heap.specs.Content.{Content, word_of, root_of, place_of, end_of}
+use Rattle.heap_graph.specs.Stands.{Refers, IsAt}
+use Rattle.small_heap.specs.Content.{Content, word_of, root_of, end_of}
 use Rattle.small_heap.specs.Reading.{field_of, reply_of}
-use Rattle.small_heap.specs.Holds.{IsSound, IsUsedTo, Holds}
-use Rattle.small_heap.proofs.Standing.{stands_roots}
+use Rattle.small_heap.specs.Holds.{Holds}
 
 -- a root that names an object
 pub record Named (h : Content) (at : ℕ → Option Name) (g : Graph) (root : ℕ) : Type 0 where
@@ -87,15 +85,15 @@ pub field_none : (h : Content) (at : ℕ → Option Name) (g : Graph) (root fiel
     → Holds h at g → field_of h root field ≡ None → field_at g 1 root field ≡ None
 field_none h at g root field x e =
     elim (no_field (root_of h 1 root) field (refs_in (word_of h (root_of h 1 root + 1))) e) [
-      inl z ↦
-        let P : Reference → Type 0 = λ r. slice_get (named g r).refs field ≡ None in
-        subst P (sym (null_is h at g (root_of h 1 root) (g.root 1 root) x (x.stands.roots 1 root) z)) refl
-    | inr (d, far) ↦
-        let n = named_of h at g root x d in
-        let P : Reference → Type 0 = λ r. slice_get (named g r).refs field ≡ None in
-        let past : slice_get n.object.refs field ≡ None =
-            slice_get_past n.object.refs field (omega (arith, far, refs_at h at g (root_of h 1 root) n.name n.object n.is_at)) in
-        subst P (sym n.root_is) (rw n.is_at.object past)
+      | inl z ↦
+          let P : Reference → Type 0 = λ r. slice_get (named g r).refs field ≡ None in
+          subst P (sym (null_is h at g (root_of h 1 root) (g.root 1 root) x (x.stands.roots 1 root) z)) refl
+      | inr (d, far) ↦
+          let n = named_of h at g root x d in
+          let P : Reference → Type 0 = λ r. slice_get (named g r).refs field ≡ None in
+          let past : slice_get n.object.refs field ≡ None =
+          slice_get_past n.object.refs field (omega (arith, far, refs_at h at g (root_of h 1 root) n.name n.object n.is_at)) in
+          subst P (sym n.root_is) (rw n.is_at.object past)
     ]
 
 -- the reference in a field, and its word

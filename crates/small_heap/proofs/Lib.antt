@@ -6,3 +6,4 @@ pub mod Changing
 pub mod Fields
 pub mod Opening
 pub mod Histories
+pub mod Whole

@@ -1,6 +1,6 @@
 -- Three words in a row, the heap with the hub alone, and the heap with one object more.
-use Rattle.std.proofs.Common.{◌≡◌, ℕ, zero, suc, ◌+◌, ◌-◌, ◌*◌, ◌^◌, ◌<◌, ◌≤◌, Bool, true, false, cond, eqb, leb, ltb, ◌&&◌, List, [], ◌∷◌, length, Option, Some, None, set, get_or, replicate, refl, sym, ap, ◌∙◌, subst, inl, inr, ◌⊎◌, arith, length-set, get_or-set_same, get_or-set_other}
-use Rattle.std.proofs.lemmas.Bool.{cases_eq, cases_lt, cond-true, cond-false, cond_both, ltb-true, eq-eqb, ne_eqb}
+use Rattle.std.proofs.Common.{◌≡◌, ℕ, zero, suc, ◌+◌, ◌-◌, ◌*◌, ◌^◌, ◌<◌, ◌≤◌, true, false, cond, eqb, leb, ltb, ◌&&◌, List, ◌∷◌, length, Option, Some, None, set, get_or, replicate, refl, sym, ap, ◌∙◌, subst, inl, inr, ◌⊎◌, arith, length-set, get_or-set_same, get_or-set_other}
+use Rattle.std.proofs.lemmas.Bool.{cases_eq, cases_lt, cond_both, ltb-true, ne_eqb}
 use Rattle.std.proofs.lemmas.Bool.Decides.{nat_tests}
 use Rattle.std.proofs.lemmas.List.{get_or-replicate, length-replicate, get_or_past}
 use Rattle.std.proofs.lemmas.Option.{same_Some, none-some}
@@ -11,13 +11,13 @@ use Rattle.shen_graph.specs.declared.name.Name.{Name}
 use Rattle.shen_graph.specs.declared.command.Command.TheVariants.{New}
 use Rattle.shen_graph.specs.declared.command.Reply.{Reply}
 use Rattle.shen_graph.specs.declared.command.Reply.TheVariants as reply
-use Rattle.shen_graph.specs.Graph.{Graph, Object, Reference, blank, hub, opening, fresh, with_object, with_fresh, with_root}
+use Rattle.shen_graph.specs.Graph.{Graph, Object, Reference, blank, hub, opening, fresh, with_object, with_fresh}
 use Rattle.shen_graph.specs.Reach.{size}
 use Rattle.shen_graph.specs.Step.{outcome}
-use Rattle.heap_graph.specs.Stands.{Refers, IsObject, IsAt, Stands}
+use Rattle.heap_graph.specs.Stands.{Refers, IsObject, Stands}
 use Rattle.small_heap.specs.Content.{Content, word_of, root_of, place_of, end_of, limit_of}
 use Rattle.small_heap.specs.Placing.{has_room, with_room}
-use Rattle.small_heap.specs.Holds.{IsSound, IsUsedTo, Holds, HoldsSomewhere, HoldsSome, IsFresh, Answers}
+use Rattle.small_heap.specs.Holds.{Holds, HoldsSome, IsFresh, Answers}
 use Rattle.small_heap.proofs.Graphs.{object_set, object_other}
 use Rattle.small_heap.proofs.Standing.{stands_roots, stands_new, blank_object, with_place, place_here, place_cases}
 use Rattle.small_heap.proofs.Changing.{root_agrees, end_small}
@@ -56,7 +56,7 @@ pub region_inside : (h : Content) → h.taken ≤ limit_of h → h.used ≤ h.co
 region_inside h within room =
     let r = h.config.in_range in
     let s : (h.taken + 1) * h.config.region_words ≤ h.config.regions * h.config.region_words =
-        mul-le-mul_right {m = h.taken + 1} {n = h.config.regions} h.config.region_words (omega arith) in
+    mul-le-mul_right {m = h.taken + 1} {n = h.config.regions} h.config.region_words (omega arith) in
     omega arith
 
 -- the heap once an object was put behind the others
@@ -89,20 +89,20 @@ holds_new h at g dst refs nums x below few many room =
     let large : size o ≡ 3 + refs + nums = size_blank refs nums in
     let at_place : a - first ≡ i = omega arith in
     let count : h.made + 1 < 2 ^ 32 =
-        let small = end_small h in omega (arith, x.sound.few, inside) in
+    let small = end_small h in omega (arith, x.sound.few, inside) in
     let unused : (b : ℕ) → at b ≡ Some n → ⊥ = λ b e. omega (arith, x.used.given b n e refl, x.used.counted) in
     let words : IsObject (word_of later) (with_place at a n) a n o =
-        blank_object (word_of later) (with_place at a n) a n refs nums
-        (ap (λ k. get_or later.words k 0) at_place ∙ three_first h.words i 1 (shape_word refs nums) (name_code 1 (h.made + 1)) index)
-        (ap (λ k. get_or later.words k 0) (omega arith) ∙ three_second h.words i 1 (shape_word refs nums) (name_code 1 (h.made + 1)) index)
-        (ap (λ k. get_or later.words k 0) (omega arith) ∙ three_third h.words i 1 (shape_word refs nums) (name_code 1 (h.made + 1)) index
-            ∙ ap (λ k. name_code 1 (k + 1)) (sym x.used.counted))
-        (λ b low. three_other h.words i 1 (shape_word refs nums) (name_code 1 (h.made + 1)) (b - first) (inr (omega arith)) ∙ x.used.free b (omega arith))
-        few many (omega (arith, count, x.used.counted)) in
+    blank_object (word_of later) (with_place at a n) a n refs nums
+    (ap (λ k. get_or later.words k 0) at_place ∙ three_first h.words i 1 (shape_word refs nums) (name_code 1 (h.made + 1)) index)
+    (ap (λ k. get_or later.words k 0) (omega arith) ∙ three_second h.words i 1 (shape_word refs nums) (name_code 1 (h.made + 1)) index)
+    (ap (λ k. get_or later.words k 0) (omega arith) ∙ three_third h.words i 1 (shape_word refs nums) (name_code 1 (h.made + 1)) index
+    ∙ ap (λ k. name_code 1 (k + 1)) (sym x.used.counted))
+    (λ b low. three_other h.words i 1 (shape_word refs nums) (name_code 1 (h.made + 1)) (b - first) (inr (omega arith)) ∙ x.used.free b (omega arith))
+    few many (omega (arith, count, x.used.counted)) in
     let stands : Stands first (end_of h) (word_of later) (root_of h) (with_place at a n) (with_object g n o) =
-        stands_new first (end_of h) (word_of h) (word_of later) (root_of h) at g a n o x.stands x.used.before unused words (omega arith)
-        (omega (arith, inside, large))
-        (λ b low high. three_other h.words i 1 (shape_word refs nums) (name_code 1 (h.made + 1)) (b - first) (inl (omega arith))) in
+    stands_new first (end_of h) (word_of h) (word_of later) (root_of h) at g a n o x.stands x.used.before unused words (omega arith)
+    (omega (arith, inside, large))
+    (λ b low high. three_other h.words i 1 (shape_word refs nums) (name_code 1 (h.made + 1)) (b - first) (inl (omega arith))) in
     record {
       sound = record {
         words = length-with_three h.words i 1 (shape_word refs nums) (name_code 1 (h.made + 1)) ∙ x.sound.words;
@@ -117,19 +117,19 @@ holds_new h at g dst refs nums x below few many room =
       used = record {
         before = λ b m p e k.
             elim (place_cases at a n b m e) [
-              inl (is_a, is_n) ↦
-                let is_o : o ≡ p = same_Some o p (sym (object_set g n o) ∙ ap (with_object g n o).object (sym is_n) ∙ k) in
-                omega (arith, large, ap size is_o)
-            | inr (d, f) ↦
-                let was : g.object m ≡ Some p = sym (object_other g n m o (λ z. unused b (f ∙ ap Some z))) ∙ k in
-                omega (arith, x.used.before b m p f was)
+              | inl (is_a, is_n) ↦
+                  let is_o : o ≡ p = same_Some o p (sym (object_set g n o) ∙ ap (with_object g n o).object (sym is_n) ∙ k) in
+                  omega (arith, large, ap size is_o)
+              | inr (d, f) ↦
+                  let was : g.object m ≡ Some p = sym (object_other g n m o (λ z. unused b (f ∙ ap Some z))) ∙ k in
+                  omega (arith, x.used.before b m p f was)
             ];
         free = λ b low. three_other h.words i 1 (shape_word refs nums) (name_code 1 (h.made + 1)) (b - first) (inr (omega arith)) ∙ x.used.free b (omega arith);
         counted = ap (λ k. k + 1) x.used.counted;
         given = λ b m e one.
             elim (place_cases at a n b m e) [
-              inl (is_a, is_n) ↦ omega (arith, x.used.counted, ap (λ (k : Name). k.count) is_n)
-            | inr (d, f) ↦ omega (arith, x.used.given b m f one)
+              | inl (is_a, is_n) ↦ omega (arith, x.used.counted, ap (λ (k : Name). k.count) is_n)
+              | inr (d, f) ↦ omega (arith, x.used.given b m f one)
             ];
       };
     }
@@ -137,16 +137,18 @@ holds_new h at g dst refs nums x below few many room =
 pub answers_new : (h : Content) (dst refs nums : ℕ)
     → dst < 16 → refs ≤ 16 → nums ≤ 16 → h.used + (3 + refs + nums) ≤ h.config.region_words
     → Answers h (New dst refs nums) (reply.Ref (record { thread = 1; count = h.made + 1 })) (with_new h dst refs nums)
-answers_new h dst refs nums below few many room at g x =
-    (ap (λ k. reply.Ref (record { thread = 1; count = k + 1 })) (sym x.used.counted),
-     (with_place at (place_of h) (fresh g 1), holds_new h at g dst refs nums x below few many room))
+answers_new h dst refs nums below few many room at g x = (
+  ap (λ k. reply.Ref (record { thread = 1; count = k + 1 })) (sym x.used.counted),
+  (with_place at (place_of h) (fresh g 1), holds_new h at g dst refs nums x below few many room),
+)
 
 pub keeps_new : (h : Content) (dst refs nums : ℕ)
     → HoldsSome h → dst < 16 → refs ≤ 16 → nums ≤ 16 → h.used + (3 + refs + nums) ≤ h.config.region_words
     → HoldsSome (with_new h dst refs nums)
-keeps_new h dst refs nums x below few many room =
-    ((outcome x.0 1 (New dst refs nums)).graph,
-     (with_place x.1.0 (place_of h) (fresh x.0 1), holds_new h x.1.0 x.0 dst refs nums x.1.1 below few many room))
+keeps_new h dst refs nums x below few many room = (
+  (outcome x.0 1 (New dst refs nums)).graph,
+  (with_place x.1.0 (place_of h) (fresh x.0 1), holds_new h x.1.0 x.0 dst refs nums x.1.1 below few many room),
+)
 
 -- a heap whose next region is in use, but not yet any word of it
 abbrev pub with_region : Content → Content
@@ -201,8 +203,8 @@ nothing = record { object = λ _. None; root = λ _ _. None; count = λ _. 0 }
 zeros : (n i : ℕ) → get_or (replicate {A = ℕ} n 0) i 0 ≡ 0
 zeros n i =
     elim (cases_lt i n) [
-      inl h ↦ get_or-replicate {A = ℕ} n i 0 0 h
-    | inr h ↦ get_or_past (replicate {A = ℕ} n 0) i 0 (omega (arith, length-replicate {A = ℕ} n 0))
+      | inl h ↦ get_or-replicate {A = ℕ} n i 0 0 h
+      | inr h ↦ get_or_past (replicate {A = ℕ} n 0) i 0 (omega (arith, length-replicate {A = ℕ} n 0))
     ]
 
 stands_nothing : (first end : ℕ) (heap : ℕ → ℕ) → Stands first end heap (λ _ _. 0) (λ _. None) nothing
@@ -221,13 +223,13 @@ hub_root : (w t i : ℕ)
     → Refers (with_place (λ _. None) w hub) (cond (eqb t 1) (get_or (w ∷ replicate 15 0) i 0) 0) ((opening 1).root t i)
 hub_root w t i =
     elim (cases_eq t 1) [
-      inl one ↦
-        let P : ℕ → Type 0 = λ k. Refers (with_place (λ _. None) w hub) (cond (eqb k 1) (get_or (w ∷ replicate 15 0) i 0) 0) ((opening 1).root k i) in
-        subst P (sym one) (hub_root_1 w i)
-    | inr other ↦
-        let off : eqb t 1 ≡ false = ne_eqb t 1 other in
-        let out : (leb 1 t && leb t 1) ≡ false = grind (arith, nat_tests) in
-        rw (off, out) refl
+      | inl one ↦
+          let P : ℕ → Type 0 = λ k. Refers (with_place (λ _. None) w hub) (cond (eqb k 1) (get_or (w ∷ replicate 15 0) i 0) 0) ((opening 1).root k i) in
+          subst P (sym one) (hub_root_1 w i)
+      | inr other ↦
+          let off : eqb t 1 ≡ false = ne_eqb t 1 other in
+          let out : (leb 1 t && leb t 1) ≡ false = grind (arith, nat_tests) in
+          rw (off, out) refl
     ]
 
 pub fresh_hub : (c : Config) → IsFresh (with_hub c)
@@ -241,44 +243,47 @@ fresh_hub c =
     let long : length ws ≡ c.regions * w = length-replicate {A = ℕ} (c.regions * w) 0 in
     let index : 0 + 2 < length ws = omega arith in
     let words : IsObject (word_of h) at w hub (blank 16 0) =
-        blank_object (word_of h) at w hub 16 0
-        (ap (λ k. get_or h.words k 0) (omega arith) ∙ three_first ws 0 1 (shape_word 16 0) (name_code 0 1) index)
-        (ap (λ k. get_or h.words k 0) (omega arith) ∙ three_second ws 0 1 (shape_word 16 0) (name_code 0 1) index)
-        (ap (λ k. get_or h.words k 0) (omega arith) ∙ three_third ws 0 1 (shape_word 16 0) (name_code 0 1) index)
-        (λ b low. three_other ws 0 1 (shape_word 16 0) (name_code 0 1) (b - w) (inr (omega arith)) ∙ zeros (c.regions * w) (b - w))
-        (omega arith) (omega arith) (omega arith) in
+    blank_object (word_of h) at w hub 16 0
+    (ap (λ k. get_or h.words k 0) (omega arith) ∙ three_first ws 0 1 (shape_word 16 0) (name_code 0 1) index)
+    (ap (λ k. get_or h.words k 0) (omega arith) ∙ three_second ws 0 1 (shape_word 16 0) (name_code 0 1) index)
+    (ap (λ k. get_or h.words k 0) (omega arith) ∙ three_third ws 0 1 (shape_word 16 0) (name_code 0 1) index)
+    (λ b low. three_other ws 0 1 (shape_word 16 0) (name_code 0 1) (b - w) (inr (omega arith)) ∙ zeros (c.regions * w) (b - w))
+    (omega arith) (omega arith) (omega arith) in
     let stands : Stands w (end_of h) (word_of h) (λ _ _. 0) at (with_object nothing hub (blank 16 0)) =
-        stands_new w (end_of h) (λ _. 0) (word_of h) (λ _ _. 0) (λ _. None) nothing w hub (blank 16 0) (stands_nothing w (end_of h) (λ _. 0))
-        (λ b m p e k. absurd (none-some m e)) (λ b e. absurd (none-some hub e)) words (omega arith) (omega arith)
-        (λ b low high. absurd (omega arith)) in
+    stands_new w (end_of h) (λ _. 0) (word_of h) (λ _ _. 0) (λ _. None) nothing w hub (blank 16 0) (stands_nothing w (end_of h) (λ _. 0))
+    (λ b m p e k. absurd (none-some m e)) (λ b e. absurd (none-some hub e)) words (omega arith) (omega arith)
+    (λ b low high. absurd (omega arith)) in
     record {
-      holds = (at, record {
-        sound = record {
-          words = length-with_three ws 0 1 (shape_word 16 0) (name_code 0 1) ∙ long;
-          roots = refl;
-          within = omega arith;
-          room = omega arith;
-          few = omega arith;
-        };
-        stands = stands_roots w (end_of h) (word_of h) (λ _ _. 0) (root_of h) at (with_object nothing hub (blank 16 0)) (opening 1)
-            stands (λ n. refl) (hub_root w);
-        used = record {
-          before = λ a n o e k.
-              elim (place_cases (λ _. None) w hub a n e) [
-                inl (is_w, is_hub) ↦
-                  let is_o : blank 16 0 ≡ o = same_Some (blank 16 0) o (sym (object_set nothing hub (blank 16 0)) ∙ ap (opening 1).object (sym is_hub) ∙ k) in
-                  omega (arith, ap size is_o)
-              | inr (d, f) ↦ absurd (none-some n f)
-              ];
-          free = λ b low. three_other ws 0 1 (shape_word 16 0) (name_code 0 1) (b - w) (inr (omega arith)) ∙ zeros (c.regions * w) (b - w);
-          counted = refl;
-          given = λ a n e one.
-              elim (place_cases (λ _. None) w hub a n e) [
-                inl (is_w, is_hub) ↦ absurd (omega (arith, ap (λ (k : Name). k.thread) is_hub))
-              | inr (d, f) ↦ absurd (none-some n f)
-              ];
-        };
-      });
+      holds = (
+        at,
+        record {
+          sound = record {
+            words = length-with_three ws 0 1 (shape_word 16 0) (name_code 0 1) ∙ long;
+            roots = refl;
+            within = omega arith;
+            room = omega arith;
+            few = omega arith;
+          };
+          stands = stands_roots w (end_of h) (word_of h) (λ _ _. 0) (root_of h) at (with_object nothing hub (blank 16 0)) (opening 1)
+              stands (λ n. refl) (hub_root w);
+          used = record {
+            before = λ a n o e k.
+                elim (place_cases (λ _. None) w hub a n e) [
+                  | inl (is_w, is_hub) ↦
+                      let is_o : blank 16 0 ≡ o = same_Some (blank 16 0) o (sym (object_set nothing hub (blank 16 0)) ∙ ap (opening 1).object (sym is_hub) ∙ k) in
+                      omega (arith, ap size is_o)
+                  | inr (d, f) ↦ absurd (none-some n f)
+                ];
+            free = λ b low. three_other ws 0 1 (shape_word 16 0) (name_code 0 1) (b - w) (inr (omega arith)) ∙ zeros (c.regions * w) (b - w);
+            counted = refl;
+            given = λ a n e one.
+                elim (place_cases (λ _. None) w hub a n e) [
+                  | inl (is_w, is_hub) ↦ absurd (omega (arith, ap (λ (k : Name). k.thread) is_hub))
+                  | inr (d, f) ↦ absurd (none-some n f)
+                ];
+          };
+        },
+      );
       taken = refl;
       used = refl;
     }

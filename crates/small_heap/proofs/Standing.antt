@@ -1,6 +1,5 @@
 -- Words that go on to stand for a graph, in which one object, one root or one field is another.
-use Rattle.std.proofs.Common.{◌≡◌, ℕ, ◌+◌, ◌^◌, ◌<◌, ◌≤◌, Bool, true, false, cond, eqb, List, length, Option, Some, None, set, replicate, refl, sym, ap, ◌∙◌, subst, inl, inr, ◌⊎◌, arith, length-set}
-use Rattle.std.specs.Prelude.{slice_get}
+use Rattle.std.proofs.Common.{◌≡◌, ℕ, ◌+◌, ◌^◌, ◌<◌, ◌≤◌, cond, eqb, length, Option, Some, None, replicate, refl, sym, ap, ◌∙◌, subst, inl, inr, ◌⊎◌, arith, length-set}
 use Rattle.std.proofs.lemmas.Bool.{cases_order, cases_eq, cond-true, cond-false, eq-eqb, ne_eqb}
 use Rattle.std.proofs.lemmas.Option.{slice_get_within, same_Some, get_or_from_slice_get}
 use Rattle.std.proofs.lemmas.List.{get_or-replicate, length-replicate}
@@ -8,7 +7,7 @@ use Rattle.shen_graph.specs.declared.name.Name.{Name}
 use Rattle.shen_graph.specs.Graph.{Graph, Object, Reference, with_object, blank}
 use Rattle.shen_graph.specs.Reach.{size}
 use Rattle.heap_words.specs.Encoding.{shape_word, name_code}
-use Rattle.heap_graph.specs.Stands.{Refers, IsObject, IsAt, Stands}
+use Rattle.heap_graph.specs.Stands.{Refers, IsObject, Stands}
 use Rattle.small_heap.proofs.Graphs.{name_cases, object_set, object_other}
 use Rattle.small_heap.proofs.Objects.{refers_along, object_along, object_ref, with_ref}
 
@@ -33,9 +32,9 @@ pub far : (first end : ℕ) (heap : ℕ → ℕ) (root : ℕ → ℕ → ℕ) (a
     → (m ≡ n → ⊥) → (b + size p ≤ a) ⊎ (a + size o ≤ b)
 far first end heap root at g a b n m o p s e f x y d =
     elim (cases_order a b) [
-      inl same ↦ absurd (d (same_Some m n (sym x ∙ ap at (sym same) ∙ e)))
-    | inr (inl below) ↦ inr (s.apart a b n m o e x f below)
-    | inr (inr above) ↦ inl (s.apart b a m n p x e y above)
+      | inl same ↦ absurd (d (same_Some m n (sym x ∙ ap at (sym same) ∙ e)))
+      | inr (inl below) ↦ inr (s.apart a b n m o e x f below)
+      | inr (inr above) ↦ inl (s.apart b a m n p x e y above)
     ]
 
 -- an object, after one object has another reference in a field, is as large as it was
@@ -44,11 +43,11 @@ pub after_ref : (g : Graph) (n : Name) (o : Object) (field : ℕ) (r : Reference
     → (q : Object) × (g.object m ≡ Some q) × (size p ≡ size q)
 after_ref g n o field r m p f e =
     elim (name_cases m n) [
-      inl same ↦
-        let k : with_ref o field r ≡ p =
-            same_Some (with_ref o field r) p (sym (object_set g n (with_ref o field r)) ∙ ap (with_object g n (with_ref o field r)).object (sym same) ∙ e) in
-        (o, ap g.object same ∙ f, ap size (sym k) ∙ ap (λ l. 3 + l + length o.nums) (length-set o.refs field r))
-    | inr other ↦ (p, sym (object_other g n m (with_ref o field r) other) ∙ e, refl)
+      | inl same ↦
+          let k : with_ref o field r ≡ p =
+          same_Some (with_ref o field r) p (sym (object_set g n (with_ref o field r)) ∙ ap (with_object g n (with_ref o field r)).object (sym same) ∙ e) in
+          (o, ap g.object same ∙ f, ap size (sym k) ∙ ap (λ l. 3 + l + length o.nums) (length-set o.refs field r))
+      | inr other ↦ (p, sym (object_other g n m (with_ref o field r) other) ∙ e, refl)
     ]
 
 -- one field of one object has another reference, and its word stands for it
@@ -61,31 +60,35 @@ stands_ref first end heap after root at g a n o field v r s e f inside refers he
   each = λ b m x.
       let y = s.each b m x in
       elim (name_cases m n) [
-        inl is_n ↦
-          let at_a : b ≡ a = s.once b a n (x ∙ ap Some is_n) e in
-          let is_o : y.0 ≡ o = same_Some y.0 o (sym y.1.object ∙ ap g.object is_n ∙ f) in
-          let long : size (with_ref o field r) ≡ size o = ap (λ l. 3 + l + length o.nums) (length-set o.refs field r) in
-          (with_ref o field r, record {
-            object = ap (with_object g n (with_ref o field r)).object is_n ∙ object_set g n (with_ref o field r);
-            words =
-                let P : ℕ → Type 0 = λ c. IsObject after at c m (with_ref o field r) in
-                let Q : Object → Type 0 = λ q. IsObject heap at b m q in
-                let R : ℕ → Type 0 = λ c. IsObject heap at c m o in
-                subst P (sym at_a) (object_ref heap after at a m o field v r inside refers here
+        | inl is_n ↦
+            let at_a : b ≡ a = s.once b a n (x ∙ ap Some is_n) e in
+            let is_o : y.0 ≡ o = same_Some y.0 o (sym y.1.object ∙ ap g.object is_n ∙ f) in
+            let long : size (with_ref o field r) ≡ size o = ap (λ l. 3 + l + length o.nums) (length-set o.refs field r) in (
+              with_ref o field r,
+              record {
+                object = ap (with_object g n (with_ref o field r)).object is_n ∙ object_set g n (with_ref o field r);
+                words =
+                    let P : ℕ → Type 0 = λ c. IsObject after at c m (with_ref o field r) in
+                    let Q : Object → Type 0 = λ q. IsObject heap at b m q in
+                    let R : ℕ → Type 0 = λ c. IsObject heap at c m o in
+                    subst P (sym at_a) (object_ref heap after at a m o field v r inside refers here
                     (λ c low d. same c (omega (arith, y.1.above)) d)
                     (subst R at_a (subst Q is_o y.1.words)));
-            above = y.1.above;
-            below = omega (arith, y.1.below, ap size is_o);
-          })
-      | inr other ↦
-          let away = far first end heap root at g a b n m o y.0 s e f x y.1.object other in
-          (y.0, record {
-            object = object_other g n m (with_ref o field r) other ∙ y.1.object;
-            words = object_along heap after at at b m y.0 (λ c k z. z)
-                (λ c low high. same c (omega (arith, y.1.above)) (λ z. elim away [ inl h ↦ omega arith | inr h ↦ omega arith ])) y.1.words;
-            above = y.1.above;
-            below = y.1.below;
-          })
+                above = y.1.above;
+                below = omega (arith, y.1.below, ap size is_o);
+              },
+            )
+        | inr other ↦
+            let away = far first end heap root at g a b n m o y.0 s e f x y.1.object other in (
+              y.0,
+              record {
+                object = object_other g n m (with_ref o field r) other ∙ y.1.object;
+                words = object_along heap after at at b m y.0 (λ c k z. z)
+                    (λ c low high. same c (omega (arith, y.1.above)) (λ z. elim away [ inl h ↦ omega arith | inr h ↦ omega arith ])) y.1.words;
+                above = y.1.above;
+                below = y.1.below;
+              },
+            )
       ];
   once = s.once;
   apart = λ b c m k p x y z low.
@@ -108,8 +111,8 @@ pub place_cases : (at : ℕ → Option Name) (a : ℕ) (n : Name) (b : ℕ) (m :
     → ((b ≡ a) × (m ≡ n)) ⊎ ((b ≡ a → ⊥) × (at b ≡ Some m))
 place_cases at a n b m e =
     elim (cases_eq b a) [
-      inl same ↦ inl (same, sym (same_Some n m (sym (place_here at a n) ∙ ap (with_place at a n) (sym same) ∙ e)))
-    | inr other ↦ inr (other, sym (place_other at a n b other) ∙ e)
+      | inl same ↦ inl (same, sym (same_Some n m (sym (place_here at a n) ∙ ap (with_place at a n) (sym same) ∙ e)))
+      | inr other ↦ inr (other, sym (place_other at a n b other) ∙ e)
     ]
 
 -- a new object stands at an address behind all others
@@ -121,62 +124,66 @@ pub stands_new : (first end : ℕ) (heap after : ℕ → ℕ) (root : ℕ → �
     → ((b : ℕ) → first ≤ b → b < a → after b ≡ heap b)
     → Stands first end after root (with_place at a n) (with_object g n o)
 stands_new first end heap after root at g a n o s before fresh x above below same =
-  let under : (b : ℕ) (m : Name) → at b ≡ Some m → b + 3 ≤ a = λ b m e. let y = s.each b m e in omega (arith, before b m y.0 e y.1.object) in
-  let keep : (b : ℕ) (m : Name) → at b ≡ Some m → with_place at a n b ≡ Some m =
-      λ b m e. place_other at a n b (λ z. omega (arith, under b m e)) ∙ e in
-  let old : (b : ℕ) (m : Name) → at b ≡ Some m → m ≡ n → ⊥ = λ b m e z. fresh b (e ∙ ap Some z) in
-  record {
-    each = λ b m e.
-        elim (place_cases at a n b m e) [
-          inl (is_a, is_n) ↦
-            (o, record {
-              object = ap (with_object g n o).object is_n ∙ object_set g n o;
-              words =
-                  let P : ℕ → Type 0 = λ c. IsObject after (with_place at a n) c m o in
-                  let Q : Name → Type 0 = λ k. IsObject after (with_place at a n) a k o in
-                  subst P (sym is_a) (subst Q (sym is_n) x);
-              above = omega arith;
-              below = omega arith;
-            })
-        | inr (d, f) ↦
-            let y = s.each b m f in
-            (y.0, record {
-              object = object_other g n m o (old b m f) ∙ y.1.object;
-              words = object_along heap after at (with_place at a n) b m y.0 keep
-                  (λ c low high. same c (omega (arith, y.1.above)) (omega (arith, before b m y.0 f y.1.object))) y.1.words;
-              above = y.1.above;
-              below = y.1.below;
-            })
-        ];
-    once = λ b c m e f.
-        elim (place_cases at a n b m e) [
-          inl (is_a, is_n) ↦
-            elim (place_cases at a n c m f) [
-              inl (it_is, k) ↦ is_a ∙ sym it_is
-            | inr (d, k) ↦ absurd (old c m k is_n)
-            ]
-        | inr (d, k) ↦
-            elim (place_cases at a n c m f) [
-              inl (it_is, is_n) ↦ absurd (old b m k is_n)
-            | inr (z, l) ↦ s.once b c m k l
-            ]
-        ];
-    apart = λ b c m k p e f z low.
-        elim (place_cases at a n b m e) [
-          inl (is_a, is_n) ↦
-            elim (place_cases at a n c k f) [
-              inl (it_is, l) ↦ absurd (omega arith)
-            | inr (d, l) ↦ absurd (omega (arith, under c k l))
-            ]
-        | inr (d, l) ↦
-            let was : g.object m ≡ Some p = sym (object_other g n m o (old b m l)) ∙ z in
-            elim (place_cases at a n c k f) [
-              inl (it_is, is_n) ↦ omega (arith, before b m p l was)
-            | inr (y, w) ↦ s.apart b c m k p l w was low
-            ]
-        ];
-    roots = λ t i. refers_along at (with_place at a n) (root t i) (g.root t i) keep (s.roots t i);
-  }
+    let under : (b : ℕ) (m : Name) → at b ≡ Some m → b + 3 ≤ a = λ b m e. let y = s.each b m e in omega (arith, before b m y.0 e y.1.object) in
+    let keep : (b : ℕ) (m : Name) → at b ≡ Some m → with_place at a n b ≡ Some m =
+    λ b m e. place_other at a n b (λ z. omega (arith, under b m e)) ∙ e in
+    let old : (b : ℕ) (m : Name) → at b ≡ Some m → m ≡ n → ⊥ = λ b m e z. fresh b (e ∙ ap Some z) in
+    record {
+      each = λ b m e.
+          elim (place_cases at a n b m e) [
+            | inl (is_a, is_n) ↦ (
+              o,
+              record {
+                object = ap (with_object g n o).object is_n ∙ object_set g n o;
+                words =
+                    let P : ℕ → Type 0 = λ c. IsObject after (with_place at a n) c m o in
+                    let Q : Name → Type 0 = λ k. IsObject after (with_place at a n) a k o in
+                    subst P (sym is_a) (subst Q (sym is_n) x);
+                above = omega arith;
+                below = omega arith;
+              },
+            )
+            | inr (d, f) ↦
+                let y = s.each b m f in (
+                  y.0,
+                  record {
+                    object = object_other g n m o (old b m f) ∙ y.1.object;
+                    words = object_along heap after at (with_place at a n) b m y.0 keep
+                        (λ c low high. same c (omega (arith, y.1.above)) (omega (arith, before b m y.0 f y.1.object))) y.1.words;
+                    above = y.1.above;
+                    below = y.1.below;
+                  },
+                )
+          ];
+      once = λ b c m e f.
+          elim (place_cases at a n b m e) [
+            | inl (is_a, is_n) ↦
+                elim (place_cases at a n c m f) [
+                  | inl (it_is, k) ↦ is_a ∙ sym it_is
+                  | inr (d, k) ↦ absurd (old c m k is_n)
+                ]
+            | inr (d, k) ↦
+                elim (place_cases at a n c m f) [
+                  | inl (it_is, is_n) ↦ absurd (old b m k is_n)
+                  | inr (z, l) ↦ s.once b c m k l
+                ]
+          ];
+      apart = λ b c m k p e f z low.
+          elim (place_cases at a n b m e) [
+            | inl (is_a, is_n) ↦
+                elim (place_cases at a n c k f) [
+                  | inl (it_is, l) ↦ absurd (omega arith)
+                  | inr (d, l) ↦ absurd (omega (arith, under c k l))
+                ]
+            | inr (d, l) ↦
+                let was : g.object m ≡ Some p = sym (object_other g n m o (old b m l)) ∙ z in
+                elim (place_cases at a n c k f) [
+                  | inl (it_is, is_n) ↦ omega (arith, before b m p l was)
+                  | inr (y, w) ↦ s.apart b c m k p l w was low
+                ]
+          ];
+      roots = λ t i. refers_along at (with_place at a n) (root t i) (g.root t i) keep (s.roots t i);
+    }
 
 -- the words of a new object
 pub blank_object : (heap : ℕ → ℕ) (at : ℕ → Option Name) (a : ℕ) (n : Name) (refs nums : ℕ)

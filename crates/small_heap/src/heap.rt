@@ -1,10 +1,13 @@
-ghost use Rattle.std.specs.Prelude.{◌≡◌, ◌≢◌, ◌+◌, ◌*◌, ◌<◌, ◌≤◌, ◌⊎◌, ◌↔◌, [], ◌∷◌, List, IfOk, IfSome, IfNone, IsSome, length, slice_set, slice_index};
+ghost use Rattle.std.specs.Prelude.{ℕ, Option, ◌≡◌, ◌≢◌, ◌+◌, ◌*◌, ◌<◌, ◌≤◌, ◌⊎◌, ◌↔◌, [], ◌∷◌, List, IfOk, IfSome, IfNone, IsSome, length, slice_set, slice_index};
 ghost use Rattle.shen_graph.specs.declared.command.Command.TheVariants.{New, Get, Set};
 ghost use Rattle.shen_graph.specs.Valid.{IsValid};
 ghost use Rattle.small_heap.specs.Content.{limit_of, end_of, word_of, root_of};
 ghost use Rattle.small_heap.specs.Placing.{taken_after, Places, IsSamePlace, has_room, with_room};
 ghost use Rattle.small_heap.specs.Reading.{field_of, reply_of};
-ghost use Rattle.small_heap.specs.Holds.{IsFresh, IsBuilt, Answers};
+ghost use Rattle.small_heap.specs.Holds.{Holds, IsFresh, IsBuilt, Answers};
+ghost use Rattle.shen_graph.specs.declared.name.Name.{Name};
+ghost use Rattle.shen_graph.specs.Graph.{Graph};
+ghost use Rattle.heap_graph.specs.Shows.{WordsStand};
 
 use heap_words::{Config, NoMemory, count_of, name_word, refs_of, shape_of, thread_of};
 use shen_graph::{Command, Name, Reply};
@@ -69,16 +72,20 @@ impl SmallHeap {
         })
     }
 
-    /// The words, from address `region_words` on.
+    /// The words, from address `region_words` on. With the roots they stand for the graphs that the heap stands for.
     pub fn words(&self) -> &[u64]
-        ensures { result.now ≡ self.now.words }
+        ensures words { result.now ≡ self.now.words }
+        ensures number { length result.now ≡ self.now.config.regions * self.now.config.region_words }
+        ensures stand { (at : ℕ → Option Name) (g : Graph) → Holds self.now at g
+            → WordsStand self.now.config.region_words result.now self.now.roots at g }
     {
         self.words.as_slice()
     }
 
     /// The 16 root words: each 0, or the address of an object.
     pub fn roots(&self) -> &[u64]
-        ensures { result.now ≡ self.now.roots }
+        ensures roots { result.now ≡ self.now.roots }
+        ensures number { length result.now ≡ 16 }
     {
         &self.roots
     }

@@ -16,23 +16,23 @@ pub find_reachable-requires-clause-sound : goal.find_reachable-requires-clause-s
 find_reachable-requires-clause-sound c =
     sound c.args.first c.args.heap.now c.args.roots.now c.requires.stand.0 c.requires.stand.1.0 c.requires.first c.requires.stand.1.1
 
-pub add_objects-requires-clause-above : goal.add_objects-requires-clause-above
-add_objects-requires-clause-above c =
+pub write_objects-requires-clause-above : goal.write_objects-requires-clause-above
+write_objects-requires-clause-above c =
     let sound' = sound c.args.first c.args.heap.now c.args.roots.now _ _ c.requires.first c.requires.stand.1.1 in
     rw c.deref.ensures.value (all_above c.args.first c.args.heap.now c.args.roots.now sound' _ c.find_reachable.ensures.walk)
 
-pub add_objects-requires-clause-below : goal.add_objects-requires-clause-below
-add_objects-requires-clause-below c =
+pub write_objects-requires-clause-below : goal.write_objects-requires-clause-below
+write_objects-requires-clause-below c =
     let sound' = sound c.args.first c.args.heap.now c.args.roots.now _ _ c.requires.first c.requires.stand.1.1 in
     rw c.deref.ensures.value (all_below c.args.first c.args.heap.now c.args.roots.now sound' _ c.find_reachable.ensures.walk)
 
-pub add_objects-requires-clause-named : goal.add_objects-requires-clause-named
-add_objects-requires-clause-named c =
+pub write_objects-requires-clause-named : goal.write_objects-requires-clause-named
+write_objects-requires-clause-named c =
     let sound' = sound c.args.first c.args.heap.now c.args.roots.now _ _ c.requires.first c.requires.stand.1.1 in
     rw c.deref.ensures.value (all_named c.args.first c.args.heap.now c.args.roots.now sound' _ c.find_reachable.ensures.walk)
 
-pub add_objects-requires-clause-room : goal.add_objects-requires-clause-room
-add_objects-requires-clause-room c =
+pub write_objects-requires-clause-room : goal.write_objects-requires-clause-room
+write_objects-requires-clause-room c =
     let sound' = sound c.args.first c.args.heap.now c.args.roots.now _ _ c.requires.first c.requires.stand.1.1 in
     let order = c.find_reachable.new.order.items in
     let words = λ (a : ℕ). words_at c.args.heap.now (a - c.args.first) in
@@ -42,16 +42,14 @@ add_objects-requires-clause-room c =
     let enough : sum_by words order ≤ c.clear.new.self.spare = omega arith in
     rw c.deref.ensures.value enough
 
-pub sort-requires : goal.sort-requires
-sort-requires c =
-    let order = c.find_reachable.new.order.items in
+pub write_objects-requires-clause-differ : goal.write_objects-requires-clause-differ
+write_objects-requires-clause-differ c =
     let differ =
-    names_differ c.args.first c.args.heap.now c.args.roots.now order _ _ c.requires.first c.requires.stand.1.1
+    names_differ c.args.first c.args.heap.now c.args.roots.now c.find_reachable.new.order.items _ _ c.requires.first c.requires.stand.1.1
     c.find_reachable.ensures.walk in
     let row = row_at c.args.first c.args.heap.now in
-    let rows : c.add_objects.new.text.rows ≡ map row order =
-    c.add_objects.ensures.rows ∙ ap (λ t. t.rows ++ map row c.deref.result.now) c.clear.ensures
-    ∙ ap (map row) c.deref.ensures.value in
+    let rows : c.clear.new.self.rows ++ map row c.deref.result.now ≡ map row c.find_reachable.new.order.items =
+    ap (λ t. t.rows ++ map row c.deref.result.now) c.clear.ensures ∙ ap (map row) c.deref.ensures.value in
     subst (λ rs. IsDistinct same_name (map (λ r. r.name) rs)) (sym rows) differ
 
 pub set_roots-requires-clause-named : goal.set_roots-requires-clause-named
@@ -64,19 +62,18 @@ returns-clause-shows c at g stand =
     let order = c.find_reachable.new.order.items in
     let text = c.set_roots.new.text in
     let row = row_at c.args.first c.args.heap.now in
-    let rows : c.add_objects.new.text.rows ≡ map row order =
-    c.add_objects.ensures.rows ∙ ap (λ t. t.rows ++ map row c.deref.result.now) c.clear.ensures
-    ∙ ap (map row) c.deref.ensures.value in
+    let rows : c.clear.new.self.rows ++ map row c.deref.result.now ≡ map row order =
+    ap (λ t. t.rows ++ map row c.deref.result.now) c.clear.ensures ∙ ap (map row) c.deref.ensures.value in
     let same = sym c.set_roots.ensures.rows in
     let moved : IsPermutation (map row order) text.rows =
     subst (λ rs. IsPermutation rs text.rows) rows
-    (subst (λ rs. IsPermutation c.add_objects.new.text.rows rs) same c.sort.ensures.rows) in
+    (subst (λ rs. IsPermutation (c.clear.new.self.rows ++ map row c.deref.result.now) rs) same c.write_objects.ensures.rows) in
     let ordered : InOrder (names_of text) =
-    subst (λ rs. InOrder (map (λ r. r.name) rs)) same c.sort.ensures.order in
+    subst (λ rs. InOrder (map (λ r. r.name) rs)) same c.write_objects.ensures.order in
     let null = replicate {A = Reference} 16 None in
-    let threads : length c.sort.new.self.roots ≡ length c.args.text.now.roots =
-    ap (λ t. length t.roots) c.sort.ensures.kept ∙ ap length c.add_objects.ensures.roots
-    ∙ ap (λ t. length t.roots) c.clear.ensures ∙ length-replicate (length c.args.text.now.roots) null in
+    let threads : length c.write_objects.new.text.roots ≡ length c.args.text.now.roots =
+    ap length c.write_objects.ensures.roots ∙ ap (λ t. length t.roots) c.clear.ensures
+    ∙ length-replicate (length c.args.text.now.roots) null in
     let root = λ (t i : ℕ). reference_in c.args.first c.args.heap.now (root_word c.args.roots.now t i) in
     shows c.args.first c.args.heap.now c.args.roots.now order at g c.requires.first stand c.find_reachable.ensures.walk text moved
     (length c.args.text.now.roots) ordered

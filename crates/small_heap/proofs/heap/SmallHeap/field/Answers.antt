@@ -1,7 +1,6 @@
-use Rattle.std.proofs.Common.{◌≡◌, ◌+◌, ◌<◌, ◌≤◌, arith}
-use Rattle.small_heap.specs.Content.{root_of, end_of}
+use Rattle.std.proofs.Common.{arith}
 use Rattle.small_heap.specs.contracts.heap.SmallHeap.{the_view}
-use Rattle.small_heap.proofs.Holding.{named_of, Named}
+use Rattle.small_heap.proofs.Holding.{named_of}
 use Rattle.small_heap.proofs.Changing.{end_small}
 use Rattle.small_heap.proofs.heap.SmallHeap.field.Goals as goal
 

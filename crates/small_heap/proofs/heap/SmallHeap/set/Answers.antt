@@ -1,5 +1,4 @@
-use Rattle.std.proofs.Common.{◌≡◌, ◌-◌, sym, ap, ◌∙◌, refl, arith}
-use Rattle.small_heap.specs.Content.{Content}
+use Rattle.std.proofs.Common.{◌-◌, sym, ap, ◌∙◌, refl, arith}
 use Rattle.small_heap.specs.contracts.heap.SmallHeap.{the_view}
 use Rattle.small_heap.proofs.Changing.{answers_set_bad}
 use Rattle.small_heap.proofs.Fields.{field_inside, set_keeps, set_answers}
