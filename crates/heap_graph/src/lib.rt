@@ -6,3 +6,6 @@ mod walk;
 mod write;
 
 pub use write::write_graph;
+
+#[cfg(test)]
+mod tests;
