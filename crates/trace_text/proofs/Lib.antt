@@ -2,4 +2,4 @@ pub mod Digits
 pub mod Turns
 pub mod Numbers
 pub mod Lines
-mod AnswerLemmas
+pub mod AnswerLemmas
