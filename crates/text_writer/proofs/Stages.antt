@@ -1,9 +1,8 @@
 -- How what is put one piece after the other comes to stand in a sink and the block before it.
-use Rattle.std.proofs.Common.{◌≡◌, ℕ, ◌≤◌, Bool, true, false, List, [], ◌++◌, Option, Ok, Err, sym, ap, ◌∙◌, refl, subst, append_assoc, append-nil, arith}
+use Rattle.std.proofs.Common.{◌≡◌, ℕ, true, false, List, [], ◌++◌, Option, Ok, Err, sym, ap, ◌∙◌, refl, subst, append_assoc, append-nil, arith}
 use Rattle.std.specs.Io.KnownBytes.{Appends}
-use Rattle.std.proofs.KnownBytes.{Appends-nil, Appends-trans}
+use Rattle.std.proofs.KnownBytes.{Appends-nil}
 use Rattle.shen_base.specs.Count.{Rose}
-use Rattle.shen_base.proofs.CountLemmas.{not_fallen_then_rose}
 use Rattle.text_writer.specs.Sending.{Held, Stage, stage, AppendsFront, AppendsUpTo, HasTaken, Puts, Writes}
 
 -- nothing was put
@@ -12,13 +11,15 @@ puts_none s = record { behind = λ first before sofar h. subst (HasTaken s first
 
 -- one text was put, and then another
 pub puts_both : {a b c : Stage} {x y : List ℕ} → Puts a b x → Puts b c y → Puts a c (x ++ y)
-puts_both {a} {b} {c} {x} {y} p q = record { behind = λ first before sofar h.
-    subst (HasTaken c first before) (append_assoc sofar x y) (q.behind first before (sofar ++ x) (p.behind first before sofar h))
+puts_both {a} {b} {c} {x} {y} p q = record {
+  behind = λ first before sofar h.
+      subst (HasTaken c first before) (append_assoc sofar x y) (q.behind first before (sofar ++ x) (p.behind first before sofar h));
 }
 
 -- an equal text was put
 pub puts_same : {a b : Stage} {x y : List ℕ} → x ≡ y → Puts a b x → Puts a b y
-puts_same {a} {b} {x} {y} e p = record { behind = λ first before sofar h. subst (λ t. HasTaken b first before (sofar ++ t)) e (p.behind first before sofar h)
+puts_same {a} {b} {x} {y} e p = record {
+  behind = λ first before sofar h. subst (λ t. HasTaken b first before (sofar ++ t)) e (p.behind first before sofar h);
 }
 
 -- a front of a text is one of a longer text
@@ -28,23 +29,25 @@ front_longer old new x y (sent, rest, appended, e) =
 
 -- after a fault, whatever is put is ignored
 pub puts_more_stopped : (a b : Stage) (x y : List ℕ) → b.block.failed ≡ true → Puts a b x → Puts a b (x ++ y)
-puts_more_stopped a b x y failed p = record { behind = λ first before sofar h.
-    let taken : HasTaken b first before (sofar ++ x) = p.behind first before sofar h in
-    let going : b.block.failed ≡ false → AppendsUpTo first b.written (sofar ++ (x ++ y)) b.block.unsent = λ f. cc in
-    record {
-      never_fell = taken.never_fell;
-      going = going;
-      stopped = λ f. (subst (AppendsFront first b.written) (append_assoc sofar x y) (front_longer _ _ _ y (taken.stopped f).0), (taken.stopped f).1);
-    }
+puts_more_stopped a b x y failed p = record {
+  behind = λ first before sofar h.
+      let taken : HasTaken b first before (sofar ++ x) = p.behind first before sofar h in
+      let going : b.block.failed ≡ false → AppendsUpTo first b.written (sofar ++ (x ++ y)) b.block.unsent = λ f. cc in
+      record {
+        never_fell = taken.never_fell;
+        going = going;
+        stopped = λ f. (subst (AppendsFront first b.written) (append_assoc sofar x y) (front_longer _ _ _ y (taken.stopped f).0), (taken.stopped f).1);
+      };
 }
 
 -- bytes went into the block
 pub puts_kept : (w : Option (List ℕ)) (f : ℕ) (held : Held) (more : List ℕ) → Puts (stage w f held) (stage w f (record held { unsent = held.unsent ++ more })) more
-puts_kept w f held more = record { behind = λ first before sofar h. record {
-  never_fell = h.never_fell;
-  going = λ g. (let (sent, appended, e) = h.going g in (sent, appended, sym (append_assoc sent held.unsent more) ∙ ap (λ t. t ++ more) e));
-  stopped = λ g. (front_longer _ _ _ more (h.stopped g).0, (h.stopped g).1);
-}
+puts_kept w f held more = record {
+  behind = λ first before sofar h. record {
+    never_fell = h.never_fell;
+    going = λ g. (let (sent, appended, e) = h.going g in (sent, appended, sym (append_assoc sent held.unsent more) ∙ ap (λ t. t ++ more) e));
+    stopped = λ g. (front_longer _ _ _ more (h.stopped g).0, (h.stopped g).1);
+  };
 }
 
 -- an empty block before a sink, of which nothing was asked
@@ -99,4 +102,3 @@ puts_turn a w w' f f' before held after done piece p q e =
     let cleared : Puts a (stage w' f' held) done = puts_same (append-nil done) (puts_both p q) in
     subst (λ h. Puts a (stage w' f' h) (done ++ piece)) (sym e)
     (puts_both cleared (puts_kept w' f' held piece))
-

@@ -8,3 +8,6 @@ mod send;
 
 pub use block::Block;
 pub use send::{WriteFault, write_all};
+
+#[cfg(test)]
+mod tests;

@@ -1,5 +1,5 @@
 -- How the lines of an answer come together from what is put.
-use Rattle.std.proofs.Common.{◌≡◌, ℕ, ◌+◌, ◌-◌, ◌<◌, ◌≤◌, List, [], ◌∷◌, ◌++◌, length, map, take, get_or, codes, sym, ap, ◌∙◌, refl, subst, append_assoc, append-nil, arith}
+use Rattle.std.proofs.Common.{◌≡◌, ℕ, zero, suc, ◌+◌, ◌<◌, ◌≤◌, List, [], ◌∷◌, ◌++◌, length, map, take, get_or, codes, sym, ap, ◌∙◌, refl, append_assoc, append-nil, arith}
 use Rattle.std.specs.List.{flat_map, join_with_byte, range_with_len}
 use Rattle.std.proofs.lemmas.List.{take_more, take_all, map-id}
 use Rattle.std.proofs.lemmas.List.Concat.{flat_map-append}
@@ -7,12 +7,13 @@ use Rattle.std.proofs.lemmas.List.Folds.{flat_map-map}
 use Rattle.std.proofs.lemmas.List.FromFn.{map-range_with_len_more}
 use Rattle.std.specs.Fmt.{decimal}
 use Rattle.shen_graph.specs.declared.name.Name.{Name}
+use Rattle.shen_graph.specs.declared.command.Reply.{Reply}
 use Rattle.shen_graph.specs.Graph.{Reference}
 use Rattle.shen_graph.specs.GraphText.{Row}
 use Rattle.text_writer.specs.Sending.{Stage, Puts}
 use Rattle.text_writer.proofs.Stages.{puts_both, puts_same}
 use Rattle.trace_text.specs.Spelling.{space, newline}
-use Rattle.trace_text.specs.Answer.{line_of, name_word, reference_word, object_line, roots_line, root_words}
+use Rattle.trace_text.specs.Answer.{line_of, name_word, reference_word, reply_line, object_line, roots_line, root_words, answer_text}
 
 -- Loops over a list.
 
@@ -101,3 +102,45 @@ unfolding root_words
 root_words_are root n e =
     ap (λ k. flat_map (λ i. space ∷ reference_word (root i)) (range_with_len 0 k)) e
     ∙ sym (flat_map-map (λ w. space ∷ w) (λ i. reference_word (root i)) (range_with_len 0 16))
+
+-- Equal answers.
+
+-- texts of numbers that are equal at each number in a range
+flat_map-range_same : (f h : ℕ → List ℕ) (from n : ℕ) → ((k : ℕ) → from ≤ k → k < from + n → f k ≡ h k) → flat_map f (range_with_len from n) ≡ flat_map h (range_with_len from n)
+flat_map-range_same f h from zero same = refl
+flat_map-range_same f h from (suc n) same =
+    let first : f from ≡ h from = same from (omega arith) (omega arith) in
+    let others : (k : ℕ) → from + 1 ≤ k → k < (from + 1) + n → f k ≡ h k = λ k low high. same k (omega arith) (omega arith) in
+    ap (λ t. t ++ flat_map f (range_with_len (from + 1) n)) first
+    ∙ ap (λ t. h from ++ t) (flat_map-range_same f h (from + 1) n others)
+
+-- the same for words
+map-range_same : (f h : ℕ → List ℕ) (from n : ℕ) → ((k : ℕ) → from ≤ k → k < from + n → f k ≡ h k) → map f (range_with_len from n) ≡ map h (range_with_len from n)
+map-range_same f h from zero same = refl
+map-range_same f h from (suc n) same =
+    let first : f from ≡ h from = same from (omega arith) (omega arith) in
+    let others : (k : ℕ) → from + 1 ≤ k → k < (from + 1) + n → f k ≡ h k = λ k low high. same k (omega arith) (omega arith) in
+    ap (λ t. t ∷ map f (range_with_len (from + 1) n)) first
+    ∙ ap (λ t. h from ∷ t) (map-range_same f h (from + 1) n others)
+
+-- the words of equal roots
+root_words_same : (root other : ℕ → Reference) → ((i : ℕ) → i < 16 → root i ≡ other i) → root_words root ≡ root_words other
+unfolding root_words
+root_words_same root other same =
+    map-range_same (λ i. reference_word (root i)) (λ i. reference_word (other i)) 0 16 (λ k low high. ap reference_word (same k (omega arith)))
+
+-- the answers of equal replies and equal roots
+pub answer_text_same : (threads : ℕ) (replies others : ℕ → List Reply) (rows : List Row) (root other : ℕ → ℕ → Reference)
+    → ((t : ℕ) → 1 ≤ t → t ≤ threads → replies t ≡ others t)
+    → ((t i : ℕ) → 1 ≤ t → t ≤ threads → i < 16 → root t i ≡ other t i)
+    → answer_text threads replies rows root ≡ answer_text threads others rows other
+answer_text_same threads replies others rows root other same_replies same_roots =
+    let said : flat_map (λ t. flat_map (reply_line t) (replies t)) (range_with_len 1 threads) ≡ flat_map (λ t. flat_map (reply_line t) (others t)) (range_with_len 1 threads) =
+    flat_map-range_same _ _ 1 threads (λ k low high. ap (flat_map (reply_line k)) (same_replies k low (omega arith))) in
+    let held : flat_map (λ t. roots_line t (root t)) (range_with_len 1 threads) ≡ flat_map (λ t. roots_line t (other t)) (range_with_len 1 threads) =
+    flat_map-range_same _ _ 1 threads
+    (λ k low high. ap (λ ws. line_of (codes "roots" ∷ decimal k ∷ ws)) (root_words_same (root k) (other k) (λ i below. same_roots k i low (omega arith) below))) in
+    let graph = line_of (codes "graph" ∷ []) in
+    let objects = flat_map object_line rows in
+    ap (λ t. t ++ (graph ++ (objects ++ flat_map (λ t. roots_line t (root t)) (range_with_len 1 threads)))) said
+    ∙ ap (λ t. flat_map (λ t. flat_map (reply_line t) (others t)) (range_with_len 1 threads) ++ (graph ++ (objects ++ t))) held

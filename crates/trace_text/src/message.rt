@@ -53,3 +53,6 @@ fn write_unfinished<K: Sink>(sink: &mut K, steps: u64) -> Result<(), WriteFault>
     block.put(sink, b" steps\n");
     block.finish(sink)
 }
+
+#[cfg(test)]
+mod tests;

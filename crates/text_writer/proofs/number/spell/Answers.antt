@@ -1,4 +1,4 @@
-use Rattle.std.proofs.Common.{rules, arith}
+use Rattle.std.proofs.Common.{rules}
 use Rattle.text_writer.proofs.Digits.{spelled_none, spelled_more, spelled_all, spelled_some}
 use Rattle.text_writer.proofs.number.spell.Goals as goal
 

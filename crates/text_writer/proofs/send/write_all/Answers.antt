@@ -1,4 +1,4 @@
-use Rattle.std.proofs.Common.{◌≤◌, ◌≡◌, ◌++◌, take, arith}
+use Rattle.std.proofs.Common.{◌++◌, take, arith}
 use Rattle.std.proofs.KnownBytes.{Appends-trans}
 use Rattle.text_writer.proofs.Fronts.{front_moves}
 use Rattle.text_writer.proofs.send.write_all.Goals as goal

@@ -1,5 +1,4 @@
 use Rattle.std.proofs.Common.{◌≡◌, true, false, rules}
-use Rattle.text_writer.specs.Sending.{stage}
 use Rattle.text_writer.proofs.Stages.{taken_still, writes_all, writes_front}
 use Rattle.text_writer.proofs.block.Block.finish.Goals as goal
 

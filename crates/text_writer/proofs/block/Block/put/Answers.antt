@@ -1,4 +1,4 @@
-use Rattle.std.proofs.Common.{◌≡◌, ◌∙◌, ◌++◌, sym, ap, true, false, take, rules, subst}
+use Rattle.std.proofs.Common.{◌≡◌, ◌++◌, ap, true, false, take, rules}
 use Rattle.text_writer.specs.Sending.{Held}
 use Rattle.text_writer.proofs.Fronts.{front_moves, front_is_all}
 use Rattle.text_writer.proofs.Stages.{puts_same, puts_turn, puts_more_stopped}

@@ -1,5 +1,5 @@
 -- What is gone from the rest was put, and after a fault nothing happens.
-use Rattle.std.proofs.Common.{◌≡◌, ℕ, Bool, true, List, ◌++◌, length}
+use Rattle.std.proofs.Common.{◌≡◌, ℕ, true, List, ◌++◌, length}
 use Rattle.text_writer.specs.Sending.{Puts, stage}
 use Rattle.text_writer.proofs.block.Block.put.Given as goal
 

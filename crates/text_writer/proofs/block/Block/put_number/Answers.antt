@@ -1,4 +1,4 @@
-use Rattle.std.proofs.Common.{◌≡◌, ◌∙◌, sym, ap, rules}
+use Rattle.std.proofs.Common.{rules}
 use Rattle.text_writer.proofs.Fronts.{rest_whole}
 use Rattle.text_writer.proofs.Stages.{puts_same}
 use Rattle.text_writer.proofs.block.Block.put_number.Goals as goal
