@@ -4,4 +4,4 @@ pub mod Numbers
 pub mod Lines
 pub mod Header
 pub mod Traces
-mod AnswerLemmas
+pub mod AnswerLemmas
