@@ -1,6 +1,5 @@
 -- What each status of the program means: what was asked for, what came in, and what may be written.
 use Rattle.std.specs.Prelude.{ℕ, ◌≡◌, ◌-◌, ◌+◌, ◌<◌, ◌≤◌, ◌⊎◌, List, [], ◌∷◌, length, map, codes, slice_index_or, Option}
-use Rattle.std.specs.String.{string_bytes, String}
 use Rattle.std.specs.Io.KnownBytes.{Appends, Consumes}
 use Rattle.shen_base.specs.Count.{Rose}
 use Rattle.shen_graph.specs.declared.command.Command.{Command}
@@ -36,8 +35,8 @@ pub record IsTooLarge (bytes : List ℕ) : Type 0 where
   pub regions : config.regions - 1 - config.reserve < regions_needed config.region_words (sizes_of (slice_index_or scripts 0 []))
 
 -- the words ask for a replay
-abbrev pub IsReplay : List String → Type 0
-IsReplay words = map string_bytes words ≡ codes "replay" ∷ []
+abbrev pub IsReplay : List (List ℕ) → Type 0
+IsReplay words = words ≡ codes "replay" ∷ []
 
 -- all that the source had came, and it is no trace
 abbrev pub IsNoTrace : (before after : Option (List ℕ)) → Type 0
@@ -60,7 +59,7 @@ pub record Input : Type 0 where
   pub faults_after : ℕ
 
 -- The texts that go with each status but that of a write fault.
-abbrev pub Allows : List String → Input → Status → List ℕ → Type 0
+abbrev pub Allows : List (List ℕ) → Input → Status → List ℕ → Type 0
 Allows words input Ok out = IsReplay words × ((bytes : List ℕ) × Came input.before input.after bytes × IsReplayed bytes out)
 Allows words input BadWords out = (IsReplay words → ⊥) × (out ≡ line_text line.BadWords)
 Allows words input BadTrace out = IsReplay words
@@ -80,12 +79,12 @@ pub record Output : Type 0 where
   pub faults_after : ℕ
 
 -- a text that goes with the status was written, whole
-abbrev pub IsWritten : List String → Input → Output → Status → Type 0
+abbrev pub IsWritten : List (List ℕ) → Input → Output → Status → Type 0
 IsWritten words input output status = (out : List ℕ) × Allows words input status out × Appends output.before output.after out
 
 -- The status fits the words, what came and what was written. After a write fault a front of a text was written that
 -- goes with another status.
-abbrev pub IsAnswered : List String → Input → Output → Status → Type 0
+abbrev pub IsAnswered : List (List ℕ) → Input → Output → Status → Type 0
 IsAnswered words input output WriteFault =
     Rose output.faults_before output.faults_after
     × ((status : Status) × (out : List ℕ) × Allows words input status out × AppendsFront output.before output.after out)

@@ -1,13 +1,13 @@
 //! The top call: words and a trace in, an answer or one line out.
-ghost use Rattle.std.specs.Prelude.{◌≡◌, ◌≢◌, ◌↔◌, ◌<◌, ◌-◌, ℕ, List, [], Option, IsTrue, IfOk, IfErr, Err, slice_index_or, length};
+ghost use Rattle.std.specs.Prelude.{◌≡◌, ◌≢◌, ◌↔◌, ◌<◌, ◌-◌, ℕ, List, [], Option, IsTrue, IfOk, IfErr, Err, slice_index_or, length, map};
 ghost use Rattle.shen_graph.specs.declared.name.Name.{Name};
 ghost use Rattle.shen_graph.specs.Graph.{Graph};
 ghost use Rattle.shen_graph.specs.Work.{HasScript, replies_of};
 ghost use Rattle.heap_graph.specs.Shows.{Shows};
-ghost use Rattle.small_heap.specs.Holds.{Holds};
+ghost use Rattle.small_heap.specs.Holds.{Holds, HoldsSome};
 ghost use Rattle.small_heap.specs.Running.{HasRun};
 ghost use Rattle.small_heap.specs.Placing.{regions_needed, sizes_of};
-ghost use Rattle.std.specs.String.{String as Text};
+ghost use Rattle.std.specs.String.{string_bytes};
 ghost use Rattle.std.specs.Io.KnownBytes.{Appends};
 ghost use Rattle.trace_text.specs.Grammar.{Came, ReadsEarly};
 ghost use Rattle.trace_text.specs.Message.{line_text};
@@ -33,9 +33,12 @@ enum Refusal {
 
 /// Whether the words ask for a replay.
 fn is_replay(words: &[String]) -> bool
-    ensures { IsTrue result ↔ IsReplay words.now }
+    ensures { IsTrue result ↔ IsReplay (map string_bytes words.now) }
 {
-    words.len() == 1 && words[0].as_str() == "replay"
+    match words {
+        [word] => word.as_str() == "replay",
+        _ => false,
+    }
 }
 
 /// Runs the script of the one thread on a heap of its own.
@@ -61,7 +64,8 @@ fn run(alloc: Global, trace: &Trace) -> Result<(Work, SmallHeap), Refusal>
 
 /// The graph that a heap stands for, as it is to be written. `first` is the address of the heap's first word.
 fn graph_of(alloc: Global, first: usize, heap: &SmallHeap) -> Result<GraphText, Refusal>
-    requires { first ≡ heap.now.config.region_words }
+    requires first { first ≡ heap.now.config.region_words }
+    requires stands { HoldsSome heap.now }
     ensures shows { IfOk result (λ text. (at : ℕ → Option Name) (g : Graph) → Holds heap.now at g → Shows text 1 g) }
     ensures threads { IfOk result (λ text. length text.roots ≡ 1) }
     ensures fault { IfErr result (λ e. e ≡ Refusal.NoMemory) }
@@ -110,9 +114,20 @@ fn say<K: Sink>(sink: &mut K, line: Line, status: Status) -> Status
     }
 }
 
+/// Writes an answer.
+fn give<K: Sink>(sink: &mut K, answer: &Answer) -> Status
+    requires { (mutator : ℕ) → mutator < length answer.now.graph.roots → HasScript answer.now.replies mutator }
+    ensures { EndsWith (text_of answer.now) Status.Ok result (K.written sink.old) (K.written sink.new) (K.faults sink.old) (K.faults sink.new) }
+{
+    match write_answer(sink, answer) {
+        Ok(()) => Status::Ok,
+        Err(_) => Status::WriteFault,
+    }
+}
+
 /// Reads a trace, runs it, and writes its answer, or the one line that says why there is none.
 fn replay<S: Source, K: Sink>(alloc: Global, source: &mut S, sink: &mut K) -> Status
-    ensures { (words : List Text) → IsReplay words → IsAnswered words
+    ensures { (words : List (List ℕ)) → IsReplay words → IsAnswered words
         (record { before = S.left source.old; after = S.left source.new; faults_before = S.faults source.old; faults_after = S.faults source.new })
         (record { before = K.written sink.old; after = K.written sink.new; faults_before = K.faults sink.old; faults_after = K.faults sink.new }) result }
 {
@@ -128,10 +143,7 @@ fn replay<S: Source, K: Sink>(alloc: Global, source: &mut S, sink: &mut K) -> St
         Err(Refusal::TooSmall) => return say(sink, Line::HeapTooSmall, Status::BadTrace),
         Err(Refusal::NoMemory) => return say(sink, Line::NoMemory, Status::NoMemory),
     };
-    match write_answer(sink, &answer) {
-        Ok(()) => Status::Ok,
-        Err(_) => Status::WriteFault,
-    }
+    give(sink, &answer)
 }
 
 /// Runs the program on these words of the command line, which are without the program's name. `replay` reads a trace of
@@ -149,12 +161,12 @@ pub fn shenrun<S: Source, K: Sink>(
         × Came (S.left source.old) (S.left source.new) bytes × IsReplayed bytes out × Appends (K.written sink.old) (K.written sink.new) out) }
 
     // What each status says of the words, of what came and of what was written.
-    ensures answered { IsAnswered words.now
+    ensures answered { IsAnswered (map string_bytes words.now)
         (record { before = S.left source.old; after = S.left source.new; faults_before = S.faults source.old; faults_after = S.faults source.new })
         (record { before = K.written sink.old; after = K.written sink.new; faults_before = K.faults sink.old; faults_after = K.faults sink.new }) result }
 
     // Words that are refused are refused before anything is read.
-    ensures unread { (IsReplay words.now → ⊥) → source.new ≡ source.old }
+    ensures unread { (IsReplay (map string_bytes words.now) → ⊥) → source.new ≡ source.old }
 {
     if is_replay(words) {
         replay(alloc, source, sink)

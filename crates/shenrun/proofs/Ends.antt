@@ -1,0 +1,30 @@
+-- From the end of a writing call to what the program answers.
+use Rattle.std.proofs.Common.{◌≡◌, ◌⊎◌, ℕ, List, Option, sym, subst, inl, inr}
+use Rattle.std.specs.Io.KnownBytes.{Appends}
+use Rattle.shen_base.specs.Count.{Rose}
+use Rattle.text_writer.specs.Sending.{AppendsFront}
+use Rattle.shenrun.specs.declared.status.Status.{Status}
+use Rattle.shenrun.specs.declared.status.Status.TheVariants.{Ok, BadWords, BadTrace, Unfinished, ReadFault, WriteFault, NoMemory}
+use Rattle.shenrun.specs.Answered.{Allows, Input, Output, IsWritten, IsAnswered}
+use Rattle.shenrun.specs.Ends.{EndsWith}
+
+written_is_answer : (words : List (List ℕ)) (input : Input) (output : Output) (status : Status) → IsWritten words input output status → IsAnswered words input output status
+written_is_answer words input output Ok w = w
+written_is_answer words input output BadWords w = w
+written_is_answer words input output BadTrace w = w
+written_is_answer words input output Unfinished w = w
+written_is_answer words input output ReadFault w = w
+written_is_answer words input output WriteFault w = absurd w.1
+written_is_answer words input output NoMemory w = w
+
+-- a text that goes with a status was written, or the sink failed
+pub said : (words : List (List ℕ)) (input : Input) (output : Output) (text : List ℕ) (status result : Status) → Allows words input status text
+    → EndsWith text status result output.before output.after output.faults_before output.faults_after → IsAnswered words input output result
+said words input output text status result allows (inl whole) =
+    subst (IsAnswered words input output) (sym whole.0) (written_is_answer words input output status (text, allows, whole.1))
+said words input output text status result allows (inr front) =
+    subst (IsAnswered words input output) (sym front.0) (front.1, (status, text, allows, front.2))
+
+-- the row of Ok
+pub row_of_ok : (words : List (List ℕ)) (input : Input) (output : Output) (result : Status) → IsAnswered words input output result → result ≡ Ok → IsWritten words input output Ok
+row_of_ok words input output result answered e = subst (IsAnswered words input output) e answered
