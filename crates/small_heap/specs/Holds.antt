@@ -18,8 +18,8 @@ pub record IsSound (h : Content) : Type 0 where
   pub room : h.used ≤ h.config.region_words
   pub few : 3 * h.made ≤ h.taken * h.config.region_words + h.used
 
--- The objects of the graph stand before `place`, all words from there on are 0, and the names that thread 1 has given are
--- its counts 1 to `made`.
+-- The objects of the graph stand before `place`, all words from there on are 0, and thread 1 has made `made` objects, so
+-- no name of it has a larger count.
 pub record IsUsedTo (place made : ℕ) (word : ℕ → ℕ) (at : ℕ → Option Name) (g : Graph) : Type 0 where
   pub before : (a : ℕ) (n : Name) (o : Object) → at a ≡ Some n → g.object n ≡ Some o → a + size o ≤ place
   pub free : (a : ℕ) → place ≤ a → word a ≡ 0

@@ -9,7 +9,8 @@ use Rattle.small_heap.specs.Content.{Content, limit_of}
 abbrev pub regions_more : (region_words room : ℕ) → List ℕ → ℕ
 regions_more region_words room [] = 0
 regions_more region_words room (size ∷ sizes) =
-    if nat_le size room then regions_more region_words (room - size) sizes else 1 + regions_more region_words (region_words - size) sizes
+    if nat_le size room then regions_more region_words (room - size) sizes
+    else 1 + regions_more region_words (region_words - size) sizes
 
 -- the regions that objects of these sizes need; before the first there is no region to go on in
 abbrev pub regions_needed : (region_words : ℕ) → List ℕ → ℕ

@@ -1,7 +1,7 @@
-ghost use Rattle.std.specs.Prelude.{ℕ, Option, ◌≡◌, ◌≢◌, ◌+◌, ◌*◌, ◌<◌, ◌≤◌, ◌⊎◌, ◌↔◌, [], ◌∷◌, List, IfOk, IfSome, IfNone, IsSome, length, slice_set, slice_index};
+ghost use Rattle.std.specs.Prelude.{ℕ, Option, ◌≡◌, ◌+◌, ◌*◌, ◌<◌, ◌≤◌, ◌⊎◌, ◌↔◌, [], ◌∷◌, IfOk, IfSome, IfNone, IsSome, length};
 ghost use Rattle.shen_graph.specs.declared.command.Command.TheVariants.{New, Get, Set};
 ghost use Rattle.shen_graph.specs.Valid.{IsValid};
-ghost use Rattle.small_heap.specs.Content.{limit_of, end_of, word_of, root_of};
+ghost use Rattle.small_heap.specs.Content.{limit_of, end_of, word_of};
 ghost use Rattle.small_heap.specs.Placing.{taken_after, Places, IsSamePlace, has_room, with_room};
 ghost use Rattle.small_heap.specs.Reading.{field_of, reply_of};
 ghost use Rattle.small_heap.specs.Holds.{Holds, IsFresh, IsBuilt, Answers};
@@ -40,14 +40,28 @@ impl Model for SmallHeap {
 
     ghost use Rattle.small_heap.specs.Holds.{HoldsSome};
 
-    ghost view = { λ s. record { config = s.config; words = s.words.items; roots = s.roots; taken = s.taken; used = s.used; made = s.made } };
+    ghost view = { λ s. record {
+      config = s.config;
+      words = s.words.items;
+      roots = s.roots;
+      taken = s.taken;
+      used = s.used;
+      made = s.made;
+    } };
 
     // It stands for some graph.
-    ghost invariant = { λ s. HoldsSome (record { config = s.config; words = s.words.items; roots = s.roots; taken = s.taken; used = s.used; made = s.made }) };
+    ghost invariant = { λ s. HoldsSome (record {
+      config = s.config;
+      words = s.words.items;
+      roots = s.roots;
+      taken = s.taken;
+      used = s.used;
+      made = s.made;
+    }) };
 }
 
 impl SmallHeap {
-    /// The heap with the hub alone, which root 0 names.
+    /// The heap with the hub alone, which root 0 names. It takes memory for the words of all regions.
     pub fn open(alloc: Global, config: Config) -> Result<SmallHeap, NoMemory>
         ensures config { IfOk result (λ heap. heap.config ≡ config) }
         ensures fresh { IfOk result (λ heap. IsFresh heap) }
@@ -90,8 +104,8 @@ impl SmallHeap {
         &self.roots
     }
 
-    /// Runs a command of thread 1. `None`, and nothing changes, where a `New` needs a region beyond those that objects
-    /// may use.
+    /// Runs a command of thread 1: a `New`, a `Get` or a `Set`. `None`, and nothing changes, where a `New` needs a region
+    /// beyond those that objects may use.
     pub fn apply(&mut self, command: Command) -> Option<Reply>
         requires valid { IsValid command }
         requires built { IsBuilt command }

@@ -41,7 +41,7 @@ fn three_large_objects_fit(rt: HostRuntime) -> Result<(), Fail> {
     Ok(())
 }
 
-// A region holds an object of 35 words and one of 29, and with one more region in the reserve there is no other.
+// With two of four regions in the reserve objects have one. One of 35 words and one of 29 fill it to the last word.
 #[test]
 fn the_reserve_is_left(rt: HostRuntime) -> Result<(), Fail> {
     let config = Config::new(4, 64, 1, 0, 2)?;
