@@ -7,18 +7,22 @@ use Rattle.heap_words.specs.Encoding.{refs_in, nums_in, object_words}
 abbrev pub has : List ℕ → ℕ → Bool
 has words word = list_any (nat_eq word) words
 
--- The object whose header is the word at an index of the heap: its shape word, its references, its numbers and its size.
+-- The parts of the object whose header is the word at an index of the heap.
 
+-- its shape word
 abbrev pub shape_at : List ℕ → ℕ → ℕ
 shape_at heap k = slice_index heap (k + 1)
 
+-- the words of its references
 abbrev pub refs_at : List ℕ → ℕ → List ℕ
 refs_at heap k = slice_range heap (k + 3) (k + 3 + refs_in (shape_at heap k))
 
+-- its numbers
 abbrev pub nums_at : List ℕ → ℕ → List ℕ
 nums_at heap k =
     slice_range heap (k + 3 + refs_in (shape_at heap k)) (k + 3 + refs_in (shape_at heap k) + nums_in (shape_at heap k))
 
+-- how many words it has
 abbrev pub words_at : List ℕ → ℕ → ℕ
 words_at heap k = object_words (shape_at heap k)
 
