@@ -1,2 +1,5 @@
 pub mod TextLemmas
 pub mod OrderLemmas
+pub mod PlainLemmas
+pub mod ReachLemmas
+pub mod StepLemmas

@@ -8,3 +8,5 @@ pub mod Work
 pub mod GraphText
 pub mod TextLayout
 pub mod TextRoom
+pub mod PlainGraph
+pub mod Found

@@ -1,5 +1,5 @@
-//! The graph that a heap stands for: names, commands and replies, scripts and what they were answered, and the rows of
-//! a graph that is to be written.
+//! The graph that a heap stands for: names, commands and replies, scripts and what they were answered, the plain graph
+//! that a heap is judged by, and the rows of a graph that is to be written.
 //!
 //! The definitions that the whole project is believed by stand in `specs/`: the graph and the step of each command
 //! (`Graph`, `Step`), histories (`History`), reachability (`Reach`) and crowding (`Crowd`).
@@ -10,12 +10,14 @@ use std::alloc::{AllocError, AllocFailed};
 mod command;
 mod graph_text;
 mod name;
+mod plain_graph;
 mod script;
 mod work;
 
 pub use command::{Command, Reply};
 pub use graph_text::GraphText;
 pub use name::Name;
+pub use plain_graph::PlainGraph;
 pub use script::Script;
 pub use work::{Replies, Work};
 
@@ -34,3 +36,6 @@ impl<T: Drop> From<AllocFailed<T>> for NoMemory {
         NoMemory
     }
 }
+
+#[cfg(test)]
+mod tests;

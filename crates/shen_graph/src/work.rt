@@ -130,8 +130,7 @@ impl Work {
     /// What the mutator's commands were answered so far.
     pub fn replies(&self, mutator: usize) -> &Replies
         requires { HasScript self.now mutator }
-        ensures replies { result.now.list ≡ replies_of self.now mutator }
-        ensures mutator { mutator < 8 }
+        ensures { result.now.list ≡ replies_of self.now mutator }
     {
         let jobs = &self.jobs;
         match &jobs[mutator] {
