@@ -130,7 +130,8 @@ impl Work {
     /// What the mutator's commands were answered so far.
     pub fn replies(&self, mutator: usize) -> &Replies
         requires { HasScript self.now mutator }
-        ensures { result.now.list ≡ replies_of self.now mutator }
+        ensures replies { result.now.list ≡ replies_of self.now mutator }
+        ensures mutator { mutator < 8 }
     {
         let jobs = &self.jobs;
         match &jobs[mutator] {

@@ -25,7 +25,8 @@ test_itself (x ∷ xs) = rw (same_number x) (test_itself xs)
 pub one_word : {X : Type 0} (f : X → List ℕ) (words : List X) (w : X) (text : List ℕ) (r : Bool) → 1 ≤ length words → length words < 2 → w ≡ get_or words 0 w → r ≡ pointwise eqb (f w) text
     → (r ≡ true → map f words ≡ text ∷ []) × (map f words ≡ text ∷ [] → r ≡ true)
 one_word f [] w text r some few is e = absurd (omega arith)
-one_word f (x ∷ []) w text r some few is e =
-    ( (λ h. ap (λ (t : List ℕ). t ∷ []) (sym (ap f is) ∙ same_from_test (f w) text (sym e ∙ h)))
-    , (λ h. let same : f w ≡ text = ap f is ∙ cc in e ∙ ap (λ (t : List ℕ). pointwise eqb t text) same ∙ test_itself text) )
+one_word f (x ∷ []) w text r some few is e = (
+  (λ h. ap (λ (t : List ℕ). t ∷ []) (sym (ap f is) ∙ same_from_test (f w) text (sym e ∙ h))),
+  (λ h. let same : f w ≡ text = ap f is ∙ cc in e ∙ ap (λ (t : List ℕ). pointwise eqb t text) same ∙ test_itself text),
+)
 one_word f (x ∷ y ∷ words) w text r some few is e = absurd (omega arith)

@@ -1,0 +1,202 @@
+//! The program's worked examples: words and bytes in, bytes and a status out.
+ghost use Rattle.std.specs.Prelude.{◌≤◌};
+
+use crate::replay::shenrun;
+use crate::status::Status;
+use shen_base::{Failed, MemorySink, MemorySource, Source};
+use std::alloc::Global;
+use std::test::Fail;
+
+/// A trace behind `heap 4 64 0` and `threads 1 0`, what is written, and the status.
+struct Case {
+    commands: &'static str,
+    written: &'static str,
+    status: Status,
+}
+
+const HEAD: &str = "shen 1\nheap 4 64 0\nthreads 1 0\n";
+
+const STORED: &str = "1 new 1 1 1\n1 set 0 3 1\n1 get 2 0 3\n";
+
+const STORED_ANSWER: &str =
+    "1 1.1\n1 ok\n1 1.1\ngraph\nobject 0.1 - - - 1.1 - - - - - - - - - - - - /\nobject 1.1 - / 0\nroots 1 0.1 1.1 1.1 - - - - - - - - - - - - -\n";
+
+/// Runs the program on words and bytes. The source and the sink move at most `piece` bytes a call, and the calls with
+/// these numbers fail.
+fn outcome(
+    alloc: Global,
+    words: &[&str],
+    bytes: &[u8],
+    piece: usize,
+    reads: &[u64],
+    writes: &[u64],
+) -> Result<(Status, Vec<u8>), Fail>
+    requires { 1 ≤ piece }
+{
+    let mut list = Vec::new(alloc);
+    for word in words {
+        list.push(String::from_str(alloc, word)?)?;
+    }
+    let bytes = Vec::from_slice(alloc, bytes)?;
+    let mut source = MemorySource::new(bytes, piece, Vec::from_slice(alloc, reads)?);
+    let mut sink = MemorySink::with_room(alloc, 4096, piece, Vec::from_slice(alloc, writes)?)?;
+    let status = shenrun(alloc, &list, &mut source, &mut sink);
+    Ok((status, Vec::from_slice(alloc, sink.bytes())?))
+}
+
+/// A trace of `HEAD` and these commands.
+fn trace_of(alloc: Global, commands: &str) -> Result<Vec<u8>, Fail> {
+    let mut bytes = Vec::from_slice(alloc, HEAD.as_bytes())?;
+    bytes.extend_from_slice(commands.as_bytes())?;
+    Ok(bytes)
+}
+
+#[test]
+fn traces_are_answered_or_refused(rt: HostRuntime) -> Result<(), Fail> {
+    let cases = [
+        Case {
+            commands: STORED,
+            written: STORED_ANSWER,
+            status: Status::Ok,
+        },
+        // No command at all.
+        Case {
+            commands: "",
+            written: "graph\nobject 0.1 - - - - - - - - - - - - - - - - /\nroots 1 0.1 - - - - - - - - - - - - - - -\n",
+            status: Status::Ok,
+        },
+        // A null root, and a field behind the last.
+        Case {
+            commands: "1 get 1 5 0\n1 get 1 0 16\n1 set 0 15 5\n",
+            written: "1 bad\n1 bad\n1 ok\ngraph\nobject 0.1 - - - - - - - - - - - - - - - - /\nroots 1 0.1 - - - - - - - - - - - - - - -\n",
+            status: Status::Ok,
+        },
+        // Three large objects fit, and four do not.
+        Case {
+            commands: "1 new 1 16 16\n1 new 2 16 16\n1 new 1 0 0\n1 set 2 0 1\n1 new 1 16 16\n1 new 2 0 0\n",
+            written: "1 1.1\n1 1.2\n1 1.3\n1 ok\n1 1.4\n1 1.5\ngraph\nobject 0.1 - - - - - - - - - - - - - - - - /\nobject 1.4 - - - - - - - - - - - - - - - - / 0 0 0 0 0 0 0 0 0 0 0 0 0 0 0 0\nobject 1.5 /\nroots 1 0.1 1.4 1.5 - - - - - - - - - - - - -\n",
+            status: Status::Ok,
+        },
+        Case {
+            commands: "1 new 1 16 16\n1 new 2 16 16\n1 new 3 16 16\n1 new 4 16 16\n",
+            written: "heap too small\n",
+            status: Status::BadTrace,
+        },
+        // Outside the grammar.
+        Case {
+            commands: "1 new 1 17 0\n",
+            written: "bad trace\n",
+            status: Status::BadTrace,
+        },
+        Case {
+            commands: "1 set 0 3 1",
+            written: "bad trace\n",
+            status: Status::BadTrace,
+        },
+        Case {
+            commands: "1 set 0 3  1\n",
+            written: "bad trace\n",
+            status: Status::BadTrace,
+        },
+        Case {
+            commands: "1 set 0 03 1\n",
+            written: "bad trace\n",
+            status: Status::BadTrace,
+        },
+        Case {
+            commands: "1 move 1\n1 set 0 3 1\n",
+            written: "bad trace\n",
+            status: Status::BadTrace,
+        },
+        Case {
+            commands: "2 set 0 3 1\n",
+            written: "bad trace\n",
+            status: Status::BadTrace,
+        },
+        Case {
+            commands: "1 gc\n",
+            written: "bad trace\n",
+            status: Status::BadTrace,
+        },
+    ];
+    for case in &cases {
+        let bytes = trace_of(rt.alloc(), case.commands)?;
+        for piece in [1, 7, 8, 4096] {
+            let (status, written) = outcome(rt.alloc(), &["replay"], &bytes, piece, &[], &[])?;
+            assert_eq!(rt; status, case.status, "{}", case.commands);
+            assert_eq!(rt;
+                written.as_slice(),
+                case.written.as_bytes(),
+                "{}",
+                case.commands
+            );
+        }
+    }
+    Ok(())
+}
+
+#[test]
+fn other_words_are_refused(rt: HostRuntime) -> Result<(), Fail> {
+    let bytes = trace_of(rt.alloc(), STORED)?;
+    let lists: [&[&str]; 5] = [
+        &[],
+        &["run"],
+        &["replay", "replay"],
+        &["Replay"],
+        &["--", "replay"],
+    ];
+    for words in lists {
+        let (status, written) = outcome(rt.alloc(), words, &bytes, 8, &[1], &[])?;
+        assert_eq!(rt; status, Status::BadWords);
+        assert_eq!(rt; written.as_slice(), b"bad words\n".as_slice());
+    }
+    assert_eq!(rt; Status::Unfinished.number(), 4);
+    Ok(())
+}
+
+#[test]
+fn each_fault_is_told(rt: HostRuntime) -> Result<(), Fail> {
+    let bytes = trace_of(rt.alloc(), STORED)?;
+    let answer = STORED_ANSWER.as_bytes();
+    for call in 1..9 {
+        let (status, written) = outcome(rt.alloc(), &["replay"], &bytes, 8, &[call], &[])?;
+        assert_eq!(rt; status, Status::ReadFault, "call {call}");
+        assert_eq!(rt; written.as_slice(), b"read fault\n".as_slice());
+    }
+    for call in 1..19 {
+        let (status, written) = outcome(rt.alloc(), &["replay"], &bytes, 8, &[], &[call])?;
+        assert_eq!(rt; status, Status::WriteFault, "call {call}");
+        assert_eq!(rt; written.len(), 8 * (call as usize - 1));
+        assert!(rt; answer.starts_with(&written));
+    }
+    Ok(())
+}
+
+/// A source without an end.
+struct Endless;
+
+impl Source for Endless {
+    ghost use Rattle.std.specs.Prelude.{None};
+
+    ghost left = { λ _. None };
+
+    ghost faults = { λ _. 0 };
+
+    fn read(&mut self, buf: &mut [u8]) -> Result<usize, Failed> {
+        Ok(buf.len())
+    }
+}
+
+#[test]
+fn too_many_bytes_are_refused(rt: HostRuntime) -> Result<(), Fail> {
+    let mut words = Vec::new(rt.alloc());
+    words.push(String::from_str(rt.alloc(), "replay")?)?;
+    let mut sink = MemorySink::with_room(rt.alloc(), 100, 100, Vec::new(rt.alloc()))?;
+    let status = shenrun(rt.alloc(), &words, &mut Endless, &mut sink);
+    assert_eq!(rt; status, Status::BadTrace);
+    assert_eq!(rt;
+        sink.bytes(),
+        b"too long: more than 16777216 bytes\n".as_slice()
+    );
+    Ok(())
+}
