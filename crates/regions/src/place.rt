@@ -1,6 +1,6 @@
 ghost use Rattle.std.specs.Prelude.{◌≡◌, ◌<◌};
 ghost use Rattle.heap_words.specs.Words.{Heap, IsWord};
-ghost use Rattle.regions.specs.Place.{region_with, base_of, IsOf, RegionsTile};
+ghost use Rattle.regions.specs.Place.{region_with, base_of, RegionsTile};
 
 use heap_words::Config;
 

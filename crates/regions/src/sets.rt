@@ -1,4 +1,4 @@
-ghost use Rattle.std.specs.Prelude.{◌≡◌, ◌<◌, IsSome, IfSome, IsNone, IsTrue, ◌↔◌};
+ghost use Rattle.std.specs.Prelude.{◌≡◌, ◌<◌, IfSome, IsNone, IsTrue, ◌↔◌};
 ghost use Rattle.regions.specs.Sets.{IsIn, IsLowest, members_below};
 
 /// Whether a region, counted from 0, is in a set.
