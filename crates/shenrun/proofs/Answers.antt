@@ -1,12 +1,11 @@
 -- From a run of the one script to the answer of a history.
-use Rattle.std.proofs.Common.{◌≡◌, ◌≢◌, ℕ, zero, suc, ◌+◌, ◌-◌, ◌<◌, ◌≤◌, Bool, true, false, cond, eqb, List, [], ◌∷◌, ◌++◌, length, get_or, map, Option, Some, None, refl, sym, ap, subst, ◌∙◌, lit<, arith}
-use Rattle.std.specs.Prelude.{All, filter, slice_index_or}
+use Rattle.std.proofs.Common.{◌≡◌, ◌≢◌, ℕ, zero, suc, ◌-◌, ◌<◌, true, false, eqb, List, [], ◌∷◌, length, get_or, map, Option, None, refl, sym, ap, subst, ◌∙◌, lit<, arith}
+use Rattle.std.specs.Prelude.{All, slice_index_or}
 use Rattle.std.specs.List.{range_with_len}
 use Rattle.std.proofs.lemmas.Bool.Decides.{nat_tests}
 use Rattle.std.proofs.lemmas.List.{get_or_past}
 use Rattle.std.proofs.lemmas.List.FromFn.{get_or-map-range_with_len}
 use Rattle.shen_graph.specs.declared.command.Command.{Command}
-use Rattle.shen_graph.specs.declared.command.Reply.{Reply}
 use Rattle.shen_graph.specs.Graph.{Reference, Graph, opening}
 use Rattle.shen_graph.specs.GraphText.{Text, Row, names_of, root_of}
 use Rattle.shen_graph.specs.History.{Entry, after, of_thread, commands_of, EachIsLegal, Follows}

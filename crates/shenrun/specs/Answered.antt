@@ -1,5 +1,5 @@
 -- What each status of the program means: what was asked for, what came in, and what may be written.
-use Rattle.std.specs.Prelude.{ℕ, ◌≡◌, ◌-◌, ◌+◌, ◌<◌, ◌≤◌, ◌⊎◌, List, [], ◌∷◌, length, map, codes, slice_index_or, Option}
+use Rattle.std.specs.Prelude.{ℕ, ◌≡◌, ◌-◌, ◌+◌, ◌<◌, ◌≤◌, ◌⊎◌, List, [], ◌∷◌, length, codes, slice_index_or, Option}
 use Rattle.std.specs.Io.KnownBytes.{Appends, Consumes}
 use Rattle.shen_base.specs.Count.{Rose}
 use Rattle.shen_graph.specs.declared.command.Command.{Command}

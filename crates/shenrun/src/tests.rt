@@ -8,6 +8,7 @@ use std::alloc::Global;
 use std::test::Fail;
 
 /// A trace behind `heap 4 64 0` and `threads 1 0`, what is written, and the status.
+#[derive(Drop)]
 struct Case {
     commands: &'static str,
     written: &'static str,
@@ -173,6 +174,7 @@ fn each_fault_is_told(rt: HostRuntime) -> Result<(), Fail> {
 }
 
 /// A source without an end.
+#[derive(Drop)]
 struct Endless;
 
 impl Source for Endless {

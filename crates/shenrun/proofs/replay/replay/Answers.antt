@@ -1,4 +1,4 @@
-use Rattle.std.proofs.Common.{◌≡◌, Err, inl, inr, ap, refl}
+use Rattle.std.proofs.Common.{inl, inr, refl}
 use Rattle.trace_text.specs.Message.{line_text}
 use Rattle.trace_text.specs.declared.message.Line.TheVariants as line
 use Rattle.trace_text.specs.Answer.{text_of}

@@ -1,0 +1,4 @@
+pub mod Place
+pub mod Sets
+pub mod Rooms
+pub mod Walk

@@ -1,0 +1,17 @@
+//! The regions of the heap (those of Shenandoah, JEP 189): where each one lies, sets of them such as
+//! the collection set, how much room they have left above their tops, and the walk from object to
+//! object in one.
+#![tactic(auto)]
+
+mod place;
+mod rooms;
+mod sets;
+mod walk;
+
+pub use place::{base, region_of, regions_tile};
+pub use rooms::{first_with_room, room};
+pub use sets::{is_in, lowest, size};
+pub use walk::{next_object, walks_meet_each};
+
+#[cfg(test)]
+mod tests;

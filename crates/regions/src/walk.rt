@@ -1,0 +1,23 @@
+ghost use Rattle.std.specs.Prelude.{◌≡◌, ◌+◌, ◌^◌, ◌<◌};
+ghost use Rattle.heap_words.specs.Encoding.{object_words};
+ghost use Rattle.regions.specs.Walk.{WalksMeetEach, ParsableIsWalked, WalkGoesOn, WalkStaysInRegion};
+
+use heap_words::words_of;
+
+/// The address behind the object that stands at `address`, counted in words, and has this shape word.
+/// For the last object of a region it is the region's base plus its top.
+pub fn next_object(address: u64, shape: u64) -> u64
+    requires { address < 2 ^ 62 }
+    ensures { result ≡ address + object_words shape }
+{
+    address + words_of(shape)
+}
+
+/// A law: a walk from a region's base, from object to object, meets each object once and ends at the
+/// top. It comes there where the region is parsable, as collectors call it.
+pub fn walks_meet_each()
+    ensures each { WalksMeetEach }
+    ensures exactly { ParsableIsWalked }
+    ensures goes_on { WalkGoesOn }
+    ensures in_region { WalkStaysInRegion }
+{}
