@@ -1,0 +1,141 @@
+-- A table of numbers as a memory of names.
+use Rattle.std.proofs.Common.{◌≡◌, ℕ, ◌+◌, ◌*◌, ◌<◌, ◌≤◌, Bool, true, false, ◌&&◌, cond, eqb, ltb, leb, List, length, get_or, set, refl, sym, ap, ◌∙◌, subst, ⊎_elim, arith, get_or-set_same, get_or-set_other}
+use Rattle.std.proofs.lemmas.Bool.{cases_Bool, cases_eq, eqb-true, eq-eqb, ltb-true, lt-ltb, leb-true, le-leb, and_parts, and_from, cond-true, cond-false, false≢true}
+use Rattle.std.proofs.Math.Path.{fun_ext}
+use Rattle.heap_words.specs.declared.config.Config.{Config}
+use Rattle.heap_words.specs.Words.{Word, Pause, Left, End, State, Phase, Cset, Free, Evac, Claim, Ask, Top, Tams, Limit, Current, Root, Count, Buffer, Wait, Answer, Grey, Black, Heap, same_word, IsWord, is_word, word_at, table_words, view, write, AreApart, IsStoreOfOne}
+use Rattle.heap_words.proofs.Rows.{word_inside, words_differ}
+
+pub same_word_refl : (w : Word) → same_word w w ≡ true
+same_word_refl Pause = refl
+same_word_refl Left = refl
+same_word_refl End = refl
+same_word_refl (State i) = eq-eqb i i refl
+same_word_refl Phase = refl
+same_word_refl Cset = refl
+same_word_refl Free = refl
+same_word_refl Evac = refl
+same_word_refl Claim = refl
+same_word_refl Ask = refl
+same_word_refl (Top r) = eq-eqb r r refl
+same_word_refl (Tams r) = eq-eqb r r refl
+same_word_refl (Limit r) = eq-eqb r r refl
+same_word_refl (Current i) = eq-eqb i i refl
+same_word_refl (Root t i) = and_from _ _ (eq-eqb t t refl) (eq-eqb i i refl)
+same_word_refl (Count t) = eq-eqb t t refl
+same_word_refl (Buffer t i) = and_from _ _ (eq-eqb t t refl) (eq-eqb i i refl)
+same_word_refl (Wait t) = eq-eqb t t refl
+same_word_refl (Answer t) = eq-eqb t t refl
+same_word_refl (Grey k) = eq-eqb k k refl
+same_word_refl (Black k) = eq-eqb k k refl
+same_word_refl (Heap a) = eq-eqb a a refl
+
+-- a test of two pairs of numbers
+pub both_equal : (a b x y : ℕ) → (eqb a b && eqb x y) ≡ true → (a ≡ b) × (x ≡ y)
+both_equal a b x y e = let p = and_parts (eqb a b) (eqb x y) e in (eqb-true a b p.0, eqb-true x y p.1)
+
+pub same_word_true : (v w : Word) → same_word v w ≡ true → v ≡ w
+same_word_true Pause Pause e = refl
+same_word_true Left Left e = refl
+same_word_true End End e = refl
+same_word_true (State i) (State j) e = ap State (eqb-true i j e)
+same_word_true Phase Phase e = refl
+same_word_true Cset Cset e = refl
+same_word_true Free Free e = refl
+same_word_true Evac Evac e = refl
+same_word_true Claim Claim e = refl
+same_word_true Ask Ask e = refl
+same_word_true (Top r) (Top s) e = ap Top (eqb-true r s e)
+same_word_true (Tams r) (Tams s) e = ap Tams (eqb-true r s e)
+same_word_true (Limit r) (Limit s) e = ap Limit (eqb-true r s e)
+same_word_true (Current i) (Current j) e = ap Current (eqb-true i j e)
+same_word_true (Root t i) (Root u j) e = let p = both_equal t u i j e in cc
+same_word_true (Count t) (Count u) e = ap Count (eqb-true t u e)
+same_word_true (Buffer t i) (Buffer u j) e = let p = both_equal t u i j e in cc
+same_word_true (Wait t) (Wait u) e = ap Wait (eqb-true t u e)
+same_word_true (Answer t) (Answer u) e = ap Answer (eqb-true t u e)
+same_word_true (Grey k) (Grey l) e = ap Grey (eqb-true k l e)
+same_word_true (Black k) (Black l) e = ap Black (eqb-true k l e)
+same_word_true (Heap a) (Heap b) e = ap Heap (eqb-true a b e)
+same_word_true _ _ e = absurd (false≢true e)
+
+-- the test of a name says that there is such a word
+pub is_word_true : (c : Config) (w : Word) → is_word c w ≡ true → IsWord c w
+is_word_true c (State i) e = ltb-true _ _ e
+is_word_true c (Top r) e = ltb-true _ _ e
+is_word_true c (Tams r) e = ltb-true _ _ e
+is_word_true c (Limit r) e = ltb-true _ _ e
+is_word_true c (Current i) e = ltb-true _ _ e
+is_word_true c (Root t i) e = let p = and_parts (ltb t c.mutators) (ltb i 16) e in (ltb-true _ _ p.0, ltb-true _ _ p.1)
+is_word_true c (Count t) e = ltb-true _ _ e
+is_word_true c (Buffer t i) e = let p = and_parts (ltb t c.mutators) (ltb i 8) e in (ltb-true _ _ p.0, ltb-true _ _ p.1)
+is_word_true c (Wait t) e = ltb-true _ _ e
+is_word_true c (Answer t) e = ltb-true _ _ e
+is_word_true c (Grey k) e = ltb-true _ _ e
+is_word_true c (Black k) e = ltb-true _ _ e
+is_word_true c (Heap a) e =
+    let p = and_parts (leb c.region_words a) (ltb a ((c.regions + 1) * c.region_words)) e in
+    (leb-true _ _ p.0, ltb-true _ _ p.1)
+is_word_true c _ e = tt
+
+pub is_word_from : (c : Config) (w : Word) → IsWord c w → is_word c w ≡ true
+is_word_from c (State i) h = lt-ltb _ _ h
+is_word_from c (Top r) h = lt-ltb _ _ h
+is_word_from c (Tams r) h = lt-ltb _ _ h
+is_word_from c (Limit r) h = lt-ltb _ _ h
+is_word_from c (Current i) h = lt-ltb _ _ h
+is_word_from c (Root t i) h = and_from _ _ (lt-ltb _ _ h.0) (lt-ltb _ _ h.1)
+is_word_from c (Count t) h = lt-ltb _ _ h
+is_word_from c (Buffer t i) h = and_from _ _ (lt-ltb _ _ h.0) (lt-ltb _ _ h.1)
+is_word_from c (Wait t) h = lt-ltb _ _ h
+is_word_from c (Answer t) h = lt-ltb _ _ h
+is_word_from c (Grey k) h = lt-ltb _ _ h
+is_word_from c (Black k) h = lt-ltb _ _ h
+is_word_from c (Heap a) h = and_from _ _ (le-leb _ _ h.0) (lt-ltb _ _ h.1)
+is_word_from c _ h = refl
+
+-- what a word reads
+pub view_word : (c : Config) (words : List ℕ) (w : Word) → IsWord c w → view c words w ≡ get_or words (word_at c w) 0
+view_word c words w h = cond-true (is_word c w) _ _ (is_word_from c w h)
+
+-- what a name reads that is no word
+pub view_none : (c : Config) (words : List ℕ) (w : Word) → is_word c w ≡ false → view c words w ≡ 0
+view_none c words w e = cond-false (is_word c w) _ _ e
+
+-- a store at another word's place
+pub store_other : (c : Config) (words : List ℕ) (at : Word) (value : ℕ) (w : Word) → IsWord c at → same_word at w ≡ false → view c (set words (word_at c at) value) w ≡ view c words w
+store_other c words at value w is_at differ =
+    ⊎_elim
+    (λ (is_w : is_word c w ≡ true).
+    let word : IsWord c w = is_word_true c w is_w in
+    let apart : word_at c w ≡ word_at c at → ⊥ =
+    λ e. false≢true (sym differ ∙ ap (same_word at) (words_differ c w at word is_at e) ∙ same_word_refl at) in
+    view_word c _ w word ∙ get_or-set_other words (word_at c at) (word_at c w) value 0 apart ∙ sym (view_word c words w word))
+    (λ (no_w : is_word c w ≡ false). view_none c _ w no_w ∙ sym (view_none c words w no_w))
+    (cases_Bool (is_word c w))
+
+-- a store at a word's own place
+pub store_same : (c : Config) (words : List ℕ) (at : Word) (value : ℕ) → length words ≡ table_words c → IsWord c at → view c (set words (word_at c at) value) at ≡ value
+store_same c words at value whole is_at =
+    let inside : word_at c at < length words = omega (arith, word_inside c at is_at) in
+    view_word c _ at is_at ∙ get_or-set_same words (word_at c at) value 0 inside
+
+pub view_set : (c : Config) (words : List ℕ) (at : Word) (value : ℕ) (w : Word) → length words ≡ table_words c → IsWord c at → view c (set words (word_at c at) value) w ≡ write (view c words) at value w
+view_set c words at value w whole is_at =
+    ⊎_elim
+    (λ (same : same_word at w ≡ true).
+    ap (view c (set words (word_at c at) value)) (sym (same_word_true at w same))
+    ∙ store_same c words at value whole is_at ∙ sym (cond-true (same_word at w) value (view c words w) same))
+    (λ (differ : same_word at w ≡ false).
+    store_other c words at value w is_at differ ∙ sym (cond-false (same_word at w) value (view c words w) differ))
+    (cases_Bool (same_word at w))
+
+-- the same of whole memories
+pub view_set_all : (c : Config) (words : List ℕ) (at : Word) (value : ℕ) → length words ≡ table_words c → IsWord c at → view c (set words (word_at c at) value) ≡ write (view c words) at value
+view_set_all c words at value whole is_at = fun_ext (λ w. view_set c words at value w whole is_at)
+
+pub are_apart : AreApart
+are_apart = record { inside = word_inside; apart = words_differ }
+
+pub is_store_of_one : IsStoreOfOne
+is_store_of_one = record { stored = view_set; read = view_word }

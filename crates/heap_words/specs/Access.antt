@@ -1,0 +1,30 @@
+-- What an access does to the word at its place.
+use Rattle.std.specs.Prelude.{ℕ, ◌+◌, ◌-◌, ◌%◌, ◌^◌, ◌==◌, bit_and, bit_or, if◌then◌else◌}
+use Rattle.heap_words.specs.declared.access.Access.{Access}
+use Rattle.heap_words.specs.declared.access.Access.TheVariants.{Load, Store, Swap, Add, Sub, And, Or, Exchange}
+
+-- the place of the word
+abbrev pub place_of : Access → ℕ
+place_of (Load at) = at
+place_of (Store at value) = at
+place_of (Swap at value) = at
+place_of (Add at value) = at
+place_of (Sub at value) = at
+place_of (And at value) = at
+place_of (Or at value) = at
+place_of (Exchange at expect value) = at
+
+-- what the word is after the access, by what it was before
+abbrev pub made_of : Access → ℕ → ℕ
+made_of (Load at) found = found
+made_of (Store at value) found = value
+made_of (Swap at value) found = value
+made_of (Add at value) found = (found + value) % 2 ^ 64
+made_of (Sub at value) found = (found + (2 ^ 64 - value)) % 2 ^ 64
+made_of (And at value) found = bit_and found value
+made_of (Or at value) found = bit_or found value
+made_of (Exchange at expect value) found = if found == expect then value else found
+
+-- what whoever made the access is told: the word before it
+abbrev pub told_of : Access → ℕ → ℕ
+told_of access found = found

@@ -1,0 +1,6 @@
+pub mod Ranges
+pub mod Faults
+pub mod Encoding
+pub mod Place
+pub mod Words
+pub mod Access

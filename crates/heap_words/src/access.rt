@@ -1,0 +1,119 @@
+ghost use Rattle.std.specs.Prelude.{◌≡◌, ◌^◌, ◌<◌};
+ghost use Rattle.heap_words.specs.Access.{place_of, made_of};
+
+/// One access of one word of the table, at the place `at`.
+#[derive(Clone, Copy, Debug, PartialEq, Eq)]
+pub enum Access {
+    /// Reads the word.
+    Load {
+        /// The place.
+        at: usize,
+    },
+    /// Writes the word.
+    Store {
+        /// The place.
+        at: usize,
+        /// What is written.
+        value: u64,
+    },
+    /// Reads the word and writes it.
+    Swap {
+        /// The place.
+        at: usize,
+        /// What is written.
+        value: u64,
+    },
+    /// Adds to the word, modulo 2^64.
+    Add {
+        /// The place.
+        at: usize,
+        /// What is added.
+        value: u64,
+    },
+    /// Subtracts from the word, modulo 2^64.
+    Sub {
+        /// The place.
+        at: usize,
+        /// What is subtracted.
+        value: u64,
+    },
+    /// Keeps those bits of the word that are also bits of `value`.
+    And {
+        /// The place.
+        at: usize,
+        /// The bits that may stay.
+        value: u64,
+    },
+    /// Sets the bits of `value` in the word.
+    Or {
+        /// The place.
+        at: usize,
+        /// The bits that are set.
+        value: u64,
+    },
+    /// Writes the word where it is `expect` (compare and exchange), and leaves it where not.
+    Exchange {
+        /// The place.
+        at: usize,
+        /// What the word must be.
+        expect: u64,
+        /// What is written then.
+        value: u64,
+    },
+}
+
+impl Access {
+    /// The place of the word that is accessed.
+    pub fn at(self) -> usize
+        ensures { result ≡ place_of self }
+    {
+        match self {
+            Access::Load { at } => at,
+            Access::Store { at, .. } => at,
+            Access::Swap { at, .. } => at,
+            Access::Add { at, .. } => at,
+            Access::Sub { at, .. } => at,
+            Access::And { at, .. } => at,
+            Access::Or { at, .. } => at,
+            Access::Exchange { at, .. } => at,
+        }
+    }
+
+    /// What the access makes of the word that it finds.
+    pub fn made(self, found: u64) -> u64
+        ensures { result ≡ made_of self found }
+    {
+        match self {
+            Access::Load { .. } => found,
+            Access::Store { value, .. } => value,
+            Access::Swap { value, .. } => value,
+            Access::Add { value, .. } => found.wrapping_add(value),
+            Access::Sub { value, .. } => found.wrapping_sub(value),
+            Access::And { value, .. } => found & value,
+            Access::Or { value, .. } => found | value,
+            Access::Exchange { expect, value, .. } => {
+                if found == expect { value } else { found }
+            }
+        }
+    }
+}
+
+/// What a machine says after a step.
+#[derive(Clone, Copy, Debug, PartialEq, Eq)]
+pub enum Took {
+    /// It has more to do.
+    More,
+    /// It waits for another machine, and will look again.
+    Again,
+    /// It has ended its call.
+    Done,
+}
+
+/// What a machine that does units of a phase's work says at the end of one.
+#[derive(Clone, Copy, Debug, PartialEq, Eq)]
+pub enum Unit {
+    /// It has done a unit.
+    Worked,
+    /// No unit was left to claim.
+    NoneLeft,
+}

@@ -1,0 +1,20 @@
+//! The words of the heap's table: where each one stands, how numbers are written into it, what an
+//! access makes of it, and the names of the places at which a machine can stand.
+#![tactic(auto)]
+
+mod access;
+mod config;
+mod encoding;
+mod place;
+mod schedule;
+mod words;
+
+pub use access::{Access, Took, Unit};
+pub use config::{BadConfig, Config};
+pub use encoding::{
+    count_of, forwarded, forwardee, header_to, name_word, nums_of, readers_undo, refs_of,
+    request_count, request_shape, request_word, shape_of, thread_of, words_of,
+};
+pub use place::Place;
+pub use schedule::{Item, NoMemory, Schedule};
+pub use words::words_apart;
