@@ -1,9 +1,9 @@
 -- The words of one kind stand in a row, and the rows one after another: so no two words share a place.
-use Rattle.std.proofs.Common.{◌≡◌, ℕ, ◌+◌, ◌-◌, ◌*◌, ◌/◌, ◌%◌, ◌<◌, ◌≤◌, ◌⊎◌, inl, inr, ⊎_elim, List, [], ◌∷◌, get_or, refl, sym, ap, ◌∙◌, arith, zero, suc}
-use Rattle.std.proofs.lemmas.Bool.{cases_order}
+use Rattle.std.proofs.Common.{leb, ◌≡◌, ℕ, ◌+◌, ◌-◌, ◌*◌, ◌/◌, ◌%◌, ◌<◌, ◌≤◌, ◌⊎◌, inl, inr, ⊎_elim, List, [], ◌∷◌, get_or, refl, sym, ap, ◌∙◌, arith, zero, suc}
+use Rattle.std.proofs.lemmas.Bool.{cases_order, le-leb, lt-leb}
 use Rattle.heap_words.specs.declared.config.Config.{Config}
 use Rattle.heap_words.specs.Ranges.{seat_count}
-use Rattle.heap_words.specs.Words.{Word, Pause, Left, End, State, Phase, Cset, Free, Evac, Claim, Ask, Top, Tams, Limit, Current, Root, Count, Buffer, Wait, Answer, Grey, Black, Heap, IsWord, word_at, table_words, heap_size, bit_words}
+use Rattle.heap_words.specs.Words.{Word, Pause, Left, End, State, Phase, Cset, Free, Evac, Claim, Ask, Top, Tams, Limit, Current, Root, Count, Buffer, Wait, Answer, Grey, Black, Heap, IsWord, word_at, table_words, heap_size, bit_words, image_start, is_image}
 
 -- where a row begins, by the sizes of all rows
 abbrev pub row_start : List ℕ → ℕ → ℕ
@@ -187,3 +187,11 @@ words_differ c v w is_v is_w same =
     let offsets : offset c v ≡ offset c w = omega (arith, ap (row_start (sizes c)) rows) in
     sym (named c v is_v) ∙ ap (λ x. get_or (words_at c x) (row v) Pause) offsets
     ∙ ap (λ k. get_or (words_at c (offset c w)) k Pause) rows ∙ named c w is_w
+
+-- the words before the image are those of the handshake
+pub is_image-word_at : (c : Config) (w : Word) → IsWord c w → is_image w ≡ leb (image_start c) (word_at c w)
+is_image-word_at c Pause h = sym (lt-leb (image_start c) 0 (omega arith))
+is_image-word_at c Left h = sym (lt-leb (image_start c) 1 (omega arith))
+is_image-word_at c End h = sym (lt-leb (image_start c) 2 (omega arith))
+is_image-word_at c (State i) h = sym (lt-leb (image_start c) (3 + i) (omega arith))
+is_image-word_at c w h = sym (le-leb (image_start c) (word_at c w) (omega arith))

@@ -4,7 +4,7 @@ use Rattle.std.proofs.lemmas.Bool.{cases_Bool, cases_eq, eqb-true, eq-eqb, ltb-t
 use Rattle.std.proofs.Math.Path.{fun_ext}
 use Rattle.heap_words.specs.declared.config.Config.{Config}
 use Rattle.heap_words.specs.Words.{Word, Pause, Left, End, State, Phase, Cset, Free, Evac, Claim, Ask, Top, Tams, Limit, Current, Root, Count, Buffer, Wait, Answer, Grey, Black, Heap, same_word, IsWord, is_word, word_at, table_words, view, write, AreApart, IsStoreOfOne}
-use Rattle.heap_words.proofs.Rows.{word_inside, words_differ}
+use Rattle.heap_words.proofs.Rows.{word_inside, words_differ, is_image-word_at}
 
 pub same_word_refl : (w : Word) → same_word w w ≡ true
 same_word_refl Pause = refl
@@ -135,7 +135,7 @@ pub view_set_all : (c : Config) (words : List ℕ) (at : Word) (value : ℕ) →
 view_set_all c words at value whole is_at = fun_ext (λ w. view_set c words at value w whole is_at)
 
 pub are_apart : AreApart
-are_apart = record { inside = word_inside; apart = words_differ }
+are_apart = record { inside = word_inside; apart = words_differ; image = is_image-word_at }
 
 pub is_store_of_one : IsStoreOfOne
-is_store_of_one = record { stored = view_set; read = view_word }
+is_store_of_one = record { read = view_word; stored = view_set }

@@ -62,6 +62,7 @@ pub record HeadersUndo : Type 0 where
   pub forwarded : (address : ℕ) → is_forwarded (header_word address) ≡ true
   pub forwardee : (address : ℕ) → forwardee_in (header_word address) ≡ address
   pub plain : is_forwarded plain_header ≡ false
+  pub whole : (header : ℕ) → is_forwarded header ≡ true → header_word (forwardee_in header) ≡ header
 
 -- a shape word reads as the fields that it was made of
 pub record ShapesUndo : Type 0 where
@@ -73,8 +74,10 @@ pub record ShapesUndo : Type 0 where
 pub record NamesUndo : Type 0 where
   pub thread : (thread count : ℕ) → count < 2 ^ 32 → thread_in (name_code thread count) ≡ thread
   pub count : (thread count : ℕ) → count < 2 ^ 32 → count_in (name_code thread count) ≡ count
+  pub whole : (name : ℕ) → name_code (thread_in name) (count_in name) ≡ name
 
 -- a request reads as the count and the shape word that it was made of
 pub record RequestsUndo : Type 0 where
   pub count : (count shape : ℕ) → shape < 2 ^ 32 → request_count_in (request_code count shape) ≡ count
   pub shape : (count shape : ℕ) → shape < 2 ^ 32 → request_shape_in (request_code count shape) ≡ shape
+  pub whole : (request : ℕ) → request_code (request_count_in request) (request_shape_in request) ≡ request

@@ -149,12 +149,24 @@ view c words w = if is_word c w then slice_index words (word_at c w) else 0
 abbrev pub write : (Word → ℕ) → Word → ℕ → Word → ℕ
 write memory at value w = if same_word at w then value else memory w
 
--- each word stands in the table, and two names never stand at one place
+-- whether a word is of the image: those that a pause reads and may change
+abbrev pub is_image : Word → Bool
+is_image Pause = false
+is_image Left = false
+is_image End = false
+is_image (State i) = false
+is_image _ = true
+
+-- each word stands in the table, two names never stand at one place, and the image is the end of the table
 pub record AreApart : Type 0 where
   pub inside : (c : Config) (w : Word) → IsWord c w → word_at c w < table_words c
   pub apart : (c : Config) (v w : Word) → IsWord c v → IsWord c w → word_at c v ≡ word_at c w → v ≡ w
+  pub image : (c : Config) (w : Word) → IsWord c w → is_image w ≡ nat_le (image_start c) (word_at c w)
 
--- a number written at a word's place is written at its name, and at no other
+-- a number that is stored at a word's place is stored at its name, and at no other
 pub record IsStoreOfOne : Type 0 where
-  pub stored : (c : Config) (words : List ℕ) (at : Word) (value : ℕ) (w : Word) → length words ≡ table_words c → IsWord c at → view c (slice_set words (word_at c at) value) w ≡ write (view c words) at value w
-  pub read : (c : Config) (words : List ℕ) (w : Word) → IsWord c w → view c words w ≡ slice_index words (word_at c w)
+  pub read : (c : Config) (words : List ℕ) (w : Word)
+      → IsWord c w → view c words w ≡ slice_index words (word_at c w)
+  pub stored : (c : Config) (words : List ℕ) (at : Word) (value : ℕ) (w : Word)
+      → length words ≡ table_words c → IsWord c at
+      → view c (slice_set words (word_at c at) value) w ≡ write (view c words) at value w
