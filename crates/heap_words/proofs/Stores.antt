@@ -1,6 +1,6 @@
 -- A table of numbers as a memory of names.
-use Rattle.std.proofs.Common.{◌≡◌, ℕ, ◌+◌, ◌*◌, ◌<◌, ◌≤◌, Bool, true, false, ◌&&◌, cond, eqb, ltb, leb, List, length, get_or, set, refl, sym, ap, ◌∙◌, subst, ⊎_elim, arith, get_or-set_same, get_or-set_other}
-use Rattle.std.proofs.lemmas.Bool.{cases_Bool, cases_eq, eqb-true, eq-eqb, ltb-true, lt-ltb, leb-true, le-leb, and_parts, and_from, cond-true, cond-false, false≢true}
+use Rattle.std.proofs.Common.{◌≡◌, ℕ, ◌+◌, ◌*◌, ◌<◌, true, false, ◌&&◌, eqb, ltb, leb, List, length, get_or, set, refl, sym, ap, ◌∙◌, ⊎_elim, arith, get_or-set_same, get_or-set_other}
+use Rattle.std.proofs.lemmas.Bool.{cases_Bool, eqb-true, eq-eqb, ltb-true, lt-ltb, leb-true, le-leb, and_parts, and_from, cond-true, cond-false, false≢true}
 use Rattle.std.proofs.Math.Path.{fun_ext}
 use Rattle.heap_words.specs.declared.config.Config.{Config}
 use Rattle.heap_words.specs.Words.{Word, Pause, Left, End, State, Phase, Cset, Free, Evac, Claim, Ask, Top, Tams, Limit, Current, Root, Count, Buffer, Wait, Answer, Grey, Black, Heap, same_word, IsWord, is_word, word_at, table_words, view, write, AreApart, IsStoreOfOne}
@@ -130,7 +130,14 @@ view_set c words at value w whole is_at =
     store_other c words at value w is_at differ ∙ sym (cond-false (same_word at w) value (view c words w) differ))
     (cases_Bool (same_word at w))
 
--- the same of whole memories
+-- a written name reads what was written, and another as before
+pub write_same : (memory : Word → ℕ) (at : Word) (value : ℕ) → write memory at value at ≡ value
+write_same memory at value = cond-true (same_word at at) value (memory at) (same_word_refl at)
+
+pub write_other : (memory : Word → ℕ) (at : Word) (value : ℕ) (w : Word) → same_word at w ≡ false → write memory at value w ≡ memory w
+write_other memory at value w differ = cond-false (same_word at w) value (memory w) differ
+
+-- the store of whole memories
 pub view_set_all : (c : Config) (words : List ℕ) (at : Word) (value : ℕ) → length words ≡ table_words c → IsWord c at → view c (set words (word_at c at) value) ≡ write (view c words) at value
 view_set_all c words at value whole is_at = fun_ext (λ w. view_set c words at value w whole is_at)
 

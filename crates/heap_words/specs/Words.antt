@@ -56,117 +56,120 @@ same_word _ _ = false
 
 -- the words of the heap
 abbrev pub heap_size : Config → ℕ
-heap_size c = c.regions * c.region_words
+heap_size config = config.regions * config.region_words
 
 -- the words that have one bit for each word of the heap
 abbrev pub bit_words : Config → ℕ
-bit_words c = (heap_size c + 63) / 64
+bit_words config = (heap_size config + 63) / 64
 
 -- where the image begins: all that a pause may change stands from here on
 abbrev pub image_start : Config → ℕ
-image_start c = 3 + c.mutators + c.helpers
+image_start config = 3 + config.mutators + config.helpers
 
 -- where the words of the mutators begin
 abbrev pub roots_start : Config → ℕ
-roots_start c = image_start c + 7 + 3 * c.regions + c.mutators + c.helpers
+roots_start config = image_start config + 7 + 3 * config.regions + config.mutators + config.helpers
 
 -- where the grey words begin
 abbrev pub marks_start : Config → ℕ
-marks_start c = roots_start c + 27 * c.mutators
+marks_start config = roots_start config + 27 * config.mutators
 
 -- where the heap begins
 abbrev pub heap_start : Config → ℕ
-heap_start c = marks_start c + 2 * bit_words c
+heap_start config = marks_start config + 2 * bit_words config
 
 -- the words of the table
 abbrev pub table_words : Config → ℕ
-table_words c = heap_start c + heap_size c
+table_words config = heap_start config + heap_size config
 
 -- where a word stands
 abbrev pub word_at : Config → Word → ℕ
-word_at c Pause = 0
-word_at c Left = 1
-word_at c End = 2
-word_at c (State i) = 3 + i
-word_at c Phase = image_start c
-word_at c Cset = image_start c + 1
-word_at c Free = image_start c + 2
-word_at c Evac = image_start c + 3
-word_at c Claim = image_start c + 4
-word_at c Ask = image_start c + 5
-word_at c (Top r) = image_start c + 6 + r
-word_at c (Tams r) = image_start c + 6 + c.regions + r
-word_at c (Limit r) = image_start c + 6 + 2 * c.regions + r
-word_at c (Current i) = image_start c + 6 + 3 * c.regions + i
-word_at c (Root t i) = roots_start c + 16 * t + i
-word_at c (Count t) = roots_start c + 16 * c.mutators + t
-word_at c (Buffer t i) = roots_start c + 17 * c.mutators + 8 * t + i
-word_at c (Wait t) = roots_start c + 25 * c.mutators + t
-word_at c (Answer t) = roots_start c + 26 * c.mutators + t
-word_at c (Grey k) = marks_start c + k
-word_at c (Black k) = marks_start c + bit_words c + k
-word_at c (Heap a) = heap_start c + a - c.region_words
+word_at config Pause = 0
+word_at config Left = 1
+word_at config End = 2
+word_at config (State seat) = 3 + seat
+word_at config Phase = image_start config
+word_at config Cset = image_start config + 1
+word_at config Free = image_start config + 2
+word_at config Evac = image_start config + 3
+word_at config Claim = image_start config + 4
+word_at config Ask = image_start config + 5
+word_at config (Top region) = image_start config + 6 + region
+word_at config (Tams region) = image_start config + 6 + config.regions + region
+word_at config (Limit region) = image_start config + 6 + 2 * config.regions + region
+word_at config (Current seat) = image_start config + 6 + 3 * config.regions + seat
+word_at config (Root mutator index) = roots_start config + 16 * mutator + index
+word_at config (Count mutator) = roots_start config + 16 * config.mutators + mutator
+word_at config (Buffer mutator entry) = roots_start config + 17 * config.mutators + 8 * mutator + entry
+word_at config (Wait mutator) = roots_start config + 25 * config.mutators + mutator
+word_at config (Answer mutator) = roots_start config + 26 * config.mutators + mutator
+word_at config (Grey number) = marks_start config + number
+word_at config (Black number) = marks_start config + bit_words config + number
+word_at config (Heap address) = heap_start config + address - config.region_words
 
 -- the numbers of a name are in range: there is such a word
 abbrev pub IsWord : Config → Word → Type 0
-IsWord c (State i) = i < c.mutators + c.helpers
-IsWord c (Top r) = r < c.regions
-IsWord c (Tams r) = r < c.regions
-IsWord c (Limit r) = r < c.regions
-IsWord c (Current i) = i < seat_count c.mutators c.helpers
-IsWord c (Root t i) = (t < c.mutators) × (i < 16)
-IsWord c (Count t) = t < c.mutators
-IsWord c (Buffer t i) = (t < c.mutators) × (i < 8)
-IsWord c (Wait t) = t < c.mutators
-IsWord c (Answer t) = t < c.mutators
-IsWord c (Grey k) = k < bit_words c
-IsWord c (Black k) = k < bit_words c
-IsWord c (Heap a) = (c.region_words ≤ a) × (a < (c.regions + 1) * c.region_words)
-IsWord c _ = ⊤
+IsWord config (State seat) = seat < config.mutators + config.helpers
+IsWord config (Top region) = region < config.regions
+IsWord config (Tams region) = region < config.regions
+IsWord config (Limit region) = region < config.regions
+IsWord config (Current seat) = seat < seat_count config.mutators config.helpers
+IsWord config (Root mutator index) = (mutator < config.mutators) × (index < 16)
+IsWord config (Count mutator) = mutator < config.mutators
+IsWord config (Buffer mutator entry) = (mutator < config.mutators) × (entry < 8)
+IsWord config (Wait mutator) = mutator < config.mutators
+IsWord config (Answer mutator) = mutator < config.mutators
+IsWord config (Grey number) = number < bit_words config
+IsWord config (Black number) = number < bit_words config
+IsWord config (Heap address) = (config.region_words ≤ address) × (address < (config.regions + 1) * config.region_words)
+IsWord config _ = ⊤
 
 -- whether there is such a word
 abbrev pub is_word : Config → Word → Bool
-is_word c (State i) = nat_lt i (c.mutators + c.helpers)
-is_word c (Top r) = nat_lt r c.regions
-is_word c (Tams r) = nat_lt r c.regions
-is_word c (Limit r) = nat_lt r c.regions
-is_word c (Current i) = nat_lt i (seat_count c.mutators c.helpers)
-is_word c (Root t i) = nat_lt t c.mutators && nat_lt i 16
-is_word c (Count t) = nat_lt t c.mutators
-is_word c (Buffer t i) = nat_lt t c.mutators && nat_lt i 8
-is_word c (Wait t) = nat_lt t c.mutators
-is_word c (Answer t) = nat_lt t c.mutators
-is_word c (Grey k) = nat_lt k (bit_words c)
-is_word c (Black k) = nat_lt k (bit_words c)
-is_word c (Heap a) = nat_le c.region_words a && nat_lt a ((c.regions + 1) * c.region_words)
-is_word c _ = true
+is_word config (State seat) = nat_lt seat (config.mutators + config.helpers)
+is_word config (Top region) = nat_lt region config.regions
+is_word config (Tams region) = nat_lt region config.regions
+is_word config (Limit region) = nat_lt region config.regions
+is_word config (Current seat) = nat_lt seat (seat_count config.mutators config.helpers)
+is_word config (Root mutator index) = nat_lt mutator config.mutators && nat_lt index 16
+is_word config (Count mutator) = nat_lt mutator config.mutators
+is_word config (Buffer mutator entry) = nat_lt mutator config.mutators && nat_lt entry 8
+is_word config (Wait mutator) = nat_lt mutator config.mutators
+is_word config (Answer mutator) = nat_lt mutator config.mutators
+is_word config (Grey number) = nat_lt number (bit_words config)
+is_word config (Black number) = nat_lt number (bit_words config)
+is_word config (Heap address) = nat_le config.region_words address && nat_lt address ((config.regions + 1) * config.region_words)
+is_word config _ = true
 
 -- a table as a memory: what each name reads, 0 where there is no such word
 abbrev pub view : Config → List ℕ → Word → ℕ
-view c words w = if is_word c w then slice_index words (word_at c w) else 0
+view config words word = if is_word config word then slice_index words (word_at config word) else 0
 
 -- a memory after a number was written at a name
 abbrev pub write : (Word → ℕ) → Word → ℕ → Word → ℕ
-write memory at value w = if same_word at w then value else memory w
+write memory at value word = if same_word at word then value else memory word
 
 -- whether a word is of the image: those that a pause reads and may change
 abbrev pub is_image : Word → Bool
 is_image Pause = false
 is_image Left = false
 is_image End = false
-is_image (State i) = false
+is_image (State seat) = false
 is_image _ = true
 
 -- each word stands in the table, two names never stand at one place, and the image is the end of the table
 pub record AreApart : Type 0 where
-  pub inside : (c : Config) (w : Word) → IsWord c w → word_at c w < table_words c
-  pub apart : (c : Config) (v w : Word) → IsWord c v → IsWord c w → word_at c v ≡ word_at c w → v ≡ w
-  pub image : (c : Config) (w : Word) → IsWord c w → is_image w ≡ nat_le (image_start c) (word_at c w)
+  pub inside : (config : Config) (word : Word)
+      → IsWord config word → word_at config word < table_words config
+  pub apart : (config : Config) (one other : Word)
+      → IsWord config one → IsWord config other → word_at config one ≡ word_at config other → one ≡ other
+  pub image : (config : Config) (word : Word)
+      → IsWord config word → is_image word ≡ nat_le (image_start config) (word_at config word)
 
 -- a number that is stored at a word's place is stored at its name, and at no other
 pub record IsStoreOfOne : Type 0 where
-  pub read : (c : Config) (words : List ℕ) (w : Word)
-      → IsWord c w → view c words w ≡ slice_index words (word_at c w)
-  pub stored : (c : Config) (words : List ℕ) (at : Word) (value : ℕ) (w : Word)
-      → length words ≡ table_words c → IsWord c at
-      → view c (slice_set words (word_at c at) value) w ≡ write (view c words) at value w
+  pub read : (config : Config) (words : List ℕ) (word : Word)
+      → IsWord config word → view config words word ≡ slice_index words (word_at config word)
+  pub stored : (config : Config) (words : List ℕ) (at : Word) (value : ℕ) (word : Word)
+      → length words ≡ table_words config → IsWord config at
+      → view config (slice_set words (word_at config at) value) word ≡ write (view config words) at value word

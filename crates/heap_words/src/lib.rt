@@ -18,3 +18,6 @@ pub use encoding::{
 pub use place::Place;
 pub use schedule::{Item, NoMemory, Schedule};
 pub use words::words_apart;
+
+#[cfg(test)]
+mod tests;

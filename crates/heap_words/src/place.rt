@@ -260,7 +260,6 @@ impl Place {
     }
 
     /// The place of a code, or None where no place has it.
-    #[tactic(auto, using(crate::proofs::Codes::same_code))]
     pub fn of(code: [u8; 2]) -> Option<Place>
         ensures found { IfSome result (λ place. code_of place ≡ code) }
         ensures unknown { IfNone result ((place : Place) → code_of place ≢ code) }

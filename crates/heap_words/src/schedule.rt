@@ -61,8 +61,9 @@ impl Schedule {
         })
     }
 
-    /// Puts an item at the end. Without memory the schedule stays as it was.
-    pub fn push(&mut self, alloc: Global, item: Item) -> Result<(), NoMemory>
+    /// Puts an item at the end. The list has its allocator already. Without memory the schedule stays
+    /// as it was.
+    pub fn push(&mut self, _alloc: Global, item: Item) -> Result<(), NoMemory>
         ensures ok { OnOk result (self.new ≡ self.old ++ item ∷ []) }
         ensures err { OnErr result (self.new ≡ self.old) }
     {
