@@ -4,3 +4,4 @@ pub mod Step
 pub mod History
 pub mod Reach
 pub mod Crowd
+pub mod Work

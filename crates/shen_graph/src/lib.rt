@@ -5,12 +5,30 @@
 //! (`Graph`, `Step`), histories (`History`), reachability (`Reach`) and crowding (`Crowd`).
 #![tactic(auto)]
 
+use std::alloc::{AllocError, AllocFailed};
+
 mod command;
 mod name;
+mod script;
+mod work;
 
 pub use command::{Command, Reply};
 pub use name::Name;
+pub use script::Script;
+pub use work::{Replies, Work};
 
 /// Memory was refused. Nothing was changed.
 #[derive(Clone, Copy, Debug, PartialEq, Eq)]
 pub struct NoMemory;
+
+impl From<AllocError> for NoMemory {
+    fn from(_: AllocError) -> NoMemory {
+        NoMemory
+    }
+}
+
+impl<T: Drop> From<AllocFailed<T>> for NoMemory {
+    fn from(_: AllocFailed<T>) -> NoMemory {
+        NoMemory
+    }
+}

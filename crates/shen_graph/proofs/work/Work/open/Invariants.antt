@@ -1,0 +1,8 @@
+use Rattle.std.proofs.Common.{◌≡◌, ℕ, ◌<◌, length, get_or, take, None}
+use Rattle.std.specs.Prelude.{slice_get, option_map}
+use Rattle.shen_graph.specs.Work.{begun}
+use Rattle.shen_graph.proofs.work.Work.open.Given as goal
+
+abbrev pub invariant-loop-mutator : goal.invariant-loop-mutator
+invariant-loop-mutator l =
+    (length l.jobs ≡ 8) × ((k : ℕ) → k < 8 → get_or l.jobs k None ≡ option_map begun (slice_get (take l.mutator l.scripts) k))

@@ -1,0 +1,167 @@
+ghost use Rattle.std.specs.Prelude.{◌≡◌, ◌+◌, ◌<◌, ◌≤◌, [], ◌∷◌, ◌++◌, length, IfOk, slice_get};
+ghost use Rattle.shen_graph.specs.Work.{HasScript, script_of, replies_of, next_of, with_reply, opened};
+
+use crate::NoMemory;
+use crate::command::{Command, Reply};
+use crate::script::Script;
+use std::alloc::Global;
+use std::marker::Model;
+
+/// What the commands of one thread were answered, in their order.
+#[derive(Debug, Drop)]
+pub struct Replies {
+    given: Vec<Reply>,
+}
+
+impl Model for Replies {
+    ghost use Rattle.std.specs.Prelude.{◌-◌, vec_len, vec_capacity};
+    ghost use Rattle.shen_graph.specs.Work.{Given};
+
+    ghost Value = { Given };
+
+    ghost view = { λ r. record { list = r.given.items; room = vec_capacity r.given - vec_len r.given } };
+}
+
+impl Replies {
+    // No reply, and room for so many.
+    fn open(alloc: Global, room: usize) -> Result<Replies, NoMemory>
+        ensures none { IfOk result (λ replies. replies.list ≡ []) }
+        ensures room { IfOk result (λ replies. room ≤ replies.room) }
+    {
+        let given = Vec::with_capacity(alloc, room)?;
+        Ok(Replies { given })
+    }
+
+    fn push(&mut self, reply: Reply)
+        requires { 0 < self.old.room }
+        ensures added { self.new.list ≡ self.old.list ++ reply ∷ [] }
+        ensures room { self.old.room ≤ self.new.room + 1 }
+    {
+        let _ = self.given.push(reply);
+    }
+
+    /// The replies, in their order.
+    pub fn list(&self) -> &[Reply]
+        ensures { result.now ≡ self.now.list }
+    {
+        &self.given
+    }
+}
+
+// The script of a mutator and the replies to its first commands, with room for the other replies.
+#[derive(Debug, Drop)]
+struct Job {
+    script: Script,
+    replies: Replies,
+}
+
+impl Model for Job {
+    ghost use Rattle.std.specs.Prelude.{◌+◌, ◌≤◌, length};
+    ghost use Rattle.shen_graph.specs.Work.{Progress};
+
+    ghost Value = { Progress };
+
+    ghost view = { λ j. record { script = j.script; replies = j.replies.list } };
+
+    ghost invariant = { λ j. (length j.replies.list ≤ length j.script) × (length j.script ≤ length j.replies.list + j.replies.room) };
+}
+
+impl Job {
+    ghost use Rattle.shen_graph.specs.Work.{begun, answered};
+
+    fn open(alloc: Global, commands: &[Command]) -> Result<Job, NoMemory>
+        ensures { IfOk result (λ job. job ≡ begun commands.now) }
+    {
+        let mut script = Script::open(alloc)?;
+        for command in commands {
+            script.push(alloc, *command)?;
+        }
+        let replies = Replies::open(alloc, commands.len())?;
+        Ok(Job { script, replies })
+    }
+
+    fn next(&self) -> Option<Command>
+        ensures next { result ≡ slice_get self.now.script (length self.now.replies) }
+        ensures within { length self.now.replies ≤ length self.now.script }
+    {
+        let told = self.replies.list().len();
+        self.script.list().get(told).copied()
+    }
+
+    fn told(&mut self, reply: Reply)
+        requires { length self.old.replies < length self.old.script }
+        ensures { self.new ≡ answered self.old reply }
+    {
+        self.replies.push(reply);
+    }
+}
+
+/// The scripts of up to eight mutators, each with the replies to its first commands and with room for the others.
+/// Mutators are counted from 0.
+#[derive(Debug, Drop)]
+pub struct Work {
+    jobs: [Option<Job>; 8],
+}
+
+impl Model for Work {
+    ghost use Rattle.std.specs.Prelude.{◌≡◌, List, Option, length};
+    ghost use Rattle.shen_graph.specs.Work.{Progress};
+
+    ghost Value = { List (Option Progress) };
+
+    ghost view = { λ w. w.jobs };
+
+    ghost invariant = { λ w. length w.jobs ≡ 8 };
+}
+
+impl Work {
+    /// These scripts, that of mutator 0 first, each at its first command and with room for one reply per command.
+    pub fn open(alloc: Global, scripts: &[Script]) -> Result<Work, NoMemory>
+        requires { length scripts.now ≤ 8 }
+        ensures { IfOk result (λ work. work ≡ opened scripts.now) }
+    {
+        let mut jobs = [None, None, None, None, None, None, None, None];
+        for (mutator, script) in scripts.iter().enumerate() {
+            jobs[mutator] = Some(Job::open(alloc, script.list())?);
+        }
+        Ok(Work { jobs })
+    }
+
+    /// What the mutator's commands were answered so far.
+    pub fn replies(&self, mutator: usize) -> &Replies
+        requires { HasScript self.now mutator }
+        ensures { result.now.list ≡ replies_of self.now mutator }
+    {
+        let jobs = &self.jobs;
+        match &jobs[mutator] {
+            Some(job) => &job.replies,
+            None => unreachable!(),
+        }
+    }
+
+    /// The mutator's next command: `None` exactly at the end of its script.
+    pub fn next(&self, mutator: usize) -> Option<Command>
+        requires { HasScript self.now mutator }
+        ensures next { result ≡ next_of self.now mutator }
+        ensures within { length (replies_of self.now mutator) ≤ length (script_of self.now mutator) }
+    {
+        let jobs = &self.jobs;
+        match &jobs[mutator] {
+            Some(job) => job.next(),
+            None => unreachable!(),
+        }
+    }
+
+    /// Notes the reply to the mutator's next command, which the one after it is then. It takes no memory.
+    pub fn told(&mut self, mutator: usize, reply: Reply)
+        requires script { HasScript self.old mutator }
+        requires more { length (replies_of self.old mutator) < length (script_of self.old mutator) }
+        ensures { self.new ≡ with_reply self.old mutator reply }
+    {
+        let jobs = &mut self.jobs;
+        match &mut jobs[mutator] {
+            Some(job) => job.told(reply),
+            None => unreachable!(),
+        }
+    }
+}
