@@ -26,8 +26,10 @@ pub struct Mutator {
 impl Mutator {
     ghost use Rattle.std.specs.Prelude.{◌↔◌, ◌≢◌, IsTrue, Some, None, false};
     ghost use Rattle.shen_graph.specs.Valid.{IsValid};
+    ghost use Rattle.heap_words.specs.Access.{place_of};
+    ghost use Rattle.heap_words.specs.Words.{table_words};
     ghost use Rattle.steps_base.specs.Touch.{placed};
-    ghost use Rattle.mutator.specs.Orders.{is_served, is_at_rest};
+    ghost use Rattle.mutator.specs.Orders.{is_served, is_at_rest, takes_at};
     ghost use Rattle.mutator.specs.Rows.{fresh_mutator, place_at, touch_of, next_of, answer_at, reply_at};
     ghost use Rattle.mutator.specs.Fit.{IsFit};
     ghost use Rattle.mutator.specs.Seen.{seen, config_of, order_of, is_idle};
@@ -65,7 +67,8 @@ impl Mutator {
 
     /// Whether it has neither a call in progress nor one to begin. It makes no step then.
     pub fn is_idle(&self) -> bool
-        ensures { result ≡ is_idle self.now }
+        ensures idle { result ≡ is_idle self.now }
+        ensures takes { result ≡ false → takes_at (seen self.now).spot (seen self.now).made (order_of self.now) ≡ true }
     {
         match (self.spot, self.order) {
             (Spot::Rest | Spot::Ended { .. }, Order::Nothing) => true,
@@ -89,7 +92,8 @@ impl Mutator {
     /// The access of its next step.
     pub fn plan(&self) -> Access
         requires { is_idle self.now ≡ false }
-        ensures { result ≡ placed (config_of self.now) (touch_of (config_of self.now) (seen self.now)) }
+        ensures row { result ≡ placed (config_of self.now) (touch_of (config_of self.now) (seen self.now)) }
+        ensures inside { place_of result < table_words (config_of self.now) }
     {
         match self.spot {
             Spot::Rest | Spot::Ended { .. } => Access::Load {

@@ -1,0 +1,4 @@
+pub mod Shown
+pub mod Runs
+pub mod State
+pub mod Answer

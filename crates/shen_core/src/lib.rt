@@ -1,0 +1,10 @@
+//! The heap on one thread: words and machines in memory, and any schedule of their atomic steps.
+#![tactic(auto)]
+
+mod machine;
+mod opening;
+mod plain;
+mod step;
+
+pub use plain::Plain;
+pub use step::Stepped;
