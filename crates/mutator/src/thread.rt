@@ -76,6 +76,13 @@ impl Mutator {
         }
     }
 
+    /// Whether no call is in progress.
+    pub fn is_resting(&self) -> bool
+        ensures { result ≡ is_at_rest (seen self.now).spot }
+    {
+        matches!(self.spot, Spot::Rest | Spot::Ended { .. })
+    }
+
     /// The place of its next access.
     pub fn place(&self) -> Place
         requires { is_idle self.now ≡ false }

@@ -67,6 +67,7 @@ module _ (c : Config) (words : List ℕ) (machines : List Machine) (number : ℕ
   pub one_event : slice_get machines number ≡ Some (mutating m) → takes_at m.spot m.made order ≡ true → IsOneEvent c words machines stepped_words stepped_machines number order
   one_event here takes = record {
     is_event = λ s shows. let found = shown_event s shows here takes in (found.0, found.1);
+    acts = λ s shows. shows_step s shows here takes;
     goes_on = λ start events shows.
         subst (λ x. Shows stepped_words stepped_machines x) (sym (go-step (kind c) start events (event number order)))
         (shows_step (go (kind c) start events) shows here takes);

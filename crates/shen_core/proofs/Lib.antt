@@ -1,3 +1,5 @@
 pub mod Events
 pub mod Memory
 pub mod Opened
+pub mod Turns
+pub mod Noted

@@ -18,7 +18,7 @@ use Rattle.step_core.specs.Opening.{opening}
 use Rattle.shen_core.specs.declared.machine.Machine.{Machine}
 use Rattle.shen_core.specs.declared.machine.Machine.TheVariants as machine
 use Rattle.shen_core.specs.Shown.{shown, order_of_machine, heap_of}
-use Rattle.shen_core.specs.Runs.{access_of, accessed, event, IsShownBySome, IsOneEvent}
+use Rattle.shen_core.specs.Runs.{access_of, accessed, event, IsShownBySome, IsOneEvent, next_by}
 use Rattle.shen_core.proofs.Events.{map-set, one_event}
 
 -- a mutator of these machines has made its access, and has taken its word
@@ -81,6 +81,20 @@ module _ (config : Config) (words new_words : List ℕ) (machines : List Machine
 
   pub made_heap : config_of n ≡ config_of m → All (λ y. heap_of config y ≡ config) machines → All (λ y. heap_of config y ≡ config) (slice_set machines number (machine.Mutator n))
   made_heap same one_heap = All-set (λ y. heap_of config y ≡ config) machines number (machine.Mutator n) (same ∙ made.heap) one_heap
+
+-- the machine of a number, in memory
+pub machine_here : (machines : List Machine) (number : ℕ) (m : Mutator) → slice_get machines number ≡ Some (machine.Mutator m) → slice_index_or (map shown machines) number actors.controlling ≡ actors.mutating (seen m)
+machine_here machines number m here = get_or_from_slice_get (map shown machines) number (actors.mutating (seen m)) actors.controlling (shown_here machines number m here)
+
+pub made_machines : (config : Config) (words new_words : List ℕ) (machines : List Machine) (number : ℕ) (m n : Mutator) → IsMade config words new_words machines number m n
+    → map shown (slice_set machines number (machine.Mutator n)) ≡ slice_set (map shown machines) number (next_by config words (slice_index_or (map order_of_machine machines) number Nothing) (slice_index_or (map shown machines) number actors.controlling))
+made_machines config words new_words machines number m n made =
+    map-set shown machines number (machine.Mutator n)
+    ∙ ap (λ x. slice_set (map shown machines) number x)
+      (ap actors.mutating made.seen_is
+      ∙ ap (λ c. next_by c words (order_of m) (actors.mutating (seen m))) made.heap
+      ∙ ap (λ order. next_by config words order (actors.mutating (seen m))) (sym (order_here machines number m made.here))
+      ∙ ap (λ x. next_by config words (slice_index_or (map order_of_machine machines) number Nothing) x) (sym (machine_here machines number m made.here)))
 
 -- an order for a mutator changes no machine
 pub ordered_machines : (machines : List Machine) (number : ℕ) (m n : Mutator) → slice_get machines number ≡ Some (machine.Mutator m) → seen n ≡ seen m → map shown (slice_set machines number (machine.Mutator n)) ≡ map shown machines

@@ -2,3 +2,4 @@ pub mod Shown
 pub mod Runs
 pub mod State
 pub mod Answer
+pub mod Progress

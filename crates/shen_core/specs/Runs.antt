@@ -3,11 +3,11 @@ use Rattle.std.specs.Prelude.{ℕ, ◌≡◌, List, [], ◌∷◌, ◌++◌, map
 use Rattle.heap_words.specs.declared.access.Access.{Access}
 use Rattle.heap_words.specs.Access.{place_of, made_of}
 use Rattle.steps_base.specs.Touch.{placed}
-use Rattle.mutator.specs.Rows.{Mutating, touch_of}
+use Rattle.mutator.specs.Rows.{Mutating, touch_of, next_of}
 use Rattle.heap_words.specs.declared.config.Config.{Config}
-use Rattle.steps_base.specs.Steps.{Stage, Event, go, IsEvent}
+use Rattle.steps_base.specs.Steps.{Stage, Event, act, go, IsEvent}
 use Rattle.mutator.specs.declared.spot.Order.{Order}
-use Rattle.step_core.specs.Actor.{Machine, Actor, kind}
+use Rattle.step_core.specs.Actor.{Machine, mutating, helping, controlling, Actor, kind}
 use Rattle.step_core.specs.Follows.{reached}
 
 -- these words and machines are those of the stage, whose machines have their calls besides
@@ -35,5 +35,12 @@ event number order = record { number = number; order = order }
 -- one lead to those.
 pub record IsOneEvent (c : Config) (words : List ℕ) (machines : List Machine) (new_words : List ℕ) (new_machines : List Machine) (number : ℕ) (order : Order) : Type 0 where
   pub is_event : (s : Stage Actor) → Shows words machines s → (a : Actor) × IsEvent (kind c) s (event number order) a
+  pub acts : (s : Stage Actor) → Shows words machines s → Shows new_words new_machines (act (kind c) s (event number order))
   pub goes_on : (start : Stage Actor) (events : List (Event Order)) → Shows words machines (go (kind c) start events)
       → Shows new_words new_machines (go (kind c) start (events ++ event number order ∷ []))
+
+-- a machine after the step that it makes on these words
+abbrev pub next_by : Config → List ℕ → Order → Machine → Machine
+next_by c words order (mutating m) = mutating (next_of c m order (slice_index words (place_of (access_of c m))))
+next_by c words order helping = helping
+next_by c words order controlling = controlling

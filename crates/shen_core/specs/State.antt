@@ -55,3 +55,7 @@ pub record IsUnchanged (old new : Plain) : Type 0 where
   pub words : words_of new ≡ words_of old
   pub machines : machines_of new ≡ machines_of old
   pub orders : orders_of new ≡ orders_of old
+
+-- the machine after its step
+abbrev pub next_machine : Plain → ℕ → actors.Machine
+next_machine p number = runs.next_by (config_of p) (words_of p) (order_at p number) (machine_at p number)

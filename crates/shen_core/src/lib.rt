@@ -4,6 +4,7 @@
 mod machine;
 mod opening;
 mod plain;
+mod run;
 mod step;
 
 pub use plain::Plain;

@@ -31,7 +31,7 @@ impl Plain {
     ghost use Rattle.shen_graph.specs.Valid.{IsValid};
     ghost use Rattle.step_core.specs.Actor.{plan_of};
     ghost use Rattle.step_core.specs.Opening.{opening};
-    ghost use Rattle.shen_core.specs.State.{config_of, words_of, machines_of, orders_of, seats_of, Shows, machine_at, has_turn, IsStep, IsUnchanged};
+    ghost use Rattle.shen_core.specs.State.{config_of, words_of, machines_of, orders_of, seats_of, Shows, machine_at, has_turn, next_machine, IsStep, IsUnchanged};
     ghost use Rattle.shen_core.specs.Answer.{says, reply_in, place_in, is_resting, made_of_machine};
 
     /// The heap of this configuration before the first event, whose mutators have not begun a call.
@@ -74,6 +74,8 @@ impl Plain {
         ensures unchanged { has_turn self.old number ≡ false → IsUnchanged self.old self.new }
         ensures event { has_turn self.old number ≡ true → IsStep self.old self.new number }
         ensures says { has_turn self.old number ≡ true → result ≡ says (machine_at self.old number) (slice_index (words_of self.old) (place_of (plan_of (config_of self.old) (machine_at self.old number)))) }
+        ensures below { has_turn self.old number ≡ true → number < (config_of self.old).mutators }
+        ensures machines { has_turn self.old number ≡ true → machines_of self.new ≡ slice_set (machines_of self.old) number (next_machine self.old number) }
         ensures orders { has_turn self.old number ≡ true → orders_of self.new ≡ slice_set (orders_of self.old) number Nothing }
         ensures config { config_of self.new ≡ config_of self.old }
     {
@@ -84,6 +86,36 @@ impl Plain {
             Stepped::Idle
         } else {
             make_step(&mut self.words, mutator)
+        }
+    }
+
+    /// Its mutators, its helpers and its control.
+    pub(crate) fn seats(&self) -> usize
+        ensures { result ≡ seats_of self.now }
+    {
+        self.config.seats()
+    }
+
+    /// Whether the machine is a mutator between two calls.
+    pub(crate) fn is_resting(&self, number: usize) -> bool
+        requires { number < seats_of self.now }
+        ensures rest { result ≡ is_resting (machine_at self.now number) }
+        ensures below { result ≡ true → number < (config_of self.now).mutators }
+    {
+        match &self.machines[number] {
+            Machine::Mutator(mutator) => mutator.is_resting(),
+            Machine::Helper | Machine::Control => false,
+        }
+    }
+
+    /// Whether the machine has a step to make.
+    pub(crate) fn has_turn(&self, number: usize) -> bool
+        requires { number < seats_of self.now }
+        ensures { result ≡ has_turn self.now number }
+    {
+        match &self.machines[number] {
+            Machine::Mutator(mutator) => !mutator.is_idle(),
+            Machine::Helper | Machine::Control => false,
         }
     }
 

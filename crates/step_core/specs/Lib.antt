@@ -4,3 +4,4 @@ pub mod History
 pub mod World
 pub mod Stepped
 pub mod Follows
+pub mod Schedule
