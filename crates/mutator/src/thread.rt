@@ -83,9 +83,8 @@ impl Mutator {
         matches!(self.spot, Spot::Rest | Spot::Ended { .. })
     }
 
-    /// The place of its next access.
+    /// The place of its next access; between two calls, that of the first access of a call.
     pub fn place(&self) -> Place
-        requires { is_idle self.now ≡ false }
         ensures { result ≡ place_at (seen self.now).spot }
     {
         match self.spot {

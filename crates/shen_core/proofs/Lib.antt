@@ -3,3 +3,5 @@ pub mod Memory
 pub mod Opened
 pub mod Turns
 pub mod Noted
+pub mod Going
+pub mod Rounds

@@ -3,3 +3,4 @@ pub mod Runs
 pub mod State
 pub mod Answer
 pub mod Progress
+pub mod Ending

@@ -1,6 +1,9 @@
 -- From one moment of a run of a schedule to a later one.
-use Rattle.std.specs.Prelude.{ℕ, ◌≡◌, ◌+◌, ◌<◌, Bool, true, false, List, [], ◌∷◌, ◌++◌, length, map, All, Option, Some, None, slice_get}
+use Rattle.std.specs.Prelude.{ℕ, ◌≡◌, ◌+◌, ◌<◌, Bool, true, false, List, [], ◌∷◌, ◌++◌, length, map, All, Option, Some, None, is_some, slice_get}
 use Rattle.heap_words.specs.declared.config.Config.{Config}
+use Rattle.heap_words.specs.Ranges.{seat_count}
+use Rattle.heap_words.specs.declared.schedule.Item.{Item}
+use Rattle.heap_words.specs.declared.schedule.Item.TheVariants.{Steps, Until, Replies}
 use Rattle.steps_base.specs.Steps.{Stage, Event, act, go}
 use Rattle.shen_graph.specs.Valid.{IsValid}
 use Rattle.shen_graph.specs.Work as work
@@ -81,3 +84,37 @@ pub record WentOn (c : Config) (scripts : Scripts) (s : Stage Actor) (agenda : A
 abbrev pub HasTurned : Plain → Jobs → ℕ → Plain → Jobs → Stepped → Type 0
 HasTurned p jobs number q later result =
     (scripts : Scripts) (s : Stage Actor) → Shows p s → Tells (config_of p) scripts jobs s → Turned (config_of p) scripts s number q later result
+
+abbrev pub agenda : List Task → ℕ → Agenda
+agenda tasks from = record { tasks = tasks; from = from }
+
+-- whatever stage memory showed, the schedule went on from there to what memory shows now
+abbrev pub Runs : Plain → Jobs → Agenda → ℕ → Plain → Jobs → Agenda → ℕ → Type 0
+Runs p jobs todo left q later rest remaining =
+    (scripts : Scripts) (s : Stage Actor) → Shows p s → Tells (config_of p) scripts jobs s → WentOn (config_of p) scripts s todo left q later rest remaining
+
+-- the task was done, or as much of it as there were events left
+abbrev pub DoesTask : Plain → Jobs → Task → ℕ → Plain → Jobs → ℕ → Type 0
+DoesTask p jobs task left q later remaining = (tasks : List Task) (from : ℕ) → Runs p jobs (agenda (task ∷ tasks) from) left q later (agenda tasks from) remaining
+
+-- no machine has a turn
+abbrev pub AreIdle : Config → Scripts → Stage Actor → Type 0
+AreIdle c scripts s = (number : ℕ) → number < seat_count c.mutators c.helpers → turn scripts s number ≡ None
+
+-- whatever stage memory shows, no machine has a turn there
+abbrev pub AllIdle : Plain → Jobs → Type 0
+AllIdle p jobs = (scripts : Scripts) (s : Stage Actor) → Shows p s → Tells (config_of p) scripts jobs s → AreIdle (config_of p) scripts s
+
+-- the machine of an item is one of the heap, and where replies are counted a mutator
+abbrev pub IsInSeats : Config → Item → Type 0
+IsInSeats c (Steps number count) = number < seat_count c.mutators c.helpers
+IsInSeats c (Until number place) = number < seat_count c.mutators c.helpers
+IsInSeats c (Replies number count) = number < c.mutators
+
+-- whatever stage memory shows, some machine has a turn there
+abbrev pub SomeBusy : Plain → Jobs → Type 0
+SomeBusy p jobs = (scripts : Scripts) (s : Stage Actor) → Shows p s → Tells (config_of p) scripts jobs s → AreIdle (config_of p) scripts s → ⊥
+
+-- whatever stage memory shows, the machine has a turn there, or has none
+abbrev pub HasNext : Plain → Jobs → ℕ → Bool → Type 0
+HasNext p jobs number has = (scripts : Scripts) (s : Stage Actor) → Shows p s → Tells (config_of p) scripts jobs s → is_some (turn scripts s number) ≡ has

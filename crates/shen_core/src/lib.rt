@@ -8,4 +8,5 @@ mod run;
 mod step;
 
 pub use plain::Plain;
+pub use run::Ran;
 pub use step::Stepped;

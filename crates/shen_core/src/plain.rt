@@ -30,6 +30,7 @@ impl Plain {
     ghost use Rattle.mutator.specs.Orders.{is_served};
     ghost use Rattle.shen_graph.specs.Valid.{IsValid};
     ghost use Rattle.step_core.specs.Actor.{plan_of};
+    ghost use Rattle.step_core.specs.Schedule.{stands_in};
     ghost use Rattle.step_core.specs.Opening.{opening};
     ghost use Rattle.shen_core.specs.State.{config_of, words_of, machines_of, orders_of, seats_of, Shows, machine_at, has_turn, next_machine, IsStep, IsUnchanged};
     ghost use Rattle.shen_core.specs.Answer.{says, reply_in, place_in, is_resting, made_of_machine};
@@ -104,6 +105,21 @@ impl Plain {
     {
         match &self.machines[number] {
             Machine::Mutator(mutator) => mutator.is_resting(),
+            Machine::Helper | Machine::Control => false,
+        }
+    }
+
+    /// Whether the next access of the machine stands at the place.
+    pub(crate) fn stands_at(&self, number: usize, place: Place) -> bool
+        requires { number < seats_of self.now }
+        ensures { result ≡ stands_in place (machine_at self.now number) }
+    {
+        match &self.machines[number] {
+            Machine::Mutator(mutator) => {
+                let [first, second] = mutator.place().code();
+                let [wanted_first, wanted_second] = place.code();
+                first == wanted_first && second == wanted_second
+            }
             Machine::Helper | Machine::Control => false,
         }
     }

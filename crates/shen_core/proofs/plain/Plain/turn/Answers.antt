@@ -43,8 +43,8 @@ returns-in-Done-clause-turned c =
     (turned_noted _ _ _ _ _ _ facts c.reply.result (reply_given _ _ _ _ _ _ facts c.reply.result c.in-Done.is c.reply.ensures)
     (c.requires.run.jobs_are c.args.number (below_now _ _ _ _ _ _ facts)))
 
-pub returns-in_default : goal.returns-in_default
-returns-in_default c =
+pub returns-in_default-clause-run : goal.returns-in_default-clause-run
+returns-in_default-clause-run c =
     let facts : IsStepped c.args.self.now c.order_next.new.self c.step-stepped.new.self c.args.work.now c.args.number c.step-stepped.result = record {
       within = omega (arith, length-map c.args.self.now.machines.items shown, c.args.self.now.all_machines, c.requires.number);
       mid_words = c.order_next.ensures.words; mid_machines = c.order_next.ensures.machines; mid_config = c.order_next.ensures.config; mid_orders = c.order_next.ensures.orders;
@@ -58,8 +58,21 @@ returns-in_default c =
       orders = c.step-stepped.ensures.orders (c.order_next.ensures.has ∙ c.if-not-order_next.false);
       config = c.step-stepped.ensures.config;
     } in
-    record {
-      run = can_run_on _ _ _ _ _ _ facts c.requires.run;
-      config = c.step-stepped.ensures.config ∙ c.order_next.ensures.config;
-      turned = turned_on _ _ _ _ _ _ facts (none_given _ _ _ _ _ _ facts (λ done. c.in_default.not-Done done));
-    }
+    can_run_on _ _ _ _ _ _ facts c.requires.run
+
+pub returns-in_default-clause-turned : goal.returns-in_default-clause-turned
+returns-in_default-clause-turned c =
+    let facts : IsStepped c.args.self.now c.order_next.new.self c.step-stepped.new.self c.args.work.now c.args.number c.step-stepped.result = record {
+      within = omega (arith, length-map c.args.self.now.machines.items shown, c.args.self.now.all_machines, c.requires.number);
+      mid_words = c.order_next.ensures.words; mid_machines = c.order_next.ensures.machines; mid_config = c.order_next.ensures.config; mid_orders = c.order_next.ensures.orders;
+      turn = subst (λ b. IsTurn c.args.self.now c.args.work.now c.args.number b (order_at c.order_next.new.self c.args.number)) c.if-not-order_next.false c.order_next.ensures.turn;
+      has = c.order_next.ensures.has ∙ c.if-not-order_next.false;
+      more = c.order_next.ensures.more c.if-not-order_next.false;
+      below = c.step-stepped.ensures.below (c.order_next.ensures.has ∙ c.if-not-order_next.false);
+      event = c.step-stepped.ensures.event (c.order_next.ensures.has ∙ c.if-not-order_next.false);
+      says = c.step-stepped.ensures.says (c.order_next.ensures.has ∙ c.if-not-order_next.false);
+      machines = c.step-stepped.ensures.machines (c.order_next.ensures.has ∙ c.if-not-order_next.false);
+      orders = c.step-stepped.ensures.orders (c.order_next.ensures.has ∙ c.if-not-order_next.false);
+      config = c.step-stepped.ensures.config;
+    } in
+    turned_on _ _ _ _ _ _ facts (none_given _ _ _ _ _ _ facts (λ done. c.in_default.not-Done done))
