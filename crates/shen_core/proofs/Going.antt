@@ -1,14 +1,14 @@
 -- How a schedule goes on.
-use Rattle.std.proofs.Common.{◌≡◌, ◌<◌, ◌≤◌, ℕ, zero, suc, ◌+◌, ◌-◌, Bool, true, false, List, [], ◌∷◌, ◌++◌, length, Option, Some, None, refl, sym, ap, ◌∙◌, subst, arith, append_assoc}
+use Rattle.std.proofs.Common.{◌≡◌, ◌<◌, ℕ, zero, suc, ◌-◌, Bool, true, false, List, [], ◌∷◌, ◌++◌, length, Some, None, refl, sym, ap, ◌∙◌, subst, arith, append_assoc}
 use Rattle.std.proofs.lemmas.List.{length-append, length-map}
-use Rattle.std.specs.Prelude.{nat_le, if◌then◌else◌}
+use Rattle.std.specs.Prelude.{nat_le}
 use Rattle.heap_words.specs.declared.config.Config.{Config}
 use Rattle.heap_words.specs.declared.place.Place.{Place}
 use Rattle.steps_base.specs.Steps.{Stage, Event, act, go}
 use Rattle.steps_base.proofs.Runs.{go-none, go-first, go-append}
 use Rattle.mutator.specs.declared.spot.Order.{Order}
 use Rattle.step_core.specs.Actor.{Actor, kind}
-use Rattle.step_core.specs.Schedule.{Scripts, turn, waits, stands_at, stands_of, stands_in, given, given_of, Task, steps, until, replies, control, Move, moves, move_of, control_after, control_seat, Agenda, Next, next, next_by, after_move, and_then, scheduled}
+use Rattle.step_core.specs.Schedule.{Scripts, turn, waits, stands_at, stands_of, stands_in, given, given_of, Task, steps, until, replies, moves, move_of, control_after, Agenda, next, next_by, after_move, and_then, scheduled}
 use Rattle.shen_core.specs.declared.plain.Plain.{Plain}
 use Rattle.shen_core.specs.State.{config_of, words_of, machines_of, machine_at, seats_of, Shows}
 use Rattle.shen_core.specs.Shown.{shown}
@@ -21,7 +21,6 @@ use Rattle.shen_core.specs.declared.step.Stepped.{Stepped}
 use Rattle.shen_core.specs.declared.step.Stepped.TheVariants.{More, Again, Done, Idle}
 
 module _ (c : Config) (scripts : Scripts) where
-
   pub goes_none : (s : Stage Actor) (todo : Agenda) (left : ℕ) → Goes c scripts s todo left s todo left
   goes_none s todo left = record { done = []; leads = go-none (kind c) s; events = refl; count = omega arith }
 
@@ -43,7 +42,8 @@ module _ (c : Config) (scripts : Scripts) where
   unfolding scheduled
   goes_same s todo rest zero same = goes_out s todo rest
   goes_same s todo rest (suc n) same = record {
-    done = []; leads = go-none (kind c) s;
+    done = [];
+    leads = go-none (kind c) s;
     events = ap (λ x. and_then x (λ y. scheduled c scripts n y.agenda (act (kind c) s y.event))) same;
     count = omega arith;
   }
@@ -109,19 +109,25 @@ pub runs_then : (p q r : Plain) (jobs later last : Jobs) (todo rest more : Agend
 runs_then p q r jobs later last todo rest more left middle remaining same one two scripts s shows tells =
     let went = one scripts s shows tells in
     let on = subst (λ c. WentOn c scripts went.stage rest middle r last more remaining) same
-      (two scripts went.stage went.shows (subst (λ c. Tells c scripts later went.stage) (sym same) went.tells)) in
+    (two scripts went.stage went.shows (subst (λ c. Tells c scripts later went.stage) (sym same) went.tells)) in
     record { stage = on.stage; goes = goes_then (config_of p) scripts s went.stage on.stage todo rest more left middle remaining went.goes on.goes; shows = on.shows; tells = on.tells }
 
 -- without events left
 pub runs_out : (p : Plain) (jobs : Jobs) (todo rest : Agenda) (left : ℕ) → left ≡ 0 → Runs p jobs todo left p jobs rest left
 runs_out p jobs todo rest left none scripts s shows tells = record {
-  stage = s; goes = subst (λ n. Goes (config_of p) scripts s todo n s rest n) (sym none) (goes_out (config_of p) scripts s todo rest); shows = shows; tells = tells;
+  stage = s;
+  goes = subst (λ n. Goes (config_of p) scripts s todo n s rest n) (sym none) (goes_out (config_of p) scripts s todo rest);
+  shows = shows;
+  tells = tells;
 }
 
 -- a task that is done
 pub task_done : (p : Plain) (jobs : Jobs) (task : Task) (left : ℕ) → ((scripts : Scripts) (s : Stage Actor) → Shows p s → Tells (config_of p) scripts jobs s → move_of (config_of p) scripts s task ≡ None) → DoesTask p jobs task left p jobs left
 task_done p jobs task left none tasks from scripts s shows tells = record {
-  stage = s; goes = goes_done (config_of p) scripts s task tasks from left (none scripts s shows tells); shows = shows; tells = tells;
+  stage = s;
+  goes = goes_done (config_of p) scripts s task tasks from left (none scripts s shows tells);
+  shows = shows;
+  tells = tells;
 }
 
 -- a turn for a task whose machine is idle
@@ -141,7 +147,8 @@ task_moves p q jobs later number result task more left turned busy some move tas
       stage = act (kind (config_of p)) s moved.event;
       goes = goes_task (config_of p) scripts s task more tasks from moved.event left some
           (move scripts s shows tells moved.waits_is ∙ ap (λ e. moves e more) moved.is);
-      shows = moved.shows; tells = moved.tells;
+      shows = moved.shows;
+      tells = moved.tells;
     }
 
 pub plain_within : (p q : Plain) (number : ℕ) → config_of q ≡ config_of p → number < seats_of p → number < length (machines_of q)

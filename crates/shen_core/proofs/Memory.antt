@@ -91,10 +91,10 @@ pub made_machines : (config : Config) (words new_words : List ℕ) (machines : L
 made_machines config words new_words machines number m n made =
     map-set shown machines number (machine.Mutator n)
     ∙ ap (λ x. slice_set (map shown machines) number x)
-      (ap actors.mutating made.seen_is
-      ∙ ap (λ c. next_by c words (order_of m) (actors.mutating (seen m))) made.heap
-      ∙ ap (λ order. next_by config words order (actors.mutating (seen m))) (sym (order_here machines number m made.here))
-      ∙ ap (λ x. next_by config words (slice_index_or (map order_of_machine machines) number Nothing) x) (sym (machine_here machines number m made.here)))
+    (ap actors.mutating made.seen_is
+    ∙ ap (λ c. next_by c words (order_of m) (actors.mutating (seen m))) made.heap
+    ∙ ap (λ order. next_by config words order (actors.mutating (seen m))) (sym (order_here machines number m made.here))
+    ∙ ap (λ x. next_by config words (slice_index_or (map order_of_machine machines) number Nothing) x) (sym (machine_here machines number m made.here)))
 
 -- an order for a mutator changes no machine
 pub ordered_machines : (machines : List Machine) (number : ℕ) (m n : Mutator) → slice_get machines number ≡ Some (machine.Mutator m) → seen n ≡ seen m → map shown (slice_set machines number (machine.Mutator n)) ≡ map shown machines

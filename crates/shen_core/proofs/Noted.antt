@@ -1,28 +1,26 @@
 -- After a turn: the machines, the orders and the work.
-use Rattle.std.proofs.Common.{◌≡◌, ◌≢◌, ◌<◌, ◌≤◌, ◌⊎◌, ⊎_elim, ℕ, zero, suc, ◌+◌, Bool, true, false, List, [], ◌∷◌, ◌++◌, length, get_or, map, All, Option, Some, None, refl, sym, ap, ◌∙◌, subst, arith}
-use Rattle.std.specs.Prelude.{slice_get, slice_set, slice_index, slice_index_or, IsSome, unwrap_or}
-use Rattle.std.specs.Option.{option_map}
-use Rattle.std.proofs.lemmas.List.{length-map, map-append, length-set, get_or-set_same, get_or-set_other, get_or_past}
+use Rattle.std.proofs.Common.{◌≡◌, ◌≢◌, ◌<◌, ◌≤◌, ⊎_elim, ℕ, zero, suc, true, false, List, [], ◌∷◌, ◌++◌, length, get_or, map, All, Option, Some, None, refl, sym, ap, ◌∙◌, subst, arith}
+use Rattle.std.specs.Prelude.{slice_get, slice_set, slice_index, IsSome, unwrap_or}
+use Rattle.std.proofs.lemmas.List.{map-append, get_or-set_same, get_or-set_other, get_or_past}
 use Rattle.std.proofs.lemmas.List.Elements.{All-set}
-use Rattle.std.proofs.lemmas.Option.{slice_get-map, slice_get_within, get_or_from_slice_get, same_Some}
+use Rattle.std.proofs.lemmas.Option.{same_Some}
 use Rattle.std.proofs.lemmas.Bool.{false≢true, cases_eq, cases_lt}
 use Rattle.heap_words.specs.declared.config.Config.{Config}
 use Rattle.heap_words.specs.declared.access.Took.{Took}
 use Rattle.heap_words.specs.declared.access.Took.TheVariants as took
 use Rattle.heap_words.specs.Access.{place_of}
-use Rattle.steps_base.specs.Steps.{Stage, Event, IsEvent, moved, act}
+use Rattle.steps_base.specs.Steps.{Stage, IsEvent, moved, act}
 use Rattle.steps_base.proofs.Laws.{act-event, machines_other}
 use Rattle.steps_base.proofs.Places.{slice_get-set_same}
 use Rattle.shen_graph.specs.declared.command.Command.{Command}
 use Rattle.shen_graph.specs.declared.command.Reply.{Reply}
-use Rattle.shen_graph.specs.History.{Entry}
 use Rattle.shen_graph.specs.Work as work
 use Rattle.mutator.specs.declared.spot.Spot.{Spot}
-use Rattle.mutator.specs.declared.spot.Spot.TheVariants.{Rest, Ended, LoadSet, AskCycle, Leave}
+use Rattle.mutator.specs.declared.spot.Spot.TheVariants.{Rest, Leave}
 use Rattle.mutator.specs.declared.spot.Order.{Order}
-use Rattle.mutator.specs.declared.spot.Order.TheVariants.{Nothing, Begin}
-use Rattle.mutator.specs.Orders.{is_at_rest, takes_at}
-use Rattle.mutator.specs.Rows.{Mutating, given_at, answer_at, reply_at, next_at, next_of}
+use Rattle.mutator.specs.declared.spot.Order.TheVariants.{Nothing}
+use Rattle.mutator.specs.Orders.{is_at_rest}
+use Rattle.mutator.specs.Rows.{Mutating, given_at, answer_at, reply_at, next_at}
 use Rattle.step_core.specs.Actor.{Machine, mutating, helping, controlling, Actor, entries_of, takes_of, plan_of, took_of, kind}
 use Rattle.step_core.specs.Schedule.{Scripts, waits, waits_of, waits_in, is_again}
 use Rattle.shen_core.specs.declared.step.Stepped.{Stepped}
@@ -65,7 +63,7 @@ progress_other jobs number reply t other = get_or-set_other jobs number t _ None
 pub script_kept : (jobs : Jobs) (number : ℕ) (reply : Reply) (t : ℕ) → work.HasScript jobs number → work.script_of (work.with_reply jobs number reply) t ≡ work.script_of jobs t
 script_kept jobs number reply t has = ⊎_elim
     (λ (same : t ≡ number). subst (λ n. work.script_of (work.with_reply jobs number reply) n ≡ work.script_of jobs n) (sym same)
-      (ap (λ o. (unwrap_or o (work.begun [])).script) (progress_same jobs number reply has)))
+    (ap (λ o. (unwrap_or o (work.begun [])).script) (progress_same jobs number reply has)))
     (λ (other : t ≡ number → ⊥). ap (λ o. (unwrap_or o (work.begun [])).script) (progress_other jobs number reply t other))
     (cases_eq t number)
 
@@ -123,11 +121,11 @@ tells_on c words machines jobs number machine order scripts s shows tells here t
   scripts_are = tells.scripts_are;
   replies = λ t b below there. ⊎_elim
       (λ (same : t ≡ number).
-        let found = shown_actor words machines s number machine shows here in
-        let there_now : slice_get (act (kind c) s (event number order)).machines number ≡ Some b = ap (λ n. slice_get (act (kind c) s (event number order)).machines n) (sym same) ∙ there in
-        let before : slice_get s.machines t ≡ Some found.0 = ap (slice_get s.machines) same ∙ found.1 in
-        tells.replies t found.0 below before
-        ∙ sym (acted_replies c s number order found.0 machine found.1 found.2 takes b there_now ∙ ap (λ g. map (λ e. e.reply) found.0.calls ++ listed g) none ∙ append_none _))
+      let found = shown_actor words machines s number machine shows here in
+      let there_now : slice_get (act (kind c) s (event number order)).machines number ≡ Some b = ap (λ n. slice_get (act (kind c) s (event number order)).machines n) (sym same) ∙ there in
+      let before : slice_get s.machines t ≡ Some found.0 = ap (slice_get s.machines) same ∙ found.1 in
+      tells.replies t found.0 below before
+      ∙ sym (acted_replies c s number order found.0 machine found.1 found.2 takes b there_now ∙ ap (λ g. map (λ e. e.reply) found.0.calls ++ listed g) none ∙ append_none _))
       (λ (other : t ≡ number → ⊥). tells.replies t b below (sym (machines_other (kind c) s (event number order) t other) ∙ there))
       (cases_eq t number);
 }
@@ -140,12 +138,12 @@ tells_noted c words machines jobs number machine order reply scripts s shows tel
   scripts_are = λ t below. script_kept jobs number reply t has ∙ tells.scripts_are t below;
   replies = λ t b below there. ⊎_elim
       (λ (same : t ≡ number).
-        let found = shown_actor words machines s number machine shows here in
-        let there_now : slice_get (act (kind c) s (event number order)).machines number ≡ Some b = ap (λ n. slice_get (act (kind c) s (event number order)).machines n) (sym same) ∙ there in
-        let before : slice_get s.machines t ≡ Some found.0 = ap (slice_get s.machines) same ∙ found.1 in
-        ap (work.replies_of (work.with_reply jobs number reply)) same ∙ replies_same jobs number reply has
-        ∙ ap (λ rs. rs ++ reply ∷ []) (ap (work.replies_of jobs) (sym same) ∙ tells.replies t found.0 below before)
-        ∙ sym (acted_replies c s number order found.0 machine found.1 found.2 takes b there_now ∙ ap (λ g. map (λ e. e.reply) found.0.calls ++ listed g) gives))
+      let found = shown_actor words machines s number machine shows here in
+      let there_now : slice_get (act (kind c) s (event number order)).machines number ≡ Some b = ap (λ n. slice_get (act (kind c) s (event number order)).machines n) (sym same) ∙ there in
+      let before : slice_get s.machines t ≡ Some found.0 = ap (slice_get s.machines) same ∙ found.1 in
+      ap (work.replies_of (work.with_reply jobs number reply)) same ∙ replies_same jobs number reply has
+      ∙ ap (λ rs. rs ++ reply ∷ []) (ap (work.replies_of jobs) (sym same) ∙ tells.replies t found.0 below before)
+      ∙ sym (acted_replies c s number order found.0 machine found.1 found.2 takes b there_now ∙ ap (λ g. map (λ e. e.reply) found.0.calls ++ listed g) gives))
       (λ (other : t ≡ number → ⊥). replies_other jobs number reply t other ∙ tells.replies t b below (sym (machines_other (kind c) s (event number order) t other) ∙ there))
       (cases_eq t number);
 }
@@ -207,7 +205,6 @@ pub record IsAfter (p q : Plain) (jobs later : Jobs) (number : ℕ) (next : Mach
   pub busy : is_resting next ≡ false → length (work.replies_of later number) < length (work.script_of later number)
 
 module _ (p q : Plain) (jobs later : Jobs) (number : ℕ) (next : Machine) (after : IsAfter p q jobs later number next) where
-
   at_number : machine_at q number ≡ next
   at_number = ap (λ ms. get_or ms number controlling) after.machines ∙ get_or-set_same (machines_of p) number next controlling after.within
 
@@ -222,20 +219,20 @@ module _ (p q : Plain) (jobs later : Jobs) (number : ℕ) (next : Machine) (afte
         (before.commands t (subst (λ c. t < c.mutators) after.config below));
     busy = λ t below busy. ⊎_elim
         (λ (same : t ≡ number). subst (λ k. length (work.replies_of later k) < length (work.script_of later k)) (sym same)
-          (after.busy (ap is_resting (sym at_number) ∙ ap (λ k. is_resting (machine_at q k)) (sym same) ∙ busy)))
+        (after.busy (ap is_resting (sym at_number) ∙ ap (λ k. is_resting (machine_at q k)) (sym same) ∙ busy)))
         (λ (other : t ≡ number → ⊥).
-          let replies = ap length (after.other t other) in
-          let script = ap length (after.script t) in
-          let before_now = before.busy t (subst (λ c. t < c.mutators) after.config below) (ap is_resting (sym (at_other t other)) ∙ busy) in
-          omega arith)
+        let replies = ap length (after.other t other) in
+        let script = ap length (after.script t) in
+        let before_now = before.busy t (subst (λ c. t < c.mutators) after.config below) (ap is_resting (sym (at_other t other)) ∙ busy) in
+        omega arith)
         (cases_eq t number);
     made = λ k. ⊎_elim
         (λ (same : k ≡ number).
-          let is : made_of_machine (machine_at q k) ≡ made_of_machine (machine_at p number) = ap (λ j. made_of_machine (machine_at q j)) same ∙ ap made_of_machine at_number ∙ after.made in
-          let small = before.made number in omega arith)
+        let is : made_of_machine (machine_at q k) ≡ made_of_machine (machine_at p number) = ap (λ j. made_of_machine (machine_at q j)) same ∙ ap made_of_machine at_number ∙ after.made in
+        let small = before.made number in omega arith)
         (λ (other : k ≡ number → ⊥).
-          let is : made_of_machine (machine_at q k) ≡ made_of_machine (machine_at p k) = ap made_of_machine (at_other k other) in
-          let small = before.made k in omega arith)
+        let is : made_of_machine (machine_at q k) ≡ made_of_machine (machine_at p k) = ap made_of_machine (at_other k other) in
+        let small = before.made k in omega arith)
         (cases_eq k number);
   }
 
@@ -262,7 +259,6 @@ pub record IsStepped (p mid q : Plain) (jobs : Jobs) (number : ℕ) (said : Step
   pub config : config_of q ≡ config_of mid
 
 module _ (p mid q : Plain) (jobs : Jobs) (number : ℕ) (said : Stepped) (facts : IsStepped p mid q jobs number said) where
-
   same_machine : machine_at mid number ≡ machine_at p number
   same_machine = ap (λ ms. get_or ms number controlling) facts.mid_machines
 
@@ -277,7 +273,10 @@ module _ (p mid q : Plain) (jobs : Jobs) (number : ℕ) (said : Stepped) (facts 
     machines = facts.machines ∙ ap (λ ms. slice_set ms number (next_machine mid number)) facts.mid_machines;
     within = facts.within;
     made = next_by_made (config_of mid) (words_of mid) (order_at mid number) (machine_at mid number) ∙ ap made_of_machine same_machine;
-    has = has; script = script; other = other; busy = busy;
+    has = has;
+    script = script;
+    other = other;
+    busy = busy;
   }
 
   -- the work is as it was
@@ -351,5 +350,5 @@ module _ (p mid q : Plain) (jobs : Jobs) (number : ℕ) (said : Stepped) (facts 
   reply_given r done has =
       let found = reply_by (machine_at mid number) facts.says done in
       let now : machine_at q number ≡ next_machine mid number =
-        ap (λ ms. get_or ms number controlling) facts.machines ∙ get_or-set_same (machines_of mid) number (next_machine mid number) controlling (subst (λ ms. number < length ms) (sym facts.mid_machines) facts.within) in
+      ap (λ ms. get_or ms number controlling) facts.machines ∙ get_or-set_same (machines_of mid) number (next_machine mid number) controlling (subst (λ ms. number < length ms) (sym facts.mid_machines) facts.within) in
       found.1 ∙ sym found.2 ∙ ap reply_in (sym now) ∙ has

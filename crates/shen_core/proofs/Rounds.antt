@@ -1,18 +1,23 @@
 -- Rounds: the machines take turns by their numbers.
-use Rattle.std.proofs.Common.{◌≡◌, ◌≢◌, ◌<◌, ◌≤◌, ◌⊎◌, ⊎_elim, ℕ, zero, suc, ◌+◌, ◌-◌, Bool, true, false, List, [], ◌∷◌, ◌++◌, length, map, Option, Some, None, refl, sym, ap, ◌∙◌, subst, arith, append_assoc}
+use Rattle.std.proofs.Common.{◌≡◌, ◌<◌, ◌≤◌, ⊎_elim, ℕ, zero, suc, ◌+◌, ◌-◌, false, List, [], ◌∷◌, ◌++◌, length, map, Option, Some, None, refl, sym, ap, ◌∙◌, subst, arith, append_assoc}
 use Rattle.std.specs.Prelude.{is_some, slice_get}
 use Rattle.std.specs.Option.{option_map}
 use Rattle.std.specs.List.{range_with_len}
 use Rattle.std.proofs.lemmas.Option.{same_Some}
 use Rattle.std.proofs.lemmas.Bool.{cases_eq}
+use Rattle.std.proofs.Common.{drop, get_or}
+use Rattle.std.proofs.lemmas.List.{drop_more}
+use Rattle.heap_words.specs.declared.schedule.Item.{Item}
+use Rattle.step_core.specs.Schedule.{task_of}
+use Rattle.shen_core.specs.Progress.{DoesTask}
 use Rattle.heap_words.specs.declared.config.Config.{Config}
 use Rattle.heap_words.specs.Ranges.{seat_count}
 use Rattle.steps_base.specs.Steps.{Stage, Event, act, go}
 use Rattle.steps_base.proofs.Runs.{go-none, go-append}
 use Rattle.std.proofs.lemmas.List.{length-append}
 use Rattle.mutator.specs.declared.spot.Order.{Order}
-use Rattle.step_core.specs.Actor.{Machine, Actor, kind}
-use Rattle.step_core.specs.Schedule.{Scripts, turn, turn_of, order_on_turn, Agenda, Next, next, numbers_from, first_turn, or_else, round_of, and_then, scheduled}
+use Rattle.step_core.specs.Actor.{Actor, kind}
+use Rattle.step_core.specs.Schedule.{Scripts, turn, turn_of, order_on_turn, Agenda, next, numbers_from, first_turn, or_else, round_of, and_then, scheduled}
 use Rattle.step_core.proofs.Entries.{append_none}
 use Rattle.shen_core.specs.declared.plain.Plain.{Plain}
 use Rattle.shen_core.specs.declared.run.Ran.{Ran}
@@ -21,7 +26,7 @@ use Rattle.shen_core.specs.declared.step.Stepped.{Stepped}
 use Rattle.shen_core.specs.declared.step.Stepped.TheVariants.{Idle}
 use Rattle.shen_core.specs.State.{config_of, Shows, IsUnchanged}
 use Rattle.shen_core.specs.Runs.{event}
-use Rattle.shen_core.specs.Progress.{Jobs, Goes, Tells, WentOn, Runs, agenda, Turned, HasTurned, IsPassed, IsMoved, AreIdle, AllIdle, SomeBusy}
+use Rattle.shen_core.specs.Progress.{Jobs, Tells, Runs, agenda, Turned, HasTurned, IsPassed, AreIdle, AllIdle, SomeBusy}
 use Rattle.shen_core.specs.Ending.{HasEnded, HasRun, EndsRun}
 use Rattle.shen_core.proofs.Going.{goes_same, goes_next, moved_of}
 
@@ -33,9 +38,9 @@ first_turn-append : (scripts : Scripts) (s : Stage Actor) (xs ys : List ℕ) →
 first_turn-append scripts s [] ys = refl
 first_turn-append scripts s (k ∷ xs) ys = ap (or_else (turn scripts s k)) (first_turn-append scripts s xs ys) ∙ assoc (turn scripts s k) (first_turn scripts s xs) (first_turn scripts s ys)
   where
-  assoc : (a b d : Option (Event Order)) → or_else a (or_else b d) ≡ or_else (or_else a b) d
-  assoc None b d = refl
-  assoc (Some e) b d = refl
+    assoc : (a b d : Option (Event Order)) → or_else a (or_else b d) ≡ or_else (or_else a b) d
+    assoc None b d = refl
+    assoc (Some e) b d = refl
 
 or_none : (a : Option (Event Order)) → or_else a None ≡ a
 or_none None = refl
@@ -61,18 +66,19 @@ round_pass c scripts s k below idle =
     ap round_of
     (ap (first_turn scripts s) (numbers_step c k below) ∙ ap (λ t. or_else t (first_turn scripts s rest)) idle
     ∙ sym (ap (first_turn scripts s) (numbers_after c k) ∙ first_turn-append scripts s rest (k ∷ [])
-      ∙ ap (λ t. or_else (first_turn scripts s rest) (or_else t None)) idle ∙ or_none (first_turn scripts s rest)))
+    ∙ ap (λ t. or_else (first_turn scripts s rest) (or_else t None)) idle ∙ or_none (first_turn scripts s rest)))
 
 -- a machine that is not idle makes the next event
 turn_number : (scripts : Scripts) (s : Stage Actor) (k : ℕ) (e : Event Order) → turn scripts s k ≡ Some e → e.number ≡ k
 turn_number scripts s k e is = by_actor (slice_get s.machines k) is
   where
-  by_order : (o : Option Order) → option_map (λ order. event k order) o ≡ Some e → e.number ≡ k
-  by_order None is = cc
-  by_order (Some order) is = sym (ap (λ x. x.number) (same_Some _ _ is))
-  by_actor : (a : Option Actor) → turn_of scripts k a ≡ Some e → e.number ≡ k
-  by_actor None is = cc
-  by_actor (Some a) is = by_order (order_on_turn scripts k a a.machine) is
+    by_order : (o : Option Order) → option_map (λ order. event k order) o ≡ Some e → e.number ≡ k
+    by_order None is = cc
+    by_order (Some order) is = sym (ap (λ x. x.number) (same_Some _ _ is))
+
+    by_actor : (a : Option Actor) → turn_of scripts k a ≡ Some e → e.number ≡ k
+    by_actor None is = cc
+    by_actor (Some a) is = by_order (order_on_turn scripts k a a.machine) is
 
 pub round_move : (c : Config) (scripts : Scripts) (s : Stage Actor) (k : ℕ) (e : Event Order) → k < seat_count c.mutators c.helpers → turn scripts s k ≡ Some e → next c scripts s (agenda [] k) ≡ Some (record { event = e; agenda = agenda [] (k + 1) })
 round_move c scripts s k e below is =
@@ -120,12 +126,16 @@ round_moves p q jobs later k result left below turned busy some scripts s shows 
     record {
       stage = act (kind (config_of p)) s moved.event;
       goes = goes_next (config_of p) scripts s (agenda [] k) (agenda [] (k + 1)) moved.event left some (round_move (config_of p) scripts s k moved.event below moved.is);
-      shows = moved.shows; tells = moved.tells;
+      shows = moved.shows;
+      tells = moved.tells;
     }
 
 pub round_ends : (p : Plain) (jobs : Jobs) (left : ℕ) → Runs p jobs (agenda [] (seat_count (config_of p).mutators (config_of p).helpers)) left p jobs (agenda [] 0) left
 round_ends p jobs left scripts s shows tells = record {
-  stage = s; goes = goes_same (config_of p) scripts s _ _ left (round_again (config_of p) scripts s); shows = shows; tells = tells;
+  stage = s;
+  goes = goes_same (config_of p) scripts s _ _ left (round_again (config_of p) scripts s);
+  shows = shows;
+  tells = tells;
 }
 
 -- the end of a run: all machines are idle
@@ -161,15 +171,15 @@ ends_then p q r jobs later last todo rest limit left result same runs ends scrip
     let went = runs scripts s shows tells in
     let c = config_of p in
     let end : HasRun c scripts went.stage rest left r last result = subst (λ c. HasRun c scripts went.stage rest left r last result) same
-      (ends scripts went.stage went.shows (subst (λ c. Tells c scripts later went.stage) (sym same) went.tells)) in
+    (ends scripts went.stage went.shows (subst (λ c. Tells c scripts later went.stage) (sym same) went.tells)) in
     let stages : go (kind c) s (scheduled c scripts limit todo s) ≡ go (kind c) went.stage (scheduled c scripts left rest went.stage) =
-      ap (go (kind c) s) went.goes.events ∙ go-append (kind c) s went.goes.done _ ∙ ap (λ x. go (kind c) x (scheduled c scripts left rest went.stage)) went.goes.leads in
+    ap (go (kind c) s) went.goes.events ∙ go-append (kind c) s went.goes.done _ ∙ ap (λ x. go (kind c) x (scheduled c scripts left rest went.stage)) went.goes.leads in
     let lengths : length (scheduled c scripts limit todo s) ≡ length went.goes.done + length (scheduled c scripts left rest went.stage) = ap length went.goes.events ∙ length-append went.goes.done _ in
     record {
       shows = subst (λ x. Shows r x) (sym stages) end.shows;
       tells = subst (λ x. Tells c scripts last x) (sym stages) end.tells;
       ended = subst (λ n. HasEnded c scripts (go (kind c) s (scheduled c scripts limit todo s)) n limit result) (sym lengths)
-        (ended_more c scripts _ _ (length went.goes.done) _ left limit result stages went.goes.count end.ended);
+          (ended_more c scripts _ _ (length went.goes.done) _ left limit result stages went.goes.count end.ended);
     }
 
 pub none_of_some : {A : Type 0} (o : Option A) → is_some o ≡ false → o ≡ None
@@ -188,3 +198,10 @@ idle_more p q jobs later number result same work_is turned idle before scripts s
     (λ (is : k ≡ number). ap (turn scripts s) is ∙ passed.idle)
     (λ (other : k ≡ number → ⊥). before scripts s shows_before tells_before k (omega arith))
     (cases_eq k number)
+
+-- an item more
+pub item_step : (p q : Plain) (jobs later : Jobs) (items : List Item) (index : ℕ) (d : Item) (left remaining : ℕ) → index < length items → DoesTask p jobs (task_of (get_or items index d)) left q later remaining
+    → Runs p jobs (agenda (map task_of (drop index items)) 0) left q later (agenda (map task_of (drop (index + 1) items)) 0) remaining
+item_step p q jobs later items index d left remaining below does =
+    subst (λ xs. Runs p jobs (agenda (map task_of xs) 0) left q later (agenda (map task_of (drop (index + 1) items)) 0) remaining)
+    (sym (drop_more items index d below)) (does (map task_of (drop (index + 1) items)) 0)

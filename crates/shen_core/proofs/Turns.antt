@@ -1,36 +1,30 @@
 -- The turn of a machine, in each stage that memory shows.
-use Rattle.std.proofs.Common.{◌≡◌, ◌≢◌, ◌<◌, ◌≤◌, ◌⊎◌, ⊎_elim, ℕ, ◌+◌, Bool, true, false, List, [], ◌∷◌, ◌++◌, length, get_or, map, All, Option, Some, None, refl, sym, ap, ◌∙◌, subst, arith}
-use Rattle.std.specs.Prelude.{nat_lt, slice_get, slice_set, slice_index, slice_index_or}
+use Rattle.std.proofs.Common.{◌≡◌, ◌<◌, ℕ, true, List, length, All, Option, Some, None, refl, sym, ap, ◌∙◌, subst}
+use Rattle.std.specs.Prelude.{nat_lt, slice_get, slice_index_or}
 use Rattle.std.specs.Option.{option_map}
 use Rattle.std.proofs.Math.Logic.{∥∥₁_elim}
 use Rattle.std.proofs.Math.Bool.{Bool-set}
-use Rattle.std.proofs.lemmas.List.{length-map, map-append, length-set}
-use Rattle.std.proofs.lemmas.Option.{slice_get-map, slice_get-get_or, slice_get_within, get_or_from_slice_get, same_Some}
-use Rattle.std.proofs.lemmas.Bool.{cases_eq, lt-ltb, ltb-true}
+use Rattle.std.proofs.lemmas.List.{length-map}
+use Rattle.std.proofs.lemmas.Option.{slice_get-get_or, slice_get_within, get_or_from_slice_get}
+use Rattle.std.proofs.lemmas.Bool.{lt-ltb, ltb-true}
 use Rattle.heap_words.specs.declared.config.Config.{Config}
-use Rattle.heap_words.specs.Access.{place_of}
-use Rattle.steps_base.specs.Steps.{Stage, Event, IsEvent, moved, act}
-use Rattle.steps_base.proofs.Laws.{act-event}
-use Rattle.steps_base.proofs.Places.{slice_get-set_same, slice_get-set_other}
+use Rattle.steps_base.specs.Steps.{Stage}
 use Rattle.shen_graph.specs.declared.command.Command.{Command}
-use Rattle.shen_graph.specs.declared.command.Reply.{Reply}
-use Rattle.shen_graph.specs.History.{Entry}
 use Rattle.shen_graph.specs.Work as work
-use Rattle.mutator.specs.declared.spot.Order.{Order}
-use Rattle.mutator.specs.declared.spot.Order.TheVariants.{Nothing, Begin}
+use Rattle.mutator.specs.declared.spot.Order.TheVariants.{Begin}
 use Rattle.mutator.specs.Orders.{is_at_rest, takes_at, is_next, is_served}
 use Rattle.mutator.proofs.Valid.{is_valid_from}
 use Rattle.shen_graph.specs.Valid.{IsValid}
 use Rattle.mutator.specs.declared.spot.Spot.{Spot}
 use Rattle.mutator.specs.declared.spot.Spot.TheVariants.{Rest, Ended}
-use Rattle.mutator.specs.Rows.{Mutating, given_at, answer_at}
-use Rattle.step_core.specs.Actor.{Machine, mutating, helping, controlling, Actor, entries_of, takes_of, took_of, kind}
-use Rattle.step_core.specs.Follows.{IsMutator, reached, past}
-use Rattle.step_core.specs.Schedule.{Scripts, script_of, turn, turn_of, order_on_turn, waits, waits_of, waits_in, is_again}
+use Rattle.mutator.specs.Rows.{Mutating}
+use Rattle.step_core.specs.Actor.{Machine, mutating, helping, controlling, Actor, takes_of}
+use Rattle.step_core.specs.Follows.{reached, past}
+use Rattle.step_core.specs.Schedule.{Scripts, script_of, turn, turn_of, order_on_turn}
 use Rattle.step_core.proofs.Theorem.{follows_reached, thread_of}
-use Rattle.shen_core.specs.Runs.{Shows, IsShownBySome, event, access_of}
+use Rattle.shen_core.specs.Runs.{Shows, IsShownBySome, event}
 use Rattle.shen_core.specs.Answer.{is_resting, made_of_machine}
-use Rattle.shen_core.specs.Progress.{Jobs, Tells, event_if}
+use Rattle.shen_core.specs.Progress.{Jobs, Tells}
 use Rattle.shen_core.proofs.Events.{shown_actor}
 
 -- a mutator has the number of its seat, which is one of a mutator
@@ -70,7 +64,7 @@ turn_by_next c words machines jobs number machine here rest below scripts s show
     ∙ map_of_map (λ order. event number order) (λ command. Begin command) _
     ∙ ap (λ script. option_map (λ command. event number (Begin command)) (slice_get script (length a.calls))) (sym (tells.scripts_are number below))
     ∙ ap (λ k. option_map (λ command. event number (Begin command)) (slice_get (work.script_of jobs number) k))
-      (sym (ap length (tells.replies number a below found.1) ∙ length-map a.calls (λ e. e.reply)))
+    (sym (ap length (tells.replies number a below found.1) ∙ length-map a.calls (λ e. e.reply)))
 
 pub element : {A : Type 0} (P : A → Type 0) (xs : List A) (k : ℕ) (x : A) → All P xs → slice_get xs k ≡ Some x → P x
 element P xs k x all here = subst P (get_or_from_slice_get xs k x x here) (all k x (slice_get_within xs k x here))
@@ -84,9 +78,10 @@ rest_takes helping k rest valid served made = cc
 rest_takes controlling k rest valid served made = cc
 rest_takes (mutating m) k rest valid served made = spot_takes m.spot rest
   where
-  next : is_next m.made k ≡ true
-  next = rw (is_valid_from k valid, served, lt-ltb m.made 4294967295 made) refl
-  spot_takes : (spot : Spot) → is_at_rest spot ≡ true → takes_at spot m.made (Begin k) ≡ true
-  spot_takes Rest rest = next
-  spot_takes (Ended r) rest = next
-  spot_takes _ rest = cc
+    next : is_next m.made k ≡ true
+    next = rw (is_valid_from k valid, served, lt-ltb m.made 4294967295 made) refl
+
+    spot_takes : (spot : Spot) → is_at_rest spot ≡ true → takes_at spot m.made (Begin k) ≡ true
+    spot_takes Rest rest = next
+    spot_takes (Ended r) rest = next
+    spot_takes _ rest = cc

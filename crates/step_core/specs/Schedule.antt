@@ -1,12 +1,12 @@
 -- The events of a schedule: whose turn it is, event by event. After the items of the schedule the machines take turns
 -- by their numbers, and idle ones are passed over.
-use Rattle.std.specs.Prelude.{ℕ, zero, suc, ◌≡◌, ◌+◌, ◌-◌, ◌==◌, Bool, true, false, ◌&&◌, nat_le, nat_lt, List, [], ◌∷◌, ◌++◌, length, map, Option, Some, None, slice_get, slice_index, slice_index_or, if◌then◌else◌}
+use Rattle.std.specs.Prelude.{ℕ, zero, suc, ◌+◌, ◌-◌, ◌==◌, Bool, true, false, ◌&&◌, nat_le, List, [], ◌∷◌, ◌++◌, length, map, Option, Some, None, slice_get, slice_index, slice_index_or, if◌then◌else◌}
 use Rattle.std.specs.Option.{option_map}
 use Rattle.std.specs.List.{range_with_len}
 use Rattle.heap_words.specs.declared.config.Config.{Config}
 use Rattle.heap_words.specs.declared.place.Place.{Place}
 use Rattle.heap_words.specs.declared.access.Took.{Took}
-use Rattle.heap_words.specs.declared.access.Took.TheVariants.{More, Again, Done}
+use Rattle.heap_words.specs.declared.access.Took.TheVariants.{Again}
 use Rattle.heap_words.specs.declared.schedule.Item.{Item}
 use Rattle.heap_words.specs.declared.schedule.Item.TheVariants.{Steps, Until, Replies}
 use Rattle.heap_words.specs.Access.{place_of}

@@ -1,4 +1,4 @@
-use Rattle.std.proofs.Common.{◌≡◌, ◌<◌, ℕ, true, refl, sym, ap, ◌∙◌, length, get_or, arith}
+use Rattle.std.proofs.Common.{◌≡◌, true, sym, ap, ◌∙◌, get_or, arith}
 use Rattle.std.proofs.lemmas.List.{length-map, get_or-set_same}
 use Rattle.mutator.specs.declared.spot.Order.TheVariants.{Nothing, Begin}
 use Rattle.std.specs.Option.{option_map}
@@ -17,10 +17,10 @@ returns-in-Some-clause-turn c = λ scripts s shows tells.
     let rest = sym c.is_resting.ensures.rest ∙ c.if-not-is_resting.false in
     let here = machine_within (machines_of c.args.self.now) c.args.number (omega (arith, length-map c.args.self.now.machines.items shown, c.args.self.now.all_machines, c.requires.number)) in
     let order : order_at c.begin.new.self c.args.number ≡ Begin c.in-Some.command =
-      ap (λ orders. get_or orders c.args.number Nothing) c.begin.ensures.order
-      ∙ get_or-set_same (orders_of c.args.self.now) c.args.number (Begin c.in-Some.command) Nothing (omega (arith, length-map c.args.self.now.machines.items order_of_machine, c.args.self.now.all_machines, c.requires.number)) in
+    ap (λ orders. get_or orders c.args.number Nothing) c.begin.ensures.order
+    ∙ get_or-set_same (orders_of c.args.self.now) c.args.number (Begin c.in-Some.command) Nothing (omega (arith, length-map c.args.self.now.machines.items order_of_machine, c.args.self.now.all_machines, c.requires.number)) in
     turn_by_next (config_of c.args.self.now) (words_of c.args.self.now) (machines_of c.args.self.now) c.args.work.now c.args.number (machine_at c.args.self.now c.args.number) here rest
-      (c.is_resting.ensures.below c.if-not-is_resting.false) scripts s shows tells
+    (c.is_resting.ensures.below c.if-not-is_resting.false) scripts s shows tells
     ∙ ap (option_map (λ command. event c.args.number (Begin command))) (sym c.next.ensures.next ∙ c.in-Some.is)
     ∙ ap (λ order. Some (event c.args.number order)) (sym order)
 
@@ -30,8 +30,8 @@ returns-in-Some-clause-has c =
     let below = c.is_resting.ensures.below c.if-not-is_resting.false in
     let may = element (λ command. IsValid command × (is_served command ≡ true)) _ _ _ (c.requires.run.commands c.args.number below) (sym c.next.ensures.next ∙ c.in-Some.is) in
     let order : order_at c.begin.new.self c.args.number ≡ Begin c.in-Some.command =
-      ap (λ orders. get_or orders c.args.number Nothing) c.begin.ensures.order
-      ∙ get_or-set_same (orders_of c.args.self.now) c.args.number (Begin c.in-Some.command) Nothing (omega (arith, length-map c.args.self.now.machines.items order_of_machine, c.args.self.now.all_machines, c.requires.number)) in
+    ap (λ orders. get_or orders c.args.number Nothing) c.begin.ensures.order
+    ∙ get_or-set_same (orders_of c.args.self.now) c.args.number (Begin c.in-Some.command) Nothing (omega (arith, length-map c.args.self.now.machines.items order_of_machine, c.args.self.now.all_machines, c.requires.number)) in
     ap (λ machines. takes_of (get_or machines c.args.number controlling) (order_at c.begin.new.self c.args.number)) c.begin.ensures.machines
     ∙ ap (takes_of (machine_at c.args.self.now c.args.number)) order
     ∙ rest_takes (machine_at c.args.self.now c.args.number) c.in-Some.command rest may.0 may.1 (c.requires.run.made c.args.number)
@@ -41,5 +41,5 @@ returns-in-None-clause-turn c = λ scripts s shows tells.
     let rest = sym c.is_resting.ensures.rest ∙ c.if-not-is_resting.false in
     let here = machine_within (machines_of c.args.self.now) c.args.number (omega (arith, length-map c.args.self.now.machines.items shown, c.args.self.now.all_machines, c.requires.number)) in
     turn_by_next (config_of c.args.self.now) (words_of c.args.self.now) (machines_of c.args.self.now) c.args.work.now c.args.number (machine_at c.args.self.now c.args.number) here rest
-      (c.is_resting.ensures.below c.if-not-is_resting.false) scripts s shows tells
+    (c.is_resting.ensures.below c.if-not-is_resting.false) scripts s shows tells
     ∙ ap (option_map (λ command. event c.args.number (Begin command))) (sym c.next.ensures.next ∙ c.in-None.is)

@@ -1,8 +1,7 @@
-use Rattle.std.proofs.Common.{◌≡◌, ◌<◌, ◌≤◌, ℕ, ◌-◌, true, false, [], ◌∷◌, refl, sym, ap, ◌∙◌, subst, arith}
-use Rattle.step_core.specs.Schedule.{turn, steps, until, replies, control, moves, move_of}
-use Rattle.shen_core.specs.State.{config_of}
+use Rattle.std.proofs.Common.{[], ◌∷◌, ap, ◌∙◌, arith}
+use Rattle.step_core.specs.Schedule.{turn, control, moves}
 use Rattle.shen_core.specs.Progress.{agenda}
-use Rattle.shen_core.proofs.Going.{runs_none, runs_then, runs_out, task_done, task_idles, task_moves, steps_none, steps_move, until_there, until_move, replies_given, replies_move}
+use Rattle.shen_core.proofs.Going.{runs_out, task_idles, task_moves}
 use Rattle.shen_core.proofs.plain.Plain.run_control.Goals as goal
 
 pub returns-then-left-eq0-clause-task : goal.returns-then-left-eq0-clause-task

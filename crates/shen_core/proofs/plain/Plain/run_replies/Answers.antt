@@ -1,7 +1,6 @@
-use Rattle.std.proofs.Common.{◌≡◌, ◌<◌, ◌≤◌, ℕ, ◌-◌, true, false, [], ◌∷◌, ◌++◌, length, refl, sym, ap, ◌∙◌, subst, arith}
+use Rattle.std.proofs.Common.{◌<◌, ◌-◌, [], ◌∷◌, ◌++◌, length, refl, sym, ap, ◌∙◌, subst, arith}
 use Rattle.std.proofs.lemmas.Bool.{le-leb, lt-leb}
-use Rattle.shen_graph.specs.Work.{replies_of}
-use Rattle.step_core.specs.Schedule.{turn, waits, given, replies, control, control_after, moves, move_of}
+use Rattle.step_core.specs.Schedule.{turn, waits, replies, control, control_after, moves}
 use Rattle.shen_core.specs.State.{config_of}
 use Rattle.shen_core.specs.Progress.{agenda}
 use Rattle.shen_core.proofs.Going.{plain_within, waiting_of, given_told, waiting_not, runs_none, runs_then, runs_out, task_done, task_idles, task_moves, replies_given, replies_move}

@@ -1,16 +1,18 @@
-use Rattle.std.proofs.Common.{◌≡◌, ◌≢◌, ◌<◌, ◌≤◌, ℕ, ◌+◌, ◌-◌, true, false, [], ◌∷◌, map, drop, refl, sym, ap, ◌∙◌, subst, arith}
+use Rattle.std.proofs.Common.{◌≡◌, ◌<◌, ◌+◌, [], refl, sym, ap, ◌∙◌, subst, arith}
 use Rattle.heap_words.specs.Ranges.{seat_count}
-use Rattle.step_core.specs.Schedule.{task_of}
 use Rattle.shen_core.specs.State.{config_of, seats_of}
 use Rattle.shen_core.specs.Progress.{Runs, agenda}
 use Rattle.shen_core.proofs.Going.{runs_none, runs_then, runs_out}
-use Rattle.shen_core.proofs.Rounds.{round_idles, round_moves, round_ends, ends_idle, ends_out, ends_then, idle_more}
+use Rattle.shen_core.proofs.Rounds.{round_idles, round_moves, round_ends, idle_more}
 use Rattle.shen_core.proofs.plain.Plain.run_round.Goals as goal
 use Rattle.shen_core.proofs.plain.Plain.run_round.Goals.{in-Idle, in_default}
 
 pub loop-number-init : goal.loop-number-init
 loop-number-init c = record {
-  run = c.requires; config = refl; less = omega arith; runs = runs_none _ _ _ _;
+  run = c.requires;
+  config = refl;
+  less = omega arith;
+  runs = runs_none _ _ _ _;
   idle = λ e scripts s shows tells k below. absurd (omega arith);
 }
 
@@ -24,8 +26,10 @@ loop-number-preserved c =
     let seats : seat_count (config_of c.loop-number.self).mutators (config_of c.loop-number.self).helpers ≡ seats_of c.args.self.now = ap (λ k. seat_count k.mutators k.helpers) c.loop-number.invariant.config in
     let below : c.loop-number.number < seat_count (config_of c.loop-number.self).mutators (config_of c.loop-number.self).helpers = omega (arith, c.seats-number-end.ensures, c.loop-number-test.true, seats) in
     elim c.match-turn.branch [
-      in-Idle w ↦ record {
-        run = c.turn.ensures.run; config = c.turn.ensures.config ∙ c.loop-number.invariant.config; less = (let l = c.loop-number.invariant.less in omega arith);
+      | in-Idle w ↦ record {
+        run = c.turn.ensures.run;
+        config = c.turn.ensures.config ∙ c.loop-number.invariant.config;
+        less = (let l = c.loop-number.invariant.less in omega arith);
         runs = subst (λ n. Runs c.args.self.now c.args.work.now (agenda [] 0) c.args.limit c.turn.new.self c.turn.new.work (agenda [] (c.loop-number.number + 1)) n) (sym w.left-is)
             (runs_then c.args.self.now c.loop-number.self c.turn.new.self c.args.work.now c.loop-number.work c.turn.new.work _ _ _ _ c.loop-number.left _ c.loop-number.invariant.config c.loop-number.invariant.runs
             (round_idles c.loop-number.self c.turn.new.self c.loop-number.work c.turn.new.work c.loop-number.number c.turn.result c.loop-number.left below c.turn.ensures.turned w.in-Idle.is));
@@ -33,7 +37,9 @@ loop-number-preserved c =
             (c.loop-number.invariant.idle (sym w.left-is ∙ e));
       }
       | in_default w ↦ record {
-        run = c.turn.ensures.run; config = c.turn.ensures.config ∙ c.loop-number.invariant.config; less = (let l = c.loop-number.invariant.less in omega arith);
+        run = c.turn.ensures.run;
+        config = c.turn.ensures.config ∙ c.loop-number.invariant.config;
+        less = (let l = c.loop-number.invariant.less in omega arith);
         runs = subst (λ n. Runs c.args.self.now c.args.work.now (agenda [] 0) c.args.limit c.turn.new.self c.turn.new.work (agenda [] (c.loop-number.number + 1)) n) (sym w.left-is)
             (runs_then c.args.self.now c.loop-number.self c.turn.new.self c.args.work.now c.loop-number.work c.turn.new.work _ _ _ _ c.loop-number.left _ c.loop-number.invariant.config c.loop-number.invariant.runs
             (round_moves c.loop-number.self c.turn.new.self c.loop-number.work c.turn.new.work c.loop-number.number c.turn.result c.loop-number.left below c.turn.ensures.turned w.in_default.not-Idle (let some = c.if-left-eq0.false in omega arith)));

@@ -1,10 +1,7 @@
-use Rattle.std.proofs.Common.{◌≡◌, ◌≢◌, ◌<◌, ◌≤◌, ℕ, ◌+◌, ◌-◌, true, false, [], ◌∷◌, map, drop, refl, sym, ap, ◌∙◌, subst, arith}
-use Rattle.heap_words.specs.Ranges.{seat_count}
-use Rattle.step_core.specs.Schedule.{task_of}
-use Rattle.shen_core.specs.State.{config_of, seats_of}
-use Rattle.shen_core.specs.Progress.{Runs, agenda}
-use Rattle.shen_core.proofs.Going.{runs_none, runs_then, runs_out}
-use Rattle.shen_core.proofs.Rounds.{round_idles, round_moves, round_ends, ends_idle, ends_out, ends_then, idle_more}
+use Rattle.std.proofs.Common.{[], refl, ◌∙◌, arith}
+use Rattle.shen_core.specs.Progress.{agenda}
+use Rattle.shen_core.proofs.Going.{runs_none, runs_then}
+use Rattle.shen_core.proofs.Rounds.{ends_idle, ends_out, ends_then}
 use Rattle.shen_core.proofs.plain.Plain.run_rounds.Goals as goal
 use Rattle.shen_core.specs.declared.run.Ran.TheVariants.{Finished, Unfinished}
 

@@ -1,4 +1,4 @@
-use Rattle.std.proofs.Common.{◌≡◌, ℕ, []}
+use Rattle.std.proofs.Common.{◌≡◌, []}
 use Rattle.shen_core.specs.State.{config_of}
 use Rattle.shen_core.specs.Progress.{CanRun, Runs, agenda}
 use Rattle.shen_core.proofs.plain.Plain.run_rounds.Given as goal

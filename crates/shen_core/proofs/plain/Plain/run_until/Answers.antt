@@ -1,8 +1,8 @@
-use Rattle.std.proofs.Common.{◌≡◌, ◌<◌, ◌≤◌, ℕ, ◌-◌, true, false, [], ◌∷◌, refl, sym, ap, ◌∙◌, subst, arith}
-use Rattle.step_core.specs.Schedule.{turn, steps, until, replies, control, moves, move_of}
+use Rattle.std.proofs.Common.{[], ◌∷◌, refl, sym, ap, ◌∙◌, arith}
+use Rattle.step_core.specs.Schedule.{until, moves}
 use Rattle.shen_core.specs.State.{config_of}
 use Rattle.shen_core.specs.Progress.{agenda}
-use Rattle.shen_core.proofs.Going.{plain_within, stands_shown, given_told, waiting_not, runs_none, runs_then, runs_out, task_done, task_idles, task_moves, steps_none, steps_move, until_there, until_move, replies_given, replies_move}
+use Rattle.shen_core.proofs.Going.{plain_within, stands_shown, runs_none, runs_then, runs_out, task_done, task_idles, task_moves, until_there, until_move}
 use Rattle.shen_core.proofs.plain.Plain.run_until.Goals as goal
 
 pub loop-left-init : goal.loop-left-init

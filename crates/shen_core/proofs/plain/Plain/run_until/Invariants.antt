@@ -1,5 +1,5 @@
-use Rattle.std.proofs.Common.{◌≡◌, ◌<◌, ℕ, List, ◌∷◌}
-use Rattle.step_core.specs.Schedule.{Task, steps, until, replies}
+use Rattle.std.proofs.Common.{◌≡◌, ℕ, List, ◌∷◌}
+use Rattle.step_core.specs.Schedule.{Task, until}
 use Rattle.shen_core.specs.State.{config_of}
 use Rattle.shen_core.specs.Progress.{CanRun, Runs, agenda}
 use Rattle.shen_core.proofs.plain.Plain.run_until.Given as goal

@@ -46,7 +46,7 @@ returns-else-is_idle-clause-machines c = λ turn. made_machines _ _ _ _ _ _ _
     (c.is_idle.ensures.takes c.if-is_idle.false) c.make_step.ensures.words c.make_step.ensures.seen)
 
 pub returns-else-is_idle-clause-below : goal.returns-else-is_idle-clause-below
-returns-else-is_idle-clause-below c = λ turn. 
+returns-else-is_idle-clause-below c = λ turn.
     seat_below_some c.args.self.now.config c.args.self.now.words.items _ c.args.number _ c.args.self.now.reached
     (shown_here c.args.self.now.machines.items c.args.number c.in-Mutator.mutator
     (from_read c.args.self.now.machines.items c.args.number _ _ (omega (arith, c.args.self.now.all_machines, c.requires)) c.index_mut.ensures.value c.in-Mutator.is))

@@ -1,4 +1,4 @@
-use Rattle.std.proofs.Common.{◌≡◌, refl, sym, ap, ◌∙◌, subst, arith}
+use Rattle.std.proofs.Common.{sym, ◌∙◌, subst, arith}
 use Rattle.std.proofs.lemmas.List.{length-map}
 use Rattle.shen_core.specs.Shown.{shown}
 use Rattle.shen_core.specs.State.{order_at}
@@ -10,7 +10,10 @@ pub returns-in-Done-clause-run : goal.returns-in-Done-clause-run
 returns-in-Done-clause-run c =
     let facts : IsStepped c.args.self.now c.order_next.new.self c.step-stepped.new.self c.args.work.now c.args.number c.step-stepped.result = record {
       within = omega (arith, length-map c.args.self.now.machines.items shown, c.args.self.now.all_machines, c.requires.number);
-      mid_words = c.order_next.ensures.words; mid_machines = c.order_next.ensures.machines; mid_config = c.order_next.ensures.config; mid_orders = c.order_next.ensures.orders;
+      mid_words = c.order_next.ensures.words;
+      mid_machines = c.order_next.ensures.machines;
+      mid_config = c.order_next.ensures.config;
+      mid_orders = c.order_next.ensures.orders;
       turn = subst (λ b. IsTurn c.args.self.now c.args.work.now c.args.number b (order_at c.order_next.new.self c.args.number)) c.if-not-order_next.false c.order_next.ensures.turn;
       has = c.order_next.ensures.has ∙ c.if-not-order_next.false;
       more = c.order_next.ensures.more c.if-not-order_next.false;
@@ -28,7 +31,10 @@ pub returns-in-Done-clause-turned : goal.returns-in-Done-clause-turned
 returns-in-Done-clause-turned c =
     let facts : IsStepped c.args.self.now c.order_next.new.self c.step-stepped.new.self c.args.work.now c.args.number c.step-stepped.result = record {
       within = omega (arith, length-map c.args.self.now.machines.items shown, c.args.self.now.all_machines, c.requires.number);
-      mid_words = c.order_next.ensures.words; mid_machines = c.order_next.ensures.machines; mid_config = c.order_next.ensures.config; mid_orders = c.order_next.ensures.orders;
+      mid_words = c.order_next.ensures.words;
+      mid_machines = c.order_next.ensures.machines;
+      mid_config = c.order_next.ensures.config;
+      mid_orders = c.order_next.ensures.orders;
       turn = subst (λ b. IsTurn c.args.self.now c.args.work.now c.args.number b (order_at c.order_next.new.self c.args.number)) c.if-not-order_next.false c.order_next.ensures.turn;
       has = c.order_next.ensures.has ∙ c.if-not-order_next.false;
       more = c.order_next.ensures.more c.if-not-order_next.false;
@@ -47,7 +53,10 @@ pub returns-in_default-clause-run : goal.returns-in_default-clause-run
 returns-in_default-clause-run c =
     let facts : IsStepped c.args.self.now c.order_next.new.self c.step-stepped.new.self c.args.work.now c.args.number c.step-stepped.result = record {
       within = omega (arith, length-map c.args.self.now.machines.items shown, c.args.self.now.all_machines, c.requires.number);
-      mid_words = c.order_next.ensures.words; mid_machines = c.order_next.ensures.machines; mid_config = c.order_next.ensures.config; mid_orders = c.order_next.ensures.orders;
+      mid_words = c.order_next.ensures.words;
+      mid_machines = c.order_next.ensures.machines;
+      mid_config = c.order_next.ensures.config;
+      mid_orders = c.order_next.ensures.orders;
       turn = subst (λ b. IsTurn c.args.self.now c.args.work.now c.args.number b (order_at c.order_next.new.self c.args.number)) c.if-not-order_next.false c.order_next.ensures.turn;
       has = c.order_next.ensures.has ∙ c.if-not-order_next.false;
       more = c.order_next.ensures.more c.if-not-order_next.false;
@@ -64,7 +73,10 @@ pub returns-in_default-clause-turned : goal.returns-in_default-clause-turned
 returns-in_default-clause-turned c =
     let facts : IsStepped c.args.self.now c.order_next.new.self c.step-stepped.new.self c.args.work.now c.args.number c.step-stepped.result = record {
       within = omega (arith, length-map c.args.self.now.machines.items shown, c.args.self.now.all_machines, c.requires.number);
-      mid_words = c.order_next.ensures.words; mid_machines = c.order_next.ensures.machines; mid_config = c.order_next.ensures.config; mid_orders = c.order_next.ensures.orders;
+      mid_words = c.order_next.ensures.words;
+      mid_machines = c.order_next.ensures.machines;
+      mid_config = c.order_next.ensures.config;
+      mid_orders = c.order_next.ensures.orders;
       turn = subst (λ b. IsTurn c.args.self.now c.args.work.now c.args.number b (order_at c.order_next.new.self c.args.number)) c.if-not-order_next.false c.order_next.ensures.turn;
       has = c.order_next.ensures.has ∙ c.if-not-order_next.false;
       more = c.order_next.ensures.more c.if-not-order_next.false;
