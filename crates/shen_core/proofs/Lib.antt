@@ -5,3 +5,4 @@ pub mod Turns
 pub mod Noted
 pub mod Going
 pub mod Rounds
+pub mod Fresh

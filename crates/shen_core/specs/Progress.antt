@@ -5,6 +5,7 @@ use Rattle.heap_words.specs.Ranges.{seat_count}
 use Rattle.heap_words.specs.declared.schedule.Item.{Item}
 use Rattle.heap_words.specs.declared.schedule.Item.TheVariants.{Steps, Until, Replies}
 use Rattle.steps_base.specs.Steps.{Stage, Event, act, go}
+use Rattle.shen_graph.specs.declared.command.Command.{Command}
 use Rattle.shen_graph.specs.Valid.{IsValid}
 use Rattle.shen_graph.specs.Work as work
 use Rattle.mutator.specs.declared.spot.Order.{Order}
@@ -35,11 +36,15 @@ pub record Tells (c : Config) (scripts : Scripts) (jobs : Jobs) (s : Stage Actor
   pub scripts_are : (t : ℕ) → t < c.mutators → work.script_of jobs t ≡ script_of scripts t
   pub replies : (t : ℕ) (a : Actor) → t < c.mutators → slice_get s.machines t ≡ Some a → work.replies_of jobs t ≡ map (λ e. e.reply) a.calls
 
+-- commands that can be given
+abbrev pub AreServed : List Command → Type 0
+AreServed script = All (λ command. IsValid command × (is_served command ≡ true)) script
+
 -- a `Plain` between two steps, and work for its mutators: no order is pending, and each command can be given
 pub record CanRun (p : Plain) (jobs : Jobs) : Type 0 where
   pub orders : All (λ order. order ≡ Nothing) (orders_of p)
   pub jobs_are : (t : ℕ) → t < (config_of p).mutators → work.HasScript jobs t
-  pub commands : (t : ℕ) → t < (config_of p).mutators → All (λ command. IsValid command × (is_served command ≡ true)) (work.script_of jobs t)
+  pub commands : (t : ℕ) → t < (config_of p).mutators → AreServed (work.script_of jobs t)
   pub busy : (t : ℕ) → t < (config_of p).mutators → is_resting (machine_at p t) ≡ false → length (work.replies_of jobs t) < length (work.script_of jobs t)
   pub made : (k : ℕ) → made_of_machine (machine_at p k) < 4294967295
 

@@ -10,3 +10,6 @@ mod step;
 pub use plain::Plain;
 pub use run::Ran;
 pub use step::Stepped;
+
+#[cfg(test)]
+mod tests;
