@@ -1,0 +1,5 @@
+pub mod Orders
+pub mod Rows
+pub mod Told
+pub mod Fit
+pub mod Seen

@@ -1,0 +1,87 @@
+-- A heap that was just opened, with work of which nothing was done.
+use Rattle.std.proofs.Common.{◌≡◌, ◌<◌, ◌≤◌, ⊎_elim, ℕ, ◌+◌, Bool, true, false, List, [], ◌∷◌, ◌++◌, length, get_or, map, All, Some, None, refl, sym, ap, ◌∙◌, subst, arith}
+use Rattle.std.specs.Prelude.{slice_get, nat_lt, IsSome, unwrap_or, if◌then◌else◌}
+use Rattle.std.specs.Option.{option_map}
+use Rattle.std.specs.List.{range_with_len}
+use Rattle.std.proofs.lemmas.List.{length-append, get_or_past}
+use Rattle.std.proofs.lemmas.List.Elements.{All-push}
+use Rattle.std.proofs.lemmas.List.FromFn.{get_or-map-range_with_len, length-map-range_with_len}
+use Rattle.std.proofs.lemmas.Option.{slice_get-get_or, slice_get_within, get_or_from_slice_get}
+use Rattle.std.proofs.lemmas.Bool.{false≢true, cases_lt, lt-ltb}
+use Rattle.heap_words.specs.declared.config.Config.{Config}
+use Rattle.heap_words.specs.Ranges.{seat_count}
+use Rattle.shen_graph.specs.declared.command.Command.{Command}
+use Rattle.shen_graph.specs.Work as work
+use Rattle.mutator.specs.declared.spot.Order.TheVariants.{Nothing}
+use Rattle.mutator.specs.Rows.{fresh_mutator}
+use Rattle.step_core.specs.Actor.{Machine, mutating, helping, controlling}
+use Rattle.step_core.specs.Opening.{opening_machine, opening_actor, opening}
+use Rattle.step_core.specs.Schedule.{Scripts, script_of}
+use Rattle.shen_core.specs.declared.plain.Plain.{Plain}
+use Rattle.shen_core.specs.State.{config_of, orders_of, machines_of, Shows}
+use Rattle.shen_core.specs.Answer.{is_resting, made_of_machine}
+use Rattle.shen_core.specs.Progress.{CanRun, Tells, AreServed}
+use Rattle.shen_core.proofs.Opened.{map-map}
+
+progress_first : (scripts : Scripts) (t : ℕ) → t < length scripts → length scripts ≤ 8 → work.progress_of (work.opened scripts) t ≡ Some (work.begun (script_of scripts t))
+progress_first scripts t below few =
+    get_or-map-range_with_len (λ m. option_map work.begun (slice_get scripts m)) 0 8 t t None (omega arith) (omega arith)
+    ∙ ap (option_map work.begun) (slice_get-get_or scripts t [] below)
+
+machines_first : (c : Config) (machines : List Machine) → map (λ a. a.machine) (opening c).machines ≡ machines → machines ≡ map (opening_machine c) (range_with_len 0 (seat_count c.mutators c.helpers))
+unfolding opening
+machines_first c machines is = sym is ∙ map-map (λ a. a.machine) (opening_actor c) (range_with_len 0 (seat_count c.mutators c.helpers))
+
+made_none : (c : Config) (k : ℕ) (a b : Bool) → made_of_machine (if a then mutating (fresh_mutator k) else (if b then helping else controlling)) ≡ 0
+made_none c k true b = refl
+made_none c k false true = refl
+made_none c k false false = refl
+
+machine_first : (c : Config) (machines : List Machine) (k : ℕ) → map (λ a. a.machine) (opening c).machines ≡ machines → k < seat_count c.mutators c.helpers → get_or machines k controlling ≡ opening_machine c k
+machine_first c machines k is below = ap (λ ms. get_or ms k controlling) (machines_first c machines is) ∙ get_or-map-range_with_len (opening_machine c) 0 (seat_count c.mutators c.helpers) k k controlling below (omega arith)
+
+made_first : (c : Config) (machines : List Machine) (k : ℕ) → map (λ a. a.machine) (opening c).machines ≡ machines → made_of_machine (get_or machines k controlling) ≡ 0
+made_first c machines k is = ⊎_elim
+    (λ (below : k < seat_count c.mutators c.helpers). ap made_of_machine (machine_first c machines k is below) ∙ made_none c k (nat_lt k c.mutators) (nat_lt k (c.mutators + c.helpers)))
+    (λ (past : seat_count c.mutators c.helpers ≤ k).
+    ap (λ ms. made_of_machine (get_or ms k controlling)) (machines_first c machines is)
+    ∙ ap made_of_machine (get_or_past _ k controlling (let count = length-map-range_with_len (opening_machine c) 0 (seat_count c.mutators c.helpers) in omega arith)))
+    (cases_lt k (seat_count c.mutators c.helpers))
+
+rests_first : (c : Config) (machines : List Machine) (t : ℕ) → map (λ a. a.machine) (opening c).machines ≡ machines → t < c.mutators → is_resting (get_or machines t controlling) ≡ true
+rests_first c machines t is below =
+    ap is_resting (machine_first c machines t is (omega arith))
+    ∙ ap (λ b. is_resting (if b then mutating (fresh_mutator t) else (if nat_lt t (c.mutators + c.helpers) then helping else controlling))) (lt-ltb t c.mutators below)
+
+-- a heap that was just opened can run scripts of commands that can be given
+pub can_run_first : (p : Plain) (scripts : Scripts) → Shows p (opening (config_of p)) → All (λ order. order ≡ Nothing) (orders_of p) → (config_of p).mutators ≡ length scripts → length scripts ≤ 8 → All AreServed scripts → CanRun p (work.opened scripts)
+can_run_first p scripts shows orders count few served = record {
+  orders = orders;
+  jobs_are = λ t below. subst (λ o. IsSome o) (sym (progress_first scripts t (omega arith) few)) refl;
+  commands = λ t below. subst (λ o. AreServed (unwrap_or o (work.begun [])).script) (sym (progress_first scripts t (omega arith) few)) (served t [] (omega arith));
+  busy = λ t below busy. absurd (false≢true (sym busy ∙ rests_first (config_of p) (machines_of p) t shows.machines_are below));
+  made = λ k. (let none = made_first (config_of p) (machines_of p) k shows.machines_are in omega arith);
+}
+
+-- and the work tells the replies of its calls: there is none
+pub tells_first : (c : Config) (scripts : Scripts) → c.mutators ≡ length scripts → length scripts ≤ 8 → Tells c scripts (work.opened scripts) (opening c)
+unfolding opening
+tells_first c scripts count few = record {
+  scripts_are = λ t below. ap (λ o. (unwrap_or o (work.begun [])).script) (progress_first scripts t (omega arith) few);
+  replies = λ t a below here.
+      let within = slice_get_within (opening c).machines t a here in
+      let long = length-map-range_with_len (opening_actor c) 0 (seat_count c.mutators c.helpers) in
+      let is : opening_actor c t ≡ a =
+      sym (get_or-map-range_with_len (opening_actor c) 0 (seat_count c.mutators c.helpers) t t a (omega (arith, within, long)) (omega arith)) ∙ get_or_from_slice_get (opening c).machines t a a here in
+      ap (λ o. (unwrap_or o (work.begun [])).replies) (progress_first scripts t (omega arith) few) ∙ ap (λ b. map (λ e. e.reply) b.calls) is;
+}
+
+-- scripts that are put together one after the other
+pub served_none : (scripts : Scripts) → scripts ≡ [] → All AreServed scripts
+served_none scripts none = subst (λ xs. All AreServed xs) (sym none) (λ k d below. absurd (omega arith))
+
+pub served_push : (before after : Scripts) (script : List Command) → after ≡ before ++ script ∷ [] → All AreServed before → AreServed script → All AreServed after
+served_push before after script grown served one = subst (λ xs. All AreServed xs) (sym grown) (All-push AreServed before script served one)
+
+pub length_pushed : (before after : Scripts) (script : List Command) → after ≡ before ++ script ∷ [] → length after ≡ length before + 1
+length_pushed before after script grown = ap length grown ∙ length-append before (script ∷ [])

@@ -1,0 +1,87 @@
+-- The turn of a machine, in each stage that memory shows.
+use Rattle.std.proofs.Common.{◌≡◌, ◌<◌, ℕ, true, List, length, All, Option, Some, None, refl, sym, ap, ◌∙◌, subst}
+use Rattle.std.specs.Prelude.{nat_lt, slice_get, slice_index_or}
+use Rattle.std.specs.Option.{option_map}
+use Rattle.std.proofs.Math.Logic.{∥∥₁_elim}
+use Rattle.std.proofs.Math.Bool.{Bool-set}
+use Rattle.std.proofs.lemmas.List.{length-map}
+use Rattle.std.proofs.lemmas.Option.{slice_get-get_or, slice_get_within, get_or_from_slice_get}
+use Rattle.std.proofs.lemmas.Bool.{lt-ltb, ltb-true}
+use Rattle.heap_words.specs.declared.config.Config.{Config}
+use Rattle.steps_base.specs.Steps.{Stage}
+use Rattle.shen_graph.specs.declared.command.Command.{Command}
+use Rattle.shen_graph.specs.Work as work
+use Rattle.mutator.specs.declared.spot.Order.TheVariants.{Begin}
+use Rattle.mutator.specs.Orders.{is_at_rest, takes_at, is_next, is_served}
+use Rattle.mutator.proofs.Valid.{is_valid_from}
+use Rattle.shen_graph.specs.Valid.{IsValid}
+use Rattle.mutator.specs.declared.spot.Spot.{Spot}
+use Rattle.mutator.specs.declared.spot.Spot.TheVariants.{Rest, Ended}
+use Rattle.mutator.specs.Rows.{Mutating}
+use Rattle.step_core.specs.Actor.{Machine, mutating, helping, controlling, Actor, takes_of}
+use Rattle.step_core.specs.Follows.{reached, past}
+use Rattle.step_core.specs.Schedule.{Scripts, script_of, turn, turn_of, order_on_turn}
+use Rattle.step_core.proofs.Theorem.{follows_reached, thread_of}
+use Rattle.shen_core.specs.Runs.{Shows, IsShownBySome, event}
+use Rattle.shen_core.specs.Answer.{is_resting, made_of_machine}
+use Rattle.shen_core.specs.Progress.{Jobs, Tells}
+use Rattle.shen_core.proofs.Events.{shown_actor}
+
+-- a mutator has the number of its seat, which is one of a mutator
+pub seat_below : (c : Config) (words : List ℕ) (machines : List Machine) (number : ℕ) (m : Mutating) → IsShownBySome c words machines → slice_get machines number ≡ Some (mutating m) → number < c.mutators
+seat_below c words machines number m some here =
+    let found = shown_actor words machines (reached c some.events) number (mutating m) some.shows here in
+    let thread = thread_of c (reached c some.events) (past c some.events) (follows_reached c some.events) number found.0 m (record { here = found.1; is = found.2 }) in
+    subst (λ k. k < c.mutators) thread.number_is thread.mine.seat
+
+pub seat_below_some : (c : Config) (words : List ℕ) (machines : List Machine) (number : ℕ) (m : Mutating) → ∥ IsShownBySome c words machines ∥₁ → slice_get machines number ≡ Some (mutating m) → number < c.mutators
+seat_below_some c words machines number m some here =
+    let test : nat_lt number c.mutators ≡ true = ∥∥₁_elim some (hlevel (Bool-set)) (λ shown. lt-ltb number c.mutators (seat_below c words machines number m shown here)) in
+    ltb-true number c.mutators test
+
+map_of_map : {A B C : Type 0} (f : B → C) (g : A → B) (o : Option A) → option_map f (option_map g o) ≡ option_map (λ x. f (g x)) o
+map_of_map f g None = refl
+map_of_map f g (Some x) = refl
+
+-- the turn of an actor, by its machine
+pub actor_turn : (scripts : Scripts) (s : Stage Actor) (number : ℕ) (a : Actor) (machine : Machine) → slice_get s.machines number ≡ Some a → a.machine ≡ machine → turn scripts s number ≡ option_map (λ order. event number order) (order_on_turn scripts number a machine)
+actor_turn scripts s number a machine here is =
+    ap (turn_of scripts number) here ∙ ap (λ x. option_map (λ order. event number order) (order_on_turn scripts number a x)) is
+
+pub resting_order : (scripts : Scripts) (number : ℕ) (a : Actor) (machine : Machine) → is_resting machine ≡ true → order_on_turn scripts number a machine ≡ option_map (λ command. Begin command) (slice_get (script_of scripts number) (length a.calls))
+resting_order scripts number a (mutating m) rest = rw rest refl
+resting_order scripts number a helping rest = cc
+resting_order scripts number a controlling rest = cc
+
+-- a mutator between two calls begins the next command of its script
+pub turn_by_next : (c : Config) (words : List ℕ) (machines : List Machine) (jobs : Jobs) (number : ℕ) (machine : Machine) → slice_get machines number ≡ Some machine → is_resting machine ≡ true → number < c.mutators
+    → (scripts : Scripts) (s : Stage Actor) → Shows words machines s → Tells c scripts jobs s → turn scripts s number ≡ option_map (λ command. event number (Begin command)) (work.next_of jobs number)
+turn_by_next c words machines jobs number machine here rest below scripts s shows tells =
+    let found = shown_actor words machines s number machine shows here in
+    let a = found.0 in
+    actor_turn scripts s number a machine found.1 found.2
+    ∙ ap (option_map (λ order. event number order)) (resting_order scripts number a machine rest)
+    ∙ map_of_map (λ order. event number order) (λ command. Begin command) _
+    ∙ ap (λ script. option_map (λ command. event number (Begin command)) (slice_get script (length a.calls))) (sym (tells.scripts_are number below))
+    ∙ ap (λ k. option_map (λ command. event number (Begin command)) (slice_get (work.script_of jobs number) k))
+    (sym (ap length (tells.replies number a below found.1) ∙ length-map a.calls (λ e. e.reply)))
+
+pub element : {A : Type 0} (P : A → Type 0) (xs : List A) (k : ℕ) (x : A) → All P xs → slice_get xs k ≡ Some x → P x
+element P xs k x all here = subst P (get_or_from_slice_get xs k x x here) (all k x (slice_get_within xs k x here))
+
+pub machine_within : (machines : List Machine) (number : ℕ) → number < length machines → slice_get machines number ≡ Some (slice_index_or machines number controlling)
+machine_within machines number below = slice_get-get_or machines number controlling below
+
+-- a machine between two calls takes a command that can be given
+pub rest_takes : (machine : Machine) (k : Command) → is_resting machine ≡ true → IsValid k → is_served k ≡ true → made_of_machine machine < 4294967295 → takes_of machine (Begin k) ≡ true
+rest_takes helping k rest valid served made = cc
+rest_takes controlling k rest valid served made = cc
+rest_takes (mutating m) k rest valid served made = spot_takes m.spot rest
+  where
+    next : is_next m.made k ≡ true
+    next = rw (is_valid_from k valid, served, lt-ltb m.made 4294967295 made) refl
+
+    spot_takes : (spot : Spot) → is_at_rest spot ≡ true → takes_at spot m.made (Begin k) ≡ true
+    spot_takes Rest rest = next
+    spot_takes (Ended r) rest = next
+    spot_takes _ rest = cc

@@ -1,0 +1,35 @@
+use Rattle.std.proofs.Common.{◌≡◌, ◌-◌, [], ◌∷◌, refl, ap, ◌∙◌, arith}
+use Rattle.step_core.specs.Schedule.{steps, moves, move_of}
+use Rattle.shen_core.specs.State.{config_of}
+use Rattle.shen_core.specs.Progress.{agenda}
+use Rattle.shen_core.proofs.Going.{runs_none, runs_then, runs_out, task_done, task_idles, task_moves, steps_move}
+use Rattle.shen_core.proofs.plain.Plain.run_steps.Goals as goal
+
+pub loop-wanted-init : goal.loop-wanted-init
+loop-wanted-init c = record { run = c.requires.run; config = refl; runs = λ tasks from. runs_none _ _ _ _ }
+
+pub returns-in-Idle-clause-task : goal.returns-in-Idle-clause-task
+returns-in-Idle-clause-task c = λ tasks from.
+    runs_then c.args.self.now c.loop-wanted.self c.turn.new.self c.args.work.now c.loop-wanted.work c.turn.new.work _ (agenda (steps c.args.number c.loop-wanted.wanted ∷ tasks) from) (agenda tasks from) _ c.loop-wanted.left _ c.loop-wanted.invariant.config (c.loop-wanted.invariant.runs tasks from)
+    (task_idles c.loop-wanted.self c.turn.new.self c.loop-wanted.work c.turn.new.work c.args.number c.turn.result (steps c.args.number c.loop-wanted.wanted) c.loop-wanted.left c.turn.ensures.turned c.in-Idle.is
+    (λ scripts s shows tells none. steps_move (config_of c.loop-wanted.self) scripts s c.args.number c.loop-wanted.wanted c.loop-wanted-test.true ∙ ap (λ e. moves e (steps c.args.number (c.loop-wanted.wanted - 1) ∷ [])) none) tasks from)
+
+pub loop-wanted-preserved : goal.loop-wanted-preserved
+loop-wanted-preserved c = record {
+  run = c.turn.ensures.run;
+  config = c.turn.ensures.config ∙ c.loop-wanted.invariant.config;
+  runs = λ tasks from.
+      runs_then c.args.self.now c.loop-wanted.self c.turn.new.self c.args.work.now c.loop-wanted.work c.turn.new.work _ (agenda (steps c.args.number c.loop-wanted.wanted ∷ tasks) from) (agenda (steps c.args.number (c.loop-wanted.wanted - 1) ∷ tasks) from) _ c.loop-wanted.left _ c.loop-wanted.invariant.config (c.loop-wanted.invariant.runs tasks from)
+      (task_moves c.loop-wanted.self c.turn.new.self c.loop-wanted.work c.turn.new.work c.args.number c.turn.result (steps c.args.number c.loop-wanted.wanted) (steps c.args.number (c.loop-wanted.wanted - 1) ∷ []) c.loop-wanted.left c.turn.ensures.turned c.in_default.not-Idle c.if-left-gt0.true
+      (λ scripts s shows tells waits. steps_move (config_of c.loop-wanted.self) scripts s c.args.number c.loop-wanted.wanted c.loop-wanted-test.true) tasks from);
+}
+
+pub returns-else-left-gt0-clause-task : goal.returns-else-left-gt0-clause-task
+returns-else-left-gt0-clause-task c = λ tasks from.
+    runs_then c.args.self.now c.loop-wanted.self c.loop-wanted.self c.args.work.now c.loop-wanted.work c.loop-wanted.work _ (agenda (steps c.args.number c.loop-wanted.wanted ∷ tasks) from) (agenda tasks from) _ c.loop-wanted.left _ c.loop-wanted.invariant.config (c.loop-wanted.invariant.runs tasks from)
+    (runs_out c.loop-wanted.self c.loop-wanted.work _ _ c.loop-wanted.left (omega arith))
+
+pub returns-after-loop-wanted-clause-task : goal.returns-after-loop-wanted-clause-task
+returns-after-loop-wanted-clause-task c = λ tasks from.
+    runs_then c.args.self.now c.loop-wanted.self c.loop-wanted.self c.args.work.now c.loop-wanted.work c.loop-wanted.work _ (agenda (steps c.args.number c.loop-wanted.wanted ∷ tasks) from) (agenda tasks from) _ c.loop-wanted.left _ c.loop-wanted.invariant.config (c.loop-wanted.invariant.runs tasks from)
+    (task_done c.loop-wanted.self c.loop-wanted.work (steps c.args.number c.loop-wanted.wanted) c.loop-wanted.left (λ scripts s shows tells. ap (λ n. move_of (config_of c.loop-wanted.self) scripts s (steps c.args.number n)) (let none : c.loop-wanted.wanted ≡ 0 = omega arith in none)) tasks from)

@@ -1,0 +1,6 @@
+pub mod Shown
+pub mod Runs
+pub mod State
+pub mod Answer
+pub mod Progress
+pub mod Ending

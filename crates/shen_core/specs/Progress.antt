@@ -1,0 +1,125 @@
+-- From one moment of a run of a schedule to a later one.
+use Rattle.std.specs.Prelude.{ℕ, ◌≡◌, ◌+◌, ◌<◌, Bool, true, false, List, ◌∷◌, ◌++◌, length, map, All, Option, Some, None, is_some, slice_get}
+use Rattle.heap_words.specs.declared.config.Config.{Config}
+use Rattle.heap_words.specs.Ranges.{seat_count}
+use Rattle.heap_words.specs.declared.schedule.Item.{Item}
+use Rattle.heap_words.specs.declared.schedule.Item.TheVariants.{Steps, Until, Replies}
+use Rattle.steps_base.specs.Steps.{Stage, Event, act, go}
+use Rattle.shen_graph.specs.declared.command.Command.{Command}
+use Rattle.shen_graph.specs.Valid.{IsValid}
+use Rattle.shen_graph.specs.Work as work
+use Rattle.mutator.specs.declared.spot.Order.{Order}
+use Rattle.mutator.specs.declared.spot.Order.TheVariants.{Nothing}
+use Rattle.mutator.specs.Orders.{is_served}
+use Rattle.step_core.specs.Actor.{Actor, kind}
+use Rattle.step_core.specs.Schedule.{Scripts, script_of, turn, waits, Task, Agenda, scheduled}
+use Rattle.shen_core.specs.declared.plain.Plain.{Plain}
+use Rattle.shen_core.specs.declared.step.Stepped.{Stepped}
+use Rattle.shen_core.specs.declared.step.Stepped.TheVariants.{More, Again, Done, Idle}
+use Rattle.shen_core.specs.Runs.{event}
+use Rattle.shen_core.specs.State.{config_of, orders_of, machine_at, Shows}
+use Rattle.shen_core.specs.Answer.{made_of_machine, is_resting}
+
+-- the work of the threads, as contracts see it
+abbrev pub Jobs : Type 0
+Jobs = List (Option work.Progress)
+
+-- Events lead from a stage with an agenda and so many events left to another, and the schedule goes on from there.
+pub record Goes (c : Config) (scripts : Scripts) (s : Stage Actor) (agenda : Agenda) (left : ℕ) (t : Stage Actor) (rest : Agenda) (later : ℕ) : Type 0 where
+  pub done : List (Event Order)
+  pub leads : go (kind c) s done ≡ t
+  pub events : scheduled c scripts left agenda s ≡ done ++ scheduled c scripts later rest t
+  pub count : length done + later ≡ left
+
+-- the work has these scripts, and its replies are those of the calls that the machines of the stage have ended
+pub record Tells (c : Config) (scripts : Scripts) (jobs : Jobs) (s : Stage Actor) : Type 0 where
+  pub scripts_are : (t : ℕ) → t < c.mutators → work.script_of jobs t ≡ script_of scripts t
+  pub replies : (t : ℕ) (a : Actor) → t < c.mutators → slice_get s.machines t ≡ Some a → work.replies_of jobs t ≡ map (λ e. e.reply) a.calls
+
+-- commands that can be given
+abbrev pub AreServed : List Command → Type 0
+AreServed script = All (λ command. IsValid command × (is_served command ≡ true)) script
+
+-- a `Plain` between two steps, and work for its mutators: no order is pending, and each command can be given
+pub record CanRun (p : Plain) (jobs : Jobs) : Type 0 where
+  pub orders : All (λ order. order ≡ Nothing) (orders_of p)
+  pub jobs_are : (t : ℕ) → t < (config_of p).mutators → work.HasScript jobs t
+  pub commands : (t : ℕ) → t < (config_of p).mutators → AreServed (work.script_of jobs t)
+  pub busy : (t : ℕ) → t < (config_of p).mutators → is_resting (machine_at p t) ≡ false → length (work.replies_of jobs t) < length (work.script_of jobs t)
+  pub made : (k : ℕ) → made_of_machine (machine_at p k) < 4294967295
+
+-- the event of a machine under an order, if it makes one
+abbrev pub event_if : Bool → ℕ → Order → Option (Event Order)
+event_if true number order = Some (event number order)
+event_if false number order = None
+
+-- whatever stage memory shows, the machine's turn there is its event under the order that it has now, if it has a turn
+abbrev pub IsTurn : Plain → Jobs → ℕ → Bool → Order → Type 0
+IsTurn p jobs number has order = (scripts : Scripts) (s : Stage Actor) → Shows p s → Tells (config_of p) scripts jobs s → turn scripts s number ≡ event_if has number order
+
+-- the machine was idle, and nothing changed
+pub record IsPassed (c : Config) (scripts : Scripts) (s : Stage Actor) (number : ℕ) (p : Plain) (jobs : Jobs) : Type 0 where
+  pub idle : turn scripts s number ≡ None
+  pub shows : Shows p s
+  pub tells : Tells c scripts jobs s
+
+-- the machine made its event, and said whether it waits
+pub record IsMoved (c : Config) (scripts : Scripts) (s : Stage Actor) (number : ℕ) (p : Plain) (jobs : Jobs) (waiting : Bool) : Type 0 where
+  pub event : Event Order
+  pub is : turn scripts s number ≡ Some event
+  pub waits_is : waits c s number ≡ waiting
+  pub shows : Shows p (act (kind c) s event)
+  pub tells : Tells c scripts jobs (act (kind c) s event)
+
+-- what a turn has done, by what the machine said
+abbrev pub Turned : Config → Scripts → Stage Actor → ℕ → Plain → Jobs → Stepped → Type 0
+Turned c scripts s number p jobs Idle = IsPassed c scripts s number p jobs
+Turned c scripts s number p jobs Again = IsMoved c scripts s number p jobs true
+Turned c scripts s number p jobs More = IsMoved c scripts s number p jobs false
+Turned c scripts s number p jobs Done = IsMoved c scripts s number p jobs false
+
+-- the schedule goes on from a stage that memory shows to one that it shows now
+pub record WentOn (c : Config) (scripts : Scripts) (s : Stage Actor) (agenda : Agenda) (left : ℕ) (p : Plain) (jobs : Jobs) (rest : Agenda) (later : ℕ) : Type 0 where
+  pub stage : Stage Actor
+  pub goes : Goes c scripts s agenda left stage rest later
+  pub shows : Shows p stage
+  pub tells : Tells c scripts jobs stage
+
+-- whatever stage memory shows, the machine made its turn there
+abbrev pub HasTurned : Plain → Jobs → ℕ → Plain → Jobs → Stepped → Type 0
+HasTurned p jobs number q later result =
+    (scripts : Scripts) (s : Stage Actor) → Shows p s → Tells (config_of p) scripts jobs s → Turned (config_of p) scripts s number q later result
+
+abbrev pub agenda : List Task → ℕ → Agenda
+agenda tasks from = record { tasks = tasks; from = from }
+
+-- whatever stage memory showed, the schedule went on from there to what memory shows now
+abbrev pub Runs : Plain → Jobs → Agenda → ℕ → Plain → Jobs → Agenda → ℕ → Type 0
+Runs p jobs todo left q later rest remaining =
+    (scripts : Scripts) (s : Stage Actor) → Shows p s → Tells (config_of p) scripts jobs s → WentOn (config_of p) scripts s todo left q later rest remaining
+
+-- the task was done, or as much of it as there were events left
+abbrev pub DoesTask : Plain → Jobs → Task → ℕ → Plain → Jobs → ℕ → Type 0
+DoesTask p jobs task left q later remaining = (tasks : List Task) (from : ℕ) → Runs p jobs (agenda (task ∷ tasks) from) left q later (agenda tasks from) remaining
+
+-- no machine has a turn
+abbrev pub AreIdle : Config → Scripts → Stage Actor → Type 0
+AreIdle c scripts s = (number : ℕ) → number < seat_count c.mutators c.helpers → turn scripts s number ≡ None
+
+-- whatever stage memory shows, no machine has a turn there
+abbrev pub AllIdle : Plain → Jobs → Type 0
+AllIdle p jobs = (scripts : Scripts) (s : Stage Actor) → Shows p s → Tells (config_of p) scripts jobs s → AreIdle (config_of p) scripts s
+
+-- the machine of an item is one of the heap, and where replies are counted a mutator
+abbrev pub IsInSeats : Config → Item → Type 0
+IsInSeats c (Steps number count) = number < seat_count c.mutators c.helpers
+IsInSeats c (Until number place) = number < seat_count c.mutators c.helpers
+IsInSeats c (Replies number count) = number < c.mutators
+
+-- whatever stage memory shows, some machine has a turn there
+abbrev pub SomeBusy : Plain → Jobs → Type 0
+SomeBusy p jobs = (scripts : Scripts) (s : Stage Actor) → Shows p s → Tells (config_of p) scripts jobs s → AreIdle (config_of p) scripts s → ⊥
+
+-- whatever stage memory shows, the machine has a turn there, or has none
+abbrev pub HasNext : Plain → Jobs → ℕ → Bool → Type 0
+HasNext p jobs number has = (scripts : Scripts) (s : Stage Actor) → Shows p s → Tells (config_of p) scripts jobs s → is_some (turn scripts s number) ≡ has

@@ -1,0 +1,46 @@
+-- Words and machines in memory, and the stages of runs that they show.
+use Rattle.std.specs.Prelude.{ℕ, ◌≡◌, List, [], ◌∷◌, ◌++◌, map, slice_set, slice_index}
+use Rattle.heap_words.specs.declared.access.Access.{Access}
+use Rattle.heap_words.specs.Access.{place_of, made_of}
+use Rattle.steps_base.specs.Touch.{placed}
+use Rattle.mutator.specs.Rows.{Mutating, touch_of, next_of}
+use Rattle.heap_words.specs.declared.config.Config.{Config}
+use Rattle.steps_base.specs.Steps.{Stage, Event, act, go, IsEvent}
+use Rattle.mutator.specs.declared.spot.Order.{Order}
+use Rattle.step_core.specs.Actor.{Machine, mutating, helping, controlling, Actor, kind}
+use Rattle.step_core.specs.Follows.{reached}
+
+-- these words and machines are those of the stage, whose machines have their calls besides
+pub record Shows (words : List ℕ) (machines : List Machine) (s : Stage Actor) : Type 0 where
+  pub words_are : s.words ≡ words
+  pub machines_are : map (λ a. a.machine) s.machines ≡ machines
+
+-- the access of a mutator
+abbrev pub access_of : Config → Mutating → Access
+access_of c m = placed c (touch_of c m)
+
+-- the words after an access
+abbrev pub accessed : Access → List ℕ → List ℕ
+accessed access words = slice_set words (place_of access) (made_of access (slice_index words (place_of access)))
+
+-- some events from the opening lead to these words and machines
+pub record IsShownBySome (c : Config) (words : List ℕ) (machines : List Machine) : Type 0 where
+  pub events : List (Event Order)
+  pub shows : Shows words machines (reached c events)
+
+abbrev pub event : ℕ → Order → Event Order
+event number order = record { number = number; order = order }
+
+-- One event of a machine leads from these words and machines to those: whatever events lead to these, the same and this
+-- one lead to those.
+pub record IsOneEvent (c : Config) (words : List ℕ) (machines : List Machine) (new_words : List ℕ) (new_machines : List Machine) (number : ℕ) (order : Order) : Type 0 where
+  pub is_event : (s : Stage Actor) → Shows words machines s → (a : Actor) × IsEvent (kind c) s (event number order) a
+  pub acts : (s : Stage Actor) → Shows words machines s → Shows new_words new_machines (act (kind c) s (event number order))
+  pub goes_on : (start : Stage Actor) (events : List (Event Order)) → Shows words machines (go (kind c) start events)
+      → Shows new_words new_machines (go (kind c) start (events ++ event number order ∷ []))
+
+-- a machine after the step that it makes on these words
+abbrev pub next_by : Config → List ℕ → Order → Machine → Machine
+next_by c words order (mutating m) = mutating (next_of c m order (slice_index words (place_of (access_of c m))))
+next_by c words order helping = helping
+next_by c words order controlling = controlling

@@ -1,0 +1,61 @@
+-- What callers know of a `Plain`.
+use Rattle.std.specs.Prelude.{ℕ, ◌≡◌, Bool, List, map, slice_index_or}
+use Rattle.heap_words.specs.declared.config.Config.{Config}
+use Rattle.heap_words.specs.Ranges.{seat_count}
+use Rattle.steps_base.specs.Steps.{Stage}
+use Rattle.mutator.specs.declared.spot.Order.{Order}
+use Rattle.mutator.specs.declared.spot.Order.TheVariants.{Nothing}
+use Rattle.step_core.specs.Actor as actors
+use Rattle.shen_core.specs.declared.plain.Plain.{Plain}
+use Rattle.shen_core.specs.Shown.{shown, order_of_machine}
+use Rattle.shen_core.specs.Runs as runs
+
+-- its heap
+abbrev pub config_of : Plain → Config
+config_of p = p.config
+
+-- its words, in the order of their places
+abbrev pub words_of : Plain → List ℕ
+words_of p = p.words.items
+
+-- its machines by their numbers, as events see them
+abbrev pub machines_of : Plain → List actors.Machine
+machines_of p = map shown p.machines.items
+
+-- the orders that its machines were given
+abbrev pub orders_of : Plain → List Order
+orders_of p = map order_of_machine p.machines.items
+
+-- the machines of its heap
+abbrev pub seats_of : Plain → ℕ
+seats_of p = seat_count p.config.mutators p.config.helpers
+
+-- the stage has its words and machines
+abbrev pub Shows : Plain → Stage actors.Actor → Type 0
+Shows p s = runs.Shows (words_of p) (machines_of p) s
+
+-- one machine, and the order that it was given
+abbrev pub machine_at : Plain → ℕ → actors.Machine
+machine_at p number = slice_index_or (machines_of p) number actors.controlling
+
+abbrev pub order_at : Plain → ℕ → Order
+order_at p number = slice_index_or (orders_of p) number Nothing
+
+-- whether the machine makes a step: it takes the order that it was given
+abbrev pub has_turn : Plain → ℕ → Bool
+has_turn p number = actors.takes_of (machine_at p number) (order_at p number)
+
+-- one event of the machine, under its order, leads from the one to the other
+abbrev pub IsStep : Plain → Plain → ℕ → Type 0
+IsStep old new number = runs.IsOneEvent (config_of old) (words_of old) (machines_of old) (words_of new) (machines_of new) number (order_at old number)
+
+-- all is as it was
+pub record IsUnchanged (old new : Plain) : Type 0 where
+  pub config : config_of new ≡ config_of old
+  pub words : words_of new ≡ words_of old
+  pub machines : machines_of new ≡ machines_of old
+  pub orders : orders_of new ≡ orders_of old
+
+-- the machine after its step
+abbrev pub next_machine : Plain → ℕ → actors.Machine
+next_machine p number = runs.next_by (config_of p) (words_of p) (order_at p number) (machine_at p number)

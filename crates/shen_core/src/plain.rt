@@ -1,0 +1,169 @@
+ghost use Rattle.std.specs.Prelude.{◌≡◌, length, map, All};
+ghost use Rattle.heap_words.specs.Words.{table_words};
+ghost use Rattle.heap_words.specs.Ranges.{seat_count};
+ghost use Rattle.shen_core.specs.Shown.{shown, heap_of};
+ghost use Rattle.shen_core.specs.Runs.{IsShownBySome};
+
+use crate::machine::Machine;
+use crate::opening::{open_machines, open_words};
+use crate::step::{Stepped, make_step};
+use heap_words::{Config, NoMemory, Place};
+use shen_graph::{Command, Reply};
+use std::alloc::Global;
+
+/// A heap and its machines, on one thread.
+#[derive(Drop)]
+pub struct Plain {
+    config: Config,
+    words: Vec<u64>,
+    machines: Vec<Machine>,
+    ghost all_words: { length words.items ≡ table_words config },
+    ghost all_machines: { length machines.items ≡ seat_count config.mutators config.helpers },
+    ghost one_heap: { All (λ m. heap_of config m ≡ config) machines.items },
+    ghost reached: { ∥ IsShownBySome config words.items (map shown machines.items) ∥₁ },
+}
+
+impl Plain {
+    ghost use Rattle.std.specs.Prelude.{◌<◌, ◌↔◌, ◌≢◌, true, false, slice_set, slice_index, Some, None, IfOk, IfSome};
+    ghost use Rattle.heap_words.specs.Access.{place_of};
+    ghost use Rattle.mutator.specs.declared.spot.Order.TheVariants.{Nothing, Begin};
+    ghost use Rattle.mutator.specs.Orders.{is_served};
+    ghost use Rattle.shen_graph.specs.Valid.{IsValid};
+    ghost use Rattle.step_core.specs.Actor.{plan_of};
+    ghost use Rattle.step_core.specs.Schedule.{stands_in};
+    ghost use Rattle.step_core.specs.Opening.{opening};
+    ghost use Rattle.shen_core.specs.State.{config_of, words_of, machines_of, orders_of, seats_of, Shows, machine_at, has_turn, next_machine, IsStep, IsUnchanged};
+    ghost use Rattle.shen_core.specs.Answer.{says, reply_in, place_in, is_resting, made_of_machine};
+
+    /// The heap of this configuration before the first event, whose mutators have not begun a call.
+    pub fn open(alloc: Global, config: Config) -> Result<Plain, NoMemory>
+        ensures config { IfOk result (λ plain. config_of plain ≡ config) }
+        ensures opening { IfOk result (λ plain. Shows plain (opening config)) }
+        ensures orders { IfOk result (λ plain. All (λ order. order ≡ Nothing) (orders_of plain)) }
+    {
+        let words = open_words(alloc, config)?;
+        let machines = open_machines(alloc, config)?;
+        Ok(Plain {
+            config,
+            words,
+            machines,
+        })
+    }
+
+    /// Orders the command, which the mutator's next step begins. Between two calls only.
+    pub fn begin(&mut self, number: usize, command: Command)
+        requires number { number < seats_of self.old }
+        requires rest { is_resting (machine_at self.old number) ≡ true }
+        requires valid { IsValid command }
+        requires served { is_served command ≡ true }
+        requires made { made_of_machine (machine_at self.old number) < 4294967295 }
+        ensures order { orders_of self.new ≡ slice_set (orders_of self.old) number (Begin command) }
+        ensures words { words_of self.new ≡ words_of self.old }
+        ensures machines { machines_of self.new ≡ machines_of self.old }
+        ensures config { config_of self.new ≡ config_of self.old }
+    {
+        let Machine::Mutator(mutator) = &mut self.machines[number] else {
+            unreachable!()
+        };
+        mutator.begin(command);
+    }
+
+    /// Gives the machine of this number one step.
+    pub fn step(&mut self, number: usize) -> Stepped
+        requires { number < seats_of self.old }
+        ensures idle { (result ≡ Stepped.Idle) ↔ (has_turn self.old number ≡ false) }
+        ensures unchanged { has_turn self.old number ≡ false → IsUnchanged self.old self.new }
+        ensures event { has_turn self.old number ≡ true → IsStep self.old self.new number }
+        ensures says { has_turn self.old number ≡ true → result ≡ says (machine_at self.old number) (slice_index (words_of self.old) (place_of (plan_of (config_of self.old) (machine_at self.old number)))) }
+        ensures below { has_turn self.old number ≡ true → number < (config_of self.old).mutators }
+        ensures machines { has_turn self.old number ≡ true → machines_of self.new ≡ slice_set (machines_of self.old) number (next_machine self.old number) }
+        ensures orders { has_turn self.old number ≡ true → orders_of self.new ≡ slice_set (orders_of self.old) number Nothing }
+        ensures config { config_of self.new ≡ config_of self.old }
+    {
+        let Machine::Mutator(mutator) = &mut self.machines[number] else {
+            return Stepped::Idle;
+        };
+        if mutator.is_idle() {
+            Stepped::Idle
+        } else {
+            make_step(&mut self.words, mutator)
+        }
+    }
+
+    /// Its mutators, its helpers and its control.
+    pub(crate) fn seats(&self) -> usize
+        ensures { result ≡ seats_of self.now }
+    {
+        self.config.seats()
+    }
+
+    /// Whether the machine is a mutator between two calls.
+    pub(crate) fn is_resting(&self, number: usize) -> bool
+        requires { number < seats_of self.now }
+        ensures rest { result ≡ is_resting (machine_at self.now number) }
+        ensures below { result ≡ true → number < (config_of self.now).mutators }
+    {
+        match &self.machines[number] {
+            Machine::Mutator(mutator) => mutator.is_resting(),
+            Machine::Helper | Machine::Control => false,
+        }
+    }
+
+    /// Whether the next access of the machine stands at the place.
+    pub(crate) fn stands_at(&self, number: usize, place: Place) -> bool
+        requires { number < seats_of self.now }
+        ensures { result ≡ stands_in place (machine_at self.now number) }
+    {
+        match &self.machines[number] {
+            Machine::Mutator(mutator) => {
+                let [first, second] = mutator.place().code();
+                let [wanted_first, wanted_second] = place.code();
+                first == wanted_first && second == wanted_second
+            }
+            Machine::Helper | Machine::Control => false,
+        }
+    }
+
+    /// Whether the machine has a step to make.
+    pub(crate) fn has_turn(&self, number: usize) -> bool
+        requires { number < seats_of self.now }
+        ensures { result ≡ has_turn self.now number }
+    {
+        match &self.machines[number] {
+            Machine::Mutator(mutator) => !mutator.is_idle(),
+            Machine::Helper | Machine::Control => false,
+        }
+    }
+
+    /// The reply of the last call that the mutator has ended, until the next one is begun.
+    pub fn reply(&self, number: usize) -> Reply
+        requires number { number < seats_of self.now }
+        requires ended { reply_in (machine_at self.now number) ≢ None }
+        ensures { reply_in (machine_at self.now number) ≡ Some result }
+    {
+        let Machine::Mutator(mutator) = &self.machines[number] else {
+            unreachable!()
+        };
+        mutator.reply()
+    }
+
+    /// The word at a place of the table.
+    pub fn word(&self, at: usize) -> u64
+        requires { at < table_words (config_of self.now) }
+        ensures { result ≡ slice_index (words_of self.now) at }
+    {
+        self.words[at]
+    }
+
+    /// The place of the machine's next access, or None where it has nothing to do.
+    pub fn place(&self, number: usize) -> Option<Place>
+        requires { number < seats_of self.now }
+        ensures none { (result ≡ None) ↔ (has_turn self.now number ≡ false) }
+        ensures place { IfSome result (λ place. place ≡ place_in (machine_at self.now number)) }
+    {
+        match &self.machines[number] {
+            Machine::Mutator(mutator) if !mutator.is_idle() => Some(mutator.place()),
+            _ => None,
+        }
+    }
+}

@@ -1,0 +1,249 @@
+ghost use Rattle.std.specs.Prelude.{◌≡◌, ◌<◌, ◌≤◌, true, false, [], length, slice_set, All};
+ghost use Rattle.shen_graph.specs.Work.{replies_of, script_of};
+ghost use Rattle.shen_core.specs.State.{config_of, words_of, machines_of, orders_of, order_at, seats_of, has_turn, IsUnchanged};
+ghost use Rattle.shen_core.specs.Progress.{CanRun, IsTurn, HasTurned, Runs, DoesTask, AllIdle, SomeBusy, HasNext, IsInSeats, agenda};
+ghost use Rattle.step_core.specs.Schedule.{steps, until, replies, control, task_of};
+
+use crate::plain::Plain;
+use crate::step::Stepped;
+use heap_words::{Item, Place, Schedule};
+use shen_graph::Work;
+
+/// How a run has ended.
+#[derive(Clone, Copy, Debug, PartialEq, Eq)]
+pub enum Ran {
+    /// All machines are idle.
+    Finished,
+    /// So many steps were made as were allowed, and a machine is not idle.
+    Unfinished,
+}
+
+impl Plain {
+    ghost use Rattle.shen_core.specs.Ending.{EndsRun, RunsSchedule};
+
+    // Whether the machine has a turn. A mutator between two calls is ordered the next command of its script.
+    fn order_next(&mut self, work: &Work, number: usize) -> bool
+        requires number { number < seats_of self.old }
+        requires run { CanRun self.old work.now }
+        ensures turn { IsTurn self.old work.now number result (order_at self.new number) }
+        ensures has { has_turn self.new number ≡ result }
+        ensures more { result ≡ true → number < (config_of self.old).mutators → length (replies_of work.now number) < length (script_of work.now number) }
+        ensures orders { orders_of self.new ≡ slice_set (orders_of self.old) number (order_at self.new number) }
+        ensures unchanged { result ≡ false → orders_of self.new ≡ orders_of self.old }
+        ensures words { words_of self.new ≡ words_of self.old }
+        ensures machines { machines_of self.new ≡ machines_of self.old }
+        ensures config { config_of self.new ≡ config_of self.old }
+    {
+        if !self.is_resting(number) {
+            return self.has_turn(number);
+        }
+        match work.next(number) {
+            Some(command) => {
+                self.begin(number, command);
+                true
+            }
+            None => false,
+        }
+    }
+
+    // One turn of a machine: it goes on with its call, or begins the next command of its script.
+    fn turn(&mut self, work: &mut Work, number: usize) -> Stepped
+        requires number { number < seats_of self.old }
+        requires run { CanRun self.old work.old }
+        ensures run { CanRun self.new work.new }
+        ensures config { config_of self.new ≡ config_of self.old }
+        ensures turned { HasTurned self.old work.old number self.new work.new result }
+        ensures idle { result ≡ Stepped.Idle → IsUnchanged self.old self.new }
+        ensures idle_work { result ≡ Stepped.Idle → work.new ≡ work.old }
+    {
+        if !self.order_next(work, number) {
+            return Stepped::Idle;
+        }
+        let stepped = self.step(number);
+        if let Stepped::Done = stepped {
+            work.told(number, self.reply(number));
+        }
+        stepped
+    }
+
+    // Steps of one machine: so many, or fewer if it becomes idle or no more are left. What is left then.
+    fn run_steps(&mut self, work: &mut Work, number: usize, count: u64, limit: u64) -> u64
+        requires number { number < seats_of self.old }
+        requires run { CanRun self.old work.old }
+        ensures run { CanRun self.new work.new }
+        ensures config { config_of self.new ≡ config_of self.old }
+        ensures task { DoesTask self.old work.old (steps number count) limit self.new work.new result }
+    {
+        let mut left = limit;
+        let mut wanted = count;
+        while wanted > 0 && left > 0 {
+            if let Stepped::Idle = self.turn(work, number) {
+                return left;
+            }
+            wanted -= 1;
+            left -= 1;
+        }
+        left
+    }
+
+    // Steps of one machine until its next access stands at the place, it is idle, or no more are left. What is left then.
+    fn run_until(&mut self, work: &mut Work, number: usize, place: Place, limit: u64) -> u64
+        requires number { number < seats_of self.old }
+        requires run { CanRun self.old work.old }
+        ensures run { CanRun self.new work.new }
+        ensures config { config_of self.new ≡ config_of self.old }
+        ensures task { DoesTask self.old work.old (until number place) limit self.new work.new result }
+    {
+        let mut left = limit;
+        while left > 0 && !self.stands_at(number, place) {
+            if let Stepped::Idle = self.turn(work, number) {
+                return left;
+            }
+            left -= 1;
+        }
+        left
+    }
+
+    // Steps of a mutator until it has given so many replies, it is idle, or no more are left; after each step that waits
+    // the control makes one. What is left then.
+    fn run_replies(&mut self, work: &mut Work, number: usize, count: u64, limit: u64) -> u64
+        requires number { number < (config_of self.old).mutators }
+        requires run { CanRun self.old work.old }
+        ensures run { CanRun self.new work.new }
+        ensures config { config_of self.new ≡ config_of self.old }
+        ensures task { DoesTask self.old work.old (replies number count) limit self.new work.new result }
+    {
+        let mut left = limit;
+        while left > 0 && (work.replies(number).list().len() as u64) < count {
+            match self.turn(work, number) {
+                Stepped::Idle => return left,
+                Stepped::Again => left = self.run_control(work, left - 1),
+                _ => left -= 1,
+            }
+        }
+        left
+    }
+
+    // One step of the control, if it is not idle and one is left. What is left then.
+    fn run_control(&mut self, work: &mut Work, left: u64) -> u64
+        requires { CanRun self.old work.old }
+        ensures run { CanRun self.new work.new }
+        ensures config { config_of self.new ≡ config_of self.old }
+        ensures less { result ≤ left }
+        ensures task { DoesTask self.old work.old control left self.new work.new result }
+    {
+        if left == 0 {
+            return left;
+        }
+        let control = self.seats() - 1;
+        match self.turn(work, control) {
+            Stepped::Idle => left,
+            _ => left - 1,
+        }
+    }
+
+    // An item of a schedule, as far as there are steps left. What is left then.
+    fn run_item(&mut self, work: &mut Work, item: Item, left: u64) -> u64
+        requires item { IsInSeats (config_of self.old) item }
+        requires run { CanRun self.old work.old }
+        ensures run { CanRun self.new work.new }
+        ensures config { config_of self.new ≡ config_of self.old }
+        ensures task { DoesTask self.old work.old (task_of item) left self.new work.new result }
+    {
+        match item {
+            Item::Steps { number, count } => self.run_steps(work, number, count, left),
+            Item::Until { number, place } => self.run_until(work, number, place, left),
+            Item::Replies { number, count } => self.run_replies(work, number, count, left),
+        }
+    }
+
+    // Whether the machine would make a step on its turn.
+    fn has_next(&self, work: &Work, number: usize) -> bool
+        requires number { number < seats_of self.now }
+        requires run { CanRun self.now work.now }
+        ensures { HasNext self.now work.now number result }
+    {
+        if self.is_resting(number) {
+            work.next(number).is_some()
+        } else {
+            self.has_turn(number)
+        }
+    }
+
+    // Whether any machine would make a step on its turn.
+    fn any_next(&self, work: &Work) -> bool
+        requires { CanRun self.now work.now }
+        ensures idle { result ≡ false → AllIdle self.now work.now }
+        ensures busy { result ≡ true → SomeBusy self.now work.now }
+    {
+        for number in 0..self.seats() {
+            if self.has_next(work, number) {
+                return true;
+            }
+        }
+        false
+    }
+
+    // One round: each machine that is not idle makes a step, as long as there are steps left. What is left then.
+    fn run_round(&mut self, work: &mut Work, limit: u64) -> u64
+        requires { CanRun self.old work.old }
+        ensures run { CanRun self.new work.new }
+        ensures config { config_of self.new ≡ config_of self.old }
+        ensures less { result ≤ limit }
+        ensures round { Runs self.old work.old (agenda [] 0) limit self.new work.new (agenda [] 0) result }
+        ensures idle { result ≡ limit → 0 < limit → AllIdle self.new work.new }
+    {
+        let mut left = limit;
+        for number in 0..self.seats() {
+            if left == 0 {
+                return left;
+            }
+            match self.turn(work, number) {
+                Stepped::Idle => {}
+                _ => left -= 1,
+            }
+        }
+        left
+    }
+
+    // Rounds until all machines are idle or no more steps are left.
+    fn run_rounds(&mut self, work: &mut Work, limit: u64) -> Ran
+        requires { CanRun self.old work.old }
+        ensures run { CanRun self.new work.new }
+        ensures config { config_of self.new ≡ config_of self.old }
+        ensures ends { EndsRun self.old work.old (agenda [] 0) limit self.new work.new result }
+    {
+        let mut left = limit;
+        loop {
+            if left == 0 {
+                return if self.any_next(work) {
+                    Ran::Unfinished
+                } else {
+                    Ran::Finished
+                };
+            }
+            let before = left;
+            left = self.run_round(work, before);
+            if left == before {
+                return Ran::Finished;
+            }
+        }
+    }
+
+    /// Runs the items of a schedule and then rounds, in which the machines take turns by their numbers and idle ones are
+    /// passed over, until all machines are idle or so many steps were made. A mutator between two calls begins the next
+    /// command of its script in `work`, where the replies are noted.
+    pub fn run(&mut self, work: &mut Work, schedule: &Schedule, limit: u64) -> Ran
+        requires run { CanRun self.old work.old }
+        requires items { All (IsInSeats (config_of self.old)) schedule.now }
+        ensures run { CanRun self.new work.new }
+        ensures config { config_of self.new ≡ config_of self.old }
+        ensures events { RunsSchedule self.old work.old schedule.now limit self.new work.new result }
+    {
+        let mut left = limit;
+        for item in schedule.list() {
+            left = self.run_item(work, *item, left);
+        }
+        self.run_rounds(work, left)
+    }
+}

@@ -1,0 +1,47 @@
+ghost use Rattle.std.specs.Prelude.{◌≡◌, false, vec_len, slice_index};
+ghost use Rattle.heap_words.specs.Access.{place_of};
+ghost use Rattle.heap_words.specs.Words.{table_words};
+ghost use Rattle.mutator.specs.Rows.{next_of, answer_at};
+ghost use Rattle.mutator.specs.Fit.{IsFit};
+ghost use Rattle.mutator.specs.Seen.{seen, config_of, order_of, is_idle};
+ghost use Rattle.mutator.specs.declared.spot.Order.TheVariants.{Nothing};
+ghost use Rattle.shen_core.specs.Runs.{accessed, access_of};
+ghost use Rattle.shen_core.specs.Answer.{stepped_of};
+
+use heap_words::Took;
+use mutator::Mutator;
+
+/// What a machine said of the step that it was given.
+#[derive(Clone, Copy, Debug, PartialEq, Eq)]
+pub enum Stepped {
+    /// It has more to do.
+    More,
+    /// It waits for another machine, and will look again.
+    Again,
+    /// It has ended its call.
+    Done,
+    /// It had nothing to do, and made no step.
+    Idle,
+}
+
+// The mutator makes its next access in the table, and takes the word that it finds.
+pub(crate) fn make_step(words: &mut Vec<u64>, mutator: &mut Mutator) -> Stepped
+    requires table { vec_len words.old ≡ table_words (config_of mutator.old) }
+    requires busy { is_idle mutator.old ≡ false }
+    requires fit { IsFit (config_of mutator.old) (seen mutator.old) (order_of mutator.old) (slice_index words.old.items (place_of (access_of (config_of mutator.old) (seen mutator.old)))) }
+    ensures words { words.new.items ≡ accessed (access_of (config_of mutator.old) (seen mutator.old)) words.old.items }
+    ensures seen { seen mutator.new ≡ next_of (config_of mutator.old) (seen mutator.old) (order_of mutator.old) (slice_index words.old.items (place_of (access_of (config_of mutator.old) (seen mutator.old)))) }
+    ensures order { order_of mutator.new ≡ Nothing }
+    ensures config { config_of mutator.new ≡ config_of mutator.old }
+    ensures says { result ≡ stepped_of (answer_at (seen mutator.old).spot (slice_index words.old.items (place_of (access_of (config_of mutator.old) (seen mutator.old))))) }
+{
+    let access = mutator.plan();
+    let at = access.at();
+    let found = words[at];
+    words[at] = access.made(found);
+    match mutator.took(found) {
+        Took::More => Stepped::More,
+        Took::Again => Stepped::Again,
+        Took::Done => Stepped::Done,
+    }
+}

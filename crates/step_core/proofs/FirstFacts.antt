@@ -1,0 +1,225 @@
+-- What holds of the opening: one object, the hub, at the base of region 0.
+use Rattle.std.proofs.Common.{◌≡◌, ◌≢◌, ℕ, zero, suc, ◌+◌, ◌<◌, ◌≤◌, ⊎_elim, Bool, true, false, [], length, Some, None, refl, sym, ap, ◌∙◌, subst, arith, replicate}
+use Rattle.std.specs.Prelude.{slice_get, nat_lt, ◌==◌, if◌then◌else◌}
+use Rattle.std.proofs.lemmas.List.FromFn.{get_or-map-range_with_len, length-map-range_with_len}
+use Rattle.std.proofs.lemmas.Option.{cond_some, slice_get_within, get_or_from_slice_get}
+use Rattle.std.proofs.lemmas.Bool.{cases_eq, and_parts, eqb-true, ltb-true}
+use Rattle.std.proofs.lemmas.Bool.Decides.{nat_tests}
+use Rattle.heap_words.specs.declared.config.Config.{Config}
+use Rattle.heap_words.specs.Ranges.{seat_count}
+use Rattle.heap_words.specs.Words.{Top, Root, Heap, Phase, Cset, Evac}
+use Rattle.shen_graph.specs.declared.name.Name.{Name}
+use Rattle.shen_graph.specs.declared.command.Command.TheVariants.{Gc}
+use Rattle.shen_graph.specs.Graph.{Reference, Object, hub, same_name, blank}
+use Rattle.mutator.specs.Rows.{fresh_mutator}
+use Rattle.step_core.specs.Actor.{mutating, helping, controlling}
+use Rattle.step_core.specs.Opening.{opening_machine, opening_actor, opening}
+use Rattle.step_core.specs.World.{World, Plot, Block, thing, words_of, name_at, Points, IsInUse, IsPlotted, IsFilled, IsObject, IsGiven, AreObjects, Shared, base}
+use Rattle.step_core.specs.Stepped.{Mine}
+use Rattle.step_core.specs.Follows.{first_graph, IsMachine, Follows}
+use Rattle.step_core.proofs.OpeningStands.{rooted_memory, first_memory, view-opening, length-opening}
+
+-- the hub alone
+abbrev pub first_block : Config → Plot
+first_block c a = if a == c.region_words then Some (thing hub 16 0) else None
+
+abbrev pub first_world : Config → World
+first_world c = record { memory = first_memory c; block = first_block c; graph = first_graph c }
+
+rooted_heap : (c : Config) (t a : ℕ) → rooted_memory c t (Heap a) ≡ 0
+rooted_heap c zero a = refl
+rooted_heap c (suc t) a = rooted_heap c t a
+
+rooted_top : (c : Config) (t r : ℕ) → rooted_memory c t (Top r) ≡ 0
+rooted_top c zero r = refl
+rooted_top c (suc t) r = rooted_top c t r
+
+rooted_phase : (c : Config) (t : ℕ) → rooted_memory c t Phase ≡ 0
+rooted_phase c zero = refl
+rooted_phase c (suc t) = rooted_phase c t
+
+rooted_cset : (c : Config) (t : ℕ) → rooted_memory c t Cset ≡ 0
+rooted_cset c zero = refl
+rooted_cset c (suc t) = rooted_cset c t
+
+rooted_evac : (c : Config) (t : ℕ) → rooted_memory c t Evac ≡ 0
+rooted_evac c zero = refl
+rooted_evac c (suc t) = rooted_evac c t
+
+rooted_root : (c : Config) (t k : ℕ) → k < t → rooted_memory c t (Root k 0) ≡ c.region_words
+rooted_root c zero k below = absurd (omega arith)
+rooted_root c (suc t) k below = ⊎_elim
+    (λ (same : t ≡ k). grind (arith, nat_tests))
+    (λ (differs : t ≡ k → ⊥). let rest : rooted_memory c t (Root k 0) ≡ c.region_words = rooted_root c t k (omega arith) in grind (arith, nat_tests))
+    (cases_eq t k)
+
+rooted_other : (c : Config) (t k i : ℕ) → i ≢ 0 → rooted_memory c t (Root k i) ≡ 0
+rooted_other c zero k i other = refl
+rooted_other c (suc t) k i other = let rest : rooted_memory c t (Root k i) ≡ 0 = rooted_other c t k i other in grind (arith, nat_tests)
+
+heap_first : (c : Config) → first_memory c (Heap c.region_words) ≡ 1
+heap_first c = grind (arith, nat_tests)
+
+heap_second : (c : Config) → first_memory c (Heap (c.region_words + 1)) ≡ 69632
+heap_second c = grind (arith, nat_tests)
+
+heap_third : (c : Config) → first_memory c (Heap (c.region_words + 2)) ≡ 1
+heap_third c = grind (arith, nat_tests)
+
+heap_later : (c : Config) (k : ℕ) → 3 ≤ k → first_memory c (Heap (c.region_words + k)) ≡ 0
+heap_later c k later = let rest = rooted_heap c c.mutators (c.region_words + k) in grind (arith, nat_tests)
+
+top_first : (c : Config) → first_memory c (Top 0) ≡ 19
+top_first c = refl
+
+top_other : (c : Config) (r : ℕ) → r ≢ 0 → first_memory c (Top r) ≡ 0
+top_other c r other = let rest = rooted_top c c.mutators r in grind (arith, nat_tests)
+
+block_only : (c : Config) (a : ℕ) (b : Block) → first_block c a ≡ Some b → (a ≡ c.region_words) × (thing hub 16 0 ≡ b)
+block_only c a b is = let parts = cond_some (a == c.region_words) (thing hub 16 0) b is in (eqb-true _ _ parts.0, parts.1)
+
+block_hub : (c : Config) → first_block c c.region_words ≡ Some (thing hub 16 0)
+block_hub c = let same : (c.region_words == c.region_words) ≡ true = grind (arith, nat_tests) in rw same refl
+
+same_name_is : (a b : Name) → same_name a b ≡ true → a ≡ b
+same_name_is a b is =
+    let parts = and_parts _ _ is in
+    let threads : a.thread ≡ b.thread = eqb-true _ _ parts.0 in
+    let counts : a.count ≡ b.count = eqb-true _ _ parts.1 in
+    λ i. record { thread = threads i; count = counts i }
+
+object_only : (c : Config) (n : Name) (o : Object) → (first_graph c).object n ≡ Some o → (n ≡ hub) × (blank 16 0 ≡ o)
+object_only c n o is = let parts = cond_some (same_name n hub) (blank 16 0) o is in (same_name_is n hub parts.0, parts.1)
+
+nulls : (n i : ℕ) (reference : Reference) → slice_get (replicate n None) i ≡ Some reference → reference ≡ None
+nulls zero i reference is = cc
+nulls (suc n) zero reference is = cc
+nulls (suc n) (suc i) reference is = nulls n i reference is
+
+top_within : (c : Config) (r : ℕ) → first_memory c (Top r) ≤ c.region_words
+top_within c r = ⊎_elim
+    (λ (same : r ≡ 0). subst (λ k. first_memory c (Top k) ≤ c.region_words) (sym same) (let long = c.in_range.least_words in omega arith))
+    (λ (other : r ≡ 0 → ⊥). let none = top_other c r other in omega arith)
+    (cases_eq r 0)
+
+first_plotted : (c : Config) → IsPlotted c (λ r. first_memory c (Top r)) (first_block c)
+first_plotted c = record {
+  tops = λ r within. top_within c r;
+  in_use = λ a b is.
+      let at : a ≡ c.region_words = (block_only c a b is).0 in
+      subst (λ x. IsInUse c (λ r. first_memory c (Top r)) a (words_of x)) (block_only c a b is).1
+      (record { region = 0; within = (let some = c.in_range.least_regions in omega arith); from_base = omega arith; to_top = omega arith });
+  apart = λ a b x y is_x is_y before.
+      let one = (block_only c a x is_x).0 in let two = (block_only c b y is_y).0 in omega arith;
+}
+
+first_base : (c : Config) → base c 0 ≡ c.region_words
+first_base c = omega arith
+
+first_filled : (c : Config) → IsFilled c (λ r. first_memory c (Top r)) (first_block c)
+first_filled c = record {
+  first = λ r within used. ⊎_elim
+      (λ (same : r ≡ 0). (thing hub 16 0, subst (λ a. first_block c a ≡ Some (thing hub 16 0)) (sym (first_base c) ∙ ap (base c) (sym same)) (block_hub c)))
+      (λ (other : r ≡ 0 → ⊥). let none = top_other c r other in absurd (omega arith))
+      (cases_eq r 0);
+  next = λ r a x within from is below.
+      let at : a ≡ c.region_words = (block_only c a x is).0 in
+      let long : words_of x ≡ 19 = ap words_of (sym (block_only c a x is).1) in
+      absurd (⊎_elim
+      (λ (same : r ≡ 0).
+      let top : first_memory c (Top r) ≡ 19 = ap (λ k. first_memory c (Top k)) same in
+      let start : base c r ≡ c.region_words = ap (base c) same ∙ first_base c in
+      omega (arith, below, top, start, long, at))
+      (λ (other : r ≡ 0 → ⊥). let none = top_other c r other in omega (arith, below, from, none, long, at))
+      (cases_eq r 0));
+}
+
+hub_object : (c : Config) → IsObject (λ a. first_memory c (Heap a)) (first_block c) c.region_words 16 0 hub (blank 16 0)
+hub_object c = record {
+  header = heap_first c;
+  shape = heap_second c;
+  name_word = heap_third c;
+  few_refs = omega arith;
+  few_nums = omega arith;
+  refs_are = refl;
+  nums_are = refl;
+  references = λ i reference is.
+      subst (λ r. Points (first_block c) (first_memory c (Heap (c.region_words + 3 + i))) r) (sym (nulls 16 i reference is))
+      (ap (λ a. first_memory c (Heap a)) (omega arith) ∙ heap_later c (3 + i) (omega arith));
+  numbers = λ i n is. cc;
+}
+
+first_objects : (c : Config) → AreObjects (λ a. first_memory c (Heap a)) (first_block c) (first_graph c).object
+first_objects c = record {
+  each = λ a refs nums name is.
+      let at : c.region_words ≡ a = sym (block_only c a _ is).0 in
+      let same = (block_only c a _ is).1 in
+      let names : hub ≡ name = cc in
+      let sizes : 16 ≡ refs = cc in
+      let none : 0 ≡ nums = cc in (
+        blank 16 0,
+        ap (λ n. (first_graph c).object n) (sym names),
+        subst (λ n. IsObject (λ b. first_memory c (Heap b)) (first_block c) a refs nums n (blank 16 0)) names
+            (subst (λ b. IsObject (λ b. first_memory c (Heap b)) (first_block c) b refs nums hub (blank 16 0)) at
+            (subst (λ r. IsObject (λ b. first_memory c (Heap b)) (first_block c) c.region_words r nums hub (blank 16 0)) sizes
+            (subst (λ m. IsObject (λ b. first_memory c (Heap b)) (first_block c) c.region_words 16 m hub (blank 16 0)) none (hub_object c)))),
+      );
+  all = λ name o is.
+      (c.region_words, 16, 0, block_hub c ∙ ap (λ n. Some (thing n 16 0)) (sym (object_only c name o is).0));
+  once = λ a b refs nums more_refs more_nums name is_a is_b. (block_only c a _ is_a).0 ∙ sym (block_only c b _ is_b).0;
+}
+
+first_shared : (c : Config) → Shared c (first_world c)
+first_shared c = record {
+  plotted = first_plotted c;
+  filled = first_filled c;
+  objects = first_objects c;
+  given = λ name o is.
+      subst (λ n. IsGiven c (λ t. 0) n) (sym (object_only c name o is).0)
+      (record { thread = omega arith; made = omega arith; by_thread = λ one. absurd (omega arith); small = omega arith });
+  calm = record { phase_is = rooted_phase c c.mutators; cset_is = rooted_cset c c.mutators; evac_is = rooted_evac c c.mutators };
+}
+
+first_roots : (c : Config) (k i : ℕ) → k < c.mutators → Points (first_block c) (first_memory c (Root k i)) ((first_graph c).root (k + 1) i)
+first_roots c k i below = ⊎_elim
+    (λ (same : i ≡ 0).
+    subst (λ j. Points (first_block c) (first_memory c (Root k j)) ((first_graph c).root (k + 1) j)) (sym same) zeroth)
+    (λ (other : i ≡ 0 → ⊥).
+    let none : (first_graph c).root (k + 1) i ≡ None = grind (arith, nat_tests) in
+    rw none (rooted_other c c.mutators k i other))
+    (cases_eq i 0)
+  where
+    zeroth : Points (first_block c) (first_memory c (Root k 0)) ((first_graph c).root (k + 1) 0)
+    zeroth =
+        let named : (first_graph c).root (k + 1) 0 ≡ Some hub = grind (arith, nat_tests) in
+        let at_hub : name_at (first_block c (first_memory c (Root k 0))) ≡ Some hub =
+        ap (λ a. name_at (first_block c a)) (rooted_root c c.mutators k below) ∙ ap name_at (block_hub c) in
+        subst (λ r. Points (first_block c) (first_memory c (Root k 0)) r) (sym named) at_hub
+
+first_mine : (c : Config) (k : ℕ) → k < c.mutators → Mine c (first_world c) (fresh_mutator k) Gc None
+first_mine c k below = record { seat = below; ready = refl; made = refl; roots = λ i small. first_roots c k i below; facts = refl }
+
+first_machine : (c : Config) (k : ℕ) → IsMachine c (first_world c) [] k (opening_actor c k) (opening_machine c k)
+first_machine c k = by_test (nat_lt k c.mutators) (nat_lt k (c.mutators + c.helpers)) refl
+  where
+    by_test : (b d : Bool) → nat_lt k c.mutators ≡ b → IsMachine c (first_world c) [] k (opening_actor c k) (if b then mutating (fresh_mutator k) else (if d then helping else controlling))
+    by_test true d is = record { fixed = None; number_is = refl; mine = first_mine c k (ltb-true _ _ is); entries_are = refl }
+    by_test false true is = tt
+    by_test false false is = tt
+
+pub follows_first : (c : Config) → Follows c (opening c) []
+unfolding opening
+follows_first c = record {
+  block = first_block c;
+  words = length-opening c;
+  legal = tt;
+  shared = subst (λ m. Shared c (record { memory = m; block = first_block c; graph = first_graph c })) (sym (view-opening c)) (first_shared c);
+  machines = λ k a there.
+      let within = slice_get_within _ k a there in
+      let count : length (opening c).machines ≡ seat_count c.mutators c.helpers = length-map-range_with_len (opening_actor c) 0 (seat_count c.mutators c.helpers) in
+      let is : opening_actor c k ≡ a =
+      sym (get_or-map-range_with_len (opening_actor c) 0 (seat_count c.mutators c.helpers) k k a (omega (arith, within, count)) (omega arith))
+      ∙ get_or_from_slice_get (opening c).machines k a a there in
+      subst (λ m. IsMachine c (record { memory = m; block = first_block c; graph = first_graph c }) [] k a a.machine) (sym (view-opening c))
+      (subst (λ b. IsMachine c (first_world c) [] k b b.machine) is (first_machine c k));
+}

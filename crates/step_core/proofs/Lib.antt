@@ -1,0 +1,9 @@
+pub mod Stable
+pub mod Settling
+pub mod Calls
+pub mod Places
+pub mod Entries
+pub mod Induction
+pub mod OpeningStands
+pub mod FirstFacts
+pub mod Theorem

@@ -1,0 +1,91 @@
+-- The theorem over every list of events.
+use Rattle.std.proofs.Common.{◌≡◌, ℕ, ◌+◌, ◌<◌, inl, inr, List, [], ◌++◌, Option, Some, None, sym, ap, ◌∙◌, subst}
+use Rattle.std.specs.Prelude.{slice_get, slice_index}
+use Rattle.heap_words.specs.declared.config.Config.{Config}
+use Rattle.heap_words.specs.Access.{place_of}
+use Rattle.heap_words.specs.Words.{word_at, table_words}
+use Rattle.heap_words.proofs.Stores.{is_word_true}
+use Rattle.heap_words.proofs.Rows.{word_inside}
+use Rattle.steps_base.specs.Touch.{placed}
+use Rattle.steps_base.specs.Steps.{Stage, Event, HasReached, Finds}
+use Rattle.steps_base.proofs.Touches.{place_of-access_at}
+use Rattle.steps_base.proofs.Runs.{reached_has}
+use Rattle.shen_graph.specs.declared.command.Reply.{Reply}
+use Rattle.shen_graph.specs.History.{Entry, after, of_thread}
+use Rattle.mutator.specs.declared.spot.Order.{Order}
+use Rattle.mutator.specs.Rows.{Mutating, touch_of}
+use Rattle.mutator.specs.Fit.{IsReady, IsFit}
+use Rattle.step_core.specs.Actor.{mutating, Actor, entries_of, plan_of, takes_of, kind}
+use Rattle.step_core.specs.Opening.{opening}
+use Rattle.step_core.specs.Follows.{first_graph, world_of, reached, past, IsMutator, IsThread, IsMachine, Follows, AreCalls, FindsFit, IsSound}
+use Rattle.step_core.specs.Stepped.{Stepped}
+use Rattle.step_core.proofs.Induction.{first_part, follows_run, found-placed}
+use Rattle.step_core.proofs.Entries.{append_none}
+use Rattle.step_core.proofs.Places.{each_step}
+use Rattle.step_core.proofs.FirstFacts.{follows_first}
+
+-- each stage that events lead to follows the history of the events
+pub follows_reached : (c : Config) (events : List (Event Order)) → Follows c (reached c events) (past c events)
+follows_reached c events = follows_run c (opening c) [] events (follows_first c)
+
+-- what a stage that follows its history says of a mutator
+pub thread_of : (c : Config) (s : Stage Actor) (h : List Entry) (follows : Follows c s h) (number : ℕ) (a : Actor) (m : Mutating) → IsMutator s number a m
+    → IsThread c (world_of c s follows.block (after (first_graph c) h)) (of_thread h (number + 1)) number a m
+thread_of c s h follows number a m here =
+    subst (λ machine. IsMachine c (world_of c s follows.block (after (first_graph c) h)) (of_thread h (number + 1)) number a machine) here.is (follows.machines number a here.here)
+
+-- the place of a ready mutator's access
+pub inside_ready : (c : Config) (m : Mutating) → IsReady c m → place_of (placed c (touch_of c m)) < table_words c
+inside_ready c m ready =
+    subst (λ k. k < table_words c) (sym (place_of-access_at (word_at c (touch_of c m).word) (touch_of c m).form))
+    (word_inside c (touch_of c m).word (is_word_true c (touch_of c m).word (first_part _ _ ready)))
+
+calls_of : (number : ℕ) (a : Actor) (entries : List Entry) (fixed : Option Reply) → entries ≡ a.calls ++ entries_of number a.command fixed → AreCalls entries number a
+calls_of number a entries None is = inl (is ∙ append_none a.calls)
+calls_of number a entries (Some reply) is = inr (reply, is)
+
+finds_fit : (c : Config) (s : Stage Actor) (h : List Entry) (follows : Follows c s h) (number : ℕ) (a : Actor) (m : Mutating) → IsMutator s number a m → FindsFit c s a m
+finds_fit c s h follows number a m here =
+    let thread = thread_of c s h follows number a m here in
+    record {
+      ready = thread.mine.ready;
+      inside = subst (λ machine. place_of (plan_of c machine) < table_words c) (sym here.is) (inside_ready c m thread.mine.ready);
+      fit = λ order takes.
+          let step : Stepped c (world_of c s follows.block (after (first_graph c) h)) m a.command order thread.fixed =
+          each_step c (world_of c s follows.block (after (first_graph c) h)) m a.command order thread.fixed follows.shared thread.mine takes in
+          subst (λ machine. IsFit c m order (slice_index s.words (place_of (plan_of c machine)))) (sym here.is)
+          (subst (λ got. IsFit c m order got) (sym (found-placed c s.words (touch_of c m) (first_part _ _ thread.mine.ready))) step.mine.ready);
+    }
+
+-- a stage that follows its history is sound
+pub sound : (c : Config) (s : Stage Actor) (h : List Entry) → Follows c s h → IsSound c s h
+sound c s h follows = record {
+  stands = record {
+    block = follows.block;
+    shared = follows.shared;
+    mutators = λ number a m here. let thread = thread_of c s h follows number a m here in (thread.fixed, thread.mine);
+  };
+  legal = follows.legal;
+  numbers = λ number a m here. (thread_of c s h follows number a m here).number_is;
+  threads = λ number a m here. let thread = thread_of c s h follows number a m here in calls_of number a _ thread.fixed thread.entries_are;
+  fit = λ number a m here. finds_fit c s h follows number a m here;
+}
+
+pub every_list : (c : Config) (events : List (Event Order)) → IsSound c (reached c events) (past c events)
+every_list c events = sound c (reached c events) (past c events) (follows_reached c events)
+
+-- a mutator that is reached makes an access of the table
+pub reached_inside : (c : Config) (number : ℕ) (a : Actor) (m : Mutating) → HasReached (kind c) (opening c) number a → a.machine ≡ mutating m → place_of (plan_of c a.machine) < table_words c
+reached_inside c number a m has is =
+    (reached_has (kind c) (λ s. slice_get s.machines number ≡ Some a → place_of (plan_of c a.machine) < table_words c) (opening c) has.stage
+    (λ events here. (finds_fit c (reached c events) (past c events) (follows_reached c events) number a m (record { here = here; is = is })).inside) has.reached) has.here
+
+-- a word that a mutator finds in some run is fit
+pub found_fit : (c : Config) (number : ℕ) (a : Actor) (m : Mutating) (order : Order) (told : ℕ) → Finds (kind c) (opening c) number a order told → a.machine ≡ mutating m → IsFit c m order told
+unfolding kind
+found_fit c number a m order told f is =
+    (reached_has (kind c) (λ s. slice_get s.machines number ≡ Some a → told ≡ slice_index s.words (place_of (plan_of c a.machine)) → IsFit c m order told) (opening c) f.stage
+    (λ events here found.
+    subst (λ n. IsFit c m order n) (sym found)
+    ((finds_fit c (reached c events) (past c events) (follows_reached c events) number a m (record { here = here; is = is })).fit order (ap (λ machine. takes_of machine order) (sym is) ∙ f.takes)))
+    f.reached) f.here f.found

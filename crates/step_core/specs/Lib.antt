@@ -1,0 +1,7 @@
+pub mod Actor
+pub mod Opening
+pub mod History
+pub mod World
+pub mod Stepped
+pub mod Follows
+pub mod Schedule

@@ -1,0 +1,55 @@
+-- An access to a word by its name: how the row of a place says what it does.
+use Rattle.std.specs.Prelude.{ℕ, ◌+◌, ◌-◌, ◌%◌, ◌^◌, ◌==◌, bit_and, bit_or, if◌then◌else◌}
+use Rattle.heap_words.specs.declared.access.Access.{Access}
+use Rattle.heap_words.specs.declared.access.Access.TheVariants.{Load, Store, Swap, Add, Sub, And, Or, Exchange}
+use Rattle.heap_words.specs.declared.config.Config.{Config}
+use Rattle.heap_words.specs.Words.{Word, word_at, write}
+
+-- what is done to the word
+pub data Form : Type 0 where
+  loads : Form
+  stores : (value : ℕ) → Form
+  swaps : (value : ℕ) → Form
+  adds : (value : ℕ) → Form
+  subtracts : (value : ℕ) → Form
+  keeps_bits : (value : ℕ) → Form
+  sets_bits : (value : ℕ) → Form
+  exchanges : (expect value : ℕ) → Form
+
+-- a word, and what is done to it
+pub record Touch : Type 0 where
+  pub word : Word
+  pub form : Form
+
+abbrev pub touch : Word → Form → Touch
+touch word form = record { word = word; form = form }
+
+-- what the word is afterwards, by what it was before
+abbrev pub formed : Form → ℕ → ℕ
+formed loads found = found
+formed (stores value) found = value
+formed (swaps value) found = value
+formed (adds value) found = (found + value) % 2 ^ 64
+formed (subtracts value) found = (found + (2 ^ 64 - value)) % 2 ^ 64
+formed (keeps_bits value) found = bit_and found value
+formed (sets_bits value) found = bit_or found value
+formed (exchanges expect value) found = if found == expect then value else found
+
+-- the access that does so at a place of the table
+abbrev pub access_at : ℕ → Form → Access
+access_at at loads = Load at
+access_at at (stores value) = Store at value
+access_at at (swaps value) = Swap at value
+access_at at (adds value) = Add at value
+access_at at (subtracts value) = Sub at value
+access_at at (keeps_bits value) = And at value
+access_at at (sets_bits value) = Or at value
+access_at at (exchanges expect value) = Exchange at expect value
+
+-- the access of the table
+abbrev pub placed : Config → Touch → Access
+placed c t = access_at (word_at c t.word) t.form
+
+-- a memory after the access
+abbrev pub touched : (Word → ℕ) → Touch → Word → ℕ
+touched memory t = write memory t.word (formed t.form (memory t.word))

@@ -1,0 +1,15 @@
+//! Runs of machines over words: an event is one access of one word by one machine. The laws here hold of every kind of
+//! machine, whatever its words mean.
+#![tactic(auto)]
+
+ghost use Rattle.steps_base.specs.Steps.{Kind, RunsAdd, EventsAreSmall};
+
+/// A law: events one after another are one run.
+pub fn runs_add<R, O>()
+    ensures { (kind : Kind R O) → RunsAdd kind }
+{}
+
+/// A law: an event is one access of one word, and changes no machine but its own.
+pub fn events_are_small<R, O>()
+    ensures { (kind : Kind R O) → EventsAreSmall kind }
+{}
