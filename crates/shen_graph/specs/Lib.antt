@@ -8,3 +8,4 @@ pub mod Work
 pub mod GraphText
 pub mod TextLayout
 pub mod TextRoom
+pub mod PlainGraph

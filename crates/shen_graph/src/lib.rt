@@ -10,12 +10,14 @@ use std::alloc::{AllocError, AllocFailed};
 mod command;
 mod graph_text;
 mod name;
+mod plain_graph;
 mod script;
 mod work;
 
 pub use command::{Command, Reply};
 pub use graph_text::GraphText;
 pub use name::Name;
+pub use plain_graph::PlainGraph;
 pub use script::Script;
 pub use work::{Replies, Work};
 

@@ -1,0 +1,29 @@
+-- The plain graph in memory, and the graph that it is.
+use Rattle.std.specs.Prelude.{ℕ, ◌-◌, List, [], ◌∷◌, length, position, Option, Some, None, option_and_then, slice_index, slice_index_or, if◌then◌else◌}
+use Rattle.shen_graph.specs.declared.name.Name.{Name}
+use Rattle.shen_graph.specs.Graph.{Graph, Object, Reference, same_name}
+use Rattle.shen_graph.specs.GraphText.{Row}
+
+-- a row for each object; and for each thread, counted from 1, its 16 roots and how many objects it made: place 0 of these is nobody's
+pub record Plain : Type 0 where
+  pub rows : List Row
+  pub roots : List (List Reference)
+  pub counts : List ℕ
+
+abbrev pub threads_of : Plain → ℕ
+threads_of p = length p.roots - 1
+
+-- the object of a name: that of the first row with the name
+abbrev pub object_in : List Row → Name → Option Object
+object_in [] name = None
+object_in (r ∷ rows) name = if same_name name r.name then Some (record { refs = r.refs; nums = r.nums }) else object_in rows name
+
+abbrev pub root_in : List (List Reference) → ℕ → ℕ → Reference
+root_in roots thread root = slice_index_or (slice_index_or roots thread []) root None
+
+unfoldable pub graph_of : Plain → Graph
+graph_of p = record { object = object_in p.rows; root = root_in p.roots; count = slice_index p.counts }
+
+-- where the row of the object stands that a root names
+abbrev pub place_of : Plain → ℕ → ℕ → Option ℕ
+place_of p thread root = option_and_then (λ n. position (λ r. same_name n r.name) p.rows) (root_in p.roots thread root)

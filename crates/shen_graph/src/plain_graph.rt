@@ -1,0 +1,383 @@
+ghost use Rattle.std.specs.Prelude.{◌≡◌, ◌≢◌, ◌+◌, ◌-◌, ◌^◌, ◌<◌, ◌≤◌, length, None, replicate, position, IsSome, IfOk, OnOk, OnErr, slice_get, slice_set};
+ghost use Rattle.shen_graph.specs.declared.command.Command.TheVariants.{Get, Set, Cas, Xchg, Wr};
+ghost use Rattle.shen_graph.specs.Valid.{IsValid};
+ghost use Rattle.shen_graph.specs.Graph.{blank, field_at, number_at, fresh, with_root, with_field, with_number, with_fresh, opening, same_name};
+ghost use Rattle.shen_graph.specs.Step.{answers, outcome, shown, yes_or_no};
+ghost use Rattle.shen_graph.specs.Reach.{IsReach};
+ghost use Rattle.shen_graph.specs.PlainGraph.{graph_of, threads_of, place_of, root_in};
+
+use std::alloc::Global;
+use std::marker::Model;
+
+use crate::NoMemory;
+use crate::command::{Command, Reply};
+use crate::name::Name;
+
+// An object, with its name.
+#[derive(Debug, Drop)]
+struct Object {
+    name: Name,
+    refs: Vec<Option<Name>>,
+    nums: Vec<u64>,
+}
+
+impl Model for Object {
+    ghost use Rattle.shen_graph.specs.GraphText.{Row};
+
+    ghost Value = { Row };
+
+    ghost view = { λ o. record { name = o.name; refs = o.refs.items; nums = o.nums.items } };
+}
+
+/// The graph of objects as it is defined, plain and slow: what the heap is judged by. It moves and frees nothing.
+/// Threads are counted from 1.
+#[derive(Debug, Drop)]
+pub struct PlainGraph {
+    // the newest first
+    objects: Vec<Object>,
+    // by thread: place 0 is nobody's
+    roots: Vec<[Option<Name>; 16]>,
+    counts: Vec<u32>,
+}
+
+impl Model for PlainGraph {
+    ghost use Rattle.std.specs.Prelude.{◌≡◌, ◌≤◌, All, length, vec_len};
+    ghost use Rattle.shen_graph.specs.PlainGraph.{Plain};
+
+    ghost Value = { Plain };
+
+    ghost view = { λ g. record { rows = g.objects.items; roots = g.roots.items; counts = g.counts.items } };
+
+    ghost invariant = { λ g. (1 ≤ vec_len g.roots) × (vec_len g.counts ≡ vec_len g.roots) × All (λ row. length row ≡ 16) g.roots.items };
+}
+
+// What shows a reference.
+fn shown(reference: Option<Name>) -> Reply
+    ensures { result ≡ shown reference }
+{
+    match reference {
+        None => Reply::Null,
+        Some(name) => Reply::Ref(name),
+    }
+}
+
+fn yes_or_no(holds: bool) -> Reply
+    ensures { result ≡ yes_or_no holds }
+{
+    if holds { Reply::Yes } else { Reply::No }
+}
+
+// Where the first object of that name stands.
+fn first_named(objects: &[Object], name: Name) -> Option<usize>
+    ensures { result ≡ position (λ r. same_name name r.name) objects.now }
+{
+    objects.iter().position(|object| object.name == name)
+}
+
+impl Object {
+    ghost use Rattle.shen_graph.specs.GraphText.{Row};
+
+    // An object with so many null references and zeros.
+    fn blank(alloc: Global, name: Name, refs: u32, nums: u32) -> Result<Object, NoMemory>
+        ensures { IfOk result (λ object. object ≡ record { name = name; refs = replicate refs None; nums = replicate nums 0 }) }
+    {
+        Ok(Object {
+            name,
+            refs: vec![in alloc; None; refs as usize]?,
+            nums: vec![in alloc; 0; nums as usize]?,
+        })
+    }
+
+    fn field(&self, field: u32) -> Option<Option<Name>>
+        ensures { result ≡ slice_get self.now.refs field }
+    {
+        self.refs.get(field as usize).copied()
+    }
+
+    fn number(&self, index: u32) -> Option<u64>
+        ensures { result ≡ slice_get self.now.nums index }
+    {
+        self.nums.get(index as usize).copied()
+    }
+
+    fn set_field(&mut self, field: u32, value: Option<Name>)
+        requires { field < length self.old.refs }
+        ensures { self.new ≡ record self.old { refs = slice_set self.old.refs field value } }
+    {
+        self.refs[field as usize] = value;
+    }
+
+    fn set_number(&mut self, index: u32, value: u64)
+        requires { index < length self.old.nums }
+        ensures { self.new ≡ record self.old { nums = slice_set self.old.nums index value } }
+    {
+        self.nums[index as usize] = value;
+    }
+}
+
+// The commands that look for a field or a number. Each answers `Bad` where there is none.
+impl PlainGraph {
+    fn get(&mut self, thread: u32, dst: u32, src: u32, field: u32) -> Reply
+        requires thread { thread ≤ threads_of self.old }
+        requires roots { (dst < 16) × (src < 16) }
+        ensures done { answers result (graph_of self.new) ≡ outcome (graph_of self.old) thread (Get dst src field) }
+        ensures threads { threads_of self.new ≡ threads_of self.old }
+    {
+        match self.field(thread, src, field) {
+            Some(value) => {
+                self.set_root(thread, dst, value);
+                shown(value)
+            }
+            None => Reply::Bad,
+        }
+    }
+
+    fn set(&mut self, thread: u32, obj: u32, field: u32, val: u32) -> Reply
+        requires thread { thread ≤ threads_of self.old }
+        requires roots { (obj < 16) × (val < 16) }
+        ensures done { answers result (graph_of self.new) ≡ outcome (graph_of self.old) thread (Set obj field val) }
+        ensures threads { threads_of self.new ≡ threads_of self.old }
+    {
+        match self.field(thread, obj, field) {
+            Some(_) => {
+                let value = self.root(thread, val);
+                self.set_field(thread, obj, field, value);
+                Reply::Ok
+            }
+            None => Reply::Bad,
+        }
+    }
+
+    fn compare_exchange(&mut self, thread: u32, obj: u32, field: u32, expect: u32, val: u32) -> Reply
+        requires thread { thread ≤ threads_of self.old }
+        requires roots { (obj < 16) × (expect < 16) × (val < 16) }
+        ensures done { answers result (graph_of self.new)
+            ≡ outcome (graph_of self.old) thread (Cas obj field expect val) }
+        ensures threads { threads_of self.new ≡ threads_of self.old }
+    {
+        match self.field(thread, obj, field) {
+            Some(found) => {
+                if found == self.root(thread, expect) {
+                    let value = self.root(thread, val);
+                    self.set_field(thread, obj, field, value);
+                    Reply::Yes
+                } else {
+                    Reply::No
+                }
+            }
+            None => Reply::Bad,
+        }
+    }
+
+    fn exchange(&mut self, thread: u32, dst: u32, obj: u32, field: u32, val: u32) -> Reply
+        requires thread { thread ≤ threads_of self.old }
+        requires roots { (dst < 16) × (obj < 16) × (val < 16) }
+        ensures done { answers result (graph_of self.new)
+            ≡ outcome (graph_of self.old) thread (Xchg dst obj field val) }
+        ensures threads { threads_of self.new ≡ threads_of self.old }
+    {
+        match self.field(thread, obj, field) {
+            Some(found) => {
+                let value = self.root(thread, val);
+                self.set_field(thread, obj, field, value);
+                self.set_root(thread, dst, found);
+                shown(found)
+            }
+            None => Reply::Bad,
+        }
+    }
+
+    fn write(&mut self, thread: u32, obj: u32, index: u32, value: u64) -> Reply
+        requires thread { thread ≤ threads_of self.old }
+        requires root { obj < 16 }
+        ensures done { answers result (graph_of self.new) ≡ outcome (graph_of self.old) thread (Wr obj index value) }
+        ensures threads { threads_of self.new ≡ threads_of self.old }
+    {
+        match self.number(thread, obj, index) {
+            Some(_) => {
+                self.set_number(thread, obj, index, value);
+                Reply::Ok
+            }
+            None => Reply::Bad,
+        }
+    }
+}
+
+impl PlainGraph {
+    /// The graph that so many threads begin with: the hub, which root 0 of each thread names.
+    pub fn open(alloc: Global, mutators: u32) -> Result<PlainGraph, NoMemory>
+        requires { (1 ≤ mutators) × (mutators ≤ 8) }
+        ensures graph { IfOk result (λ plain. graph_of plain ≡ opening mutators) }
+        ensures threads { IfOk result (λ plain. threads_of plain ≡ mutators) }
+    {
+        let hub = Object::blank(alloc, Name::HUB, Command::FIELDS, 0)?;
+        let mut objects = Vec::new(alloc);
+        objects.push(hub)?;
+        let mut first = [None; 16];
+        first[0] = Some(Name::HUB);
+        let mut roots = Vec::new(alloc);
+        roots.push([None; 16])?;
+        for _thread in 0..mutators {
+            roots.push(first)?;
+        }
+        let counts = vec![in alloc; 0; mutators as usize + 1]?;
+        Ok(PlainGraph {
+            objects,
+            roots,
+            counts,
+        })
+    }
+
+    fn root(&self, thread: u32, root: u32) -> Option<Name>
+        requires thread { thread ≤ threads_of self.now }
+        requires root { root < 16 }
+        ensures root { result ≡ (graph_of self.now).root thread root }
+        ensures read { result ≡ root_in self.now.roots thread root }
+    {
+        let row = &self.roots[thread as usize];
+        row[root as usize]
+    }
+
+    // Where the object stands that a root names.
+    fn place(&self, thread: u32, root: u32) -> Option<usize>
+        requires thread { thread ≤ threads_of self.now }
+        requires root { root < 16 }
+        ensures { result ≡ place_of self.now thread root }
+    {
+        match self.root(thread, root) {
+            Some(name) => first_named(&self.objects, name),
+            None => None,
+        }
+    }
+
+    fn field(&self, thread: u32, root: u32, field: u32) -> Option<Option<Name>>
+        requires thread { thread ≤ threads_of self.now }
+        requires root { root < 16 }
+        ensures { result ≡ field_at (graph_of self.now) thread root field }
+    {
+        match self.place(thread, root) {
+            Some(place) => self.objects[place].field(field),
+            None => None,
+        }
+    }
+
+    fn number(&self, thread: u32, root: u32, index: u32) -> Option<u64>
+        requires thread { thread ≤ threads_of self.now }
+        requires root { root < 16 }
+        ensures { result ≡ number_at (graph_of self.now) thread root index }
+    {
+        match self.place(thread, root) {
+            Some(place) => self.objects[place].number(index),
+            None => None,
+        }
+    }
+
+    fn set_root(&mut self, thread: u32, root: u32, value: Option<Name>)
+        requires thread { thread ≤ threads_of self.old }
+        requires root { root < 16 }
+        ensures graph { graph_of self.new ≡ with_root (graph_of self.old) thread root value }
+        ensures threads { threads_of self.new ≡ threads_of self.old }
+    {
+        let row = &mut self.roots[thread as usize];
+        row[root as usize] = value;
+    }
+
+    fn set_field(&mut self, thread: u32, root: u32, field: u32, value: Option<Name>)
+        requires thread { thread ≤ threads_of self.old }
+        requires root { root < 16 }
+        requires field { IsSome (field_at (graph_of self.old) thread root field) }
+        ensures graph { graph_of self.new ≡ with_field (graph_of self.old) thread root field value }
+        ensures threads { threads_of self.new ≡ threads_of self.old }
+    {
+        match self.place(thread, root) {
+            Some(place) => {
+                let object = &mut self.objects[place];
+                object.set_field(field, value);
+            }
+            None => unreachable!(),
+        }
+    }
+
+    fn set_number(&mut self, thread: u32, root: u32, index: u32, value: u64)
+        requires thread { thread ≤ threads_of self.old }
+        requires root { root < 16 }
+        requires index { IsSome (number_at (graph_of self.old) thread root index) }
+        ensures graph { graph_of self.new ≡ with_number (graph_of self.old) thread root index value }
+        ensures threads { threads_of self.new ≡ threads_of self.old }
+    {
+        match self.place(thread, root) {
+            Some(place) => {
+                let object = &mut self.objects[place];
+                object.set_number(index, value);
+            }
+            None => unreachable!(),
+        }
+    }
+
+    // An object more, of the thread's next name.
+    fn make(&mut self, alloc: Global, thread: u32, refs: u32, nums: u32) -> Result<Name, NoMemory>
+        requires thread { (1 ≤ thread) × (thread ≤ threads_of self.old) }
+        requires count { (graph_of self.old).count thread < 2 ^ 32 - 1 }
+        ensures name { IfOk result (λ name. name ≡ fresh (graph_of self.old) thread) }
+        ensures graph { OnOk result (graph_of self.new ≡ with_fresh (graph_of self.old) thread (blank refs nums)) }
+        ensures threads { threads_of self.new ≡ threads_of self.old }
+        ensures err { OnErr result (self.new ≡ self.old) }
+    {
+        let count = self.counts[thread as usize] + 1;
+        let name = Name { thread, count };
+        let object = Object::blank(alloc, name, refs, nums)?;
+        self.objects.insert(0, object)?;
+        self.counts[thread as usize] = count;
+        Ok(name)
+    }
+
+    /// Does a command of a thread and answers it, never with `Full`. After `NoMemory` the graph is as before.
+    pub fn apply(&mut self, alloc: Global, thread: u32, command: &Command) -> Result<Reply, NoMemory>
+        requires thread { (1 ≤ thread) × (thread ≤ threads_of self.old) }
+        requires valid { IsValid command.now }
+        requires count { (graph_of self.old).count thread < 2 ^ 32 - 1 }
+        ensures ok { IfOk result
+            (λ reply. answers reply (graph_of self.new) ≡ outcome (graph_of self.old) thread command.now) }
+        ensures threads { threads_of self.new ≡ threads_of self.old }
+        ensures err { OnErr result (self.new ≡ self.old) }
+    {
+        let reply = match *command {
+            Command::New { dst, refs, nums } => {
+                let name = self.make(alloc, thread, refs, nums)?;
+                self.set_root(thread, dst, Some(name));
+                Reply::Ref(name)
+            }
+            Command::Get { dst, src, field } => self.get(thread, dst, src, field),
+            Command::Set { obj, field, val } => self.set(thread, obj, field, val),
+            Command::Cas {
+                obj,
+                field,
+                expect,
+                val,
+            } => self.compare_exchange(thread, obj, field, expect, val),
+            Command::Xchg {
+                dst,
+                obj,
+                field,
+                val,
+            } => self.exchange(thread, dst, obj, field, val),
+            Command::Rd { obj, index } => match self.number(thread, obj, index) {
+                Some(number) => Reply::Number(number),
+                None => Reply::Bad,
+            },
+            Command::Wr { obj, index, value } => self.write(thread, obj, index, value),
+            Command::Copy { dst, src } => {
+                let value = self.root(thread, src);
+                self.set_root(thread, dst, value);
+                Reply::Ok
+            }
+            Command::Drop { dst } => {
+                self.set_root(thread, dst, None);
+                Reply::Ok
+            }
+            Command::Same { a, b } => yes_or_no(self.root(thread, a) == self.root(thread, b)),
+            Command::Gc => Reply::Ok,
+        };
+        Ok(reply)
+    }
+}
