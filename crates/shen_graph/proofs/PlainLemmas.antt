@@ -1,14 +1,15 @@
 -- What each change of the rows, the roots and the counts of a plain graph makes of its graph.
 use Rattle.std.proofs.Common.{ℕ, zero, suc, ◌≡◌, ◌≢◌, ◌+◌, ◌-◌, ◌<◌, ◌≤◌, Bool, true, false, cond, eqb, ltb, List, [], ◌∷◌, map, length, get_or, set, replicate, Option, Some, None, refl, sym, ap, ◌∙◌, subst, arith, rules, inl, inr, get_or-set_same, get_or-set_other}
-use Rattle.std.specs.Prelude.{IsSome, slice_get, slice_index, position, option_and_then, unwrap_or, if◌then◌else◌, ◌&&◌, ◌==◌}
+use Rattle.std.specs.Prelude.{IsSome, nat_le, slice_get, slice_index, position, option_and_then, unwrap_or, if◌then◌else◌, ◌&&◌, ◌==◌}
 use Rattle.std.specs.List.{position_from, position_or_len}
-use Rattle.std.proofs.lemmas.Bool.{false≢true}
+use Rattle.std.proofs.lemmas.Bool.{false≢true, cases_lt, le-leb, lt-leb, ne_eqb}
+use Rattle.std.proofs.lemmas.List.{get_or-replicate, get_or_past, length-replicate}
 use Rattle.std.proofs.lemmas.Bool.Decides.{nat_tests, eqb_tells}
 use Rattle.std.proofs.lemmas.List.Quantifiers.{position-Some}
 use Rattle.std.proofs.lemmas.Option.{slice_get_within}
 use Rattle.std.proofs.lemmas.Iterator.Adapters.{position_from-zero}
 use Rattle.shen_graph.specs.declared.name.Name.{Name}
-use Rattle.shen_graph.specs.Graph.{Graph, Object, Reference, same_name, named, field_at, number_at, with_root, with_object, with_named, with_field, with_number, with_fresh, fresh, blank}
+use Rattle.shen_graph.specs.Graph.{Graph, Object, Reference, same_name, named, field_at, number_at, with_root, with_object, with_named, with_field, with_number, with_fresh, fresh, blank, hub, opening}
 use Rattle.shen_graph.specs.GraphText.{Row}
 use Rattle.shen_graph.proofs.OrderLemmas.{same_name-flip}
 use Rattle.shen_graph.specs.PlainGraph.{Plain, object_in, root_in, graph_of, place_of}
@@ -201,3 +202,34 @@ graph_of-with_number p thread root index k value place =
     let here = named-graph_of p thread root ∙ ap (object_at p) (sym place) in
     graph_of-with_object p thread root k o (sym place)
     ∙ ap (λ (n : Object). with_named (graph_of p) ((graph_of p).root thread root) (record { refs = n.refs; nums = set n.nums index value })) (sym here)
+
+-- how the threads begin
+
+null_at : {A : Type 0} (n k : ℕ) (a : A) → get_or (replicate n a) k a ≡ a
+null_at n k a =
+    elim (cases_lt k n) [ inl within ↦ get_or-replicate n k a a within | inr past ↦ get_or_past (replicate n a) k a (omega (arith, length-replicate n a)) ]
+
+-- the roots of a thread that begins
+abbrev pub first_roots : List Reference
+first_roots = Some hub ∷ replicate 15 None
+
+pub graph_of-opening : (threads : ℕ) →
+  graph_of (record { rows = record { name = hub; refs = replicate 16 None; nums = [] } ∷ []; roots = replicate 16 None ∷ replicate threads first_roots; counts = replicate (threads + 1) 0 }) ≡ opening threads
+unfolding graph_of
+graph_of-opening threads =
+    λ i. record {
+      object = (opening threads).object;
+      root = fun_ext (root_in (replicate 16 None ∷ replicate threads first_roots)) (opening threads).root (λ t. fun_ext (root_in (replicate 16 None ∷ replicate threads first_roots) t) ((opening threads).root t) (λ r. at t r)) i;
+      count = fun_ext (slice_index (replicate (threads + 1) 0)) (λ _. 0) (λ t. null_at (threads + 1) t 0) i;
+    }
+  where
+    of_first : (r : ℕ) → get_or first_roots r None ≡ (if r == 0 then Some hub else None)
+    of_first zero = refl
+    of_first (suc r) = rw (ne_eqb (suc r) 0 (λ (no : suc r ≡ 0). omega arith)) (null_at 15 r None)
+    at : (t r : ℕ) → root_in (replicate 16 None ∷ replicate threads first_roots) t r ≡ (if nat_le 1 t && nat_le t threads && (r == 0) then Some hub else None)
+    at zero r = null_at 16 r None
+    at (suc t) r =
+        rw (le-leb 1 (suc t) (omega arith))
+        (elim (cases_lt t threads)
+        [ inl within ↦ rw (get_or-replicate threads t first_roots [] within, le-leb (suc t) threads within) (of_first r)
+        | inr past ↦ rw (get_or_past (replicate threads first_roots) t [] (omega (arith, length-replicate threads first_roots)), lt-leb (suc t) threads (omega arith)) refl ])
