@@ -95,15 +95,20 @@ abbrev pub object_at : Plain → Option ℕ → Object
 object_at p None = record { refs = []; nums = [] }
 object_at p (Some k) = object_of (get_or p.rows k nobody)
 
-pub named-graph_of : (p : Plain) (thread root : ℕ) → named (graph_of p) ((graph_of p).root thread root) ≡ object_at p (place_of p thread root)
+-- what a name names, by the place of its row
+pub named-place : (p : Plain) (name : Name) → named (graph_of p) (Some name) ≡ object_at p (position (λ (r : Row). same_name name r.name) p.rows)
 unfolding graph_of
-named-graph_of p thread root =
-    elim (root_in p.roots thread root) as (λ r. named (graph_of p) r ≡ object_at p (option_and_then (λ n. position (λ (r : Row). same_name n r.name) p.rows) r))
-    [ None ↦ refl | Some n ↦ by_place n (position (λ (r : Row). same_name n r.name) p.rows) refl ]
+named-place p name = by_place (position (λ (r : Row). same_name name r.name) p.rows) refl
   where
-    by_place : (n : Name) (place : Option ℕ) → position (λ (r : Row). same_name n r.name) p.rows ≡ place → unwrap_or (object_in p.rows n) (record { refs = []; nums = [] }) ≡ object_at p place
-    by_place n None h = rw (object_in-none p.rows n 0 (sym (position_from-zero (λ (r : Row). same_name n r.name) p.rows) ∙ h)) refl
-    by_place n (Some k) h = rw (object_in-first p.rows n k (IsFirst-position p.rows n k h)) refl
+    by_place : (place : Option ℕ) → position (λ (r : Row). same_name name r.name) p.rows ≡ place → unwrap_or (object_in p.rows name) (record { refs = []; nums = [] }) ≡ object_at p place
+    by_place None h = rw (object_in-none p.rows name 0 (sym (position_from-zero (λ (r : Row). same_name name r.name) p.rows) ∙ h)) refl
+    by_place (Some k) h = rw (object_in-first p.rows name k (IsFirst-position p.rows name k h)) refl
+
+pub named-graph_of : (p : Plain) (thread root : ℕ) → named (graph_of p) ((graph_of p).root thread root) ≡ object_at p (place_of p thread root)
+named-graph_of p thread root =
+    rw (root-graph_of p thread root)
+    (elim (root_in p.roots thread root) as (λ r. named (graph_of p) r ≡ object_at p (option_and_then (λ n. position (λ (r : Row). same_name n r.name) p.rows) r))
+    [ None ↦ refl | Some n ↦ named-place p n ])
 
 -- a root is another
 pub graph_of-with_root : (p : Plain) (thread root : ℕ) (value : Reference) (row : List Reference) → thread < length p.roots → row ≡ get_or p.roots thread [] → root < length row

@@ -1,10 +1,11 @@
 ghost use Rattle.std.specs.Prelude.{◌≡◌, ◌≢◌, ◌+◌, ◌-◌, ◌^◌, ◌<◌, ◌≤◌, length, None, replicate, position, IsSome, IfOk, OnOk, OnErr, slice_get, slice_set};
+ghost use Rattle.std.specs.List.{flat_map};
 ghost use Rattle.shen_graph.specs.declared.command.Command.TheVariants.{Get, Set, Cas, Xchg, Wr};
 ghost use Rattle.shen_graph.specs.Valid.{IsValid};
-ghost use Rattle.shen_graph.specs.Graph.{blank, field_at, number_at, fresh, with_root, with_field, with_number, with_fresh, opening, same_name};
+ghost use Rattle.shen_graph.specs.Graph.{blank, field_at, number_at, fresh, with_root, with_field, with_number, with_fresh, named, opening, same_name};
 ghost use Rattle.shen_graph.specs.Step.{answers, outcome, shown, yes_or_no};
 ghost use Rattle.shen_graph.specs.Reach.{IsReach};
-ghost use Rattle.shen_graph.specs.PlainGraph.{graph_of, threads_of, place_of, root_in};
+ghost use Rattle.shen_graph.specs.PlainGraph.{graph_of, threads_of, place_of, root_in, with_name, with_names};
 
 use std::alloc::Global;
 use std::marker::Model;
@@ -74,6 +75,27 @@ fn first_named(objects: &[Object], name: Name) -> Option<usize>
     objects.iter().position(|object| object.name == name)
 }
 
+// Adds the name that a reference holds, if it is not there yet.
+fn add_name(found: &mut Vec<Name>, reference: Option<Name>) -> Result<(), NoMemory>
+    ensures { OnOk result (found.new.items ≡ with_name found.old.items reference) }
+{
+    if let Some(name) = reference {
+        if !found.contains(&name) {
+            found.push(name)?;
+        }
+    }
+    Ok(())
+}
+
+fn add_names(found: &mut Vec<Name>, references: &[Option<Name>]) -> Result<(), NoMemory>
+    ensures { OnOk result (found.new.items ≡ with_names found.old.items references.now) }
+{
+    for reference in references {
+        add_name(found, *reference)?;
+    }
+    Ok(())
+}
+
 impl Object {
     ghost use Rattle.shen_graph.specs.GraphText.{Row};
 
@@ -98,6 +120,13 @@ impl Object {
         ensures { result ≡ slice_get self.now.nums index }
     {
         self.nums.get(index as usize).copied()
+    }
+
+    // Adds the names that the references hold.
+    fn add_fields(&self, found: &mut Vec<Name>) -> Result<(), NoMemory>
+        ensures { OnOk result (found.new.items ≡ with_names found.old.items self.now.refs) }
+    {
+        add_names(found, &self.refs)
     }
 
     fn set_field(&mut self, field: u32, value: Option<Name>)
@@ -379,5 +408,40 @@ impl PlainGraph {
             Command::Gc => Reply::Ok,
         };
         Ok(reply)
+    }
+
+    fn add_roots(&self, found: &mut Vec<Name>) -> Result<(), NoMemory>
+        ensures { OnOk result (found.new.items ≡ with_names found.old.items (flat_map (λ row. row) self.now.roots)) }
+    {
+        for row in &self.roots {
+            add_names(found, row)?;
+        }
+        Ok(())
+    }
+
+    // Adds the names that the fields of an object hold.
+    fn add_fields(&self, found: &mut Vec<Name>, name: Name) -> Result<(), NoMemory>
+        ensures { OnOk result (found.new.items ≡ with_names found.old.items (named (graph_of self.now) (Some name)).refs) }
+    {
+        match first_named(&self.objects, name) {
+            Some(place) => self.objects[place].add_fields(found),
+            None => Ok(()),
+        }
+    }
+
+    /// The names that can be reached from the roots of all threads, in their order.
+    pub fn reach(&self, alloc: Global) -> Result<Vec<Name>, NoMemory>
+        ensures { IfOk result (λ names. IsReach (graph_of self.now) names.items) }
+    {
+        let mut found = Vec::new(alloc);
+        self.add_roots(&mut found)?;
+        let mut next = 0;
+        while next < found.len() {
+            let name = found[next];
+            self.add_fields(&mut found, name)?;
+            next += 1;
+        }
+        found.sort_unstable();
+        Ok(found)
     }
 }

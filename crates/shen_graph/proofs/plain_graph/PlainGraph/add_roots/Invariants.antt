@@ -1,0 +1,7 @@
+use Rattle.std.proofs.Common.{◌≡◌, take}
+use Rattle.std.specs.List.{flat_map}
+use Rattle.shen_graph.specs.PlainGraph.{with_names}
+use Rattle.shen_graph.proofs.plain_graph.PlainGraph.add_roots.Given as goal
+
+abbrev pub invariant-loop-row : goal.invariant-loop-row
+invariant-loop-row l = l.found.items ≡ with_names l.initial.found.items (flat_map (λ row. row) (take l.row-index l.self.roots))
