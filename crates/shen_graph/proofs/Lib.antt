@@ -1,3 +1,4 @@
 pub mod TextLemmas
 pub mod OrderLemmas
 pub mod PlainLemmas
+pub mod ReachLemmas

@@ -1,7 +1,7 @@
 -- What each change of the rows, the roots and the counts of a plain graph makes of its graph.
-use Rattle.std.proofs.Common.{ℕ, zero, suc, ◌≡◌, ◌≢◌, ◌+◌, ◌-◌, ◌<◌, ◌≤◌, Bool, true, false, cond, eqb, ltb, List, [], ◌∷◌, map, length, get_or, set, replicate, Option, Some, None, refl, sym, ap, ◌∙◌, subst, arith, rules, inl, inr, get_or-set_same, get_or-set_other}
+use Rattle.std.proofs.Common.{ℕ, zero, suc, ◌≡◌, ◌+◌, ◌<◌, true, false, cond, eqb, List, [], ◌∷◌, length, get_or, set, replicate, Option, Some, None, refl, sym, ap, ◌∙◌, arith, inl, inr, get_or-set_same, get_or-set_other}
 use Rattle.std.specs.Prelude.{IsSome, nat_le, slice_get, slice_index, position, option_and_then, unwrap_or, if◌then◌else◌, ◌&&◌, ◌==◌}
-use Rattle.std.specs.List.{position_from, position_or_len}
+use Rattle.std.specs.List.{position_from}
 use Rattle.std.proofs.lemmas.Bool.{false≢true, cases_lt, le-leb, lt-leb, ne_eqb}
 use Rattle.std.proofs.lemmas.List.{get_or-replicate, get_or_past, length-replicate}
 use Rattle.std.proofs.lemmas.Bool.Decides.{nat_tests, eqb_tells}
@@ -9,7 +9,7 @@ use Rattle.std.proofs.lemmas.List.Quantifiers.{position-Some}
 use Rattle.std.proofs.lemmas.Option.{slice_get_within}
 use Rattle.std.proofs.lemmas.Iterator.Adapters.{position_from-zero}
 use Rattle.shen_graph.specs.declared.name.Name.{Name}
-use Rattle.shen_graph.specs.Graph.{Graph, Object, Reference, same_name, named, field_at, number_at, with_root, with_object, with_named, with_field, with_number, with_fresh, fresh, blank, hub, opening}
+use Rattle.shen_graph.specs.Graph.{Object, Reference, same_name, named, field_at, number_at, with_root, with_named, with_field, with_number, with_fresh, blank, hub, opening}
 use Rattle.shen_graph.specs.GraphText.{Row}
 use Rattle.shen_graph.proofs.OrderLemmas.{same_name-flip}
 use Rattle.shen_graph.specs.PlainGraph.{Plain, object_in, root_in, graph_of, place_of}
@@ -64,7 +64,7 @@ object_in-none (r ∷ rows) name i h =
 
 -- the row has another object
 pub object_in-set : (rows : List Row) (name : Name) (k : ℕ) (o : Object) (q : Name) → IsFirst rows name k
-  → object_in (set rows k (record { name = (get_or rows k nobody).name; refs = o.refs; nums = o.nums })) q ≡ (if same_name q name then Some o else object_in rows q)
+    → object_in (set rows k (record { name = (get_or rows k nobody).name; refs = o.refs; nums = o.nums })) q ≡ (if same_name q name then Some o else object_in rows q)
 object_in-set [] name k o q h = absurd (omega (arith, h.within))
 object_in-set (r ∷ rows) name zero o q h =
     let here : name ≡ r.name = same_name-true name r.name h.same in
@@ -112,38 +112,40 @@ named-graph_of p thread root =
 
 -- a root is another
 pub graph_of-with_root : (p : Plain) (thread root : ℕ) (value : Reference) (row : List Reference) → thread < length p.roots → row ≡ get_or p.roots thread [] → root < length row
-  → graph_of (record p { roots = set p.roots thread (set row root value) }) ≡ with_root (graph_of p) thread root value
+    → graph_of (record p { roots = set p.roots thread (set row root value) }) ≡ with_root (graph_of p) thread root value
 unfolding graph_of
 graph_of-with_root p thread root value row in_threads is in_roots =
     let same : root_in (set p.roots thread (set row root value)) ≡ (λ t r. if (t == thread) && (r == root) then value else root_in p.roots t r) =
-      fun_ext _ _ (λ t. fun_ext _ _ (λ r. at t r)) in
+    fun_ext _ _ (λ t. fun_ext _ _ (λ r. at t r)) in
     λ i. record { object = object_in p.rows; root = same i; count = slice_index p.counts }
   where
     at : (t r : ℕ) → root_in (set p.roots thread (set row root value)) t r ≡ (if (t == thread) && (r == root) then value else root_in p.roots t r)
     at t r =
         rw (get_or-set p.roots thread t (set row root value) [] in_threads)
-        (elim (eqb_tells t thread)
-        [ inl w ↦ rw (w.0, w.1, ← is) (get_or-set row root r value None in_roots)
-        | inr w ↦ rw w.0 refl ])
+        (elim (eqb_tells t thread) [
+          | inl w ↦ rw (w.0, w.1, ← is) (get_or-set row root r value None in_roots)
+          | inr w ↦ rw w.0 refl
+        ])
 
 -- the object that a root names is another
 pub graph_of-with_object : (p : Plain) (thread root k : ℕ) (o : Object) → place_of p thread root ≡ Some k
-  → graph_of (record p { rows = set p.rows k (record { name = (get_or p.rows k nobody).name; refs = o.refs; nums = o.nums }) }) ≡ with_named (graph_of p) ((graph_of p).root thread root) o
+    → graph_of (record p { rows = set p.rows k (record { name = (get_or p.rows k nobody).name; refs = o.refs; nums = o.nums }) }) ≡ with_named (graph_of p) ((graph_of p).root thread root) o
 unfolding graph_of
 graph_of-with_object p thread root k o =
     elim (root_in p.roots thread root) as (λ r. option_and_then (λ n. position (λ (r : Row). same_name n r.name) p.rows) r ≡ Some k
-      → graph_of (record p { rows = set p.rows k (record { name = (get_or p.rows k nobody).name; refs = o.refs; nums = o.nums }) }) ≡ with_named (graph_of p) r o)
-    [ None ↦ λ none. cc
-    | Some n ↦ λ found. λ i. record {
+    → graph_of (record p { rows = set p.rows k (record { name = (get_or p.rows k nobody).name; refs = o.refs; nums = o.nums }) }) ≡ with_named (graph_of p) r o) [
+      | None ↦ λ none. cc
+      | Some n ↦ λ found. λ i. record {
         object = fun_ext (object_in (set p.rows k (record { name = (get_or p.rows k nobody).name; refs = o.refs; nums = o.nums }))) (λ q. if same_name q n then Some o else object_in p.rows q)
-          (λ q. object_in-set p.rows n k o q (IsFirst-position p.rows n k found)) i;
+            (λ q. object_in-set p.rows n k o q (IsFirst-position p.rows n k found)) i;
         root = root_in p.roots;
         count = slice_index p.counts;
-      } ]
+      }
+    ]
 
 -- an object more
 pub graph_of-with_fresh : (p : Plain) (thread refs nums : ℕ) → thread < length p.counts
-  → graph_of (record { rows = record { name = record { thread = thread; count = slice_index p.counts thread + 1 }; refs = replicate refs None; nums = replicate nums 0 } ∷ p.rows; roots = p.roots; counts = set p.counts thread (slice_index p.counts thread + 1) })
+    → graph_of (record { rows = record { name = record { thread = thread; count = slice_index p.counts thread + 1 }; refs = replicate refs None; nums = replicate nums 0 } ∷ p.rows; roots = p.roots; counts = set p.counts thread (slice_index p.counts thread + 1) })
     ≡ with_fresh (graph_of p) thread (blank refs nums)
 unfolding graph_of
 graph_of-with_fresh p thread refs nums within =
@@ -164,9 +166,10 @@ number_at-graph_of p thread root index = ap (λ (o : Object). slice_get o.nums i
 
 pub place_of-within : (p : Plain) (thread root k : ℕ) → Some k ≡ place_of p thread root → k < length p.rows
 place_of-within p thread root k =
-    elim (root_in p.roots thread root) as (λ r. Some k ≡ option_and_then (λ n. position (λ (r : Row). same_name n r.name) p.rows) r → k < length p.rows)
-    [ None ↦ λ none. cc
-    | Some n ↦ λ found. (IsFirst-position p.rows n k (sym found)).within ]
+    elim (root_in p.roots thread root) as (λ r. Some k ≡ option_and_then (λ n. position (λ (r : Row). same_name n r.name) p.rows) r → k < length p.rows) [
+      | None ↦ λ none. cc
+      | Some n ↦ λ found. (IsFirst-position p.rows n k (sym found)).within
+    ]
 
 within_some : {A : Type 0} (xs : List A) (k : ℕ) → IsSome (slice_get xs k) → k < length xs
 within_some {A} xs k some =
@@ -193,7 +196,7 @@ number_at-nowhere p thread root index place some = false≢true (rw (number_at-g
 
 -- one reference, or one number, of the object that a root names is another
 pub graph_of-with_field : (p : Plain) (thread root field k : ℕ) (value : Reference) → Some k ≡ place_of p thread root
-  → graph_of (record p { rows = set p.rows k (record (get_or p.rows k nobody) { refs = set (get_or p.rows k nobody).refs field value }) }) ≡ with_field (graph_of p) thread root field value
+    → graph_of (record p { rows = set p.rows k (record (get_or p.rows k nobody) { refs = set (get_or p.rows k nobody).refs field value }) }) ≡ with_field (graph_of p) thread root field value
 graph_of-with_field p thread root field k value place =
     let o : Object = record { refs = set (get_or p.rows k nobody).refs field value; nums = (get_or p.rows k nobody).nums } in
     let here = named-graph_of p thread root ∙ ap (object_at p) (sym place) in
@@ -201,7 +204,7 @@ graph_of-with_field p thread root field k value place =
     ∙ ap (λ (n : Object). with_named (graph_of p) ((graph_of p).root thread root) (record { refs = set n.refs field value; nums = n.nums })) (sym here)
 
 pub graph_of-with_number : (p : Plain) (thread root index k value : ℕ) → Some k ≡ place_of p thread root
-  → graph_of (record p { rows = set p.rows k (record (get_or p.rows k nobody) { nums = set (get_or p.rows k nobody).nums index value }) }) ≡ with_number (graph_of p) thread root index value
+    → graph_of (record p { rows = set p.rows k (record (get_or p.rows k nobody) { nums = set (get_or p.rows k nobody).nums index value }) }) ≡ with_number (graph_of p) thread root index value
 graph_of-with_number p thread root index k value place =
     let o : Object = record { refs = (get_or p.rows k nobody).refs; nums = set (get_or p.rows k nobody).nums index value } in
     let here = named-graph_of p thread root ∙ ap (object_at p) (sym place) in
@@ -219,7 +222,7 @@ abbrev pub first_roots : List Reference
 first_roots = Some hub ∷ replicate 15 None
 
 pub graph_of-opening : (threads : ℕ) →
-  graph_of (record { rows = record { name = hub; refs = replicate 16 None; nums = [] } ∷ []; roots = replicate 16 None ∷ replicate threads first_roots; counts = replicate (threads + 1) 0 }) ≡ opening threads
+    graph_of (record { rows = record { name = hub; refs = replicate 16 None; nums = [] } ∷ []; roots = replicate 16 None ∷ replicate threads first_roots; counts = replicate (threads + 1) 0 }) ≡ opening threads
 unfolding graph_of
 graph_of-opening threads =
     λ i. record {
@@ -231,10 +234,12 @@ graph_of-opening threads =
     of_first : (r : ℕ) → get_or first_roots r None ≡ (if r == 0 then Some hub else None)
     of_first zero = refl
     of_first (suc r) = rw (ne_eqb (suc r) 0 (λ (no : suc r ≡ 0). omega arith)) (null_at 15 r None)
+
     at : (t r : ℕ) → root_in (replicate 16 None ∷ replicate threads first_roots) t r ≡ (if nat_le 1 t && nat_le t threads && (r == 0) then Some hub else None)
     at zero r = null_at 16 r None
     at (suc t) r =
         rw (le-leb 1 (suc t) (omega arith))
-        (elim (cases_lt t threads)
-        [ inl within ↦ rw (get_or-replicate threads t first_roots [] within, le-leb (suc t) threads within) (of_first r)
-        | inr past ↦ rw (get_or_past (replicate threads first_roots) t [] (omega (arith, length-replicate threads first_roots)), lt-leb (suc t) threads (omega arith)) refl ])
+        (elim (cases_lt t threads) [
+          | inl within ↦ rw (get_or-replicate threads t first_roots [] within, le-leb (suc t) threads within) (of_first r)
+          | inr past ↦ rw (get_or_past (replicate threads first_roots) t [] (omega (arith, length-replicate threads first_roots)), lt-leb (suc t) threads (omega arith)) refl
+        ])

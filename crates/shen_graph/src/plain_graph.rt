@@ -7,12 +7,11 @@ ghost use Rattle.shen_graph.specs.Step.{answers, outcome, shown, yes_or_no};
 ghost use Rattle.shen_graph.specs.Reach.{IsReach};
 ghost use Rattle.shen_graph.specs.PlainGraph.{graph_of, threads_of, place_of, root_in, with_name, with_names};
 
-use std::alloc::Global;
-use std::marker::Model;
-
 use crate::NoMemory;
 use crate::command::{Command, Reply};
 use crate::name::Name;
+use std::alloc::Global;
+use std::marker::Model;
 
 // An object, with its name.
 #[derive(Debug, Drop)]
@@ -177,7 +176,14 @@ impl PlainGraph {
         }
     }
 
-    fn compare_exchange(&mut self, thread: u32, obj: u32, field: u32, expect: u32, val: u32) -> Reply
+    fn compare_exchange(
+        &mut self,
+        thread: u32,
+        obj: u32,
+        field: u32,
+        expect: u32,
+        val: u32,
+    ) -> Reply
         requires thread { thread ≤ threads_of self.old }
         requires roots { (obj < 16) × (expect < 16) × (val < 16) }
         ensures done { answers result (graph_of self.new)
@@ -361,7 +367,12 @@ impl PlainGraph {
     }
 
     /// Does a command of a thread and answers it, never with `Full`. After `NoMemory` the graph is as before.
-    pub fn apply(&mut self, alloc: Global, thread: u32, command: &Command) -> Result<Reply, NoMemory>
+    pub fn apply(
+        &mut self,
+        alloc: Global,
+        thread: u32,
+        command: &Command,
+    ) -> Result<Reply, NoMemory>
         requires thread { (1 ≤ thread) × (thread ≤ threads_of self.old) }
         requires valid { IsValid command.now }
         requires count { (graph_of self.old).count thread < 2 ^ 32 - 1 }

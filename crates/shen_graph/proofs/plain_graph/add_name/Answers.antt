@@ -7,5 +7,5 @@ use Rattle.shen_graph.proofs.plain_graph.add_name.Goals as goal
 pub returns-else-not-contains : goal.returns-else-not-contains
 returns-else-not-contains c =
     let there : list_any (λ (m : Name). same_name m c.in-Some.name) c.args.found.now.items ≡ true =
-      ap (list_any (λ (m : Name). same_name m c.in-Some.name)) (sym c.deref.ensures.value) ∙ sym c.contains.ensures.value ∙ c.if-not-contains.false in
+    ap (list_any (λ (m : Name). same_name m c.in-Some.name)) (sym c.deref.ensures.value) ∙ sym c.contains.ensures.value ∙ c.if-not-contains.false in
     rw (c.in-Some.is, there) refl

@@ -1,0 +1,255 @@
+-- The search for the names that can be reached.
+use Rattle.std.proofs.Common.{ℕ, zero, suc, ◌≡◌, ◌+◌, ◌<◌, ◌≤◌, ◌⊎◌, Bool, true, false, List, [], ◌∷◌, ◌++◌, length, get_or, Some, None, refl, sym, ap, ◌∙◌, arith, inl, inr, append_assoc, length-append}
+use Rattle.std.specs.Prelude.{slice_get, unwrap_or, Contains, if◌then◌else◌}
+use Rattle.std.specs.Cmp.{IsEquivalence}
+use Rattle.std.specs.List.{list_any, flat_map, filter_map, IsDistinct}
+use Rattle.std.proofs.lemmas.Bool.{cases_lt}
+use Rattle.std.proofs.lemmas.List.{append-nil, get_or_append_left, get_or_past, get_or_default}
+use Rattle.std.proofs.lemmas.List.Elements.{Contains-append_left, Contains-append_right, Contains-append_cases, Contains-push, Contains-push_cases}
+use Rattle.std.proofs.lemmas.Map.Keys.{IsDistinct-push}
+use Rattle.std.proofs.lemmas.Map.Made.{length-le_from_is_member}
+use Rattle.std.proofs.lemmas.Map.Views.{Contains-from_any, list_any-from_Contains}
+use Rattle.std.proofs.lemmas.Option.{slice_get_within, slice_get-get_or, get_or_from_slice_get, none-some}
+use Rattle.shen_graph.specs.declared.name.Name.{Name}
+use Rattle.shen_graph.specs.Graph.{Reference, same_name, named}
+use Rattle.shen_graph.specs.GraphText.{Row}
+use Rattle.shen_graph.specs.Reach.{IsReachable}
+use Rattle.shen_graph.specs.Reach.IsReachable.{from_root, from_field}
+use Rattle.shen_graph.specs.PlainGraph.{Plain, object_in, root_in, graph_of, with_name, with_names}
+use Rattle.shen_graph.proofs.OrderLemmas.{same_name-flip}
+use Rattle.shen_graph.proofs.PlainLemmas.{same_name-true, same_name-itself, root-graph_of}
+
+pub same_name-laws : IsEquivalence same_name
+same_name-laws = record {
+  refl = same_name-itself;
+  symm = same_name-flip;
+  congr = λ x y z same. ap (λ n. same_name n z) (same_name-true x y same);
+}
+
+-- the test of a name against those that were found
+any_flip : (n : Name) (xs : List Name) → list_any (λ m. same_name m n) xs ≡ list_any (same_name n) xs
+any_flip n [] = refl
+any_flip n (x ∷ xs) = rw (same_name-flip x n, any_flip n xs) refl
+
+pub Contains-cons_cases : {A : Type 0} (x : A) (xs : List A) (y : A) → Contains (x ∷ xs) y → (x ≡ y) ⊎ Contains xs y
+Contains-cons_cases {A} x xs y there = at there.0 there.1 there.2
+  where
+    at : (k : ℕ) → k < length (x ∷ xs) → get_or (x ∷ xs) k y ≡ y → (x ≡ y) ⊎ Contains xs y
+    at zero within is = inl is
+    at (suc k) within is = inr (k, omega arith, is)
+
+pub Contains-nil : {A : Type 0} (y : A) → Contains [] y → ⊥
+Contains-nil y there = omega (arith, there.1)
+
+pub Contains-flat_map : {A B : Type 0} (f : A → List B) (xs : List A) (i : ℕ) (d : A) (y : B) → i < length xs → Contains (f (get_or xs i d)) y → Contains (flat_map f xs) y
+Contains-flat_map f [] i d y within there = absurd (omega arith)
+Contains-flat_map f (x ∷ xs) zero d y within there = Contains-append_left (f x) (flat_map f xs) y there
+Contains-flat_map f (x ∷ xs) (suc i) d y within there = Contains-append_right (f x) (flat_map f xs) y (Contains-flat_map f xs i d y (omega arith) there)
+
+pub Contains-from_flat_map : {A B : Type 0} (f : A → List B) (xs : List A) (d : A) (y : B) → Contains (flat_map f xs) y → (i : ℕ) × (i < length xs) × Contains (f (get_or xs i d)) y
+Contains-from_flat_map f [] d y there = absurd (Contains-nil y there)
+Contains-from_flat_map f (x ∷ xs) d y there =
+    elim (Contains-append_cases (f x) (flat_map f xs) y there) [
+      | inl here ↦ (0, omega arith, here)
+      | inr later ↦ let w = Contains-from_flat_map f xs d y later in (suc w.0, omega (arith, w.1), w.2)
+    ]
+
+-- a reference that is in a list, by its place
+pub Contains-from_slice_get : {A : Type 0} (xs : List A) (k : ℕ) (x : A) → slice_get xs k ≡ Some x → Contains xs x
+Contains-from_slice_get xs k x is = (k, slice_get_within xs k x is, get_or_from_slice_get xs k x x is)
+
+pub slice_get-from_Contains : {A : Type 0} (xs : List A) (x : A) → Contains xs x → (k : ℕ) × (slice_get xs k ≡ Some x)
+slice_get-from_Contains xs x there = (there.0, slice_get-get_or xs there.0 x there.1 ∙ ap Some there.2)
+
+-- the names that references hold
+abbrev pub names_held : List Reference → List Name
+names_held refs = filter_map (λ r. r) refs
+
+pub Contains-names_held : (refs : List Reference) (n : Name) → Contains refs (Some n) → Contains (names_held refs) n
+Contains-names_held [] n there = absurd (Contains-nil (Some n) there)
+Contains-names_held (None ∷ refs) n there =
+    elim (Contains-cons_cases None refs (Some n) there) [ inl never ↦ cc | inr later ↦ Contains-names_held refs n later ]
+Contains-names_held (Some m ∷ refs) n there =
+    elim (Contains-cons_cases (Some m) refs (Some n) there) [
+      | inl is ↦ let same : m ≡ n = cc in (0, omega arith, same)
+      | inr later ↦ Contains-append_right (m ∷ []) (names_held refs) n (Contains-names_held refs n later)
+    ]
+
+-- Names are only added, at the end.
+
+with_name-longer : (xs : List Name) (r : Reference) → (ys : List Name) × (with_name xs r ≡ xs ++ ys)
+with_name-longer xs None = ([], sym (append-nil xs))
+with_name-longer xs (Some n) =
+    elim (list_any (λ m. same_name m n) xs) as (λ b. (ys : List Name) × ((if b then xs else xs ++ n ∷ []) ≡ xs ++ ys))
+    [ true ↦ ([], sym (append-nil xs)) | false ↦ (n ∷ [], refl) ]
+
+pub with_names-longer : (xs : List Name) (refs : List Reference) → (ys : List Name) × (with_names xs refs ≡ xs ++ ys)
+with_names-longer xs [] = ([], sym (append-nil xs))
+with_names-longer xs (r ∷ refs) =
+    let one = with_name-longer xs r in
+    let others = with_names-longer (with_name xs r) refs in
+    (one.0 ++ others.0, others.1 ∙ ap (λ l. l ++ others.0) one.1 ∙ append_assoc xs one.0 others.0)
+
+pub with_names-keeps : (xs : List Name) (refs : List Reference) (n : Name) → Contains xs n → Contains (with_names xs refs) n
+with_names-keeps xs refs n there =
+    let longer = with_names-longer xs refs in
+    rw longer.1 (Contains-append_left xs longer.0 n there)
+
+with_name-has : (xs : List Name) (n : Name) → Contains (with_name xs (Some n)) n
+with_name-has xs n = at (list_any (λ m. same_name m n) xs) refl
+  where
+    at : (b : Bool) → list_any (λ m. same_name m n) xs ≡ b → Contains (if b then xs else xs ++ n ∷ []) n
+    at true is = Contains-from_any same_name-true n xs (sym (any_flip n xs) ∙ is)
+    at false is = Contains-push xs n
+
+pub with_names-has : (xs : List Name) (refs : List Reference) (n : Name) → Contains refs (Some n) → Contains (with_names xs refs) n
+with_names-has xs [] n there = absurd (Contains-nil (Some n) there)
+with_names-has xs (r ∷ refs) n there =
+    elim (Contains-cons_cases r refs (Some n) there) [
+      | inl here ↦ with_names-keeps (with_name xs r) refs n (rw here (with_name-has xs n))
+      | inr later ↦ with_names-has (with_name xs r) refs n later
+    ]
+
+with_name-only : (xs : List Name) (r : Reference) (n : Name) → Contains (with_name xs r) n → Contains xs n ⊎ (r ≡ Some n)
+with_name-only xs None n there = inl there
+with_name-only xs (Some m) n there =
+    elim (list_any (λ k. same_name k m) xs) as (λ b. Contains (if b then xs else xs ++ m ∷ []) n → Contains xs n ⊎ (Some m ≡ Some n)) [
+      | true ↦ λ before. inl before
+      | false ↦ λ either. elim (Contains-push_cases xs m n either) [ inl before ↦ inl before | inr is ↦ inr (ap Some is) ]
+    ] there
+
+pub with_names-only : (xs : List Name) (refs : List Reference) (n : Name) → Contains (with_names xs refs) n → Contains xs n ⊎ Contains refs (Some n)
+with_names-only xs [] n there = inl there
+with_names-only xs (r ∷ refs) n there =
+    elim (with_names-only (with_name xs r) refs n there) [
+      | inl before ↦ elim (with_name-only xs r n before) [ inl first ↦ inl first | inr is ↦ inr (0, omega arith, is) ]
+      | inr later ↦ inr (Contains-append_right (r ∷ []) refs (Some n) later)
+    ]
+
+with_name-distinct : (xs : List Name) (r : Reference) → IsDistinct same_name xs → IsDistinct same_name (with_name xs r)
+with_name-distinct xs None distinct = distinct
+with_name-distinct xs (Some n) distinct = at (list_any (λ m. same_name m n) xs) refl
+  where
+    at : (b : Bool) → list_any (λ m. same_name m n) xs ≡ b → IsDistinct same_name (if b then xs else xs ++ n ∷ [])
+    at true is = distinct
+    at false is = IsDistinct-push same_name-laws xs n distinct (sym (any_flip n xs) ∙ is)
+
+pub with_names-distinct : (xs : List Name) (refs : List Reference) → IsDistinct same_name xs → IsDistinct same_name (with_names xs refs)
+with_names-distinct xs [] distinct = distinct
+with_names-distinct xs (r ∷ refs) distinct = with_names-distinct (with_name xs r) refs (with_name-distinct xs r distinct)
+
+-- every reference that the graph has
+abbrev pub references_of : Plain → List Reference
+references_of p = flat_map (λ row. row) p.roots ++ flat_map (λ r. r.refs) p.rows
+
+-- no search finds more names than these
+abbrev pub names_of : Plain → List Name
+names_of p = names_held (references_of p)
+
+-- So many of the names that were found were followed.
+pub record IsSearched (p : Plain) (found : List Name) (next : ℕ) : Type 0 where
+  pub reached : (n : Name) → Contains found n → IsReachable (graph_of p) n
+  pub roots : (thread root : ℕ) (n : Name) → (graph_of p).root thread root ≡ Some n → Contains found n
+  pub fields : (k : ℕ) (m : Name) → k < next → get_or found k m ≡ m → (field : ℕ) (n : Name) → slice_get (named (graph_of p) (Some m)).refs field ≡ Some (Some n) → Contains found n
+  pub distinct : IsDistinct same_name found
+  pub known : (n : Name) → Contains found n → Contains (names_of p) n
+  pub within : next ≤ length found
+
+object-graph_of : (p : Plain) (n : Name) → (graph_of p).object n ≡ object_in p.rows n
+unfolding graph_of
+object-graph_of p n = refl
+
+-- what an object refers to is among the references of all objects
+object_in-refs : (rows : List Row) (n : Name) (r : Reference) → Contains (unwrap_or (object_in rows n) (record { refs = []; nums = [] })).refs r → Contains (flat_map (λ (x : Row). x.refs) rows) r
+object_in-refs [] n r there = absurd (Contains-nil r there)
+object_in-refs (x ∷ rows) n r there =
+    elim (same_name n x.name) as (λ b. Contains (unwrap_or (if b then Some (record { refs = x.refs; nums = x.nums }) else object_in rows n) (record { refs = []; nums = [] })).refs r → Contains (flat_map (λ (x : Row). x.refs) (x ∷ rows)) r) [
+      | true ↦ λ here. Contains-append_left x.refs (flat_map (λ (x : Row). x.refs) rows) r here
+      | false ↦ λ later. Contains-append_right x.refs (flat_map (λ (x : Row). x.refs) rows) r (object_in-refs rows n r later)
+    ] there
+
+named-refs : (p : Plain) (m n : Name) → Contains (named (graph_of p) (Some m)).refs (Some n) → Contains (names_of p) n
+named-refs p m n there =
+    Contains-names_held (references_of p) n
+    (Contains-append_right (flat_map (λ row. row) p.roots) (flat_map (λ (r : Row). r.refs) p.rows) (Some n)
+    (object_in-refs p.rows m (Some n) (rw (object-graph_of p m) at there)))
+
+-- a root, by its place in the rows of roots
+root_in-Contains : (roots : List (List Reference)) (thread root : ℕ) (n : Name) → root_in roots thread root ≡ Some n → Contains (flat_map (λ row. row) roots) (Some n)
+root_in-Contains roots thread root n is =
+    elim (cases_lt thread (length roots)) [
+      | inl in_roots ↦ elim (cases_lt root (length (get_or roots thread []))) [
+        | inl in_row ↦ Contains-flat_map (λ row. row) roots thread [] (Some n) in_roots (root, in_row, get_or_default (get_or roots thread []) root (Some n) None in_row ∙ is)
+        | inr past ↦ absurd (none-some n (sym (get_or_past (get_or roots thread []) root None past) ∙ is))
+      ]
+      | inr past ↦ absurd (none-some n (sym (ap (λ (row : List Reference). get_or row root None) (get_or_past roots thread [] past)) ∙ is))
+    ]
+
+none_distinct : IsDistinct same_name []
+unfolding IsDistinct
+none_distinct = tt
+
+-- the search begins with the roots
+pub IsSearched-roots : (p : Plain) → IsSearched p (with_names [] (flat_map (λ row. row) p.roots)) 0
+IsSearched-roots p = record {
+  reached = λ n there. elim (with_names-only [] (flat_map (λ row. row) p.roots) n there) [
+    | inl never ↦ absurd (Contains-nil n never)
+    | inr held ↦
+        let row = Contains-from_flat_map (λ row. row) p.roots [] (Some n) held in
+        let place = row.2 in
+        from_root row.0 place.0 n (root-graph_of p row.0 place.0 ∙ get_or_default (get_or p.roots row.0 []) place.0 None (Some n) place.1 ∙ place.2)
+  ];
+  roots = λ thread root n is. with_names-has [] (flat_map (λ row. row) p.roots) n (root_in-Contains p.roots thread root n (sym (root-graph_of p thread root) ∙ is));
+  fields = λ k m below at field n is. absurd (omega arith);
+  distinct = with_names-distinct [] (flat_map (λ row. row) p.roots) none_distinct;
+  known = λ n there. elim (with_names-only [] (flat_map (λ row. row) p.roots) n there) [
+    | inl never ↦ absurd (Contains-nil n never)
+    | inr held ↦ Contains-names_held (references_of p) n (Contains-append_left (flat_map (λ row. row) p.roots) (flat_map (λ (r : Row). r.refs) p.rows) (Some n) held)
+  ];
+  within = omega arith;
+}
+
+-- one name more was followed
+pub IsSearched-more : (p : Plain) (found : List Name) (next : ℕ) (m : Name) → IsSearched p found next → next < length found → m ≡ get_or found next m
+    → IsSearched p (with_names found (named (graph_of p) (Some m)).refs) (next + 1)
+IsSearched-more p found next m s within is =
+    let refs = (named (graph_of p) (Some m)).refs in
+    let longer = with_names-longer found refs in
+    record {
+      reached = λ n there. elim (with_names-only found refs n there) [
+        | inl before ↦ s.reached n before
+        | inr held ↦ let f = slice_get-from_Contains refs (Some n) held in from_field m n f.0 (s.reached m (next, within, sym is)) f.1
+      ];
+      roots = λ thread root n h. with_names-keeps found refs n (s.roots thread root n h);
+      fields = fields;
+      distinct = with_names-distinct found refs s.distinct;
+      known = λ n there. elim (with_names-only found refs n there) [ inl before ↦ s.known n before | inr held ↦ named-refs p m n held ];
+      within = rw longer.1 (omega (arith, length-append found longer.0));
+    }
+  where
+    fields : (k : ℕ) (q : Name) → k < next + 1 → get_or (with_names found (named (graph_of p) (Some m)).refs) k q ≡ q → (field : ℕ) (n : Name)
+        → slice_get (named (graph_of p) (Some q)).refs field ≡ Some (Some n) → Contains (with_names found (named (graph_of p) (Some m)).refs) n
+    fields k q below there field n holds =
+        let refs = (named (graph_of p) (Some m)).refs in
+        let longer = with_names-longer found refs in
+        let same : get_or (with_names found refs) k q ≡ get_or found k q = rw longer.1 (get_or_append_left found longer.0 q k (omega arith)) in
+        elim (cases_lt k next) [
+          | inl before ↦ with_names-keeps found refs n (s.fields k q before (sym same ∙ there) field n holds)
+          | inr last ↦
+              let k_is : k ≡ next = omega arith in
+              let q_is : q ≡ m = sym there ∙ same ∙ ap (λ j. get_or found j q) k_is ∙ get_or_default found next q m within ∙ sym is in
+              with_names-has found refs n (Contains-from_slice_get refs field (Some n) (ap (λ (x : Name). slice_get (named (graph_of p) (Some x)).refs field) (sym q_is) ∙ holds))
+        ]
+
+-- the search ends: there are not more names
+pub IsSearched-bound : (p : Plain) (found : List Name) (next : ℕ) → IsSearched p found next → length found ≤ length (names_of p)
+IsSearched-bound p found next s =
+    length-le_from_is_member same_name-laws found (names_of p) s.distinct
+    (λ q there. list_any-from_Contains same_name-laws q (names_of p) (s.known q (Contains-from_any same_name-true q found there)))
+
+-- where all names were followed, those that can be reached were found
+pub IsSearched-all : (p : Plain) (found : List Name) (next : ℕ) → IsSearched p found next → length found ≤ next → (n : Name) → IsReachable (graph_of p) n → Contains found n
+IsSearched-all p found next s done _ (from_root thread root n is) = s.roots thread root n is
+IsSearched-all p found next s done _ (from_field m n field reached is) =
+    let there = IsSearched-all p found next s done m reached in
+    s.fields there.0 m (omega (arith, there.1)) there.2 field n is

@@ -1,0 +1,34 @@
+use Rattle.std.proofs.Common.{◌<◌, ◌≤◌, length, arith, subst}
+use Rattle.std.proofs.lemmas.Grind.{common_steps}
+use Rattle.std.proofs.lemmas.List.{map-id}
+use Rattle.std.proofs.lemmas.List.Sorted.{Contains-permutation, IsPermutation-sym}
+use Rattle.shen_graph.specs.declared.name.Name.{Name}
+use Rattle.shen_graph.specs.Reach.{InOrder}
+use Rattle.shen_graph.proofs.OrderLemmas.{InOrder-from_sorted, IsDistinct-permutation}
+use Rattle.shen_graph.proofs.ReachLemmas.{names_of, IsSearched-roots, IsSearched-more, IsSearched-bound, IsSearched-all}
+use Rattle.shen_graph.proofs.plain_graph.PlainGraph.reach.Goals as goal
+
+pub loop-next-init : goal.loop-next-init
+loop-next-init c = rw (c.in_ok-add_roots.ensures, c.new-found.ensures.items) (IsSearched-roots c.args.self.now)
+
+pub loop-next-smaller : goal.loop-next-smaller
+loop-next-smaller c =
+    let bound : length c.loop-next.found.items ≤ length (names_of c.args.self.now) = IsSearched-bound c.args.self.now c.loop-next.found.items c.loop-next.next c.loop-next.invariant in
+    let more : c.loop-next.next < length c.loop-next.found.items = grind (arith, common_steps) in
+    omega arith
+
+pub loop-next-preserved : goal.loop-next-preserved
+loop-next-preserved c =
+    rw c.in_ok-add_fields.ensures (IsSearched-more c.args.self.now c.loop-next.found.items c.loop-next.next c.index-name.result.now c.loop-next.invariant (grind (arith, common_steps)) c.index-name.ensures)
+
+pub returns : goal.returns
+returns c =
+    let s = c.loop-next.invariant in
+    let done : length c.loop-next.found.items ≤ c.loop-next.next = grind (arith, common_steps) in
+    let found = c.loop-next.found.items in
+    let sorted = c.sort_unstable.new.self.items in
+    record {
+      in_order = subst InOrder (map-id sorted) (InOrder-from_sorted (λ (n : Name). n) sorted c.sort_unstable.ensures.sorted (rw map-id (IsDistinct-permutation found sorted c.sort_unstable.ensures.permutation s.distinct)));
+      all = λ n reached. Contains-permutation found sorted n c.sort_unstable.ensures.permutation (IsSearched-all c.args.self.now found c.loop-next.next s done n reached);
+      only = λ n there. s.reached n (Contains-permutation sorted found n (IsPermutation-sym found sorted c.sort_unstable.ensures.permutation) there);
+    }
