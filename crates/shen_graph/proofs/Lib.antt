@@ -2,3 +2,4 @@ pub mod TextLemmas
 pub mod OrderLemmas
 pub mod PlainLemmas
 pub mod ReachLemmas
+pub mod StepLemmas
