@@ -1,6 +1,7 @@
 ghost use Rattle.std.specs.Prelude.{◌≡◌, ◌≢◌, ◌+◌, ◌-◌, ◌^◌, ◌<◌, ◌≤◌, length, None, replicate, position, IsSome, IfOk, OnOk, OnErr, slice_get, slice_set};
 ghost use Rattle.std.specs.List.{flat_map};
 ghost use Rattle.shen_graph.specs.declared.command.Command.TheVariants.{Get, Set, Cas, Xchg, Wr};
+ghost use Rattle.shen_graph.specs.declared.command.Reply.TheVariants.{Full};
 ghost use Rattle.shen_graph.specs.Valid.{IsValid};
 ghost use Rattle.shen_graph.specs.Graph.{blank, field_at, number_at, fresh, with_root, with_field, with_number, with_fresh, named, opening, same_name};
 ghost use Rattle.shen_graph.specs.Step.{answers, outcome, shown, yes_or_no};
@@ -378,6 +379,7 @@ impl PlainGraph {
         requires count { (graph_of self.old).count thread < 2 ^ 32 - 1 }
         ensures ok { IfOk result
             (λ reply. answers reply (graph_of self.new) ≡ outcome (graph_of self.old) thread command.now) }
+        ensures never_full { IfOk result (λ reply. reply ≢ Full) }
         ensures threads { threads_of self.new ≡ threads_of self.old }
         ensures err { OnErr result (self.new ≡ self.old) }
     {
