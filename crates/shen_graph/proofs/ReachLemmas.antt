@@ -15,7 +15,8 @@ use Rattle.shen_graph.specs.Graph.{Reference, same_name, named}
 use Rattle.shen_graph.specs.GraphText.{Row}
 use Rattle.shen_graph.specs.Reach.{IsReachable}
 use Rattle.shen_graph.specs.Reach.IsReachable.{from_root, from_field}
-use Rattle.shen_graph.specs.PlainGraph.{Plain, object_in, root_in, graph_of, with_name, with_names}
+use Rattle.shen_graph.specs.PlainGraph.{Plain, object_in, root_in, graph_of}
+use Rattle.shen_graph.specs.Found.{with_name, with_names}
 use Rattle.shen_graph.proofs.OrderLemmas.{same_name-flip}
 use Rattle.shen_graph.proofs.PlainLemmas.{same_name-true, same_name-itself, root-graph_of}
 

@@ -9,3 +9,4 @@ pub mod GraphText
 pub mod TextLayout
 pub mod TextRoom
 pub mod PlainGraph
+pub mod Found

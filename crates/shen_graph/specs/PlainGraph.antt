@@ -1,6 +1,5 @@
 -- The plain graph in memory, and the graph that it is.
-use Rattle.std.specs.Prelude.{ℕ, ◌-◌, List, [], ◌∷◌, ◌++◌, length, fold, position, Option, Some, None, option_and_then, slice_index, slice_index_or, if◌then◌else◌}
-use Rattle.std.specs.List.{list_any}
+use Rattle.std.specs.Prelude.{ℕ, ◌-◌, List, [], ◌∷◌, length, position, Option, Some, None, option_and_then, slice_index, slice_index_or, if◌then◌else◌}
 use Rattle.shen_graph.specs.declared.name.Name.{Name}
 use Rattle.shen_graph.specs.Graph.{Graph, Object, Reference, same_name}
 use Rattle.shen_graph.specs.GraphText.{Row}
@@ -28,11 +27,3 @@ graph_of p = record { object = object_in p.rows; root = root_in p.roots; count =
 -- where the row of the object stands that a root names
 abbrev pub place_of : Plain → ℕ → ℕ → Option ℕ
 place_of p thread root = option_and_then (λ n. position (λ r. same_name n r.name) p.rows) (root_in p.roots thread root)
-
--- names that were found, with the name that a reference holds, each once
-abbrev pub with_name : List Name → Reference → List Name
-with_name found None = found
-with_name found (Some n) = if list_any (λ m. same_name m n) found then found else found ++ n ∷ []
-
-abbrev pub with_names : List Name → List Reference → List Name
-with_names found refs = fold with_name found refs

@@ -1,5 +1,5 @@
 -- A text in memory, with the room that its calls need.
-use Rattle.std.specs.Prelude.{◌≡◌, ◌+◌, ◌*◌, ◌≤◌, [], map, vec_len, vec_capacity}
+use Rattle.std.specs.Prelude.{All, ◌≡◌, ◌+◌, ◌*◌, ◌≤◌, [], length, map, vec_len, vec_capacity}
 use Rattle.shen_graph.specs.declared.graph_text.GraphText.TheInside.{Inside}
 use Rattle.shen_graph.specs.GraphText.{Text}
 use Rattle.shen_graph.specs.TextLayout.{row_at, IsLaid}
@@ -16,6 +16,7 @@ text_in t = record {
 pub record HasRoom (t : Inside) : Type 0 where
   pub laid : IsLaid t.places.items (vec_len t.references) (vec_len t.numbers)
   pub words : t.spare + 3 * vec_len t.places + vec_len t.references + vec_len t.numbers ≡ t.room
+  pub roots : All (λ row. length row ≡ 16) t.roots.items
   pub places : t.room ≤ 3 * vec_capacity t.places + 2
   pub references : t.room ≤ vec_capacity t.references
   pub numbers : t.room ≤ vec_capacity t.numbers

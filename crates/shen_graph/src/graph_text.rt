@@ -234,7 +234,8 @@ impl GraphText {
 
     /// The number of threads that the text was opened for.
     pub fn mutators(&self) -> usize
-        ensures { result ≡ length self.now.roots }
+        ensures threads { result ≡ length self.now.roots }
+        ensures sixteen { All (λ roots. length roots ≡ 16) self.now.roots }
     {
         self.roots.len()
     }

@@ -1,5 +1,5 @@
-//! The graph that a heap stands for: names, commands and replies, scripts and what they were answered, and the rows of
-//! a graph that is to be written.
+//! The graph that a heap stands for: names, commands and replies, scripts and what they were answered, the plain graph
+//! that a heap is judged by, and the rows of a graph that is to be written.
 //!
 //! The definitions that the whole project is believed by stand in `specs/`: the graph and the step of each command
 //! (`Graph`, `Step`), histories (`History`), reachability (`Reach`) and crowding (`Crowd`).

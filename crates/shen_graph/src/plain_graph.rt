@@ -6,7 +6,8 @@ ghost use Rattle.shen_graph.specs.Valid.{IsValid};
 ghost use Rattle.shen_graph.specs.Graph.{blank, field_at, number_at, fresh, with_root, with_field, with_number, with_fresh, named, opening, same_name};
 ghost use Rattle.shen_graph.specs.Step.{answers, outcome, shown, yes_or_no};
 ghost use Rattle.shen_graph.specs.Reach.{IsReach};
-ghost use Rattle.shen_graph.specs.PlainGraph.{graph_of, threads_of, place_of, root_in, with_name, with_names};
+ghost use Rattle.shen_graph.specs.PlainGraph.{graph_of, threads_of, place_of, root_in};
+ghost use Rattle.shen_graph.specs.Found.{with_name, with_names};
 
 use crate::NoMemory;
 use crate::command::{Command, Reply};

@@ -1,5 +1,5 @@
 use Rattle.std.proofs.Common.{◌≡◌, take}
-use Rattle.shen_graph.specs.PlainGraph.{with_names}
+use Rattle.shen_graph.specs.Found.{with_names}
 use Rattle.shen_graph.proofs.plain_graph.add_names.Given as goal
 
 abbrev pub invariant-loop-reference : goal.invariant-loop-reference

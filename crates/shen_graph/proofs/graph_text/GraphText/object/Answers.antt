@@ -11,6 +11,7 @@ invariant_of-self c =
     record {
       laid = grind (arith, common_steps, IsLaid-push);
       words = grind arith;
+      roots = room.roots;
       places = omega (arith, room.places, c.push.ensures.capacity);
       references = room.references;
       numbers = room.numbers;

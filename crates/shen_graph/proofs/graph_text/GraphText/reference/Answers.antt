@@ -15,6 +15,7 @@ invariant_of-self c =
     record {
       laid = rw (grown, pushed) (IsLaid-grow_refs c.self.inside.places.items (vec_len c.self.inside.references) (vec_len c.self.inside.numbers) some room.laid);
       words = grind arith;
+      roots = room.roots;
       places = room.places;
       references = omega (arith, room.references, c.push.ensures.capacity);
       numbers = omega (arith, room.numbers, c.push.ensures.capacity);

@@ -46,6 +46,7 @@ invariant_of-self c =
     record {
       laid = rw (c.swap.ensures.x_after, c.swap-2.ensures.x_after) c.gather.ensures.laid;
       words = omega (arith, room.words, ref_count, num_count, places);
+      roots = room.roots;
       places = omega (arith, room.places, c.gather.ensures.place_room, c.sort_unstable_by_key.ensures.capacity);
       references = omega (arith, room.moved_references.1, c.gather.ensures.reference_room, ap vec_capacity c.swap.ensures.x_after);
       numbers = omega (arith, room.moved_numbers.1, c.gather.ensures.number_room, ap vec_capacity c.swap-2.ensures.x_after);

@@ -3,7 +3,8 @@ use Rattle.std.specs.Prelude.{OnOk, position}
 use Rattle.std.proofs.lemmas.List.{get_or_read}
 use Rattle.shen_graph.specs.Graph.{Object, Reference, named, same_name}
 use Rattle.shen_graph.specs.GraphText.{Row}
-use Rattle.shen_graph.specs.PlainGraph.{Plain, graph_of, with_names}
+use Rattle.shen_graph.specs.PlainGraph.{Plain, graph_of}
+use Rattle.shen_graph.specs.Found.{with_names}
 use Rattle.shen_graph.proofs.PlainLemmas.{named-place, object_at, IsFirst-position, nobody}
 use Rattle.shen_graph.proofs.plain_graph.PlainGraph.add_fields.Goals as goal
 

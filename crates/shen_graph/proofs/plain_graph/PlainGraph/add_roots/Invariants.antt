@@ -1,6 +1,6 @@
 use Rattle.std.proofs.Common.{◌≡◌, take}
 use Rattle.std.specs.List.{flat_map}
-use Rattle.shen_graph.specs.PlainGraph.{with_names}
+use Rattle.shen_graph.specs.Found.{with_names}
 use Rattle.shen_graph.proofs.plain_graph.PlainGraph.add_roots.Given as goal
 
 abbrev pub invariant-loop-row : goal.invariant-loop-row
