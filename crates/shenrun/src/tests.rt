@@ -5,15 +5,8 @@ use crate::replay::shenrun;
 use crate::status::Status;
 use shen_base::{Failed, MemorySink, MemorySource, Source};
 use std::alloc::Global;
+use std::process::Abort;
 use std::test::Fail;
-
-/// A trace behind `heap 4 64 0` and `threads 1 0`, what is written, and the status.
-#[derive(Drop)]
-struct Case {
-    commands: &'static str,
-    written: &'static str,
-    status: Status,
-}
 
 const HEAD: &str = "shen 1\nheap 4 64 0\nthreads 1 0\n";
 
@@ -52,87 +45,76 @@ fn trace_of(alloc: Global, commands: &str) -> Result<Vec<u8>, Fail> {
     Ok(bytes)
 }
 
-#[test]
-fn traces_are_answered_or_refused(rt: HostRuntime) -> Result<(), Fail> {
-    let cases = [
-        Case {
-            commands: STORED,
-            written: STORED_ANSWER,
-            status: Status::Ok,
-        },
-        // No command at all.
-        Case {
-            commands: "",
-            written: "graph\nobject 0.1 - - - - - - - - - - - - - - - - /\nroots 1 0.1 - - - - - - - - - - - - - - -\n",
-            status: Status::Ok,
-        },
-        // A null root, and a field behind the last.
-        Case {
-            commands: "1 get 1 5 0\n1 get 1 0 16\n1 set 0 15 5\n",
-            written: "1 bad\n1 bad\n1 ok\ngraph\nobject 0.1 - - - - - - - - - - - - - - - - /\nroots 1 0.1 - - - - - - - - - - - - - - -\n",
-            status: Status::Ok,
-        },
-        // Three large objects fit, and four do not.
-        Case {
-            commands: "1 new 1 16 16\n1 new 2 16 16\n1 new 1 0 0\n1 set 2 0 1\n1 new 1 16 16\n1 new 2 0 0\n",
-            written: "1 1.1\n1 1.2\n1 1.3\n1 ok\n1 1.4\n1 1.5\ngraph\nobject 0.1 - - - - - - - - - - - - - - - - /\nobject 1.4 - - - - - - - - - - - - - - - - / 0 0 0 0 0 0 0 0 0 0 0 0 0 0 0 0\nobject 1.5 /\nroots 1 0.1 1.4 1.5 - - - - - - - - - - - - -\n",
-            status: Status::Ok,
-        },
-        Case {
-            commands: "1 new 1 16 16\n1 new 2 16 16\n1 new 3 16 16\n1 new 4 16 16\n",
-            written: "heap too small\n",
-            status: Status::BadTrace,
-        },
-        // Outside the grammar.
-        Case {
-            commands: "1 new 1 17 0\n",
-            written: "bad trace\n",
-            status: Status::BadTrace,
-        },
-        Case {
-            commands: "1 set 0 3 1",
-            written: "bad trace\n",
-            status: Status::BadTrace,
-        },
-        Case {
-            commands: "1 set 0 3  1\n",
-            written: "bad trace\n",
-            status: Status::BadTrace,
-        },
-        Case {
-            commands: "1 set 0 03 1\n",
-            written: "bad trace\n",
-            status: Status::BadTrace,
-        },
-        Case {
-            commands: "1 move 1\n1 set 0 3 1\n",
-            written: "bad trace\n",
-            status: Status::BadTrace,
-        },
-        Case {
-            commands: "2 set 0 3 1\n",
-            written: "bad trace\n",
-            status: Status::BadTrace,
-        },
-        Case {
-            commands: "1 gc\n",
-            written: "bad trace\n",
-            status: Status::BadTrace,
-        },
-    ];
-    for case in &cases {
-        let bytes = trace_of(rt.alloc(), case.commands)?;
-        for piece in [1, 7, 8, 4096] {
-            let (status, written) = outcome(rt.alloc(), &["replay"], &bytes, piece, &[], &[])?;
-            assert_eq!(rt; status, case.status, "{}", case.commands);
-            assert_eq!(rt;
-                written.as_slice(),
-                case.written.as_bytes(),
-                "{}",
-                case.commands
-            );
-        }
+/// Gives the trace of the commands in pieces of several sizes, and looks at the status and at what is written.
+fn answers(
+    rt: &impl Abort,
+    alloc: Global,
+    commands: &str,
+    status: Status,
+    expected: &str,
+) -> Result<(), Fail> {
+    let bytes = trace_of(alloc, commands)?;
+    for piece in [1, 7, 8, 4096] {
+        let (told, written) = outcome(alloc, &["replay"], &bytes, piece, &[], &[])?;
+        assert_eq!(rt; told, status);
+        assert_eq!(rt; written.as_slice(), expected.as_bytes());
     }
+    Ok(())
+}
+
+#[test]
+fn traces_are_answered(rt: HostRuntime) -> Result<(), Fail> {
+    answers(&rt, rt.alloc(), STORED, Status::Ok, STORED_ANSWER)?;
+    // No command at all.
+    answers(
+        &rt,
+        rt.alloc(),
+        "",
+        Status::Ok,
+        "graph\nobject 0.1 - - - - - - - - - - - - - - - - /\nroots 1 0.1 - - - - - - - - - - - - - - -\n",
+    )?;
+    // A null root, and a field behind the last.
+    answers(
+        &rt,
+        rt.alloc(),
+        "1 get 1 5 0\n1 get 1 0 16\n1 set 0 15 5\n",
+        Status::Ok,
+        "1 bad\n1 bad\n1 ok\ngraph\nobject 0.1 - - - - - - - - - - - - - - - - /\nroots 1 0.1 - - - - - - - - - - - - - - -\n",
+    )?;
+    // Three large objects fit, and four do not.
+    answers(
+        &rt,
+        rt.alloc(),
+        "1 new 1 16 16\n1 new 2 16 16\n1 new 1 0 0\n1 set 2 0 1\n1 new 1 16 16\n1 new 2 0 0\n",
+        Status::Ok,
+        "1 1.1\n1 1.2\n1 1.3\n1 ok\n1 1.4\n1 1.5\ngraph\nobject 0.1 - - - - - - - - - - - - - - - - /\nobject 1.4 - - - - - - - - - - - - - - - - / 0 0 0 0 0 0 0 0 0 0 0 0 0 0 0 0\nobject 1.5 /\nroots 1 0.1 1.4 1.5 - - - - - - - - - - - - -\n",
+    )?;
+    answers(
+        &rt,
+        rt.alloc(),
+        "1 new 1 16 16\n1 new 2 16 16\n1 new 3 16 16\n1 new 4 16 16\n",
+        Status::BadTrace,
+        "heap too small\n",
+    )?;
+    Ok(())
+}
+
+#[test]
+fn other_traces_are_refused(rt: HostRuntime) -> Result<(), Fail> {
+    let other = "bad trace\n";
+    answers(&rt, rt.alloc(), "1 new 1 17 0\n", Status::BadTrace, other)?;
+    answers(&rt, rt.alloc(), "1 set 0 3 1", Status::BadTrace, other)?;
+    answers(&rt, rt.alloc(), "1 set 0 3  1\n", Status::BadTrace, other)?;
+    answers(&rt, rt.alloc(), "1 set 0 03 1\n", Status::BadTrace, other)?;
+    answers(
+        &rt,
+        rt.alloc(),
+        "1 move 1\n1 set 0 3 1\n",
+        Status::BadTrace,
+        other,
+    )?;
+    answers(&rt, rt.alloc(), "2 set 0 3 1\n", Status::BadTrace, other)?;
+    answers(&rt, rt.alloc(), "1 gc\n", Status::BadTrace, other)?;
     Ok(())
 }
 
