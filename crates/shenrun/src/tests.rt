@@ -141,12 +141,12 @@ fn other_words_are_refused(rt: HostRuntime) -> Result<(), Fail> {
 fn each_fault_is_told(rt: HostRuntime) -> Result<(), Fail> {
     let bytes = trace_of(rt.alloc(), STORED)?;
     let answer = STORED_ANSWER.as_bytes();
-    for call in 1..9 {
+    for call in 1..11 {
         let (status, written) = outcome(rt.alloc(), &["replay"], &bytes, 8, &[call], &[])?;
         assert_eq!(rt; status, Status::ReadFault, "call {call}");
         assert_eq!(rt; written.as_slice(), b"read fault\n".as_slice());
     }
-    for call in 1..19 {
+    for call in 1..18 {
         let (status, written) = outcome(rt.alloc(), &["replay"], &bytes, 8, &[], &[call])?;
         assert_eq!(rt; status, Status::WriteFault, "call {call}");
         assert_eq!(rt; written.len(), 8 * (call as usize - 1));
