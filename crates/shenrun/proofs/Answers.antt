@@ -1,5 +1,5 @@
 -- From a run of the one script to the answer of a history.
-use Rattle.std.proofs.Common.{◌≡◌, ◌≢◌, ℕ, zero, suc, ◌-◌, ◌<◌, true, false, eqb, List, [], ◌∷◌, length, get_or, map, Option, None, refl, sym, ap, subst, ◌∙◌, lit<, arith}
+use Rattle.std.proofs.Common.{◌≡◌, ◌≢◌, ℕ, zero, suc, ◌-◌, ◌<◌, ◌≤◌, true, false, eqb, List, [], ◌∷◌, length, get_or, map, Option, None, refl, sym, ap, subst, ◌∙◌, lit<, arith}
 use Rattle.std.specs.Prelude.{All, slice_index_or}
 use Rattle.std.specs.List.{range_with_len}
 use Rattle.std.proofs.lemmas.Bool.Decides.{nat_tests}
@@ -19,6 +19,7 @@ use Rattle.small_heap.specs.Running.{HasRun}
 use Rattle.trace_text.specs.Grammar.{ReadsEarly}
 use Rattle.trace_text.specs.Answer.{answer_text, IsAnswerText, row_in}
 use Rattle.trace_text.proofs.AnswerLemmas.{answer_text_same}
+use Rattle.small_heap.specs.Placing.{regions_needed, sizes_of}
 use Rattle.shenrun.specs.Answered.{IsReplayed}
 use Rattle.shenrun.proofs.Scripts.{one_script}
 
@@ -64,13 +65,14 @@ text_shown work h text alone told one shows =
     (λ t i low high lt. let is : t ≡ 1 = omega arith in subst (λ (n : ℕ). root_of text n i ≡ g.root n i) (sym is) (root_shown text g i lt shows.roots))
 
 pub replayed : (bytes : List ℕ) (config : Config) (scripts : List (List Command)) (work : List (Option Progress)) (heap : Content) (text : Text)
-    → ReadsEarly bytes config scripts → (ran : HasRun (slice_index_or scripts 0 []) (replies_of work 0) heap) → length text.roots ≡ 1
+    → ReadsEarly bytes config scripts → regions_needed config.region_words (sizes_of (slice_index_or scripts 0 [])) ≤ config.regions - 1 - config.reserve → (ran : HasRun (slice_index_or scripts 0 []) (replies_of work 0) heap) → length text.roots ≡ 1
     → Shows text 1 (after (opening 1) ran.history)
     → IsReplayed bytes (answer_text (length text.roots) (λ t. replies_of work (t - 1)) text.rows (root_of text))
-replayed bytes config scripts work heap text early ran one shows = record {
+replayed bytes config scripts work heap text early fits ran one shows = record {
   config = config;
   scripts = scripts;
   reads = early;
+  fits = fits;
   history = ran.history;
   follows = follows_one scripts ran.history (one_script bytes config scripts early) ran.alone ran.commands_are;
   legal = subst (λ (n : ℕ). EachIsLegal (opening n) ran.history) (sym early.early.one_thread) ran.legal;

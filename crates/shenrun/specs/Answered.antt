@@ -15,12 +15,13 @@ use Rattle.trace_text.specs.declared.message.Line.TheVariants as line
 use Rattle.shenrun.specs.declared.status.Status.{Status}
 use Rattle.shenrun.specs.declared.status.Status.TheVariants.{Ok, BadWords, BadTrace, Unfinished, ReadFault, WriteFault, NoMemory}
 
--- The bytes are a trace, and the text is the answer of one history: each thread's commands are its script, whole and in
--- order, each entry is a legal step from the opening graph, and no allocation was refused.
+-- The bytes are a trace whose objects fit, and the text is the answer of one history: each thread's commands are its
+-- script, whole and in order, each entry is a legal step from the opening graph, and no allocation was refused.
 pub record IsReplayed (bytes out : List ℕ) : Type 0 where
   pub config : Config
   pub scripts : List (List Command)
   pub reads : ReadsEarly bytes config scripts
+  pub fits : regions_needed config.region_words (sizes_of (slice_index_or scripts 0 [])) ≤ config.regions - 1 - config.reserve
   pub history : List Entry
   pub follows : Follows scripts history
   pub legal : EachIsLegal (opening config.mutators) history

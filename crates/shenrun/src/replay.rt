@@ -1,5 +1,5 @@
 //! The top call: words and a trace in, an answer or one line out.
-ghost use Rattle.std.specs.Prelude.{◌≡◌, ◌≢◌, ◌↔◌, ◌<◌, ◌-◌, ℕ, List, [], Option, IsTrue, IfOk, IfErr, Err, slice_index_or, length, map};
+ghost use Rattle.std.specs.Prelude.{◌≡◌, ◌≢◌, ◌↔◌, ◌<◌, ◌≤◌, ◌-◌, ℕ, List, [], Option, IsTrue, IfOk, IfErr, Err, slice_index_or, length, map};
 ghost use Rattle.shen_graph.specs.declared.name.Name.{Name};
 ghost use Rattle.shen_graph.specs.Graph.{Graph};
 ghost use Rattle.shen_graph.specs.Work.{HasScript, replies_of};
@@ -47,6 +47,8 @@ fn run(alloc: Global, trace: &Trace) -> Result<(Work, SmallHeap), Refusal>
     ensures ran { IfOk result (λ x. HasRun (slice_index_or trace.now.scripts 0 []) (replies_of x.0 0) x.1) }
     ensures script { IfOk result (λ x. HasScript x.0 0) }
     ensures config { IfOk result (λ x. x.1.config ≡ trace.now.config) }
+    ensures fits { IfOk result (λ _. regions_needed trace.now.config.region_words (sizes_of (slice_index_or trace.now.scripts 0 []))
+        ≤ trace.now.config.regions - 1 - trace.now.config.reserve) }
     ensures too_small { result ≡ Err Refusal.TooSmall → trace.now.config.regions - 1 - trace.now.config.reserve
         < regions_needed trace.now.config.region_words (sizes_of (slice_index_or trace.now.scripts 0 [])) }
 {

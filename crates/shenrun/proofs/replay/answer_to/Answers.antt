@@ -16,5 +16,5 @@ graph_of-requires-clause-stands c =
 pub returns-clause-ok : goal.returns-clause-ok
 returns-clause-ok c = λ bytes early.
     let ran = c.in_ok-replies.ensures.ran in
-    replayed bytes c.args.trace.now.config c.args.trace.now.scripts c.in_ok-replies.replies c.in_ok-replies.heap c.in_ok-graph.graph early ran c.in_ok-graph.ensures.threads
+    replayed bytes c.args.trace.now.config c.args.trace.now.scripts c.in_ok-replies.replies c.in_ok-replies.heap c.in_ok-graph.graph early c.in_ok-replies.ensures.fits ran c.in_ok-graph.ensures.threads
     (c.in_ok-graph.ensures.shows ran.holds.0 (after (opening 1) ran.history) ran.holds.1)
