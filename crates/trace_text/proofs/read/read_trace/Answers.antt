@@ -18,6 +18,10 @@ pub returns-then-not-is_early_trace-clause-not_read :
     goal.returns-then-not-is_early_trace-clause-not_read
 returns-then-not-is_early_trace-clause-not_read g c = λ h.
     let came = c.in_ok-bytes.ensures.ok in
-    let reads = rw c.deref.ensures.value at c.in_ok-trace.ensures.ok in
-    (c.in_ok-bytes.bytes.items, came.0, came.1, λ config scripts early.
-        not_early c.in_ok-bytes.bytes.items c.in_ok-trace.trace.config config c.in_ok-trace.trace.scripts scripts reads (λ is_early. false≢true (c.if-not-is_early_trace.ensures.1 is_early)) early)
+    let reads = rw c.deref.ensures.value at c.in_ok-trace.ensures.ok in (
+      c.in_ok-bytes.bytes.items,
+      came.0,
+      came.1,
+      λ config scripts early.
+          not_early c.in_ok-bytes.bytes.items c.in_ok-trace.trace.config config c.in_ok-trace.trace.scripts scripts reads (λ is_early. false≢true (c.if-not-is_early_trace.ensures.1 is_early)) early,
+    )
