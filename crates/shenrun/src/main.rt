@@ -16,18 +16,13 @@ const NO_WORDS: u8 = 8;
 /// The status number where there is no memory for the words.
 const NO_ROOM_FOR_WORDS: u8 = 9;
 
-/// The status number where no words were given for this reason.
-fn status_of(kind: io::ErrorKind) -> u8 {
-    match kind {
-        io::ErrorKind::OutOfMemory => NO_ROOM_FOR_WORDS,
-        _ => NO_WORDS,
-    }
-}
-
 fn main(rt: HostRuntime) -> ExitCode {
     let args = match env::args(&rt) {
         Ok(args) => args,
-        Err(error) => return ExitCode::from(status_of(error.kind())),
+        Err(error) if error.kind() == io::ErrorKind::OutOfMemory => {
+            return ExitCode::from(NO_ROOM_FOR_WORDS);
+        }
+        Err(_) => return ExitCode::from(NO_WORDS),
     };
     let mut words = Vec::new(rt.alloc());
     for word in args.skip(1) {
