@@ -6,3 +6,4 @@ pub mod RootRows
 pub mod Sizes
 pub mod Standing
 pub mod Shown
+pub mod Merely

@@ -22,3 +22,7 @@ pub record Shows (text : Text) (threads : ℕ) (g : Graph) : Type 0 where
 abbrev pub WordsStand : (first : ℕ) (heap roots : List ℕ) → (ℕ → Option Name) → Graph → Type 0
 WordsStand first heap roots at g =
     Stands first (first + length heap) (λ a. slice_index heap (a - first)) (root_word roots) at g
+
+-- they stand for some graph
+abbrev pub StandForSome : (first : ℕ) (heap roots : List ℕ) → Type 0
+StandForSome first heap roots = ∥ ((at : ℕ → Option Name) × ((g : Graph) × WordsStand first heap roots at g)) ∥₁

@@ -160,4 +160,4 @@ all_roots t i =
     ]
 
 pub write_graph-requires-clause-stand : goal.write_graph-requires-clause-stand
-write_graph-requires-clause-stand g c = (at, (graph, record { each = each; once = once; apart = apart; roots = all_roots }))
+write_graph-requires-clause-stand g c = ∣ (at, (graph, record { each = each; once = once; apart = apart; roots = all_roots })) ∣₁

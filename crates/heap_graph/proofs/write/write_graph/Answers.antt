@@ -1,5 +1,8 @@
 use Rattle.std.proofs.Common.{ℕ, ◌≡◌, ◌-◌, ◌≤◌, ◌++◌, None, length, map, replicate, sum_by, arith, ap, sym, subst, ◌∙◌}
 use Rattle.std.specs.List.{range_with_len, IsDistinct}
+use Rattle.std.proofs.Math.Logic.{∥∥₁_elim}
+use Rattle.std.proofs.Math.Nat.{ℕ_set}
+use Rattle.std.proofs.lemmas.Map.Keys.{IsDistinct-prop}
 use Rattle.std.specs.List.Sorted.{IsPermutation}
 use Rattle.std.proofs.lemmas.List.{length-replicate}
 use Rattle.std.proofs.lemmas.List.FromFn.{length-map-range_with_len}
@@ -8,32 +11,31 @@ use Rattle.shen_graph.specs.Reach.{InOrder}
 use Rattle.shen_graph.specs.Graph.{Reference, same_name}
 use Rattle.heap_graph.specs.Walk.{words_at}
 use Rattle.heap_graph.specs.Rows.{row_at, reference_in, root_word, root_rows}
-use Rattle.heap_graph.proofs.Standing.{sound}
+use Rattle.heap_graph.proofs.Merely.{sound_some}
 use Rattle.heap_graph.proofs.Shown.{roots_named, all_above, all_below, all_named, all_fit, names_differ, shows}
 use Rattle.heap_graph.proofs.write.write_graph.Goals as goal
 
 pub find_reachable-requires-clause-sound : goal.find_reachable-requires-clause-sound
-find_reachable-requires-clause-sound c =
-    sound c.args.first c.args.heap.now c.args.roots.now c.requires.stand.0 c.requires.stand.1.0 c.requires.first c.requires.stand.1.1
+find_reachable-requires-clause-sound c = sound_some c.args.first c.args.heap.now c.args.roots.now c.requires.first c.requires.stand
 
 pub write_objects-requires-clause-above : goal.write_objects-requires-clause-above
 write_objects-requires-clause-above c =
-    let sound' = sound c.args.first c.args.heap.now c.args.roots.now _ _ c.requires.first c.requires.stand.1.1 in
+    let sound' = sound_some c.args.first c.args.heap.now c.args.roots.now c.requires.first c.requires.stand in
     rw c.deref.ensures.value (all_above c.args.first c.args.heap.now c.args.roots.now sound' _ c.find_reachable.ensures.walk)
 
 pub write_objects-requires-clause-below : goal.write_objects-requires-clause-below
 write_objects-requires-clause-below c =
-    let sound' = sound c.args.first c.args.heap.now c.args.roots.now _ _ c.requires.first c.requires.stand.1.1 in
+    let sound' = sound_some c.args.first c.args.heap.now c.args.roots.now c.requires.first c.requires.stand in
     rw c.deref.ensures.value (all_below c.args.first c.args.heap.now c.args.roots.now sound' _ c.find_reachable.ensures.walk)
 
 pub write_objects-requires-clause-named : goal.write_objects-requires-clause-named
 write_objects-requires-clause-named c =
-    let sound' = sound c.args.first c.args.heap.now c.args.roots.now _ _ c.requires.first c.requires.stand.1.1 in
+    let sound' = sound_some c.args.first c.args.heap.now c.args.roots.now c.requires.first c.requires.stand in
     rw c.deref.ensures.value (all_named c.args.first c.args.heap.now c.args.roots.now sound' _ c.find_reachable.ensures.walk)
 
 pub write_objects-requires-clause-room : goal.write_objects-requires-clause-room
 write_objects-requires-clause-room c =
-    let sound' = sound c.args.first c.args.heap.now c.args.roots.now _ _ c.requires.first c.requires.stand.1.1 in
+    let sound' = sound_some c.args.first c.args.heap.now c.args.roots.now c.requires.first c.requires.stand in
     let order = c.find_reachable.new.order.items in
     let words = λ (a : ℕ). words_at c.args.heap.now (a - c.args.first) in
     let fit : sum_by words order ≤ length c.args.heap.now =
@@ -44,10 +46,11 @@ write_objects-requires-clause-room c =
 
 pub write_objects-requires-clause-differ : goal.write_objects-requires-clause-differ
 write_objects-requires-clause-differ c =
-    let differ =
-    names_differ c.args.first c.args.heap.now c.args.roots.now c.find_reachable.new.order.items _ _ c.requires.first c.requires.stand.1.1
-    c.find_reachable.ensures.walk in
     let row = row_at c.args.first c.args.heap.now in
+    let order = c.find_reachable.new.order.items in
+    let differ : IsDistinct same_name (map (λ r. r.name) (map row order)) =
+    ∥∥₁_elim c.requires.stand (IsDistinct-prop same_name (map (λ r. r.name) (map row order)))
+    (λ stand. names_differ c.args.first c.args.heap.now c.args.roots.now order stand.0 stand.1.0 c.requires.first stand.1.1 c.find_reachable.ensures.walk) in
     let rows : c.clear.new.self.rows ++ map row c.deref.result.now ≡ map row c.find_reachable.new.order.items =
     ap (λ t. t.rows ++ map row c.deref.result.now) c.clear.ensures ∙ ap (map row) c.deref.ensures.value in
     subst (λ rs. IsDistinct same_name (map (λ r. r.name) rs)) (sym rows) differ
@@ -55,7 +58,7 @@ write_objects-requires-clause-differ c =
 pub set_roots-requires-clause-named : goal.set_roots-requires-clause-named
 set_roots-requires-clause-named c =
     roots_named c.args.first c.args.heap.now c.args.roots.now
-    (sound c.args.first c.args.heap.now c.args.roots.now _ _ c.requires.first c.requires.stand.1.1)
+    (sound_some c.args.first c.args.heap.now c.args.roots.now c.requires.first c.requires.stand)
 
 pub returns-clause-shows : goal.returns-clause-shows
 returns-clause-shows c at g stand =
@@ -81,7 +84,9 @@ returns-clause-shows c at g stand =
 
 pub returns-clause-threads : goal.returns-clause-threads
 returns-clause-threads c =
-    let shown = returns-clause-shows c c.requires.stand.0 c.requires.stand.1.0 c.requires.stand.1.1 in
-    let root = c.requires.stand.1.0.root in
+    ∥∥₁_elim c.requires.stand (ℕ_set (length c.set_roots.new.text.roots) (length c.args.text.now.roots))
+    (λ stand.
+    let shown = returns-clause-shows c stand.0 stand.1.0 stand.1.1 in
+    let root = stand.1.0.root in
     let threads = length c.args.text.now.roots in
-    ap length shown.roots ∙ length-map-range_with_len (λ t. map (root t) (range_with_len 0 16)) 1 threads
+    ap length shown.roots ∙ length-map-range_with_len (λ t. map (root t) (range_with_len 0 16)) 1 threads)

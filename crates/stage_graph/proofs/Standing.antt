@@ -1,0 +1,183 @@
+-- The words of the heap and of the roots stand for the graph of a stage.
+use Rattle.std.proofs.Common.{ℕ, ◌≡◌, ◌+◌, ◌-◌, ◌*◌, ◌<◌, ◌≤◌, ◌^◌, ⊎_elim, true, false, Option, Some, None, List, length, get_or, drop, refl, sym, ap, ◌∙◌, subst, arith}
+use Rattle.std.specs.Prelude.{slice_index, slice_range, nat_le, nat_lt, ◌&&◌}
+use Rattle.std.proofs.lemmas.List.{get_or-take, get_or-drop, get_or_past, length-take-le, length-drop}
+use Rattle.std.proofs.lemmas.Option.{same_Some, slice_get_within}
+use Rattle.std.proofs.lemmas.Bool.{cases_Bool, cond-true, cond-false, and_parts, and_from, leb-true, ltb-true}
+use Rattle.std.proofs.lemmas.Bool.Decides.{nat_tests}
+use Rattle.std.proofs.Math.Nat.{mul-le-mul_right}
+use Rattle.heap_words.specs.declared.config.Config.{Config}
+use Rattle.heap_words.specs.Words.{Top, Root, Heap, roots_start, heap_start, table_words}
+use Rattle.heap_words.proofs.Stores.{view_word}
+use Rattle.steps_base.specs.Steps.{Stage}
+use Rattle.shen_graph.specs.declared.name.Name.{Name}
+use Rattle.shen_graph.specs.Graph.{Graph, Object, Reference}
+use Rattle.shen_graph.specs.Reach.{size}
+use Rattle.mutator.specs.declared.spot.Spot.{Spot}
+use Rattle.mutator.specs.declared.spot.Spot.TheVariants.{Rest, Ended}
+use Rattle.mutator.specs.Orders.{is_at_rest}
+use Rattle.step_core.specs.Actor.{Actor}
+use Rattle.step_core.specs.World as world
+use Rattle.step_core.specs.World.{World, Plot, Block, thing, hand, words_of, name_at, Points, IsInUse, base}
+use Rattle.step_core.specs.Stepped.{root_now}
+use Rattle.step_core.specs.Follows.{settled, world_of, StandsFor}
+use Rattle.heap_graph.specs.Stands.{Refers, IsAt}
+use Rattle.heap_graph.specs.Rows.{root_word}
+use Rattle.heap_graph.specs.Shows.{WordsStand}
+use Rattle.stage_graph.specs.Parts.{heap_in, roots_in, AreResting, is_root_of, HasNoMore}
+
+-- a word of a part of a list
+pub get_or-part : (xs : List ℕ) (a b i : ℕ) → i < b - a → get_or (slice_range xs a b) i 0 ≡ get_or xs (a + i) 0
+get_or-part xs a b i within = get_or-take (b - a) (drop a xs) i 0 within ∙ get_or-drop a xs i 0
+
+pub length-part : (xs : List ℕ) (a b : ℕ) → b ≤ length xs → length (slice_range xs a b) ≡ b - a
+length-part xs a b within = length-take-le (b - a) (drop a xs) (omega (arith, length-drop a xs))
+
+-- the piece at an address that stands for an object is the object
+pub named_thing : (o : Option Block) (n : Name) → name_at o ≡ Some n → (refs : ℕ) × (nums : ℕ) × (o ≡ Some (thing n refs nums))
+named_thing (Some (thing name refs nums)) n is = (refs, nums, ap (λ m. Some (thing m refs nums)) (same_Some name n is))
+named_thing (Some (hand seat words)) n is = cc
+named_thing None n is = cc
+
+-- a word that points to an object refers to it
+pub refers_from : (block : Plot) (word : ℕ) (r : Reference) → Points block word r → Refers (λ a. name_at (block a)) word r
+refers_from block word None is = is
+refers_from block word (Some n) is = is
+
+-- between two calls the root's word counts
+pub root_at_rest : (w : World) (seat index : ℕ) (spot : Spot) → is_at_rest spot ≡ true → root_now w seat spot index ≡ w.memory (Root seat index)
+root_at_rest w seat index Rest rest = refl
+root_at_rest w seat index (Ended reply) rest = refl
+root_at_rest w seat index _ rest = cc
+
+module _ (c : Config) (s : Stage Actor) (g : Graph) (long : length s.words ≡ table_words c) (stands : StandsFor c s g) where
+  abbrev heap : List ℕ
+  heap = heap_in c s.words
+
+  abbrev roots : List ℕ
+  roots = roots_in c s.words
+
+  abbrev first : ℕ
+  first = c.region_words
+
+  abbrev at : ℕ → Option Name
+  at a = name_at (stands.block a)
+
+  length-heap : length heap ≡ c.regions * c.region_words
+  length-heap = let e : length heap ≡ table_words c - heap_start c = length-part s.words (heap_start c) (table_words c) (omega (arith, long)) in omega (arith, e)
+
+  -- the words of a piece lie in the heap
+  piece_inside : (a : ℕ) (b : Block) → stands.block a ≡ Some b → (first ≤ a) × (a + words_of b ≤ first + length heap)
+  piece_inside a b is =
+      let used = stands.shared.plotted.in_use a b is in
+      let top : settled c s (Top used.region) ≤ c.region_words = stands.shared.plotted.tops used.region used.within in
+      let low : 1 * c.region_words ≤ (used.region + 1) * c.region_words = mul-le-mul_right c.region_words (omega arith) in
+      let high : (used.region + 1) * c.region_words ≤ c.regions * c.region_words = mul-le-mul_right c.region_words (omega (arith, used.within)) in
+      (omega (arith, low, used.from_base), omega (arith, high, top, used.to_top, length-heap))
+
+  -- a word of the heap by its name
+  heap_word : (a : ℕ) → first ≤ a → a < first + length heap → slice_index heap (a - first) ≡ settled c s (Heap a)
+  heap_word a low high =
+      get_or-part s.words (heap_start c) (table_words c) (a - first) (omega (arith, low, high, length-heap))
+      ∙ ap (λ k. get_or s.words k 0) (let e : heap_start c + (a - first) ≡ heap_start c + a - first = omega (arith, low) in e)
+      ∙ sym (view_word c s.words (Heap a) (low, let e : (c.regions + 1) * c.region_words ≡ c.regions * c.region_words + c.region_words = omega arith in omega (arith, e, high, length-heap)))
+
+  object_stands : (a refs nums : ℕ) (n : Name) (o : Object) → stands.block a ≡ Some (thing n refs nums) → g.object n ≡ Some o
+      → world.IsObject (λ k. settled c s (Heap k)) stands.block a refs nums n o → n.count < 2 ^ 32
+      → IsAt first (first + length heap) (λ k. slice_index heap (k - first)) at g a n o
+  object_stands a refs nums n o is object facts small =
+      let inside : (first ≤ a) × (a + (3 + refs + nums) ≤ first + length heap) = piece_inside a (thing n refs nums) is in
+      record {
+        object = object;
+        words = record {
+          header = heap_word a inside.0 (omega (arith, inside.1)) ∙ facts.header;
+          shape = heap_word (a + 1) (omega (arith, inside.0)) (omega (arith, inside.1)) ∙ (rw (facts.refs_are, facts.nums_are) facts.shape);
+          name = heap_word (a + 2) (omega (arith, inside.0)) (omega (arith, inside.1)) ∙ facts.name_word;
+          refs = λ i r there.
+              let below : i < length o.refs = slice_get_within o.refs i r there in
+              subst (λ word. Refers at word r) (sym (heap_word (a + 3 + i) (omega (arith, inside.0)) (omega (arith, inside.1, below, facts.refs_are))))
+              (refers_from stands.block _ r (facts.references i r there));
+          nums = λ i x there.
+              let below : i < length o.nums = slice_get_within o.nums i x there in
+              heap_word (a + 3 + length o.refs + i) (omega (arith, inside.0)) (omega (arith, inside.1, below, facts.refs_are, facts.nums_are))
+              ∙ ap (λ k. settled c s (Heap (a + 3 + k + i))) facts.refs_are ∙ facts.numbers i x there;
+          few_refs = omega (arith, facts.refs_are, facts.few_refs);
+          few_nums = omega (arith, facts.nums_are, facts.few_nums);
+          short_count = small;
+        };
+        above = inside.0;
+        below = omega (arith, inside.1, facts.refs_are, facts.nums_are);
+      }
+
+  each : (a : ℕ) (n : Name) → at a ≡ Some n → (o : Object) × IsAt first (first + length heap) (λ k. slice_index heap (k - first)) at g a n o
+  each a n is =
+      let piece = named_thing (stands.block a) n is in
+      let object = stands.shared.objects.each a piece.0 piece.1 n piece.2 in
+      (object.0, object_stands a piece.0 piece.1 n object.0 piece.2 object.1 object.2 (stands.shared.given n object.0 object.1).small)
+
+  apart : (a b : ℕ) (n m : Name) (o : Object) → at a ≡ Some n → at b ≡ Some m → g.object n ≡ Some o → a < b → a + size o ≤ b
+  apart a b n m o is_a is_b object before =
+      let one = named_thing (stands.block a) n is_a in
+      let other = named_thing (stands.block b) m is_b in
+      let found = stands.shared.objects.each a one.0 one.1 n one.2 in
+      let same : found.0 ≡ o = same_Some found.0 o (sym found.1 ∙ object) in
+      let behind : a + (3 + one.0 + one.1) ≤ b = stands.shared.plotted.apart a b (thing n one.0 one.1) (thing m other.0 other.1) one.2 other.2 before in
+      let refs : length o.refs ≡ one.0 = ap (λ x. length x.refs) (sym same) ∙ found.2.refs_are in
+      let nums : length o.nums ≡ one.1 = ap (λ x. length x.nums) (sym same) ∙ found.2.nums_are in
+      omega (arith, behind, refs, nums)
+
+  once : (a b : ℕ) (n : Name) → at a ≡ Some n → at b ≡ Some n → a ≡ b
+  once a b n is_a is_b =
+      let one = named_thing (stands.block a) n is_a in
+      let other = named_thing (stands.block b) n is_b in
+      stands.shared.objects.once a b one.0 one.1 other.0 other.1 n one.2 other.2
+
+  length-roots : length roots ≡ 16 * c.mutators
+  length-roots = let e : length roots ≡ roots_start c + 16 * c.mutators - roots_start c = length-part s.words (roots_start c) (roots_start c + 16 * c.mutators) (omega (arith, long)) in omega (arith, e)
+
+  module _ (resting : AreResting c s) (no_more : HasNoMore c.mutators g) where
+    -- a root of a mutator
+    own_root : (seat index : ℕ) → seat < c.mutators → index < 16 → Refers at (slice_index roots (16 * seat + index)) (g.root (seat + 1) index)
+    own_root seat index below small =
+        let r = resting seat below in
+        let mine = (stands.mutators seat r.actor r.mutator r.here).1 in
+        let counts : root_now (world_of c s stands.block g) r.mutator.seat r.mutator.spot index ≡ slice_index roots (16 * seat + index) =
+        root_at_rest (world_of c s stands.block g) r.mutator.seat index r.mutator.spot r.rest
+        ∙ ap (λ k. settled c s (Root k index)) r.seat
+        ∙ view_word c s.words (Root seat index) (below, small)
+        ∙ ap (λ k. get_or s.words k 0) (let e : roots_start c + 16 * seat + index ≡ roots_start c + (16 * seat + index) = omega arith in e)
+        ∙ sym (get_or-part s.words (roots_start c) (roots_start c + 16 * c.mutators) (16 * seat + index) (omega (arith, below, small))) in
+        subst (λ word. Refers at word (g.root (seat + 1) index)) counts
+        (refers_from stands.block _ _ (subst (λ k. Points stands.block (root_now (world_of c s stands.block g) r.mutator.seat r.mutator.spot index) (g.root (k + 1) index)) r.seat (mine.roots index small)))
+
+    -- a root that no mutator has
+    no_root : (t i : ℕ) → is_root_of c.mutators t i ≡ false → root_word roots t i ≡ 0
+    no_root t i none = ⊎_elim
+        (λ (yes : (nat_le 1 t && nat_lt i 16) ≡ true).
+        cond-true (nat_le 1 t && nat_lt i 16) _ _ yes ∙ get_or_past roots (16 * (t - 1) + i) 0 (let far : c.mutators < t = grind (arith, nat_tests) in omega (arith, far, length-roots)))
+        (λ (is : (nat_le 1 t && nat_lt i 16) ≡ false). cond-false (nat_le 1 t && nat_lt i 16) _ _ is)
+        (cases_Bool (nat_le 1 t && nat_lt i 16))
+
+    root_stands : (t i : ℕ) → Refers at (root_word roots t i) (g.root t i)
+    root_stands t i = ⊎_elim
+        (λ (yes : is_root_of c.mutators t i ≡ true).
+        let one : 1 ≤ t = leb-true 1 t (and_parts _ _ yes).0 in
+        let rest : (nat_le t c.mutators ≡ true) × (nat_lt i 16 ≡ true) = and_parts _ _ (and_parts (nat_le 1 t) (nat_le t c.mutators && nat_lt i 16) yes).1 in
+        let most : t ≤ c.mutators = leb-true t c.mutators rest.0 in
+        let small : i < 16 = ltb-true i 16 rest.1 in
+        let seat : t - 1 + 1 ≡ t = omega (arith, one) in
+        let word : root_word roots t i ≡ slice_index roots (16 * (t - 1) + i) = cond-true (nat_le 1 t && nat_lt i 16) _ _ (and_from _ _ (and_parts _ _ yes).0 rest.1) in
+        subst (λ w. Refers at w (g.root t i)) (sym word)
+        (subst (λ k. Refers at (slice_index roots (16 * (t - 1) + i)) (g.root k i)) seat (own_root (t - 1) i (omega (arith, one, most)) small)))
+        (λ (none : is_root_of c.mutators t i ≡ false).
+        subst (λ r. Refers at (root_word roots t i) r) (sym (no_more t i none)) (no_root t i none))
+        (cases_Bool (is_root_of c.mutators t i))
+
+pub stand : (c : Config) (s : Stage Actor) (g : Graph) → length s.words ≡ table_words c → (stands : StandsFor c s g) → AreResting c s → HasNoMore c.mutators g
+    → WordsStand c.region_words (heap_in c s.words) (roots_in c s.words) (λ a. name_at (stands.block a)) g
+stand c s g long stands resting no_more = record {
+  each = each c s g long stands;
+  once = once c s g long stands;
+  apart = apart c s g long stands;
+  roots = root_stands c s g long stands resting no_more;
+}
