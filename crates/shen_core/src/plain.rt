@@ -47,6 +47,7 @@ impl Plain {
     ghost use Rattle.heap_graph.specs.Shows as texts;
     ghost use Rattle.shen_core.specs.State.{config_of, words_of, machines_of, orders_of, seats_of, Shows, machine_at, has_turn, next_machine, IsStep, IsUnchanged};
     ghost use Rattle.shen_core.specs.Answer.{says, reply_in, place_in, is_resting, made_of_machine};
+    ghost use Rattle.shen_core.specs.Progress.{AllRest};
 
     /// The heap of this configuration before the first event, whose mutators have not begun a call.
     pub fn open(alloc: Global, config: Config) -> Result<Plain, NoMemory>
@@ -188,12 +189,25 @@ impl Plain {
         }
     }
 
+    /// Whether no mutator has a call in progress.
+    pub fn all_rest(&self) -> bool
+        ensures rest { result ≡ true → AllRest self.now }
+        ensures busy { result ≡ false → AllRest self.now → ⊥ }
+    {
+        for number in 0..self.config.mutators() {
+            if !self.is_resting(number) {
+                return false;
+            }
+        }
+        true
+    }
+
     /// Writes the graph that words and machines stand for: the objects that the mutators' roots lead to, in the order of
     /// their names, and the roots of each mutator. No mutator has a call in progress, and the text was opened for at
     /// least as many words as the heap has, and for the heap's mutators. No memory is taken. The time is linear in the
     /// words, but for the sort of the objects.
     pub fn graph(&mut self, text: &mut GraphText)
-        requires rest { (number : ℕ) → number < (config_of self.old).mutators → is_resting (machine_at self.old number) ≡ true }
+        requires rest { AllRest self.old }
         requires room { heap_size (config_of self.old) ≤ text.old.room }
         requires threads { length text.old.roots ≡ (config_of self.old).mutators }
         ensures shows { (events : List (Event Order)) → Shows self.old (reached (config_of self.old) events) → texts.Shows text.new (config_of self.old).mutators (after (first_graph (config_of self.old)) (past (config_of self.old) events)) }
