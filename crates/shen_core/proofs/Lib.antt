@@ -6,3 +6,4 @@ pub mod Noted
 pub mod Going
 pub mod Rounds
 pub mod Fresh
+pub mod Graphs

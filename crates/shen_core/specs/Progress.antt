@@ -123,3 +123,7 @@ SomeBusy p jobs = (scripts : Scripts) (s : Stage Actor) → Shows p s → Tells 
 -- whatever stage memory shows, the machine has a turn there, or has none
 abbrev pub HasNext : Plain → Jobs → ℕ → Bool → Type 0
 HasNext p jobs number has = (scripts : Scripts) (s : Stage Actor) → Shows p s → Tells (config_of p) scripts jobs s → is_some (turn scripts s number) ≡ has
+
+-- no mutator has a call in progress
+abbrev pub AllRest : Plain → Type 0
+AllRest p = (number : ℕ) → number < (config_of p).mutators → is_resting (machine_at p number) ≡ true

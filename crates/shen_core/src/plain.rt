@@ -1,14 +1,16 @@
-ghost use Rattle.std.specs.Prelude.{◌≡◌, length, map, All};
-ghost use Rattle.heap_words.specs.Words.{table_words};
+ghost use Rattle.std.specs.Prelude.{◌≡◌, ◌≤◌, length, map, All, vec_capacity};
+ghost use Rattle.heap_words.specs.Words.{table_words, heap_size};
 ghost use Rattle.heap_words.specs.Ranges.{seat_count};
 ghost use Rattle.shen_core.specs.Shown.{shown, heap_of};
 ghost use Rattle.shen_core.specs.Runs.{IsShownBySome};
 
+use crate::graph::{heap_in, heap_size, roots_in};
 use crate::machine::Machine;
 use crate::opening::{open_machines, open_words};
 use crate::step::{Stepped, make_step};
+use heap_graph::write_graph;
 use heap_words::{Config, NoMemory, Place};
-use shen_graph::{Command, Reply};
+use shen_graph::{Command, GraphText, Reply};
 use std::alloc::Global;
 
 /// A heap and its machines, on one thread.
@@ -17,8 +19,13 @@ pub struct Plain {
     config: Config,
     words: Vec<u64>,
     machines: Vec<Machine>,
+    // Where `graph` works.
+    marks: Vec<bool>,
+    addresses: Vec<u64>,
     ghost all_words: { length words.items ≡ table_words config },
     ghost all_machines: { length machines.items ≡ seat_count config.mutators config.helpers },
+    ghost all_marks: { length marks.items ≡ heap_size config },
+    ghost enough_addresses: { heap_size config ≤ vec_capacity addresses },
     ghost one_heap: { All (λ m. heap_of config m ≡ config) machines.items },
     ghost reached: { ∥ IsShownBySome config words.items (map shown machines.items) ∥₁ },
 }
@@ -32,8 +39,15 @@ impl Plain {
     ghost use Rattle.step_core.specs.Actor.{plan_of};
     ghost use Rattle.step_core.specs.Schedule.{stands_in};
     ghost use Rattle.step_core.specs.Opening.{opening};
+    ghost use Rattle.std.specs.Prelude.{List, ℕ};
+    ghost use Rattle.shen_graph.specs.History.{after};
+    ghost use Rattle.mutator.specs.declared.spot.Order.{Order};
+    ghost use Rattle.steps_base.specs.Steps.{Event};
+    ghost use Rattle.step_core.specs.Follows.{first_graph, reached, past};
+    ghost use Rattle.heap_graph.specs.Shows as texts;
     ghost use Rattle.shen_core.specs.State.{config_of, words_of, machines_of, orders_of, seats_of, Shows, machine_at, has_turn, next_machine, IsStep, IsUnchanged};
     ghost use Rattle.shen_core.specs.Answer.{says, reply_in, place_in, is_resting, made_of_machine};
+    ghost use Rattle.shen_core.specs.Progress.{AllRest};
 
     /// The heap of this configuration before the first event, whose mutators have not begun a call.
     pub fn open(alloc: Global, config: Config) -> Result<Plain, NoMemory>
@@ -43,10 +57,18 @@ impl Plain {
     {
         let words = open_words(alloc, config)?;
         let machines = open_machines(alloc, config)?;
+        let Ok(marks) = vec![in alloc; false; heap_size(config)] else {
+            return Err(NoMemory);
+        };
+        let Ok(addresses) = Vec::with_capacity(alloc, heap_size(config)) else {
+            return Err(NoMemory);
+        };
         Ok(Plain {
             config,
             words,
             machines,
+            marks,
+            addresses,
         })
     }
 
@@ -165,5 +187,43 @@ impl Plain {
             Machine::Mutator(mutator) if !mutator.is_idle() => Some(mutator.place()),
             _ => None,
         }
+    }
+
+    /// Whether no mutator has a call in progress.
+    pub fn all_rest(&self) -> bool
+        ensures rest { result ≡ true → AllRest self.now }
+        ensures busy { result ≡ false → AllRest self.now → ⊥ }
+    {
+        for number in 0..self.config.mutators() {
+            if !self.is_resting(number) {
+                return false;
+            }
+        }
+        true
+    }
+
+    /// Writes the graph that words and machines stand for: the objects that the mutators' roots lead to, in the order of
+    /// their names, and the roots of each mutator. No mutator has a call in progress, and the text was opened for at
+    /// least as many words as the heap has, and for the heap's mutators. No memory is taken. The time is linear in the
+    /// words, but for the sort of the objects.
+    pub fn graph(&mut self, text: &mut GraphText)
+        requires rest { AllRest self.old }
+        requires room { heap_size (config_of self.old) ≤ text.old.room }
+        requires threads { length text.old.roots ≡ (config_of self.old).mutators }
+        ensures shows { (events : List (Event Order)) → Shows self.old (reached (config_of self.old) events) → texts.Shows text.new (config_of self.old).mutators (after (first_graph (config_of self.old)) (past (config_of self.old) events)) }
+
+        // Nothing else changes.
+        ensures unchanged { IsUnchanged self.old self.new }
+        ensures same_room { text.new.room ≡ text.old.room }
+        ensures same_threads { length text.new.roots ≡ length text.old.roots }
+    {
+        write_graph(
+            self.config.region_words() as u64,
+            heap_in(self.config, &self.words),
+            roots_in(self.config, &self.words),
+            &mut self.marks,
+            &mut self.addresses,
+            text,
+        );
     }
 }

@@ -1,11 +1,12 @@
 ghost use Rattle.std.specs.Prelude.{◌≡◌, ◌<◌, ◌≤◌, ℕ, IfOk};
 ghost use Rattle.shen_graph.specs.Work.{HasScript};
 ghost use Rattle.shen_core.specs.Progress.{CanRun, AreServed};
+ghost use Rattle.heap_words.specs.Words.{heap_size};
 ghost use Rattle.shen_core.specs.State.{config_of};
 
 use crate::{Plain, Ran};
 use heap_words::{Config, Item, Place, Schedule};
-use shen_graph::{Command, Reply, Script, Work};
+use shen_graph::{Command, GraphText, Name, Reply, Script, Work};
 use std::alloc::Global;
 use std::test::Fail;
 
@@ -24,6 +25,7 @@ fn cycles(alloc: Global, count: usize) -> Result<Script, shen_graph::NoMemory>
 fn opened(alloc: Global) -> Result<(Plain, Work), Fail>
     ensures run { IfOk result (λ made. CanRun made.0 made.1) }
     ensures mutators { IfOk result (λ made. (config_of made.0).mutators ≡ 3) }
+    ensures words { IfOk result (λ made. heap_size (config_of made.0) ≡ 256) }
 {
     let config = Config::new(4, 64, 3, 0, 0)?;
     let mut scripts = Vec::new(alloc);
@@ -104,6 +106,26 @@ fn cut_at_each_step(rt: HostRuntime) -> Result<(), Fail> {
         let schedule = Schedule::open(alloc)?;
         let ran = plain.run(&mut work, &schedule, limit);
         assert!(rt; (ran == Ran::Finished) == (limit == 24));
+    }
+    Ok(())
+}
+
+#[test]
+fn cycles_leave_the_hub(rt: HostRuntime) -> Result<(), Fail> {
+    let alloc = rt.alloc();
+    let (mut plain, mut work) = opened(alloc)?;
+    let schedule = Schedule::open(alloc)?;
+    let mut text = GraphText::open(alloc, 256, 3)?;
+    let ran = plain.run(&mut work, &schedule, 1000);
+    assert!(rt; ran == Ran::Finished);
+    assert!(rt; plain.all_rest());
+    plain.graph(&mut text);
+    assert_eq!(rt; text.rows(), 1);
+    assert_eq!(rt; text.name_at(0), Name::HUB);
+    assert_eq!(rt; text.refs_at(0), 16);
+    for thread in 1..4 {
+        assert_eq!(rt; text.root_at(thread, 0), Some(Name::HUB));
+        assert_eq!(rt; text.root_at(thread, 15), None);
     }
     Ok(())
 }

@@ -1,5 +1,6 @@
-use Rattle.std.proofs.Common.{◌≡◌, length, sym, ap, ◌∙◌, subst, arith}
+use Rattle.std.proofs.Common.{◌≡◌, ◌*◌, length, sym, ap, ◌∙◌, subst, arith}
 use Rattle.shen_graph.specs.Work.{opened}
+use Rattle.heap_words.specs.Words.{heap_size}
 use Rattle.step_core.specs.Opening.{opening}
 use Rattle.shen_core.specs.State.{config_of, Shows}
 use Rattle.shen_core.specs.Progress.{CanRun}
@@ -21,3 +22,8 @@ returns-clause-run c =
     (can_run_first c.in_ok-plain.plain c.push-3.new.self.items
     (subst (λ k. Shows c.in_ok-plain.plain (opening k)) (sym c.in_ok-plain.ensures.config) c.in_ok-plain.ensures.opening)
     c.in_ok-plain.ensures.orders (omega arith) (omega arith) three))
+
+pub returns-clause-words : goal.returns-clause-words
+returns-clause-words c =
+    ap heap_size c.in_ok-plain.ensures.config ∙ ap (λ r. r * c.in_ok-config.config.region_words) c.in_ok-config.ensures.regions
+    ∙ ap (λ w. 4 * w) c.in_ok-config.ensures.region_words

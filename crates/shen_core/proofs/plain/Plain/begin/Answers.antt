@@ -11,6 +11,8 @@ invariant_of-self c =
     record {
       all_words = c.args.self.now.all_words;
       all_machines = length-set c.args.self.now.machines.items _ _ ∙ c.args.self.now.all_machines;
+      all_marks = c.args.self.now.all_marks;
+      enough_addresses = c.args.self.now.enough_addresses;
       one_heap = ordered_heap c.args.self.now.config c.args.self.now.machines.items c.args.number c.in-Mutator.mutator c.begin.new.self here c.begin.ensures.config c.args.self.now.one_heap;
       reached = ∥∥₁_map c.args.self.now.reached (subst (λ machines. IsShownBySome c.args.self.now.config c.args.self.now.words.items machines)
           (sym (ordered_machines c.args.self.now.machines.items c.args.number c.in-Mutator.mutator c.begin.new.self here c.begin.ensures.seen)));
