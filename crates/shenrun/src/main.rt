@@ -10,16 +10,24 @@ use std::alloc::AllocError;
 use std::process::ExitCode;
 use std::{env, io};
 
-/// The status number where the system refuses the words of the command line.
+/// The status number where the system refuses the words of the command line, or one is not UTF-8.
 const NO_WORDS: u8 = 8;
 
-/// The status number where there is no memory for the list of words.
+/// The status number where there is no memory for the words.
 const NO_ROOM_FOR_WORDS: u8 = 9;
+
+/// The status number where no words were given for this reason.
+fn status_of(kind: io::ErrorKind) -> u8 {
+    match kind {
+        io::ErrorKind::OutOfMemory => NO_ROOM_FOR_WORDS,
+        _ => NO_WORDS,
+    }
+}
 
 fn main(rt: HostRuntime) -> ExitCode {
     let args = match env::args(&rt) {
         Ok(args) => args,
-        Err(_) => return ExitCode::from(NO_WORDS),
+        Err(error) => return ExitCode::from(status_of(error.kind())),
     };
     let mut words = Vec::new(rt.alloc());
     for word in args.skip(1) {

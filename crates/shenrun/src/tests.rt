@@ -15,6 +15,10 @@ const STORED: &str = "1 new 1 1 1\n1 set 0 3 1\n1 get 2 0 3\n";
 const STORED_ANSWER: &str =
     "1 1.1\n1 ok\n1 1.1\ngraph\nobject 0.1 - - - 1.1 - - - - - - - - - - - - /\nobject 1.1 - / 0\nroots 1 0.1 1.1 1.1 - - - - - - - - - - - - -\n";
 
+/// The answer to three allocations of the largest objects.
+const LARGE: &str =
+    "1 1.1\n1 1.2\n1 1.3\ngraph\nobject 0.1 - - - - - - - - - - - - - - - - /\nobject 1.1 - - - - - - - - - - - - - - - - / 0 0 0 0 0 0 0 0 0 0 0 0 0 0 0 0\nobject 1.2 - - - - - - - - - - - - - - - - / 0 0 0 0 0 0 0 0 0 0 0 0 0 0 0 0\nobject 1.3 - - - - - - - - - - - - - - - - / 0 0 0 0 0 0 0 0 0 0 0 0 0 0 0 0\nroots 1 0.1 1.1 1.2 1.3 - - - - - - - - - - - -\n";
+
 /// Runs the program on words and bytes. The source and the sink move at most `piece` bytes a call, and the calls with
 /// these numbers fail.
 fn outcome(
@@ -81,13 +85,21 @@ fn traces_are_answered(rt: HostRuntime) -> Result<(), Fail> {
         Status::Ok,
         "1 bad\n1 bad\n1 ok\ngraph\nobject 0.1 - - - - - - - - - - - - - - - - /\nroots 1 0.1 - - - - - - - - - - - - - - -\n",
     )?;
-    // Three large objects fit, and four do not.
+    // Small objects go behind large ones, or to the next region.
     answers(
         &rt,
         rt.alloc(),
         "1 new 1 16 16\n1 new 2 16 16\n1 new 1 0 0\n1 set 2 0 1\n1 new 1 16 16\n1 new 2 0 0\n",
         Status::Ok,
         "1 1.1\n1 1.2\n1 1.3\n1 ok\n1 1.4\n1 1.5\ngraph\nobject 0.1 - - - - - - - - - - - - - - - - /\nobject 1.4 - - - - - - - - - - - - - - - - / 0 0 0 0 0 0 0 0 0 0 0 0 0 0 0 0\nobject 1.5 /\nroots 1 0.1 1.4 1.5 - - - - - - - - - - - - -\n",
+    )?;
+    // Three large objects fit, and four do not.
+    answers(
+        &rt,
+        rt.alloc(),
+        "1 new 1 16 16\n1 new 2 16 16\n1 new 3 16 16\n",
+        Status::Ok,
+        LARGE,
     )?;
     answers(
         &rt,
@@ -137,21 +149,44 @@ fn other_words_are_refused(rt: HostRuntime) -> Result<(), Fail> {
     Ok(())
 }
 
-#[test]
-fn each_fault_is_told(rt: HostRuntime) -> Result<(), Fail> {
-    let bytes = trace_of(rt.alloc(), STORED)?;
+/// Lets each of so many calls of the source fail in turn, and then each of the sink's.
+fn faults(rt: &impl Abort, alloc: Global, piece: usize, reads: u64, writes: u64) -> Result<(), Fail>
+    requires least { 1 ≤ piece }
+    requires most { piece ≤ 8 }
+    requires reads { reads ≤ 100 }
+    requires writes { writes ≤ 200 }
+{
+    let bytes = trace_of(alloc, STORED)?;
     let answer = STORED_ANSWER.as_bytes();
-    for call in 1..11 {
-        let (status, written) = outcome(rt.alloc(), &["replay"], &bytes, 8, &[call], &[])?;
+    for call in 1..reads + 1 {
+        let (status, written) = outcome(alloc, &["replay"], &bytes, piece, &[call], &[])?;
         assert_eq!(rt; status, Status::ReadFault, "call {call}");
         assert_eq!(rt; written.as_slice(), b"read fault\n".as_slice());
     }
-    for call in 1..18 {
-        let (status, written) = outcome(rt.alloc(), &["replay"], &bytes, 8, &[], &[call])?;
+    for call in 1..writes + 1 {
+        let (status, written) = outcome(alloc, &["replay"], &bytes, piece, &[], &[call])?;
         assert_eq!(rt; status, Status::WriteFault, "call {call}");
-        assert_eq!(rt; written.len(), 8 * (call as usize - 1));
+        assert_eq!(rt; written.len(), piece * (call as usize - 1));
         assert!(rt; answer.starts_with(&written));
     }
+    let (status, written) = outcome(
+        alloc,
+        &["replay"],
+        &bytes,
+        piece,
+        &[reads + 1],
+        &[writes + 1],
+    )?;
+    assert_eq!(rt; status, Status::Ok);
+    assert_eq!(rt; written.as_slice(), answer);
+    Ok(())
+}
+
+#[test]
+fn each_fault_is_told(rt: HostRuntime) -> Result<(), Fail> {
+    faults(&rt, rt.alloc(), 1, 68, 133)?;
+    faults(&rt, rt.alloc(), 7, 11, 19)?;
+    faults(&rt, rt.alloc(), 8, 10, 17)?;
     Ok(())
 }
 
