@@ -1,20 +1,24 @@
 -- What holds of the opening: one object, the hub, at the base of region 0.
 use Rattle.std.proofs.Common.{◌≡◌, ◌≢◌, ℕ, zero, suc, ◌+◌, ◌<◌, ◌≤◌, ⊎_elim, Bool, true, false, [], length, Some, None, refl, sym, ap, ◌∙◌, subst, arith, replicate}
-use Rattle.std.specs.Prelude.{slice_get, nat_lt, ◌==◌, if◌then◌else◌}
+use Rattle.std.specs.Prelude.{slice_get, nat_lt, ◌^◌, ◌*◌, ◌==◌, if◌then◌else◌}
 use Rattle.std.proofs.lemmas.List.FromFn.{get_or-map-range_with_len, length-map-range_with_len}
 use Rattle.std.proofs.lemmas.Option.{cond_some, slice_get_within, get_or_from_slice_get}
+use Rattle.std.specs.Int.{bit_at}
+use Rattle.std.proofs.lemmas.Nat.Bits.{bit_at_lowest}
+use Rattle.std.proofs.lemmas.Nat.{pow_pos}
+use Rattle.std.proofs.Math.Nat.{pow-succ'}
 use Rattle.std.proofs.lemmas.Bool.{cases_eq, and_parts, eqb-true, ltb-true}
 use Rattle.std.proofs.lemmas.Bool.Decides.{nat_tests}
 use Rattle.heap_words.specs.declared.config.Config.{Config}
 use Rattle.heap_words.specs.Ranges.{seat_count}
-use Rattle.heap_words.specs.Words.{Top, Root, Heap, Phase, Cset, Evac}
+use Rattle.heap_words.specs.Words.{Top, Root, Heap, Phase, Cset, Free, Evac, Current, Wait, Answer}
 use Rattle.shen_graph.specs.declared.name.Name.{Name}
 use Rattle.shen_graph.specs.declared.command.Command.TheVariants.{Gc}
 use Rattle.shen_graph.specs.Graph.{Reference, Object, hub, same_name, blank}
 use Rattle.mutator.specs.Rows.{fresh_mutator}
 use Rattle.step_core.specs.Actor.{mutating, helping, controlling}
-use Rattle.step_core.specs.Opening.{opening_machine, opening_actor, opening}
-use Rattle.step_core.specs.World.{World, Plot, Block, thing, words_of, name_at, Points, IsInUse, IsPlotted, IsFilled, IsObject, IsGiven, AreObjects, Shared, base}
+use Rattle.step_core.specs.Opening.{opening_machine, opening_actor, opening, first_free}
+use Rattle.step_core.specs.World.{World, Plot, Block, thing, words_of, name_at, Points, IsInUse, IsPlotted, IsFilled, IsObject, IsGiven, AreObjects, IsFreeWord, Shared, base}
 use Rattle.step_core.specs.Stepped.{Mine}
 use Rattle.step_core.specs.Follows.{first_graph, IsMachine, Follows}
 use Rattle.step_core.proofs.OpeningStands.{rooted_memory, first_memory, view-opening, length-opening}
@@ -45,6 +49,18 @@ rooted_cset c (suc t) = rooted_cset c t
 rooted_evac : (c : Config) (t : ℕ) → rooted_memory c t Evac ≡ 0
 rooted_evac c zero = refl
 rooted_evac c (suc t) = rooted_evac c t
+
+rooted_current : (c : Config) (t s : ℕ) → rooted_memory c t (Current s) ≡ 0
+rooted_current c zero s = refl
+rooted_current c (suc t) s = rooted_current c t s
+
+rooted_wait : (c : Config) (t k : ℕ) → rooted_memory c t (Wait k) ≡ 0
+rooted_wait c zero k = refl
+rooted_wait c (suc t) k = rooted_wait c t k
+
+rooted_answer : (c : Config) (t k : ℕ) → rooted_memory c t (Answer k) ≡ 0
+rooted_answer c zero k = refl
+rooted_answer c (suc t) k = rooted_answer c t k
 
 rooted_root : (c : Config) (t k : ℕ) → k < t → rooted_memory c t (Root k 0) ≡ c.region_words
 rooted_root c zero k below = absurd (omega arith)
@@ -169,6 +185,30 @@ first_objects c = record {
   once = λ a b refs nums more_refs more_nums name is_a is_b. (block_only c a _ is_a).0 ∙ sym (block_only c b _ is_b).0;
 }
 
+first_free_even : (n : ℕ) → 1 ≤ n → bit_at (first_free n) 0 ≡ 0
+first_free_even zero some = absurd (omega arith)
+first_free_even (suc n) some =
+    let double : 2 ^ suc n ≡ 2 * 2 ^ n = pow-succ' 2 n in
+    let lowest = bit_at_lowest (first_free (suc n)) in
+    omega (arith, double, lowest)
+
+first_free_small : (n : ℕ) → first_free n < 2 ^ n
+first_free_small n = let some = pow_pos n in omega (arith, some)
+
+-- region 0 is in use, and no other has a top
+first_free_word : (c : Config) → IsFreeWord c (first_memory c Free) (λ r. first_memory c (Top r)) (λ s. first_memory c (Current s))
+first_free_word c = record {
+  no_more = first_free_small c.regions;
+  empty = λ r within bit. ⊎_elim
+      (λ (same : r ≡ 0).
+      let set : bit_at (first_free c.regions) 0 ≡ 1 = subst (λ k. bit_at (first_free c.regions) k ≡ 1) same bit in
+      let even = first_free_even c.regions (let some = c.in_range.least_regions in omega (arith, some)) in
+      absurd (omega (arith, sym even ∙ set)))
+      (λ (other : r ≡ 0 → ⊥). top_other c r other)
+      (cases_eq r 0);
+  nobodys = λ r seat within bit is_seat names. let none = rooted_current c c.mutators seat in absurd (omega (arith, none, names));
+}
+
 first_shared : (c : Config) → Shared c (first_world c)
 first_shared c = record {
   plotted = first_plotted c;
@@ -178,6 +218,8 @@ first_shared c = record {
       subst (λ n. IsGiven c (λ t. 0) n) (sym (object_only c name o is).0)
       (record { thread = omega arith; made = omega arith; by_thread = λ one. absurd (omega arith); small = omega arith });
   calm = record { phase_is = rooted_phase c c.mutators; cset_is = rooted_cset c c.mutators; evac_is = rooted_evac c c.mutators };
+  free_word = first_free_word c;
+  unasked = record { waits = λ t within. rooted_wait c c.mutators t; answers = λ t within. rooted_answer c c.mutators t };
 }
 
 first_roots : (c : Config) (k i : ℕ) → k < c.mutators → Points (first_block c) (first_memory c (Root k i)) ((first_graph c).root (k + 1) i)

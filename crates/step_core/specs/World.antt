@@ -1,7 +1,9 @@
 -- What it means that the words of a heap stand for a graph.
-use Rattle.std.specs.Prelude.{ℕ, ◌≡◌, ◌+◌, ◌*◌, ◌<◌, ◌≤◌, ◌^◌, length, Option, Some, None, slice_get}
+use Rattle.std.specs.Prelude.{ℕ, ◌≡◌, ◌+◌, ◌*◌, ◌<◌, ◌≤◌, ◌≢◌, ◌^◌, length, Option, Some, None, slice_get}
+use Rattle.std.specs.Int.{bit_at}
 use Rattle.heap_words.specs.declared.config.Config.{Config}
-use Rattle.heap_words.specs.Words.{Word, Phase, Cset, Evac, Top, Heap}
+use Rattle.heap_words.specs.Ranges.{seat_count}
+use Rattle.heap_words.specs.Words.{Word, Phase, Cset, Free, Evac, Top, Current, Wait, Answer, Heap}
 use Rattle.heap_words.specs.Encoding.{shape_word, name_code}
 use Rattle.shen_graph.specs.declared.name.Name.{Name}
 use Rattle.shen_graph.specs.Graph.{Reference, Object, Graph}
@@ -98,13 +100,27 @@ pub record IsCalm (phase cset evac : ℕ) : Type 0 where
   pub cset_is : cset ≡ 0
   pub evac_is : evac ≡ 0
 
+-- the free word has no bit at or above the number of regions, and a region whose bit is set has top 0 and is nobody's current region
+pub record IsFreeWord (c : Config) (free : ℕ) (top current : ℕ → ℕ) : Type 0 where
+  pub no_more : free < 2 ^ c.regions
+  pub empty : (r : ℕ) → r < c.regions → bit_at free r ≡ 1 → top r ≡ 0
+  pub nobodys : (r seat : ℕ) → r < c.regions → bit_at free r ≡ 1 → seat < seat_count c.mutators c.helpers → current seat ≢ r + 1
+
+-- nobody waits for an object, and none is answered yet
+pub record AreUnasked (c : Config) (wait answer : ℕ → ℕ) : Type 0 where
+  pub waits : (t : ℕ) → t < c.mutators → wait t ≡ 0
+  pub answers : (t : ℕ) → t < c.mutators → answer t ≡ 0
+
 -- the facts that all machines share, each over the words that it speaks of
-pub record SharedFacts (c : Config) (top heap : ℕ → ℕ) (block : Plot) (object : Name → Option Object) (count : ℕ → ℕ) (phase cset evac : ℕ) : Type 0 where
+pub record SharedFacts (c : Config) (top heap : ℕ → ℕ) (block : Plot) (object : Name → Option Object) (count : ℕ → ℕ) (phase cset evac free : ℕ) (current wait answer : ℕ → ℕ) : Type 0 where
   pub plotted : IsPlotted c top block
   pub filled : IsFilled c top block
   pub objects : AreObjects heap block object
   pub given : (name : Name) (o : Object) → object name ≡ Some o → IsGiven c count name
   pub calm : IsCalm phase cset evac
+  pub free_word : IsFreeWord c free top current
+  pub unasked : AreUnasked c wait answer
 
 abbrev pub Shared : Config → World → Type 0
 Shared c w = SharedFacts c (λ r. w.memory (Top r)) (λ a. w.memory (Heap a)) w.block w.graph.object w.graph.count (w.memory Phase) (w.memory Cset) (w.memory Evac)
+    (w.memory Free) (λ s. w.memory (Current s)) (λ t. w.memory (Wait t)) (λ t. w.memory (Answer t))
