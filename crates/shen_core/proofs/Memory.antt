@@ -18,7 +18,8 @@ use Rattle.step_core.specs.Opening.{opening}
 use Rattle.shen_core.specs.declared.machine.Machine.{Machine}
 use Rattle.shen_core.specs.declared.machine.Machine.TheVariants as machine
 use Rattle.shen_core.specs.Shown.{shown, order_of_machine, heap_of}
-use Rattle.shen_core.specs.Runs.{access_of, accessed, event, IsShownBySome, IsOneEvent, next_by}
+use Rattle.steps_base.specs.Steps.{accessed}
+use Rattle.shen_core.specs.Runs.{access_of, event, IsShownBySome, IsOneEvent, next_by}
 use Rattle.shen_core.proofs.Events.{map-set, one_event}
 
 -- a mutator of these machines has made its access, and has taken its word

@@ -1,7 +1,7 @@
 -- Words and machines in memory, and the stages of runs that they show.
-use Rattle.std.specs.Prelude.{ℕ, ◌≡◌, List, [], ◌∷◌, ◌++◌, map, slice_set, slice_index}
+use Rattle.std.specs.Prelude.{ℕ, ◌≡◌, List, [], ◌∷◌, ◌++◌, map, slice_index}
 use Rattle.heap_words.specs.declared.access.Access.{Access}
-use Rattle.heap_words.specs.Access.{place_of, made_of}
+use Rattle.heap_words.specs.Access.{place_of}
 use Rattle.steps_base.specs.Touch.{placed}
 use Rattle.mutator.specs.Rows.{Mutating, touch_of, next_of}
 use Rattle.heap_words.specs.declared.config.Config.{Config}
@@ -18,10 +18,6 @@ pub record Shows (words : List ℕ) (machines : List Machine) (s : Stage Actor) 
 -- the access of a mutator
 abbrev pub access_of : Config → Mutating → Access
 access_of c m = placed c (touch_of c m)
-
--- the words after an access
-abbrev pub accessed : Access → List ℕ → List ℕ
-accessed access words = slice_set words (place_of access) (made_of access (slice_index words (place_of access)))
 
 -- some events from the opening lead to these words and machines
 pub record IsShownBySome (c : Config) (words : List ℕ) (machines : List Machine) : Type 0 where

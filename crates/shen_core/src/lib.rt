@@ -1,7 +1,6 @@
 //! The heap on one thread: words and machines in memory, and any schedule of their atomic steps.
 #![tactic(auto)]
 
-mod graph;
 mod machine;
 mod opening;
 mod plain;

@@ -4,14 +4,15 @@ ghost use Rattle.heap_words.specs.Ranges.{seat_count};
 ghost use Rattle.shen_core.specs.Shown.{shown, heap_of};
 ghost use Rattle.shen_core.specs.Runs.{IsShownBySome};
 
-use crate::graph::{heap_in, heap_size, roots_in};
 use crate::machine::Machine;
-use crate::opening::{open_machines, open_words};
+use crate::opening::open_machines;
 use crate::step::{Stepped, make_step};
 use heap_graph::write_graph;
 use heap_words::{Config, NoMemory, Place};
 use shen_graph::{Command, GraphText, Reply};
+use stage_graph::{heap_in, heap_size, roots_in};
 use std::alloc::Global;
+use step_core::open_words;
 
 /// A heap and its machines, on one thread.
 #[derive(Drop)]

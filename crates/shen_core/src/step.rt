@@ -5,11 +5,13 @@ ghost use Rattle.mutator.specs.Rows.{next_of, answer_at};
 ghost use Rattle.mutator.specs.Fit.{IsFit};
 ghost use Rattle.mutator.specs.Seen.{seen, config_of, order_of, is_idle};
 ghost use Rattle.mutator.specs.declared.spot.Order.TheVariants.{Nothing};
-ghost use Rattle.shen_core.specs.Runs.{accessed, access_of};
+ghost use Rattle.steps_base.specs.Steps.{accessed};
+ghost use Rattle.shen_core.specs.Runs.{access_of};
 ghost use Rattle.shen_core.specs.Answer.{stepped_of};
 
 use heap_words::Took;
 use mutator::Mutator;
+use steps_base::make_access;
 
 /// What a machine said of the step that it was given.
 #[derive(Clone, Copy, Debug, PartialEq, Eq)]
@@ -35,10 +37,7 @@ pub(crate) fn make_step(words: &mut Vec<u64>, mutator: &mut Mutator) -> Stepped
     ensures config { config_of mutator.new ≡ config_of mutator.old }
     ensures says { result ≡ stepped_of (answer_at (seen mutator.old).spot (slice_index words.old.items (place_of (access_of (config_of mutator.old) (seen mutator.old))))) }
 {
-    let access = mutator.plan();
-    let at = access.at();
-    let found = words[at];
-    words[at] = access.made(found);
+    let found = make_access(words, mutator.plan());
     match mutator.took(found) {
         Took::More => Stepped::More,
         Took::Again => Stepped::Again,

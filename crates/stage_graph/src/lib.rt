@@ -1,5 +1,7 @@
-//! The words of a table that stand for the graph of a stage.
+//! The words of a table that stand for the graph of a stage, and the parts of the table that they are.
 #![tactic(auto)]
+
+mod parts;
 
 ghost use Rattle.std.specs.Prelude.{◌≡◌, length, List, All};
 ghost use Rattle.heap_words.specs.declared.config.Config.{Config};
@@ -14,6 +16,8 @@ ghost use Rattle.step_core.specs.Follows.{StandsFor, past, first_graph};
 ghost use Rattle.heap_graph.specs.Shows.{WordsStand};
 ghost use Rattle.stage_graph.specs.Parts.{heap_in, roots_in, AreResting, HasNoMore};
 ghost use Rattle.stage_graph.specs.Settled.{IsSettled};
+
+pub use parts::{heap_in, heap_size, roots_in};
 
 /// A law: where words and machines stand for a graph and no call is in progress, the words of the heap and of the roots
 /// alone stand for it.

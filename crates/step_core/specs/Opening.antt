@@ -4,6 +4,7 @@ use Rattle.std.specs.List.{range_with_len}
 use Rattle.heap_words.specs.declared.config.Config.{Config}
 use Rattle.heap_words.specs.Ranges.{seat_count}
 use Rattle.heap_words.specs.Words.{Word, Left, Free, Top, Root, Heap, word_at, table_words}
+use Rattle.heap_words.specs.Encoding.{plain_header, shape_word, name_code}
 use Rattle.steps_base.specs.Steps.{Stage}
 use Rattle.shen_graph.specs.declared.command.Command.TheVariants.{Gc}
 use Rattle.mutator.specs.Rows.{fresh_mutator}
@@ -25,9 +26,9 @@ first_free regions = 2 ^ regions - 2
 -- the words: the hub stands at the base of region 0, with header, shape, name and 16 null references
 abbrev pub opening_words : Config → List ℕ
 opening_words c =
-    stored c (Heap (c.region_words + 2)) 1
-    (stored c (Heap (c.region_words + 1)) 69632
-    (stored c (Heap c.region_words) 1
+    stored c (Heap (c.region_words + 2)) (name_code 0 1)
+    (stored c (Heap (c.region_words + 1)) (shape_word 16 0)
+    (stored c (Heap c.region_words) plain_header
     (stored c (Top 0) 19
     (stored c Free (first_free c.regions)
     (stored c Left c.mutators

@@ -2,6 +2,8 @@
 //! after each of them words and machines stand for the graph of a legal history.
 #![tactic(auto)]
 
+mod opening;
+
 ghost use Rattle.std.specs.Prelude.{ℕ, ◌≡◌, ◌<◌, List};
 ghost use Rattle.heap_words.specs.declared.config.Config.{Config};
 ghost use Rattle.heap_words.specs.Access.{place_of};
@@ -13,6 +15,8 @@ ghost use Rattle.mutator.specs.Fit.{IsFit};
 ghost use Rattle.step_core.specs.Actor.{Actor, mutating, plan_of, kind};
 ghost use Rattle.step_core.specs.Opening.{opening};
 ghost use Rattle.step_core.specs.Follows.{reached, past, IsSound};
+
+pub use opening::open_words;
 
 /// A law: whatever list of steps the machines of a heap make, the words and machines then stand for the graph after the
 /// history of the steps, the history is legal, the entries of each thread are its calls or these and one more, and each

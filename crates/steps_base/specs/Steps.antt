@@ -21,6 +21,10 @@ pub record Event (O : Type 0) : Type 0 where
   pub number : ℕ
   pub order : O
 
+-- the words after an access
+abbrev pub accessed : Access → List ℕ → List ℕ
+accessed access words = slice_set words (place_of access) (made_of access (slice_index words (place_of access)))
+
 -- the word that the machine finds
 abbrev pub found_by : {R O : Type 0} → Kind R O → Stage R → R → O → ℕ
 found_by kind s r order = slice_index s.words (place_of (kind.plan r order))
@@ -28,7 +32,7 @@ found_by kind s r order = slice_index s.words (place_of (kind.plan r order))
 -- the access is made, and the machine is told its word
 abbrev pub moved : {R O : Type 0} → Kind R O → Stage R → ℕ → R → O → Stage R
 moved kind s number r order = record {
-  words = slice_set s.words (place_of (kind.plan r order)) (made_of (kind.plan r order) (found_by kind s r order));
+  words = accessed (kind.plan r order) s.words;
   machines = slice_set s.machines number (kind.took r order (told_of (kind.plan r order) (found_by kind s r order)));
 }
 

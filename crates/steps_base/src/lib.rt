@@ -2,7 +2,11 @@
 //! machine, whatever its words mean.
 #![tactic(auto)]
 
+mod table;
+
 ghost use Rattle.steps_base.specs.Steps.{Kind, RunsAdd, EventsAreSmall};
+
+pub use table::make_access;
 
 /// A law: events one after another are one run.
 pub fn runs_add<R, O>()

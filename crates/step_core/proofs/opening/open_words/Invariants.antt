@@ -1,7 +1,7 @@
 use Rattle.std.proofs.Common.{◌≡◌, length, replicate}
 use Rattle.heap_words.specs.Words.{table_words}
 use Rattle.step_core.specs.Opening.{rooted}
-use Rattle.shen_core.proofs.opening.open_words.Given as goal
+use Rattle.step_core.proofs.opening.open_words.Given as goal
 
 abbrev pub invariant-loop-mutator : goal.invariant-loop-mutator
 invariant-loop-mutator l = record {
