@@ -1,6 +1,13 @@
 pub mod Stable
 pub mod Settling
-pub mod Calls
+pub mod Spots
+mod Calls
+mod Loads
+mod Fields
+mod RootStores
+mod Stores
+mod Takes
+mod Fresh
 pub mod Places
 pub mod Entries
 pub mod Induction
