@@ -1,5 +1,6 @@
 pub mod Stable
 pub mod Settling
+pub mod Pointing
 pub mod Spots
 mod Calls
 mod Loads
