@@ -12,11 +12,6 @@ use Rattle.steps_base.specs.Steps.{Stage}
 use Rattle.shen_graph.specs.declared.command.Command.{Command}
 use Rattle.shen_graph.specs.Work as work
 use Rattle.mutator.specs.declared.spot.Order.TheVariants.{Begin}
-use Rattle.mutator.specs.Orders.{is_at_rest, takes_at, is_next, is_served}
-use Rattle.mutator.proofs.Valid.{is_valid_from}
-use Rattle.shen_graph.specs.Valid.{IsValid}
-use Rattle.mutator.specs.declared.spot.Spot.{Spot}
-use Rattle.mutator.specs.declared.spot.Spot.TheVariants.{Rest, Ended}
 use Rattle.mutator.specs.Rows.{Mutating}
 use Rattle.step_core.specs.Actor.{Machine, mutating, helping, controlling, Actor, takes_of}
 use Rattle.step_core.specs.Follows.{reached, past}
@@ -71,17 +66,3 @@ element P xs k x all here = subst P (get_or_from_slice_get xs k x x here) (all k
 
 pub machine_within : (machines : List Machine) (number : ℕ) → number < length machines → slice_get machines number ≡ Some (slice_index_or machines number controlling)
 machine_within machines number below = slice_get-get_or machines number controlling below
-
--- a machine between two calls takes a command that can be given
-pub rest_takes : (machine : Machine) (k : Command) → is_resting machine ≡ true → IsValid k → is_served k ≡ true → made_of_machine machine < 4294967295 → takes_of machine (Begin k) ≡ true
-rest_takes helping k rest valid served made = cc
-rest_takes controlling k rest valid served made = cc
-rest_takes (mutating m) k rest valid served made = spot_takes m.spot rest
-  where
-    next : is_next m.made k ≡ true
-    next = rw (is_valid_from k valid, served, lt-ltb m.made 4294967295 made) refl
-
-    spot_takes : (spot : Spot) → is_at_rest spot ≡ true → takes_at spot m.made (Begin k) ≡ true
-    spot_takes Rest rest = next
-    spot_takes (Ended r) rest = next
-    spot_takes _ rest = cc

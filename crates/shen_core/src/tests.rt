@@ -1,6 +1,6 @@
 ghost use Rattle.std.specs.Prelude.{◌≡◌, ◌<◌, ◌≤◌, ℕ, IfOk};
 ghost use Rattle.shen_graph.specs.Work.{HasScript};
-ghost use Rattle.shen_core.specs.Progress.{CanRun, AreServed};
+ghost use Rattle.shen_core.specs.Progress.{CanRun, IsRunnable};
 ghost use Rattle.heap_words.specs.Words.{heap_size};
 ghost use Rattle.shen_core.specs.State.{config_of};
 
@@ -12,7 +12,7 @@ use std::test::Fail;
 
 // A script that asks for a cycle so many times.
 fn cycles(alloc: Global, count: usize) -> Result<Script, shen_graph::NoMemory>
-    ensures { IfOk result (λ script. AreServed script) }
+    ensures { IfOk result (λ script. IsRunnable script) }
 {
     let mut script = Script::open(alloc)?;
     for _ in 0..count {

@@ -67,7 +67,7 @@ returns-in_default-clause-run c =
       orders = c.step-stepped.ensures.orders (c.order_next.ensures.has ∙ c.if-not-order_next.false);
       config = c.step-stepped.ensures.config;
     } in
-    can_run_on _ _ _ _ _ _ facts c.requires.run
+    can_run_on _ _ _ _ _ _ facts (none_given _ _ _ _ _ _ facts (λ done. c.in_default.not-Done done)) c.requires.run
 
 pub returns-in_default-clause-turned : goal.returns-in_default-clause-turned
 returns-in_default-clause-turned c =
