@@ -13,7 +13,6 @@ use Rattle.regions.specs.Place.{base_of}
 use Rattle.regions.specs.Sets.{members_below, lowest_in, all_but}
 use Rattle.alloc_buffers.specs.declared.spot.Kind.{Kind}
 use Rattle.alloc_buffers.specs.declared.spot.Kind.TheVariants.{Fresh, Evacuated}
-use Rattle.alloc_buffers.specs.declared.spot.Taken.{Taken}
 use Rattle.alloc_buffers.specs.declared.spot.Taken.TheVariants.{At, NoRoom}
 use Rattle.alloc_buffers.specs.declared.spot.TakeSpot.{TakeSpot}
 use Rattle.alloc_buffers.specs.declared.spot.TakeSpot.TheVariants.{LoadCurrent, LoadTop, LoadFree, TakeRegion, StoreCurrent, StoreTop, Ended}

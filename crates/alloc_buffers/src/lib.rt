@@ -9,3 +9,6 @@ mod take;
 
 pub use spot::{Kind, TakeSpot, Taken};
 pub use take::Take;
+
+#[cfg(test)]
+mod tests;

@@ -1,4 +1,4 @@
-use Rattle.std.proofs.Common.{◌≡◌, ℕ, refl, ap, ◌∙◌, arith}
+use Rattle.std.proofs.Common.{◌≡◌, refl, ap, ◌∙◌, arith}
 use Rattle.regions.specs.Sets.{members_below}
 use Rattle.regions.proofs.SetLemmas.{no_members}
 use Rattle.alloc_buffers.proofs.spot.after_free.Goals as goal
