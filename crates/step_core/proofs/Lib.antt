@@ -3,6 +3,7 @@ pub mod Settling
 pub mod Pointing
 pub mod Naming
 pub mod Loading
+pub mod InHand
 pub mod Spots
 mod Calls
 mod Loads
