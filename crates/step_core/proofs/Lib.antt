@@ -1,6 +1,9 @@
 pub mod Stable
 pub mod Settling
 pub mod Pointing
+pub mod Naming
+pub mod Loading
+pub mod InHand
 pub mod Spots
 mod Calls
 mod Loads
