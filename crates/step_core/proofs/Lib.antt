@@ -2,6 +2,7 @@ pub mod Stable
 pub mod Settling
 pub mod Pointing
 pub mod Apart
+pub mod Objects
 pub mod Spots
 mod Calls
 mod Loads
