@@ -3,6 +3,7 @@ pub mod Settling
 pub mod Pointing
 pub mod Apart
 pub mod Objects
+pub mod Naming
 pub mod Spots
 mod Calls
 mod Loads
