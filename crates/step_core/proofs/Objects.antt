@@ -72,13 +72,13 @@ module _ (heap : ℕ → ℕ) (block : Plot) (a refs nums : ℕ) (name : Name) (
         nums_are = is.nums_are;
         references = λ i q here. ⊎_elim
             (λ same.
-              let word_is : stored_word heap (a + 3 + field) value (a + 3 + i) ≡ value = new_word heap (a + 3 + field) value (a + 3 + i) (omega (arith, same)) in
-              let is_here : slice_get (slice_set o.refs field r) i ≡ Some r = ap (λ j. slice_get (slice_set o.refs field r) j) same ∙ get_set_same o.refs field r (omega (arith, is.refs_are)) in
-              let reference_is : q ≡ r = same_Some q r (sym here ∙ is_here) in
-              rw (word_is, reference_is) points)
+            let word_is : stored_word heap (a + 3 + field) value (a + 3 + i) ≡ value = new_word heap (a + 3 + field) value (a + 3 + i) (omega (arith, same)) in
+            let is_here : slice_get (slice_set o.refs field r) i ≡ Some r = ap (λ j. slice_get (slice_set o.refs field r) j) same ∙ get_set_same o.refs field r (omega (arith, is.refs_are)) in
+            let reference_is : q ≡ r = same_Some q r (sym here ∙ is_here) in
+            rw (word_is, reference_is) points)
             (λ other.
-              let word_is : stored_word heap (a + 3 + field) value (a + 3 + i) ≡ heap (a + 3 + i) = old (a + 3 + i) (λ same. other (omega arith)) in
-              rw word_is (is.references i q (sym (get_set_other o.refs field i r other) ∙ here)))
+            let word_is : stored_word heap (a + 3 + field) value (a + 3 + i) ≡ heap (a + 3 + i) = old (a + 3 + i) (λ same. other (omega arith)) in
+            rw word_is (is.references i q (sym (get_set_other o.refs field i r other) ∙ here)))
             (cases_eq i field);
         numbers = λ i n here. old (a + 3 + refs + i) (omega arith) ∙ is.numbers i n here;
       }
@@ -97,12 +97,12 @@ module _ (heap : ℕ → ℕ) (block : Plot) (a refs nums : ℕ) (name : Name) (
         refs_are = is.refs_are;
         nums_are = length-set o.nums index value ∙ is.nums_are;
         references = λ i q here.
-          let word_is : stored_word heap (a + 3 + refs + index) value (a + 3 + i) ≡ heap (a + 3 + i) = old (a + 3 + i) (omega (arith, is.refs_are, slice_get_within o.refs i q here)) in
-          rw word_is (is.references i q here);
+            let word_is : stored_word heap (a + 3 + refs + index) value (a + 3 + i) ≡ heap (a + 3 + i) = old (a + 3 + i) (omega (arith, is.refs_are, slice_get_within o.refs i q here)) in
+            rw word_is (is.references i q here);
         numbers = λ i n here. ⊎_elim
             (λ same.
-              let is_here : slice_get (slice_set o.nums index value) i ≡ Some value = ap (λ j. slice_get (slice_set o.nums index value) j) same ∙ get_set_same o.nums index value (omega (arith, is.nums_are)) in
-              new_word heap (a + 3 + refs + index) value (a + 3 + refs + i) (omega (arith, same)) ∙ same_Some value n (sym is_here ∙ here))
+            let is_here : slice_get (slice_set o.nums index value) i ≡ Some value = ap (λ j. slice_get (slice_set o.nums index value) j) same ∙ get_set_same o.nums index value (omega (arith, is.nums_are)) in
+            new_word heap (a + 3 + refs + index) value (a + 3 + refs + i) (omega (arith, same)) ∙ same_Some value n (sym is_here ∙ here))
             (λ other. old (a + 3 + refs + i) (λ same. other (omega arith)) ∙ is.numbers i n (sym (get_set_other o.nums index i value other) ∙ here))
             (cases_eq i index);
       }
@@ -126,18 +126,20 @@ module _ (c : Config) (top heap : ℕ → ℕ) (block : Plot) (object : Name →
   objects_stored a refs nums at value name o piece from_start to_end is = record {
     each = λ b more_refs more_nums n there. ⊎_elim
         (λ same.
-          let pieces : Some (thing n more_refs more_nums) ≡ Some (thing name refs nums) = sym there ∙ ap block same ∙ piece in
-          let name_is : n ≡ name = cc in
-          let refs_are : more_refs ≡ refs = cc in
-          let nums_are : more_nums ≡ nums = cc in
-          (o, cond-true (same_name n name) (Some o) (object n) (ap (λ m. same_name m name) name_is ∙ same_as_itself name), rw (same, name_is, refs_are, nums_are) is))
+        let pieces : Some (thing n more_refs more_nums) ≡ Some (thing name refs nums) = sym there ∙ ap block same ∙ piece in
+        let name_is : n ≡ name = cc in
+        let refs_are : more_refs ≡ refs = cc in
+        let nums_are : more_nums ≡ nums = cc in
+        (o, cond-true (same_name n name) (Some o) (object n) (ap (λ m. same_name m name) name_is ∙ same_as_itself name), rw (same, name_is, refs_are, nums_are) is))
         (λ other.
-          let before = are.each b more_refs more_nums n there in
-          let other_name : n ≢ name = λ same. other (are.once b a more_refs more_nums refs nums name (there ∙ ap (λ m. Some (thing m more_refs more_nums)) same) piece) in
-          (before.0, cond-false (same_name n name) (Some o) (object n) (two_names n name other_name) ∙ before.1,
-            object_kept heap (stored_word heap at value) block b more_refs more_nums n before.0
-                (λ word low high. old_word heap at value word (λ same. other (one_piece c top block plotted b a word (thing n more_refs more_nums) (thing name refs nums) there piece low high (omega arith) (omega arith))))
-                before.2))
+        let before = are.each b more_refs more_nums n there in
+        let other_name : n ≢ name = λ same. other (are.once b a more_refs more_nums refs nums name (there ∙ ap (λ m. Some (thing m more_refs more_nums)) same) piece) in (
+          before.0,
+          cond-false (same_name n name) (Some o) (object n) (two_names n name other_name) ∙ before.1,
+          object_kept heap (stored_word heap at value) block b more_refs more_nums n before.0
+              (λ word low high. old_word heap at value word (λ same. other (one_piece c top block plotted b a word (thing n more_refs more_nums) (thing name refs nums) there piece low high (omega arith) (omega arith))))
+              before.2,
+        ))
         (cases_eq b a);
     all = λ n x there. are.all n (object_before object name (are.each a refs nums name piece).0 o (are.each a refs nums name piece).1 n x there).0
         (object_before object name (are.each a refs nums name piece).0 o (are.each a refs nums name piece).1 n x there).1;
@@ -161,9 +163,9 @@ module _ (c : Config) (u : World) (a refs nums at value : ℕ) (name : Name) (o 
     filled = shared.filled;
     objects = objects_stored c (λ r. u.memory (Top r)) (λ b. u.memory (Heap b)) u.block u.graph.object shared.plotted shared.objects a refs nums at value name o piece from_start to_end is;
     given = λ n x there.
-      let was = shared.objects.each a refs nums name piece in
-      let before = object_before u.graph.object name was.0 o was.1 n x there in
-      shared.given n before.0 before.1;
+        let was = shared.objects.each a refs nums name piece in
+        let before = object_before u.graph.object name was.0 o was.1 n x there in
+        shared.given n before.0 before.1;
     calm = shared.calm;
     free_word = shared.free_word;
     currents = shared.currents;
@@ -180,9 +182,9 @@ module _ (c : Config) (u : World) (a refs nums at value : ℕ) (name : Name) (o 
     hands = λ b words is. is;
     no_hands = λ b words is. is;
     hand_words = λ b words k is below. old_word (λ b. u.memory (Heap b)) at value (b + k) (λ same.
-      let same_piece : b ≡ a = one_piece c (λ r. u.memory (Top r)) u.block shared.plotted b a (b + k) (hand seat words) (thing name refs nums) is piece (omega arith) (omega arith) (omega arith) (omega arith) in
-      let both : Some (hand seat words) ≡ Some (thing name refs nums) = sym is ∙ ap u.block same_piece ∙ piece in
-      cc);
+        let same_piece : b ≡ a = one_piece c (λ r. u.memory (Top r)) u.block shared.plotted b a (b + k) (hand seat words) (thing name refs nums) is piece (omega arith) (omega arith) (omega arith) (omega arith) in
+        let both : Some (hand seat words) ≡ Some (thing name refs nums) = sym is ∙ ap u.block same_piece ∙ piece in
+        cc);
     current = refl;
     owners = λ r is. is;
     tops = λ r is. refl;

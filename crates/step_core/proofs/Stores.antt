@@ -1,35 +1,215 @@
 -- The steps that store into an object.
-use Rattle.std.proofs.Common.{◌≡◌, ℕ, ◌+◌, ◌<◌, true, Option, refl, sym, ap, ◌∙◌, arith}
+use Rattle.std.proofs.Common.{◌≡◌, ◌≢◌, ℕ, ◌+◌, ◌<◌, ◌≤◌, Bool, true, false, Option, Some, None, ⊎_elim, refl, sym, ap, ◌∙◌, subst, arith}
+use Rattle.std.specs.Prelude.{◌==◌, ◌&&◌, if◌then◌else◌, slice_get, slice_set}
+use Rattle.std.proofs.lemmas.Bool.{cases_Bool, ne_eqb, cond-false}
 use Rattle.std.proofs.lemmas.Bool.Decides.{nat_tests}
 use Rattle.heap_words.specs.declared.config.Config.{Config}
+use Rattle.heap_words.specs.Words.{Root, Top, Heap, is_word, write}
+use Rattle.steps_base.specs.Touch.{touched}
+use Rattle.shen_graph.specs.declared.name.Name.{Name}
 use Rattle.shen_graph.specs.declared.command.Command.{Command}
+use Rattle.shen_graph.specs.declared.command.Command.TheVariants.{Set, Cas, Xchg, Wr}
 use Rattle.shen_graph.specs.declared.command.Reply.{Reply}
-use Rattle.alloc_buffers.specs.declared.spot.TakeSpot.{TakeSpot}
+use Rattle.shen_graph.specs.declared.command.Reply.TheVariants as reply
+use Rattle.shen_graph.specs.Graph.{Reference, Object, Graph, same_reference, field_at, number_at, with_root}
+use Rattle.shen_graph.specs.Step.{outcome, answers, shown}
+use Rattle.shen_graph.specs.History.{is_full}
 use Rattle.mutator.specs.declared.spot.Spot.{Spot}
-use Rattle.mutator.specs.declared.spot.Spot.TheVariants.{StoreField, SwapField, ExchangeField, StoreNumber}
+use Rattle.mutator.specs.declared.spot.Spot.TheVariants.{StoreField, SwapField, ExchangeField, StoreNumber, Leave}
 use Rattle.mutator.specs.declared.spot.Order.{Order}
 use Rattle.mutator.specs.declared.spot.Order.TheVariants.{Nothing, Begin}
-use Rattle.mutator.specs.Rows.{Mutating}
-use Rattle.step_core.specs.World.{World}
-use Rattle.step_core.specs.Stepped.{Row}
-use Rattle.step_core.proofs.Spots.{mutator_at, accessed}
+use Rattle.mutator.specs.Rows.{Mutating, touch_of, next_of, given_at, after_field}
+use Rattle.mutator.specs.Told.{told_of}
+use Rattle.step_core.specs.World.{World, thing, hand, Points, Target, IsObject, Shared}
+use Rattle.step_core.specs.Stepped.{Mine, Stepped, Row}
+use Rattle.step_core.proofs.Calls.{leave_ready}
+use Rattle.step_core.proofs.Naming.{object_in, field_in, number_in, same_words, shown_is}
+use Rattle.step_core.proofs.Pointing.{named_thing, none_at_0, piece_word}
+use Rattle.step_core.proofs.Objects.{stored_word, field_stored, number_stored, stored, changed, shared_stored, rely_stored}
+use Rattle.step_core.proofs.Settling.{legal_answer, graph_answer}
+use Rattle.step_core.proofs.Spots.{mutator_at}
+use Rattle.step_core.proofs.Loading.{load_keeps, rely_same, roots_then}
+
+-- an object with another reference in a field, and with another number
+abbrev with_reference : Object → ℕ → Reference → Object
+with_reference o field r = record { refs = slice_set o.refs field r; nums = o.nums }
+
+abbrev with_value : Object → ℕ → ℕ → Object
+with_value o index n = record { refs = o.refs; nums = slice_set o.nums index n }
+
+-- what a command that stores into an object answers and makes of the graph, where its root names an object that has the field or number
+module _ (g : Graph) (t obj : ℕ) (name : Name) (o : Object) (root_is : g.root t obj ≡ Some name) (object_is : g.object name ≡ Some o) where
+  set_outcome : (field val : ℕ) (v : Reference) → field_at g t obj field ≡ Some v
+      → outcome g t (Set obj field val) ≡ answers reply.Ok (changed g name (with_reference o field (g.root t val)) g.root)
+  set_outcome field val v is = rw (is, root_is, object_is) refl
+
+  xchg_outcome : (dst field val : ℕ) (v : Reference) → field_at g t obj field ≡ Some v
+      → outcome g t (Xchg dst obj field val) ≡ answers (shown v) (with_root (changed g name (with_reference o field (g.root t val)) g.root) t dst v)
+  xchg_outcome dst field val v is = rw (is, root_is, object_is) refl
+
+  cas_outcome : (field expect val : ℕ) (v : Reference) → field_at g t obj field ≡ Some v → same_reference v (g.root t expect) ≡ true
+      → outcome g t (Cas obj field expect val) ≡ answers reply.Yes (changed g name (with_reference o field (g.root t val)) g.root)
+  cas_outcome field expect val v is same = rw (is, same, root_is, object_is) refl
+
+  wr_outcome : (index value n : ℕ) → number_at g t obj index ≡ Some n
+      → outcome g t (Wr obj index value) ≡ answers reply.Ok (changed g name (with_value o index value) g.root)
+  wr_outcome index value n is = rw (is, root_is, object_is) refl
+
+-- A step that stores into an object and settles a reply. The object of its name is another then, the one that its words
+-- say, and roots of the mutator may be others.
+module _ (c : Config) (u : World) (m : Mutating) (object refs nums at value : ℕ) (name : Name) (o : Object) (root : ℕ → ℕ → Reference) (command : Command) (fixed : Option Reply) (r : Reply) where
+  store_settles : touched u.memory (touch_of c m) ≡ write u.memory (Heap at) value → told_of u.memory m ≡ Some r → given_at m.spot ≡ None → fixed ≡ None → is_full r ≡ false
+      → Shared c u → Target u.block object name refs nums → object ≤ at → at < object + (3 + refs + nums)
+      → IsObject (stored_word (λ a. u.memory (Heap a)) at value) u.block object refs nums name o
+      → outcome u.graph (m.seat + 1) command ≡ answers r (changed u.graph name o root)
+      → ((seat i : ℕ) → seat ≢ m.seat → root (seat + 1) i ≡ u.graph.root (seat + 1) i)
+      → Mine c (stored u at value (changed u.graph name o root)) (next_of c m Nothing (u.memory (touch_of c m).word)) command (Some r)
+      → Stepped c u m command Nothing fixed
+  store_settles memory told given unsettled other shared target from_start to_end is answered roots mine = record {
+    world = stored u at value (changed u.graph name o root);
+    memory = sym memory;
+    graph = rw told (sym (graph_answer u.graph m.seat command r other ∙ ap (λ x. x.graph) answered));
+    legal = rw told (legal_answer u.graph m.seat command r other (ap (λ x. x.reply) answered));
+    settles = λ q e. (unsettled, given);
+    shared = shared_stored c u object refs nums at value name o root shared target from_start to_end is;
+    mine = rw told mine;
+    others = λ j d. rely_stored c u object refs nums at value name o root shared target from_start to_end j (λ i. roots j i d);
+  }
+
+-- what a mutator counts on that has a root's new value in hand, which it found in a field
+found_mine : (c : Config) (w : World) (seat made phase cset got dst : ℕ) (v : Reference) (command : Command) → Shared c w
+    → seat < c.mutators → w.graph.count (seat + 1) ≡ made → dst < 16 → Points w.block got v
+    → ((i : ℕ) → i < 16 → Points w.block (if i == dst then got else w.memory (Root seat i)) (w.graph.root (seat + 1) i))
+    → ((a words : ℕ) → w.block a ≡ Some (hand seat words) → ⊥)
+    → Mine c w (mutator_at seat made phase cset (after_field dst got)) command (Some (shown v))
+found_mine c w seat made phase cset got dst None command shared below is_made small points roots hands =
+    subst (λ (x : ℕ). ((i : ℕ) → i < 16 → Points w.block (if i == dst then x else w.memory (Root seat i)) (w.graph.root (seat + 1) i)) → Mine c w (mutator_at seat made phase cset (after_field dst x)) command (Some reply.Null))
+    (sym points)
+    (λ at_null. record { seat = below; ready = grind (arith, nat_tests); made = is_made; roots = at_null; hands = hands; facts = (refl, small) })
+    roots
+found_mine c w seat made phase cset got dst (Some n) command shared below is_made small points roots hands =
+    let piece = named_thing (w.block got) n points in
+    let other : (got == 0) ≡ false = ne_eqb got 0 (λ is. absurd (none_at_0 c (λ r. w.memory (Top r)) w.block shared.plotted (thing n piece.0 piece.1) (ap w.block (sym is) ∙ piece.2))) in
+    let word : is_word c (Heap (got + 2)) ≡ true = piece_word c (λ r. w.memory (Top r)) w.block shared.plotted got 2 (thing n piece.0 piece.1) piece.2 (omega arith) in
+    rw other (record {
+      seat = below;
+      ready = grind (arith, nat_tests);
+      made = is_made;
+      roots = roots;
+      hands = hands;
+      facts = record { name = n; settled = refl; is = points; small = small };
+    })
+
+-- a reply that shows a reference is not that of a heap that is full
+never_full : (r : Reference) → is_full (shown r) ≡ false
+never_full None = refl
+never_full (Some n) = refl
 
 module _ (c : Config) (u : World) (seat made phase cset : ℕ) (command : Command) (fixed : Option Reply) where
   abbrev at_spot : Spot → Mutating
   at_spot spot = mutator_at seat made phase cset spot
 
+  -- after its reply a mutator has only to leave
+  leaving : (w : World) (r : Reply) → seat < c.mutators → w.graph.count (seat + 1) ≡ made
+      → ((i : ℕ) → i < 16 → Points w.block (w.memory (Root seat i)) (w.graph.root (seat + 1) i)) → ((a words : ℕ) → w.block a ≡ Some (hand seat words) → ⊥)
+      → Mine c w (at_spot (Leave r)) command (Some r)
+  leaving w r below is_made roots hands = record { seat = below; ready = leave_ready c seat made r below; made = is_made; roots = roots; hands = hands; facts = refl }
+
   pub at_store_field : (object field value : ℕ) (order : Order) → Row c u (at_spot (StoreField object field value)) command order fixed
   at_store_field object field value (Begin l) shared mine takes = cc
-  at_store_field object field value Nothing shared mine takes = ?
+  at_store_field object field value Nothing shared mine takes =
+      let is = mine.facts.1 in
+      let before = object_in c u shared seat is.obj object is.of in
+      let v = field_in c u shared seat is.obj object field is.of is.below in
+      let r = u.graph.root (seat + 1) is.val in
+      let o = with_reference before.0 field r in
+      let answered : outcome u.graph (seat + 1) command ≡ answers reply.Ok (changed u.graph is.of.name o u.graph.root) =
+      ap (λ k. outcome u.graph (seat + 1) k) is.is ∙ set_outcome u.graph (seat + 1) is.obj is.of.name before.0 is.of.root_is before.1 field is.val v.0 v.1 in
+      store_settles c u (at_spot (StoreField object field value)) object is.of.refs is.of.nums (object + 3 + field) value is.of.name o u.graph.root command fixed reply.Ok
+      refl refl refl mine.facts.0 refl shared is.of.target (omega arith) (omega (arith, is.below))
+      (field_stored (λ a. u.memory (Heap a)) u.block object is.of.refs is.of.nums is.of.name before.0 before.2 field value r is.below is.value_is)
+      answered (λ j i d. refl)
+      (leaving (stored u (object + 3 + field) value (changed u.graph is.of.name o u.graph.root)) reply.Ok mine.seat mine.made mine.roots mine.hands)
 
   pub at_swap_field : (object field value dst : ℕ) (order : Order) → Row c u (at_spot (SwapField object field value dst)) command order fixed
   at_swap_field object field value dst (Begin l) shared mine takes = cc
-  at_swap_field object field value dst Nothing shared mine takes = ?
+  at_swap_field object field value dst Nothing shared mine takes =
+      let is = mine.facts.1 in
+      let before = object_in c u shared seat is.obj object is.of in
+      let v = field_in c u shared seat is.obj object field is.of is.below in
+      let r = u.graph.root (seat + 1) is.val in
+      let o = with_reference before.0 field r in
+      let root = (with_root u.graph (seat + 1) dst v.0).root in
+      let got = u.memory (Heap (object + 3 + field)) in
+      let answered : outcome u.graph (seat + 1) command ≡ answers (shown v.0) (changed u.graph is.of.name o root) =
+      ap (λ k. outcome u.graph (seat + 1) k) is.is ∙ xchg_outcome u.graph (seat + 1) is.obj is.of.name before.0 is.of.root_is before.1 dst field is.val v.0 v.1 in
+      let kept = field_stored (λ a. u.memory (Heap a)) u.block object is.of.refs is.of.nums is.of.name before.0 before.2 field value r is.below is.value_is in
+      let w = stored u (object + 3 + field) value (changed u.graph is.of.name o root) in
+      store_settles c u (at_spot (SwapField object field value dst)) object is.of.refs is.of.nums (object + 3 + field) value is.of.name o root command fixed (shown v.0)
+      refl (ap (λ x. Some x) (shown_is c u shared got v.0 v.2)) refl mine.facts.0 (never_full v.0) shared is.of.target (omega arith) (omega (arith, is.below)) kept
+      answered (λ j i d. cond-false ((j + 1 == seat + 1) && (i == dst)) v.0 (u.graph.root (j + 1) i) (grind (arith, nat_tests)))
+      (found_mine c w seat made phase cset got dst v.0 command
+      (shared_stored c u object is.of.refs is.of.nums (object + 3 + field) value is.of.name o root shared is.of.target (omega arith) (omega (arith, is.below)) kept)
+      mine.seat mine.made is.small v.2
+      (roots_then u.block (λ i. u.memory (Root seat i)) u.graph.root (seat + 1) dst got v.0 mine.roots v.2) mine.hands)
+
+  -- the field has the word that was found in it: it changes
+  exchange_done : (object field found expect value : ℕ) → (u.memory (Heap (object + 3 + field)) == found) ≡ true → Row c u (at_spot (ExchangeField object field found expect value)) command Nothing fixed
+  exchange_done object field found expect value same shared mine takes =
+      let is = mine.facts.1 in
+      let before = object_in c u shared seat is.obj object is.of in
+      let v = field_in c u shared seat is.obj object field is.of is.below in
+      let r = u.graph.root (seat + 1) is.val in
+      let o = with_reference before.0 field r in
+      let expected : same_reference v.0 (u.graph.root (seat + 1) is.expected) ≡ true =
+      sym (same_words c u shared (u.memory (Heap (object + 3 + field))) expect v.0 (u.graph.root (seat + 1) is.expected) v.2 is.expect_is)
+      ∙ ap (λ x. u.memory (Heap (object + 3 + field)) == x) (sym mine.facts.2) ∙ same in
+      let answered : outcome u.graph (seat + 1) command ≡ answers reply.Yes (changed u.graph is.of.name o u.graph.root) =
+      ap (λ k. outcome u.graph (seat + 1) k) is.is ∙ cas_outcome u.graph (seat + 1) is.obj is.of.name before.0 is.of.root_is before.1 field is.expected is.val v.0 v.1 expected in
+      store_settles c u (at_spot (ExchangeField object field found expect value)) object is.of.refs is.of.nums (object + 3 + field) value is.of.name o u.graph.root command fixed reply.Yes
+      (rw same refl) (rw same refl) refl mine.facts.0 refl shared is.of.target (omega arith) (omega (arith, is.below))
+      (field_stored (λ a. u.memory (Heap a)) u.block object is.of.refs is.of.nums is.of.name before.0 before.2 field value r is.below is.value_is)
+      answered (λ j i d. refl)
+      (rw same (leaving (stored u (object + 3 + field) value (changed u.graph is.of.name o u.graph.root)) reply.Yes mine.seat mine.made mine.roots mine.hands))
+
+  -- it has another: nothing changes, and the field is loaded again
+  exchange_again : (object field found expect value : ℕ) → (u.memory (Heap (object + 3 + field)) == found) ≡ false → Row c u (at_spot (ExchangeField object field found expect value)) command Nothing fixed
+  exchange_again object field found expect value other shared mine takes = record {
+    world = u;
+    memory = rw other (load_keeps u.memory (Heap (object + 3 + field)));
+    graph = rw other refl;
+    legal = rw other tt;
+    settles = λ q e. (mine.facts.0, refl);
+    shared = shared;
+    mine = rw other (record {
+      seat = mine.seat;
+      ready = let ready = mine.ready in grind (arith, nat_tests);
+      made = mine.made;
+      roots = mine.roots;
+      hands = mine.hands;
+      facts = (mine.facts.0, mine.facts.1);
+    });
+    others = λ j d. rely_same j u;
+  }
 
   pub at_exchange_field : (object field found expect value : ℕ) (order : Order) → Row c u (at_spot (ExchangeField object field found expect value)) command order fixed
   at_exchange_field object field found expect value (Begin l) shared mine takes = cc
-  at_exchange_field object field found expect value Nothing shared mine takes = ?
+  at_exchange_field object field found expect value Nothing shared mine takes = ⊎_elim
+      (λ same. exchange_done object field found expect value same shared mine takes)
+      (λ other. exchange_again object field found expect value other shared mine takes)
+      (cases_Bool (u.memory (Heap (object + 3 + field)) == found))
 
   pub at_store_number : (object refs index value : ℕ) (order : Order) → Row c u (at_spot (StoreNumber object refs index value)) command order fixed
   at_store_number object refs index value (Begin l) shared mine takes = cc
-  at_store_number object refs index value Nothing shared mine takes = ?
+  at_store_number object refs index value Nothing shared mine takes =
+      let is = mine.facts.1 in
+      let before = object_in c u shared seat is.obj object is.of in
+      let o = with_value before.0 index value in
+      let answered : outcome u.graph (seat + 1) command ≡ answers reply.Ok (changed u.graph is.of.name o u.graph.root) =
+      ap (λ k. outcome u.graph (seat + 1) k) is.is ∙ wr_outcome u.graph (seat + 1) is.obj is.of.name before.0 is.of.root_is before.1 index value _ (number_in c u shared seat is.obj object index is.of is.below) in
+      store_settles c u (at_spot (StoreNumber object refs index value)) object is.of.refs is.of.nums (object + 3 + refs + index) value is.of.name o u.graph.root command fixed reply.Ok
+      refl refl refl mine.facts.0 refl shared is.of.target (omega arith) (omega (arith, is.below, is.refs_are))
+      (subst (λ (x : ℕ). IsObject (stored_word (λ a. u.memory (Heap a)) (object + 3 + x + index) value) u.block object is.of.refs is.of.nums is.of.name o) (sym is.refs_are)
+      (number_stored (λ a. u.memory (Heap a)) u.block object is.of.refs is.of.nums is.of.name before.0 before.2 index value is.below))
+      answered (λ j i d. refl)
+      (leaving (stored u (object + 3 + refs + index) value (changed u.graph is.of.name o u.graph.root)) reply.Ok mine.seat mine.made mine.roots mine.hands)
