@@ -4,6 +4,7 @@ pub mod Pointing
 pub mod Apart
 pub mod Objects
 pub mod Naming
+pub mod Loading
 pub mod Spots
 mod Calls
 mod Loads

@@ -5,7 +5,7 @@ use Rattle.std.proofs.lemmas.Bool.{cases_Bool, cases_eq, cases_lt, eq-eqb, ne_eq
 use Rattle.std.proofs.lemmas.Bool.Decides.{nat_tests}
 use Rattle.std.proofs.lemmas.Option.{same_Some, none-some, slice_get-get_or, slice_get_past}
 use Rattle.heap_words.specs.declared.config.Config.{Config}
-use Rattle.heap_words.specs.Words.{Word, Heap}
+use Rattle.heap_words.specs.Words.{Word, Heap, is_word}
 use Rattle.heap_words.specs.Encoding.{shape_word, refs_in, nums_in, name_code}
 use Rattle.shen_graph.specs.declared.name.Name.{Name}
 use Rattle.shen_graph.specs.declared.command.Command.{Command}
@@ -19,7 +19,7 @@ use Rattle.mutator.specs.Rows.{root_of, is_on_object, has_part, name_in}
 use Rattle.mutator.specs.Told.{name_of_object, name_the_same, shown_word}
 use Rattle.step_core.specs.World.{World, Plot, thing, name_at, Points, IsObject, IsGiven, Shared}
 use Rattle.step_core.specs.Stepped.{HasObject}
-use Rattle.step_core.proofs.Pointing.{named_thing, null_if_0}
+use Rattle.step_core.proofs.Pointing.{named_thing, piece_word, null_if_0}
 
 -- a name is its thread and its count
 pub same_parts : (m n : Name) → m.thread ≡ n.thread → m.count ≡ n.count → m ≡ n
@@ -124,6 +124,10 @@ module _ (c : Config) (u : World) (shared : Shared c u) where
       let o = object_in seat root object has in
       let there : slice_get o.0.nums index ≡ Some (get_or o.0.nums index 0) = slice_get-get_or o.0.nums index 0 (let long = o.2.nums_are in omega arith) in
       ap (λ x. slice_get x.nums index) (named_object u.graph (seat + 1) root has.name o.0 has.root_is o.1) ∙ there ∙ ap (λ n. Some n) (sym (o.2.numbers index _ there))
+
+  -- the words of an object in hand are words of the heap
+  pub word_in : (seat root object at k : ℕ) (has : HasObject u seat root object) → k < 3 + has.refs + has.nums → at ≡ object + k → is_word c (Heap at) ≡ true
+  word_in seat root object at k has below is = ap (λ a. is_word c (Heap a)) is ∙ piece_word c _ u.block shared.plotted object k (thing has.name has.refs has.nums) has.target below
 
   -- there is no field and no number past the last
   pub no_field_in : (seat root object field : ℕ) (has : HasObject u seat root object) → has.refs ≤ field → field_at u.graph (seat + 1) root field ≡ None
