@@ -1,6 +1,6 @@
 -- The steps that store into an object.
-use Rattle.std.proofs.Common.{◌≡◌, ◌≢◌, ℕ, ◌+◌, ◌<◌, ◌≤◌, Bool, true, false, Option, Some, None, ⊎_elim, refl, sym, ap, ◌∙◌, subst, arith}
-use Rattle.std.specs.Prelude.{◌==◌, ◌&&◌, if◌then◌else◌, slice_get, slice_set}
+use Rattle.std.proofs.Common.{◌≡◌, ◌≢◌, ℕ, ◌+◌, ◌<◌, ◌≤◌, true, false, Option, Some, None, ⊎_elim, refl, sym, ap, ◌∙◌, subst, arith}
+use Rattle.std.specs.Prelude.{◌==◌, ◌&&◌, if◌then◌else◌, slice_set}
 use Rattle.std.proofs.lemmas.Bool.{cases_Bool, ne_eqb, cond-false}
 use Rattle.std.proofs.lemmas.Bool.Decides.{nat_tests}
 use Rattle.heap_words.specs.declared.config.Config.{Config}
@@ -21,7 +21,7 @@ use Rattle.mutator.specs.declared.spot.Order.TheVariants.{Nothing, Begin}
 use Rattle.mutator.specs.Rows.{Mutating, touch_of, next_of, given_at, after_field}
 use Rattle.mutator.specs.Told.{told_of}
 use Rattle.step_core.specs.World.{World, thing, hand, Points, Target, IsObject, Shared}
-use Rattle.step_core.specs.Stepped.{Mine, Stepped, Row}
+use Rattle.step_core.specs.Stepped.{HasObject, Mine, Stepped, Row}
 use Rattle.step_core.proofs.Calls.{leave_ready}
 use Rattle.step_core.proofs.Naming.{object_in, field_in, number_in, same_words, shown_is}
 use Rattle.step_core.proofs.Pointing.{named_thing, none_at_0, piece_word}
@@ -76,6 +76,29 @@ module _ (c : Config) (u : World) (m : Mutating) (object refs nums at value : �
     others = λ j d. rely_stored c u object refs nums at value name o root shared target from_start to_end j (λ i. roots j i d);
   }
 
+-- A step that makes a reference field of an object in hand that of a root of the mutator.
+module _ (c : Config) (u : World) (m : Mutating) (object field value obj val : ℕ) (shared : Shared c u) (of : HasObject u m.seat obj object) (below : field < of.refs) (value_is : Points u.block value (u.graph.root (m.seat + 1) val)) (root : ℕ → ℕ → Reference) where
+  abbrev object_then : Object
+  object_then = with_reference (object_in c u shared m.seat obj object of).0 field (u.graph.root (m.seat + 1) val)
+
+  abbrev world_then : World
+  world_then = stored u (object + 3 + field) value (changed u.graph of.name object_then root)
+
+  object_stands : IsObject (stored_word (λ a. u.memory (Heap a)) (object + 3 + field) value) u.block object of.refs of.nums of.name object_then
+  object_stands = field_stored (λ a. u.memory (Heap a)) u.block object of.refs of.nums of.name _ (object_in c u shared m.seat obj object of).2 field value (u.graph.root (m.seat + 1) val) below value_is
+
+  shared_then : Shared c world_then
+  shared_then = shared_stored c u object of.refs of.nums (object + 3 + field) value of.name object_then root shared of.target (omega arith) (omega arith) object_stands
+
+  field_settles : (command : Command) (fixed : Option Reply) (r : Reply)
+      → touched u.memory (touch_of c m) ≡ write u.memory (Heap (object + 3 + field)) value → told_of u.memory m ≡ Some r → given_at m.spot ≡ None → fixed ≡ None → is_full r ≡ false
+      → outcome u.graph (m.seat + 1) command ≡ answers r (changed u.graph of.name object_then root)
+      → ((seat i : ℕ) → seat ≢ m.seat → root (seat + 1) i ≡ u.graph.root (seat + 1) i)
+      → Mine c world_then (next_of c m Nothing (u.memory (touch_of c m).word)) command (Some r)
+      → Stepped c u m command Nothing fixed
+  field_settles command fixed r memory told given unsettled other answered roots mine =
+      store_settles c u m object of.refs of.nums (object + 3 + field) value of.name object_then root command fixed r memory told given unsettled other shared of.target (omega arith) (omega arith) object_stands answered roots mine
+
 -- what a mutator counts on that has a root's new value in hand, which it found in a field
 found_mine : (c : Config) (w : World) (seat made phase cset got dst : ℕ) (v : Reference) (command : Command) → Shared c w
     → seat < c.mutators → w.graph.count (seat + 1) ≡ made → dst < 16 → Points w.block got v
@@ -119,58 +142,42 @@ module _ (c : Config) (u : World) (seat made phase cset : ℕ) (command : Comman
   at_store_field object field value (Begin l) shared mine takes = cc
   at_store_field object field value Nothing shared mine takes =
       let is = mine.facts.1 in
-      let before = object_in c u shared seat is.obj object is.of in
+      let o = object_in c u shared seat is.obj object is.of in
       let v = field_in c u shared seat is.obj object field is.of is.below in
-      let r = u.graph.root (seat + 1) is.val in
-      let o = with_reference before.0 field r in
-      let answered : outcome u.graph (seat + 1) command ≡ answers reply.Ok (changed u.graph is.of.name o u.graph.root) =
-      ap (λ k. outcome u.graph (seat + 1) k) is.is ∙ set_outcome u.graph (seat + 1) is.obj is.of.name before.0 is.of.root_is before.1 field is.val v.0 v.1 in
-      store_settles c u (at_spot (StoreField object field value)) object is.of.refs is.of.nums (object + 3 + field) value is.of.name o u.graph.root command fixed reply.Ok
-      refl refl refl mine.facts.0 refl shared is.of.target (omega arith) (omega (arith, is.below))
-      (field_stored (λ a. u.memory (Heap a)) u.block object is.of.refs is.of.nums is.of.name before.0 before.2 field value r is.below is.value_is)
-      answered (λ j i d. refl)
-      (leaving (stored u (object + 3 + field) value (changed u.graph is.of.name o u.graph.root)) reply.Ok mine.seat mine.made mine.roots mine.hands)
+      let answered = set_outcome u.graph (seat + 1) is.obj is.of.name o.0 is.of.root_is o.1 field is.val v.0 v.1 in
+      field_settles c u (at_spot (StoreField object field value)) object field value is.obj is.val shared is.of is.below is.value_is u.graph.root command fixed reply.Ok
+      refl refl refl mine.facts.0 refl (ap (λ k. outcome u.graph (seat + 1) k) is.is ∙ answered) (λ j i d. refl)
+      (leaving _ reply.Ok mine.seat mine.made mine.roots mine.hands)
 
   pub at_swap_field : (object field value dst : ℕ) (order : Order) → Row c u (at_spot (SwapField object field value dst)) command order fixed
   at_swap_field object field value dst (Begin l) shared mine takes = cc
   at_swap_field object field value dst Nothing shared mine takes =
       let is = mine.facts.1 in
-      let before = object_in c u shared seat is.obj object is.of in
+      let o = object_in c u shared seat is.obj object is.of in
       let v = field_in c u shared seat is.obj object field is.of is.below in
-      let r = u.graph.root (seat + 1) is.val in
-      let o = with_reference before.0 field r in
       let root = (with_root u.graph (seat + 1) dst v.0).root in
       let got = u.memory (Heap (object + 3 + field)) in
-      let answered : outcome u.graph (seat + 1) command ≡ answers (shown v.0) (changed u.graph is.of.name o root) =
-      ap (λ k. outcome u.graph (seat + 1) k) is.is ∙ xchg_outcome u.graph (seat + 1) is.obj is.of.name before.0 is.of.root_is before.1 dst field is.val v.0 v.1 in
-      let kept = field_stored (λ a. u.memory (Heap a)) u.block object is.of.refs is.of.nums is.of.name before.0 before.2 field value r is.below is.value_is in
-      let w = stored u (object + 3 + field) value (changed u.graph is.of.name o root) in
-      store_settles c u (at_spot (SwapField object field value dst)) object is.of.refs is.of.nums (object + 3 + field) value is.of.name o root command fixed (shown v.0)
-      refl (ap (λ x. Some x) (shown_is c u shared got v.0 v.2)) refl mine.facts.0 (never_full v.0) shared is.of.target (omega arith) (omega (arith, is.below)) kept
-      answered (λ j i d. cond-false ((j + 1 == seat + 1) && (i == dst)) v.0 (u.graph.root (j + 1) i) (grind (arith, nat_tests)))
-      (found_mine c w seat made phase cset got dst v.0 command
-      (shared_stored c u object is.of.refs is.of.nums (object + 3 + field) value is.of.name o root shared is.of.target (omega arith) (omega (arith, is.below)) kept)
-      mine.seat mine.made is.small v.2
-      (roots_then u.block (λ i. u.memory (Root seat i)) u.graph.root (seat + 1) dst got v.0 mine.roots v.2) mine.hands)
+      let answered = xchg_outcome u.graph (seat + 1) is.obj is.of.name o.0 is.of.root_is o.1 dst field is.val v.0 v.1 in
+      field_settles c u (at_spot (SwapField object field value dst)) object field value is.obj is.val shared is.of is.below is.value_is root command fixed (shown v.0)
+      refl (ap (λ x. Some x) (shown_is c u shared got v.0 v.2)) refl mine.facts.0 (never_full v.0) (ap (λ k. outcome u.graph (seat + 1) k) is.is ∙ answered)
+      (λ j i d. cond-false ((j + 1 == seat + 1) && (i == dst)) v.0 (u.graph.root (j + 1) i) (grind (arith, nat_tests)))
+      (found_mine c _ seat made phase cset got dst v.0 command
+      (shared_then c u (at_spot (SwapField object field value dst)) object field value is.obj is.val shared is.of is.below is.value_is root)
+      mine.seat mine.made is.small v.2 (roots_then u.block (λ i. u.memory (Root seat i)) u.graph.root (seat + 1) dst got v.0 mine.roots v.2) mine.hands)
 
   -- the field has the word that was found in it: it changes
   exchange_done : (object field found expect value : ℕ) → (u.memory (Heap (object + 3 + field)) == found) ≡ true → Row c u (at_spot (ExchangeField object field found expect value)) command Nothing fixed
   exchange_done object field found expect value same shared mine takes =
       let is = mine.facts.1 in
-      let before = object_in c u shared seat is.obj object is.of in
+      let o = object_in c u shared seat is.obj object is.of in
       let v = field_in c u shared seat is.obj object field is.of is.below in
-      let r = u.graph.root (seat + 1) is.val in
-      let o = with_reference before.0 field r in
-      let expected : same_reference v.0 (u.graph.root (seat + 1) is.expected) ≡ true =
-      sym (same_words c u shared (u.memory (Heap (object + 3 + field))) expect v.0 (u.graph.root (seat + 1) is.expected) v.2 is.expect_is)
-      ∙ ap (λ x. u.memory (Heap (object + 3 + field)) == x) (sym mine.facts.2) ∙ same in
-      let answered : outcome u.graph (seat + 1) command ≡ answers reply.Yes (changed u.graph is.of.name o u.graph.root) =
-      ap (λ k. outcome u.graph (seat + 1) k) is.is ∙ cas_outcome u.graph (seat + 1) is.obj is.of.name before.0 is.of.root_is before.1 field is.expected is.val v.0 v.1 expected in
-      store_settles c u (at_spot (ExchangeField object field found expect value)) object is.of.refs is.of.nums (object + 3 + field) value is.of.name o u.graph.root command fixed reply.Yes
-      (rw same refl) (rw same refl) refl mine.facts.0 refl shared is.of.target (omega arith) (omega (arith, is.below))
-      (field_stored (λ a. u.memory (Heap a)) u.block object is.of.refs is.of.nums is.of.name before.0 before.2 field value r is.below is.value_is)
-      answered (λ j i d. refl)
-      (rw same (leaving (stored u (object + 3 + field) value (changed u.graph is.of.name o u.graph.root)) reply.Yes mine.seat mine.made mine.roots mine.hands))
+      let got = u.memory (Heap (object + 3 + field)) in
+      let expected : (got == expect) ≡ true = ap (λ x. got == x) (sym mine.facts.2) ∙ same in
+      let references : same_reference v.0 (u.graph.root (seat + 1) is.expected) ≡ true = sym (same_words c u shared got expect v.0 _ v.2 is.expect_is) ∙ expected in
+      let answered = cas_outcome u.graph (seat + 1) is.obj is.of.name o.0 is.of.root_is o.1 field is.expected is.val v.0 v.1 references in
+      field_settles c u (at_spot (ExchangeField object field found expect value)) object field value is.obj is.val shared is.of is.below is.value_is u.graph.root command fixed reply.Yes
+      (rw same refl) (rw same refl) refl mine.facts.0 refl (ap (λ k. outcome u.graph (seat + 1) k) is.is ∙ answered) (λ j i d. refl)
+      (rw same (leaving _ reply.Yes mine.seat mine.made mine.roots mine.hands))
 
   -- it has another: nothing changes, and the field is loaded again
   exchange_again : (object field found expect value : ℕ) → (u.memory (Heap (object + 3 + field)) == found) ≡ false → Row c u (at_spot (ExchangeField object field found expect value)) command Nothing fixed
@@ -203,13 +210,12 @@ module _ (c : Config) (u : World) (seat made phase cset : ℕ) (command : Comman
   at_store_number object refs index value (Begin l) shared mine takes = cc
   at_store_number object refs index value Nothing shared mine takes =
       let is = mine.facts.1 in
-      let before = object_in c u shared seat is.obj object is.of in
-      let o = with_value before.0 index value in
-      let answered : outcome u.graph (seat + 1) command ≡ answers reply.Ok (changed u.graph is.of.name o u.graph.root) =
-      ap (λ k. outcome u.graph (seat + 1) k) is.is ∙ wr_outcome u.graph (seat + 1) is.obj is.of.name before.0 is.of.root_is before.1 index value _ (number_in c u shared seat is.obj object index is.of is.below) in
-      store_settles c u (at_spot (StoreNumber object refs index value)) object is.of.refs is.of.nums (object + 3 + refs + index) value is.of.name o u.graph.root command fixed reply.Ok
+      let o = object_in c u shared seat is.obj object is.of in
+      let at = object + 3 + refs + index in
+      let stands = number_stored (λ a. u.memory (Heap a)) u.block object is.of.refs is.of.nums is.of.name o.0 o.2 index value is.below in
+      let answered = wr_outcome u.graph (seat + 1) is.obj is.of.name o.0 is.of.root_is o.1 index value _ (number_in c u shared seat is.obj object index is.of is.below) in
+      store_settles c u (at_spot (StoreNumber object refs index value)) object is.of.refs is.of.nums at value is.of.name (with_value o.0 index value) u.graph.root command fixed reply.Ok
       refl refl refl mine.facts.0 refl shared is.of.target (omega arith) (omega (arith, is.below, is.refs_are))
-      (subst (λ (x : ℕ). IsObject (stored_word (λ a. u.memory (Heap a)) (object + 3 + x + index) value) u.block object is.of.refs is.of.nums is.of.name o) (sym is.refs_are)
-      (number_stored (λ a. u.memory (Heap a)) u.block object is.of.refs is.of.nums is.of.name before.0 before.2 index value is.below))
-      answered (λ j i d. refl)
-      (leaving (stored u (object + 3 + refs + index) value (changed u.graph is.of.name o u.graph.root)) reply.Ok mine.seat mine.made mine.roots mine.hands)
+      (subst (λ (x : ℕ). IsObject (stored_word (λ a. u.memory (Heap a)) (object + 3 + x + index) value) u.block object is.of.refs is.of.nums is.of.name (with_value o.0 index value)) (sym is.refs_are) stands)
+      (ap (λ k. outcome u.graph (seat + 1) k) is.is ∙ answered) (λ j i d. refl)
+      (leaving _ reply.Ok mine.seat mine.made mine.roots mine.hands)
