@@ -5,6 +5,7 @@ pub mod Apart
 pub mod Objects
 pub mod Naming
 pub mod Loading
+pub mod InHand
 pub mod Spots
 mod Calls
 mod Loads

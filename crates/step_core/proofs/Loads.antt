@@ -1,18 +1,16 @@
 -- The steps by which a call loads its command's roots and the shape of its object.
-use Rattle.std.proofs.Common.{◌≡◌, ◌≢◌, ℕ, zero, suc, ◌+◌, ◌<◌, ◌≤◌, inl, inr, ⊎_elim, Bool, true, false, length, Option, Some, None, refl, sym, ap, ◌∙◌, subst, arith}
-use Rattle.std.specs.Prelude.{◌==◌, ◌&&◌, nat_lt, if◌then◌else◌}
+use Rattle.std.proofs.Common.{◌≡◌, ℕ, zero, suc, ◌+◌, ◌<◌, inl, inr, ⊎_elim, Bool, true, false, length, Option, Some, None, refl, sym, ap, ◌∙◌, arith}
+use Rattle.std.specs.Prelude.{◌==◌}
 use Rattle.std.proofs.lemmas.Bool.{and_parts, cases_Bool, cond-true, cond-false, eq-eqb, eqb-true, ltb-true}
 use Rattle.std.proofs.lemmas.Bool.Decides.{nat_tests}
 use Rattle.heap_words.specs.declared.config.Config.{Config}
 use Rattle.heap_words.specs.Words.{Cset, Root, Heap}
 use Rattle.steps_base.specs.Fits.{is_number}
 use Rattle.heap_words.specs.Encoding.{refs_in, nums_in}
-use Rattle.shen_graph.specs.declared.name.Name.{Name}
 use Rattle.shen_graph.specs.declared.command.Command.{Command}
 use Rattle.shen_graph.specs.declared.command.Command.TheVariants.{New, Get, Set, Cas, Xchg, Rd, Wr, Copy, Drop, Same, Gc}
 use Rattle.shen_graph.specs.declared.command.Reply.{Reply}
 use Rattle.shen_graph.specs.declared.command.Reply.TheVariants as reply
-use Rattle.shen_graph.specs.Graph.{same_reference}
 use Rattle.shen_graph.specs.Step.{yes_or_no, answers, outcome}
 use Rattle.shen_graph.specs.History.{is_full}
 use Rattle.mutator.specs.declared.spot.Spot.{Spot}
@@ -20,14 +18,13 @@ use Rattle.mutator.specs.declared.spot.Spot.TheVariants.{LoadSet, LoadRoot, Load
 use Rattle.mutator.specs.declared.spot.Order.{Order}
 use Rattle.mutator.specs.declared.spot.Order.TheVariants.{Nothing, Begin}
 use Rattle.mutator.specs.Orders.{is_next}
-use Rattle.mutator.specs.Rows.{Mutating, roots_of, root_of, is_on_object, lacks_object, has_part, first_spot, after_roots, after_first, after_second, after_root, with_part, after_shape}
+use Rattle.mutator.specs.Rows.{Mutating, roots_of, root_of, is_on_object, lacks_object, has_part, first_spot, after_first, with_part}
 use Rattle.mutator.specs.Told.{name_the_same}
-use Rattle.mutator.specs.Fit.{is_ready}
-use Rattle.step_core.specs.World.{World, Points, Target, Shared}
-use Rattle.step_core.specs.Stepped.{HasRoot, IsBegun, HasObject, HasFirst, HasRoots, SpotFacts, Mine, Stepped, Row}
+use Rattle.step_core.specs.World.{World, Points, Shared}
+use Rattle.step_core.specs.Stepped.{HasRoot, HasObject, HasFirst, HasRoots, Mine, Stepped, Row}
 use Rattle.step_core.proofs.Spots.{mutator_at}
 use Rattle.step_core.proofs.Calls.{leave_ready}
-use Rattle.step_core.proofs.Pointing.{named_thing, piece_word, named_if_not_0, null_if_0, points_small}
+use Rattle.step_core.proofs.Pointing.{named_thing, named_if_not_0, null_if_0, points_small}
 use Rattle.step_core.proofs.Naming.{same_words, names_agree, word_in, shape_in, bad_on_null, bad_on_shape}
 use Rattle.step_core.proofs.Loading.{looks, replies, ready_of, number_small}
 

@@ -1,23 +1,22 @@
 -- Words that stand for references, and the names and numbers of the objects that they lead to.
-use Rattle.std.proofs.Common.{◌≡◌, ◌≢◌, ℕ, ◌+◌, ◌<◌, ◌≤◌, ⊎_elim, Bool, true, false, get_or, Option, Some, None, refl, sym, ap, ◌∙◌, subst, arith}
-use Rattle.std.specs.Prelude.{◌==◌, ◌||◌, ◌^◌, slice_get, if◌then◌else◌}
-use Rattle.std.proofs.lemmas.Bool.{cases_Bool, cases_eq, cases_lt, eq-eqb, ne_eqb, cond-true, cond-false, eqb-true, ltb-false}
+use Rattle.std.proofs.Common.{◌≡◌, ◌≢◌, ℕ, ◌+◌, ◌<◌, ◌≤◌, ⊎_elim, true, false, get_or, Some, None, refl, sym, ap, ◌∙◌, arith}
+use Rattle.std.specs.Prelude.{◌==◌, ◌||◌, ◌^◌, slice_get}
+use Rattle.std.proofs.lemmas.Bool.{cases_Bool, cases_eq, eq-eqb, ne_eqb, cond-true, cond-false, ltb-false}
 use Rattle.std.proofs.lemmas.Bool.Decides.{nat_tests}
 use Rattle.std.proofs.lemmas.Option.{same_Some, none-some, slice_get-get_or, slice_get_past}
 use Rattle.heap_words.specs.declared.config.Config.{Config}
-use Rattle.heap_words.specs.Words.{Word, Heap, is_word}
+use Rattle.heap_words.specs.Words.{Heap, is_word}
 use Rattle.heap_words.specs.Encoding.{shape_word, refs_in, nums_in, name_code}
 use Rattle.shen_graph.specs.declared.name.Name.{Name}
 use Rattle.shen_graph.specs.declared.command.Command.{Command}
-use Rattle.shen_graph.specs.declared.command.Command.TheVariants.{New, Get, Set, Cas, Xchg, Rd, Wr, Copy, Drop, Same, Gc}
-use Rattle.shen_graph.specs.declared.command.Reply.{Reply}
+use Rattle.shen_graph.specs.declared.command.Command.TheVariants.{Get, Set, Cas, Xchg, Rd, Wr}
 use Rattle.shen_graph.specs.declared.command.Reply.TheVariants as reply
 use Rattle.shen_graph.specs.Graph.{Reference, Object, Graph, same_name, same_reference, named, field_at, number_at}
 use Rattle.shen_graph.specs.Step.{shown, answers, outcome}
 use Rattle.shen_graph.proofs.PlainLemmas.{same_name-true, same_name-itself}
 use Rattle.mutator.specs.Rows.{root_of, is_on_object, has_part, name_in}
-use Rattle.mutator.specs.Told.{name_of_object, name_the_same, shown_word}
-use Rattle.step_core.specs.World.{World, Plot, thing, name_at, Points, IsObject, IsGiven, Shared}
+use Rattle.mutator.specs.Told.{name_the_same, shown_word}
+use Rattle.step_core.specs.World.{World, thing, name_at, Points, IsObject, Shared}
 use Rattle.step_core.specs.Stepped.{HasObject}
 use Rattle.step_core.proofs.Pointing.{named_thing, piece_word, null_if_0}
 
