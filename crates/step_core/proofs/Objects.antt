@@ -1,40 +1,32 @@
 -- A word of an object changes, and the graph's object with it.
-use Rattle.std.proofs.Common.{◌≡◌, ◌≢◌, ℕ, ◌+◌, ◌<◌, ◌≤◌, true, false, List, length, Option, Some, ⊎_elim, refl, sym, ap, ◌∙◌, arith}
+use Rattle.std.proofs.Common.{◌≡◌, ◌≢◌, ℕ, ◌+◌, ◌<◌, ◌≤◌, false, List, length, Option, Some, ⊎_elim, refl, sym, ap, ◌∙◌, arith}
 use Rattle.std.specs.Prelude.{◌==◌, if◌then◌else◌, slice_get, slice_set}
 use Rattle.std.proofs.lemmas.Bool.{cases_Bool, cases_eq, cond-true, cond-false, eq-eqb, ne_eqb}
-use Rattle.std.proofs.lemmas.Bool.Decides.{nat_tests}
-use Rattle.std.proofs.lemmas.Grind.{common_steps}
-use Rattle.std.proofs.lemmas.List.{length-set, get_or-set_same}
-use Rattle.std.proofs.lemmas.Option.{gets, same_Some, slice_get_within, slice_get_read}
+use Rattle.std.proofs.lemmas.List.{length-set}
+use Rattle.std.proofs.lemmas.Option.{same_Some, slice_get_within, slice_get-get_or}
 use Rattle.heap_words.specs.declared.config.Config.{Config}
 use Rattle.heap_words.specs.Words.{Heap, Top, write}
+use Rattle.steps_base.proofs.Places.{slice_get-set_same, slice_get-set_other}
 use Rattle.shen_graph.specs.declared.name.Name.{Name}
 use Rattle.shen_graph.specs.Graph.{Reference, Object, Graph, same_name}
+use Rattle.shen_graph.proofs.PlainLemmas.{same_name-true, same_name-itself}
 use Rattle.step_core.specs.World.{World, thing, hand, Plot, Points, Target, IsPlotted, IsObject, AreObjects, Shared}
 use Rattle.step_core.specs.Stepped.{Rely}
 use Rattle.step_core.proofs.Apart.{one_piece}
 
--- an element that was set, and another
+-- an element that was set
 get_set_same : {X : Type 0} (xs : List X) (i : ℕ) (x : X) → i < length xs → slice_get (slice_set xs i x) i ≡ Some x
-get_set_same xs i x below = slice_get_read (slice_set xs i x) (length xs) i x (sym (length-set xs i x)) below (sym (get_or-set_same xs i x x below))
+get_set_same xs i x below = slice_get-set_same xs i _ x (slice_get-get_or xs i x below)
 
-get_set_other : {X : Type 0} (xs : List X) (i j : ℕ) (x : X) → j ≢ i → slice_get (slice_set xs i x) j ≡ slice_get xs j
-get_set_other xs i j x other = grind (arith, common_steps, gets)
-
--- equal names, by the test
-one_name : (a b : Name) → same_name a b ≡ true → a ≡ b
-one_name a b is = grind (arith, nat_tests)
-
-same_as_itself : (a : Name) → same_name a a ≡ true
-same_as_itself a = grind (arith, nat_tests)
-
+-- the test on two names
 two_names : (a b : Name) → a ≢ b → same_name a b ≡ false
-two_names a b other = ⊎_elim (λ is. absurd (other (one_name a b is))) (λ is. is) (cases_Bool (same_name a b))
+two_names a b other = ⊎_elim (λ is. absurd (other (same_name-true a b is))) (λ is. is) (cases_Bool (same_name a b))
 
 -- a heap in which one word is another
 abbrev pub stored_word : (ℕ → ℕ) → ℕ → ℕ → ℕ → ℕ
 stored_word heap at value a = if at == a then value else heap a
 
+-- what it has at that word, and at another
 new_word : (heap : ℕ → ℕ) (at value a : ℕ) → a ≡ at → stored_word heap at value a ≡ value
 new_word heap at value a is = cond-true (at == a) value (heap a) (eq-eqb at a (sym is))
 
@@ -78,7 +70,7 @@ module _ (heap : ℕ → ℕ) (block : Plot) (a refs nums : ℕ) (name : Name) (
             rw (word_is, reference_is) points)
             (λ other.
             let word_is : stored_word heap (a + 3 + field) value (a + 3 + i) ≡ heap (a + 3 + i) = old (a + 3 + i) (λ same. other (omega arith)) in
-            rw word_is (is.references i q (sym (get_set_other o.refs field i r other) ∙ here)))
+            rw word_is (is.references i q (sym (slice_get-set_other o.refs field i r other) ∙ here)))
             (cases_eq i field);
         numbers = λ i n here. old (a + 3 + refs + i) (omega arith) ∙ is.numbers i n here;
       }
@@ -103,7 +95,7 @@ module _ (heap : ℕ → ℕ) (block : Plot) (a refs nums : ℕ) (name : Name) (
             (λ same.
             let is_here : slice_get (slice_set o.nums index value) i ≡ Some value = ap (λ j. slice_get (slice_set o.nums index value) j) same ∙ get_set_same o.nums index value (omega (arith, is.nums_are)) in
             new_word heap (a + 3 + refs + index) value (a + 3 + refs + i) (omega (arith, same)) ∙ same_Some value n (sym is_here ∙ here))
-            (λ other. old (a + 3 + refs + i) (λ same. other (omega arith)) ∙ is.numbers i n (sym (get_set_other o.nums index i value other) ∙ here))
+            (λ other. old (a + 3 + refs + i) (λ same. other (omega arith)) ∙ is.numbers i n (sym (slice_get-set_other o.nums index i value other) ∙ here))
             (cases_eq i index);
       }
 
@@ -111,15 +103,15 @@ module _ (heap : ℕ → ℕ) (block : Plot) (a refs nums : ℕ) (name : Name) (
 abbrev pub where_object : (Name → Option Object) → Name → Object → Name → Option Object
 where_object object name o n = if same_name n name then Some o else object n
 
--- there is an object of a name afterwards if there was one before, for the one that changes is one of them
+-- there is an object of a name afterwards only if there was one before, for the one that changes is one of them
 pub object_before : (object : Name → Option Object) (name : Name) (before o : Object) → object name ≡ Some before → (n : Name) (x : Object) → where_object object name o n ≡ Some x
     → (y : Object) × (object n ≡ Some y)
 object_before object name before o was n x is = ⊎_elim
-    (λ same. (before, ap object (one_name n name same) ∙ was))
+    (λ same. (before, ap object (same_name-true n name same) ∙ was))
     (λ other. (x, sym (cond-false (same_name n name) (Some o) (object n) other) ∙ is))
     (cases_Bool (same_name n name))
 
--- one word of an object's fields or numbers is another: the object is that of its words, and all others are as before
+-- One word of an object is another: the graph's object is the one that its words say, and all others are as before.
 module _ (c : Config) (top heap : ℕ → ℕ) (block : Plot) (object : Name → Option Object) (plotted : IsPlotted c top block) (are : AreObjects heap block object) where
   pub objects_stored : (a refs nums at value : ℕ) (name : Name) (o : Object) → block a ≡ Some (thing name refs nums) → a ≤ at → at < a + (3 + refs + nums)
       → IsObject (stored_word heap at value) block a refs nums name o → AreObjects (stored_word heap at value) block (where_object object name o)
@@ -130,7 +122,7 @@ module _ (c : Config) (top heap : ℕ → ℕ) (block : Plot) (object : Name →
         let name_is : n ≡ name = cc in
         let refs_are : more_refs ≡ refs = cc in
         let nums_are : more_nums ≡ nums = cc in
-        (o, cond-true (same_name n name) (Some o) (object n) (ap (λ m. same_name m name) name_is ∙ same_as_itself name), rw (same, name_is, refs_are, nums_are) is))
+        (o, cond-true (same_name n name) (Some o) (object n) (ap (λ m. same_name m name) name_is ∙ same_name-itself name), rw (same, name_is, refs_are, nums_are) is))
         (λ other.
         let before = are.each b more_refs more_nums n there in
         let other_name : n ≢ name = λ same. other (are.once b a more_refs more_nums refs nums name (there ∙ ap (λ m. Some (thing m more_refs more_nums)) same) piece) in (

@@ -1,10 +1,10 @@
 -- The steps that store into an object.
 use Rattle.std.proofs.Common.{◌≡◌, ◌≢◌, ℕ, ◌+◌, ◌<◌, ◌≤◌, true, false, Option, Some, None, ⊎_elim, refl, sym, ap, ◌∙◌, subst, arith}
-use Rattle.std.specs.Prelude.{◌==◌, ◌&&◌, if◌then◌else◌, slice_set}
-use Rattle.std.proofs.lemmas.Bool.{cases_Bool, ne_eqb, cond-false}
+use Rattle.std.specs.Prelude.{◌==◌, ◌&&◌, slice_set}
+use Rattle.std.proofs.lemmas.Bool.{cases_Bool, cond-false}
 use Rattle.std.proofs.lemmas.Bool.Decides.{nat_tests}
 use Rattle.heap_words.specs.declared.config.Config.{Config}
-use Rattle.heap_words.specs.Words.{Root, Top, Heap, is_word, write}
+use Rattle.heap_words.specs.Words.{Root, Heap, write}
 use Rattle.steps_base.specs.Touch.{touched}
 use Rattle.shen_graph.specs.declared.name.Name.{Name}
 use Rattle.shen_graph.specs.declared.command.Command.{Command}
@@ -18,16 +18,16 @@ use Rattle.mutator.specs.declared.spot.Spot.{Spot}
 use Rattle.mutator.specs.declared.spot.Spot.TheVariants.{StoreField, SwapField, ExchangeField, StoreNumber, Leave}
 use Rattle.mutator.specs.declared.spot.Order.{Order}
 use Rattle.mutator.specs.declared.spot.Order.TheVariants.{Nothing, Begin}
-use Rattle.mutator.specs.Rows.{Mutating, touch_of, next_of, given_at, after_field}
+use Rattle.mutator.specs.Rows.{Mutating, touch_of, next_of, given_at}
 use Rattle.mutator.specs.Told.{told_of}
-use Rattle.step_core.specs.World.{World, thing, hand, Points, Target, IsObject, Shared}
+use Rattle.step_core.specs.World.{World, hand, Points, Target, IsObject, Shared}
 use Rattle.step_core.specs.Stepped.{HasObject, Mine, Stepped, Row}
 use Rattle.step_core.proofs.Calls.{leave_ready}
 use Rattle.step_core.proofs.Naming.{object_in, field_in, number_in, same_words, shown_is}
-use Rattle.step_core.proofs.Pointing.{named_thing, none_at_0, piece_word}
 use Rattle.step_core.proofs.Objects.{stored_word, field_stored, number_stored, stored, changed, shared_stored, rely_stored}
 use Rattle.step_core.proofs.Settling.{legal_answer, graph_answer}
 use Rattle.step_core.proofs.Spots.{mutator_at}
+use Rattle.step_core.proofs.InHand.{shown_not_full, field_mine}
 use Rattle.step_core.proofs.Loading.{load_keeps, rely_same, roots_then}
 
 -- an object with another reference in a field, and with another number
@@ -37,7 +37,8 @@ with_reference o field r = record { refs = slice_set o.refs field r; nums = o.nu
 abbrev with_value : Object → ℕ → ℕ → Object
 with_value o index n = record { refs = o.refs; nums = slice_set o.nums index n }
 
--- what a command that stores into an object answers and makes of the graph, where its root names an object that has the field or number
+-- what a command that stores into an object answers and makes of the graph, where its root names an object that has the
+-- field or the number
 module _ (g : Graph) (t obj : ℕ) (name : Name) (o : Object) (root_is : g.root t obj ≡ Some name) (object_is : g.object name ≡ Some o) where
   set_outcome : (field val : ℕ) (v : Reference) → field_at g t obj field ≡ Some v
       → outcome g t (Set obj field val) ≡ answers reply.Ok (changed g name (with_reference o field (g.root t val)) g.root)
@@ -99,35 +100,6 @@ module _ (c : Config) (u : World) (m : Mutating) (object field value obj val : �
   field_settles command fixed r memory told given unsettled other answered roots mine =
       store_settles c u m object of.refs of.nums (object + 3 + field) value of.name object_then root command fixed r memory told given unsettled other shared of.target (omega arith) (omega arith) object_stands answered roots mine
 
--- what a mutator counts on that has a root's new value in hand, which it found in a field
-found_mine : (c : Config) (w : World) (seat made phase cset got dst : ℕ) (v : Reference) (command : Command) → Shared c w
-    → seat < c.mutators → w.graph.count (seat + 1) ≡ made → dst < 16 → Points w.block got v
-    → ((i : ℕ) → i < 16 → Points w.block (if i == dst then got else w.memory (Root seat i)) (w.graph.root (seat + 1) i))
-    → ((a words : ℕ) → w.block a ≡ Some (hand seat words) → ⊥)
-    → Mine c w (mutator_at seat made phase cset (after_field dst got)) command (Some (shown v))
-found_mine c w seat made phase cset got dst None command shared below is_made small points roots hands =
-    subst (λ (x : ℕ). ((i : ℕ) → i < 16 → Points w.block (if i == dst then x else w.memory (Root seat i)) (w.graph.root (seat + 1) i)) → Mine c w (mutator_at seat made phase cset (after_field dst x)) command (Some reply.Null))
-    (sym points)
-    (λ at_null. record { seat = below; ready = grind (arith, nat_tests); made = is_made; roots = at_null; hands = hands; facts = (refl, small) })
-    roots
-found_mine c w seat made phase cset got dst (Some n) command shared below is_made small points roots hands =
-    let piece = named_thing (w.block got) n points in
-    let other : (got == 0) ≡ false = ne_eqb got 0 (λ is. absurd (none_at_0 c (λ r. w.memory (Top r)) w.block shared.plotted (thing n piece.0 piece.1) (ap w.block (sym is) ∙ piece.2))) in
-    let word : is_word c (Heap (got + 2)) ≡ true = piece_word c (λ r. w.memory (Top r)) w.block shared.plotted got 2 (thing n piece.0 piece.1) piece.2 (omega arith) in
-    rw other (record {
-      seat = below;
-      ready = grind (arith, nat_tests);
-      made = is_made;
-      roots = roots;
-      hands = hands;
-      facts = record { name = n; settled = refl; is = points; small = small };
-    })
-
--- a reply that shows a reference is not that of a heap that is full
-never_full : (r : Reference) → is_full (shown r) ≡ false
-never_full None = refl
-never_full (Some n) = refl
-
 module _ (c : Config) (u : World) (seat made phase cset : ℕ) (command : Command) (fixed : Option Reply) where
   abbrev at_spot : Spot → Mutating
   at_spot spot = mutator_at seat made phase cset spot
@@ -159,11 +131,11 @@ module _ (c : Config) (u : World) (seat made phase cset : ℕ) (command : Comman
       let got = u.memory (Heap (object + 3 + field)) in
       let answered = xchg_outcome u.graph (seat + 1) is.obj is.of.name o.0 is.of.root_is o.1 dst field is.val v.0 v.1 in
       field_settles c u (at_spot (SwapField object field value dst)) object field value is.obj is.val shared is.of is.below is.value_is root command fixed (shown v.0)
-      refl (ap (λ x. Some x) (shown_is c u shared got v.0 v.2)) refl mine.facts.0 (never_full v.0) (ap (λ k. outcome u.graph (seat + 1) k) is.is ∙ answered)
+      refl (ap (λ x. Some x) (shown_is c u shared got v.0 v.2)) refl mine.facts.0 (shown_not_full v.0) (ap (λ k. outcome u.graph (seat + 1) k) is.is ∙ answered)
       (λ j i d. cond-false ((j + 1 == seat + 1) && (i == dst)) v.0 (u.graph.root (j + 1) i) (grind (arith, nat_tests)))
-      (found_mine c _ seat made phase cset got dst v.0 command
+      (field_mine c _ seat made phase cset command dst got v.0
       (shared_then c u (at_spot (SwapField object field value dst)) object field value is.obj is.val shared is.of is.below is.value_is root)
-      mine.seat mine.made is.small v.2 (roots_then u.block (λ i. u.memory (Root seat i)) u.graph.root (seat + 1) dst got v.0 mine.roots v.2) mine.hands)
+      mine.seat mine.made is.small (roots_then u.block (λ i. u.memory (Root seat i)) u.graph.root (seat + 1) dst got v.0 mine.roots v.2) mine.hands v.2)
 
   -- the field has the word that was found in it: it changes
   exchange_done : (object field found expect value : ℕ) → (u.memory (Heap (object + 3 + field)) == found) ≡ true → Row c u (at_spot (ExchangeField object field found expect value)) command Nothing fixed
