@@ -19,7 +19,7 @@ get_set_same : {X : Type 0} (xs : List X) (i : ℕ) (x : X) → i < length xs �
 get_set_same xs i x below = slice_get-set_same xs i _ x (slice_get-get_or xs i x below)
 
 -- the test on two names
-two_names : (a b : Name) → a ≢ b → same_name a b ≡ false
+pub two_names : (a b : Name) → a ≢ b → same_name a b ≡ false
 two_names a b other = ⊎_elim (λ is. absurd (other (same_name-true a b is))) (λ is. is) (cases_Bool (same_name a b))
 
 -- a heap in which one word is another
@@ -27,10 +27,10 @@ abbrev pub stored_word : (ℕ → ℕ) → ℕ → ℕ → ℕ → ℕ
 stored_word heap at value a = if at == a then value else heap a
 
 -- what it has at that word, and at another
-new_word : (heap : ℕ → ℕ) (at value a : ℕ) → a ≡ at → stored_word heap at value a ≡ value
+pub new_word : (heap : ℕ → ℕ) (at value a : ℕ) → a ≡ at → stored_word heap at value a ≡ value
 new_word heap at value a is = cond-true (at == a) value (heap a) (eq-eqb at a (sym is))
 
-old_word : (heap : ℕ → ℕ) (at value a : ℕ) → a ≢ at → stored_word heap at value a ≡ heap a
+pub old_word : (heap : ℕ → ℕ) (at value a : ℕ) → a ≢ at → stored_word heap at value a ≡ heap a
 old_word heap at value a other = cond-false (at == a) value (heap a) (ne_eqb at a (λ same. other (sym same)))
 
 -- an object reads as before where its words are as before
