@@ -1,6 +1,8 @@
 pub mod Stable
 pub mod Settling
 pub mod Pointing
+pub mod Apart
+pub mod Objects
 pub mod Naming
 pub mod Loading
 pub mod InHand
