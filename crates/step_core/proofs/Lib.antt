@@ -1,6 +1,7 @@
 pub mod Stable
 pub mod Settling
 pub mod Pointing
+pub mod Apart
 pub mod Spots
 mod Calls
 mod Loads
