@@ -8,6 +8,10 @@ mod Loads
 mod Fields
 mod RootStores
 mod Stores
+mod Pieces
+mod NewPiece
+mod NewObject
+mod Ready
 mod Takes
 mod Fresh
 pub mod Places
