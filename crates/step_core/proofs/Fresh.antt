@@ -54,9 +54,103 @@ module _ (c : Config) (u : World) (seat made phase cset : ℕ) (command : Comman
   abbrev at_spot : Spot → Mutating
   at_spot spot = mutator_at seat made phase cset spot
 
+  module _ (dst refs nums address done : ℕ) (shared : Shared c u) (mine : Mine c u (at_spot (StoreWord dst refs nums address done)) command fixed) where
+    abbrev stored_world : World
+    stored_world = accessed c u (at_spot (StoreWord dst refs nums address done))
+
+    -- the words of other pieces stay
+    else_stays : (a k : ℕ) (b : Block) → u.block a ≡ Some b → a ≢ address → k < words_of b → stored_world.memory (Heap (a + k)) ≡ u.memory (Heap (a + k))
+    else_stays a k b is other below =
+        cond-false ((address + done) == (a + k)) _ _
+        (ne_eqb (address + done) (a + k)
+        (λ e. far c (λ r. u.memory (Top r)) u.block shared.plotted a address k done b (hand seat (3 + refs + nums)) is mine.facts.1.room other below mine.facts.2 (sym e)))
+
+    shared_stored : Shared c stored_world
+    shared_stored = record {
+      plotted = shared.plotted;
+      filled = shared.filled;
+      objects = record {
+        each = λ a more_refs more_nums n is.
+            let o = shared.objects.each a more_refs more_nums n is in
+            let other : a ≢ address = λ same. (let clash : Some (thing n more_refs more_nums) ≡ Some (hand seat (3 + refs + nums)) = sym is ∙ ap u.block same ∙ mine.facts.1.room in cc) in
+            (o.0, o.1, object_reads (λ b. u.memory (Heap b)) (λ b. stored_world.memory (Heap b)) u.block u.block a more_refs more_nums n o.0 (λ k below. else_stays a k (thing n more_refs more_nums) is other below) (λ b m e. e) o.2);
+        all = shared.objects.all;
+        once = shared.objects.once;
+      };
+      given = shared.given;
+      calm = shared.calm;
+      free_word = shared.free_word;
+      currents = shared.currents;
+      rooms = shared.rooms;
+      unasked = shared.unasked;
+    }
+
+    -- one word more of the new object stands in the room
+    filling : IsFilling stored_world seat made refs nums address (done + 1)
+    filling = record {
+      room = mine.facts.1.room;
+      within = (let less = mine.facts.2 in omega arith);
+      stored = λ k below. ⊎_elim
+          (λ (same : k ≡ done).
+          cond-true ((address + done) == (address + k)) _ _ (eq-eqb (address + done) (address + k) (omega (arith, same)))
+          ∙ ap (λ n. fresh_word seat made refs nums n) (sym same))
+          (λ (other : k ≢ done).
+          cond-false ((address + done) == (address + k)) _ _ (ne_eqb (address + done) (address + k) (λ e. other (omega (arith, e))))
+          ∙ mine.facts.1.stored k (omega (arith, below, other)))
+          (cases_eq k done);
+    }
+
+    mine_stored : (b : Bool) → nat_lt (done + 1) (3 + refs + nums) ≡ b
+        → Mine c stored_world (at_spot (if b then StoreWord dst refs nums address (done + 1) else StoreFresh dst refs nums address)) command fixed
+    mine_stored true more = record {
+      seat = mine.seat;
+      ready = word_ready c seat made command fixed dst refs nums mine.facts.0 (λ r. u.memory (Top r)) u.block shared.plotted address mine.facts.1.room mine.seat (done + 1) (ltb-true _ _ more);
+      made = mine.made;
+      roots = mine.roots;
+      hands = mine.hands;
+      facts = (mine.facts.0, filling, ltb-true _ _ more);
+    }
+    mine_stored false all = record {
+      seat = mine.seat;
+      ready = fresh_ready c seat made command fixed dst refs nums mine.facts.0 (λ r. u.memory (Top r)) u.block shared.plotted address mine.facts.1.room mine.seat;
+      made = mine.made;
+      roots = mine.roots;
+      hands = mine.hands;
+      facts = (
+        mine.facts.0,
+        subst (λ n. IsFilling stored_world seat made refs nums address n) (let most = ltb-false _ _ all in let less = mine.facts.2 in omega (arith, most, less)) filling,
+      );
+    }
+
+    others_stored : (j : ℕ) → j ≢ seat → Rely j u stored_world
+    others_stored j differs = record {
+      names = λ a n is. is;
+      things = λ a more_refs more_nums n is. is;
+      hands = λ a words is. is;
+      no_hands = λ a words is. is;
+      hand_words = λ a words k is below.
+          let other : a ≢ address = λ same. (let clash : Some (hand j words) ≡ Some (hand seat (3 + refs + nums)) = sym is ∙ ap u.block same ∙ mine.facts.1.room in let seats : j ≡ seat = cc in differs seats) in
+          else_stays a k (hand j words) is other below;
+      current = refl;
+      owners = λ r is. is;
+      tops = λ r is. refl;
+      root_words = λ i. refl;
+      roots = λ i. refl;
+      count = refl;
+    }
+
   pub at_store_word : (dst refs nums address done : ℕ) (order : Order) → Row c u (at_spot (StoreWord dst refs nums address done)) command order fixed
   at_store_word dst refs nums address done (Begin l) shared mine takes = cc
-  at_store_word dst refs nums address done Nothing shared mine takes = ?
+  at_store_word dst refs nums address done Nothing shared mine takes = record {
+    world = stored_world dst refs nums address done shared mine;
+    memory = refl;
+    graph = refl;
+    legal = tt;
+    settles = λ r e. cc;
+    shared = shared_stored dst refs nums address done shared mine;
+    mine = mine_stored dst refs nums address done shared mine (nat_lt (done + 1) (3 + refs + nums)) refl;
+    others = others_stored dst refs nums address done shared mine;
+  }
 
   module _ (dst refs nums address : ℕ) (shared : Shared c u) (mine : Mine c u (at_spot (StoreFresh dst refs nums address)) command fixed) where
     abbrev top : ℕ → ℕ
