@@ -12,6 +12,7 @@ mod Pieces
 mod NewPiece
 mod NewObject
 mod Ready
+mod FreeRegions
 mod Takes
 mod Fresh
 pub mod Places

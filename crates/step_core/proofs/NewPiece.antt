@@ -162,6 +162,13 @@ module _ (c : Config) (top current : ℕ → ℕ) (block : Plot) (region at word
       (λ (old : (a ≢ address) × (block a ≡ Some (hand other more))). old.1)
       (either a (hand other more) is)
 
+  -- room in the seat's own hand is the new piece, where it had none
+  pub own_hand : ((a more : ℕ) → block a ≡ Some (hand seat more) → ⊥) → (a more : ℕ) → new_block a ≡ Some (hand seat more) → (a ≡ address) × (more ≡ words)
+  own_hand none a more is = ⊎_elim
+      (λ (new : (a ≡ address) × (hand seat words ≡ hand seat more)). let same = new.1 in let sizes : more ≡ words = cc in (new.0, sizes))
+      (λ (old : (a ≢ address) × (block a ≡ Some (hand seat more))). absurd (none a more old.1))
+      (either a (hand seat more) is)
+
   pub objects_more : (heap : ℕ → ℕ) (object : Name → Option Object) → AreObjects heap block object → AreObjects heap new_block object
   objects_more heap object objects = record {
     each = λ a refs nums name is.
