@@ -1,9 +1,9 @@
 -- The free word: its lowest region, and a region that is taken out of it.
-use Rattle.std.proofs.Common.{◌≡◌, ◌≢◌, ℕ, ◌+◌, ◌*◌, ◌/◌, ◌%◌, ◌^◌, ◌<◌, ◌≤◌, ◌⊎◌, true, false, Option, Some, None, ⊎_elim, refl, sym, ap, ◌∙◌, subst, arith, w64, pow_mono}
-use Rattle.std.specs.Prelude.{◌==◌, if◌then◌else◌, bit_and, nat_le}
+use Rattle.std.proofs.Common.{◌≡◌, ◌≢◌, ℕ, ◌/◌, ◌%◌, ◌^◌, ◌<◌, ◌≤◌, Option, Some, None, ⊎_elim, refl, sym, ap, ◌∙◌, subst, arith, w64, pow_mono}
+use Rattle.std.specs.Prelude.{◌==◌, if◌then◌else◌, bit_and}
 use Rattle.std.specs.Int.{bit_at}
 use Rattle.std.proofs.Math.Nat.{div-eq_of_lt}
-use Rattle.std.proofs.lemmas.Bool.{cases_eq, cases_lt, cond-true, cond-false, eq-eqb, ne_eqb}
+use Rattle.std.proofs.lemmas.Bool.{cases_lt, cond-true, cond-false, eq-eqb, ne_eqb}
 use Rattle.std.proofs.lemmas.Option.{none-some}
 use Rattle.std.proofs.lemmas.Nat.{and_le_l}
 use Rattle.std.proofs.lemmas.Nat.Bits.{bit_at_clear_same, bit_at_clear_other}
@@ -52,8 +52,12 @@ pub free_without : (c : Config) (free region : ℕ) (top : ℕ → ℕ) (owner a
 free_without c free region top owner after within others free_word =
     let few = c.in_range.most_regions in
     let old : (r : ℕ) → r < c.regions → IsIn (bit_and free (all_but region)) r → (r ≢ region) × IsIn free r = λ r inside bit.
-        let other : r ≢ region = λ same. (let gone = bit_at_clear_same w64 free region (omega (arith, within, few)) in let here : bit_at (bit_and free (all_but region)) region ≡ 1 = subst (λ k. bit_at (bit_and free (all_but region)) k ≡ 1) same bit in omega (arith, gone, here)) in
-        (other, sym (bit_at_clear_other w64 free region (omega (arith, within, few)) r (omega (arith, inside, few)) other) ∙ bit)
+    let other : r ≢ region = λ same.
+    let gone = bit_at_clear_same w64 free region (omega (arith, within, few)) in
+    let here : bit_at (bit_and free (all_but region)) region ≡ 1 = subst (λ k. bit_at (bit_and free (all_but region)) k ≡ 1) same bit in
+    omega (arith, gone, here)
+    in
+    (other, sym (bit_at_clear_other w64 free region (omega (arith, within, few)) r (omega (arith, inside, few)) other) ∙ bit)
     in
     record {
       no_more = (let less = and_le_l free (all_but region) in let small = free_word.no_more in omega (arith, less, small));

@@ -1,14 +1,11 @@
 -- The steps that make a new object in room in hand.
-use Rattle.std.proofs.Common.{◌≡◌, ◌≢◌, ℕ, ◌+◌, ◌<◌, ◌≤◌, ◌⊎◌, Bool, true, false, Option, Some, None, inl, inr, ⊎_elim, refl, sym, ap, ◌∙◌, subst, subst₂, arith}
+use Rattle.std.proofs.Common.{◌≡◌, ◌≢◌, ℕ, ◌+◌, ◌<◌, Bool, true, false, Option, Some, ⊎_elim, refl, sym, ap, ◌∙◌, subst, subst₂, arith}
 use Rattle.std.specs.Prelude.{◌==◌, ◌&&◌, nat_lt, if◌then◌else◌}
 use Rattle.std.proofs.lemmas.Bool.{cases_eq, cond-true, cond-false, eq-eqb, ne_eqb, and_from, and_left, and_right, ltb-true, ltb-false}
-use Rattle.std.proofs.lemmas.Bool.Decides.{nat_tests}
-use Rattle.std.proofs.lemmas.Option.{same_Some}
 use Rattle.heap_words.specs.declared.config.Config.{Config}
-use Rattle.heap_words.specs.Words.{Word, Root, Top, Heap, Current, write, is_word}
+use Rattle.heap_words.specs.Words.{Word, Root, Top, Heap, Current, write}
 use Rattle.shen_graph.specs.declared.name.Name.{Name}
 use Rattle.shen_graph.specs.declared.command.Command.{Command}
-use Rattle.shen_graph.specs.declared.command.Command.TheVariants.{New}
 use Rattle.shen_graph.specs.declared.command.Reply.{Reply}
 use Rattle.shen_graph.specs.declared.command.Reply.TheVariants as reply
 use Rattle.shen_graph.specs.Graph.{Graph, Object, blank, fresh, with_root, with_fresh}
@@ -19,8 +16,8 @@ use Rattle.mutator.specs.declared.spot.Order.{Order}
 use Rattle.mutator.specs.declared.spot.Order.TheVariants.{Nothing, Begin}
 use Rattle.mutator.specs.Rows.{Mutating, fresh_word, touch_of}
 use Rattle.steps_base.specs.Touch.{touched}
-use Rattle.step_core.specs.World.{World, Plot, Block, thing, hand, words_of, name_at, Points, IsObject, IsGiven, AreObjects, Shared}
-use Rattle.step_core.specs.Stepped.{IsMaking, IsFilling, Mine, Rely, Row, Stepped}
+use Rattle.step_core.specs.World.{World, Plot, Block, thing, hand, words_of, name_at, Points, IsObject, IsGiven, Shared}
+use Rattle.step_core.specs.Stepped.{IsFilling, Mine, Rely, Row}
 use Rattle.step_core.proofs.Spots.{mutator_at, accessed}
 use Rattle.step_core.proofs.Settling.{legal_answer, graph_answer}
 use Rattle.step_core.proofs.Stable.{points_stay}
@@ -73,7 +70,8 @@ module _ (c : Config) (u : World) (seat made phase cset : ℕ) (command : Comman
         each = λ a more_refs more_nums n is.
             let o = shared.objects.each a more_refs more_nums n is in
             let other : a ≢ address = λ same. (let clash : Some (thing n more_refs more_nums) ≡ Some (hand seat (3 + refs + nums)) = sym is ∙ ap u.block same ∙ mine.facts.1.room in cc) in
-            (o.0, o.1, object_reads (λ b. u.memory (Heap b)) (λ b. stored_world.memory (Heap b)) u.block u.block a more_refs more_nums n o.0 (λ k below. else_stays a k (thing n more_refs more_nums) is other below) (λ b m e. e) o.2);
+            let kept = λ (k : ℕ) (below : k < 3 + more_refs + more_nums). else_stays a k (thing n more_refs more_nums) is other below in
+            (o.0, o.1, object_reads (λ b. u.memory (Heap b)) (λ b. stored_world.memory (Heap b)) u.block u.block a more_refs more_nums n o.0 kept (λ b m e. e) o.2);
         all = shared.objects.all;
         once = shared.objects.once;
       };

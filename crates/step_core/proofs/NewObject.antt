@@ -1,15 +1,14 @@
 -- Room in hand becomes an object: the piece keeps its words, and the graph has the object under a fresh name.
-use Rattle.std.proofs.Common.{◌≡◌, ◌≢◌, ℕ, zero, suc, ◌+◌, ◌<◌, ◌≤◌, ◌⊎◌, Bool, true, false, length, replicate, Option, Some, None, inl, inr, ⊎_elim, refl, sym, ap, ◌∙◌, subst, arith}
+use Rattle.std.proofs.Common.{◌≡◌, ◌≢◌, ℕ, zero, suc, ◌+◌, ◌<◌, ◌≤◌, ◌⊎◌, true, false, replicate, Option, Some, None, inl, inr, ⊎_elim, refl, sym, ap, ◌∙◌, subst, arith}
 use Rattle.std.specs.Prelude.{◌==◌, if◌then◌else◌, slice_get}
-use Rattle.std.proofs.lemmas.Bool.{cases_eq, cases_Bool, cond-true, cond-false, eq-eqb, ne_eqb}
+use Rattle.std.proofs.lemmas.Bool.{cases_eq, cases_Bool, cond-true, cond-false, eq-eqb}
 use Rattle.std.proofs.lemmas.Bool.Decides.{nat_tests}
-use Rattle.std.proofs.lemmas.Option.{none-some, same_Some, slice_get_within}
+use Rattle.std.proofs.lemmas.Option.{same_Some, slice_get_within}
 use Rattle.std.proofs.lemmas.List.{length-replicate}
 use Rattle.heap_words.specs.declared.config.Config.{Config}
-use Rattle.heap_words.specs.Encoding.{plain_header, shape_word, name_code}
 use Rattle.regions.specs.Place.{base_of}
 use Rattle.shen_graph.specs.declared.name.Name.{Name}
-use Rattle.shen_graph.specs.Graph.{Reference, Object, same_name, blank}
+use Rattle.shen_graph.specs.Graph.{Object, same_name, blank}
 use Rattle.shen_graph.proofs.PlainLemmas.{same_name-true, same_name-itself}
 use Rattle.mutator.specs.Rows.{fresh_word}
 use Rattle.step_core.specs.World.{Block, thing, hand, words_of, Plot, name_at, Points, IsInUse, IsPlotted, IsFilled, IsObject, IsGiven, AreObjects, AreRooms}
@@ -140,8 +139,7 @@ module _ (c : Config) (top : ℕ → ℕ) (block : Plot) (address seat refs nums
           let same = new.1 in
           let names : name ≡ n = cc in
           let all_refs : refs ≡ more_refs = cc in
-          let all_nums : nums ≡ more_nums = cc in
-          (
+          let all_nums : nums ≡ more_nums = cc in (
             o,
             ap (with_one object name o) (sym names) ∙ own_object,
             subst (λ b. IsObject heap new_block b more_refs more_nums n o) (sym new.0)
@@ -150,8 +148,7 @@ module _ (c : Config) (top : ℕ → ℕ) (block : Plot) (address seat refs nums
                 (subst (λ k. IsObject heap new_block address refs k name o) all_nums new_is))),
           ))
           (λ (old : (a ≢ address) × (block a ≡ Some (thing n more_refs more_nums))).
-          let was = objects.each a more_refs more_nums n old.1 in
-          (
+          let was = objects.each a more_refs more_nums n old.1 in (
             was.0,
             other_object n (not_old a more_refs more_nums n old.1) ∙ was.1,
             object_reads heap heap block new_block a more_refs more_nums n was.0 (λ k below. refl) names_stay was.2,

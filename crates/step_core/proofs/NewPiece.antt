@@ -1,11 +1,10 @@
 -- A new piece at the top of a region: the words between the old top and the new one, in a seat's hand.
-use Rattle.std.proofs.Common.{◌≡◌, ◌≢◌, ℕ, ◌+◌, ◌<◌, ◌≤◌, ◌⊎◌, Option, Some, None, inl, inr, ⊎_elim, refl, sym, ap, ◌∙◌, subst, arith}
+use Rattle.std.proofs.Common.{◌≡◌, ◌≢◌, ℕ, ◌+◌, ◌<◌, ◌≤◌, ◌⊎◌, Option, Some, inl, inr, ⊎_elim, refl, sym, ap, ◌∙◌, subst, arith}
 use Rattle.std.specs.Prelude.{◌==◌, if◌then◌else◌}
 use Rattle.std.proofs.lemmas.Bool.{cases_eq, cases_lt, cond-true, cond-false, eq-eqb, ne_eqb}
 use Rattle.std.proofs.lemmas.Option.{none-some, same_Some}
 use Rattle.heap_words.specs.declared.config.Config.{Config}
 use Rattle.regions.specs.Place.{base_of}
-use Rattle.regions.specs.Sets.{IsIn}
 use Rattle.shen_graph.specs.declared.name.Name.{Name}
 use Rattle.shen_graph.specs.Graph.{Object}
 use Rattle.step_core.specs.World.{Block, thing, hand, words_of, Plot, name_at, IsInUse, IsPlotted, IsFilled, AreObjects, IsFreeWord, AreCurrent, IsRoom, AreRooms}
@@ -23,7 +22,16 @@ module _ (top : ℕ → ℕ) (region value : ℕ) where
   pub top_else : (r : ℕ) → region ≢ r → with_top top region value r ≡ top r
   top_else r other = cond-false (region == r) _ _ (ne_eqb region r other)
 
-module _ (c : Config) (top current : ℕ → ℕ) (block : Plot) (region at words seat : ℕ) (plotted : IsPlotted c top block) (rooms : AreRooms c top current block) (within : region < c.regions) (top_is : top region ≡ at) (room : at + words ≤ c.region_words) (some : 3 ≤ words) where
+-- A region has room for so many words above its top. The pieces are apart, and room in hand is as it should be.
+pub record CanGrow (c : Config) (top current : ℕ → ℕ) (block : Plot) (region at words : ℕ) : Type 0 where
+  pub plotted : IsPlotted c top block
+  pub rooms : AreRooms c top current block
+  pub within : region < c.regions
+  pub top_is : top region ≡ at
+  pub room : at + words ≤ c.region_words
+  pub some : 3 ≤ words
+
+module _ (c : Config) (top current : ℕ → ℕ) (block : Plot) (region at words seat : ℕ) (grows : CanGrow c top current block region at words) where
   abbrev address : ℕ
   address = base_of c region + at
 
@@ -36,9 +44,9 @@ module _ (c : Config) (top current : ℕ → ℕ) (block : Plot) (region at word
   -- nothing stood there
   pub none_there : (b : Block) → block address ≡ Some b → ⊥
   none_there b is =
-      let long = three_words c top current block rooms address b is in
-      let where_is = beside c top block plotted region address b is in
-      omega (arith, long, where_is, top_is)
+      let long = three_words c top current block grows.rooms address b is in
+      let where_is = beside c top block grows.plotted region address b is in
+      omega (arith, long, where_is, grows.top_is)
 
   -- what stood somewhere stands there
   pub stays : (a : ℕ) (b : Block) → block a ≡ Some b → new_block a ≡ Some b
@@ -49,37 +57,37 @@ module _ (c : Config) (top current : ℕ → ℕ) (block : Plot) (region at word
 
   tops_grow : (r : ℕ) → top r ≤ new_top r
   tops_grow r = ⊎_elim
-      (λ (same : region ≡ r). let now : new_top r ≡ at + words = cond-true (region == r) _ _ (eq-eqb region r same) in let was : top r ≡ at = ap top (sym same) ∙ top_is in omega arith)
+      (λ (same : region ≡ r). let now : new_top r ≡ at + words = cond-true (region == r) _ _ (eq-eqb region r same) in let was : top r ≡ at = ap top (sym same) ∙ grows.top_is in omega arith)
       (λ (other : region ≢ r). let now = top_else top region (at + words) r other in omega (arith, now))
       (cases_eq region r)
 
   in_use_again : (a : ℕ) (b : Block) → block a ≡ Some b → IsInUse c new_top a (words_of b)
   in_use_again a b is =
-      let used = plotted.in_use a b is in
+      let used = grows.plotted.in_use a b is in
       let grown = tops_grow used.region in
       record { region = used.region; within = used.within; from_base = used.from_base; to_top = omega (arith, used.to_top, grown) }
 
   new_in_use : IsInUse c new_top address words
-  new_in_use = let now = top_at top region (at + words) in record { region = region; within = within; from_base = omega arith; to_top = omega (arith, now) }
+  new_in_use = let now = top_at top region (at + words) in record { region = region; within = grows.within; from_base = omega arith; to_top = omega (arith, now) }
 
   -- a piece of the new plot is the new one or an old one
   either : (a : ℕ) (b : Block) → new_block a ≡ Some b → ((a ≡ address) × (hand seat words ≡ b)) ⊎ ((a ≢ address) × (block a ≡ Some b))
   either a b is = ⊎_elim (λ new. inl (new.0, same_Some (hand seat words) b new.1)) (λ old. inr old) (piece_cases block address (hand seat words) a b is)
 
   old_before : (a : ℕ) (b : Block) → block a ≡ Some b → a < address → a + words_of b ≤ address
-  old_before a b is before = let where_is = beside c top block plotted region a b is in omega (arith, where_is, top_is)
+  old_before a b is before = let where_is = beside c top block grows.plotted region a b is in omega (arith, where_is, grows.top_is)
 
   new_before : (a : ℕ) (b : Block) → block a ≡ Some b → address < a → address + words ≤ a
   new_before a b is after =
-      let where_is = beside c top block plotted region a b is in
-      let long = three_words c top current block rooms a b is in
-      omega (arith, where_is, top_is, long)
+      let where_is = beside c top block grows.plotted region a b is in
+      let long = three_words c top current block grows.rooms a b is in
+      omega (arith, where_is, grows.top_is, long)
 
   pub plotted_more : IsPlotted c new_top new_block
   plotted_more = record {
     tops = λ r inside. ⊎_elim
         (λ (same : region ≡ r). let now : new_top r ≡ at + words = cond-true (region == r) _ _ (eq-eqb region r same) in omega (arith, now))
-        (λ (other : region ≢ r). let now = top_else top region (at + words) r other in let was = plotted.tops r inside in omega (arith, now, was))
+        (λ (other : region ≢ r). let now = top_else top region (at + words) r other in let was = grows.plotted.tops r inside in omega (arith, now, was))
         (cases_eq region r);
     in_use = λ a b is. ⊎_elim
         (λ (new : (a ≡ address) × (hand seat words ≡ b)).
@@ -95,7 +103,7 @@ module _ (c : Config) (top current : ℕ → ℕ) (block : Plot) (region at word
         (either b y is_y))
         (λ (old_a : (a ≢ address) × (block a ≡ Some x)). ⊎_elim
         (λ (new_b : (b ≡ address) × (hand seat words ≡ y)). let two = new_b.0 in let far = old_before a x old_a.1 (omega (arith, two, before)) in omega (arith, far, two))
-        (λ (old_b : (b ≢ address) × (block b ≡ Some y)). plotted.apart a b x y old_a.1 old_b.1 before)
+        (λ (old_b : (b ≢ address) × (block b ≡ Some y)). grows.plotted.apart a b x y old_a.1 old_b.1 before)
         (either b y is_y))
         (either a x is_x);
   }
@@ -106,12 +114,12 @@ module _ (c : Config) (top current : ℕ → ℕ) (block : Plot) (region at word
   -- after an old piece of the region
   next_here : (a : ℕ) (x : Block) → IsFilled c top block → base_of c region ≤ a → block a ≡ Some x → a + words_of x < address + words → (b : Block) × (new_block (a + words_of x) ≡ Some b)
   next_here a x filled from is below =
-      let where_is = beside c top block plotted region a x is in
-      let long = three_words c top current block rooms a x is in
+      let where_is = beside c top block grows.plotted region a x is in
+      let long = three_words c top current block grows.rooms a x is in
       ⊎_elim
-      (λ (before : a + words_of x < address). some_piece (a + words_of x) (filled.next region a x within from is (omega (arith, before, top_is))))
+      (λ (before : a + words_of x < address). some_piece (a + words_of x) (filled.next region a x grows.within from is (omega (arith, before, grows.top_is))))
       (λ (least : address ≤ a + words_of x).
-      (hand seat words, ap new_block {x = a + words_of x} {y = address} (omega (arith, where_is, long, least, below, top_is, room, from)) ∙ piece_at block address (hand seat words)))
+      (hand seat words, ap new_block {x = a + words_of x} {y = address} (omega (arith, where_is, long, least, below, grows.top_is, grows.room, from)) ∙ piece_at block address (hand seat words)))
       (cases_lt (a + words_of x) address)
 
   pub filled_more : IsFilled c top block → IsFilled c new_top new_block
@@ -121,7 +129,7 @@ module _ (c : Config) (top current : ℕ → ℕ) (block : Plot) (region at word
         subst (λ k. (b : Block) × (new_block (base_of c k) ≡ Some b)) same
         (⊎_elim
         (λ (empty : at ≡ 0). (hand seat words, ap new_block {x = base_of c region} {y = address} (omega (arith, empty)) ∙ piece_at block address (hand seat words)))
-        (λ (full : at ≢ 0). some_piece (base_of c region) (filled.first region within (omega (arith, full, top_is))))
+        (λ (full : at ≢ 0). some_piece (base_of c region) (filled.first region grows.within (omega (arith, full, grows.top_is))))
         (cases_eq at 0)))
         (λ (other : region ≢ r). let now = top_else top region (at + words) r other in some_piece (base_of c r) (filled.first r inside (omega (arith, now, used))))
         (cases_eq region r);
@@ -138,10 +146,10 @@ module _ (c : Config) (top current : ℕ → ℕ) (block : Plot) (region at word
         ⊎_elim
         (λ (new : (a ≡ address) × (hand seat words ≡ x)).
         let one = new.0 in
-        let most = plotted.tops r inside in
+        let most = grows.plotted.tops r inside in
         absurd (⊎_elim
         (λ (before : r < region). let far = behind c r region before in omega (arith, below, now, one, most, far))
-        (λ (least : region ≤ r). let far = behind c region r (omega (arith, least, other)) in omega (arith, from, one, far, room, some))
+        (λ (least : region ≤ r). let far = behind c region r (omega (arith, least, other)) in omega (arith, from, one, far, grows.room, grows.some))
         (cases_lt r region)))
         (λ (old : (a ≢ address) × (block a ≡ Some x)). some_piece (a + words_of x) (filled.next r a x inside from old.1 (omega (arith, below, now))))
         (either a x is))
@@ -196,12 +204,12 @@ module _ (c : Config) (top current : ℕ → ℕ) (block : Plot) (region at word
       let sizes : words ≡ more = cc in
       subst (λ s. IsRoom c new_top current a s more) seats
       (subst (λ w. IsRoom c new_top current a seat w) sizes
-      (record { mutator = mutator; some = some; region = region; is_current = is_current; at_top = (let now = top_at top region (at + words) in let one = new.0 in omega (arith, now, one)) })))
+      (record { mutator = mutator; some = grows.some; region = region; is_current = is_current; at_top = (let now = top_at top region (at + words) in let one = new.0 in omega (arith, now, one)) })))
       (λ (old : (a ≢ address) × (block a ≡ Some (hand other more))).
-      let is_room = rooms a other more old.1 in
+      let is_room = grows.rooms a other more old.1 in
       let differs : region ≢ is_room.region = λ same.
-          let own : Some seat ≡ Some other = sym (currents.own seat region is_current) ∙ ap owner same ∙ currents.own other is_room.region is_room.is_current in
-          none a more (subst (λ s. block a ≡ Some (hand s more)) (sym (same_Some seat other own)) old.1)
+      let own : Some seat ≡ Some other = sym (currents.own seat region is_current) ∙ ap owner same ∙ currents.own other is_room.region is_room.is_current in
+      none a more (subst (λ s. block a ≡ Some (hand s more)) (sym (same_Some seat other own)) old.1)
       in
       record {
         mutator = is_room.mutator;

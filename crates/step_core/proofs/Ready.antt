@@ -1,12 +1,11 @@
 -- The accesses that make a new object can be made.
-use Rattle.std.proofs.Common.{◌≡◌, ℕ, ◌+◌, ◌*◌, ◌<◌, ◌≤◌, Bool, true, false, Option, Some, None, refl, sym, ap, ◌∙◌, arith}
-use Rattle.std.specs.Prelude.{◌==◌, ◌&&◌, ◌^◌, nat_lt, nat_le, if◌then◌else◌}
+use Rattle.std.proofs.Common.{◌≡◌, ℕ, ◌+◌, ◌*◌, ◌<◌, ◌≤◌, true, Option, Some, arith}
+use Rattle.std.specs.Prelude.{◌^◌}
 use Rattle.std.proofs.lemmas.Bool.{and_from, lt-ltb, le-leb}
 use Rattle.std.proofs.lemmas.Bool.Decides.{nat_tests}
 use Rattle.std.proofs.Math.Nat.{mul-le-mul_right}
 use Rattle.heap_words.specs.declared.config.Config.{Config}
-use Rattle.heap_words.specs.Words.{Root, Heap, is_word}
-use Rattle.steps_base.specs.Fits.{touch_fits, is_number}
+use Rattle.steps_base.specs.Fits.{touch_fits}
 use Rattle.shen_graph.specs.declared.command.Command.{Command}
 use Rattle.shen_graph.specs.declared.command.Reply.{Reply}
 use Rattle.alloc_buffers.specs.declared.spot.TakeSpot.{TakeSpot}
@@ -14,7 +13,7 @@ use Rattle.alloc_buffers.specs.Rows as takes
 use Rattle.mutator.specs.declared.spot.Spot.TheVariants.{Taking, StoreWord, StoreFresh}
 use Rattle.mutator.specs.Rows.{fresh_word}
 use Rattle.mutator.specs.Fit.{is_ready, is_next_object, is_going}
-use Rattle.step_core.specs.World.{Block, hand, words_of, Plot, IsPlotted}
+use Rattle.step_core.specs.World.{hand, Plot, IsPlotted}
 use Rattle.step_core.specs.Stepped.{IsMaking}
 use Rattle.step_core.proofs.Pointing.{piece_inside, piece_word}
 

@@ -1,23 +1,22 @@
 -- The steps that take room.
-use Rattle.std.proofs.Common.{◌≡◌, ◌≢◌, ℕ, ◌+◌, ◌-◌, ◌*◌, ◌^◌, ◌<◌, ◌≤◌, ◌⊎◌, Bool, true, false, Option, Some, None, ⊎_elim, refl, sym, ap, ◌∙◌, subst, arith}
-use Rattle.std.specs.Prelude.{◌==◌, ◌&&◌, nat_lt, nat_le, if◌then◌else◌, bit_and}
+use Rattle.std.proofs.Common.{◌≡◌, ◌≢◌, ℕ, ◌+◌, ◌-◌, ◌^◌, ◌<◌, ◌≤◌, true, false, Option, Some, None, ⊎_elim, refl, sym, ap, ◌∙◌, subst, arith}
+use Rattle.std.specs.Prelude.{◌==◌, if◌then◌else◌}
 use Rattle.std.specs.Int.{bit_at}
 use Rattle.std.proofs.lemmas.Bool.{cases_eq, cases_Bool, cond-true, cond-false, eq-eqb, eqb-true, ne_eqb, and_from, lt-ltb, le-leb, leb-true, leb-false}
 use Rattle.std.proofs.lemmas.Bool.Decides.{nat_tests}
 use Rattle.std.proofs.lemmas.Option.{same_Some}
 use Rattle.heap_words.specs.declared.config.Config.{Config}
 use Rattle.heap_words.specs.Ranges.{seat_count}
-use Rattle.heap_words.specs.Words.{Word, Free, Top, Current, Root, Heap, write}
+use Rattle.heap_words.specs.Words.{Word, Free, Top, Current, Root, Heap}
 use Rattle.steps_base.specs.Touch.{touch, loads, touched}
 use Rattle.regions.specs.Place.{base_of}
-use Rattle.regions.specs.Sets.{lowest_in, members_below}
+use Rattle.regions.specs.Sets.{lowest_in}
 use Rattle.shen_graph.specs.declared.name.Name.{Name}
 use Rattle.shen_graph.specs.declared.command.Command.{Command}
 use Rattle.shen_graph.specs.declared.command.Reply.{Reply}
 use Rattle.alloc_buffers.specs.declared.spot.TakeSpot.{TakeSpot}
 use Rattle.alloc_buffers.specs.declared.spot.TakeSpot.TheVariants.{LoadCurrent, LoadTop, LoadFree, TakeRegion, StoreCurrent, StoreTop, Ended}
-use Rattle.alloc_buffers.specs.declared.spot.Taken.{Taken}
-use Rattle.alloc_buffers.specs.declared.spot.Taken.TheVariants.{At, NoRoom}
+use Rattle.alloc_buffers.specs.declared.spot.Taken.TheVariants.{NoRoom}
 use Rattle.alloc_buffers.specs.declared.spot.Kind.TheVariants.{Fresh}
 use Rattle.alloc_buffers.specs.Rows.{has_room, has_none}
 use Rattle.mutator.specs.declared.spot.Spot.{Spot}
@@ -27,11 +26,11 @@ use Rattle.mutator.specs.declared.spot.Order.TheVariants.{Nothing, Begin}
 use Rattle.mutator.specs.Rows.{Mutating, touch_of, after_take, take_next}
 use Rattle.mutator.specs.Fit.{is_ready}
 use Rattle.step_core.specs.World.{World, Plot, Block, thing, hand, name_at, AreCurrent, AreRooms, Shared}
-use Rattle.step_core.specs.Stepped.{IsMaking, IsTaken, IsRoomy, HasLess, TakeFacts, IsFilling, SpotFacts, Mine, Rely, Row, Stepped}
+use Rattle.step_core.specs.Stepped.{IsMaking, IsRoomy, TakeFacts, Mine, Rely, Row, Stepped}
 use Rattle.step_core.proofs.Spots.{mutator_at, accessed}
 use Rattle.step_core.proofs.Stable.{points_stay}
 use Rattle.step_core.proofs.Pieces.{with_piece, piece_at}
-use Rattle.step_core.proofs.NewPiece.{names_stay, stays, none_there, old_hand, own_hand, old_thing, plotted_more, filled_more, objects_more, free_more, rooms_more, top_else}
+use Rattle.step_core.proofs.NewPiece.{CanGrow, names_stay, stays, old_hand, own_hand, plotted_more, filled_more, objects_more, free_more, rooms_more, top_else}
 use Rattle.step_core.proofs.FreeRegions.{lowest_within, with_owner, owner_at, owner_else, owner_stays, free_without, currents_stay}
 use Rattle.step_core.proofs.Ready.{taking_ready, word_ready}
 
@@ -347,19 +346,19 @@ module _ (c : Config) (u : World) (seat made phase cset : ℕ) (command : Comman
       own : u.owner region ≡ Some seat
       own = shared.currents.own seat region roomy.is_current
 
-      some : 3 ≤ words
-      some = omega arith
+      grows : CanGrow c tops currents u.block region top words
+      grows = record { plotted = shared.plotted; rooms = shared.rooms; within = roomy.within; top_is = roomy.top_is; room = roomy.room; some = omega arith }
 
       shared_grown : Shared c grown_world
       shared_grown = record {
-        plotted = plotted_more c tops currents u.block region top words seat shared.plotted shared.rooms roomy.within roomy.top_is roomy.room some;
-        filled = filled_more c tops currents u.block region top words seat shared.plotted shared.rooms roomy.within roomy.top_is roomy.room some shared.filled;
-        objects = objects_more c tops currents u.block region top words seat shared.plotted shared.rooms roomy.within roomy.top_is roomy.room some (λ a. u.memory (Heap a)) u.graph.object shared.objects;
+        plotted = plotted_more c tops currents u.block region top words seat grows;
+        filled = filled_more c tops currents u.block region top words seat grows shared.filled;
+        objects = objects_more c tops currents u.block region top words seat grows (λ a. u.memory (Heap a)) u.graph.object shared.objects;
         given = shared.given;
         calm = shared.calm;
-        free_word = free_more c tops currents u.block region top words seat shared.plotted shared.rooms roomy.within roomy.top_is roomy.room some (u.memory Free) u.owner own shared.free_word;
+        free_word = free_more c tops currents u.block region top words seat grows (u.memory Free) u.owner own shared.free_word;
         currents = shared.currents;
-        rooms = rooms_more c tops currents u.block region top words seat shared.plotted shared.rooms roomy.within roomy.top_is roomy.room some u.owner mine.seat roomy.is_current shared.currents mine.hands;
+        rooms = rooms_more c tops currents u.block region top words seat grows u.owner mine.seat roomy.is_current shared.currents mine.hands;
         unasked = shared.unasked;
       }
 
@@ -367,10 +366,10 @@ module _ (c : Config) (u : World) (seat made phase cset : ℕ) (command : Comman
       there = piece_at u.block address (hand seat words)
 
       names : (a : ℕ) (n : Name) → name_at (u.block a) ≡ Some n → name_at (grown_world.block a) ≡ Some n
-      names = names_stay c tops currents u.block region top words seat shared.plotted shared.rooms roomy.within roomy.top_is roomy.room some
+      names = names_stay c tops currents u.block region top words seat grows
 
       stays_there : (a : ℕ) (b : Block) → u.block a ≡ Some b → grown_world.block a ≡ Some b
-      stays_there = stays c tops currents u.block region top words seat shared.plotted shared.rooms roomy.within roomy.top_is roomy.room some
+      stays_there = stays c tops currents u.block region top words seat grows
 
       mine_grown : Mine c grown_world (at_spot (StoreWord dst refs nums address 0)) command fixed
       mine_grown = record {
@@ -378,7 +377,7 @@ module _ (c : Config) (u : World) (seat made phase cset : ℕ) (command : Comman
         ready = word_ready c seat made command fixed dst refs nums mine.facts.0 (λ r. grown_world.memory (Top r)) grown_world.block shared_grown.plotted address there mine.seat 0 (omega arith);
         made = mine.made;
         roots = λ i below. points_stay u.block grown_world.block names (u.memory (Root seat i)) (u.graph.root (seat + 1) i) (mine.roots i below);
-        hands = own_hand c tops currents u.block region top words seat shared.plotted shared.rooms roomy.within roomy.top_is roomy.room some mine.hands;
+        hands = own_hand c tops currents u.block region top words seat grows mine.hands;
         facts = (mine.facts.0, record { room = there; within = omega arith; stored = λ k below. absurd (omega arith) }, omega arith);
       }
 
@@ -387,7 +386,7 @@ module _ (c : Config) (u : World) (seat made phase cset : ℕ) (command : Comman
         names = names;
         things = λ a more_refs more_nums n is. stays_there a (thing n more_refs more_nums) is;
         hands = λ a more is. stays_there a (hand j more) is;
-        no_hands = λ a more is. old_hand c tops currents u.block region top words seat shared.plotted shared.rooms roomy.within roomy.top_is roomy.room some a j more differs is;
+        no_hands = λ a more is. old_hand c tops currents u.block region top words seat grows a j more differs is;
         hand_words = λ a more k is below. refl;
         current = refl;
         owners = λ r is. is;
