@@ -12,6 +12,11 @@ mod Loads
 mod Fields
 mod RootStores
 mod Stores
+mod Pieces
+mod NewPiece
+mod NewObject
+mod Ready
+mod FreeRegions
 mod Takes
 mod Fresh
 pub mod Places
