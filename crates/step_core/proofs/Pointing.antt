@@ -1,14 +1,13 @@
 -- Words that stand for references: null is 0 and nothing else, and one object has one address.
-use Rattle.std.proofs.Common.{◌≡◌, ◌≢◌, ℕ, ◌+◌, ◌*◌, ◌<◌, ◌≤◌, Bool, true, false, Option, Some, None, refl, sym, ap, ◌∙◌, subst, arith}
-use Rattle.std.specs.Prelude.{◌==◌}
+use Rattle.std.proofs.Common.{◌≡◌, ◌≢◌, ℕ, ◌+◌, ◌*◌, ◌<◌, ◌≤◌, true, Option, Some, None, refl, sym, ap, ◌∙◌, arith}
 use Rattle.std.proofs.lemmas.Bool.Decides.{nat_tests}
 use Rattle.std.proofs.lemmas.Option.{same_Some}
 use Rattle.std.proofs.Math.Nat.{mul-le-mul_right}
 use Rattle.heap_words.specs.declared.config.Config.{Config}
 use Rattle.heap_words.specs.Words.{Heap, is_word}
 use Rattle.shen_graph.specs.declared.name.Name.{Name}
-use Rattle.shen_graph.specs.Graph.{Reference, same_name, same_reference}
-use Rattle.step_core.specs.World.{Block, thing, hand, words_of, Plot, name_at, Points, Target, IsPlotted}
+use Rattle.shen_graph.specs.Graph.{Reference}
+use Rattle.step_core.specs.World.{Block, thing, hand, words_of, Plot, name_at, Points, IsPlotted}
 
 -- the piece at an address that stands for an object is the object
 pub named_thing : (o : Option Block) (n : Name) → name_at o ≡ Some n → (refs : ℕ) × (nums : ℕ) × (o ≡ Some (thing n refs nums))

@@ -1,7 +1,7 @@
 -- What a mutator knows stays true while another machine makes a step.
-use Rattle.std.proofs.Common.{◌≡◌, ℕ, ◌+◌, ◌<◌, inl, inr, ⊎_elim, length, Option, Some, None, refl, sym, ◌∙◌, arith}
+use Rattle.std.proofs.Common.{◌≡◌, ℕ, ◌+◌, inl, inr, ⊎_elim, Option, Some, None, refl, sym, ◌∙◌, arith}
 use Rattle.heap_words.specs.declared.config.Config.{Config}
-use Rattle.heap_words.specs.Words.{Current, Top}
+use Rattle.heap_words.specs.Words.{Current}
 use Rattle.shen_graph.specs.declared.name.Name.{Name}
 use Rattle.shen_graph.specs.declared.command.Command.{Command}
 use Rattle.shen_graph.specs.declared.command.Reply.{Reply}
@@ -10,9 +10,9 @@ use Rattle.alloc_buffers.specs.declared.spot.TakeSpot.{TakeSpot}
 use Rattle.alloc_buffers.specs.declared.spot.TakeSpot.TheVariants as take_spot
 use Rattle.mutator.specs.declared.spot.Spot.{Spot}
 use Rattle.mutator.specs.declared.spot.Spot.TheVariants.{Rest, Ended, LoadSet, LoadRoot, AskCycle, Leave, LoadSecond, LoadThird, LoadShape, LoadField, LoadExpected, StoreField, SwapField, ExchangeField, LoadNumber, StoreNumber, LoadName, StoreLoaded, StoreRoot, Taking, StoreWord, StoreFresh}
-use Rattle.mutator.specs.Rows.{Mutating, roots_of, root_of}
+use Rattle.mutator.specs.Rows.{Mutating, root_of}
 use Rattle.step_core.specs.World.{World, Plot, Points, name_at, Shared}
-use Rattle.step_core.specs.Stepped.{HasRoot, HasObject, HasFirst, HasRoots, IsGet, IsSet, IsCas, IsXchg, IsRd, IsWr, IsFound, IsCopy, HasLess, IsTaken, IsRoomy, TakeFacts, IsFilling, SpotFacts, root_now, Mine, Rely}
+use Rattle.step_core.specs.Stepped.{HasRoot, HasObject, HasFirst, IsGet, IsSet, IsCas, IsXchg, IsRd, IsWr, IsFound, IsCopy, HasLess, TakeFacts, IsFilling, SpotFacts, root_now, Mine, Rely}
 
 pub points_stay : (u w : Plot) → ((a : ℕ) (name : Name) → name_at (u a) ≡ Some name → name_at (w a) ≡ Some name) → (word : ℕ) (reference : Reference) → Points u word reference → Points w word reference
 points_stay u w names word None is = is

@@ -21,7 +21,7 @@ use Rattle.mutator.specs.Rows.{Mutating, touch_of, next_of, given_at, roots_of, 
 use Rattle.mutator.specs.Told.{told_of}
 use Rattle.mutator.specs.Fit.{IsReady}
 use Rattle.step_core.specs.Actor.{entry_of, command_by}
-use Rattle.step_core.specs.World.{World, Block, thing, hand, name_at, Points, Target, Shared}
+use Rattle.step_core.specs.World.{World, thing, hand, name_at, Points, Target, Shared}
 
 -- A word is that of a root which the command loads: it stands for the root's reference. Of a root that the command does
 -- not load nothing is known.
