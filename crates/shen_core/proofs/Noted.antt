@@ -164,6 +164,12 @@ turned_from c scripts s number p jobs took.More moved = moved
 turned_from c scripts s number p jobs took.Again moved = moved
 turned_from c scripts s number p jobs took.Done moved = moved
 
+-- a machine that makes a step does not say that it is idle
+pub never_idle : (said : Took) → stepped_of said ≡ stepped.Idle → ⊥
+never_idle took.More is = cc
+never_idle took.Again is = cc
+never_idle took.Done is = cc
+
 -- a step that ends a call gives its reply, and no other step does
 pub done_gives : (c : Config) (spot : Spot) (got : ℕ) → stepped_of (answer_at c spot got) ≡ stepped.Done → (r : Reply) × (given_at spot ≡ Some r)
 done_gives c (Leave r) got is = (r, refl)
@@ -178,7 +184,13 @@ done_gives c (Taking dst refs nums take) got is = absurd (not_done take (take_ne
     not_done take (take_spot.Ended (At address)) is = cc
     not_done take (take_spot.Ended NoRoom) is = cc
     not_done (take_spot.TakeRegion region) take_spot.LoadFree is = cc
-    not_done take next is = cc
+    not_done (take_spot.TakeRegion region) next is = cc
+    not_done take_spot.LoadCurrent next is = cc
+    not_done (take_spot.LoadTop region) next is = cc
+    not_done take_spot.LoadFree next is = cc
+    not_done (take_spot.StoreCurrent region) next is = cc
+    not_done (take_spot.StoreTop region top) next is = cc
+    not_done (take_spot.Ended taken) next is = cc
 done_gives c _ got is = absurd (cc)
 
 pub other_gives : (c : Config) (spot : Spot) (got : ℕ) → (stepped_of (answer_at c spot got) ≡ stepped.Done → ⊥) → given_at spot ≡ None
@@ -379,6 +391,15 @@ module _ (p mid q : Plain) (jobs : Jobs) (number : ℕ) (said : Stepped) (facts 
       (gives.0, gives.1, next_reply (config_of mid) m (order_at mid number) _ m.spot gives.0 gives.1)
   reply_by helping is done = absurd (cc)
   reply_by controlling is done = absurd (cc)
+
+  -- after a step that ends a call memory has a reply
+  pub has_reply : said ≡ stepped.Done → reply_in (machine_at q number) ≢ None
+  has_reply done none =
+      let found = reply_by (machine_at mid number) facts.says done in
+      let now : machine_at q number ≡ next_machine mid number =
+      ap (λ ms. get_or ms number controlling) facts.machines ∙ get_or-set_same (machines_of mid) number (next_machine mid number) controlling (subst (λ ms. number < length ms) (sym facts.mid_machines) facts.within) in
+      let both : None ≡ Some found.0 = sym none ∙ ap reply_in now ∙ found.2 in
+      cc
 
   -- the reply that memory has after a step that ends a call is the one that the step gives
   pub reply_given : (r : Reply) → said ≡ stepped.Done → reply_in (machine_at q number) ≡ Some r → given_in (machine_at mid number) ≡ Some r
