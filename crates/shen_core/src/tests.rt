@@ -1,4 +1,4 @@
-ghost use Rattle.std.specs.Prelude.{◌≡◌, ◌<◌, ◌≤◌, ℕ, IfOk};
+ghost use Rattle.std.specs.Prelude.{◌≡◌, ◌<◌, ◌≤◌, ℕ, length, IfOk};
 ghost use Rattle.shen_graph.specs.Work.{HasScript};
 ghost use Rattle.shen_core.specs.Progress.{CanRun, IsRunnable};
 ghost use Rattle.heap_words.specs.Words.{heap_size};
@@ -10,17 +10,16 @@ use shen_graph::{Command, GraphText, Name, Reply, Script, Work};
 use std::alloc::Global;
 use std::test::Fail;
 
-// A script of these commands, which are in range.
+// A script of those of these commands that are in range.
 fn script(alloc: Global, commands: &[Command]) -> Result<Script, Fail>
     requires { length commands.now ≤ 100 }
     ensures { IfOk result (λ script. IsRunnable script) }
 {
     let mut script = Script::open(alloc)?;
     for number in 0..commands.len() {
-        if !commands[number].is_valid() {
-            return Err(Fail);
+        if commands[number].is_valid() {
+            script.push(alloc, commands[number])?;
         }
-        script.push(alloc, commands[number])?;
     }
     Ok(script)
 }
@@ -156,17 +155,20 @@ const MAKE: Command = Command::New {
     refs: 0,
     nums: 0,
 };
+
 const STORE: Command = Command::Set {
     obj: 0,
     field: 0,
     val: 1,
 };
+
 const EXCHANGE: Command = Command::Xchg {
     dst: 2,
     obj: 0,
     field: 0,
     val: 1,
 };
+
 const COMPARE: Command = Command::Cas {
     obj: 0,
     field: 0,
@@ -186,19 +188,44 @@ fn compare_exchange_meets_a_store(rt: HostRuntime) -> Result<(), Fail> {
         let (mut plain, mut work) = pair(alloc, &[MAKE, COMPARE], &[MAKE, STORE])?;
         let mut schedule = Schedule::open(alloc)?;
         if stopped {
-            schedule.push(alloc, Item::Until { number: 0, place: Place::CX })?;
+            schedule.push(
+                alloc,
+                Item::Until {
+                    number: 0,
+                    place: Place::CX,
+                },
+            )?;
         } else {
-            schedule.push(alloc, Item::Replies { number: 0, count: 2 })?;
+            schedule.push(
+                alloc,
+                Item::Replies {
+                    number: 0,
+                    count: 2,
+                },
+            )?;
         }
-        schedule.push(alloc, Item::Replies { number: 1, count: 2 })?;
+        schedule.push(
+            alloc,
+            Item::Replies {
+                number: 1,
+                count: 2,
+            },
+        )?;
         let ran = plain.run(&mut work, &schedule, 1000);
         assert!(rt; ran == Ran::Finished);
-        assert_eq!(rt; work.replies(0).list(), [Reply::Ref(name(1)), reply].as_slice());
-        assert_eq!(rt; work.replies(1).list(), [Reply::Ref(name(2)), Reply::Ok].as_slice());
+        assert_eq!(rt;
+            work.replies(0).list(),
+            [Reply::Ref(name(1)), reply].as_slice()
+        );
+        assert_eq!(rt;
+            work.replies(1).list(),
+            [Reply::Ref(name(2)), Reply::Ok].as_slice()
+        );
         let mut text = GraphText::open(alloc, 512, 2)?;
         assert!(rt; plain.all_rest());
         plain.graph(&mut text);
         assert_eq!(rt; text.rows(), 3);
+        assert_eq!(rt; text.refs_at(0), 16);
         assert_eq!(rt; text.reference_at(0, 0), Some(name(2)));
         assert_eq!(rt; text.root_at(1, 1), Some(name(1)));
         assert_eq!(rt; text.root_at(2, 1), Some(name(2)));
@@ -273,6 +300,8 @@ fn one_step_settles_a_race(rt: HostRuntime) -> Result<(), Fail> {
                 let later = if first { other } else { command };
                 let stays = later == COMPARE;
                 let thread = if first != stays { 2 } else { 1 };
+                assert_eq!(rt; text.rows(), 3);
+                assert_eq!(rt; text.refs_at(0), 16);
                 assert_eq!(rt; text.reference_at(0, 0), Some(name(thread)));
             }
         }
