@@ -8,7 +8,7 @@ use Rattle.mutator.specs.declared.spot.Spot.{Spot}
 use Rattle.mutator.specs.declared.spot.Spot.TheVariants.{Taking, StoreWord, StoreFresh}
 use Rattle.mutator.specs.declared.spot.Order.{Order}
 use Rattle.mutator.specs.Orders.{is_size}
-use Rattle.mutator.specs.Rows.{Mutating, touch_at, touch_of, next_of}
+use Rattle.mutator.specs.Rows.{Mutating, touch_at, next_of}
 
 -- whether a mutator that has made so many objects can make one more, of so many fields
 abbrev pub is_next_object : ℕ → ℕ → ℕ → Bool

@@ -10,7 +10,6 @@ use Rattle.std.proofs.lemmas.Option.{slice_get-get_or, slice_get_within, get_or_
 use Rattle.std.proofs.lemmas.Bool.{lt-ltb, ltb-true}
 use Rattle.heap_words.specs.declared.config.Config.{Config}
 use Rattle.steps_base.specs.Steps.{Stage}
-use Rattle.shen_graph.specs.declared.command.Command.{Command}
 use Rattle.shen_graph.specs.Work as work
 use Rattle.mutator.specs.declared.spot.Order.TheVariants.{Begin}
 use Rattle.mutator.specs.declared.spot.Order.{Order}
@@ -22,7 +21,7 @@ use Rattle.step_core.specs.Follows.{reached, past}
 use Rattle.step_core.specs.Schedule.{Scripts, script_of, turn, turn_of, order_on_turn}
 use Rattle.step_core.proofs.Theorem.{follows_reached, thread_of, every_list}
 use Rattle.shen_core.specs.Runs.{Shows, access_of, IsShownBySome, event}
-use Rattle.shen_core.specs.Answer.{is_resting, made_of_machine}
+use Rattle.shen_core.specs.Answer.{is_resting}
 use Rattle.shen_core.specs.Progress.{Jobs, Tells}
 use Rattle.shen_core.proofs.Events.{shown_actor}
 

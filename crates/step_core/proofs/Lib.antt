@@ -13,6 +13,7 @@ mod Fields
 mod RootStores
 mod Stores
 mod Pieces
+mod SharedOut
 mod NewPiece
 mod NewObject
 mod Ready

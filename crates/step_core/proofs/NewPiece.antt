@@ -204,7 +204,7 @@ module _ (c : Config) (top current : ℕ → ℕ) (block : Plot) (region at word
       let sizes : words ≡ more = cc in
       subst (λ s. IsRoom c new_top current a s more) seats
       (subst (λ w. IsRoom c new_top current a seat w) sizes
-      (record { mutator = mutator; some = grows.some; region = region; is_current = is_current; at_top = (let now = top_at top region (at + words) in let one = new.0 in omega (arith, now, one)) })))
+      (record { mutator = mutator; some = grows.some; region = region; is_current = is_current; from_base = (let one = new.0 in omega (arith, one)); at_top = (let now = top_at top region (at + words) in let one = new.0 in omega (arith, now, one)) })))
       (λ (old : (a ≢ address) × (block a ≡ Some (hand other more))).
       let is_room = grows.rooms a other more old.1 in
       let differs : region ≢ is_room.region = λ same.
@@ -216,6 +216,7 @@ module _ (c : Config) (top current : ℕ → ℕ) (block : Plot) (region at word
         some = is_room.some;
         region = is_room.region;
         is_current = is_room.is_current;
+        from_base = is_room.from_base;
         at_top = is_room.at_top ∙ ap (λ t. base_of c is_room.region + t) (sym (top_else top region (at + words) is_room.region differs));
       })
       (either a (hand other more) is)

@@ -97,6 +97,7 @@ rooms_with c top current block seat region none rooms a s words is =
       some = is_room.some;
       region = is_room.region;
       is_current = cond-false (seat == s) _ _ (ne_eqb seat s other) ∙ is_room.is_current;
+      from_base = is_room.from_base;
       at_top = is_room.at_top;
     }
 

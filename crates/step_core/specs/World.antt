@@ -108,12 +108,13 @@ pub record AreCurrent (c : Config) (current : ℕ → ℕ) (owner : ℕ → Opti
   pub within : (seat r : ℕ) → current seat ≡ r + 1 → r < c.regions
   pub own : (seat r : ℕ) → current seat ≡ r + 1 → owner r ≡ Some seat
 
--- room in hand is a mutator's, in its current region, up to the top
+-- room in hand is a mutator's, in its current region, and ends at the top
 pub record IsRoom (c : Config) (top current : ℕ → ℕ) (address seat words : ℕ) : Type 0 where
   pub mutator : seat < c.mutators
   pub some : 3 ≤ words
   pub region : ℕ
   pub is_current : current seat ≡ region + 1
+  pub from_base : base_of c region ≤ address
   pub at_top : address + words ≡ base_of c region + top region
 
 abbrev pub AreRooms : Config → (ℕ → ℕ) → (ℕ → ℕ) → Plot → Type 0

@@ -1,4 +1,4 @@
-use Rattle.std.proofs.Common.{◌≡◌, true, sym, ap, ◌∙◌, get_or, arith}
+use Rattle.std.proofs.Common.{◌≡◌, sym, ap, ◌∙◌, get_or, arith}
 use Rattle.std.proofs.lemmas.List.{length-map, get_or-set_same}
 use Rattle.mutator.specs.declared.spot.Order.TheVariants.{Nothing, Begin}
 use Rattle.std.specs.Option.{option_map}
