@@ -3,3 +3,6 @@ pub mod Spot
 pub mod Rows
 pub mod Stand
 pub mod Seen
+pub mod Core
+pub mod Copier
+pub mod State

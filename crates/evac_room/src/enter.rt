@@ -43,6 +43,13 @@ impl EnterEvac {
         }
     }
 
+    /// Whether it is done. It makes no step then.
+    pub fn is_done(&self) -> bool
+        ensures { result ≡ is_at_rest (spot_of_enter self.now) }
+    {
+        matches!(self.at, Entering::Inside | Entering::Stopped)
+    }
+
     /// The place of its next access.
     pub fn place(&self) -> Place
         requires { is_at_rest (spot_of_enter self.now) ≡ false }

@@ -34,6 +34,13 @@ impl LeaveEvac {
         }
     }
 
+    /// Whether it is done. It makes no step then.
+    pub fn is_done(&self) -> bool
+        ensures { result ≡ is_at_rest (spot_of_leave self.now) }
+    {
+        matches!(self.at, Leaving::Outside)
+    }
+
     /// The place of its access.
     pub fn place(&self) -> Place
         requires { is_at_rest (spot_of_leave self.now) ≡ false }

@@ -12,9 +12,11 @@
 
 mod counter;
 mod enter;
+pub mod laws;
 mod leave;
 mod out_of_room;
 mod room;
+mod wish;
 
 pub use enter::EnterEvac;
 pub use leave::LeaveEvac;

@@ -39,6 +39,13 @@ impl OutOfRoom {
         }
     }
 
+    /// Whether it is done. It makes no step then.
+    pub fn is_done(&self) -> bool
+        ensures { result ≡ is_at_rest (spot_of_stop self.now) }
+    {
+        matches!(self.at, Stopping::Stopped)
+    }
+
     /// The place of its next access.
     pub fn place(&self) -> Place
         requires { is_at_rest (spot_of_stop self.now) ≡ false }
