@@ -7,16 +7,18 @@ use Rattle.std.proofs.lemmas.List.Sums.{count_by-le-length}
 use Rattle.heap_words.specs.Access.{place_of}
 use Rattle.steps_base.specs.Touch.{access_at}
 use Rattle.steps_base.specs.Steps.{Stage, Event, act, go, moved, IsReached}
-use Rattle.steps_base.proofs.Runs.{go-append, go-keeps, reached_has}
-use Rattle.steps_base.proofs.Laws.{act_cases}
+use Rattle.steps_base.proofs.Runs.{go-append, go-step, go-keeps}
+use Rattle.steps_base.proofs.Laws.{act_cases, act-event}
 use Rattle.steps_base.proofs.Places.{slice_get-set_same, slice_get-set_other}
+use Rattle.heap_words.specs.declared.access.Took.{Took}
+use Rattle.heap_words.specs.declared.access.Took.TheVariants.{Done}
 use Rattle.evac_room.specs.declared.wish.Wish.{Wish}
 use Rattle.evac_room.specs.declared.wish.Copying.{Copying}
 use Rattle.evac_room.specs.declared.wish.Copying.TheVariants as copying
 use Rattle.evac_room.specs.Counter.{count_of, is_out_of_room, IsQuiet}
-use Rattle.evac_room.specs.Spot.{Spot, outside, is_counted}
-use Rattle.evac_room.specs.Rows.{form_at, next_at, IsFit}
-use Rattle.evac_room.specs.Core.{takes_at, begun, kind, opening, IsFew, reached, counter, counted, copying_at, answer_by, answer_to}
+use Rattle.evac_room.specs.Spot.{Spot, outside, inside, is_counted}
+use Rattle.evac_room.specs.Rows.{form_at, next_at, answer_at, IsFit}
+use Rattle.evac_room.specs.Core.{takes_at, begun, kind, opening, IsFew, reached, counter, counted, said, copying_at, answer_by, answer_to}
 use Rattle.evac_room.proofs.Steps.{Mine, mine_stays, weight, after, IsKept, Says, CanStep, each_keeps, each_says, each_fits}
 use Rattle.evac_room.proofs.Spots.{begun_goes, begun_weight, weight_one, begun_mine, counted_set, weight_counted, counted_outside, outside_here, accessed_one, found_one}
 
@@ -92,7 +94,7 @@ each_step s step sound = act_cases kind (λ x. Steps s x) s step
     (record { sound = sound; bit_stays = λ h. h; quiet_stays = λ q. refl })
     (λ spot here takes.
     let kept : IsKept (counter s) (begun spot step.order) (after (counter s) (begun spot step.order)) (next_at (begun spot step.order) (counter s)) =
-        each_keeps (counter s) (begun spot step.order) (can_step (counter s) s.machines step.number spot step.order sound.holds here takes) in
+    each_keeps (counter s) (begun spot step.order) (can_step (counter s) s.machines step.number spot step.order sound.holds here takes) in
     subst (λ x. Steps s x) (sym (moved_is s step.number spot step.order sound.one)) (record {
       sound = record {
         one = refl;
@@ -119,10 +121,6 @@ run_sound s steps sound = go-keeps kind IsSound (λ x step before. (each_step x 
 
 pub reached_sound : (copiers : ℕ) (steps : List (Event Wish)) → IsFew copiers → IsSound (reached copiers steps)
 reached_sound copiers steps few = run_sound (opening copiers) steps (opening_sound copiers few)
-
--- the law on the count
-pub word_counts : (copiers : ℕ) (steps : List (Event Wish)) → IsFew copiers → count_of (counter (reached copiers steps)) ≡ counted (reached copiers steps).machines
-word_counts copiers steps few = (reached_sound copiers steps few).holds.counts
 
 -- what stays from one stage to all that follow
 pub record Follows (old : ℕ) (s : Stage Spot) : Type 0 where
@@ -159,3 +157,53 @@ answer_says s step answer sound = by_machine (slice_get s.machines step.number) 
     by_machine : (m : Option Spot) → slice_get s.machines step.number ≡ m → answer_by (counter s) step.order m ≡ Some answer → Says (counter s) answer
     by_machine None here is = absurd (cc (is))
     by_machine (Some spot) here is = by_takes spot (takes_at spot step.order) here refl is
+
+-- a copier that may copy is inside
+pub inside_by_answer : (answer : Took) (next : Spot) → said answer next ≡ copying.Inside → next ≡ inside
+inside_by_answer Done inside is = refl
+inside_by_answer Done _ is = absurd (cc (is))
+inside_by_answer _ next is = absurd (cc (is))
+
+pub act_inside : (s : Stage Spot) (step : Event Wish) → IsSound s → answer_to s step ≡ Some copying.Inside → slice_get (act kind s step).machines step.number ≡ Some inside
+act_inside s step sound = by_machine (slice_get s.machines step.number) refl
+  where
+    by_takes : (spot : Spot) (b : Bool) → slice_get s.machines step.number ≡ Some spot → takes_at spot step.order ≡ b
+        → (if b then Some (copying_at (begun spot step.order) (counter s)) else None) ≡ Some copying.Inside → slice_get (act kind s step).machines step.number ≡ Some inside
+    by_takes spot true here takes is =
+        let next_is : next_at (begun spot step.order) (counter s) ≡ inside = inside_by_answer (answer_at (begun spot step.order) (counter s)) _ (cc (is)) in
+        ap (λ x. slice_get x.machines step.number) (act-event kind s step spot (record { here = here; takes = takes }) ∙ moved_is s step.number spot step.order sound.one)
+        ∙ slice_get-set_same s.machines step.number spot _ here ∙ ap (λ x. Some x) next_is
+    by_takes spot false here takes is = absurd (cc (is))
+
+    by_machine : (m : Option Spot) → slice_get s.machines step.number ≡ m → answer_by (counter s) step.order m ≡ Some copying.Inside → slice_get (act kind s step).machines step.number ≡ Some inside
+    by_machine None here is = absurd (cc (is))
+    by_machine (Some spot) here is = by_takes spot (takes_at spot step.order) here refl is
+
+-- the laws over every list of steps
+pub word_counts : (copiers : ℕ) (steps : List (Event Wish)) → IsFew copiers → count_of (counter (reached copiers steps)) ≡ counted (reached copiers steps).machines
+word_counts copiers steps few = (reached_sound copiers steps few).holds.counts
+
+pub word_is_word : (copiers : ℕ) (steps : List (Event Wish)) → IsFew copiers → counter (reached copiers steps) < 2 ^ 64
+word_is_word copiers steps few = (reached_sound copiers steps few).holds.is_word
+
+pub words_fit : (copiers : ℕ) (steps : List (Event Wish)) (number : ℕ) (spot : Spot) (wish : Wish) → IsFew copiers → slice_get (reached copiers steps).machines number ≡ Some spot → takes_at spot wish ≡ true
+    → IsFit (begun spot wish) (counter (reached copiers steps))
+words_fit copiers steps number spot wish few here takes =
+    each_fits _ _ (can_step _ _ number spot wish (reached_sound copiers steps few).holds here takes)
+
+pub bit_stays : (copiers : ℕ) (steps more : List (Event Wish)) → IsFew copiers → is_out_of_room (counter (reached copiers steps)) ≡ true → is_out_of_room (counter (reached copiers (steps ++ more))) ≡ true
+bit_stays copiers steps more few = (follows_reached copiers steps more few).bit_stays
+
+pub inside_is_counted : (copiers : ℕ) (steps : List (Event Wish)) (step : Event Wish) → IsFew copiers → answer_to (reached copiers steps) step ≡ Some copying.Inside → slice_get (reached copiers (steps ++ step ∷ [])).machines step.number ≡ Some inside
+inside_is_counted copiers steps step few answer =
+    ap (λ s. slice_get s.machines step.number) (go-step kind (opening copiers) steps step) ∙ act_inside (reached copiers steps) step (reached_sound copiers steps few) answer
+
+pub stopped_is_quiet : (copiers : ℕ) (steps : List (Event Wish)) (step : Event Wish) → IsFew copiers → answer_to (reached copiers steps) step ≡ Some copying.Stopped → IsQuiet (counter (reached copiers steps))
+stopped_is_quiet copiers steps step few answer = (answer_says (reached copiers steps) step copying.Stopped (reached_sound copiers steps few) answer).stopped_is_quiet refl
+
+pub quiet_stays : (copiers : ℕ) (steps more : List (Event Wish)) → IsFew copiers → IsQuiet (counter (reached copiers steps)) → IsQuiet (counter (reached copiers (steps ++ more)))
+quiet_stays copiers steps more few quiet = subst IsQuiet (sym ((follows_reached copiers steps more few).quiet_stays quiet)) quiet
+
+pub none_enters : (copiers : ℕ) (steps more : List (Event Wish)) (step : Event Wish) → IsFew copiers → IsQuiet (counter (reached copiers steps)) → answer_to (reached copiers (steps ++ more)) step ≢ Some copying.Inside
+none_enters copiers steps more step few quiet answer =
+    (answer_says (reached copiers (steps ++ more)) step copying.Inside (reached_sound copiers (steps ++ more) few) answer).none_enters (quiet_stays copiers steps more few quiet) refl

@@ -11,7 +11,7 @@ use Rattle.std.proofs.lemmas.Option.{slice_get-map, slice_get_read, get_or_from_
 use Rattle.steps_base.specs.Steps.{Stage, act, IsReached}
 use Rattle.steps_base.proofs.Laws.{act-event}
 use Rattle.steps_base.proofs.Runs.{reached_none, reached_more, reached_has}
-use Rattle.evac_room.specs.declared.laws.Copier.{Copier}
+use Rattle.evac_room.specs.declared.copier.Copier.{Copier}
 use Rattle.evac_room.specs.declared.wish.Wish.{Wish}
 use Rattle.evac_room.specs.declared.wish.Copying.{Copying}
 use Rattle.evac_room.specs.Counter.{count_of, is_out_of_room, IsQuiet}

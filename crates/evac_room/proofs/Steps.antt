@@ -86,13 +86,13 @@ each_keeps word (marks found) can = by_found (word == found) refl
   where
     by_found : (b : Bool) → (word == found) ≡ b → IsKept word (marks found) (if b then marked found else word) (if b then waits else asks)
     by_found true is = let same : word ≡ found = grind (arith, nat_tests) in let some : 1 ≤ count_of word = can.is_in refl in
-      let some_found : 1 ≤ count_of found = subst (λ n. 1 ≤ count_of n) same some in record {
-      is_word = omega (arith, can.is_word);
-      counts = omega (arith, can.few);
-      bit_stays = λ h. grind (arith, nat_tests);
-      quiet_stays = λ q. absurd (omega (arith, some, q.nobody));
-      mine = grind (arith, nat_tests);
-    }
+        let some_found : 1 ≤ count_of found = subst (λ n. 1 ≤ count_of n) same some in record {
+          is_word = omega (arith, can.is_word);
+          counts = omega (arith, can.few);
+          bit_stays = λ h. grind (arith, nat_tests);
+          quiet_stays = λ q. absurd (omega (arith, some, q.nobody));
+          mine = grind (arith, nat_tests);
+        }
     by_found false is = record { is_word = can.is_word; counts = refl; bit_stays = λ h. h; quiet_stays = λ q. refl; mine = tt }
 each_keeps word waits can = by_count (count_of word == 0) refl
   where
@@ -115,7 +115,7 @@ each_says word (raises found) can = by_found (word == found) refl
   where
     by_found : (b : Bool) → (word == found) ≡ b → Says word (said (if b then Done else Again) (if b then inside else looks))
     by_found true is = let same : word ≡ found = grind (arith, nat_tests) in let clear : found < 2 ^ 63 = can.mine in
-      record { stopped_is_quiet = λ is. absurd (cc (is)); none_enters = λ q is. grind (arith, nat_tests, q.out_of_room) }
+        record { stopped_is_quiet = λ is. absurd (cc (is)); none_enters = λ q is. grind (arith, nat_tests, q.out_of_room) }
     by_found false is = record { stopped_is_quiet = λ is. absurd (cc (is)); none_enters = λ q is. cc }
 each_says word leaves can = record { stopped_is_quiet = λ is. absurd (cc (is)); none_enters = λ q is. cc }
 each_says word asks can = record { stopped_is_quiet = λ is. absurd (cc (is)); none_enters = λ q is. cc }

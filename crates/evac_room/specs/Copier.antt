@@ -1,6 +1,6 @@
 -- Where a copier in memory stands.
-use Rattle.evac_room.specs.declared.laws.Copier.{Copier}
-use Rattle.evac_room.specs.declared.laws.Copier.TheVariants.{Outside, Entering, Leaving, Stopping}
+use Rattle.evac_room.specs.declared.copier.Copier.{Copier}
+use Rattle.evac_room.specs.declared.copier.Copier.TheVariants.{Outside, Entering, Leaving, Stopping}
 use Rattle.evac_room.specs.Spot.{Spot, outside}
 use Rattle.evac_room.specs.Seen.{spot_of_enter, spot_of_leave, spot_of_stop}
 

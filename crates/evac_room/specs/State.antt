@@ -1,7 +1,7 @@
 -- What callers know of `Copiers`.
 use Rattle.std.specs.Prelude.{ℕ, List, [], ◌∷◌, map, length, slice_index_or}
 use Rattle.steps_base.specs.Steps.{Stage}
-use Rattle.evac_room.specs.declared.laws.Copiers.{Copiers}
+use Rattle.evac_room.specs.declared.copiers.Copiers.{Copiers}
 use Rattle.evac_room.specs.Spot.{Spot, outside}
 use Rattle.evac_room.specs.Copier.{spot_of}
 

@@ -10,6 +10,8 @@
 //! its theorem over every list of steps.
 #![tactic(auto)]
 
+mod copier;
+mod copiers;
 mod counter;
 mod enter;
 pub mod laws;
@@ -22,3 +24,6 @@ pub use enter::EnterEvac;
 pub use leave::LeaveEvac;
 pub use out_of_room::OutOfRoom;
 pub use room::Room;
+
+#[cfg(test)]
+mod tests;

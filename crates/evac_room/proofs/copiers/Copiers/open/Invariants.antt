@@ -1,7 +1,7 @@
 use Rattle.std.proofs.Common.{◌≡◌, map, length, replicate}
 use Rattle.evac_room.specs.Spot.{outside}
 use Rattle.evac_room.specs.Copier.{spot_of}
-use Rattle.evac_room.proofs.laws.Copiers.open.Given as goal
+use Rattle.evac_room.proofs.copiers.Copiers.open.Given as goal
 
 abbrev pub invariant-loop : goal.invariant-loop
 invariant-loop l = record {

@@ -1,11 +1,11 @@
 use Rattle.std.proofs.Common.{◌≡◌, [], ◌∷◌, length, map, replicate, ap, ◌∙◌, subst, sym, refl, arith}
 use Rattle.std.proofs.lemmas.List.{length-append}
-use Rattle.evac_room.specs.declared.laws.Copier.TheVariants.{Outside}
+use Rattle.evac_room.specs.declared.copier.Copier.TheVariants.{Outside}
 use Rattle.evac_room.specs.Spot.{outside}
 use Rattle.evac_room.specs.Core.{IsFew}
 use Rattle.evac_room.specs.Copier.{spot_of}
 use Rattle.evac_room.proofs.Memory.{outside_more, opened_reached}
-use Rattle.evac_room.proofs.laws.Copiers.open.Goals as goal
+use Rattle.evac_room.proofs.copiers.Copiers.open.Goals as goal
 
 pub loop-init : goal.loop-init
 loop-init c = record { all = ap length c.new-copiers.ensures.items; are = ap (map spot_of) c.new-copiers.ensures.items }

@@ -3,7 +3,7 @@ use Rattle.std.proofs.Math.Logic.{∥∥₁_map}
 use Rattle.std.proofs.Math.Bool.{Bool-set}
 use Rattle.evac_room.specs.Counter.{is_out_of_room, IsQuiet}
 use Rattle.evac_room.proofs.Memory.{IsFit-prop, IsQuiet-prop, from_memory, spot_here, takes_here, made_from, made_event, made_reached, made_few, made_answer, made_keeps, made_says, found_fits}
-use Rattle.evac_room.proofs.laws.Copiers.step.Goals as goal
+use Rattle.evac_room.proofs.copiers.Copiers.step.Goals as goal
 
 pub advance-requires-clause-fit : goal.advance-requires-clause-fit
 advance-requires-clause-fit c =
@@ -15,9 +15,9 @@ advance-requires-clause-fit c =
 pub invariant_of-self : goal.invariant_of-self
 invariant_of-self c = record {
   few = made_few _ _ _ _ _ _ _ (made_from c.args.self.now.word c.advance.new.word c.args.self.now.copiers.items c.args.number c.index_mut.result.now c.advance.new.self c.args.wish
-    c.requires.number c.index_mut.ensures.value c.requires.wish c.advance.ensures.spot c.advance.ensures.word) c.args.self.now.few;
+      c.requires.number c.index_mut.ensures.value c.requires.wish c.advance.ensures.spot c.advance.ensures.word) c.args.self.now.few;
   reached = ∥∥₁_map c.args.self.now.reached (made_reached _ _ _ _ _ _ _ (made_from c.args.self.now.word c.advance.new.word c.args.self.now.copiers.items c.args.number c.index_mut.result.now c.advance.new.self c.args.wish
-    c.requires.number c.index_mut.ensures.value c.requires.wish c.advance.ensures.spot c.advance.ensures.word));
+      c.requires.number c.index_mut.ensures.value c.requires.wish c.advance.ensures.spot c.advance.ensures.word));
 }
 
 pub returns-clause-step : goal.returns-clause-step
