@@ -1,12 +1,12 @@
 -- The invariant of the protocol, and the laws over every list of steps.
-use Rattle.std.proofs.Common.{◌≡◌, ◌≢◌, ℕ, ◌+◌, ◌≤◌, ◌<◌, ◌^◌, ◌⊎◌, inl, inr, Bool, true, false, cond, List, [], ◌∷◌, ◌++◌, Option, Some, None, length, refl, sym, ap, ◌∙◌, subst, arith}
-use Rattle.std.specs.Prelude.{slice_get, slice_set, slice_index, replicate, nat_eq, if◌then◌else◌}
+use Rattle.std.proofs.Common.{◌≡◌, ◌≢◌, ℕ, ◌≤◌, ◌<◌, ◌^◌, Bool, true, false, List, [], ◌∷◌, ◌++◌, Option, Some, None, length, refl, sym, ap, ◌∙◌, subst, arith}
+use Rattle.std.specs.Prelude.{slice_get, slice_set, slice_index, nat_eq, if◌then◌else◌}
 use Rattle.std.proofs.lemmas.Bool.Decides.{nat_tests}
 use Rattle.std.proofs.lemmas.List.{length-set, length-replicate}
 use Rattle.std.proofs.lemmas.List.Sums.{count_by-le-length}
 use Rattle.heap_words.specs.Access.{place_of}
 use Rattle.steps_base.specs.Touch.{access_at}
-use Rattle.steps_base.specs.Steps.{Stage, Event, act, go, moved, IsReached}
+use Rattle.steps_base.specs.Steps.{Stage, Event, act, go, moved}
 use Rattle.steps_base.proofs.Runs.{go-append, go-step, go-keeps}
 use Rattle.steps_base.proofs.Laws.{act_cases, act-event}
 use Rattle.steps_base.proofs.Places.{slice_get-set_same, slice_get-set_other}
@@ -19,7 +19,7 @@ use Rattle.evac_room.specs.Counter.{count_of, is_out_of_room, IsQuiet}
 use Rattle.evac_room.specs.Spot.{Spot, outside, inside, is_counted}
 use Rattle.evac_room.specs.Rows.{form_at, next_at, answer_at, IsFit}
 use Rattle.evac_room.specs.Core.{takes_at, begun, kind, opening, IsFew, reached, counter, counted, said, copying_at, answer_by, answer_to}
-use Rattle.evac_room.proofs.Steps.{Mine, mine_stays, weight, after, IsKept, Says, CanStep, each_keeps, each_says, each_fits}
+use Rattle.evac_room.proofs.Steps.{Mine, mine_stays, after, IsKept, Says, CanStep, each_keeps, each_says, each_fits}
 use Rattle.evac_room.proofs.Spots.{begun_goes, begun_weight, weight_one, begun_mine, counted_set, weight_counted, counted_outside, outside_here, accessed_one, found_one}
 
 -- What holds of the word and the copiers after every list of steps: the word counts those that are counted, and each one

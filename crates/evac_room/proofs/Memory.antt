@@ -1,5 +1,5 @@
 -- The copiers in memory: a step of the code is one step of the protocol, and what memory has is sound.
-use Rattle.std.proofs.Common.{◌≡◌, ◌≢◌, ◌≤◌, ◌<◌, ℕ, ◌+◌, true, List, [], ◌∷◌, ◌++◌, Some, length, get_or, map, replicate, refl, sym, ap, ◌∙◌, subst, arith}
+use Rattle.std.proofs.Common.{◌≡◌, ◌<◌, ℕ, ◌+◌, true, List, [], ◌∷◌, ◌++◌, Some, length, get_or, map, replicate, refl, sym, ap, ◌∙◌, subst, arith}
 use Rattle.std.specs.Prelude.{slice_get, slice_set}
 use Rattle.std.specs.Option.{option_map}
 use Rattle.std.proofs.Math.Logic.{∥∥₁_elim}
@@ -14,10 +14,10 @@ use Rattle.steps_base.proofs.Runs.{reached_none, reached_more, reached_has}
 use Rattle.evac_room.specs.declared.copier.Copier.{Copier}
 use Rattle.evac_room.specs.declared.wish.Wish.{Wish}
 use Rattle.evac_room.specs.declared.wish.Copying.{Copying}
-use Rattle.evac_room.specs.Counter.{count_of, is_out_of_room, IsQuiet}
+use Rattle.evac_room.specs.Counter.{IsQuiet}
 use Rattle.evac_room.specs.Spot.{Spot, outside, leaves}
 use Rattle.evac_room.specs.Rows.{next_at, IsFit}
-use Rattle.evac_room.specs.Core.{takes_at, begun, kind, opening, IsFew, copying_at, answer_to, counted}
+use Rattle.evac_room.specs.Core.{takes_at, begun, kind, opening, IsFew, copying_at, answer_to}
 use Rattle.evac_room.specs.Copier.{spot_of}
 use Rattle.evac_room.proofs.Steps.{after, IsKept, Says, each_keeps, each_says, each_fits}
 use Rattle.evac_room.proofs.Every.{at_word, moved_one, IsSound, reached_sound, can_step}

@@ -1,13 +1,13 @@
 -- Lists of copiers, and what a wish makes of one.
-use Rattle.std.proofs.Common.{◌≡◌, ℕ, ◌+◌, ◌≤◌, Bool, true, false, cond, List, [], ◌∷◌, Some, None, length, zero, suc, refl, sym, ap, ◌∙◌, arith}
-use Rattle.std.specs.Prelude.{slice_get, slice_set, slice_index, replicate, count_by}
+use Rattle.std.proofs.Common.{◌≡◌, ℕ, ◌+◌, ◌≤◌, true, false, cond, List, [], ◌∷◌, Some, zero, suc, refl, ap, arith}
+use Rattle.std.specs.Prelude.{slice_get, slice_set, slice_index, replicate}
 use Rattle.std.proofs.lemmas.List.Sums.{sum_by-cons}
 use Rattle.heap_words.specs.Access.{place_of}
 use Rattle.steps_base.specs.Steps.{accessed}
 use Rattle.steps_base.specs.Touch.{Form, loads, formed, access_at}
 use Rattle.evac_room.specs.declared.wish.Wish.{Wish}
 use Rattle.evac_room.specs.declared.wish.Wish.TheVariants.{Enter, Leave, NoRoom}
-use Rattle.evac_room.specs.Spot.{Spot, outside, looks, raises, inside, leaves, asks, marks, waits, stopped, is_at_rest, is_counted}
+use Rattle.evac_room.specs.Spot.{Spot, outside, inside, stopped, is_at_rest, is_counted}
 use Rattle.evac_room.specs.Core.{takes_at, begun, counted}
 use Rattle.evac_room.proofs.Steps.{Mine, weight}
 

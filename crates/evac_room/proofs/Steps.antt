@@ -1,6 +1,6 @@
 -- One step of one copier: what its access makes of the word, over plain variables.
-use Rattle.std.proofs.Common.{◌≡◌, ◌≢◌, ℕ, ◌+◌, ◌≤◌, ◌<◌, ◌^◌, Bool, true, false, cond, refl, sym, ap, ◌∙◌, subst, arith}
-use Rattle.std.specs.Prelude.{◌%◌, ◌==◌, ◌-◌, ⊤, if◌then◌else◌}
+use Rattle.std.proofs.Common.{◌≡◌, ◌≢◌, ℕ, ◌+◌, ◌≤◌, ◌<◌, ◌^◌, Bool, true, false, cond, refl, subst, arith}
+use Rattle.std.specs.Prelude.{◌==◌, ⊤, if◌then◌else◌}
 use Rattle.std.proofs.lemmas.Bool.Decides.{nat_tests}
 use Rattle.steps_base.specs.Touch.{formed}
 use Rattle.heap_words.specs.declared.access.Took.TheVariants.{More, Again, Done}
@@ -8,8 +8,8 @@ use Rattle.evac_room.specs.declared.wish.Copying.{Copying}
 use Rattle.evac_room.specs.declared.wish.Copying.TheVariants as copying
 use Rattle.evac_room.specs.Counter.{count_of, is_out_of_room, marked, IsQuiet}
 use Rattle.evac_room.specs.Spot.{Spot, outside, looks, raises, inside, leaves, asks, marks, waits, stopped, is_at_rest, is_counted}
-use Rattle.evac_room.specs.Rows.{form_at, next_at, answer_at, IsFit}
-use Rattle.evac_room.specs.Core.{copying_at, said, ended_at}
+use Rattle.evac_room.specs.Rows.{form_at, next_at, IsFit}
+use Rattle.evac_room.specs.Core.{copying_at, said}
 
 -- What a copier counts on between its accesses: it raises only a word with bit 63 clear, and waits only once the bit is set.
 abbrev pub Mine : ℕ → Spot → Type 0

@@ -1,5 +1,5 @@
 -- What callers know of `Copiers`.
-use Rattle.std.specs.Prelude.{ℕ, List, [], ◌∷◌, map, length, slice_index_or}
+use Rattle.std.specs.Prelude.{ℕ, List, [], ◌∷◌, map, slice_index_or}
 use Rattle.steps_base.specs.Steps.{Stage}
 use Rattle.evac_room.specs.declared.copiers.Copiers.{Copiers}
 use Rattle.evac_room.specs.Spot.{Spot, outside}

@@ -1,7 +1,6 @@
-use Rattle.std.proofs.Common.{◌≡◌, [], ◌∷◌, length, map, replicate, ap, ◌∙◌, subst, sym, refl, arith}
+use Rattle.std.proofs.Common.{[], ◌∷◌, length, map, ap, ◌∙◌, subst, sym, refl, arith}
 use Rattle.std.proofs.lemmas.List.{length-append}
 use Rattle.evac_room.specs.declared.copier.Copier.TheVariants.{Outside}
-use Rattle.evac_room.specs.Spot.{outside}
 use Rattle.evac_room.specs.Core.{IsFew}
 use Rattle.evac_room.specs.Copier.{spot_of}
 use Rattle.evac_room.proofs.Memory.{outside_more, opened_reached}
