@@ -1,16 +1,24 @@
 //! The counter by itself: one word and up to 12 copiers, each of whose steps is one access. The laws are of every list
 //! of steps, so of every way in which threads may take turns.
 
-ghost use Rattle.std.specs.Prelude.{ℕ, ◌≡◌, ◌≢◌, ◌<◌, ◌^◌, true, List, [], ◌∷◌, ◌++◌, Some, slice_get};
+ghost use Rattle.std.specs.Prelude.{ℕ, ◌≡◌, ◌≢◌, ◌<◌, ◌+◌, ◌-◌, ◌*◌, ◌^◌, ◌↔◌, bit_or, true, List, [], ◌∷◌, ◌++◌, Some, slice_get};
 ghost use Rattle.steps_base.specs.Steps.{Event};
 ghost use Rattle.evac_room.specs.declared.wish.Wish.{Wish};
-ghost use Rattle.evac_room.specs.Counter.{count_of, is_out_of_room, IsQuiet};
+ghost use Rattle.std.specs.Int.{bit_at};
+ghost use Rattle.evac_room.specs.Counter.{count_of, is_out_of_room, marked, IsQuiet};
 ghost use Rattle.evac_room.specs.Spot.{Spot, inside};
 ghost use Rattle.evac_room.specs.Rows.{IsFit};
 ghost use Rattle.evac_room.specs.Core.{IsFew, reached, counter, counted, takes_at, begun, answer_to};
 
 pub use crate::copiers::Copiers;
 pub use crate::wish::{Copying, Wish};
+
+/// A law: what is said of the counter is said of its bits.
+pub fn bits_of_the_counter()
+    ensures bit { (word : ℕ) → word < 2 ^ 64 → (is_out_of_room word ≡ true) ↔ (bit_at word 63 ≡ 1) }
+    ensures parts { (word : ℕ) → word < 2 ^ 64 → word ≡ bit_at word 63 * 2 ^ 63 + count_of word }
+    ensures marked { (word : ℕ) → word < 2 ^ 64 → marked word ≡ bit_or word (2 ^ 63) - 1 }
+{}
 
 /// The laws of the counter: of 1 to 12 copiers, whatever list of steps they make from the opening. A step that its copier
 /// does not take changes nothing.
