@@ -47,7 +47,7 @@ pub record IsFew (copiers : ℕ) : Type 0 where
   pub least : 1 ≤ copiers
   pub most : copiers ≤ 12
 
--- the word and the copiers after a list of steps from the opening
+-- what a list of steps leads to from the opening
 abbrev pub reached : ℕ → List (Event Wish) → Stage Spot
 reached copiers steps = go kind (opening copiers) steps
 
@@ -79,5 +79,16 @@ abbrev pub answer_by : ℕ → Wish → Option Spot → Option Copying
 answer_by word wish None = None
 answer_by word wish (Some spot) = if takes_at spot wish then Some (copying_at (begun spot wish) word) else None
 
+-- what a step answers in a stage
 abbrev pub answer_to : Stage Spot → Event Wish → Option Copying
 answer_to s step = answer_by (counter s) step.order (slice_get s.machines step.number)
+
+-- the same three after a list of steps from the opening
+abbrev pub word_after : ℕ → List (Event Wish) → ℕ
+word_after copiers steps = counter (reached copiers steps)
+
+abbrev pub spots_after : ℕ → List (Event Wish) → List Spot
+spots_after copiers steps = (reached copiers steps).machines
+
+abbrev pub answer_after : ℕ → List (Event Wish) → Event Wish → Option Copying
+answer_after copiers steps step = answer_to (reached copiers steps) step

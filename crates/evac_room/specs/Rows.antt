@@ -11,7 +11,7 @@ use Rattle.steps_base.specs.Touch.{Form, loads, subtracts, exchanges, touch, pla
 use Rattle.evac_room.specs.Counter.{count_of, is_out_of_room, marked}
 use Rattle.evac_room.specs.Spot.{Spot, outside, looks, raises, inside, leaves, asks, marks, waits, stopped}
 
--- the place of the next access; for a copier at rest, that of the first access of a call
+-- the place of the next access; a copier at rest makes none, and the place is that of a call which it may begin
 abbrev pub place_at : Spot → Place
 place_at outside = place.XL
 place_at looks = place.XL
@@ -34,7 +34,7 @@ form_at _ = loads
 abbrev pub access_of : Config → Spot → Access
 access_of c spot = placed c (touch Evac (form_at spot))
 
--- where the copier stands after the access, by the word that it found
+-- where the copier stands after the access, by the word that it found; at rest it stays
 abbrev pub next_at : Spot → ℕ → Spot
 next_at looks got = if is_out_of_room got then (if count_of got == 0 then stopped else looks) else raises got
 next_at (raises found) got = if got == found then inside else looks

@@ -19,7 +19,7 @@ pub struct Copiers {
 }
 
 impl Copiers {
-    ghost use Rattle.std.specs.Prelude.{◌<◌, ◌≢◌, ◌↔◌, true, Some, IfOk};
+    ghost use Rattle.std.specs.Prelude.{◌<◌, ◌≢◌, true, false, Some, IfOk};
     ghost use Rattle.steps_base.specs.Steps.{act};
     ghost use Rattle.evac_room.specs.Counter.{count_of, is_out_of_room, IsQuiet};
     ghost use Rattle.evac_room.specs.Core.{takes_at, answer_to, counted};
@@ -49,7 +49,8 @@ impl Copiers {
     /// Whether there is the copier and it takes the wish: at rest outside it takes only `Enter`, at rest inside only `Leave`
     /// and `NoRoom`, and in between it takes any, and goes on.
     pub fn takes(&self, number: usize, wish: Wish) -> bool
-        ensures { (result ≡ true) ↔ ((number < length (spots_of self.now)) × (takes_at (spot_at self.now number) wish ≡ true)) }
+        ensures taken { result ≡ true → (number < length (spots_of self.now)) × (takes_at (spot_at self.now number) wish ≡ true) }
+        ensures refused { result ≡ false → number < length (spots_of self.now) → takes_at (spot_at self.now number) wish ≡ false }
     {
         number < self.copiers.len() && self.copiers[number].takes(wish)
     }

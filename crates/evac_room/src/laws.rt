@@ -8,7 +8,7 @@ ghost use Rattle.std.specs.Int.{bit_at};
 ghost use Rattle.evac_room.specs.Counter.{count_of, is_out_of_room, marked, IsQuiet};
 ghost use Rattle.evac_room.specs.Spot.{Spot, inside};
 ghost use Rattle.evac_room.specs.Rows.{IsFit};
-ghost use Rattle.evac_room.specs.Core.{IsFew, reached, counter, counted, takes_at, begun, answer_to};
+ghost use Rattle.evac_room.specs.Core.{IsFew, counted, takes_at, begun, word_after, spots_after, answer_after};
 
 pub use crate::copiers::Copiers;
 pub use crate::wish::{Copying, Wish};
@@ -25,19 +25,31 @@ pub fn bits_of_the_counter()
 pub fn every_list_of_steps()
     // the lower 63 bits are the number of copiers that are inside, in a leave before its access, or out of room and not yet
     // taken off
-    ensures counts { (copiers : ℕ) (steps : List (Event Wish)) → IsFew copiers → count_of (counter (reached copiers steps)) ≡ counted (reached copiers steps).machines }
+    ensures counts { (copiers : ℕ) (steps : List (Event Wish)) → IsFew copiers
+        → count_of (word_after copiers steps) ≡ counted (spots_after copiers steps) }
     // it is a word of 64 bits
-    ensures is_word { (copiers : ℕ) (steps : List (Event Wish)) → IsFew copiers → counter (reached copiers steps) < 2 ^ 64 }
+    ensures is_word { (copiers : ℕ) (steps : List (Event Wish)) → IsFew copiers
+        → word_after copiers steps < 2 ^ 64 }
     // a copier that takes a wish finds a fit word
-    ensures fits { (copiers : ℕ) (steps : List (Event Wish)) (number : ℕ) (spot : Spot) (wish : Wish) → IsFew copiers → slice_get (reached copiers steps).machines number ≡ Some spot → takes_at spot wish ≡ true → IsFit (begun spot wish) (counter (reached copiers steps)) }
+    ensures fits { (copiers : ℕ) (steps : List (Event Wish)) (number : ℕ) (spot : Spot) (wish : Wish) → IsFew copiers
+        → slice_get (spots_after copiers steps) number ≡ Some spot → takes_at spot wish ≡ true
+        → IsFit (begun spot wish) (word_after copiers steps) }
     // bit 63 once set stays
-    ensures bit_stays { (copiers : ℕ) (steps more : List (Event Wish)) → IsFew copiers → is_out_of_room (counter (reached copiers steps)) ≡ true → is_out_of_room (counter (reached copiers (steps ++ more))) ≡ true }
+    ensures bit_stays { (copiers : ℕ) (steps more : List (Event Wish)) → IsFew copiers
+        → is_out_of_room (word_after copiers steps) ≡ true
+        → is_out_of_room (word_after copiers (steps ++ more)) ≡ true }
     // a copier that was told that it may copy is inside, and so counted, until its own next step
-    ensures inside_is_counted { (copiers : ℕ) (steps : List (Event Wish)) (step : Event Wish) → IsFew copiers → answer_to (reached copiers steps) step ≡ Some Copying.Inside → slice_get (reached copiers (steps ++ step ∷ [])).machines step.number ≡ Some inside }
+    ensures inside_is_counted { (copiers : ℕ) (steps : List (Event Wish)) (step : Event Wish) → IsFew copiers
+        → answer_after copiers steps step ≡ Some Copying.Inside
+        → slice_get (spots_after copiers (steps ++ step ∷ [])) step.number ≡ Some inside }
     // a copier is stopped only by a quiet word: bit 63 is set, and nobody is counted
-    ensures stopped_is_quiet { (copiers : ℕ) (steps : List (Event Wish)) (step : Event Wish) → IsFew copiers → answer_to (reached copiers steps) step ≡ Some Copying.Stopped → IsQuiet (counter (reached copiers steps)) }
+    ensures stopped_is_quiet { (copiers : ℕ) (steps : List (Event Wish)) (step : Event Wish) → IsFew copiers
+        → answer_after copiers steps step ≡ Some Copying.Stopped → IsQuiet (word_after copiers steps) }
     // a quiet word stays quiet
-    ensures quiet_stays { (copiers : ℕ) (steps more : List (Event Wish)) → IsFew copiers → IsQuiet (counter (reached copiers steps)) → IsQuiet (counter (reached copiers (steps ++ more))) }
+    ensures quiet_stays { (copiers : ℕ) (steps more : List (Event Wish)) → IsFew copiers
+        → IsQuiet (word_after copiers steps) → IsQuiet (word_after copiers (steps ++ more)) }
     // after a quiet word nobody may copy, ever again
-    ensures none_enters { (copiers : ℕ) (steps more : List (Event Wish)) (step : Event Wish) → IsFew copiers → IsQuiet (counter (reached copiers steps)) → answer_to (reached copiers (steps ++ more)) step ≢ Some Copying.Inside }
+    ensures none_enters { (copiers : ℕ) (steps more : List (Event Wish)) (step : Event Wish) → IsFew copiers
+        → IsQuiet (word_after copiers steps)
+        → answer_after copiers (steps ++ more) step ≢ Some Copying.Inside }
 {}
