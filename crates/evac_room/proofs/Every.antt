@@ -84,18 +84,18 @@ pub moved_is : (s : Stage Spot) (number : ℕ) (spot : Spot) (wish : Wish) → s
 moved_is s number spot wish one = ap (λ x. moved kind x number spot wish) (is_at_word s one) ∙ moved_one (counter s) s.machines number spot wish
 
 -- what a step may do to the word
-pub record Steps (old new : Stage Spot) : Type 0 where
+pub record IsStep (old new : Stage Spot) : Type 0 where
   pub sound : IsSound new
   pub bit_stays : is_out_of_room (counter old) ≡ true → is_out_of_room (counter new) ≡ true
   pub quiet_stays : IsQuiet (counter old) → counter new ≡ counter old
 
-pub each_step : (s : Stage Spot) (step : Event Wish) → IsSound s → Steps s (act kind s step)
-each_step s step sound = act_cases kind (λ x. Steps s x) s step
+pub each_step : (s : Stage Spot) (step : Event Wish) → IsSound s → IsStep s (act kind s step)
+each_step s step sound = act_cases kind (λ x. IsStep s x) s step
     (record { sound = sound; bit_stays = λ h. h; quiet_stays = λ q. refl })
     (λ spot here takes.
     let kept : IsKept (counter s) (begun spot step.order) (after (counter s) (begun spot step.order)) (next_at (begun spot step.order) (counter s)) =
     each_keeps (counter s) (begun spot step.order) (can_step (counter s) s.machines step.number spot step.order sound.holds here takes) in
-    subst (λ x. Steps s x) (sym (moved_is s step.number spot step.order sound.one)) (record {
+    subst (λ x. IsStep s x) (sym (moved_is s step.number spot step.order sound.one)) (record {
       sound = record {
         one = refl;
         holds = holds_next (counter s) s.machines step.number spot step.order _ _ sound.holds here kept;
@@ -123,13 +123,13 @@ pub reached_sound : (copiers : ℕ) (steps : List (Event Wish)) → IsFew copier
 reached_sound copiers steps few = run_sound (opening copiers) steps (opening_sound copiers few)
 
 -- what stays from one stage to all that follow
-pub record Follows (old : ℕ) (s : Stage Spot) : Type 0 where
+pub record IsLater (old : ℕ) (s : Stage Spot) : Type 0 where
   pub sound : IsSound s
   pub bit_stays : is_out_of_room old ≡ true → is_out_of_room (counter s) ≡ true
   pub quiet_stays : IsQuiet old → counter s ≡ old
 
-pub follows_more : (s : Stage Spot) (more : List (Event Wish)) → IsSound s → Follows (counter s) (go kind s more)
-follows_more s more sound = go-keeps kind (λ x. Follows (counter s) x)
+pub later_more : (s : Stage Spot) (more : List (Event Wish)) → IsSound s → IsLater (counter s) (go kind s more)
+later_more s more sound = go-keeps kind (λ x. IsLater (counter s) x)
     (λ x step before. let next = each_step x step before.sound in record {
       sound = next.sound;
       bit_stays = λ h. next.bit_stays (before.bit_stays h);
@@ -137,10 +137,10 @@ follows_more s more sound = go-keeps kind (λ x. Follows (counter s) x)
     })
     s more (record { sound = sound; bit_stays = λ h. h; quiet_stays = λ q. refl })
 
-pub follows_reached : (copiers : ℕ) (steps more : List (Event Wish)) → IsFew copiers → Follows (counter (reached copiers steps)) (reached copiers (steps ++ more))
-follows_reached copiers steps more few =
-    subst (λ x. Follows (counter (reached copiers steps)) x) (sym (go-append kind (opening copiers) steps more))
-    (follows_more (reached copiers steps) more (reached_sound copiers steps few))
+pub later_reached : (copiers : ℕ) (steps more : List (Event Wish)) → IsFew copiers → IsLater (counter (reached copiers steps)) (reached copiers (steps ++ more))
+later_reached copiers steps more few =
+    subst (λ x. IsLater (counter (reached copiers steps)) x) (sym (go-append kind (opening copiers) steps more))
+    (later_more (reached copiers steps) more (reached_sound copiers steps few))
 
 -- what an answer says, of a sound stage
 pub answer_says : (s : Stage Spot) (step : Event Wish) (answer : Copying) → IsSound s → answer_to s step ≡ Some answer → Says (counter s) answer
@@ -192,7 +192,7 @@ words_fit copiers steps number spot wish few here takes =
     each_fits _ _ (can_step _ _ number spot wish (reached_sound copiers steps few).holds here takes)
 
 pub bit_stays : (copiers : ℕ) (steps more : List (Event Wish)) → IsFew copiers → is_out_of_room (counter (reached copiers steps)) ≡ true → is_out_of_room (counter (reached copiers (steps ++ more))) ≡ true
-bit_stays copiers steps more few = (follows_reached copiers steps more few).bit_stays
+bit_stays copiers steps more few = (later_reached copiers steps more few).bit_stays
 
 pub inside_is_counted : (copiers : ℕ) (steps : List (Event Wish)) (step : Event Wish) → IsFew copiers → answer_to (reached copiers steps) step ≡ Some copying.Inside → slice_get (reached copiers (steps ++ step ∷ [])).machines step.number ≡ Some inside
 inside_is_counted copiers steps step few answer =
@@ -202,7 +202,7 @@ pub stopped_is_quiet : (copiers : ℕ) (steps : List (Event Wish)) (step : Event
 stopped_is_quiet copiers steps step few answer = (answer_says (reached copiers steps) step copying.Stopped (reached_sound copiers steps few) answer).stopped_is_quiet refl
 
 pub quiet_stays : (copiers : ℕ) (steps more : List (Event Wish)) → IsFew copiers → IsQuiet (counter (reached copiers steps)) → IsQuiet (counter (reached copiers (steps ++ more)))
-quiet_stays copiers steps more few quiet = subst IsQuiet (sym ((follows_reached copiers steps more few).quiet_stays quiet)) quiet
+quiet_stays copiers steps more few quiet = subst IsQuiet (sym ((later_reached copiers steps more few).quiet_stays quiet)) quiet
 
 pub none_enters : (copiers : ℕ) (steps more : List (Event Wish)) (step : Event Wish) → IsFew copiers → IsQuiet (counter (reached copiers steps)) → answer_to (reached copiers (steps ++ more)) step ≢ Some copying.Inside
 none_enters copiers steps more step few quiet answer =

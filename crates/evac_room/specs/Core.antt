@@ -83,7 +83,7 @@ answer_by word wish (Some spot) = if takes_at spot wish then Some (copying_at (b
 abbrev pub answer_to : Stage Spot → Event Wish → Option Copying
 answer_to s step = answer_by (counter s) step.order (slice_get s.machines step.number)
 
--- the same three after a list of steps from the opening
+-- the word, where the copiers stand, and what a step answers, after a list of steps from the opening
 abbrev pub word_after : ℕ → List (Event Wish) → ℕ
 word_after copiers steps = counter (reached copiers steps)
 
