@@ -1,0 +1,109 @@
+-- The copiers in memory: a step of the code is one step of the protocol, and what memory has is sound.
+use Rattle.std.proofs.Common.{◌≡◌, ◌<◌, ℕ, ◌+◌, true, List, [], ◌∷◌, ◌++◌, Some, length, get_or, map, replicate, refl, sym, ap, ◌∙◌, subst, arith}
+use Rattle.std.specs.Prelude.{slice_get, slice_set}
+use Rattle.std.specs.Option.{option_map}
+use Rattle.std.proofs.Math.Logic.{∥∥₁_elim}
+use Rattle.std.proofs.Math.Bool.{Bool-set}
+use Rattle.std.proofs.Math.Nat.{ℕ_set}
+use Rattle.std.proofs.Math.Bridge.{le_prop}
+use Rattle.std.proofs.lemmas.List.{map-set, map-append, length-map, length-set, replicate_more}
+use Rattle.std.proofs.lemmas.Option.{slice_get-map, slice_get_read, get_or_from_slice_get}
+use Rattle.steps_base.specs.Steps.{Stage, act, IsReached}
+use Rattle.steps_base.proofs.Laws.{act-event}
+use Rattle.steps_base.proofs.Runs.{reached_none, reached_more, reached_has}
+use Rattle.evac_room.specs.declared.copier.Copier.{Copier}
+use Rattle.evac_room.specs.declared.wish.Wish.{Wish}
+use Rattle.evac_room.specs.declared.wish.Copying.{Copying}
+use Rattle.evac_room.specs.Counter.{IsQuiet}
+use Rattle.evac_room.specs.Spot.{Spot, outside, leaves}
+use Rattle.evac_room.specs.Rows.{next_at, IsFit}
+use Rattle.evac_room.specs.Core.{takes_at, begun, kind, opening, IsFew, copying_at, answer_to}
+use Rattle.evac_room.specs.Copier.{spot_of}
+use Rattle.evac_room.proofs.Steps.{after, IsKept, Says, each_keeps, each_says, each_fits}
+use Rattle.evac_room.proofs.Every.{at_word, moved_one, IsSound, reached_sound, can_step}
+
+-- what follows from a sound stage, and has one proof at most, follows of each stage that memory may have
+pub from_memory : {P : Type 0} → IsProp P → (copiers : ℕ) (s : Stage Spot) → IsFew copiers → ∥ IsReached kind (opening copiers) s ∥₁ → (IsSound s → P) → P
+from_memory prop copiers s few some follows =
+    ∥∥₁_elim some prop (λ one. follows (reached_has kind IsSound (opening copiers) s (λ steps. reached_sound copiers steps few) one))
+
+pub IsFit-prop : (spot : Spot) (word : ℕ) → IsProp (IsFit spot word)
+IsFit-prop leaves word = hlevel (le_prop)
+IsFit-prop _ word = hlevel
+
+pub IsQuiet-prop : (word : ℕ) → IsProp (IsQuiet word)
+IsQuiet-prop word = hlevel (Bool-set, ℕ_set)
+
+-- the copier of a number, as the code reads it
+pub spot_here : (copiers : List Copier) (number : ℕ) (x : Copier) → number < length (map spot_of copiers) → x ≡ get_or copiers number x → slice_get (map spot_of copiers) number ≡ Some (spot_of x)
+spot_here copiers number x below value =
+    let inside : number < length copiers = omega (arith, length-map copiers spot_of) in
+    slice_get-map spot_of copiers number ∙ ap (λ o. option_map spot_of o) (slice_get_read copiers (length copiers) number x refl inside value)
+
+-- a copier has taken a wish and made its access
+pub record IsMade (word made : ℕ) (copiers : List Copier) (number : ℕ) (x y : Copier) (wish : Wish) : Type 0 where
+  pub here : slice_get (map spot_of copiers) number ≡ Some (spot_of x)
+  pub takes : takes_at (spot_of x) wish ≡ true
+  pub spot_is : spot_of y ≡ next_at (begun (spot_of x) wish) word
+  pub word_is : made ≡ after word (begun (spot_of x) wish)
+
+-- the wish is taken by the copier that the code reads
+pub takes_here : (copiers : List Copier) (number : ℕ) (x : Copier) (wish : Wish) → slice_get (map spot_of copiers) number ≡ Some (spot_of x)
+    → takes_at (get_or (map spot_of copiers) number outside) wish ≡ true → takes_at (spot_of x) wish ≡ true
+takes_here copiers number x wish here takes =
+    subst (λ spot. takes_at spot wish ≡ true) (get_or_from_slice_get (map spot_of copiers) number (spot_of x) outside here) takes
+
+pub made_from : (word made : ℕ) (copiers : List Copier) (number : ℕ) (x y : Copier) (wish : Wish) → number < length (map spot_of copiers) → x ≡ get_or copiers number x
+    → takes_at (get_or (map spot_of copiers) number outside) wish ≡ true → spot_of y ≡ next_at (begun (spot_of x) wish) word → made ≡ after word (begun (spot_of x) wish)
+    → IsMade word made copiers number x y wish
+made_from word made copiers number x y wish below value takes spot_is word_is =
+    let here : slice_get (map spot_of copiers) number ≡ Some (spot_of x) = spot_here copiers number x below value in
+    record { here = here; takes = takes_here copiers number x wish here takes; spot_is = spot_is; word_is = word_is }
+
+module _ (word made : ℕ) (copiers : List Copier) (number : ℕ) (x y : Copier) (wish : Wish) (step : IsMade word made copiers number x y wish) where
+  -- it is one step of the protocol
+  pub made_event : at_word made (map spot_of (slice_set copiers number y)) ≡ act kind (at_word word (map spot_of copiers)) (record { number = number; order = wish })
+  made_event =
+      ap (λ w. at_word w (map spot_of (slice_set copiers number y))) step.word_is
+      ∙ ap (λ spots. at_word (after word (begun (spot_of x) wish)) spots) (map-set spot_of copiers number y ∙ ap (λ spot. slice_set (map spot_of copiers) number spot) step.spot_is)
+      ∙ sym (moved_one word (map spot_of copiers) number (spot_of x) wish)
+      ∙ sym (act-event kind (at_word word (map spot_of copiers)) (record { number = number; order = wish }) (spot_of x) (record { here = step.here; takes = step.takes }))
+
+  pub made_reached : IsReached kind (opening (length copiers)) (at_word word (map spot_of copiers)) → IsReached kind (opening (length (slice_set copiers number y))) (at_word made (map spot_of (slice_set copiers number y)))
+  made_reached reached =
+      subst (λ n. IsReached kind (opening n) (at_word made (map spot_of (slice_set copiers number y)))) (sym (length-set copiers number y))
+      (subst (λ s. IsReached kind (opening (length copiers)) s) (sym made_event) (reached_more kind (opening (length copiers)) (at_word word (map spot_of copiers)) (record { number = number; order = wish }) reached))
+
+  pub made_few : IsFew (length copiers) → IsFew (length (slice_set copiers number y))
+  made_few few = subst IsFew (sym (length-set copiers number y)) few
+
+  pub made_answer : (answer : Copying) → answer ≡ copying_at (begun (spot_of x) wish) word → answer_to (at_word word (map spot_of copiers)) (record { number = number; order = wish }) ≡ Some answer
+  made_answer answer is = rw (step.here, step.takes) (ap (λ a. Some a) (sym is))
+
+  -- what the step keeps, and what its answer says
+  pub made_keeps : IsSound (at_word word (map spot_of copiers)) → IsKept word (begun (spot_of x) wish) made (spot_of y)
+  made_keeps sound =
+      subst (λ spot. IsKept word (begun (spot_of x) wish) made spot) (sym step.spot_is)
+      (subst (λ w. IsKept word (begun (spot_of x) wish) w (next_at (begun (spot_of x) wish) word)) (sym step.word_is)
+      (each_keeps word (begun (spot_of x) wish) (can_step word (map spot_of copiers) number (spot_of x) wish sound.holds step.here step.takes)))
+
+  pub made_says : (answer : Copying) → answer ≡ copying_at (begun (spot_of x) wish) word → IsSound (at_word word (map spot_of copiers)) → Says word answer
+  made_says answer is sound =
+      subst (λ a. Says word a) (sym is)
+      (each_says word (begun (spot_of x) wish) (can_step word (map spot_of copiers) number (spot_of x) wish sound.holds step.here step.takes))
+
+-- the word that a copier finds is fit
+pub found_fits : (word : ℕ) (copiers : List Copier) (number : ℕ) (x : Copier) (wish : Wish) → slice_get (map spot_of copiers) number ≡ Some (spot_of x) → takes_at (spot_of x) wish ≡ true
+    → IsSound (at_word word (map spot_of copiers)) → IsFit (begun (spot_of x) wish) word
+found_fits word copiers number x wish here takes sound =
+    each_fits word (begun (spot_of x) wish) (can_step word (map spot_of copiers) number (spot_of x) wish sound.holds here takes)
+
+-- one copier more, as the opening makes them
+pub outside_more : (copiers : List Copier) (new : Copier) (count : ℕ) → map spot_of copiers ≡ replicate count outside → spot_of new ≡ outside → map spot_of (copiers ++ new ∷ []) ≡ replicate (count + 1) outside
+outside_more copiers new count so_far is =
+    map-append spot_of copiers (new ∷ []) ∙ ap (λ spots. spots ++ spot_of new ∷ []) so_far ∙ ap (λ spot. replicate count outside ++ spot ∷ []) is ∙ replicate_more count outside
+
+pub opened_reached : (copiers : List Copier) (count : ℕ) → length copiers ≡ count → map spot_of copiers ≡ replicate count outside → IsReached kind (opening (length copiers)) (at_word 0 (map spot_of copiers))
+opened_reached copiers count all are =
+    subst (λ n. IsReached kind (opening n) (at_word 0 (map spot_of copiers))) (sym all)
+    (subst (λ spots. IsReached kind (opening count) (at_word 0 spots)) (sym are) (reached_none kind (opening count)))

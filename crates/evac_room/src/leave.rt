@@ -1,0 +1,82 @@
+ghost use Rattle.std.specs.Prelude.{◌≡◌};
+
+use heap_words::{Access, Config, Place, Took};
+
+#[derive(Clone, Copy, Debug, PartialEq, Eq)]
+enum Leaving {
+    Subtract,
+    Outside,
+}
+
+/// A copier that has copied, and takes itself off the counter in one step.
+#[derive(Debug, Drop)]
+pub struct LeaveEvac {
+    config: Config,
+    at: Leaving,
+}
+
+impl LeaveEvac {
+    ghost use Rattle.std.specs.Prelude.{false, ◌<◌};
+    ghost use Rattle.heap_words.specs.Access.{place_of};
+    ghost use Rattle.heap_words.specs.Words.{table_words};
+    ghost use Rattle.evac_room.specs.Spot.{leaves, is_at_rest};
+    ghost use Rattle.evac_room.specs.Rows.{place_at, access_of, next_at, answer_at, IsFit};
+    ghost use Rattle.evac_room.specs.Seen.{spot_of_leave, config_of_leave};
+
+    /// A copier that takes itself off the counter next.
+    pub fn new(config: Config) -> LeaveEvac
+        ensures spot { spot_of_leave result ≡ leaves }
+        ensures config { config_of_leave result ≡ config }
+    {
+        LeaveEvac {
+            config,
+            at: Leaving::Subtract,
+        }
+    }
+
+    /// Whether it is done. It makes no step then.
+    pub fn is_done(&self) -> bool
+        ensures { result ≡ is_at_rest (spot_of_leave self.now) }
+    {
+        matches!(self.at, Leaving::Outside)
+    }
+
+    /// The place of its access.
+    pub fn place(&self) -> Place
+        requires { is_at_rest (spot_of_leave self.now) ≡ false }
+        ensures { result ≡ place_at (spot_of_leave self.now) }
+    {
+        match self.at {
+            Leaving::Subtract => Place::XS,
+            Leaving::Outside => unreachable!(),
+        }
+    }
+
+    /// The access of its step.
+    pub fn plan(&self) -> Access
+        requires { is_at_rest (spot_of_leave self.now) ≡ false }
+        ensures row { result ≡ access_of (config_of_leave self.now) (spot_of_leave self.now) }
+        ensures inside { place_of result < table_words (config_of_leave self.now) }
+    {
+        match self.at {
+            Leaving::Subtract => Access::Sub {
+                at: self.config.evac_at(),
+                value: 1,
+            },
+            Leaving::Outside => unreachable!(),
+        }
+    }
+
+    /// Goes on with the word that its access has found. A word is fit if it is not 0.
+    pub fn took(&mut self, got: u64) -> Took
+        requires busy { is_at_rest (spot_of_leave self.old) ≡ false }
+        requires fit { IsFit (spot_of_leave self.old) got }
+        ensures spot { spot_of_leave self.new ≡ next_at (spot_of_leave self.old) got }
+        ensures config { config_of_leave self.new ≡ config_of_leave self.old }
+        ensures answer { result ≡ answer_at (spot_of_leave self.old) got }
+    {
+        let _ = got;
+        self.at = Leaving::Outside;
+        Took::Done
+    }
+}

@@ -1,0 +1,8 @@
+/// What a copier may do once its call has ended.
+#[derive(Clone, Copy, Debug, PartialEq, Eq)]
+pub enum Room {
+    /// It is counted, and may copy.
+    Inside,
+    /// It is not counted: there was no room, and nobody copies any more.
+    Stopped,
+}
