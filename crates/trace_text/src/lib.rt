@@ -2,11 +2,13 @@
 #![tactic(auto)]
 
 mod answer;
+mod items;
 mod kind;
 mod line;
 mod message;
 mod read;
 mod scan;
+mod schedule_lines;
 mod source_bytes;
 mod trace;
 
