@@ -7,4 +7,5 @@ pub mod Traces
 pub mod Pieces
 pub mod ReadItems
 pub mod ScheduleLines
+pub mod Once
 pub mod AnswerLemmas

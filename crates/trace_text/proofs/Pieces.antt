@@ -21,7 +21,7 @@ pub all_and : {A : Type 0} (P : A → Type 0) (xs : List A) (x : A) → AllByRec
 all_and P [] x all one = (one, tt)
 all_and P (y ∷ xs) x all one = (all.0, all_and P xs x all.1 one)
 
-first_piece : {A : Type 0} (spelling : A → List ℕ) (y : A) (ys : List A) (tail : List ℕ) → flat_map spelling (y ∷ ys) ++ tail ≡ spelling y ++ (flat_map spelling ys ++ tail)
+pub first_piece : {A : Type 0} (spelling : A → List ℕ) (y : A) (ys : List A) (tail : List ℕ) → flat_map spelling (y ∷ ys) ++ tail ≡ spelling y ++ (flat_map spelling ys ++ tail)
 first_piece spelling y ys tail = ap (λ (bs : List ℕ). bs ++ tail) (flat_map-cons spelling y ys) ∙ append_assoc (spelling y) (flat_map spelling ys) tail
 
 pub none_taken : {A : Type 0} (spelling : A → List ℕ) (IsGood : A → Type 0) (IsTail : List ℕ → Type 0) (bytes : List ℕ) → HasBegun spelling IsGood IsTail bytes bytes []

@@ -83,12 +83,12 @@ no_replies c number bytes rest marked none (Replies m n) end good digit e = none
 
 -- ---- whole items
 
-aim_no_digit : (y : Item) (after : List ℕ) → NoDigit (aim y ++ after)
+pub aim_no_digit : (y : Item) (after : List ℕ) → NoDigit (aim y ++ after)
 aim_no_digit (Steps m n) after = refl
 aim_no_digit (Until m p) after = refl
 aim_no_digit (Replies m n) after = refl
 
-seat_of : (c : Config) (y : Item) → IsItem c y → UpTo (seat_count c.mutators c.helpers) (number_of y + 1)
+pub seat_of : (c : Config) (y : Item) → IsItem c y → UpTo (seat_count c.mutators c.helpers) (number_of y + 1)
 seat_of c (Steps m n) good = (omega arith, omega arith)
 seat_of c (Until m p) good = (omega arith, omega arith)
 seat_of c (Replies m n) good = (omega arith, omega arith)

@@ -37,7 +37,7 @@ items_are_pieces = record { ends = ends; no_tail = λ y after at_end. absurd (om
     ends [] (b ∷ tail) at_end = rw at_end refl
     ends (y ∷ ys) tail at_end = refl
 
-with_end : (items : List Item) (after : List ℕ) → items_and_end items ++ after ≡ flat_map spaced_item items ++ 10 ∷ after
+pub with_end : (items : List Item) (after : List ℕ) → items_and_end items ++ after ≡ flat_map spaced_item items ++ 10 ∷ after
 with_end items after = append_assoc (flat_map spaced_item items) (10 ∷ []) after
 
 -- what is behind the end of the line

@@ -118,6 +118,24 @@ same_lines threads (x ∷ xs) (y ∷ ys) rest after small all_xs all_ys behind e
     let same : one ≡ two = same_some one two (sym here ∙ ap (line_at threads) (sym (flat_append x xs rest) ∙ e ∙ flat_append y ys after) ∙ there) in
     same_lines threads xs ys rest after small all_xs.1 all_ys.1 behind (ap (λ (p : Line × List ℕ). p.1) same)
 
+-- lines with something behind them that is none are the same
+pub lines_once : (threads : ℕ) (xs ys : List Line) (rest after : List ℕ) → threads < 2 ^ 64 → AllByRecursion (IsLine threads) xs → AllByRecursion (IsLine threads) ys → IsBehindCommands rest → IsBehindCommands after → flat_map line xs ++ rest ≡ flat_map line ys ++ after → (xs ≡ ys) × (rest ≡ after)
+lines_once threads [] [] rest after small all_xs all_ys p q e = (refl, e)
+lines_once threads [] (y ∷ ys) rest after small all_xs all_ys p q e =
+    let here : line_at threads rest ≡ Some (y, flat_map line ys ++ after) = ap (line_at threads) (e ∙ flat_append y ys after) ∙ line_again threads y (flat_map line ys ++ after) small all_ys.0 in
+    let none = no_line threads rest p in
+    absurd cc
+lines_once threads (x ∷ xs) [] rest after small all_xs all_ys p q e =
+    let here : line_at threads after ≡ Some (x, flat_map line xs ++ rest) = ap (line_at threads) (sym e ∙ flat_append x xs rest) ∙ line_again threads x (flat_map line xs ++ rest) small all_xs.0 in
+    let none = no_line threads after q in
+    absurd cc
+lines_once threads (x ∷ xs) (y ∷ ys) rest after small all_xs all_ys p q e =
+    let one : Line × List ℕ = (x, flat_map line xs ++ rest) in
+    let two : Line × List ℕ = (y, flat_map line ys ++ after) in
+    let same : one ≡ two = same_some one two (sym (line_again threads x (flat_map line xs ++ rest) small all_xs.0) ∙ ap (line_at threads) (sym (flat_append x xs rest) ∙ e ∙ flat_append y ys after) ∙ line_again threads y (flat_map line ys ++ after) small all_ys.0) in
+    let others = lines_once threads xs ys rest after small all_xs.1 all_ys.1 p q (ap (λ (z : Line × List ℕ). z.1) same) in
+    (ap (λ (z : Line × List ℕ). z.0 ∷ xs) same ∙ ap (λ (zs : List Line). y ∷ zs) others.0, others.1)
+
 -- where no line begins, all lines were taken
 pub all_lines_taken : (threads : ℕ) (bytes rest : List ℕ) (scripts : List (List Command)) → threads < 2 ^ 64 → HasTaken threads bytes rest scripts → IsBehindCommands rest
     → (ys : List Line) (after : List ℕ) → AllByRecursion (IsLine threads) ys → IsBehindCommands after → bytes ≡ flat_map line ys ++ after → rest ≡ after
@@ -164,7 +182,7 @@ one_head bytes rest after c d e f =
     (ap (λ (x : (List ℕ × List ℕ) × List ℕ). get_or x.0.1 0 0) same, ap (λ (x : (List ℕ × List ℕ) × List ℕ). get_or x.0.1 1 0) same, ap (λ (x : (List ℕ × List ℕ) × List ℕ). x.1) same)
 
 -- the schedule stands behind the commands
-turns_behind : (turns : List (List Item)) → IsBehindCommands (flat_map schedule_line turns)
+pub turns_behind : (turns : List (List Item)) → IsBehindCommands (flat_map schedule_line turns)
 turns_behind [] = tt
 turns_behind (items ∷ turns) = refl
 

@@ -54,6 +54,12 @@ pub record Reads (bytes : List ℕ) (config : Config) (scripts : List (List Comm
   pub in_order : items ≡ items_of turns
   pub short : length bytes ≤ most_bytes
 
+-- two readings are of one configuration, the same scripts and the same items
+pub record IsSameTrace (c : Config) (xs : List (List Command)) (is : List Item) (d : Config) (ys : List (List Command)) (js : List Item) : Type 0 where
+  pub config : c ≡ d
+  pub scripts : xs ≡ ys
+  pub items : is ≡ js
+
 -- these bytes came, and no more are left, where that is told
 pub record Came (before after : Option (List ℕ)) (bytes : List ℕ) : Type 0 where
   pub taken : Consumes before after bytes

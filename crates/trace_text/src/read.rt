@@ -10,13 +10,13 @@ ghost use Rattle.trace_text.specs.Spelling.{Line, IsLine, line, header};
 ghost use Rattle.heap_words.specs.declared.schedule.Item.{Item};
 ghost use Rattle.trace_text.specs.Scanning.{sizes_at};
 ghost use Rattle.trace_text.specs.Front.{IsBehindCommands};
-ghost use Rattle.trace_text.specs.Grammar.{most_bytes, with_line, scripts_of, HasTaken, Reads, Came};
+ghost use Rattle.trace_text.specs.Grammar.{most_bytes, with_line, scripts_of, HasTaken, Reads, IsSameTrace, Came};
 ghost use Rattle.trace_text.specs.Faults.{IsTextFault};
 
 use crate::line::line_at;
 use crate::scan::{numbers_at, text_at};
-use crate::source_bytes::all_bytes;
 use crate::schedule_lines::take_schedule;
+use crate::source_bytes::all_bytes;
 use crate::trace::{Scripts, Trace, TraceFault};
 use heap_words::{Config, Schedule};
 use shen_base::Source;
@@ -165,3 +165,8 @@ pub fn read_trace<S: Source>(alloc: Global, source: &mut S) -> Result<Trace, Tra
     let bytes = all_bytes(alloc, source)?;
     trace_of(alloc, &bytes)
 }
+
+/// A law: bytes are a trace in one way at most.
+pub fn traces_are_read_once()
+    ensures { (bytes : List ℕ) (c d : Sizes) (xs ys : List (List Command)) (is js : List Item) → Reads bytes c xs is → Reads bytes d ys js → IsSameTrace c xs is d ys js }
+{}
