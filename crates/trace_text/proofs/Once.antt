@@ -13,7 +13,7 @@ use Rattle.heap_words.specs.Place.{code_of}
 use Rattle.heap_words.specs.Ranges.{seat_count, IsInRange}
 use Rattle.std.proofs.Props.{props}
 use Rattle.heap_words.proofs.Codes.{same_code}
-use Rattle.trace_text.specs.Spelling.{line, IsLine, number_of, aim, item, spaced_item, items_and_end, schedule_line, IsItem, IsScheduleLine}
+use Rattle.trace_text.specs.Spelling.{IsUpTo, line, IsLine, number_of, aim, item, spaced_item, items_and_end, schedule_line, IsItem, IsScheduleLine}
 use Rattle.trace_text.specs.Scanning.{positive_at, sizes_at}
 use Rattle.trace_text.specs.Front.{NoDigit, IsLineEnd, BeginsWith, IsAny, IsItemOf}
 use Rattle.trace_text.specs.Grammar.{items_of, scripts_of, Reads, IsSameTrace}
@@ -21,12 +21,12 @@ use Rattle.trace_text.proofs.Numbers.{positive_again, same_some}
 use Rattle.trace_text.proofs.Header.{sizes_again}
 use Rattle.trace_text.proofs.Traces.{lines_once, turns_behind}
 use Rattle.trace_text.proofs.Pieces.{HasBegun, ArePieces, first_piece}
-use Rattle.trace_text.proofs.ReadItems.{UpTo, number_read, steps_read, until_read, replies_read, item_read, seat_of, aim_no_digit}
+use Rattle.trace_text.proofs.ReadItems.{number_read, steps_read, until_read, replies_read, item_read, seat_of, aim_no_digit}
 use Rattle.trace_text.proofs.ScheduleLines.{IsEmpty, items_are_pieces, lines_are_pieces, with_end, spaced, line_read}
 
 -- ---- items
 
-number_once : (limit n : ℕ) (rest : List ℕ) → limit < 2 ^ 64 → UpTo limit n → NoDigit rest → BeginsWith decimal (UpTo limit) (decimal n ++ rest) n rest
+number_once : (limit n : ℕ) (rest : List ℕ) → limit < 2 ^ 64 → IsUpTo limit n → NoDigit rest → BeginsWith decimal (IsUpTo limit) (decimal n ++ rest) n rest
 number_once limit n rest small good none = number_read limit (decimal n ++ rest) n rest small (sym (positive_again limit n rest good.0 good.1 small none))
 
 place_once : (p : Place) (rest : List ℕ) → BeginsWith code_of IsAny (code_of p ++ rest) p rest

@@ -109,9 +109,13 @@ items_and_end items = flat_map spaced_item items ++ newline ∷ []
 abbrev pub schedule_line : List Item → List ℕ
 schedule_line items = 33 ∷ items_and_end items
 
+-- a number from 1 on, at most so large
+abbrev pub IsUpTo : ℕ → ℕ → Type 0
+IsUpTo most n = (1 ≤ n) × (n ≤ most)
+
 -- a count of steps or of replies
 abbrev pub IsCount : ℕ → Type 0
-IsCount count = (1 ≤ count) × (count ≤ 4000000000)
+IsCount count = IsUpTo 4000000000 count
 
 -- What may stand in a schedule for these machines. Replies are those of a mutator.
 abbrev pub IsItem : Config → Item → Type 0

@@ -3,6 +3,8 @@ ghost use Rattle.std.specs.Prelude.{◌≡◌, ℕ, ◌+◌, ◌-◌, ◌*◌, �
 ghost use Rattle.std.specs.Int.{IsInRange};
 ghost use Rattle.std.specs.Str.Parse.{AllDigits, digits_value};
 ghost use Rattle.std.specs.Option.{option_map};
+ghost use Rattle.std.specs.Fmt.{decimal};
+ghost use Rattle.trace_text.specs.Spelling.{IsUpTo};
 ghost use Rattle.trace_text.specs.Scanning.{behind, digit_count, is_numeral, numeral, number_at, positive_at, spaced_at, numbers_at};
 
 /// What is behind a text at the front of the bytes.
@@ -80,6 +82,14 @@ pub(crate) fn positive_at(limit: u64, bytes: &[u8]) -> Option<(u64, &[u8])>
     } else {
         Some((number, rest))
     }
+}
+
+/// The number from 1 to `most` that a whole text spells. A number has no needless zero in front.
+pub fn number_in(most: u64, text: &[u8]) -> Option<u64>
+    ensures { MatchOption result ((n : ℕ) → IsUpTo most n → text.now ≡ decimal n → ⊥) (λ n. IsUpTo most n × (text.now ≡ decimal n)) }
+{
+    let (number, rest) = positive_at(most, text)?;
+    if rest.is_empty() { Some(number) } else { None }
 }
 
 /// The number after a space, at most a limit.
