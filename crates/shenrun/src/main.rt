@@ -35,6 +35,3 @@ fn main(rt: HostRuntime) -> ExitCode {
     let status = shenrun(rt.alloc(), &words, &mut source, &mut sink);
     ExitCode::from(status.number())
 }
-
-#[cfg(test)]
-mod tests;
