@@ -1,4 +1,8 @@
-pub mod Scripts
-pub mod Answers
 pub mod Ends
 pub mod Words
+pub mod Calls
+pub mod NoFull
+pub mod Scripts
+pub mod Ran
+pub mod Whole
+pub mod Complete

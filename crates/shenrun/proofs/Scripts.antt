@@ -1,23 +1,21 @@
--- The script of the one thread.
-use Rattle.std.proofs.Common.{◌≡◌, ℕ, Bool, true, false, cond, eqb, List, [], ◌∷◌, length, get_or, map, refl, sym, ap, subst, ◌∙◌, arith}
-use Rattle.std.specs.Prelude.{All, filter, slice_index_or}
-use Rattle.std.specs.List.{AllByRecursion}
-use Rattle.std.proofs.lemmas.List.Elements.{All-from_recursion}
+-- What a trace gives its heap: commands in range, and items that name its machines.
+use Rattle.std.proofs.Common.{◌≡◌, ℕ, ◌^◌, ◌+◌, ◌<◌, ◌≤◌, Bool, true, false, cond, eqb, List, [], ◌∷◌, ◌++◌, length, get_or, map, All, refl, sym, ap, subst, ◌∙◌, arith}
+use Rattle.std.specs.Prelude.{filter, slice_index_or}
+use Rattle.std.specs.List.{flat_map, AllByRecursion}
+use Rattle.std.proofs.lemmas.List.{length-append}
+use Rattle.std.proofs.lemmas.List.Elements.{All-from_recursion, All-from_get_or, All-weaker}
 use Rattle.std.proofs.lemmas.List.FromFn.{get_or-map-range_with_len, length-map-range_with_len}
 use Rattle.shen_graph.specs.declared.command.Command.{Command}
-use Rattle.shen_graph.specs.declared.command.Command.TheVariants.{New, Get, Set, Cas, Xchg, Rd, Wr, Copy, Drop, Same, Gc}
 use Rattle.shen_graph.specs.Valid.{IsValid}
-use Rattle.shen_graph.specs.Work.{opened, script_of}
 use Rattle.heap_words.specs.declared.config.Config.{Config}
-use Rattle.small_heap.specs.Holds.{IsBuilt}
-use Rattle.trace_text.specs.Spelling.{Line, IsLine}
-use Rattle.trace_text.specs.Grammar.{IsEarly, Reads, ReadsEarly, scripts_of}
+use Rattle.heap_words.specs.declared.schedule.Item.{Item}
+use Rattle.heap_words.specs.declared.schedule.Item.TheVariants.{Steps, Until, Replies}
+use Rattle.heap_words.specs.Ranges.{seat_count}
+use Rattle.mutator.specs.Orders.{is_served}
+use Rattle.shen_core.specs.Progress.{IsInSeats, AreServed}
+use Rattle.trace_text.specs.Spelling.{Line, IsLine, IsItem, IsScheduleLine}
+use Rattle.trace_text.specs.Grammar.{Reads, scripts_of, items_of}
 use Rattle.trace_text.specs.Grammar as grammar
-
--- the work of scripts begins with the first of them
-pub first_script : (scripts : List (List Command)) → script_of (opened scripts) 0 ≡ slice_index_or scripts 0 []
-first_script [] = refl
-first_script (script ∷ scripts) = refl
 
 -- the commands of lines in range are valid
 valid_lines : (threads : ℕ) (lines : List Line) (t : ℕ) → AllByRecursion (IsLine threads) lines → AllByRecursion IsValid (grammar.script_of lines t)
@@ -28,27 +26,40 @@ valid_lines threads (l ∷ lines) t all = by_thread (eqb l.thread t) (valid_line
     by_thread true others = (all.0.valid, others)
     by_thread false others = others
 
-pub valid_script : (bytes : List ℕ) (config : Config) (scripts : List (List Command)) → Reads bytes config scripts → All IsValid (slice_index_or scripts 0 [])
-valid_script bytes config scripts reads =
+pub count_scripts : (bytes : List ℕ) (c : Config) (scripts : List (List Command)) (items : List Item) → Reads bytes c scripts items → length scripts ≡ c.mutators
+count_scripts bytes c scripts items reads = ap length reads.by_thread ∙ length-map-range_with_len (grammar.script_of reads.lines) 1 c.mutators
+
+script_at : (bytes : List ℕ) (c : Config) (scripts : List (List Command)) (items : List Item) (t : ℕ) → (reads : Reads bytes c scripts items) → t < c.mutators → get_or scripts t [] ≡ grammar.script_of reads.lines (t + 1)
+script_at bytes c scripts items t reads below =
     let none : List Command = [] in
-    let first : get_or scripts 0 none ≡ grammar.script_of reads.lines 1 = ap (λ (ss : List (List Command)). get_or ss 0 none) reads.by_thread ∙ get_or-map-range_with_len (grammar.script_of reads.lines) 1 config.mutators 0 1 none (omega arith) refl in
-    subst (All IsValid) (sym first) (All-from_recursion IsValid (grammar.script_of reads.lines 1) (valid_lines config.mutators reads.lines 1 reads.in_range))
+    ap (λ (ss : List (List Command)). get_or ss t none) reads.by_thread ∙ get_or-map-range_with_len (grammar.script_of reads.lines) 1 c.mutators t (t + 1) none below (omega arith)
 
-pub one_script : (bytes : List ℕ) (config : Config) (scripts : List (List Command)) → ReadsEarly bytes config scripts → length scripts ≡ 1
-one_script bytes config scripts early = ap length early.reads.by_thread ∙ length-map-range_with_len (grammar.script_of early.reads.lines) 1 config.mutators ∙ early.early.one_thread
+pub valid_scripts : (bytes : List ℕ) (c : Config) (scripts : List (List Command)) (items : List Item) → Reads bytes c scripts items → All (All IsValid) scripts
+valid_scripts bytes c scripts items reads = All-from_get_or (All IsValid) scripts [] (λ t within.
+    let below : t < c.mutators = omega (arith, within, count_scripts bytes c scripts items reads) in
+    subst (All IsValid) (sym (script_at bytes c scripts items t reads below)) (All-from_recursion IsValid _ (valid_lines c.mutators reads.lines (t + 1) reads.in_range)))
 
-early_is_built : (c : Command) → IsEarly c → IsBuilt c
-early_is_built (New dst refs nums) e = tt
-early_is_built (Get dst src field) e = tt
-early_is_built (Set obj field val) e = tt
-early_is_built (Cas obj field expect val) e = absurd e
-early_is_built (Xchg dst obj field val) e = absurd e
-early_is_built (Rd obj index) e = absurd e
-early_is_built (Wr obj index value) e = absurd e
-early_is_built (Copy dst src) e = absurd e
-early_is_built (Drop dst) e = absurd e
-early_is_built (Same a b) e = absurd e
-early_is_built Gc e = absurd e
+-- to go: each command will be served
+served : (k : Command) → is_served k ≡ true
+served k = ?
 
-pub built_script : (bytes : List ℕ) (config : Config) (scripts : List (List Command)) → ReadsEarly bytes config scripts → All IsBuilt (slice_index_or scripts 0 [])
-built_script bytes config scripts early = λ k d lt. early_is_built _ (early.early.early 0 [] (omega (arith, one_script bytes config scripts early)) k d lt)
+pub runnable_scripts : (bytes : List ℕ) (c : Config) (scripts : List (List Command)) (items : List Item) → Reads bytes c scripts items → All AreServed scripts
+runnable_scripts bytes c scripts items reads = All-weaker (All IsValid) AreServed (λ script valid. All-weaker IsValid (λ k. IsValid k × (is_served k ≡ true)) (λ k one. (one, served k)) script valid) scripts (valid_scripts bytes c scripts items reads)
+
+-- ---- items
+
+in_seats : (c : Config) (i : Item) → IsItem c i → IsInSeats c i
+in_seats c (Steps number count) good = good.0
+in_seats c (Until number place) good = good
+in_seats c (Replies number count) good = good.0
+
+items_append : (c : Config) (xs ys : List Item) → AllByRecursion (IsItem c) xs → AllByRecursion (IsInSeats c) ys → AllByRecursion (IsInSeats c) (xs ++ ys)
+items_append c [] ys all others = others
+items_append c (x ∷ xs) ys all others = (in_seats c x all.0, items_append c xs ys all.1 others)
+
+turns_in_seats : (c : Config) (turns : List (List Item)) → AllByRecursion (IsScheduleLine c) turns → AllByRecursion (IsInSeats c) (items_of turns)
+turns_in_seats c [] all = tt
+turns_in_seats c (items ∷ turns) all = items_append c items (items_of turns) all.0.in_range (turns_in_seats c turns all.1)
+
+pub items_in_seats : (bytes : List ℕ) (c : Config) (scripts : List (List Command)) (items : List Item) → Reads bytes c scripts items → All (IsInSeats c) items
+items_in_seats bytes c scripts items reads = subst (All (IsInSeats c)) (sym reads.in_order) (All-from_recursion (IsInSeats c) (items_of reads.turns) (turns_in_seats c reads.turns reads.turns_in_range))

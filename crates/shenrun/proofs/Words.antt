@@ -1,7 +1,11 @@
--- The one word of the command line.
-use Rattle.std.proofs.Common.{◌≡◌, ℕ, ◌&&◌, ◌<◌, ◌≤◌, Bool, true, false, eqb, List, [], ◌∷◌, length, get_or, map, refl, sym, ap, ◌∙◌, arith}
+-- The words of the command line.
+use Rattle.std.proofs.Common.{◌≡◌, ℕ, ◌&&◌, ◌<◌, ◌≤◌, Bool, true, false, eqb, List, [], ◌∷◌, length, get_or, map, inl, inr, refl, sym, ap, ◌∙◌, arith}
+use Rattle.std.specs.Prelude.{codes, Option, Some, None, MatchOption}
+use Rattle.std.specs.Fmt.{decimal}
 use Rattle.std.specs.Cmp.Lexicographic.{pointwise}
 use Rattle.std.proofs.lemmas.Bool.{eqb-true}
+use Rattle.trace_text.specs.Spelling.{IsUpTo}
+use Rattle.shenrun.specs.Words.{IsReplay, AskReplay}
 use Rattle.std.proofs.lemmas.Bool.Decides.{nat_tests}
 
 same_from_test : (xs ys : List ℕ) → pointwise eqb xs ys ≡ true → xs ≡ ys
@@ -30,3 +34,29 @@ one_word f (x ∷ []) w text r some few is e = (
   (λ h. let same : f w ≡ text = ap f is ∙ cc in e ∙ ap (λ (t : List ℕ). pointwise eqb t text) same ∙ test_itself text),
 )
 one_word f (x ∷ y ∷ words) w text r some few is e = absurd (omega arith)
+
+-- a list of three, of which the first two are known
+pub three_words : {X : Type 0} (f : X → List ℕ) (words : List X) (a b c : X) (first second : List ℕ) → 3 ≤ length words → length words < 4 → a ≡ get_or words 0 a → b ≡ get_or words 1 b → c ≡ get_or words 2 c
+    → true ≡ pointwise eqb (f a) first → true ≡ pointwise eqb (f b) second → map f words ≡ first ∷ second ∷ f c ∷ []
+three_words f [] a b c first second some few at_a at_b at_c e h = absurd (omega arith)
+three_words f (x ∷ []) a b c first second some few at_a at_b at_c e h = absurd (omega arith)
+three_words f (x ∷ y ∷ []) a b c first second some few at_a at_b at_c e h = absurd (omega arith)
+three_words f (x ∷ y ∷ z ∷ []) a b c first second some few at_a at_b at_c e h =
+    ap (λ (t : List ℕ). t ∷ f y ∷ f z ∷ []) (sym (ap f at_a) ∙ same_from_test (f a) first (sym e))
+    ∙ ap (λ (t : List ℕ). first ∷ t ∷ f z ∷ []) (sym (ap f at_b) ∙ same_from_test (f b) second (sym h))
+    ∙ ap (λ (t : List ℕ). first ∷ second ∷ t ∷ []) (sym (ap f at_c))
+three_words f (x ∷ y ∷ z ∷ w ∷ words) a b c first second some few at_a at_b at_c e h = absurd (omega arith)
+
+-- what the third word says
+pub steps_named : (words : List (List ℕ)) (number : List ℕ) (r : Option ℕ) → words ≡ codes "replay" ∷ codes "--steps" ∷ number ∷ []
+    → MatchOption r ((n : ℕ) → IsUpTo 4000000000 n → number ≡ decimal n → ⊥) (λ n. IsUpTo 4000000000 n × (number ≡ decimal n))
+    → MatchOption r (AskReplay words → ⊥) (IsReplay words)
+steps_named words number (Some n) are read = inr (are ∙ ap (λ (t : List ℕ). codes "replay" ∷ codes "--steps" ∷ t ∷ []) read.1, read.0)
+steps_named words number None are none = λ asked. by_form asked.0 asked.1
+  where
+    by_form : (steps : ℕ) → IsReplay words steps → ⊥
+    by_form steps (inl one) = absurd (omega (arith, ap length (sym are ∙ one.0)))
+    by_form steps (inr three) = none steps three.1 (third number (decimal steps) (sym are ∙ three.0))
+      where
+        third : (a b : List ℕ) → codes "replay" ∷ codes "--steps" ∷ a ∷ [] ≡ codes "replay" ∷ codes "--steps" ∷ b ∷ [] → a ≡ b
+        third a b e = ap (λ (ws : List (List ℕ)). get_or ws 2 []) e

@@ -1,3 +1,6 @@
+pub mod Words
+pub mod Replayed
+pub mod Running
 pub mod Answered
 pub mod Number
 pub mod Ends

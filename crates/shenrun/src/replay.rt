@@ -1,108 +1,109 @@
 //! The top call: words and a trace in, an answer or one line out.
-ghost use Rattle.std.specs.Prelude.{◌≡◌, ◌≢◌, ◌↔◌, ◌<◌, ◌≤◌, ◌-◌, ℕ, List, [], Option, IsTrue, IfOk, IfErr, Err, slice_index_or, length, map};
-ghost use Rattle.shen_graph.specs.declared.name.Name.{Name};
-ghost use Rattle.shen_graph.specs.Graph.{Graph};
-ghost use Rattle.shen_graph.specs.Work.{HasScript, replies_of};
-ghost use Rattle.heap_graph.specs.Shows.{Shows};
-ghost use Rattle.small_heap.specs.Holds.{Holds, HoldsSome};
-ghost use Rattle.small_heap.specs.Running.{HasRun};
-ghost use Rattle.small_heap.specs.Placing.{regions_needed, sizes_of};
+ghost use Rattle.std.specs.Prelude.{◌≡◌, ◌<◌, ◌+◌, ℕ, List, Option, Some, Err, IfOk, IfErr, MatchOption, length, map};
 ghost use Rattle.std.specs.String.{string_bytes};
 ghost use Rattle.std.specs.Io.KnownBytes.{Appends};
-ghost use Rattle.trace_text.specs.Grammar.{Came, ReadsEarly};
+ghost use Rattle.shen_base.specs.Count.{Rose};
+ghost use Rattle.heap_words.specs.declared.config.Config.{Config as Sizes};
+ghost use Rattle.heap_words.specs.declared.schedule.Item.{Item};
+ghost use Rattle.shen_graph.specs.declared.command.Command.{Command};
+ghost use Rattle.shen_graph.specs.Work.{HasScript};
+ghost use Rattle.shen_graph.specs.History.{after};
+ghost use Rattle.heap_graph.specs.Shows.{Shows};
+ghost use Rattle.steps_base.specs.Steps.{Event};
+ghost use Rattle.mutator.specs.declared.spot.Order.{Order};
+ghost use Rattle.step_core.specs.Follows.{first_graph, reached, past};
+ghost use Rattle.shen_core.specs.State as memory;
+ghost use Rattle.shen_core.specs.State.{config_of};
+ghost use Rattle.shen_core.specs.Progress.{AllRest};
+ghost use Rattle.trace_text.specs.Grammar.{Came, Reads};
 ghost use Rattle.trace_text.specs.Message.{line_text};
-ghost use Rattle.shenrun.specs.Ends.{EndsWith};
 ghost use Rattle.trace_text.specs.Answer.{text_of};
-ghost use Rattle.shenrun.specs.Answered.{IsReplay, IsReplayed, IsTooLarge, IsAnswered, IsWritten, Input, Output};
+ghost use Rattle.shenrun.specs.Ends.{EndsWith};
+ghost use Rattle.shenrun.specs.Words.{IsReplay, AskReplay};
+ghost use Rattle.shenrun.specs.Replayed.{IsReplayed, IsUnfinished};
+ghost use Rattle.shenrun.specs.Running.{HasFinished};
+ghost use Rattle.shenrun.specs.Answered.{IsAnswered, IsAnswer};
 
 use crate::status::Status;
-use heap_graph::write_graph;
+use heap_words::Config;
 use shen_base::{Sink, Source};
+use shen_core::{Plain, Ran};
 use shen_graph::{GraphText, Work};
-use small_heap::{Ran, SmallHeap};
+use stage_graph::heap_size;
 use std::alloc::Global;
-use trace_text::{Answer, Line, Trace, TraceFault, read_trace, write_answer, write_line};
+use trace_text::{
+    Answer, Line, Trace, TraceFault, number_in, read_trace, write_answer, write_line,
+};
+
+/// The steps that a replay may make where the words name no number.
+const USUAL_STEPS: u64 = 100_000_000;
+
+/// The most steps that the words may name.
+const MOST_STEPS: u64 = 4_000_000_000;
 
 /// Why a trace that was read is not answered.
 enum Refusal {
-    /// Its objects do not fit the heap.
-    TooSmall,
+    /// A machine still had work after the steps that were allowed.
+    Unfinished,
     /// Memory was refused.
     NoMemory,
 }
 
-/// Whether the words ask for a replay.
-fn is_replay(words: &[String]) -> bool
-    ensures { IsTrue result ↔ IsReplay (map string_bytes words.now) }
+/// The steps that a replay may make, where the words ask for one: `replay`, or `replay --steps N`.
+fn steps_of(words: &[String]) -> Option<u64>
+    ensures { MatchOption result (AskReplay (map string_bytes words.now) → ⊥) (IsReplay (map string_bytes words.now)) }
 {
     match words {
-        [word] => word.as_str() == "replay",
-        _ => false,
+        [word] if word.as_str() == "replay" => Some(USUAL_STEPS),
+        [word, option, number] if word.as_str() == "replay" && option.as_str() == "--steps" => {
+            number_in(MOST_STEPS, number.as_bytes())
+        }
+        _ => None,
     }
 }
 
-/// Runs the script of the one thread on a heap of its own.
-fn run(alloc: Global, trace: &Trace) -> Result<(Work, SmallHeap), Refusal>
-    requires { (bytes : List ℕ) × ReadsEarly bytes trace.now.config trace.now.scripts }
-    ensures ran { IfOk result (λ x. HasRun (slice_index_or trace.now.scripts 0 []) (replies_of x.0 0) x.1) }
-    ensures script { IfOk result (λ x. HasScript x.0 0) }
-    ensures config { IfOk result (λ x. x.1.config ≡ trace.now.config) }
-    ensures fits { IfOk result (λ _. regions_needed trace.now.config.region_words (sizes_of (slice_index_or trace.now.scripts 0 []))
-        ≤ trace.now.config.regions - 1 - trace.now.config.reserve) }
-    ensures too_small { result ≡ Err Refusal.TooSmall → trace.now.config.regions - 1 - trace.now.config.reserve
-        < regions_needed trace.now.config.region_words (sizes_of (slice_index_or trace.now.scripts 0 [])) }
+/// Runs the schedule of a trace, and then rounds, on a heap of its own, until all machines are idle.
+fn run(alloc: Global, trace: &Trace, steps: u64) -> Result<(Work, Plain), Refusal>
+    requires { (bytes : List ℕ) × Reads bytes trace.now.config trace.now.scripts trace.now.schedule }
+    ensures finished { IfOk result (λ x. HasFinished trace.now.config trace.now.scripts trace.now.schedule steps x.0 x.1) }
+    ensures unfinished { result ≡ Err Refusal.Unfinished → (bytes : List ℕ) → Reads bytes trace.now.config trace.now.scripts trace.now.schedule → IsUnfinished bytes steps }
 {
     let Ok(mut work) = Work::open(alloc, trace.scripts.list()) else {
         return Err(Refusal::NoMemory);
     };
-    let Ok(mut heap) = SmallHeap::open(alloc, trace.config) else {
+    let Ok(mut plain) = Plain::open(alloc, trace.config) else {
         return Err(Refusal::NoMemory);
     };
-    match heap.run(&mut work) {
-        Ran::Finished => Ok((work, heap)),
-        Ran::TooSmall => Err(Refusal::TooSmall),
+    match plain.run(&mut work, &trace.schedule, steps) {
+        Ran::Finished => Ok((work, plain)),
+        Ran::Unfinished => Err(Refusal::Unfinished),
     }
 }
 
-/// The graph that a heap stands for, as it is to be written. `first` is the address of the heap's first word.
-fn graph_of(alloc: Global, first: usize, heap: &SmallHeap) -> Result<GraphText, Refusal>
-    requires first { first ≡ heap.now.config.region_words }
-    requires stands { HoldsSome heap.now }
-    ensures shows { IfOk result (λ text. (at : ℕ → Option Name) (g : Graph) → Holds heap.now at g → Shows text 1 g) }
-    ensures threads { IfOk result (λ text. length text.roots ≡ 1) }
+/// The graph that a heap stands for, as it is to be written.
+fn graph_of(alloc: Global, config: Config, plain: &mut Plain) -> Result<GraphText, Refusal>
+    requires config { config_of plain.old ≡ config }
+    requires rest { AllRest plain.old }
+    ensures shows { IfOk result (λ text. (events : List (Event Order)) → memory.Shows plain.old (reached config events) → Shows text config.mutators (after (first_graph config) (past config events))) }
+    ensures threads { IfOk result (λ text. length text.roots ≡ config.mutators) }
     ensures fault { IfErr result (λ e. e ≡ Refusal.NoMemory) }
 {
-    let words = heap.words();
-    let Ok(mut text) = GraphText::open(alloc, words.len(), 1) else {
+    let Ok(mut text) = GraphText::open(alloc, heap_size(config), config.mutators()) else {
         return Err(Refusal::NoMemory);
     };
-    let Ok(mut marks) = vec![in alloc; false; words.len()] else {
-        return Err(Refusal::NoMemory);
-    };
-    let Ok(mut order) = Vec::with_capacity(alloc, words.len()) else {
-        return Err(Refusal::NoMemory);
-    };
-    let roots = heap.roots();
-    write_graph(
-        first as u64,
-        words,
-        roots,
-        &mut marks,
-        &mut order,
-        &mut text,
-    );
+    plain.graph(&mut text);
     Ok(text)
 }
 
 /// The answer to a trace.
-fn answer_to(alloc: Global, trace: &Trace) -> Result<Answer, Refusal>
-    requires { (bytes : List ℕ) × ReadsEarly bytes trace.now.config trace.now.scripts }
-    ensures ok { IfOk result (λ answer. (bytes : List ℕ) → ReadsEarly bytes trace.now.config trace.now.scripts → IsReplayed bytes (text_of answer)) }
+fn answer_to(alloc: Global, trace: &Trace, steps: u64) -> Result<Answer, Refusal>
+    requires { (bytes : List ℕ) × Reads bytes trace.now.config trace.now.scripts trace.now.schedule }
+    ensures ok { IfOk result (λ answer. (bytes : List ℕ) → Reads bytes trace.now.config trace.now.scripts trace.now.schedule → IsReplayed bytes steps (text_of answer)) }
     ensures scripts { IfOk result (λ answer. (mutator : ℕ) → mutator < length answer.graph.roots → HasScript answer.replies mutator) }
-    ensures too_small { result ≡ Err Refusal.TooSmall → (bytes : List ℕ) → ReadsEarly bytes trace.now.config trace.now.scripts → IsTooLarge bytes }
+    ensures unfinished { result ≡ Err Refusal.Unfinished → (bytes : List ℕ) → Reads bytes trace.now.config trace.now.scripts trace.now.schedule → IsUnfinished bytes steps }
 {
-    let (replies, heap) = run(alloc, trace)?;
-    let graph = graph_of(alloc, trace.config.region_words(), &heap)?;
+    let (replies, mut plain) = run(alloc, trace, steps)?;
+    let graph = graph_of(alloc, trace.config, &mut plain)?;
     Ok(Answer { replies, graph })
 }
 
@@ -127,9 +128,9 @@ fn give<K: Sink>(sink: &mut K, answer: &Answer) -> Status
     }
 }
 
-/// Reads a trace, runs it, and writes its answer, or the one line that says why there is none.
-fn replay<S: Source, K: Sink>(alloc: Global, source: &mut S, sink: &mut K) -> Status
-    ensures { (words : List (List ℕ)) → IsReplay words → IsAnswered words
+/// Reads a trace, runs it with so many steps at most, and writes its answer, or the one line that says why there is none.
+fn replay<S: Source, K: Sink>(alloc: Global, steps: u64, source: &mut S, sink: &mut K) -> Status
+    ensures { (words : List (List ℕ)) → IsReplay words steps → IsAnswered words
         (record { before = S.left source.old; after = S.left source.new; faults_before = S.faults source.old; faults_after = S.faults source.new })
         (record { before = K.written sink.old; after = K.written sink.new; faults_before = K.faults sink.old; faults_after = K.faults sink.new }) result }
 {
@@ -140,39 +141,47 @@ fn replay<S: Source, K: Sink>(alloc: Global, source: &mut S, sink: &mut K) -> St
         Err(TraceFault::ReadFault) => return say(sink, Line::ReadFault, Status::ReadFault),
         Err(TraceFault::NoMemory) => return say(sink, Line::NoMemory, Status::NoMemory),
     };
-    let answer = match answer_to(alloc, &trace) {
+    let answer = match answer_to(alloc, &trace, steps) {
         Ok(answer) => answer,
-        Err(Refusal::TooSmall) => return say(sink, Line::HeapTooSmall, Status::BadTrace),
+        Err(Refusal::Unfinished) => {
+            return say(sink, Line::Unfinished { steps }, Status::Unfinished);
+        }
         Err(Refusal::NoMemory) => return say(sink, Line::NoMemory, Status::NoMemory),
     };
     give(sink, &answer)
 }
 
-/// Runs the program on these words of the command line, which are without the program's name. `replay` reads a trace of
-/// one thread from the source to its end, runs it, and writes the replies and the final graph to the sink. Any other words
-/// are refused before anything is read. Where there is no answer one line says why; if that cannot be written either, the
-/// status is `WriteFault`.
+/// Runs the program on these words of the command line, which are without the program's name. `replay` reads a trace from
+/// the source to its end, runs its schedule and then rounds, and writes the replies and the final graph to the sink; with
+/// `--steps N` it makes N steps at most. Any other words are refused before anything is read. Where there is no answer one
+/// line says why; if that cannot be written either, the status is `WriteFault`.
 pub fn shenrun<S: Source, K: Sink>(
     alloc: Global,
     words: &[String],
     source: &mut S,
     sink: &mut K,
 ) -> Status
-    // The replies and the graph that are written are those of one legal history, whose commands are the script.
-    ensures headline { result ≡ Status.Ok → (bytes : List ℕ) × ((out : List ℕ)
-        × Came (S.left source.old) (S.left source.new) bytes × IsReplayed bytes out × Appends (K.written sink.old) (K.written sink.new) out) }
+    // The replies and the graph that are written are those of one legal history, that of exactly the events of the schedule
+    // and of the rounds after it, in which each thread's commands are its script.
+    ensures headline { result ≡ Status.Ok → (steps : ℕ) × IsReplay (map string_bytes words.now) steps × ((bytes : List ℕ) × ((out : List ℕ)
+        × Came (S.left source.old) (S.left source.new) bytes × IsReplayed bytes steps out × Appends (K.written sink.old) (K.written sink.new) out)) }
 
     // What each status says of the words, of what came and of what was written.
     ensures answered { IsAnswered (map string_bytes words.now)
         (record { before = S.left source.old; after = S.left source.new; faults_before = S.faults source.old; faults_after = S.faults source.new })
         (record { before = K.written sink.old; after = K.written sink.new; faults_before = K.faults sink.old; faults_after = K.faults sink.new }) result }
 
+    // Where the source has the bytes of a trace, and nothing fails, there is an answer, or the steps are used up, or memory
+    // is refused.
+    ensures complete { (bytes : List ℕ) (config : Sizes) (scripts : List (List Command)) (items : List Item) → AskReplay (map string_bytes words.now)
+        → S.left source.old ≡ Some bytes → Reads bytes config scripts items
+        → (Rose (S.faults source.old) (S.faults source.new) → ⊥) → (Rose (K.faults sink.old) (K.faults sink.new) → ⊥) → IsAnswer result }
+
     // Words that are refused are refused before anything is read.
-    ensures unread { (IsReplay (map string_bytes words.now) → ⊥) → source.new ≡ source.old }
+    ensures unread { (AskReplay (map string_bytes words.now) → ⊥) → source.new ≡ source.old }
 {
-    if is_replay(words) {
-        replay(alloc, source, sink)
-    } else {
-        say(sink, Line::BadWords, Status::BadWords)
+    match steps_of(words) {
+        Some(steps) => replay(alloc, steps, source, sink),
+        None => say(sink, Line::BadWords, Status::BadWords),
     }
 }

@@ -4,4 +4,8 @@ pub mod Numbers
 pub mod Lines
 pub mod Header
 pub mod Traces
+pub mod Pieces
+pub mod ReadItems
+pub mod ScheduleLines
+pub mod Once
 pub mod AnswerLemmas

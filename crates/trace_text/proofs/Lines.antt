@@ -10,8 +10,9 @@ use Rattle.trace_text.specs.declared.kind.Kind.{Kind}
 use Rattle.trace_text.specs.declared.kind.Kind.TheVariants.{New, Get, Set, Cas, Xchg, Rd, Wr, Copy, Drop, Same, Gc}
 use Rattle.trace_text.specs.Spelling.{Line, IsLine, FitsValue, line, numbers, word_of, numbers_of}
 use Rattle.trace_text.specs.Kinds.{kinds, word, limits, command_from, AreWithin, Suit}
-use Rattle.trace_text.specs.Scanning.{◌>>=◌, behind, found, number_at, thread_at, numbers_at, kind_among, command_at, line_at}
-use Rattle.trace_text.proofs.Numbers.{NoDigit, AreSmall, bind_some, then_some, not_stopped, same_some, behind_takes, number_takes, number_again, numbers_take, numbers_again}
+use Rattle.trace_text.specs.Scanning.{◌>>=◌, behind, found, number_at, positive_at, numbers_at, kind_among, command_at, line_at}
+use Rattle.trace_text.specs.Front.{NoDigit}
+use Rattle.trace_text.proofs.Numbers.{AreSmall, bind_some, then_some, not_stopped, same_some, behind_takes, positive_takes, positive_again, numbers_take, numbers_again}
 
 -- ---- kinds
 
@@ -201,25 +202,6 @@ valid_within command.Gc v f = tt
 
 -- ---- lines
 
-thread_takes : (threads : ℕ) (bytes : List ℕ) (x : ℕ × List ℕ) → threads < 2 ^ 64 → thread_at threads bytes ≡ Some x → (bytes ≡ decimal x.0 ++ x.1) × (1 ≤ x.0) × (x.0 ≤ threads)
-unfolding thread_at
-thread_takes threads bytes x small e =
-    let a = bind_some (number_at threads bytes) (λ t. cond (eqb t.0 0) None (Some t)) x e in
-    let b = not_stopped (eqb a.0.0 0) (Some a.0) x a.2 in
-    let one = number_takes threads bytes a.0 small a.1 in
-    let some : 1 ≤ a.0.0 = above_zero a.0.0 b.0 in
-    subst (λ (y : ℕ × List ℕ). (bytes ≡ decimal y.0 ++ y.1) × (1 ≤ y.0) × (y.0 ≤ threads)) (same_some a.0 x b.1) (one.0, some, one.1)
-  where
-    above_zero : (n : ℕ) → eqb n 0 ≡ false → 1 ≤ n
-    above_zero n ne = grind (arith, nat_tests)
-
-thread_again : (threads n : ℕ) (rest : List ℕ) → 1 ≤ n → n ≤ threads → threads < 2 ^ 64 → NoDigit rest → thread_at threads (decimal n ++ rest) ≡ Some (n, rest)
-unfolding thread_at
-thread_again threads n rest some le small none = rw (number_again threads n rest le small none, not_zero n some) refl
-  where
-    not_zero : (m : ℕ) → 1 ≤ m → eqb m 0 ≡ false
-    not_zero m lt = grind (arith, nat_tests)
-
 command_takes : (bytes : List ℕ) (x : Command × List ℕ) → command_at bytes ≡ Some x → (bytes ≡ word_of x.0 ++ (numbers (numbers_of x.0) ++ x.1)) × IsValid x.0 × FitsValue x.0
 unfolding command_at
 command_takes bytes x e =
@@ -249,11 +231,11 @@ line_parts bytes gap words end rest l a b c d = rw (a, b, c, d) (sym (line-appen
 pub line_takes : (threads : ℕ) (bytes : List ℕ) (x : Line × List ℕ) → threads < 2 ^ 64 → line_at threads bytes ≡ Some x → (bytes ≡ line x.0 ++ x.1) × IsLine threads x.0
 unfolding line_at
 line_takes threads bytes x small e =
-    then_some (thread_at threads bytes) (λ t. behind (32 ∷ []) t.1 >>= λ rest. command_at rest >>= λ c. behind (10 ∷ []) c.1 >>= λ end. Some (record { thread = t.0; command = c.0 }, end)) x e (λ t at_t e1.
+    then_some (positive_at threads bytes) (λ t. behind (32 ∷ []) t.1 >>= λ rest. command_at rest >>= λ c. behind (10 ∷ []) c.1 >>= λ end. Some (record { thread = t.0; command = c.0 }, end)) x e (λ t at_t e1.
     then_some (behind (32 ∷ []) t.1) (λ rest. command_at rest >>= λ c. behind (10 ∷ []) c.1 >>= λ end. Some (record { thread = t.0; command = c.0 }, end)) x e1 (λ rest at_rest e2.
     then_some (command_at rest) (λ c. behind (10 ∷ []) c.1 >>= λ end. Some (record { thread = t.0; command = c.0 }, end)) x e2 (λ c at_c e3.
     then_some (behind (10 ∷ []) c.1) (λ end. Some (record { thread = t.0; command = c.0 }, end)) x e3 (λ end at_end e4.
-    let thread = thread_takes threads bytes t small at_t in
+    let thread = positive_takes threads bytes t small at_t in
     let command = command_takes rest c at_c in
     let made : Line × List ℕ = (record { thread = t.0; command = c.0 }, end) in
     let spelled : bytes ≡ line made.0 ++ made.1 = line_parts bytes t.1 rest c.1 end made.0 thread.0 (behind_takes (32 ∷ []) t.1 rest at_rest) command.0 (behind_takes (10 ∷ []) c.1 end at_end) in
@@ -264,4 +246,4 @@ pub line_again : (threads : ℕ) (l : Line) (rest : List ℕ) → threads < 2 ^ 
 unfolding line_at
 line_again threads l rest small fits =
     ap (line_at threads) (line-append l rest)
-    ∙ rw (thread_again threads l.thread (32 ∷ (word_of l.command ++ (numbers (numbers_of l.command) ++ 10 ∷ rest))) fits.from_one fits.to_last small refl, command_again_at l.command (10 ∷ rest) fits.valid fits.fits refl) refl
+    ∙ rw (positive_again threads l.thread (32 ∷ (word_of l.command ++ (numbers (numbers_of l.command) ++ 10 ∷ rest))) fits.from_one fits.to_last small refl, command_again_at l.command (10 ∷ rest) fits.valid fits.fits refl) refl

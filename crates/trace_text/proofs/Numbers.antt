@@ -11,7 +11,8 @@ use Rattle.std.proofs.lemmas.Str.Parse.{IsNumeralModel, numerals_by_value, tells
 use Rattle.std.proofs.lemmas.Fmt.{decimal-digits_value, digits_decimal, digits_value-decimal, decimal_nonempty, first_decimal, decimal_digit}
 use Rattle.trace_text.specs.Spelling.{numbers, space}
 use Rattle.trace_text.specs.Kinds.{AreWithin}
-use Rattle.trace_text.specs.Scanning.{◌>>=◌, behind, digit_count, is_numeral, numeral, number_at, spaced_at, numbers_at}
+use Rattle.trace_text.specs.Scanning.{◌>>=◌, behind, digit_count, is_numeral, numeral, number_at, positive_at, spaced_at, numbers_at}
+use Rattle.trace_text.specs.Front.{NoDigit}
 use Rattle.trace_text.proofs.Digits.{digits_are_digits}
 
 -- the value of a step that gave something
@@ -56,11 +57,6 @@ behind_again (t ∷ text) rest = rw (same_test t) (behind_again text rest)
 
 own : IsNumeralModel (AllDigits 10) (digits_value 10)
 own = numerals_by_value (AllDigits 10) tells_digits
-
--- no digit stands at the front
-abbrev pub NoDigit : List ℕ → Type 0
-NoDigit [] = Unit {0}
-NoDigit (b ∷ bytes) = is_ascii_digit b ≡ false
 
 digit_passes : (c : ℕ) → digit_value c < 10 → is_ascii_digit c ≡ true
 digit_passes c lt = grind (arith, nat_tests)
@@ -121,6 +117,27 @@ unfolding number_at
 number_again limit n rest le small none =
     let count : digit_count (decimal n ++ rest) ≡ length (decimal n) = digit_count-append (decimal n) rest (digits_decimal own n (omega arith)) none in
     rw (count, take_at (decimal n) rest, drop_at (decimal n) rest, numeral_again limit n le small) refl
+
+-- ---- a number from 1 on
+
+pub positive_takes : (limit : ℕ) (bytes : List ℕ) (x : ℕ × List ℕ) → limit < 2 ^ 64 → positive_at limit bytes ≡ Some x → (bytes ≡ decimal x.0 ++ x.1) × (1 ≤ x.0) × (x.0 ≤ limit)
+unfolding positive_at
+positive_takes limit bytes x small e =
+    let a = bind_some (number_at limit bytes) (λ t. cond (eqb t.0 0) None (Some t)) x e in
+    let b = not_stopped (eqb a.0.0 0) (Some a.0) x a.2 in
+    let one = number_takes limit bytes a.0 small a.1 in
+    let some : 1 ≤ a.0.0 = above_zero a.0.0 b.0 in
+    subst (λ (y : ℕ × List ℕ). (bytes ≡ decimal y.0 ++ y.1) × (1 ≤ y.0) × (y.0 ≤ limit)) (same_some a.0 x b.1) (one.0, some, one.1)
+  where
+    above_zero : (n : ℕ) → eqb n 0 ≡ false → 1 ≤ n
+    above_zero n ne = grind (arith, nat_tests)
+
+pub positive_again : (limit n : ℕ) (rest : List ℕ) → 1 ≤ n → n ≤ limit → limit < 2 ^ 64 → NoDigit rest → positive_at limit (decimal n ++ rest) ≡ Some (n, rest)
+unfolding positive_at
+positive_again limit n rest some le small none = rw (number_again limit n rest le small none, not_zero n some) refl
+  where
+    not_zero : (m : ℕ) → 1 ≤ m → eqb m 0 ≡ false
+    not_zero m lt = grind (arith, nat_tests)
 
 -- ---- a number after a space
 

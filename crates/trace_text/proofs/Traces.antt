@@ -1,6 +1,6 @@
 -- Lines one after the other, and whose commands they are.
-use Rattle.std.proofs.Common.{◌≡◌, ◌≢◌, ◌⊎◌, ℕ, ◌+◌, ◌-◌, ◌^◌, ◌<◌, Bool, true, false, eqb, List, [], ◌∷◌, ◌++◌, length, get_or, set, map, Some, refl, sym, ap, subst, ◌∙◌, append_assoc, inl, inr, arith}
-use Rattle.std.specs.Prelude.{All, filter, replicate, slice_index_or}
+use Rattle.std.proofs.Common.{◌≡◌, ◌≢◌, ◌⊎◌, ℕ, ◌+◌, ◌-◌, ◌^◌, ◌<◌, ◌≤◌, Bool, true, false, eqb, List, [], ◌∷◌, ◌++◌, length, get_or, set, map, Some, None, refl, sym, ap, subst, ◌∙◌, append_assoc, inl, inr, arith}
+use Rattle.std.specs.Prelude.{filter, replicate, slice_index_or}
 use Rattle.std.specs.List.{flat_map, AllByRecursion}
 use Rattle.std.proofs.lemmas.Bool.{eqb-true}
 use Rattle.std.proofs.lemmas.Bool.Decides.{nat_tests}
@@ -11,9 +11,13 @@ use Rattle.std.proofs.lemmas.List.FromFn.{get_or-map-range_with_len, length-map-
 use Rattle.std.proofs.lemmas.Grind.{flat_map-append}
 use Rattle.shen_graph.specs.declared.command.Command.{Command}
 use Rattle.heap_words.specs.declared.config.Config.{Config}
-use Rattle.trace_text.specs.Spelling.{Line, IsLine, line, header}
-use Rattle.trace_text.specs.Scanning.{numeral, number_at, thread_at, line_at, sizes_at}
-use Rattle.trace_text.specs.Grammar.{script_of, scripts_of, with_line, HasTaken, Reads, ReadsEarly, IsEarly, IsEarlyTrace}
+use Rattle.heap_words.specs.declared.schedule.Item.{Item}
+use Rattle.heap_words.specs.declared.schedule.Item.TheVariants.{Steps, Until, Replies}
+use Rattle.heap_words.specs.Ranges.{seat_count}
+use Rattle.trace_text.specs.Spelling.{Line, IsLine, line, header, IsItem, IsScheduleLine, schedule_line}
+use Rattle.trace_text.specs.Front.{IsBehindCommands}
+use Rattle.trace_text.specs.Scanning.{numeral, number_at, positive_at, line_at, sizes_at}
+use Rattle.trace_text.specs.Grammar.{most_bytes, script_of, scripts_of, with_line, items_of, HasTaken, HasScheduled, Reads}
 use Rattle.trace_text.proofs.Numbers.{same_some}
 use Rattle.trace_text.proofs.Lines.{line_again}
 use Rattle.trace_text.proofs.Header.{sizes_again}
@@ -92,65 +96,72 @@ taken_more threads bytes rest after scripts news l taken fits parts made = recor
 flat_append : (x : Line) (xs : List Line) (rest : List ℕ) → flat_map line (x ∷ xs) ++ rest ≡ line x ++ (flat_map line xs ++ rest)
 flat_append x xs rest = ap (λ (bs : List ℕ). bs ++ rest) (flat_map-cons line x xs) ∙ append_assoc (line x) (flat_map line xs) rest
 
--- nothing is no line
-no_line : (threads : ℕ) (x : Line × List ℕ) → line_at threads [] ≡ Some x → ⊥
-unfolding line_at thread_at number_at numeral
-no_line threads x e = cc
-
-no_lines : (threads : ℕ) (more : List Line) → threads < 2 ^ 64 → AllByRecursion (IsLine threads) more → flat_map line more ≡ [] → more ≡ []
-no_lines threads [] small all e = refl
-no_lines threads (l ∷ more) small all e =
-    absurd (no_line threads (l, flat_map line more) (ap (line_at threads) (sym (sym (flat_map-cons line l more) ∙ e)) ∙ line_again threads l (flat_map line more) small all.0))
+-- what is behind the commands is no line
+no_line : (threads : ℕ) (bytes : List ℕ) → IsBehindCommands bytes → line_at threads bytes ≡ None
+unfolding line_at positive_at number_at numeral
+no_line threads [] behind = refl
+no_line threads (b ∷ bytes) behind = rw behind refl
 
 -- lines that begin the same bytes are the same, as far as they go
-pub same_lines : (threads : ℕ) (xs ys : List Line) (rest : List ℕ) → threads < 2 ^ 64 → AllByRecursion (IsLine threads) xs → AllByRecursion (IsLine threads) ys → flat_map line xs ++ rest ≡ flat_map line ys → (more : List Line) × (ys ≡ xs ++ more) × (rest ≡ flat_map line more) × AllByRecursion (IsLine threads) more
-same_lines threads [] ys rest small all_xs all_ys e = (ys, refl, e, all_ys)
-same_lines threads (x ∷ xs) [] rest small all_xs all_ys e =
+same_lines : (threads : ℕ) (xs ys : List Line) (rest after : List ℕ) → threads < 2 ^ 64 → AllByRecursion (IsLine threads) xs → AllByRecursion (IsLine threads) ys → IsBehindCommands after → flat_map line xs ++ rest ≡ flat_map line ys ++ after → (more : List Line) × (rest ≡ flat_map line more ++ after) × AllByRecursion (IsLine threads) more
+same_lines threads [] ys rest after small all_xs all_ys behind e = (ys, e, all_ys)
+same_lines threads (x ∷ xs) [] rest after small all_xs all_ys behind e =
     let again = line_again threads x (flat_map line xs ++ rest) small all_xs.0 in
-    let empty : line_at threads [] ≡ Some (x, flat_map line xs ++ rest) = ap (line_at threads) (sym (sym (flat_append x xs rest) ∙ e)) ∙ again in
-    absurd (no_line threads _ empty)
-same_lines threads (x ∷ xs) (y ∷ ys) rest small all_xs all_ys e =
+    let here : line_at threads after ≡ Some (x, flat_map line xs ++ rest) = ap (line_at threads) (sym (sym (flat_append x xs rest) ∙ e)) ∙ again in
+    let none = no_line threads after behind in
+    absurd cc
+same_lines threads (x ∷ xs) (y ∷ ys) rest after small all_xs all_ys behind e =
     let here : line_at threads (line x ++ (flat_map line xs ++ rest)) ≡ Some (x, flat_map line xs ++ rest) = line_again threads x (flat_map line xs ++ rest) small all_xs.0 in
-    let there : line_at threads (line y ++ flat_map line ys) ≡ Some (y, flat_map line ys) = line_again threads y (flat_map line ys) small all_ys.0 in
+    let there : line_at threads (line y ++ (flat_map line ys ++ after)) ≡ Some (y, flat_map line ys ++ after) = line_again threads y (flat_map line ys ++ after) small all_ys.0 in
     let one : Line × List ℕ = (x, flat_map line xs ++ rest) in
-    let two : Line × List ℕ = (y, flat_map line ys) in
-    let same : one ≡ two = same_some one two (sym here ∙ ap (line_at threads) (sym (flat_append x xs rest) ∙ e ∙ flat_map-cons line y ys) ∙ there) in
-    let others = same_lines threads xs ys rest small all_xs.1 all_ys.1 (ap (λ (p : Line × List ℕ). p.1) same) in
-    (others.0, ap (λ (l : Line). l ∷ ys) (sym (ap (λ (p : Line × List ℕ). p.0) same)) ∙ ap (λ (ls : List Line). x ∷ ls) others.1, others.2, others.3)
+    let two : Line × List ℕ = (y, flat_map line ys ++ after) in
+    let same : one ≡ two = same_some one two (sym here ∙ ap (line_at threads) (sym (flat_append x xs rest) ∙ e ∙ flat_append y ys after) ∙ there) in
+    same_lines threads xs ys rest after small all_xs.1 all_ys.1 behind (ap (λ (p : Line × List ℕ). p.1) same)
 
--- what was taken and what is left is all that the lines can be
-pub taken_all : (threads : ℕ) (bytes rest : List ℕ) (scripts : List (List Command)) (ys : List Line) → threads < 2 ^ 64 → HasTaken threads bytes rest scripts → AllByRecursion (IsLine threads) ys → bytes ≡ flat_map line ys
-    → (more : List Line) × (rest ≡ flat_map line more) × AllByRecursion (IsLine threads) more × (rest ≡ [] → scripts ≡ scripts_of threads ys)
-taken_all threads bytes rest scripts ys small taken all e =
-    let m = same_lines threads taken.lines ys rest small taken.in_range all (sym taken.spelled ∙ e) in
-    (m.0, m.2, m.3, λ none. taken.by_thread ∙ ap (scripts_of threads) (sym (m.1 ∙ ap (λ (ls : List Line). taken.lines ++ ls) (no_lines threads m.0 small m.3 (sym m.2 ∙ none)) ∙ append-nil taken.lines)))
+-- lines with something behind them that is none are the same
+pub lines_once : (threads : ℕ) (xs ys : List Line) (rest after : List ℕ) → threads < 2 ^ 64 → AllByRecursion (IsLine threads) xs → AllByRecursion (IsLine threads) ys → IsBehindCommands rest → IsBehindCommands after → flat_map line xs ++ rest ≡ flat_map line ys ++ after → (xs ≡ ys) × (rest ≡ after)
+lines_once threads [] [] rest after small all_xs all_ys p q e = (refl, e)
+lines_once threads [] (y ∷ ys) rest after small all_xs all_ys p q e =
+    let here : line_at threads rest ≡ Some (y, flat_map line ys ++ after) = ap (line_at threads) (e ∙ flat_append y ys after) ∙ line_again threads y (flat_map line ys ++ after) small all_ys.0 in
+    let none = no_line threads rest p in
+    absurd cc
+lines_once threads (x ∷ xs) [] rest after small all_xs all_ys p q e =
+    let here : line_at threads after ≡ Some (x, flat_map line xs ++ rest) = ap (line_at threads) (sym e ∙ flat_append x xs rest) ∙ line_again threads x (flat_map line xs ++ rest) small all_xs.0 in
+    let none = no_line threads after q in
+    absurd cc
+lines_once threads (x ∷ xs) (y ∷ ys) rest after small all_xs all_ys p q e =
+    let one : Line × List ℕ = (x, flat_map line xs ++ rest) in
+    let two : Line × List ℕ = (y, flat_map line ys ++ after) in
+    let same : one ≡ two = same_some one two (sym (line_again threads x (flat_map line xs ++ rest) small all_xs.0) ∙ ap (line_at threads) (sym (flat_append x xs rest) ∙ e ∙ flat_append y ys after) ∙ line_again threads y (flat_map line ys ++ after) small all_ys.0) in
+    let others = lines_once threads xs ys rest after small all_xs.1 all_ys.1 p q (ap (λ (z : Line × List ℕ). z.1) same) in
+    (ap (λ (z : Line × List ℕ). z.0 ∷ xs) same ∙ ap (λ (zs : List Line). y ∷ zs) others.0, others.1)
 
--- a line that could not be taken is in no trace
-pub none_left : (threads : ℕ) (bytes rest : List ℕ) (scripts : List (List Command)) (ys : List Line) → threads < 2 ^ 64 → HasTaken threads bytes rest scripts → 0 < length rest
-    → ((l : Line) (after : List ℕ) → IsLine threads l → rest ≡ line l ++ after → ⊥) → AllByRecursion (IsLine threads) ys → bytes ≡ flat_map line ys → ⊥
-none_left threads bytes rest scripts ys small taken some refused all e =
-    let m = taken_all threads bytes rest scripts ys small taken all e in
+-- where no line begins, all lines were taken
+pub all_lines_taken : (threads : ℕ) (bytes rest : List ℕ) (scripts : List (List Command)) → threads < 2 ^ 64 → HasTaken threads bytes rest scripts → IsBehindCommands rest
+    → (ys : List Line) (after : List ℕ) → AllByRecursion (IsLine threads) ys → IsBehindCommands after → bytes ≡ flat_map line ys ++ after → rest ≡ after
+all_lines_taken threads bytes rest scripts small taken at_end ys after all behind e =
+    let m = same_lines threads taken.lines ys rest after small taken.in_range all behind (sym taken.spelled ∙ e) in
     by_first m.0 m.1 m.2
   where
-    by_first : (more : List Line) → rest ≡ flat_map line more → AllByRecursion (IsLine threads) more → ⊥
-    by_first [] spelled fits = absurd (omega (arith, ap length spelled))
-    by_first (l ∷ more) spelled fits = refused l (flat_map line more) fits.0 (spelled ∙ flat_map-cons line l more)
+    by_first : (more : List Line) → rest ≡ flat_map line more ++ after → AllByRecursion (IsLine threads) more → rest ≡ after
+    by_first [] spelled fits = spelled
+    by_first (l ∷ more) spelled fits =
+        let here : line_at threads rest ≡ Some (l, flat_map line more ++ after) = ap (line_at threads) (spelled ∙ flat_append l more after) ∙ line_again threads l (flat_map line more ++ after) small fits.0 in
+        let none = no_line threads rest at_end in
+        absurd cc
+
+-- a line that could not be taken is in no trace
+pub no_line_left : (threads : ℕ) (bytes rest : List ℕ) (scripts : List (List Command)) → threads < 2 ^ 64 → HasTaken threads bytes rest scripts → (IsBehindCommands rest → ⊥)
+    → ((l : Line) (end : List ℕ) → IsLine threads l → rest ≡ line l ++ end → ⊥) → (ys : List Line) (after : List ℕ) → AllByRecursion (IsLine threads) ys → IsBehindCommands after → bytes ≡ flat_map line ys ++ after → ⊥
+no_line_left threads bytes rest scripts small taken some refused ys after all behind e =
+    let m = same_lines threads taken.lines ys rest after small taken.in_range all behind (sym taken.spelled ∙ e) in
+    by_first m.0 m.1 m.2
+  where
+    by_first : (more : List Line) → rest ≡ flat_map line more ++ after → AllByRecursion (IsLine threads) more → ⊥
+    by_first [] spelled fits = some (subst IsBehindCommands (sym spelled) behind)
+    by_first (l ∷ more) spelled fits = refused l (flat_map line more ++ after) fits.0 (spelled ∙ flat_append l more after)
 
 -- ---- whole traces
-
--- bytes are of one configuration and of one list of scripts
-pub reads_once : (bytes : List ℕ) (c d : Config) (xs ys : List (List Command)) → Reads bytes c xs → Reads bytes d ys → (c.mutators ≡ d.mutators) × (c.helpers ≡ d.helpers) × (xs ≡ ys)
-reads_once bytes c d xs ys p q =
-    let one : (List ℕ × List ℕ) × List ℕ = ((c.regions ∷ c.region_words ∷ c.reserve ∷ [], c.mutators ∷ c.helpers ∷ []), flat_map line p.lines) in
-    let two : (List ℕ × List ℕ) × List ℕ = ((d.regions ∷ d.region_words ∷ d.reserve ∷ [], d.mutators ∷ d.helpers ∷ []), flat_map line q.lines) in
-    let same : one ≡ two = same_some one two (sym (sizes_again c (flat_map line p.lines)) ∙ ap sizes_at (sym p.spelled ∙ q.spelled) ∙ sizes_again d (flat_map line q.lines)) in
-    let mutators : c.mutators ≡ d.mutators = ap (λ (x : (List ℕ × List ℕ) × List ℕ). get_or x.0.1 0 0) same in
-    let helpers : c.helpers ≡ d.helpers = ap (λ (x : (List ℕ × List ℕ) × List ℕ). get_or x.0.1 1 0) same in
-    let spelled : flat_map line p.lines ++ [] ≡ flat_map line q.lines = append-nil (flat_map line p.lines) ∙ ap (λ (x : (List ℕ × List ℕ) × List ℕ). x.1) same in
-    let fits = subst (λ (n : ℕ). AllByRecursion (IsLine n) q.lines) (sym mutators) q.in_range in
-    let m = same_lines c.mutators p.lines q.lines [] (omega arith) p.in_range fits spelled in
-    let lines : q.lines ≡ p.lines = m.1 ∙ ap (λ (ls : List Line). p.lines ++ ls) (no_lines c.mutators m.0 (omega arith) m.3 (sym m.2)) ∙ append-nil p.lines in
-    (mutators, helpers, p.by_thread ∙ ap (scripts_of c.mutators) (sym lines) ∙ ap (λ (n : ℕ). scripts_of n q.lines) mutators ∙ sym q.by_thread)
 
 -- with no line each script is empty
 pub scripts_of_none : (threads : ℕ) → replicate threads [] ≡ scripts_of threads []
@@ -162,26 +173,60 @@ scripts_of_none threads =
     let within : k < threads = omega (arith, olds) in
     get_or-replicate threads k none d within ∙ sym (at_thread threads [] k d within))
 
-pub not_empty : (n : ℕ) → eqb n 0 ≡ false → 0 < n
-not_empty n ne = grind (arith, nat_tests)
-
 -- the same bytes have one head and one rest
-pub one_head : (bytes rest after : List ℕ) (c d : Config) → bytes ≡ header c ++ rest → bytes ≡ header d ++ after → (c.mutators ≡ d.mutators) × (rest ≡ after)
+pub one_head : (bytes rest after : List ℕ) (c d : Config) → bytes ≡ header c ++ rest → bytes ≡ header d ++ after → (c.mutators ≡ d.mutators) × (c.helpers ≡ d.helpers) × (rest ≡ after)
 one_head bytes rest after c d e f =
     let one : (List ℕ × List ℕ) × List ℕ = ((c.regions ∷ c.region_words ∷ c.reserve ∷ [], c.mutators ∷ c.helpers ∷ []), rest) in
     let two : (List ℕ × List ℕ) × List ℕ = ((d.regions ∷ d.region_words ∷ d.reserve ∷ [], d.mutators ∷ d.helpers ∷ []), after) in
     let same : one ≡ two = same_some one two (sym (sizes_again c rest) ∙ ap sizes_at (sym e ∙ f) ∙ sizes_again d after) in
-    (ap (λ (x : (List ℕ × List ℕ) × List ℕ). get_or x.0.1 0 0) same, ap (λ (x : (List ℕ × List ℕ) × List ℕ). x.1) same)
+    (ap (λ (x : (List ℕ × List ℕ) × List ℕ). get_or x.0.1 0 0) same, ap (λ (x : (List ℕ × List ℕ) × List ℕ). get_or x.0.1 1 0) same, ap (λ (x : (List ℕ × List ℕ) × List ℕ). x.1) same)
+
+-- the schedule stands behind the commands
+pub turns_behind : (turns : List (List Item)) → IsBehindCommands (flat_map schedule_line turns)
+turns_behind [] = tt
+turns_behind (items ∷ turns) = refl
 
 -- where no lines were read, the bytes are no trace
-pub no_trace : (bytes rest : List ℕ) (c : Config) (threads : ℕ) → bytes ≡ header c ++ rest → threads ≡ c.mutators → ((lines : List Line) → AllByRecursion (IsLine threads) lines → rest ≡ flat_map line lines → ⊥)
-    → (config : Config) (scripts : List (List Command)) → Reads bytes config scripts → ⊥
-no_trace bytes rest c threads found same none config scripts reads =
-    let h = one_head bytes rest (flat_map line reads.lines) c config found reads.spelled in
-    none reads.lines (subst (λ (n : ℕ). AllByRecursion (IsLine n) reads.lines) (sym (same ∙ h.0)) reads.in_range) h.1
+pub no_trace : (bytes rest : List ℕ) (c : Config) (threads : ℕ) → bytes ≡ header c ++ rest → threads ≡ c.mutators
+    → ((lines : List Line) (after : List ℕ) → AllByRecursion (IsLine threads) lines → IsBehindCommands after → rest ≡ flat_map line lines ++ after → ⊥)
+    → (config : Config) (scripts : List (List Command)) (items : List Item) → Reads bytes config scripts items → ⊥
+no_trace bytes rest c threads found same none config scripts items reads =
+    let h = one_head bytes rest (flat_map line reads.lines ++ flat_map schedule_line reads.turns) c config found reads.spelled in
+    none reads.lines (flat_map schedule_line reads.turns) (subst (λ (n : ℕ). AllByRecursion (IsLine n) reads.lines) (sym (same ∙ h.0)) reads.in_range) (turns_behind reads.turns) h.2
 
--- a trace that is not of the early kind is in no other way
-pub not_early : (bytes : List ℕ) (c d : Config) (xs ys : List (List Command)) → Reads bytes c xs → (IsEarlyTrace c xs → ⊥) → ReadsEarly bytes d ys → ⊥
-not_early bytes c d xs ys reads late other =
-    let same = reads_once bytes c d xs ys reads other.reads in
-    late record { one_thread = same.0 ∙ other.early.one_thread; no_helper = same.1 ∙ other.early.no_helper; early = subst (All (All IsEarly)) (sym same.2) other.early.early }
+same_item : (c d : Config) → c.mutators ≡ d.mutators → c.helpers ≡ d.helpers → (i : Item) → IsItem c i → IsItem d i
+same_item c d e f (Steps number count) fits = (omega arith, fits.1)
+same_item c d e f (Until number place) fits = omega arith
+same_item c d e f (Replies number count) fits = (omega arith, fits.1)
+
+same_items : (c d : Config) → c.mutators ≡ d.mutators → c.helpers ≡ d.helpers → (items : List Item) → AllByRecursion (IsItem c) items → AllByRecursion (IsItem d) items
+same_items c d e f [] all = tt
+same_items c d e f (i ∷ items) all = (same_item c d e f i all.0, same_items c d e f items all.1)
+
+same_turns : (c d : Config) → c.mutators ≡ d.mutators → c.helpers ≡ d.helpers → (turns : List (List Item)) → AllByRecursion (IsScheduleLine c) turns → AllByRecursion (IsScheduleLine d) turns
+same_turns c d e f [] all = tt
+same_turns c d e f (items ∷ turns) all = (record { some = all.0.some; in_range = same_items c d e f items all.0.in_range }, same_turns c d e f turns all.1)
+
+-- where no schedule was read behind the lines, the bytes are no trace
+pub no_turns : (bytes rest behind : List ℕ) (c : Config) (threads : ℕ) → bytes ≡ header c ++ rest → threads ≡ c.mutators
+    → ((lines : List Line) (after : List ℕ) → AllByRecursion (IsLine threads) lines → IsBehindCommands after → rest ≡ flat_map line lines ++ after → behind ≡ after)
+    → ((turns : List (List Item)) → AllByRecursion (IsScheduleLine c) turns → behind ≡ flat_map schedule_line turns → ⊥)
+    → (config : Config) (scripts : List (List Command)) (items : List Item) → Reads bytes config scripts items → ⊥
+no_turns bytes rest behind c threads found same only none config scripts items reads =
+    let h = one_head bytes rest (flat_map line reads.lines ++ flat_map schedule_line reads.turns) c config found reads.spelled in
+    none reads.turns (same_turns config c (sym h.0) (sym h.1) reads.turns reads.turns_in_range)
+    (only reads.lines (flat_map schedule_line reads.turns) (subst (λ (n : ℕ). AllByRecursion (IsLine n) reads.lines) (sym (same ∙ h.0)) reads.in_range) (turns_behind reads.turns) h.2)
+
+-- what was read is a trace
+pub whole : (bytes rest behind : List ℕ) (c : Config) (threads : ℕ) (scripts : List (List Command)) (items : List Item) → length bytes ≤ most_bytes → bytes ≡ header c ++ rest → threads ≡ c.mutators
+    → HasTaken threads rest behind scripts → HasScheduled c behind [] items → Reads bytes c scripts items
+whole bytes rest behind c threads scripts items short found same taken turned = record {
+  lines = taken.lines;
+  in_range = subst (λ (n : ℕ). AllByRecursion (IsLine n) taken.lines) same taken.in_range;
+  turns = turned.turns;
+  turns_in_range = turned.in_range;
+  spelled = found ∙ ap (λ (bs : List ℕ). header c ++ bs) (taken.spelled ∙ ap (λ (bs : List ℕ). flat_map line taken.lines ++ bs) turned.spelled);
+  by_thread = taken.by_thread ∙ ap (λ (n : ℕ). scripts_of n taken.lines) same;
+  in_order = turned.items;
+  short = short;
+}

@@ -1,12 +1,12 @@
--- Which bytes are a trace, and of which scripts.
-use Rattle.std.specs.Prelude.{ℕ, ◌≡◌, ◌-◌, ◌≤◌, ◌==◌, List, [], ◌∷◌, ◌++◌, length, slice_index_or, slice_set, map, filter, All}
+-- Which bytes are a trace, and of which scripts and schedule.
+use Rattle.std.specs.Prelude.{ℕ, ◌≡◌, ◌-◌, ◌≤◌, ◌==◌, List, [], ◌∷◌, ◌++◌, length, slice_index_or, slice_set, map, filter}
 use Rattle.std.specs.List.{flat_map, range_with_len, AllByRecursion}
 use Rattle.std.specs.Io.KnownBytes.{Consumes, IsAtEnd}
 use Rattle.std.specs.Prelude.{Option}
 use Rattle.shen_graph.specs.declared.command.Command.{Command}
-use Rattle.shen_graph.specs.declared.command.Command.TheVariants.{New, Get, Set}
 use Rattle.heap_words.specs.declared.config.Config.{Config}
-use Rattle.trace_text.specs.Spelling.{Line, IsLine, line, header}
+use Rattle.heap_words.specs.declared.schedule.Item.{Item}
+use Rattle.trace_text.specs.Spelling.{Line, IsLine, line, header, IsScheduleLine, schedule_line}
 
 -- the most bytes of a trace
 abbrev pub most_bytes : ℕ
@@ -31,31 +31,34 @@ pub record HasTaken (threads : ℕ) (bytes rest : List ℕ) (scripts : List (Lis
   pub spelled : bytes ≡ flat_map line lines ++ rest
   pub by_thread : scripts ≡ scripts_of threads lines
 
--- The bytes are the head of a trace and then lines of commands, and these are the threads' scripts.
-pub record Reads (bytes : List ℕ) (config : Config) (scripts : List (List Command)) : Type 0 where
+-- the items of all lines of the schedule, in order
+abbrev pub items_of : List (List Item) → List Item
+items_of turns = flat_map (λ items. items) turns
+
+-- these bytes are lines of the schedule, whose items were added
+pub record HasScheduled (c : Config) (bytes : List ℕ) (before after : List Item) : Type 0 where
+  pub turns : List (List Item)
+  pub in_range : AllByRecursion (IsScheduleLine c) turns
+  pub spelled : bytes ≡ flat_map schedule_line turns
+  pub items : after ≡ before ++ items_of turns
+
+-- The bytes are the head of a trace, then lines of commands, and then lines of a schedule; and these are the threads'
+-- scripts, and these the items.
+pub record Reads (bytes : List ℕ) (config : Config) (scripts : List (List Command)) (items : List Item) : Type 0 where
   pub lines : List Line
   pub in_range : AllByRecursion (IsLine config.mutators) lines
-  pub spelled : bytes ≡ header config ++ flat_map line lines
+  pub turns : List (List Item)
+  pub turns_in_range : AllByRecursion (IsScheduleLine config) turns
+  pub spelled : bytes ≡ header config ++ (flat_map line lines ++ flat_map schedule_line turns)
   pub by_thread : scripts ≡ scripts_of config.mutators lines
+  pub in_order : items ≡ items_of turns
   pub short : length bytes ≤ most_bytes
 
--- a command that the first version of the program runs
-abbrev pub IsEarly : Command → Type 0
-IsEarly (New dst refs nums) = Unit {0}
-IsEarly (Get dst src field) = Unit {0}
-IsEarly (Set obj field val) = Unit {0}
-IsEarly _ = ⊥
-
--- what the first version of the program runs: one thread, no helper, and three kinds of commands
-pub record IsEarlyTrace (config : Config) (scripts : List (List Command)) : Type 0 where
-  pub one_thread : config.mutators ≡ 1
-  pub no_helper : config.helpers ≡ 0
-  pub early : All (All IsEarly) scripts
-
--- the bytes are a trace that the first version of the program runs
-pub record ReadsEarly (bytes : List ℕ) (config : Config) (scripts : List (List Command)) : Type 0 where
-  pub reads : Reads bytes config scripts
-  pub early : IsEarlyTrace config scripts
+-- two readings are of one configuration, the same scripts and the same items
+pub record IsSameTrace (c : Config) (xs : List (List Command)) (is : List Item) (d : Config) (ys : List (List Command)) (js : List Item) : Type 0 where
+  pub config : c ≡ d
+  pub scripts : xs ≡ ys
+  pub items : is ≡ js
 
 -- these bytes came, and no more are left, where that is told
 pub record Came (before after : Option (List ℕ)) (bytes : List ℕ) : Type 0 where

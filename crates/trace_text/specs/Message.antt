@@ -3,13 +3,12 @@ use Rattle.std.specs.Prelude.{ℕ, List, [], ◌∷◌, ◌++◌, codes}
 use Rattle.std.specs.Fmt.{decimal}
 use Rattle.trace_text.specs.Spelling.{newline}
 use Rattle.trace_text.specs.declared.message.Line.{Line}
-use Rattle.trace_text.specs.declared.message.Line.TheVariants.{BadWords, BadTrace, HeapTooSmall, TooLong, Unfinished, ReadFault, NoMemory}
+use Rattle.trace_text.specs.declared.message.Line.TheVariants.{BadWords, BadTrace, TooLong, Unfinished, ReadFault, NoMemory}
 
 -- what a line says
 abbrev pub message : Line → List ℕ
 message BadWords = codes "bad words"
 message BadTrace = codes "bad trace"
-message HeapTooSmall = codes "heap too small"
 message TooLong = codes "too long: more than 16777216 bytes"
 message (Unfinished steps) = codes "unfinished after " ++ decimal steps ++ codes " steps"
 message ReadFault = codes "read fault"

@@ -43,11 +43,11 @@ spaced_at limit bytes = do
   rest ← behind (32 ∷ []) bytes
   number_at limit rest
 
--- the number of a thread, from 1 on
-unfoldable pub thread_at : ℕ → List ℕ → Option (ℕ × List ℕ)
-thread_at threads bytes = do
-  t ← number_at threads bytes
-  if t.0 == 0 then None else Some t
+-- a number from 1 on, at most a limit
+unfoldable pub positive_at : ℕ → List ℕ → Option (ℕ × List ℕ)
+positive_at limit bytes = do
+  n ← number_at limit bytes
+  if n.0 == 0 then None else Some n
 
 -- numbers up to these limits, each after a space
 unfoldable pub numbers_at : List ℕ → List ℕ → Option (List ℕ × List ℕ)
@@ -77,7 +77,7 @@ command_at bytes = do
 -- a command's line, of a thread from 1 on
 unfoldable pub line_at : ℕ → List ℕ → Option (Line × List ℕ)
 line_at threads bytes = do
-  t ← thread_at threads bytes
+  t ← positive_at threads bytes
   rest ← behind (32 ∷ []) t.1
   c ← command_at rest
   end ← behind (10 ∷ []) c.1

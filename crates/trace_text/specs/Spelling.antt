@@ -1,11 +1,16 @@
--- How traces are spelled. Each trace has spellings that differ only in how the threads' lines are mixed.
-use Rattle.std.specs.Prelude.{ℕ, ◌^◌, ◌<◌, ◌≤◌, List, [], ◌∷◌, ◌++◌, codes}
-use Rattle.std.specs.List.{flat_map}
+-- How traces are spelled. Each trace has spellings that differ only in how the threads' lines are mixed, and in how many
+-- items of the schedule stand on a line.
+use Rattle.std.specs.Prelude.{ℕ, ◌^◌, ◌+◌, ◌<◌, ◌≤◌, List, [], ◌∷◌, ◌++◌, length, codes}
+use Rattle.std.specs.List.{flat_map, AllByRecursion}
 use Rattle.std.specs.Fmt.{decimal}
 use Rattle.shen_graph.specs.declared.command.Command.{Command}
 use Rattle.shen_graph.specs.declared.command.Command.TheVariants.{New, Get, Set, Cas, Xchg, Rd, Wr, Copy, Drop, Same, Gc}
 use Rattle.shen_graph.specs.Valid.{IsValid}
 use Rattle.heap_words.specs.declared.config.Config.{Config}
+use Rattle.heap_words.specs.declared.schedule.Item.{Item}
+use Rattle.heap_words.specs.declared.schedule.Item.TheVariants.{Steps, Until, Replies}
+use Rattle.heap_words.specs.Place.{code_of}
+use Rattle.heap_words.specs.Ranges.{seat_count}
 
 -- the byte between two words, and the one at the end of a line
 abbrev pub space : ℕ
@@ -73,3 +78,52 @@ titled title ns = title ++ (numbers ns ++ newline ∷ [])
 -- the three lines at the head of a trace
 abbrev pub header : Config → List ℕ
 header c = titled (codes "shen") (1 ∷ []) ++ (titled (codes "heap") (c.regions ∷ c.region_words ∷ c.reserve ∷ []) ++ titled (codes "threads") (c.mutators ∷ c.helpers ∷ []))
+
+-- ---- schedules
+
+-- the machine of an item, counted from 0
+abbrev pub number_of : Item → ℕ
+number_of (Steps number count) = number
+number_of (Until number place) = number
+number_of (Replies number count) = number
+
+-- how far the machine goes: after a colon its steps, after an at sign the code of a place, after an equals sign its replies
+abbrev pub aim : Item → List ℕ
+aim (Steps number count) = 58 ∷ decimal count
+aim (Until number place) = 64 ∷ code_of place
+aim (Replies number count) = 61 ∷ decimal count
+
+-- an item: the machine, counted from 1, and how far it goes
+abbrev pub item : Item → List ℕ
+item i = decimal (number_of i + 1) ++ aim i
+
+-- each item, after one space
+abbrev pub spaced_item : Item → List ℕ
+spaced_item i = space ∷ item i
+
+-- the items of a line, and its end
+abbrev pub items_and_end : List Item → List ℕ
+items_and_end items = flat_map spaced_item items ++ newline ∷ []
+
+-- a line of the schedule: an exclamation mark and items
+abbrev pub schedule_line : List Item → List ℕ
+schedule_line items = 33 ∷ items_and_end items
+
+-- a number from 1 on, at most so large
+abbrev pub IsUpTo : ℕ → ℕ → Type 0
+IsUpTo most n = (1 ≤ n) × (n ≤ most)
+
+-- a count of steps or of replies
+abbrev pub IsCount : ℕ → Type 0
+IsCount count = IsUpTo 4000000000 count
+
+-- What may stand in a schedule for these machines. Replies are those of a mutator.
+abbrev pub IsItem : Config → Item → Type 0
+IsItem c (Steps number count) = (number < seat_count c.mutators c.helpers) × IsCount count
+IsItem c (Until number place) = number < seat_count c.mutators c.helpers
+IsItem c (Replies number count) = (number < c.mutators) × IsCount count
+
+-- what may stand on a line of the schedule: one item or more
+pub record IsScheduleLine (c : Config) (items : List Item) : Type 0 where
+  pub some : 1 ≤ length items
+  pub in_range : AllByRecursion (IsItem c) items

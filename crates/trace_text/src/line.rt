@@ -2,24 +2,11 @@
 ghost use Rattle.std.specs.Prelude.{◌≡◌, ℕ, Option};
 ghost use Rattle.std.specs.Option.{option_map};
 ghost use Rattle.trace_text.specs.Spelling.{Line};
-ghost use Rattle.trace_text.specs.Scanning.{thread_at, command_at, line_at};
+ghost use Rattle.trace_text.specs.Scanning.{command_at, line_at};
 
 use crate::kind::kind_at;
-use crate::scan::{number_at, numbers_at, text_at};
+use crate::scan::{numbers_at, positive_at, text_at};
 use shen_graph::Command;
-
-/// The number of a thread, from 1 to `threads`, at the front.
-#[tactic(auto, unfolding(crate::specs::Scanning::thread_at))]
-fn thread_at(threads: u32, bytes: &[u8]) -> Option<(u64, &[u8])>
-    ensures { option_map (λ x. (x.0, x.1.now)) result ≡ thread_at threads bytes.now }
-{
-    let (thread, rest) = number_at(u64::from(threads), bytes)?;
-    if thread == 0 {
-        None
-    } else {
-        Some((thread, rest))
-    }
-}
 
 /// The command at the front, and what is behind its numbers.
 #[tactic(auto, unfolding(crate::specs::Scanning::command_at))]
@@ -36,7 +23,7 @@ fn command_at(bytes: &[u8]) -> Option<(Command, &[u8])>
 pub(crate) fn line_at(threads: u32, bytes: &[u8]) -> Option<(u64, Command, &[u8])>
     ensures { option_map (λ x. (record { thread = x.0; command = x.1 }, x.2.now)) result ≡ line_at threads bytes.now }
 {
-    let (thread, rest) = thread_at(threads, bytes)?;
+    let (thread, rest) = positive_at(u64::from(threads), bytes)?;
     let rest = text_at(b" ", rest)?;
     let (command, rest) = command_at(rest)?;
     let rest = text_at(b"\n", rest)?;

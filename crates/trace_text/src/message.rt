@@ -13,8 +13,6 @@ pub enum Line {
     BadWords,
     /// The bytes that were read are no trace: `bad trace`.
     BadTrace,
-    /// The objects of a trace do not fit the heap that it names: `heap too small`.
-    HeapTooSmall,
     /// More bytes came than a trace may have: `too long: more than 16777216 bytes`.
     TooLong,
     /// A machine still had work after so many steps: `unfinished after N steps`.
@@ -34,7 +32,6 @@ pub fn write_line<K: Sink>(sink: &mut K, line: &Line) -> Result<(), WriteFault>
     match line {
         Line::BadWords => write_all(sink, b"bad words\n"),
         Line::BadTrace => write_all(sink, b"bad trace\n"),
-        Line::HeapTooSmall => write_all(sink, b"heap too small\n"),
         Line::TooLong => write_all(sink, b"too long: more than 16777216 bytes\n"),
         Line::Unfinished { steps } => write_unfinished(sink, *steps),
         Line::ReadFault => write_all(sink, b"read fault\n"),

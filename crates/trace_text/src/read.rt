@@ -1,5 +1,5 @@
 //! Reading a trace.
-ghost use Rattle.std.specs.Prelude.{◌≡◌, ◌≢◌, ◌↔◌, ℕ, ◌+◌, ◌<◌, ◌≤◌, List, [], ◌++◌, Err, length, take, IfSome, IfNone, IfOk, OnOk, IfErr, IsTrue, All};
+ghost use Rattle.std.specs.Prelude.{◌≡◌, ◌≢◌, ◌↔◌, ℕ, ◌+◌, ◌<◌, ◌≤◌, List, [], ◌++◌, Err, length, take, IfSome, IfNone, IfOk, OnOk, IfErr, IsTrue};
 ghost use Rattle.std.specs.List.{flat_map, AllByRecursion};
 ghost use Rattle.std.specs.Option.{option_map};
 ghost use Rattle.std.specs.Io.KnownBytes.{Consumes};
@@ -7,17 +7,20 @@ ghost use Rattle.shen_base.specs.Count.{Rose};
 ghost use Rattle.shen_graph.specs.declared.command.Command.{Command};
 ghost use Rattle.heap_words.specs.declared.config.Config.{Config as Sizes};
 ghost use Rattle.trace_text.specs.Spelling.{Line, IsLine, line, header};
+ghost use Rattle.heap_words.specs.declared.schedule.Item.{Item};
 ghost use Rattle.trace_text.specs.Scanning.{sizes_at};
-ghost use Rattle.trace_text.specs.Grammar.{most_bytes, with_line, scripts_of, HasTaken, IsEarly, IsEarlyTrace, Reads, ReadsEarly, Came};
+ghost use Rattle.trace_text.specs.Front.{IsBehindCommands};
+ghost use Rattle.trace_text.specs.Grammar.{most_bytes, with_line, scripts_of, HasTaken, Reads, IsSameTrace, Came};
 ghost use Rattle.trace_text.specs.Faults.{IsTextFault};
 
 use crate::line::line_at;
 use crate::scan::{numbers_at, text_at};
+use crate::schedule_lines::take_schedule;
 use crate::source_bytes::all_bytes;
 use crate::trace::{Scripts, Trace, TraceFault};
-use heap_words::Config;
+use heap_words::{Config, Schedule};
 use shen_base::Source;
-use shen_graph::{Command, Script};
+use shen_graph::Script;
 use std::alloc::Global;
 
 /// The numbers at the head of a trace, and the bytes behind its three lines.
@@ -74,23 +77,34 @@ fn take_line<'a>(
     }
 }
 
-/// Takes all lines, to the end of the bytes.
-fn take_lines(
+/// Whether no line of a command begins here: the bytes end, or a line of the schedule follows.
+fn is_behind_commands(bytes: &[u8]) -> bool
+    ensures { IsTrue result ↔ IsBehindCommands bytes.now }
+{
+    match bytes {
+        [first, ..] => *first == b'!',
+        [] => true,
+    }
+}
+
+/// Takes all lines of commands, and returns the bytes behind them.
+fn take_lines<'a>(
     alloc: Global,
     threads: u32,
-    bytes: &[u8],
+    bytes: &'a [u8],
     scripts: &mut Vec<Script>,
-) -> Result<(), TraceFault>
+) -> Result<&'a [u8], TraceFault>
     requires { scripts.old.items ≡ scripts_of threads [] }
-    ensures ok { OnOk result (HasTaken threads bytes.now [] scripts.new.items) }
+    ensures ok { IfOk result (λ rest. HasTaken threads bytes.now rest.now scripts.new.items) }
+    ensures only { IfOk result (λ rest. (lines : List Line) (after : List ℕ) → AllByRecursion (IsLine threads) lines → IsBehindCommands after → bytes.now ≡ flat_map line lines ++ after → rest.now ≡ after) }
     ensures fault { IfErr result IsTextFault }
-    ensures not_read { result ≡ Err TraceFault.NotRead → (lines : List Line) → AllByRecursion (IsLine threads) lines → bytes.now ≢ flat_map line lines }
+    ensures not_read { result ≡ Err TraceFault.NotRead → (lines : List Line) (after : List ℕ) → AllByRecursion (IsLine threads) lines → IsBehindCommands after → bytes.now ≢ flat_map line lines ++ after }
 {
     let mut rest = bytes;
-    'lines: while !rest.is_empty() {
+    'lines: while !is_behind_commands(rest) {
         rest = take_line(alloc, threads, rest, scripts)?;
     }
-    Ok(())
+    Ok(rest)
 }
 
 /// A script without a command for each of so many threads.
@@ -113,56 +127,35 @@ fn empty_scripts(alloc: Global, threads: u32) -> Result<Vec<Script>, TraceFault>
 /// The trace that these bytes spell.
 fn trace_of(alloc: Global, bytes: &[u8]) -> Result<Trace, TraceFault>
     requires { length bytes.now ≤ most_bytes }
-    ensures ok { IfOk result (λ trace. Reads bytes.now trace.config trace.scripts) }
+    ensures ok { IfOk result (λ trace. Reads bytes.now trace.config trace.scripts trace.schedule) }
     ensures fault { IfErr result IsTextFault }
-    ensures not_read { result ≡ Err TraceFault.NotRead → (config : Sizes) (scripts : List (List Command)) → Reads bytes.now config scripts → ⊥ }
+    ensures not_read { result ≡ Err TraceFault.NotRead → (config : Sizes) (scripts : List (List Command)) (items : List Item) → Reads bytes.now config scripts items → ⊥ }
 {
     let Some((config, rest)) = config_at(bytes) else {
         return Err(TraceFault::NotRead);
     };
     let threads = config.mutators() as u32;
     let mut scripts = empty_scripts(alloc, threads)?;
-    take_lines(alloc, threads, rest, &mut scripts)?;
+    let Ok(mut schedule) = Schedule::open(alloc) else {
+        return Err(TraceFault::NoMemory);
+    };
+    let turns = take_lines(alloc, threads, rest, &mut scripts)?;
+    take_schedule(alloc, &config, turns, &mut schedule)?;
     Ok(Trace {
         config,
         scripts: Scripts::from_vec(scripts),
+        schedule,
     })
 }
 
-/// Whether the first version of the program runs a command.
-fn is_early(command: &Command) -> bool
-    ensures { IsTrue result ↔ IsEarly command.now }
-{
-    match command {
-        Command::New { .. } | Command::Get { .. } | Command::Set { .. } => true,
-        _ => false,
-    }
-}
-
-/// Whether the first version of the program runs each command of a script.
-fn all_early(script: &Script) -> bool
-    ensures { IsTrue result ↔ All IsEarly script.now }
-{
-    script.list().iter().all(is_early)
-}
-
-/// Whether the first version of the program runs a trace.
-fn is_early_trace(trace: &Trace) -> bool
-    ensures { IsTrue result ↔ IsEarlyTrace trace.now.config trace.now.scripts }
-{
-    trace.config.mutators() == 1
-        && trace.config.helpers() == 0
-        && trace.scripts.list().iter().all(all_early)
-}
-
-/// Reads a trace of one thread that allocates, stores and loads. It reads to the end of the source, or until one byte
-/// more came than a trace may have, and then looks at the lines.
+/// Reads a trace. It reads to the end of the source, or until one byte more came than a trace may have, and then looks at
+/// the lines.
 pub fn read_trace<S: Source>(alloc: Global, source: &mut S) -> Result<Trace, TraceFault>
-    ensures ok { IfOk result (λ trace. (bytes : List ℕ) × Came (S.left source.old) (S.left source.new) bytes × ReadsEarly bytes trace.config trace.scripts) }
+    ensures ok { IfOk result (λ trace. (bytes : List ℕ) × Came (S.left source.old) (S.left source.new) bytes × Reads bytes trace.config trace.scripts trace.schedule) }
 
     // The bytes came whole, and are outside the grammar.
     ensures not_read { result ≡ Err TraceFault.NotRead → (bytes : List ℕ) × Came (S.left source.old) (S.left source.new) bytes × (length bytes ≤ most_bytes)
-        × ((config : Sizes) (scripts : List (List Command)) → ReadsEarly bytes config scripts → ⊥) }
+        × ((config : Sizes) (scripts : List (List Command)) (items : List Item) → Reads bytes config scripts items → ⊥) }
 
     ensures too_long { (n : ℕ) → result ≡ Err (TraceFault.TooLong n) → (n ≡ most_bytes + 1)
         × ((bytes : List ℕ) × Consumes (S.left source.old) (S.left source.new) bytes × (length bytes ≡ most_bytes + 1)) }
@@ -170,9 +163,10 @@ pub fn read_trace<S: Source>(alloc: Global, source: &mut S) -> Result<Trace, Tra
     ensures faults_never_fall { S.faults source.old ≤ S.faults source.new }
 {
     let bytes = all_bytes(alloc, source)?;
-    let trace = trace_of(alloc, &bytes)?;
-    if !is_early_trace(&trace) {
-        return Err(TraceFault::NotRead);
-    }
-    Ok(trace)
+    trace_of(alloc, &bytes)
 }
+
+/// A law: bytes are a trace in one way at most.
+pub fn traces_are_read_once()
+    ensures { (bytes : List ℕ) (c d : Sizes) (xs ys : List (List Command)) (is js : List Item) → Reads bytes c xs is → Reads bytes d ys js → IsSameTrace c xs is d ys js }
+{}

@@ -3,7 +3,9 @@ ghost use Rattle.std.specs.Prelude.{◌≡◌, ℕ, ◌+◌, ◌-◌, ◌*◌, �
 ghost use Rattle.std.specs.Int.{IsInRange};
 ghost use Rattle.std.specs.Str.Parse.{AllDigits, digits_value};
 ghost use Rattle.std.specs.Option.{option_map};
-ghost use Rattle.trace_text.specs.Scanning.{behind, digit_count, is_numeral, numeral, number_at, spaced_at, numbers_at};
+ghost use Rattle.std.specs.Fmt.{decimal};
+ghost use Rattle.trace_text.specs.Spelling.{IsUpTo};
+ghost use Rattle.trace_text.specs.Scanning.{behind, digit_count, is_numeral, numeral, number_at, positive_at, spaced_at, numbers_at};
 
 /// What is behind a text at the front of the bytes.
 pub(crate) fn text_at<'a>(text: &[u8], bytes: &'a [u8]) -> Option<&'a [u8]>
@@ -61,12 +63,33 @@ fn numeral(limit: u64, digits: &[u8]) -> Option<u64>
 
 /// The number that the digits at the front spell, at most a limit, and the bytes behind it.
 #[tactic(auto, unfolding(crate::specs::Scanning::number_at))]
-pub(crate) fn number_at(limit: u64, bytes: &[u8]) -> Option<(u64, &[u8])>
+fn number_at(limit: u64, bytes: &[u8]) -> Option<(u64, &[u8])>
     ensures { option_map (λ x. (x.0, x.1.now)) result ≡ number_at limit bytes.now }
 {
     let (digits, rest) = bytes.split_at(digits_at(bytes));
     let number = numeral(limit, digits)?;
     Some((number, rest))
+}
+
+/// The number from 1 on that the digits at the front spell, at most a limit, and the bytes behind it.
+#[tactic(auto, unfolding(crate::specs::Scanning::positive_at))]
+pub(crate) fn positive_at(limit: u64, bytes: &[u8]) -> Option<(u64, &[u8])>
+    ensures { option_map (λ x. (x.0, x.1.now)) result ≡ positive_at limit bytes.now }
+{
+    let (number, rest) = number_at(limit, bytes)?;
+    if number == 0 {
+        None
+    } else {
+        Some((number, rest))
+    }
+}
+
+/// The number from 1 to `most` that a whole text spells. A number has no needless zero in front.
+pub fn number_in(most: u64, text: &[u8]) -> Option<u64>
+    ensures { MatchOption result ((n : ℕ) → IsUpTo most n → text.now ≡ decimal n → ⊥) (λ n. IsUpTo most n × (text.now ≡ decimal n)) }
+{
+    let (number, rest) = positive_at(most, text)?;
+    if rest.is_empty() { Some(number) } else { None }
 }
 
 /// The number after a space, at most a limit.

@@ -1,7 +1,7 @@
-//! Traces: a configuration, and a script for each thread.
+//! Traces: a configuration, a script for each thread, and a schedule.
 ghost use Rattle.std.specs.Prelude.{◌≡◌};
 
-use heap_words::Config;
+use heap_words::{Config, Schedule};
 use shen_graph::Script;
 use std::marker::Model;
 
@@ -36,13 +36,15 @@ impl Scripts {
     }
 }
 
-/// A trace: the sizes of the heap, and what each thread is to run.
-#[derive(Debug, Drop)]
+/// A trace: the sizes of the heap, what each thread is to run, and in which order the machines step at first.
+#[derive(Drop)]
 pub struct Trace {
     /// The sizes of the heap, and how many machines work on it.
     pub config: Config,
     /// A script for each mutator.
     pub scripts: Scripts,
+    /// The items of all lines of the schedule, in order.
+    pub schedule: Schedule,
 }
 
 /// Why no trace was read.

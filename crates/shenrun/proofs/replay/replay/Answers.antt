@@ -2,34 +2,34 @@ use Rattle.std.proofs.Common.{inl, inr, refl}
 use Rattle.trace_text.specs.Message.{line_text}
 use Rattle.trace_text.specs.declared.message.Line.TheVariants as line
 use Rattle.trace_text.specs.Answer.{text_of}
-use Rattle.shenrun.specs.declared.status.Status.TheVariants.{Ok, BadTrace, ReadFault, NoMemory}
+use Rattle.shenrun.specs.declared.status.Status.TheVariants.{Ok, BadTrace, Unfinished, ReadFault, NoMemory}
 use Rattle.shenrun.proofs.Ends.{said}
 use Rattle.shenrun.proofs.replay.replay.Goals as goal
 
 pub returns-in-Err-NotRead : goal.returns-in-Err-NotRead
 returns-in-Err-NotRead g c = λ words asked.
     let none = c.in-Err-NotRead.ensures.not_read (let e = c.in-Err-NotRead.field-0-is in cc) in
-    said words _ _ (line_text line.BadTrace) BadTrace c.say.result (asked, inl (none, refl)) c.say.ensures
+    said words _ _ (line_text line.BadTrace) BadTrace c.say.result ((c.args.steps, asked), inl (none, refl)) c.say.ensures
 
 pub returns-in-Err-TooLong : goal.returns-in-Err-TooLong
 returns-in-Err-TooLong g c = λ words asked.
     let long = c.in-Err-TooLong.ensures.too_long c.in-Err-TooLong.field-0-0 (let e = c.in-Err-TooLong.field-0-is in cc) in
-    said words _ _ (line_text line.TooLong) BadTrace c.say-in-Err-TooLong.result (asked, inr (inl (long.1, refl))) c.say-in-Err-TooLong.ensures
+    said words _ _ (line_text line.TooLong) BadTrace c.say-in-Err-TooLong.result ((c.args.steps, asked), inr (long.1, refl)) c.say-in-Err-TooLong.ensures
 
 pub returns-in-Err-ReadFault : goal.returns-in-Err-ReadFault
 returns-in-Err-ReadFault g c = λ words asked.
     let rose = c.in-Err-ReadFault.ensures.read_fault (let e = c.in-Err-ReadFault.field-0-is in cc) in
-    said words _ _ (line_text line.ReadFault) ReadFault c.say-in-Err-ReadFault.result (asked, rose, refl) c.say-in-Err-ReadFault.ensures
+    said words _ _ (line_text line.ReadFault) ReadFault c.say-in-Err-ReadFault.result ((c.args.steps, asked), rose, refl) c.say-in-Err-ReadFault.ensures
 
 pub returns-in-Err-NoMemory : goal.returns-in-Err-NoMemory
 returns-in-Err-NoMemory g c = λ words asked.
     said words _ _ (line_text line.NoMemory) NoMemory c.say-in-Err-NoMemory.result refl c.say-in-Err-NoMemory.ensures
 
-pub returns-in-Err-TooSmall : goal.returns-in-Err-TooSmall
-returns-in-Err-TooSmall g c = λ words asked.
+pub returns-in-Err-Unfinished : goal.returns-in-Err-Unfinished
+returns-in-Err-Unfinished g c = λ words asked.
     let read = c.in-Ok.ensures.ok in
-    let large = c.in-Err-TooSmall.ensures.too_small (let e = c.in-Err-TooSmall.field-0-is in cc) read.0 read.2 in
-    said words _ _ (line_text line.HeapTooSmall) BadTrace c.say-in-Err-TooSmall.result (asked, inr (inr ((read.0, read.1, large), refl))) c.say-in-Err-TooSmall.ensures
+    let cut = c.in-Err-Unfinished.ensures.unfinished (let e = c.in-Err-Unfinished.field-0-is in cc) read.0 read.2 in
+    said words _ _ (line_text (line.Unfinished c.args.steps)) Unfinished c.say-in-Err-Unfinished.result (c.args.steps, asked, (read.0, read.1, cut), refl) c.say-in-Err-Unfinished.ensures
 
 pub returns-in-Err-NoMemory-answer_to : goal.returns-in-Err-NoMemory-answer_to
 returns-in-Err-NoMemory-answer_to g c = λ words asked.
@@ -38,4 +38,4 @@ returns-in-Err-NoMemory-answer_to g c = λ words asked.
 pub returns : goal.returns
 returns g c = λ words asked.
     let read = c.in-Ok.ensures.ok in
-    said words _ _ (text_of c.in-Ok-answer_to.answer) Ok c.give.result (asked, (read.0, read.1, c.in-Ok-answer_to.ensures.ok read.0 read.2)) c.give.ensures
+    said words _ _ (text_of c.in-Ok-answer_to.answer) Ok c.give.result (c.args.steps, asked, (read.0, read.1, c.in-Ok-answer_to.ensures.ok read.0 read.2)) c.give.ensures

@@ -1,20 +1,37 @@
-use Rattle.std.proofs.Common.{◌≡◌, List, [], sym, ap, subst, ◌∙◌}
-use Rattle.std.specs.Prelude.{All, Option, slice_index_or}
+use Rattle.std.proofs.Common.{◌≡◌, ℕ, List, All, length, ap, sym, subst, ◌∙◌, arith}
+use Rattle.heap_words.specs.declared.config.Config.{Config}
 use Rattle.shen_graph.specs.declared.command.Command.{Command}
-use Rattle.shen_graph.specs.Valid.{IsValid}
-use Rattle.shen_graph.specs.Work.{Progress, script_of}
-use Rattle.small_heap.specs.Holds.{IsBuilt}
-use Rattle.shenrun.proofs.Scripts.{first_script, valid_script, built_script}
+use Rattle.shen_graph.specs.Work.{opened}
+use Rattle.shen_core.specs.Progress.{IsInSeats}
+use Rattle.shenrun.proofs.Scripts.{count_scripts, runnable_scripts, items_in_seats}
+use Rattle.shenrun.proofs.Ran.{can_run, finished, unfinished}
 use Rattle.shenrun.proofs.replay.run.Goals as goal
 
-pub run-requires-clause-valid : goal.run-requires-clause-valid
-run-requires-clause-valid c =
-    let none : List Command = [] in
-    let is : script_of c.in-Ok.work 0 ≡ slice_index_or c.args.trace.now.scripts 0 none = ap (λ (w : List (Option Progress)). script_of w 0) c.in-Ok.ensures ∙ first_script c.list.result.now ∙ ap (λ (ss : List (List Command)). slice_index_or ss 0 none) c.list.ensures in
-    subst (All IsValid) (sym is) (valid_script c.requires.0 c.args.trace.now.config c.args.trace.now.scripts c.requires.1.reads)
+pub open-requires : goal.open-requires
+open-requires c =
+    let count = count_scripts c.requires.0 c.args.trace.now.config c.args.trace.now.scripts c.args.trace.now.schedule c.requires.1 in
+    let same = ap (λ (scripts : List (List Command)). length scripts) c.list.ensures in
+    omega (arith, count, same)
 
-pub run-requires-clause-built : goal.run-requires-clause-built
-run-requires-clause-built c =
-    let none : List Command = [] in
-    let is : script_of c.in-Ok.work 0 ≡ slice_index_or c.args.trace.now.scripts 0 none = ap (λ (w : List (Option Progress)). script_of w 0) c.in-Ok.ensures ∙ first_script c.list.result.now ∙ ap (λ (ss : List (List Command)). slice_index_or ss 0 none) c.list.ensures in
-    subst (All IsBuilt) (sym is) (built_script c.requires.0 c.args.trace.now.config c.args.trace.now.scripts c.requires.1)
+pub run-requires-clause-run : goal.run-requires-clause-run
+run-requires-clause-run c =
+    let t = c.args.trace.now in
+    can_run c.in-Ok-open.plain t.config t.scripts c.in-Ok.work c.in-Ok-open.ensures.config c.in-Ok-open.ensures.opening c.in-Ok-open.ensures.orders (count_scripts c.requires.0 t.config t.scripts t.schedule c.requires.1)
+    (runnable_scripts c.requires.0 t.config t.scripts t.schedule c.requires.1) (c.in-Ok.ensures ∙ ap opened c.list.ensures)
+
+pub run-requires-clause-items : goal.run-requires-clause-items
+run-requires-clause-items c =
+    let t = c.args.trace.now in
+    subst (λ (d : Config). All (IsInSeats d) t.schedule) (sym c.in-Ok-open.ensures.config) (items_in_seats c.requires.0 t.config t.scripts t.schedule c.requires.1)
+
+pub returns-in-Finished-clause-finished : goal.returns-in-Finished-clause-finished
+returns-in-Finished-clause-finished c =
+    let t = c.args.trace.now in
+    finished c.in-Ok-open.plain c.run.new.self t.config t.scripts t.schedule c.args.steps c.in-Ok.work c.run.new.work c.in-Ok-open.ensures.config c.in-Ok-open.ensures.opening (count_scripts c.requires.0 t.config t.scripts t.schedule c.requires.1)
+    (c.in-Ok.ensures ∙ ap opened c.list.ensures) c.in-Finished.ensures.events c.in-Finished.ensures.config c.in-Finished.ensures.run
+
+pub returns-in-Unfinished-clause-unfinished : goal.returns-in-Unfinished-clause-unfinished
+returns-in-Unfinished-clause-unfinished c = λ h bytes reads.
+    let t = c.args.trace.now in
+    unfinished c.in-Ok-open.plain c.run.new.self bytes t.config t.scripts t.schedule c.args.steps c.in-Ok.work c.run.new.work c.in-Ok-open.ensures.config c.in-Ok-open.ensures.opening (count_scripts bytes t.config t.scripts t.schedule reads)
+    (c.in-Ok.ensures ∙ ap opened c.list.ensures) c.in-Unfinished.ensures.events reads

@@ -1,21 +1,26 @@
 use Rattle.std.proofs.Common.{ℕ, List, map, refl}
 use Rattle.std.specs.String.{string_bytes}
-use Rattle.std.proofs.lemmas.Bool.{false≢true}
 use Rattle.trace_text.specs.Message.{line_text}
 use Rattle.trace_text.specs.declared.message.Line.TheVariants as line
 use Rattle.shenrun.specs.declared.status.Status.TheVariants.{BadWords}
 use Rattle.shenrun.proofs.Ends.{said, row_of_ok}
+use Rattle.shenrun.proofs.Complete.{complete}
 use Rattle.shenrun.proofs.replay.shenrun.Goals as goal
 
-pub returns-then-is_replay-clause-headline : goal.returns-then-is_replay-clause-headline
-returns-then-is_replay-clause-headline g c = λ e.
+pub returns-in-Some-clause-headline : goal.returns-in-Some-clause-headline
+returns-in-Some-clause-headline g c = λ e.
     let words : List (List ℕ) = map string_bytes c.args.words.now in
-    let written = row_of_ok words _ _ c.replay.result (c.replay.ensures words (c.if-is_replay.ensures.0 refl)) e in
-    (written.1.1.0, (written.0, written.1.1.1, written.1.1.2, written.2))
+    let written = row_of_ok words _ _ c.replay.result (c.replay.ensures words c.in-Some.ensures) e in
+    let row = written.1 in
+    (row.0, row.1, (row.2.0, (written.0, row.2.1, row.2.2, written.2)))
 
-pub returns-then-is_replay-clause-answered : goal.returns-then-is_replay-clause-answered
-returns-then-is_replay-clause-answered g c = c.replay.ensures (map string_bytes c.args.words.now) (c.if-is_replay.ensures.0 refl)
+pub returns-in-Some-clause-answered : goal.returns-in-Some-clause-answered
+returns-in-Some-clause-answered g c = c.replay.ensures (map string_bytes c.args.words.now) c.in-Some.ensures
 
-pub returns-else-is_replay-clause-answered : goal.returns-else-is_replay-clause-answered
-returns-else-is_replay-clause-answered g c =
-    said (map string_bytes c.args.words.now) _ _ (line_text line.BadWords) BadWords c.say.result ((λ asked. false≢true (c.if-is_replay.ensures.1 asked)), refl) c.say.ensures
+pub returns-in-Some-clause-complete : goal.returns-in-Some-clause-complete
+returns-in-Some-clause-complete g c = λ bytes config scripts items asked told reads read_fine written_fine.
+    complete (map string_bytes c.args.words.now) _ _ c.replay.result (c.replay.ensures (map string_bytes c.args.words.now) c.in-Some.ensures) bytes config scripts items asked told reads read_fine written_fine
+
+pub returns-in-None-clause-answered : goal.returns-in-None-clause-answered
+returns-in-None-clause-answered g c =
+    said (map string_bytes c.args.words.now) _ _ (line_text line.BadWords) BadWords c.say.result (c.in-None.ensures, refl) c.say.ensures

@@ -1,7 +1,4 @@
 use Rattle.trace_text.proofs.message.write_line.Goals as goal
 
-pub returns-in-HeapTooSmall : goal.returns-in-HeapTooSmall
-returns-in-HeapTooSmall g c = rw c.in-HeapTooSmall.is c.write_all-in-HeapTooSmall.ensures
-
 pub returns-in-TooLong : goal.returns-in-TooLong
 returns-in-TooLong g c = rw c.in-TooLong.is c.write_all-in-TooLong.ensures

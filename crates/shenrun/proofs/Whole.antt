@@ -1,0 +1,149 @@
+-- A trace whose machines are all idle in the end: the history, and the answer.
+use Rattle.std.proofs.Common.{◌≡◌, ◌≢◌, ◌⊎◌, inl, inr, ℕ, zero, suc, ◌+◌, ◌-◌, ◌<◌, ◌≤◌, Bool, true, false, eqb, List, [], ◌∷◌, ◌++◌, length, get_or, map, All, Option, Some, None, refl, sym, ap, ◌∙◌, subst, arith}
+use Rattle.std.specs.Prelude.{slice_get, slice_index_or}
+use Rattle.std.specs.Option.{option_map}
+use Rattle.std.specs.List.{range_with_len}
+use Rattle.std.proofs.lemmas.Bool.{cases_lt}
+use Rattle.std.proofs.lemmas.Bool.Decides.{nat_tests}
+use Rattle.std.proofs.lemmas.List.{append-nil, get_or_past}
+use Rattle.std.proofs.lemmas.List.Elements.{All-head, All-tail}
+use Rattle.std.proofs.lemmas.List.FromFn.{get_or-map-range_with_len}
+use Rattle.std.proofs.lemmas.Option.{slice_get-map, get_or_from_slice_get}
+use Rattle.heap_words.specs.declared.config.Config.{Config}
+use Rattle.heap_words.specs.declared.schedule.Item.{Item}
+use Rattle.heap_words.specs.Ranges.{seat_count}
+use Rattle.steps_base.specs.Steps.{Stage, Event}
+use Rattle.shen_graph.specs.declared.command.Command.{Command}
+use Rattle.shen_graph.specs.declared.command.Reply.{Reply}
+use Rattle.shen_graph.specs.Graph.{Reference, Graph, opening as graph_opening}
+use Rattle.shen_graph.specs.GraphText.{Text, Row, names_of, root_of}
+use Rattle.shen_graph.specs.History.{Entry, after, of_thread, commands_of}
+use Rattle.shen_graph.specs.History as history
+use Rattle.shen_graph.specs.Work as work
+use Rattle.mutator.specs.declared.spot.Spot.{Spot}
+use Rattle.mutator.specs.declared.spot.Spot.TheVariants.{Rest, Ended}
+use Rattle.mutator.specs.declared.spot.Order.{Order}
+use Rattle.mutator.specs.Orders.{is_at_rest}
+use Rattle.mutator.specs.Rows.{Mutating}
+use Rattle.step_core.specs.Actor.{Machine, mutating, controlling, Actor, entries_of}
+use Rattle.step_core.specs.World.{World}
+use Rattle.step_core.specs.Stepped.{SpotFacts}
+use Rattle.step_core.specs.Schedule.{Scripts, script_of, agenda_of}
+use Rattle.step_core.specs.Follows.{first_graph, reached, past, Follows, IsThread}
+use Rattle.step_core.proofs.Theorem.{follows_reached, thread_of, every_list}
+use Rattle.stage_graph.specs.Settled.{IsSettled}
+use Rattle.stage_graph.proofs.Entries.{past_settled}
+use Rattle.heap_graph.specs.Shows as texts
+use Rattle.heap_graph.specs.Rows.{root_rows}
+use Rattle.shen_core.specs.declared.plain.Plain.{Plain}
+use Rattle.shen_core.specs.State.{config_of, machine_at, Shows}
+use Rattle.shen_core.specs.Answer.{is_resting}
+use Rattle.shen_core.specs.Progress.{Jobs, Tells, AreIdle, AllRest}
+use Rattle.trace_text.specs.Grammar.{Reads}
+use Rattle.trace_text.specs.Answer.{answer_text, IsAnswerText, row_in}
+use Rattle.trace_text.proofs.AnswerLemmas.{answer_text_same}
+use Rattle.shenrun.specs.Replayed.{events_of, history_of, end_of, IsWhole, IsReplayed}
+use Rattle.shenrun.specs.Running.{HasFinished}
+use Rattle.shenrun.proofs.Calls.{calls_script, HasCalled, idle_has_called}
+use Rattle.shenrun.proofs.NoFull.{past_without_full}
+
+-- ---- the entries of each thread
+
+-- between two calls no reply is settled that is not given
+rest_unsettled : (c : Config) (w : World) (command : Command) (fixed : Option Reply) (spot : Spot) → is_at_rest spot ≡ true → SpotFacts c w command fixed spot → fixed ≡ None
+rest_unsettled c w command fixed Rest rest facts = facts
+rest_unsettled c w command fixed (Ended reply) rest facts = facts
+rest_unsettled c w command fixed _ rest facts = absurd cc
+
+entries_at_rest : (c : Config) (w : World) (entries : List Entry) (number : ℕ) (a : Actor) (m : Mutating) → IsThread c w entries number a m → is_at_rest m.spot ≡ true → entries ≡ a.calls
+entries_at_rest c w entries number a m thread rest =
+    thread.entries_are ∙ ap (λ (o : Option Reply). a.calls ++ entries_of number a.command o) (rest_unsettled c w a.command thread.fixed m.spot rest thread.mine.facts) ∙ append-nil a.calls
+
+-- a mutator that has called its script, in the end
+called_at : (c : Config) (scripts : Scripts) (items : List Item) (limit t : ℕ) → AreIdle c scripts (end_of c scripts items limit) → t < c.mutators → HasCalled scripts (end_of c scripts items limit) t
+called_at c scripts items limit t idle below = idle_has_called scripts (end_of c scripts items limit) t (calls_script c scripts limit (agenda_of items) t below) (idle t (omega arith))
+
+-- its entries are its calls
+entries_called : (c : Config) (scripts : Scripts) (events : List (Event Order)) (t : ℕ) → (called : HasCalled scripts (reached c events) t) → of_thread (past c events) (t + 1) ≡ called.actor.calls
+entries_called c scripts events t called =
+    entries_at_rest c _ (of_thread (past c events) (t + 1)) t called.actor called.mutator
+    (thread_of c (reached c events) (past c events) (follows_reached c events) t called.actor called.mutator (record { here = called.here; is = called.is })) called.rest
+
+-- a thread that is none has no entry
+none_of : (threads : ℕ) (h : List Entry) (t : ℕ) → All (IsSettled threads) h → (t ≡ 0) ⊎ (threads < t) → of_thread h t ≡ []
+none_of threads [] t all out = refl
+none_of threads (e ∷ h) t all out = rw (other e.thread (All-head (IsSettled threads) e h all).least (All-head (IsSettled threads) e h all).most out) (none_of threads h t (All-tail (IsSettled threads) e h all) out)
+  where
+    other : (n : ℕ) → 1 ≤ n → n ≤ threads → (t ≡ 0) ⊎ (threads < t) → eqb n t ≡ false
+    other n least most (inl e) = grind (arith, nat_tests)
+    other n least most (inr lt) = grind (arith, nat_tests)
+
+pub whole : (c : Config) (scripts : Scripts) (items : List Item) (limit : ℕ) → length scripts ≡ c.mutators → AreIdle c scripts (end_of c scripts items limit) → IsWhole c scripts items limit
+whole c scripts items limit count idle = record { idle = idle; follows = follows; legal = (every_list c (events_of c scripts items limit)).legal; without_full = past_without_full c (events_of c scripts items limit) }
+  where
+    follows : (thread : ℕ) → commands_of (of_thread (history_of c scripts items limit) thread) ≡ history.script_of scripts thread
+    follows zero = ap commands_of (none_of c.mutators (history_of c scripts items limit) 0 (past_settled c (events_of c scripts items limit)) (inl refl))
+    follows (suc t) = by_thread (cases_lt t c.mutators)
+      where
+        by_thread : (t < c.mutators) ⊎ (c.mutators ≤ t) → commands_of (of_thread (history_of c scripts items limit) (suc t)) ≡ slice_index_or scripts t []
+        by_thread (inl below) =
+            let called = called_at c scripts items limit t idle below in
+            let next : suc t ≡ t + 1 = omega arith in
+            ap (λ (n : ℕ). commands_of (of_thread (history_of c scripts items limit) n)) next ∙ ap commands_of (entries_called c scripts (events_of c scripts items limit) t called) ∙ called.commands
+        by_thread (inr past_all) =
+            ap commands_of (none_of c.mutators (history_of c scripts items limit) (suc t) (past_settled c (events_of c scripts items limit)) (inr (omega arith))) ∙ sym (get_or_past scripts t [] (omega arith))
+
+-- ---- memory in the end
+
+machine_shown : (p : Plain) (s : Stage Actor) (t : ℕ) (a : Actor) → Shows p s → slice_get s.machines t ≡ Some a → machine_at p t ≡ a.machine
+machine_shown p s t a shows here =
+    sym (ap (λ (ms : List Machine). get_or ms t controlling) shows.machines_are)
+    ∙ get_or_from_slice_get (map (λ (b : Actor). b.machine) s.machines) t a.machine controlling (slice_get-map (λ (b : Actor). b.machine) s.machines t ∙ ap (option_map (λ (b : Actor). b.machine)) here)
+
+pub all_rest : (c : Config) (scripts : Scripts) (items : List Item) (limit : ℕ) (jobs : Jobs) (p : Plain) → HasFinished c scripts items limit jobs p → AllRest p
+all_rest c scripts items limit jobs p done t below =
+    let called = called_at c scripts items limit t done.idle (subst (λ (e : Config). t < e.mutators) done.config below) in
+    ap is_resting (machine_shown p (end_of c scripts items limit) t called.actor done.shows called.here ∙ called.is) ∙ called.rest
+
+-- the work has the replies of the history
+replies_shown : (c : Config) (scripts : Scripts) (items : List Item) (limit : ℕ) (jobs : Jobs) (p : Plain) → HasFinished c scripts items limit jobs p → (t : ℕ) → 1 ≤ t → t ≤ c.mutators
+    → work.replies_of jobs (t - 1) ≡ history.replies_of (of_thread (history_of c scripts items limit) t)
+replies_shown c scripts items limit jobs p done t low high =
+    let below : t - 1 < c.mutators = omega arith in
+    let called = called_at c scripts items limit (t - 1) done.idle below in
+    let same : t - 1 + 1 ≡ t = omega arith in
+    done.tells.replies (t - 1) called.actor below called.here
+    ∙ sym (ap history.replies_of (ap (of_thread (history_of c scripts items limit)) (sym same) ∙ entries_called c scripts (events_of c scripts items limit) (t - 1) called))
+
+-- ---- the text
+
+root_shown : (text : Text) (g : Graph) (n t i : ℕ) → 1 ≤ t → t ≤ n → i < 16 → text.roots ≡ root_rows g.root n → root_of text t i ≡ g.root t i
+root_shown text g n t i low high lt e =
+    let none : List Reference = [] in
+    ap (λ (rows : List (List Reference)). get_or (get_or rows (t - 1) none) i None) e
+    ∙ ap (λ (row : List Reference). get_or row i None) (get_or-map-range_with_len (λ k. map (g.root k) (range_with_len 0 16)) 1 n (t - 1) t none (omega arith) (omega arith))
+    ∙ get_or-map-range_with_len (g.root t) 0 16 i i None lt (omega arith)
+
+text_shown : (n : ℕ) (jobs : Jobs) (h : List Entry) (text : Text) → length text.roots ≡ n → texts.Shows text n (after (graph_opening n) h)
+    → ((t : ℕ) → 1 ≤ t → t ≤ n → work.replies_of jobs (t - 1) ≡ history.replies_of (of_thread h t))
+    → answer_text (length text.roots) (λ t. work.replies_of jobs (t - 1)) text.rows (root_of text) ≡ answer_text n (λ t. history.replies_of (of_thread h t)) (map (row_in (after (graph_opening n) h)) (names_of text)) (after (graph_opening n) h).root
+text_shown n jobs h text count shows told =
+    let g = after (graph_opening n) h in
+    let rows : text.rows ≡ map (row_in g) (names_of text) = shows.rows in
+    ap (λ (k : ℕ). answer_text k (λ t. work.replies_of jobs (t - 1)) text.rows (root_of text)) count
+    ∙ ap (λ (rs : List Row). answer_text n (λ t. work.replies_of jobs (t - 1)) rs (root_of text)) rows
+    ∙ answer_text_same n (λ t. work.replies_of jobs (t - 1)) (λ t. history.replies_of (of_thread h t)) (map (row_in g) (names_of text)) (root_of text) g.root
+    (λ t low high. told t (omega arith) (omega arith))
+    (λ t i low high lt. root_shown text g n t i (omega arith) (omega arith) lt shows.roots)
+
+pub replayed : (bytes : List ℕ) (c : Config) (scripts : Scripts) (items : List Item) (limit : ℕ) (jobs : Jobs) (p : Plain) (text : Text)
+    → Reads bytes c scripts items → length scripts ≡ c.mutators → HasFinished c scripts items limit jobs p → length text.roots ≡ c.mutators → texts.Shows text c.mutators (after (first_graph c) (history_of c scripts items limit))
+    → IsReplayed bytes limit (answer_text (length text.roots) (λ t. work.replies_of jobs (t - 1)) text.rows (root_of text))
+replayed bytes c scripts items limit jobs p text reads count done roots shows = record {
+  config = c;
+  scripts = scripts;
+  items = items;
+  reads = reads;
+  whole = whole c scripts items limit count done.idle;
+  text = record { names = names_of text; reach = shows.reach; text = text_shown c.mutators jobs (history_of c scripts items limit) text roots shows (replies_shown c scripts items limit jobs p done) };
+}

@@ -1,0 +1,56 @@
+-- What a trace makes its heap do.
+use Rattle.std.specs.Prelude.{ℕ, ◌≡◌, List, length}
+use Rattle.heap_words.specs.declared.config.Config.{Config}
+use Rattle.heap_words.specs.declared.schedule.Item.{Item}
+use Rattle.steps_base.specs.Steps.{Stage, Event}
+use Rattle.shen_graph.specs.Graph.{opening as first_graph}
+use Rattle.shen_graph.specs.History.{Entry, EachIsLegal, Follows, IsWithoutFull}
+use Rattle.mutator.specs.declared.spot.Order.{Order}
+use Rattle.step_core.specs.Actor.{Actor}
+use Rattle.step_core.specs.Opening.{opening}
+use Rattle.step_core.specs.Schedule.{Scripts, schedule_events}
+use Rattle.step_core.specs.Follows.{reached, past}
+use Rattle.shen_core.specs.Progress.{AreIdle}
+use Rattle.trace_text.specs.Grammar.{Reads}
+use Rattle.trace_text.specs.Answer.{IsAnswerText}
+
+-- the events of a trace: those of its schedule and of the rounds after it, from the opening on, cut after so many
+abbrev pub events_of : Config → Scripts → List Item → ℕ → List (Event Order)
+events_of c scripts items limit = schedule_events c scripts items limit (opening c)
+
+-- the history of these events, and the words and machines after them
+abbrev pub history_of : Config → Scripts → List Item → ℕ → List Entry
+history_of c scripts items limit = past c (events_of c scripts items limit)
+
+abbrev pub end_of : Config → Scripts → List Item → ℕ → Stage Actor
+end_of c scripts items limit = reached c (events_of c scripts items limit)
+
+-- The history of the events of a trace, after which all machines are idle: each thread's commands are its script, whole and
+-- in order, each entry is a legal step from the opening graph, and no allocation was refused.
+pub record IsWhole (c : Config) (scripts : Scripts) (items : List Item) (limit : ℕ) : Type 0 where
+  pub idle : AreIdle c scripts (end_of c scripts items limit)
+  pub follows : Follows scripts (history_of c scripts items limit)
+  pub legal : EachIsLegal (first_graph c.mutators) (history_of c scripts items limit)
+  pub without_full : IsWithoutFull (history_of c scripts items limit)
+
+-- The bytes are a trace, its events come to an end, and the text is the answer of their history.
+pub record IsReplayed (bytes : List ℕ) (limit : ℕ) (out : List ℕ) : Type 0 where
+  pub config : Config
+  pub scripts : Scripts
+  pub items : List Item
+  pub reads : Reads bytes config scripts items
+  pub whole : IsWhole config scripts items limit
+  pub text : IsAnswerText config.mutators (history_of config scripts items limit) out
+
+-- so many events of a trace leave a machine that is not idle
+pub record IsCut (c : Config) (scripts : Scripts) (items : List Item) (limit : ℕ) : Type 0 where
+  pub busy : AreIdle c scripts (end_of c scripts items limit) → ⊥
+  pub count : length (events_of c scripts items limit) ≡ limit
+
+-- the bytes are a trace, and so many of its events leave a machine that is not idle
+pub record IsUnfinished (bytes : List ℕ) (limit : ℕ) : Type 0 where
+  pub config : Config
+  pub scripts : Scripts
+  pub items : List Item
+  pub reads : Reads bytes config scripts items
+  pub cut : IsCut config scripts items limit
