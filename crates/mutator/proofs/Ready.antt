@@ -8,7 +8,7 @@ use Rattle.heap_words.proofs.Stores.{is_word_true}
 use Rattle.heap_words.proofs.Rows.{word_inside}
 use Rattle.steps_base.specs.Touch.{Touch, placed}
 use Rattle.steps_base.proofs.Touches.{place_of-access_at}
-use Rattle.mutator.specs.Fit.{touch_fits}
+use Rattle.steps_base.specs.Fits.{touch_fits}
 
 pub word_of_ready : (c : Config) (t : Touch) → touch_fits c t ≡ true → is_word c t.word ≡ true
 word_of_ready c t ready = (and_parts _ _ ready).0

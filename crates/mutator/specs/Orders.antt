@@ -1,5 +1,6 @@
 -- Which orders a mutator takes.
 use Rattle.std.specs.Prelude.{ℕ, Bool, true, false, ◌&&◌, nat_lt, nat_le}
+use Rattle.steps_base.specs.Fits.{is_number}
 use Rattle.shen_graph.specs.declared.command.Command.{Command}
 use Rattle.shen_graph.specs.declared.command.Command.TheVariants.{New, Get, Set, Cas, Xchg, Rd, Wr, Copy, Drop, Same, Gc}
 use Rattle.mutator.specs.declared.spot.Spot.{Spot}
@@ -27,16 +28,11 @@ is_valid (Set obj field val) = is_root obj && (is_index field && is_root val)
 is_valid (Cas obj field expect val) = is_root obj && (is_index field && (is_root expect && is_root val))
 is_valid (Xchg dst obj field val) = is_root dst && (is_root obj && (is_index field && is_root val))
 is_valid (Rd obj index) = is_root obj && is_index index
-is_valid (Wr obj index value) = is_root obj && is_index index
+is_valid (Wr obj index value) = is_root obj && (is_index index && is_number value)
 is_valid (Copy dst src) = is_root dst && is_root src
 is_valid (Drop dst) = is_root dst
 is_valid (Same a b) = is_root a && is_root b
 is_valid Gc = true
-
--- whether a mutator has rows for the command; the others are to come
-abbrev pub is_served : Command → Bool
-is_served Gc = true
-is_served _ = false
 
 -- whether no call is in progress
 abbrev pub is_at_rest : Spot → Bool
@@ -46,7 +42,7 @@ is_at_rest _ = false
 
 -- whether a mutator that has made so many objects may be given the command
 abbrev pub is_next : ℕ → Command → Bool
-is_next made command = is_valid command && (is_served command && nat_lt made 4294967295)
+is_next made command = is_valid command && nat_lt made 4294967295
 
 -- whether it takes the order: between two calls a command, and in a call none
 abbrev pub takes_at : Spot → ℕ → Order → Bool

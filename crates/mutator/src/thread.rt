@@ -1,12 +1,15 @@
 ghost use Rattle.std.specs.Prelude.{◌≡◌, ◌<◌, true};
 ghost use Rattle.mutator.specs.Orders.{is_pending};
-ghost use Rattle.mutator.specs.Fit.{touch_fits};
-ghost use Rattle.mutator.specs.Rows.{touch_at};
+ghost use Rattle.mutator.specs.Fit.{is_ready};
 
-use crate::body::first_spot;
+use crate::body::{
+    after_expected, after_field, after_root, after_roots, after_second, after_shape, after_take,
+    after_word, first_root, first_spot, fresh_word, name_in, second_root, take_says, third_root,
+};
 use crate::spot::{Order, Spot};
+use alloc_buffers::{Kind, TakeSpot};
 use heap_words::{Access, Config, Place, Took};
-use shen_graph::{Command, Reply};
+use shen_graph::{Command, Name, Reply};
 
 /// A mutator thread: it makes calls one after the other, each in steps of one access.
 #[derive(Debug, Drop)]
@@ -20,16 +23,16 @@ pub struct Mutator {
     order: Order,
     ghost is_mutator: { mutator < config.mutators },
     ghost allowed: { is_pending spot made order ≡ true },
-    ghost ready: { touch_fits config (touch_at config mutator made spot) ≡ true },
+    ghost ready: { is_ready config mutator made spot ≡ true },
 }
 
 impl Mutator {
-    ghost use Rattle.std.specs.Prelude.{◌↔◌, ◌≢◌, IsTrue, Some, None, false};
+    ghost use Rattle.std.specs.Prelude.{◌↔◌, ◌≢◌, ◌+◌, IsTrue, Some, None, false};
     ghost use Rattle.shen_graph.specs.Valid.{IsValid};
     ghost use Rattle.heap_words.specs.Access.{place_of};
-    ghost use Rattle.heap_words.specs.Words.{table_words};
+    ghost use Rattle.heap_words.specs.Words.{Root, Heap, is_word, word_at, table_words};
     ghost use Rattle.steps_base.specs.Touch.{placed};
-    ghost use Rattle.mutator.specs.Orders.{is_served, is_at_rest, takes_at};
+    ghost use Rattle.mutator.specs.Orders.{is_at_rest, takes_at};
     ghost use Rattle.mutator.specs.Rows.{fresh_mutator, place_at, touch_of, next_of, answer_at, reply_at};
     ghost use Rattle.mutator.specs.Fit.{IsFit};
     ghost use Rattle.mutator.specs.Seen.{seen, config_of, order_of, is_idle};
@@ -56,9 +59,9 @@ impl Mutator {
     pub fn begin(&mut self, command: Command)
         requires rest { is_at_rest (seen self.old).spot ≡ true }
         requires valid { IsValid command }
-        requires served { is_served command ≡ true }
         requires made { (seen self.old).made < 4294967295 }
         ensures order { order_of self.new ≡ Order.Begin command }
+        ensures takes { takes_at (seen self.new).spot (seen self.new).made (Order.Begin command) ≡ true }
         ensures seen { seen self.new ≡ seen self.old }
         ensures config { config_of self.new ≡ config_of self.old }
     {
@@ -90,9 +93,46 @@ impl Mutator {
         match self.spot {
             Spot::Rest | Spot::Ended { .. } => Place::PH,
             Spot::LoadSet { .. } => Place::CS,
+            Spot::LoadRoot { .. } | Spot::LoadSecond { .. } | Spot::LoadThird { .. } => Place::RL,
+            Spot::LoadShape { .. } => Place::SH,
+            Spot::LoadField { .. } | Spot::LoadExpected { .. } => Place::FL,
+            Spot::StoreField { .. } => Place::FS,
+            Spot::SwapField { .. } => Place::FX,
+            Spot::ExchangeField { .. } => Place::CX,
+            Spot::LoadNumber { .. } => Place::NL,
+            Spot::StoreNumber { .. } => Place::NS,
+            Spot::LoadName { .. } => Place::NM,
+            Spot::StoreLoaded { .. } | Spot::StoreRoot { .. } | Spot::StoreFresh { .. } =>
+                Place::RS,
+            Spot::Taking { take, .. } => take.place(),
+            Spot::StoreWord { .. } => Place::IW,
             Spot::AskCycle => Place::AK,
             Spot::Leave { .. } => Place::LV,
         }
+    }
+
+    // The place of one of its roots.
+    fn root_at(&self, root: u32) -> usize
+        requires { root < 16 }
+        ensures { result ≡ word_at (config_of self.now) (Root (seen self.now).seat root) }
+    {
+        self.config.root_at(self.mutator, root as usize)
+    }
+
+    // The place of a reference field of an object.
+    fn field_at(&self, object: u64, field: u32) -> usize
+        requires { is_word (config_of self.now) (Heap (object + 3 + field)) ≡ true }
+        ensures { result ≡ word_at (config_of self.now) (Heap (object + 3 + field)) }
+    {
+        self.config.heap_at(object + 3 + field as u64)
+    }
+
+    // The place of a number of an object that has so many references.
+    fn number_at(&self, object: u64, refs: u64, index: u32) -> usize
+        requires { is_word (config_of self.now) (Heap (object + 3 + refs + index)) ≡ true }
+        ensures { result ≡ word_at (config_of self.now) (Heap (object + 3 + refs + index)) }
+    {
+        self.config.heap_at(object + 3 + refs + index as u64)
     }
 
     /// The access of its next step.
@@ -107,6 +147,94 @@ impl Mutator {
             },
             Spot::LoadSet { .. } => Access::Load {
                 at: self.config.cset_at(),
+            },
+            Spot::LoadRoot { command } => Access::Load {
+                at: self.root_at(first_root(command)),
+            },
+            Spot::LoadSecond { command, .. } => Access::Load {
+                at: self.root_at(second_root(command)),
+            },
+            Spot::LoadThird { command, .. } => Access::Load {
+                at: self.root_at(third_root(command)),
+            },
+            Spot::LoadShape { object, .. } => Access::Load {
+                at: self.config.heap_at(object + 1),
+            },
+            Spot::LoadField { object, field, .. } | Spot::LoadExpected { object, field, .. } => {
+                Access::Load {
+                    at: self.field_at(object, field),
+                }
+            }
+            Spot::StoreField {
+                object,
+                field,
+                value,
+            } => Access::Store {
+                at: self.field_at(object, field),
+                value,
+            },
+            Spot::SwapField {
+                object,
+                field,
+                value,
+                ..
+            } => Access::Swap {
+                at: self.field_at(object, field),
+                value,
+            },
+            Spot::ExchangeField {
+                object,
+                field,
+                found,
+                value,
+                ..
+            } => Access::Exchange {
+                at: self.field_at(object, field),
+                expect: found,
+                value,
+            },
+            Spot::LoadNumber {
+                object,
+                refs,
+                index,
+            } => Access::Load {
+                at: self.number_at(object, refs, index),
+            },
+            Spot::StoreNumber {
+                object,
+                refs,
+                index,
+                value,
+            } => Access::Store {
+                at: self.number_at(object, refs, index),
+                value,
+            },
+            Spot::LoadName { value, .. } => Access::Load {
+                at: self.config.heap_at(value + 2),
+            },
+            Spot::StoreLoaded { dst, value, .. } | Spot::StoreRoot { dst, value } => Access::Store {
+                at: self.root_at(dst),
+                value,
+            },
+            Spot::Taking {
+                refs,
+                nums,
+                take,
+                ..
+            } => take.access(self.config, self.mutator, 3 + refs as u64 + nums as u64),
+            Spot::StoreWord {
+                refs,
+                nums,
+                address,
+                done,
+                ..
+            } => Access::Store {
+                at: self.config.heap_at(address + done),
+                value: fresh_word(self.mutator, self.made, refs, nums, done),
+            },
+            Spot::StoreFresh { dst, address, .. } => Access::Store {
+                at: self.root_at(dst),
+                value: address,
             },
             Spot::AskCycle => Access::Or {
                 at: self.config.ask_at(),
@@ -126,7 +254,7 @@ impl Mutator {
         ensures seen { seen self.new ≡ next_of (config_of self.old) (seen self.old) (order_of self.old) got }
         ensures order { order_of self.new ≡ Order.Nothing }
         ensures config { config_of self.new ≡ config_of self.old }
-        ensures answer { result ≡ answer_at (seen self.old).spot got }
+        ensures answer { result ≡ answer_at (config_of self.old) (seen self.old).spot got }
     {
         let order = self.order;
         self.order = Order::Nothing;
@@ -143,8 +271,123 @@ impl Mutator {
                 self.spot = first_spot(command);
                 Took::More
             }
-            Spot::AskCycle => {
+            Spot::LoadRoot { command } => {
+                self.spot = after_root(command, got);
+                Took::More
+            }
+            Spot::LoadSecond { command, first } => {
+                self.spot = after_second(command, first, got);
+                Took::More
+            }
+            Spot::LoadThird {
+                command,
+                first,
+                second,
+            } => {
+                self.spot = after_roots(command, first, second, got);
+                Took::More
+            }
+            Spot::LoadShape {
+                command,
+                object,
+                second,
+                third,
+            } => {
+                self.spot = after_shape(command, object, second, third, got);
+                Took::More
+            }
+            Spot::LoadField { dst, .. } | Spot::SwapField { dst, .. } => {
+                self.spot = after_field(dst, got);
+                Took::More
+            }
+            Spot::LoadExpected {
+                object,
+                field,
+                expect,
+                value,
+            } => {
+                self.spot = after_expected(object, field, expect, value, got);
+                Took::More
+            }
+            Spot::StoreField { .. }
+            | Spot::StoreNumber { .. }
+            | Spot::StoreRoot { .. }
+            | Spot::AskCycle => {
                 self.spot = Spot::Leave { reply: Reply::Ok };
+                Took::More
+            }
+            Spot::ExchangeField {
+                object,
+                field,
+                found,
+                expect,
+                value,
+            } => {
+                if got == found {
+                    self.spot = Spot::Leave { reply: Reply::Yes };
+                    Took::More
+                } else {
+                    self.spot = Spot::LoadExpected {
+                        object,
+                        field,
+                        expect,
+                        value,
+                    };
+                    Took::Again
+                }
+            }
+            Spot::LoadNumber { .. } => {
+                self.spot = Spot::Leave {
+                    reply: Reply::Number(got),
+                };
+                Took::More
+            }
+            Spot::LoadName { value, dst } => {
+                self.spot = Spot::StoreLoaded {
+                    dst,
+                    value,
+                    reply: Reply::Ref(name_in(got)),
+                };
+                Took::More
+            }
+            Spot::StoreLoaded { reply, .. } => {
+                self.spot = Spot::Leave { reply };
+                Took::More
+            }
+            Spot::Taking {
+                dst,
+                refs,
+                nums,
+                take,
+            } => {
+                let next = take.after(
+                    self.config,
+                    self.mutator,
+                    3 + refs as u64 + nums as u64,
+                    Kind::Fresh,
+                    got,
+                );
+                self.spot = after_take(dst, refs, nums, next);
+                take_says(take, next)
+            }
+            Spot::StoreWord {
+                dst,
+                refs,
+                nums,
+                address,
+                done,
+            } => {
+                self.spot = after_word(dst, refs, nums, address, done + 1);
+                Took::More
+            }
+            Spot::StoreFresh { .. } => {
+                self.made += 1;
+                self.spot = Spot::Leave {
+                    reply: Reply::Ref(Name {
+                        thread: self.mutator as u32 + 1,
+                        count: self.made,
+                    }),
+                };
                 Took::More
             }
             Spot::Leave { reply } => {

@@ -1,5 +1,5 @@
 -- A word as a set of regions: its lowest member, and how many members it has.
-use Rattle.std.proofs.Common.{◌≡◌, ℕ, ◌+◌, ◌%◌, ◌^◌, ◌<◌, refl, ap, ◌∙◌, arith, zero, suc, w64}
+use Rattle.std.proofs.Common.{◌≡◌, ℕ, ◌+◌, ◌%◌, ◌^◌, ◌<◌, refl, sym, ap, ◌∙◌, arith, zero, suc, w64}
 use Rattle.std.specs.Int.{bit_at, trailing_zeros}
 use Rattle.std.specs.Int.Count.{ones}
 use Rattle.std.proofs.lemmas.Nat.{ones_cat, mod-pow-add, mod_below, pow_pos}
@@ -34,3 +34,8 @@ ones-low set (suc n) =
 -- the ones of a word are its members
 pub ones-members : (set : ℕ) → set < 2 ^ 64 → ones set ≡ members_below set 64
 ones-members set fits = ap ones (omega arith) ∙ ones-low set 64
+
+-- the empty set has no members
+pub no_members : members_below 0 64 ≡ 0
+unfolding ones
+no_members = sym (ones-members 0 (omega arith))

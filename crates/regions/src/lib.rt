@@ -10,7 +10,7 @@ mod walk;
 
 pub use place::{base, region_of, regions_tile};
 pub use rooms::{first_with_room, room};
-pub use sets::{is_in, lowest, size};
+pub use sets::{all_but, is_in, lowest, size};
 pub use walk::{next_object, walks_meet_each};
 
 #[cfg(test)]

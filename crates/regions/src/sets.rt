@@ -1,5 +1,5 @@
 ghost use Rattle.std.specs.Prelude.{◌≡◌, ◌<◌, IfSome, IsNone, IsTrue, ◌↔◌};
-ghost use Rattle.regions.specs.Sets.{IsIn, IsLowest, members_below};
+ghost use Rattle.regions.specs.Sets.{IsIn, IsLowest, members_below, lowest_in, all_but};
 
 /// Whether a region, counted from 0, is in a set.
 pub fn is_in(set: u64, region: usize) -> bool
@@ -13,6 +13,7 @@ pub fn is_in(set: u64, region: usize) -> bool
 pub fn lowest(set: u64) -> Option<usize>
     ensures none { IsNone result ↔ (set ≡ 0) }
     ensures lowest { IfSome result (IsLowest set) }
+    ensures value { IfSome result (λ region. region ≡ lowest_in set) }
 {
     if set == 0 {
         None
@@ -26,4 +27,12 @@ pub fn size(set: u64) -> u32
     ensures { result ≡ members_below set 64 }
 {
     set.count_ones()
+}
+
+/// The set of all regions but one, which is counted from 0.
+pub fn all_but(region: usize) -> u64
+    requires { region < 64 }
+    ensures { result ≡ all_but region }
+{
+    !(1 << region)
 }

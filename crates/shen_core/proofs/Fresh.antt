@@ -11,6 +11,7 @@ use Rattle.std.proofs.lemmas.Bool.{false≢true, cases_lt, lt-ltb}
 use Rattle.heap_words.specs.declared.config.Config.{Config}
 use Rattle.heap_words.specs.Ranges.{seat_count}
 use Rattle.shen_graph.specs.declared.command.Command.{Command}
+use Rattle.shen_graph.specs.Valid.{IsValid}
 use Rattle.shen_graph.specs.Work as work
 use Rattle.mutator.specs.declared.spot.Order.TheVariants.{Nothing}
 use Rattle.mutator.specs.Rows.{fresh_mutator}
@@ -20,7 +21,7 @@ use Rattle.step_core.specs.Schedule.{Scripts, script_of}
 use Rattle.shen_core.specs.declared.plain.Plain.{Plain}
 use Rattle.shen_core.specs.State.{config_of, orders_of, machines_of, Shows}
 use Rattle.shen_core.specs.Answer.{is_resting, made_of_machine}
-use Rattle.shen_core.specs.Progress.{CanRun, Tells, AreServed}
+use Rattle.shen_core.specs.Progress.{CanRun, Tells, IsRunnable}
 use Rattle.shen_core.proofs.Opened.{map-map}
 
 progress_first : (scripts : Scripts) (t : ℕ) → t < length scripts → length scripts ≤ 8 → work.progress_of (work.opened scripts) t ≡ Some (work.begun (script_of scripts t))
@@ -54,13 +55,18 @@ rests_first c machines t is below =
     ∙ ap (λ b. is_resting (if b then mutating (fresh_mutator t) else (if nat_lt t (c.mutators + c.helpers) then helping else controlling))) (lt-ltb t c.mutators below)
 
 -- a heap that was just opened can run scripts of commands that can be given
-pub can_run_first : (p : Plain) (scripts : Scripts) → Shows p (opening (config_of p)) → All (λ order. order ≡ Nothing) (orders_of p) → (config_of p).mutators ≡ length scripts → length scripts ≤ 8 → All AreServed scripts → CanRun p (work.opened scripts)
+pub can_run_first : (p : Plain) (scripts : Scripts) → Shows p (opening (config_of p)) → All (λ order. order ≡ Nothing) (orders_of p) → (config_of p).mutators ≡ length scripts → length scripts ≤ 8 → All IsRunnable scripts → CanRun p (work.opened scripts)
 can_run_first p scripts shows orders count few served = record {
   orders = orders;
   jobs_are = λ t below. subst (λ o. IsSome o) (sym (progress_first scripts t (omega arith) few)) refl;
-  commands = λ t below. subst (λ o. AreServed (unwrap_or o (work.begun [])).script) (sym (progress_first scripts t (omega arith) few)) (served t [] (omega arith));
+  commands = λ t below. subst (λ o. All IsValid (unwrap_or o (work.begun [])).script) (sym (progress_first scripts t (omega arith) few)) (served t [] (omega arith)).0;
   busy = λ t below busy. absurd (false≢true (sym busy ∙ rests_first (config_of p) (machines_of p) t shows.machines_are below));
-  made = λ k. (let none = made_first (config_of p) (machines_of p) k shows.machines_are in omega arith);
+  made = λ t below.
+      let none = made_first (config_of p) (machines_of p) t shows.machines_are in
+      let few_commands : length (script_of scripts t) < 4294967295 = (served t [] (omega arith)).1 in
+      let is : work.script_of (work.opened scripts) t ≡ script_of scripts t = ap (λ o. (unwrap_or o (work.begun [])).script) (progress_first scripts t (omega arith) few) in
+      let long = ap length is in
+      omega (arith, none, few_commands, long);
 }
 
 -- and the work tells the replies of its calls: there is none
@@ -77,11 +83,11 @@ tells_first c scripts count few = record {
 }
 
 -- scripts that are put together one after the other
-pub served_none : (scripts : Scripts) → scripts ≡ [] → All AreServed scripts
-served_none scripts none = subst (λ xs. All AreServed xs) (sym none) (λ k d below. absurd (omega arith))
+pub served_none : (scripts : Scripts) → scripts ≡ [] → All IsRunnable scripts
+served_none scripts none = subst (λ xs. All IsRunnable xs) (sym none) (λ k d below. absurd (omega arith))
 
-pub served_push : (before after : Scripts) (script : List Command) → after ≡ before ++ script ∷ [] → All AreServed before → AreServed script → All AreServed after
-served_push before after script grown served one = subst (λ xs. All AreServed xs) (sym grown) (All-push AreServed before script served one)
+pub served_push : (before after : Scripts) (script : List Command) → after ≡ before ++ script ∷ [] → All IsRunnable before → IsRunnable script → All IsRunnable after
+served_push before after script grown served one = subst (λ xs. All IsRunnable xs) (sym grown) (All-push IsRunnable before script served one)
 
 pub length_pushed : (before after : Scripts) (script : List Command) → after ≡ before ++ script ∷ [] → length after ≡ length before + 1
 length_pushed before after script grown = ap length grown ∙ length-append before (script ∷ [])

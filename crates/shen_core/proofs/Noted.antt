@@ -1,7 +1,7 @@
 -- After a turn: the machines, the orders and the work.
 use Rattle.std.proofs.Common.{◌≡◌, ◌≢◌, ◌<◌, ◌≤◌, ⊎_elim, ℕ, zero, suc, true, false, List, [], ◌∷◌, ◌++◌, length, get_or, map, All, Option, Some, None, refl, sym, ap, ◌∙◌, subst, arith}
-use Rattle.std.specs.Prelude.{slice_get, slice_set, slice_index, IsSome, unwrap_or}
-use Rattle.std.proofs.lemmas.List.{map-append, get_or-set_same, get_or-set_other, get_or_past}
+use Rattle.std.specs.Prelude.{◌+◌, ◌==◌, Bool, if◌then◌else◌, slice_get, slice_set, slice_index, IsSome, unwrap_or}
+use Rattle.std.proofs.lemmas.List.{length-append, map-append, get_or-set_same, get_or-set_other, get_or_past}
 use Rattle.std.proofs.lemmas.List.Elements.{All-set}
 use Rattle.std.proofs.lemmas.Option.{same_Some}
 use Rattle.std.proofs.lemmas.Bool.{false≢true, cases_eq, cases_lt}
@@ -16,22 +16,24 @@ use Rattle.shen_graph.specs.declared.command.Command.{Command}
 use Rattle.shen_graph.specs.declared.command.Reply.{Reply}
 use Rattle.shen_graph.specs.Work as work
 use Rattle.mutator.specs.declared.spot.Spot.{Spot}
-use Rattle.mutator.specs.declared.spot.Spot.TheVariants.{Rest, Leave}
+use Rattle.alloc_buffers.specs.declared.spot.Taken.TheVariants.{At, NoRoom}
+use Rattle.alloc_buffers.specs.declared.spot.TakeSpot.{TakeSpot}
+use Rattle.alloc_buffers.specs.declared.spot.TakeSpot.TheVariants as take_spot
+use Rattle.mutator.specs.declared.spot.Spot.TheVariants.{Rest, ExchangeField, Taking, StoreFresh, Leave}
 use Rattle.mutator.specs.declared.spot.Order.{Order}
 use Rattle.mutator.specs.declared.spot.Order.TheVariants.{Nothing}
 use Rattle.mutator.specs.Orders.{is_at_rest}
-use Rattle.mutator.specs.Rows.{Mutating, given_at, answer_at, reply_at, next_at}
+use Rattle.mutator.specs.Rows.{Mutating, given_at, take_next, take_says, answer_at, reply_at, next_at}
 use Rattle.step_core.specs.Actor.{Machine, mutating, helping, controlling, Actor, entries_of, takes_of, plan_of, took_of, kind}
 use Rattle.step_core.specs.Schedule.{Scripts, waits, waits_of, waits_in, is_again}
 use Rattle.shen_core.specs.declared.step.Stepped.{Stepped}
 use Rattle.shen_core.specs.declared.step.Stepped.TheVariants as stepped
 use Rattle.shen_core.specs.declared.plain.Plain.{Plain}
 use Rattle.shen_core.specs.Runs.{Shows, event, next_by}
-use Rattle.shen_core.specs.Answer.{stepped_of, says, is_resting, reply_in, made_of_machine}
+use Rattle.shen_core.specs.Answer.{stepped_of, says, is_resting, reply_in, made_of_machine, at_hand, at_hand_of}
 use Rattle.shen_core.specs.Progress.{Jobs, Tells, CanRun, IsTurn, Turned, IsMoved, HasTurned}
 use Rattle.shen_core.specs.State.{config_of, words_of, orders_of, machines_of, machine_at, order_at, has_turn, next_machine, IsStep}
 use Rattle.shen_graph.specs.Valid.{IsValid}
-use Rattle.mutator.specs.Orders.{is_served}
 use Rattle.step_core.proofs.Entries.{append_none}
 use Rattle.shen_core.proofs.Events.{shown_actor}
 use Rattle.shen_core.proofs.Turns.{machine_within}
@@ -150,11 +152,11 @@ tells_noted c words machines jobs number machine order reply scripts s shows tel
 
 -- whether the next step of a machine that memory shows says that it waits
 pub shown_waits : (c : Config) (words : List ℕ) (machines : List Machine) (number : ℕ) (m : Mutating) (s : Stage Actor) → Shows words machines s → slice_get machines number ≡ Some (mutating m)
-    → waits c s number ≡ is_again (answer_at m.spot (slice_index words (place_of (plan_of c (mutating m)))))
+    → waits c s number ≡ is_again (answer_at c m.spot (slice_index words (place_of (plan_of c (mutating m)))))
 shown_waits c words machines number m s shows here =
     let found = shown_actor words machines s number (mutating m) shows here in
     ap (waits_of c s) found.1 ∙ ap (waits_in s c) found.2
-    ∙ ap (λ ws. is_again (answer_at m.spot (slice_index ws (place_of (plan_of c (mutating m)))))) shows.words_are
+    ∙ ap (λ ws. is_again (answer_at c m.spot (slice_index ws (place_of (plan_of c (mutating m)))))) shows.words_are
 
 -- what a turn has done, by what its step said
 pub turned_from : (c : Config) (scripts : Scripts) (s : Stage Actor) (number : ℕ) (p : Plain) (jobs : Jobs) (said : Took) → IsMoved c scripts s number p jobs (is_again said) → Turned c scripts s number p jobs (stepped_of said)
@@ -162,14 +164,38 @@ turned_from c scripts s number p jobs took.More moved = moved
 turned_from c scripts s number p jobs took.Again moved = moved
 turned_from c scripts s number p jobs took.Done moved = moved
 
--- a step that ends a call gives its reply, and no other step does
-pub done_gives : (spot : Spot) (got : ℕ) → stepped_of (answer_at spot got) ≡ stepped.Done → (r : Reply) × (given_at spot ≡ Some r)
-done_gives (Leave r) got is = (r, refl)
-done_gives _ got is = absurd (cc)
+-- a machine that makes a step does not say that it is idle
+pub never_idle : (said : Took) → stepped_of said ≡ stepped.Idle → ⊥
+never_idle took.More is = cc
+never_idle took.Again is = cc
+never_idle took.Done is = cc
 
-pub other_gives : (spot : Spot) (got : ℕ) → (stepped_of (answer_at spot got) ≡ stepped.Done → ⊥) → given_at spot ≡ None
-other_gives (Leave r) got is = absurd (is refl)
-other_gives _ got is = refl
+-- a step that ends a call gives its reply, and no other step does
+pub done_gives : (c : Config) (spot : Spot) (got : ℕ) → stepped_of (answer_at c spot got) ≡ stepped.Done → (r : Reply) × (given_at spot ≡ Some r)
+done_gives c (Leave r) got is = (r, refl)
+done_gives c (ExchangeField object field found expect value) got is = absurd (not_done (got == found) is)
+  where
+    not_done : (b : Bool) → stepped_of (if b then took.More else took.Again) ≡ stepped.Done → ⊥
+    not_done true is = cc
+    not_done false is = cc
+done_gives c (Taking dst refs nums take) got is = absurd (not_done take (take_next c refs nums take got) is)
+  where
+    not_done : (take next : TakeSpot) → stepped_of (take_says take next) ≡ stepped.Done → ⊥
+    not_done take (take_spot.Ended (At address)) is = cc
+    not_done take (take_spot.Ended NoRoom) is = cc
+    not_done (take_spot.TakeRegion region) take_spot.LoadFree is = cc
+    not_done (take_spot.TakeRegion region) next is = cc
+    not_done take_spot.LoadCurrent next is = cc
+    not_done (take_spot.LoadTop region) next is = cc
+    not_done take_spot.LoadFree next is = cc
+    not_done (take_spot.StoreCurrent region) next is = cc
+    not_done (take_spot.StoreTop region top) next is = cc
+    not_done (take_spot.Ended taken) next is = cc
+done_gives c _ got is = absurd (cc)
+
+pub other_gives : (c : Config) (spot : Spot) (got : ℕ) → (stepped_of (answer_at c spot got) ≡ stepped.Done → ⊥) → given_at spot ≡ None
+other_gives c (Leave r) got is = absurd (is refl)
+other_gives c _ got is = refl
 
 -- after a step that gives a reply the machine has it
 pub next_reply : (c : Config) (m : Mutating) (order : Order) (got : ℕ) (spot : Spot) (r : Reply) → given_at spot ≡ Some r → reply_at (next_at c m order got spot).spot ≡ Some r
@@ -181,10 +207,17 @@ pub next_rests : (c : Config) (m : Mutating) (order : Order) (got : ℕ) (spot :
 next_rests c m order got (Leave q) r is = refl
 next_rests c m order got _ r is = absurd (cc)
 
--- a step makes no object
-pub next_made : (c : Config) (m : Mutating) (order : Order) (got : ℕ) (spot : Spot) → (next_at c m order got spot).made ≡ m.made
-next_made c m order got Rest = refl
-next_made c m order got _ = refl
+-- a step that gives no reply makes at most one object, and then the reply is at hand
+pub next_made : (c : Config) (m : Mutating) (order : Order) (got : ℕ) (spot : Spot) → given_at spot ≡ None → ((next_at c m order got spot).made ≤ m.made + at_hand (next_at c m order got spot).spot) × (at_hand spot ≡ 0)
+next_made c m order got Rest none = (omega arith, refl)
+next_made c m order got (StoreFresh dst refs nums address) none = (omega arith, refl)
+next_made c m order got (Leave r) none = absurd (cc)
+next_made c m order got _ none = (omega arith, refl)
+
+-- a step that gives a reply makes none
+pub given_made : (c : Config) (m : Mutating) (order : Order) (got : ℕ) (spot : Spot) (r : Reply) → given_at spot ≡ Some r → ((next_at c m order got spot).made ≡ m.made) × (at_hand spot ≡ 1)
+given_made c m order got (Leave q) r is = (refl, refl)
+given_made c m order got _ r is = absurd (cc)
 
 -- a machine that takes its order is a mutator
 pub takes_mutator : (machine : Machine) (order : Order) → takes_of machine order ≡ true → (m : Mutating) × (machine ≡ mutating m)
@@ -198,7 +231,7 @@ pub record IsAfter (p q : Plain) (jobs later : Jobs) (number : ℕ) (next : Mach
   pub orders : All (λ o. o ≡ Nothing) (orders_of q)
   pub machines : machines_of q ≡ slice_set (machines_of p) number next
   pub within : number < length (machines_of p)
-  pub made : made_of_machine next ≡ made_of_machine (machine_at p number)
+  pub made : made_of_machine next + length (work.script_of later number) < 4294967295 + (length (work.replies_of later number) + at_hand_of next)
   pub has : (t : ℕ) → work.HasScript jobs t → work.HasScript later t
   pub script : (t : ℕ) → work.script_of later t ≡ work.script_of jobs t
   pub other : (t : ℕ) → t ≢ number → work.replies_of later t ≡ work.replies_of jobs t
@@ -215,7 +248,7 @@ module _ (p q : Plain) (jobs later : Jobs) (number : ℕ) (next : Machine) (afte
   can_run_after before = record {
     orders = after.orders;
     jobs_are = λ t below. after.has t (before.jobs_are t (subst (λ c. t < c.mutators) after.config below));
-    commands = λ t below. subst (λ script. All (λ command. IsValid command × (is_served command ≡ true)) script) (sym (after.script t))
+    commands = λ t below. subst (λ script. All IsValid script) (sym (after.script t))
         (before.commands t (subst (λ c. t < c.mutators) after.config below));
     busy = λ t below busy. ⊎_elim
         (λ (same : t ≡ number). subst (λ k. length (work.replies_of later k) < length (work.script_of later k)) (sym same)
@@ -226,20 +259,25 @@ module _ (p q : Plain) (jobs later : Jobs) (number : ℕ) (next : Machine) (afte
         let before_now = before.busy t (subst (λ c. t < c.mutators) after.config below) (ap is_resting (sym (at_other t other)) ∙ busy) in
         omega arith)
         (cases_eq t number);
-    made = λ k. ⊎_elim
-        (λ (same : k ≡ number).
-        let is : made_of_machine (machine_at q k) ≡ made_of_machine (machine_at p number) = ap (λ j. made_of_machine (machine_at q j)) same ∙ ap made_of_machine at_number ∙ after.made in
-        let small = before.made number in omega arith)
-        (λ (other : k ≡ number → ⊥).
-        let is : made_of_machine (machine_at q k) ≡ made_of_machine (machine_at p k) = ap made_of_machine (at_other k other) in
-        let small = before.made k in omega arith)
-        (cases_eq k number);
+    made = λ t below. ⊎_elim
+        (λ (same : t ≡ number).
+        let is : machine_at q t ≡ next = ap (machine_at q) same ∙ at_number in
+        rw (is, same) after.made)
+        (λ (other : t ≡ number → ⊥).
+        rw (at_other t other, after.script t, after.other t other) (before.made t (subst (λ c. t < c.mutators) after.config below)))
+        (cases_eq t number);
   }
 
-next_by_made : (c : Config) (words : List ℕ) (order : Order) (machine : Machine) → made_of_machine (next_by c words order machine) ≡ made_of_machine machine
-next_by_made c words order (mutating m) = next_made c m order _ m.spot
-next_by_made c words order helping = refl
-next_by_made c words order controlling = refl
+-- the same of a machine
+next_by_made : (c : Config) (words : List ℕ) (order : Order) (machine : Machine) → given_in machine ≡ None → (made_of_machine (next_by c words order machine) ≤ made_of_machine machine + at_hand_of (next_by c words order machine)) × (at_hand_of machine ≡ 0)
+next_by_made c words order (mutating m) none = next_made c m order _ m.spot none
+next_by_made c words order helping none = (omega arith, refl)
+next_by_made c words order controlling none = (omega arith, refl)
+
+given_by_made : (c : Config) (words : List ℕ) (order : Order) (machine : Machine) (r : Reply) → given_in machine ≡ Some r → (made_of_machine (next_by c words order machine) ≡ made_of_machine machine) × (at_hand_of machine ≡ 1)
+given_by_made c words order (mutating m) r is = given_made c m order _ m.spot r is
+given_by_made c words order helping r is = absurd (cc)
+given_by_made c words order controlling r is = absurd (cc)
 
 -- A `Plain`, with the order for a machine, and after that machine's step, which said so.
 pub record IsStepped (p mid q : Plain) (jobs : Jobs) (number : ℕ) (said : Stepped) : Type 0 where
@@ -253,7 +291,7 @@ pub record IsStepped (p mid q : Plain) (jobs : Jobs) (number : ℕ) (said : Step
   pub more : number < (config_of p).mutators → length (work.replies_of jobs number) < length (work.script_of jobs number)
   pub below : number < (config_of mid).mutators
   pub event : IsStep mid q number
-  pub says : said ≡ says (machine_at mid number) (slice_index (words_of mid) (place_of (plan_of (config_of mid) (machine_at mid number))))
+  pub says : said ≡ says (config_of mid) (machine_at mid number) (slice_index (words_of mid) (place_of (plan_of (config_of mid) (machine_at mid number))))
   pub machines : machines_of q ≡ slice_set (machines_of mid) number (next_machine mid number)
   pub orders : orders_of q ≡ slice_set (orders_of mid) number Nothing
   pub config : config_of q ≡ config_of mid
@@ -266,13 +304,14 @@ module _ (p mid q : Plain) (jobs : Jobs) (number : ℕ) (said : Stepped) (facts 
   below_now = subst (λ c. number < c.mutators) facts.mid_config facts.below
 
   after_turn : (later : Jobs) → CanRun p jobs → ((t : ℕ) → work.HasScript jobs t → work.HasScript later t) → ((t : ℕ) → work.script_of later t ≡ work.script_of jobs t) → ((t : ℕ) → t ≢ number → work.replies_of later t ≡ work.replies_of jobs t)
-      → (is_resting (next_machine mid number) ≡ false → length (work.replies_of later number) < length (work.script_of later number)) → IsAfter p q jobs later number (next_machine mid number)
-  after_turn later before has script other busy = record {
+      → (is_resting (next_machine mid number) ≡ false → length (work.replies_of later number) < length (work.script_of later number))
+      → made_of_machine (next_machine mid number) + length (work.script_of later number) < 4294967295 + (length (work.replies_of later number) + at_hand_of (next_machine mid number)) → IsAfter p q jobs later number (next_machine mid number)
+  after_turn later before has script other busy made = record {
     config = facts.config ∙ facts.mid_config;
     orders = orders_after (orders_of p) (orders_of mid) (orders_of q) number (order_at mid number) facts.mid_orders facts.orders before.orders;
     machines = facts.machines ∙ ap (λ ms. slice_set ms number (next_machine mid number)) facts.mid_machines;
     within = facts.within;
-    made = next_by_made (config_of mid) (words_of mid) (order_at mid number) (machine_at mid number) ∙ ap made_of_machine same_machine;
+    made = made;
     has = has;
     script = script;
     other = other;
@@ -280,9 +319,12 @@ module _ (p mid q : Plain) (jobs : Jobs) (number : ℕ) (said : Stepped) (facts 
   }
 
   -- the work is as it was
-  pub can_run_on : CanRun p jobs → CanRun q jobs
-  can_run_on before = can_run_after p q jobs jobs number (next_machine mid number)
-      (after_turn jobs before (λ t h. h) (λ t. refl) (λ t other. refl) (λ busy. facts.more below_now)) before
+  pub can_run_on : given_in (machine_at mid number) ≡ None → CanRun p jobs → CanRun q jobs
+  can_run_on none before =
+      let step = next_by_made (config_of mid) (words_of mid) (order_at mid number) (machine_at mid number) none in
+      let now = subst (λ machine. made_of_machine machine + length (work.script_of jobs number) < 4294967295 + (length (work.replies_of jobs number) + at_hand_of machine)) (sym same_machine) (before.made number below_now) in
+      can_run_after p q jobs jobs number (next_machine mid number)
+      (after_turn jobs before (λ t h. h) (λ t. refl) (λ t other. refl) (λ busy. facts.more below_now) (omega (arith, step.0, step.1, now))) before
 
   next_is_resting : (machine : Machine) (r : Reply) (c : Config) (words : List ℕ) (order : Order) → given_in machine ≡ Some r → is_resting (next_by c words order machine) ≡ true
   next_is_resting (mutating m) r c words order gives = next_rests c m order _ m.spot r gives
@@ -293,9 +335,14 @@ module _ (p mid q : Plain) (jobs : Jobs) (number : ℕ) (said : Stepped) (facts 
   pub can_run_noted : (r : Reply) → given_in (machine_at mid number) ≡ Some r → CanRun p jobs → CanRun q (work.with_reply jobs number r)
   can_run_noted r gives before =
       let has = before.jobs_are number below_now in
+      let step = given_by_made (config_of mid) (words_of mid) (order_at mid number) (machine_at mid number) r gives in
+      let now = subst (λ machine. made_of_machine machine + length (work.script_of jobs number) < 4294967295 + (length (work.replies_of jobs number) + at_hand_of machine)) (sym same_machine) (before.made number below_now) in
+      let script : length (work.script_of (work.with_reply jobs number r) number) ≡ length (work.script_of jobs number) = ap length (script_kept jobs number r number has) in
+      let replies : length (work.replies_of (work.with_reply jobs number r) number) ≡ length (work.replies_of jobs number) + 1 = ap length (replies_same jobs number r has) ∙ length-append (work.replies_of jobs number) (r ∷ []) in
       can_run_after p q jobs (work.with_reply jobs number r) number (next_machine mid number)
       (after_turn (work.with_reply jobs number r) before (λ t h. script_stays jobs number r t has h) (λ t. script_kept jobs number r t has) (λ t other. replies_other jobs number r t other)
-      (λ busy. absurd (false≢true (sym busy ∙ next_is_resting (machine_at mid number) r (config_of mid) (words_of mid) (order_at mid number) gives)))) before
+      (λ busy. absurd (false≢true (sym busy ∙ next_is_resting (machine_at mid number) r (config_of mid) (words_of mid) (order_at mid number) gives)))
+      (omega (arith, step.0, step.1, now, script, replies))) before
 
   shows_mid : (s : Stage Actor) → Shows (words_of p) (machines_of p) s → Shows (words_of mid) (machines_of mid) s
   shows_mid s shows = record { words_are = shows.words_are ∙ sym facts.mid_words; machines_are = shows.machines_are ∙ sym facts.mid_machines }
@@ -308,14 +355,14 @@ module _ (p mid q : Plain) (jobs : Jobs) (number : ℕ) (said : Stepped) (facts 
   has_turned later tells_later scripts s shows tells =
       let found = takes_mutator (machine_at mid number) (order_at mid number) facts.has in
       let got = slice_index (words_of mid) (place_of (plan_of (config_of mid) (mutating found.0))) in
-      let said_is : said ≡ stepped_of (answer_at found.0.spot got) = facts.says ∙ ap (λ machine. says machine (slice_index (words_of mid) (place_of (plan_of (config_of mid) machine)))) found.1 in
+      let said_is : said ≡ stepped_of (answer_at (config_of mid) found.0.spot got) = facts.says ∙ ap (λ machine. says (config_of mid) machine (slice_index (words_of mid) (place_of (plan_of (config_of mid) machine)))) found.1 in
       subst (λ x. Turned (config_of p) scripts s number q later x) (sym said_is)
-      (turned_from (config_of p) scripts s number q later (answer_at found.0.spot got)
+      (turned_from (config_of p) scripts s number q later (answer_at (config_of mid) found.0.spot got)
       (record {
         event = event number (order_at mid number);
         is = facts.turn scripts s shows tells;
         waits_is = shown_waits (config_of p) (words_of mid) (machines_of mid) number found.0 s (shows_mid s shows) (here_mid ∙ ap (λ x. Some x) found.1)
-            ∙ ap (λ c. is_again (answer_at found.0.spot (slice_index (words_of mid) (place_of (plan_of c (mutating found.0)))))) (sym facts.mid_config);
+            ∙ ap (λ c. is_again (answer_at c found.0.spot (slice_index (words_of mid) (place_of (plan_of c (mutating found.0)))))) (sym facts.mid_config);
         shows = subst (λ c. Shows (words_of q) (machines_of q) (act (kind c) s (event number (order_at mid number)))) facts.mid_config (facts.event.acts s (shows_mid s shows));
         tells = tells_later scripts s (shows_mid s shows) tells;
       }))
@@ -330,20 +377,29 @@ module _ (p mid q : Plain) (jobs : Jobs) (number : ℕ) (said : Stepped) (facts 
   turned_noted r gives has = has_turned (work.with_reply jobs number r) (λ scripts s shows tells.
       tells_noted (config_of p) (words_of mid) (machines_of mid) jobs number (machine_at mid number) (order_at mid number) r scripts s shows tells here_mid facts.has gives has)
 
-  given_by : (machine : Machine) → said ≡ says machine (slice_index (words_of mid) (place_of (plan_of (config_of mid) machine))) → (said ≡ stepped.Done → ⊥) → given_in machine ≡ None
-  given_by (mutating m) is other = other_gives m.spot _ (λ e. other (is ∙ e))
+  given_by : (machine : Machine) → said ≡ says (config_of mid) machine (slice_index (words_of mid) (place_of (plan_of (config_of mid) machine))) → (said ≡ stepped.Done → ⊥) → given_in machine ≡ None
+  given_by (mutating m) is other = other_gives (config_of mid) m.spot _ (λ e. other (is ∙ e))
   given_by helping is other = refl
   given_by controlling is other = refl
 
   pub none_given : (said ≡ stepped.Done → ⊥) → given_in (machine_at mid number) ≡ None
   none_given other = given_by (machine_at mid number) facts.says other
 
-  reply_by : (machine : Machine) → said ≡ says machine (slice_index (words_of mid) (place_of (plan_of (config_of mid) machine))) → said ≡ stepped.Done → (r : Reply) × (given_in machine ≡ Some r) × (reply_in (next_by (config_of mid) (words_of mid) (order_at mid number) machine) ≡ Some r)
+  reply_by : (machine : Machine) → said ≡ says (config_of mid) machine (slice_index (words_of mid) (place_of (plan_of (config_of mid) machine))) → said ≡ stepped.Done → (r : Reply) × (given_in machine ≡ Some r) × (reply_in (next_by (config_of mid) (words_of mid) (order_at mid number) machine) ≡ Some r)
   reply_by (mutating m) is done =
-      let gives = done_gives m.spot _ (sym is ∙ done) in
+      let gives = done_gives (config_of mid) m.spot _ (sym is ∙ done) in
       (gives.0, gives.1, next_reply (config_of mid) m (order_at mid number) _ m.spot gives.0 gives.1)
   reply_by helping is done = absurd (cc)
   reply_by controlling is done = absurd (cc)
+
+  -- after a step that ends a call memory has a reply
+  pub has_reply : said ≡ stepped.Done → reply_in (machine_at q number) ≢ None
+  has_reply done none =
+      let found = reply_by (machine_at mid number) facts.says done in
+      let now : machine_at q number ≡ next_machine mid number =
+      ap (λ ms. get_or ms number controlling) facts.machines ∙ get_or-set_same (machines_of mid) number (next_machine mid number) controlling (subst (λ ms. number < length ms) (sym facts.mid_machines) facts.within) in
+      let both : None ≡ Some found.0 = sym none ∙ ap reply_in now ∙ found.2 in
+      cc
 
   -- the reply that memory has after a step that ends a call is the one that the step gives
   pub reply_given : (r : Reply) → said ≡ stepped.Done → reply_in (machine_at q number) ≡ Some r → given_in (machine_at mid number) ≡ Some r

@@ -1,6 +1,7 @@
 -- The turn of a machine, in each stage that memory shows.
 use Rattle.std.proofs.Common.{◌≡◌, ◌<◌, ℕ, true, List, length, All, Option, Some, None, refl, sym, ap, ◌∙◌, subst}
-use Rattle.std.specs.Prelude.{nat_lt, slice_get, slice_index_or}
+use Rattle.std.specs.Prelude.{nat_lt, slice_get, slice_index, slice_index_or}
+use Rattle.heap_words.specs.Access.{place_of}
 use Rattle.std.specs.Option.{option_map}
 use Rattle.std.proofs.Math.Logic.{∥∥₁_elim}
 use Rattle.std.proofs.Math.Bool.{Bool-set}
@@ -12,17 +13,15 @@ use Rattle.steps_base.specs.Steps.{Stage}
 use Rattle.shen_graph.specs.declared.command.Command.{Command}
 use Rattle.shen_graph.specs.Work as work
 use Rattle.mutator.specs.declared.spot.Order.TheVariants.{Begin}
-use Rattle.mutator.specs.Orders.{is_at_rest, takes_at, is_next, is_served}
-use Rattle.mutator.proofs.Valid.{is_valid_from}
-use Rattle.shen_graph.specs.Valid.{IsValid}
-use Rattle.mutator.specs.declared.spot.Spot.{Spot}
-use Rattle.mutator.specs.declared.spot.Spot.TheVariants.{Rest, Ended}
+use Rattle.mutator.specs.declared.spot.Order.{Order}
+use Rattle.mutator.specs.Orders.{takes_at}
 use Rattle.mutator.specs.Rows.{Mutating}
-use Rattle.step_core.specs.Actor.{Machine, mutating, helping, controlling, Actor, takes_of}
+use Rattle.mutator.specs.Fit.{IsFit}
+use Rattle.step_core.specs.Actor.{Machine, mutating, helping, controlling, Actor, plan_of}
 use Rattle.step_core.specs.Follows.{reached, past}
 use Rattle.step_core.specs.Schedule.{Scripts, script_of, turn, turn_of, order_on_turn}
-use Rattle.step_core.proofs.Theorem.{follows_reached, thread_of}
-use Rattle.shen_core.specs.Runs.{Shows, IsShownBySome, event}
+use Rattle.step_core.proofs.Theorem.{follows_reached, thread_of, every_list}
+use Rattle.shen_core.specs.Runs.{Shows, access_of, IsShownBySome, event}
 use Rattle.shen_core.specs.Answer.{is_resting, made_of_machine}
 use Rattle.shen_core.specs.Progress.{Jobs, Tells}
 use Rattle.shen_core.proofs.Events.{shown_actor}
@@ -38,6 +37,17 @@ pub seat_below_some : (c : Config) (words : List ℕ) (machines : List Machine) 
 seat_below_some c words machines number m some here =
     let test : nat_lt number c.mutators ≡ true = ∥∥₁_elim some (hlevel (Bool-set)) (λ shown. lt-ltb number c.mutators (seat_below c words machines number m shown here)) in
     ltb-true number c.mutators test
+
+-- the word that a mutator finds is fit
+pub fit_shown : (c : Config) (words : List ℕ) (machines : List Machine) (number : ℕ) (m : Mutating) (order : Order) → ∥ IsShownBySome c words machines ∥₁ → slice_get machines number ≡ Some (mutating m) → takes_at m.spot m.made order ≡ true → IsFit c m order (slice_index words (place_of (access_of c m)))
+fit_shown c words machines number m order some here takes = ∥∥₁_elim some (hlevel (Bool-set)) (λ shown. by_events shown)
+  where
+    by_events : IsShownBySome c words machines → IsFit c m order (slice_index words (place_of (access_of c m)))
+    by_events shown =
+        let found = shown_actor words machines (reached c shown.events) number (mutating m) shown.shows here in
+        let fit = ((every_list c shown.events).fit number found.0 m (record { here = found.1; is = found.2 })).fit order takes in
+        subst (λ ws. IsFit c m order (slice_index ws (place_of (access_of c m)))) shown.shows.words_are
+        (subst (λ machine. IsFit c m order (slice_index (reached c shown.events).words (place_of (plan_of c machine)))) found.2 fit)
 
 map_of_map : {A B C : Type 0} (f : B → C) (g : A → B) (o : Option A) → option_map f (option_map g o) ≡ option_map (λ x. f (g x)) o
 map_of_map f g None = refl
@@ -71,17 +81,3 @@ element P xs k x all here = subst P (get_or_from_slice_get xs k x x here) (all k
 
 pub machine_within : (machines : List Machine) (number : ℕ) → number < length machines → slice_get machines number ≡ Some (slice_index_or machines number controlling)
 machine_within machines number below = slice_get-get_or machines number controlling below
-
--- a machine between two calls takes a command that can be given
-pub rest_takes : (machine : Machine) (k : Command) → is_resting machine ≡ true → IsValid k → is_served k ≡ true → made_of_machine machine < 4294967295 → takes_of machine (Begin k) ≡ true
-rest_takes helping k rest valid served made = cc
-rest_takes controlling k rest valid served made = cc
-rest_takes (mutating m) k rest valid served made = spot_takes m.spot rest
-  where
-    next : is_next m.made k ≡ true
-    next = rw (is_valid_from k valid, served, lt-ltb m.made 4294967295 made) refl
-
-    spot_takes : (spot : Spot) → is_at_rest spot ≡ true → takes_at spot m.made (Begin k) ≡ true
-    spot_takes Rest rest = next
-    spot_takes (Ended r) rest = next
-    spot_takes _ rest = cc

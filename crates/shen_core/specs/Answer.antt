@@ -1,8 +1,11 @@
 -- What a step says.
 use Rattle.std.specs.Prelude.{ℕ, Bool, false, Option, None}
+use Rattle.heap_words.specs.declared.config.Config.{Config}
 use Rattle.heap_words.specs.declared.place.Place.{Place}
 use Rattle.heap_words.specs.declared.place.Place.TheVariants as place
 use Rattle.shen_graph.specs.declared.command.Reply.{Reply}
+use Rattle.mutator.specs.declared.spot.Spot.{Spot}
+use Rattle.mutator.specs.declared.spot.Spot.TheVariants.{Leave}
 use Rattle.mutator.specs.Orders.{is_at_rest}
 use Rattle.heap_words.specs.declared.access.Took.{Took}
 use Rattle.heap_words.specs.declared.access.Took.TheVariants.{More, Again, Done}
@@ -17,10 +20,10 @@ stepped_of Again = stepped.Again
 stepped_of Done = stepped.Done
 
 -- what a machine says of the step that finds this word
-abbrev pub says : Machine → ℕ → Stepped
-says (mutating m) got = stepped_of (answer_at m.spot got)
-says helping got = stepped.Idle
-says controlling got = stepped.Idle
+abbrev pub says : Config → Machine → ℕ → Stepped
+says c (mutating m) got = stepped_of (answer_at c m.spot got)
+says c helping got = stepped.Idle
+says c controlling got = stepped.Idle
 
 -- the reply of the last call of a machine, between two calls
 abbrev pub reply_in : Machine → Option Reply
@@ -45,3 +48,13 @@ abbrev pub made_of_machine : Machine → ℕ
 made_of_machine (mutating m) = m.made
 made_of_machine helping = 0
 made_of_machine controlling = 0
+
+-- how many replies are at hand, of calls that have done their work: 1 where the mutator leaves, else none
+abbrev pub at_hand : Spot → ℕ
+at_hand (Leave reply) = 1
+at_hand _ = 0
+
+abbrev pub at_hand_of : Machine → ℕ
+at_hand_of (mutating m) = at_hand m.spot
+at_hand_of helping = 0
+at_hand_of controlling = 0

@@ -10,7 +10,6 @@ use Rattle.shen_graph.specs.Valid.{IsValid}
 use Rattle.shen_graph.specs.Work as work
 use Rattle.mutator.specs.declared.spot.Order.{Order}
 use Rattle.mutator.specs.declared.spot.Order.TheVariants.{Nothing}
-use Rattle.mutator.specs.Orders.{is_served}
 use Rattle.step_core.specs.Actor.{Actor, kind}
 use Rattle.step_core.specs.Schedule.{Scripts, script_of, turn, waits, Task, Agenda, scheduled}
 use Rattle.shen_core.specs.declared.plain.Plain.{Plain}
@@ -18,7 +17,7 @@ use Rattle.shen_core.specs.declared.step.Stepped.{Stepped}
 use Rattle.shen_core.specs.declared.step.Stepped.TheVariants.{More, Again, Done, Idle}
 use Rattle.shen_core.specs.Runs.{event}
 use Rattle.shen_core.specs.State.{config_of, orders_of, machine_at, Shows}
-use Rattle.shen_core.specs.Answer.{made_of_machine, is_resting}
+use Rattle.shen_core.specs.Answer.{made_of_machine, at_hand_of, is_resting}
 
 -- the work of the threads, as contracts see it
 abbrev pub Jobs : Type 0
@@ -36,17 +35,18 @@ pub record Tells (c : Config) (scripts : Scripts) (jobs : Jobs) (s : Stage Actor
   pub scripts_are : (t : ℕ) → t < c.mutators → work.script_of jobs t ≡ script_of scripts t
   pub replies : (t : ℕ) (a : Actor) → t < c.mutators → slice_get s.machines t ≡ Some a → work.replies_of jobs t ≡ map (λ e. e.reply) a.calls
 
--- commands that can be given
-abbrev pub AreServed : List Command → Type 0
-AreServed script = All (λ command. IsValid command × (is_served command ≡ true)) script
+-- a script that a mutator can be given: its commands are in range, and no more than there are names for what they make
+abbrev pub IsRunnable : List Command → Type 0
+IsRunnable script = All IsValid script × (length script < 4294967295)
 
--- a `Plain` between two steps, and work for its mutators: no order is pending, and each command can be given
+-- A `Plain` between two steps, and work for its mutators: no order is pending, the commands are in range, and there are
+-- names left for what the commands to come may make.
 pub record CanRun (p : Plain) (jobs : Jobs) : Type 0 where
   pub orders : All (λ order. order ≡ Nothing) (orders_of p)
   pub jobs_are : (t : ℕ) → t < (config_of p).mutators → work.HasScript jobs t
-  pub commands : (t : ℕ) → t < (config_of p).mutators → AreServed (work.script_of jobs t)
+  pub commands : (t : ℕ) → t < (config_of p).mutators → All IsValid (work.script_of jobs t)
   pub busy : (t : ℕ) → t < (config_of p).mutators → is_resting (machine_at p t) ≡ false → length (work.replies_of jobs t) < length (work.script_of jobs t)
-  pub made : (k : ℕ) → made_of_machine (machine_at p k) < 4294967295
+  pub made : (t : ℕ) → t < (config_of p).mutators → made_of_machine (machine_at p t) + length (work.script_of jobs t) < 4294967295 + (length (work.replies_of jobs t) + at_hand_of (machine_at p t))
 
 -- the event of a machine under an order, if it makes one
 abbrev pub event_if : Bool → ℕ → Order → Option (Event Order)

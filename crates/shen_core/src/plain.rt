@@ -35,9 +35,8 @@ impl Plain {
     ghost use Rattle.std.specs.Prelude.{◌<◌, ◌↔◌, ◌≢◌, true, false, slice_set, slice_index, Some, None, IfOk, IfSome};
     ghost use Rattle.heap_words.specs.Access.{place_of};
     ghost use Rattle.mutator.specs.declared.spot.Order.TheVariants.{Nothing, Begin};
-    ghost use Rattle.mutator.specs.Orders.{is_served};
     ghost use Rattle.shen_graph.specs.Valid.{IsValid};
-    ghost use Rattle.step_core.specs.Actor.{plan_of};
+    ghost use Rattle.step_core.specs.Actor.{takes_of, plan_of};
     ghost use Rattle.step_core.specs.Schedule.{stands_in};
     ghost use Rattle.step_core.specs.Opening.{opening};
     ghost use Rattle.std.specs.Prelude.{List, ℕ};
@@ -78,9 +77,9 @@ impl Plain {
         requires number { number < seats_of self.old }
         requires rest { is_resting (machine_at self.old number) ≡ true }
         requires valid { IsValid command }
-        requires served { is_served command ≡ true }
         requires made { made_of_machine (machine_at self.old number) < 4294967295 }
         ensures order { orders_of self.new ≡ slice_set (orders_of self.old) number (Begin command) }
+        ensures takes { takes_of (machine_at self.old number) (Begin command) ≡ true }
         ensures words { words_of self.new ≡ words_of self.old }
         ensures machines { machines_of self.new ≡ machines_of self.old }
         ensures config { config_of self.new ≡ config_of self.old }
@@ -97,7 +96,7 @@ impl Plain {
         ensures idle { (result ≡ Stepped.Idle) ↔ (has_turn self.old number ≡ false) }
         ensures unchanged { has_turn self.old number ≡ false → IsUnchanged self.old self.new }
         ensures event { has_turn self.old number ≡ true → IsStep self.old self.new number }
-        ensures says { has_turn self.old number ≡ true → result ≡ says (machine_at self.old number) (slice_index (words_of self.old) (place_of (plan_of (config_of self.old) (machine_at self.old number)))) }
+        ensures says { has_turn self.old number ≡ true → result ≡ says (config_of self.old) (machine_at self.old number) (slice_index (words_of self.old) (place_of (plan_of (config_of self.old) (machine_at self.old number)))) }
         ensures below { has_turn self.old number ≡ true → number < (config_of self.old).mutators }
         ensures machines { has_turn self.old number ≡ true → machines_of self.new ≡ slice_set (machines_of self.old) number (next_machine self.old number) }
         ensures orders { has_turn self.old number ≡ true → orders_of self.new ≡ slice_set (orders_of self.old) number Nothing }

@@ -1,6 +1,6 @@
 ghost use Rattle.std.specs.Prelude.{◌≡◌, ◌<◌, ◌≤◌, ℕ, IfOk};
 ghost use Rattle.shen_graph.specs.Work.{HasScript};
-ghost use Rattle.shen_core.specs.Progress.{CanRun, AreServed};
+ghost use Rattle.shen_core.specs.Progress.{CanRun, IsRunnable};
 ghost use Rattle.heap_words.specs.Words.{heap_size};
 ghost use Rattle.shen_core.specs.State.{config_of};
 
@@ -10,13 +10,17 @@ use shen_graph::{Command, GraphText, Name, Reply, Script, Work};
 use std::alloc::Global;
 use std::test::Fail;
 
-// A script that asks for a cycle so many times.
-fn cycles(alloc: Global, count: usize) -> Result<Script, shen_graph::NoMemory>
-    ensures { IfOk result (λ script. AreServed script) }
+// A script of these commands, which are in range.
+fn script(alloc: Global, commands: &[Command]) -> Result<Script, Fail>
+    requires { length commands.now ≤ 100 }
+    ensures { IfOk result (λ script. IsRunnable script) }
 {
     let mut script = Script::open(alloc)?;
-    for _ in 0..count {
-        script.push(alloc, Command::Gc)?;
+    for number in 0..commands.len() {
+        if !commands[number].is_valid() {
+            return Err(Fail);
+        }
+        script.push(alloc, commands[number])?;
     }
     Ok(script)
 }
@@ -29,9 +33,9 @@ fn opened(alloc: Global) -> Result<(Plain, Work), Fail>
 {
     let config = Config::new(4, 64, 3, 0, 0)?;
     let mut scripts = Vec::new(alloc);
-    scripts.push(cycles(alloc, 2)?)?;
-    scripts.push(cycles(alloc, 1)?)?;
-    scripts.push(cycles(alloc, 3)?)?;
+    scripts.push(script(alloc, &[Command::Gc, Command::Gc])?)?;
+    scripts.push(script(alloc, &[Command::Gc])?)?;
+    scripts.push(script(alloc, &[Command::Gc, Command::Gc, Command::Gc])?)?;
     let plain = Plain::open(alloc, config)?;
     let work = Work::open(alloc, &scripts)?;
     Ok((plain, work))
@@ -126,6 +130,152 @@ fn cycles_leave_the_hub(rt: HostRuntime) -> Result<(), Fail> {
     for thread in 1..4 {
         assert_eq!(rt; text.root_at(thread, 0), Some(Name::HUB));
         assert_eq!(rt; text.root_at(thread, 15), None);
+    }
+    Ok(())
+}
+
+// A heap of two mutators, and work in which they do this.
+fn pair(alloc: Global, first: &[Command], second: &[Command]) -> Result<(Plain, Work), Fail>
+    requires first { length first.now ≤ 100 }
+    requires second { length second.now ≤ 100 }
+    ensures run { IfOk result (λ made. CanRun made.0 made.1) }
+    ensures mutators { IfOk result (λ made. (config_of made.0).mutators ≡ 2) }
+    ensures words { IfOk result (λ made. heap_size (config_of made.0) ≡ 512) }
+{
+    let config = Config::new(8, 64, 2, 0, 0)?;
+    let mut scripts = Vec::new(alloc);
+    scripts.push(script(alloc, first)?)?;
+    scripts.push(script(alloc, second)?)?;
+    let plain = Plain::open(alloc, config)?;
+    let work = Work::open(alloc, &scripts)?;
+    Ok((plain, work))
+}
+
+const MAKE: Command = Command::New {
+    dst: 1,
+    refs: 0,
+    nums: 0,
+};
+const STORE: Command = Command::Set {
+    obj: 0,
+    field: 0,
+    val: 1,
+};
+const EXCHANGE: Command = Command::Xchg {
+    dst: 2,
+    obj: 0,
+    field: 0,
+    val: 1,
+};
+const COMPARE: Command = Command::Cas {
+    obj: 0,
+    field: 0,
+    expect: 2,
+    val: 1,
+};
+
+fn name(thread: u32) -> Name {
+    Name { thread, count: 1 }
+}
+
+// A compare-exchange that stands before its exchange loses to a store of the other thread, and wins where it comes first.
+#[test]
+fn compare_exchange_meets_a_store(rt: HostRuntime) -> Result<(), Fail> {
+    let alloc = rt.alloc();
+    for (stopped, reply) in [(true, Reply::No), (false, Reply::Yes)] {
+        let (mut plain, mut work) = pair(alloc, &[MAKE, COMPARE], &[MAKE, STORE])?;
+        let mut schedule = Schedule::open(alloc)?;
+        if stopped {
+            schedule.push(alloc, Item::Until { number: 0, place: Place::CX })?;
+        } else {
+            schedule.push(alloc, Item::Replies { number: 0, count: 2 })?;
+        }
+        schedule.push(alloc, Item::Replies { number: 1, count: 2 })?;
+        let ran = plain.run(&mut work, &schedule, 1000);
+        assert!(rt; ran == Ran::Finished);
+        assert_eq!(rt; work.replies(0).list(), [Reply::Ref(name(1)), reply].as_slice());
+        assert_eq!(rt; work.replies(1).list(), [Reply::Ref(name(2)), Reply::Ok].as_slice());
+        let mut text = GraphText::open(alloc, 512, 2)?;
+        assert!(rt; plain.all_rest());
+        plain.graph(&mut text);
+        assert_eq!(rt; text.rows(), 3);
+        assert_eq!(rt; text.reference_at(0, 0), Some(name(2)));
+        assert_eq!(rt; text.root_at(1, 1), Some(name(1)));
+        assert_eq!(rt; text.root_at(2, 1), Some(name(2)));
+    }
+    Ok(())
+}
+
+// What a command on the field is answered where it comes first, and where it comes after the other thread's.
+fn answers(command: Command, first: bool, other: u32) -> Reply {
+    match command {
+        Command::Xchg { .. } if first => Reply::Null,
+        Command::Xchg { .. } => Reply::Ref(name(other)),
+        Command::Cas { .. } if first => Reply::Yes,
+        Command::Cas { .. } => Reply::No,
+        _ => Reply::Ok,
+    }
+}
+
+// Two threads change one field, which is null. The first stops after so many steps of its command, the second runs to its
+// end, and then the first goes on: the step that settles the command decides which comes first.
+#[test]
+fn one_step_settles_a_race(rt: HostRuntime) -> Result<(), Fail> {
+    let alloc = rt.alloc();
+    for (command, settles) in [(STORE, 6), (EXCHANGE, 6), (COMPARE, 8)] {
+        for other in [STORE, EXCHANGE, COMPARE] {
+            for stopped in 0..11 {
+                let (mut plain, mut work) = pair(alloc, &[MAKE, command], &[MAKE, other])?;
+                let mut schedule = Schedule::open(alloc)?;
+                schedule.push(
+                    alloc,
+                    Item::Replies {
+                        number: 0,
+                        count: 1,
+                    },
+                )?;
+                schedule.push(
+                    alloc,
+                    Item::Replies {
+                        number: 1,
+                        count: 1,
+                    },
+                )?;
+                schedule.push(
+                    alloc,
+                    Item::Steps {
+                        number: 0,
+                        count: stopped,
+                    },
+                )?;
+                schedule.push(
+                    alloc,
+                    Item::Replies {
+                        number: 1,
+                        count: 2,
+                    },
+                )?;
+                let ran = plain.run(&mut work, &schedule, 1000);
+                assert!(rt; ran == Ran::Finished);
+                let first = stopped >= settles;
+                assert_eq!(rt;
+                    work.replies(0).list(),
+                    [Reply::Ref(name(1)), answers(command, first, 2)].as_slice()
+                );
+                assert_eq!(rt;
+                    work.replies(1).list(),
+                    [Reply::Ref(name(2)), answers(other, !first, 1)].as_slice()
+                );
+                let mut text = GraphText::open(alloc, 512, 2)?;
+                assert!(rt; plain.all_rest());
+                plain.graph(&mut text);
+                // The later one has stored its object, unless it compares.
+                let later = if first { other } else { command };
+                let stays = later == COMPARE;
+                let thread = if first != stays { 2 } else { 1 };
+                assert_eq!(rt; text.reference_at(0, 0), Some(name(thread)));
+            }
+        }
     }
     Ok(())
 }

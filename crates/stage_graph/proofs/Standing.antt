@@ -18,9 +18,10 @@ use Rattle.mutator.specs.declared.spot.Spot.TheVariants.{Rest, Ended}
 use Rattle.mutator.specs.Orders.{is_at_rest}
 use Rattle.step_core.specs.Actor.{Actor}
 use Rattle.step_core.specs.World as world
-use Rattle.step_core.specs.World.{World, Plot, Block, thing, hand, words_of, name_at, Points, IsInUse, base}
+use Rattle.step_core.specs.World.{World, Plot, Block, thing, hand, words_of, name_at, Points}
 use Rattle.step_core.specs.Stepped.{root_now}
 use Rattle.step_core.specs.Follows.{settled, world_of, StandsFor}
+use Rattle.step_core.proofs.Pointing.{named_thing}
 use Rattle.heap_graph.specs.Stands.{Refers, IsAt}
 use Rattle.heap_graph.specs.Rows.{root_word}
 use Rattle.heap_graph.specs.Shows.{WordsStand}
@@ -32,12 +33,6 @@ get_or-part xs a b i within = get_or-take (b - a) (drop a xs) i 0 within ∙ get
 
 pub length-part : (xs : List ℕ) (a b : ℕ) → b ≤ length xs → length (slice_range xs a b) ≡ b - a
 length-part xs a b within = length-take-le (b - a) (drop a xs) (omega (arith, length-drop a xs))
-
--- the piece at an address that stands for an object is the object
-pub named_thing : (o : Option Block) (n : Name) → name_at o ≡ Some n → (refs : ℕ) × (nums : ℕ) × (o ≡ Some (thing n refs nums))
-named_thing (Some (thing name refs nums)) n is = (refs, nums, ap (λ m. Some (thing m refs nums)) (same_Some name n is))
-named_thing (Some (hand seat words)) n is = cc
-named_thing None n is = cc
 
 -- a word that points to an object refers to it
 pub refers_from : (block : Plot) (word : ℕ) (r : Reference) → Points block word r → Refers (λ a. name_at (block a)) word r
@@ -141,14 +136,14 @@ module _ (c : Config) (s : Stage Actor) (g : Graph) (long : length s.words ≡ t
     own_root seat index below small =
         let r = resting seat below in
         let mine = (stands.mutators seat r.actor r.mutator r.here).1 in
-        let counts : root_now (world_of c s stands.block g) r.mutator.seat r.mutator.spot index ≡ slice_index roots (16 * seat + index) =
-        root_at_rest (world_of c s stands.block g) r.mutator.seat index r.mutator.spot r.rest
+        let counts : root_now (world_of c s stands.block stands.owner g) r.mutator.seat r.mutator.spot index ≡ slice_index roots (16 * seat + index) =
+        root_at_rest (world_of c s stands.block stands.owner g) r.mutator.seat index r.mutator.spot r.rest
         ∙ ap (λ k. settled c s (Root k index)) r.seat
         ∙ view_word c s.words (Root seat index) (below, small)
         ∙ ap (λ k. get_or s.words k 0) (let e : roots_start c + 16 * seat + index ≡ roots_start c + (16 * seat + index) = omega arith in e)
         ∙ sym (get_or-part s.words (roots_start c) (roots_start c + 16 * c.mutators) (16 * seat + index) (omega (arith, below, small))) in
         subst (λ word. Refers at word (g.root (seat + 1) index)) counts
-        (refers_from stands.block _ _ (subst (λ k. Points stands.block (root_now (world_of c s stands.block g) r.mutator.seat r.mutator.spot index) (g.root (k + 1) index)) r.seat (mine.roots index small)))
+        (refers_from stands.block _ _ (subst (λ k. Points stands.block (root_now (world_of c s stands.block stands.owner g) r.mutator.seat r.mutator.spot index) (g.root (k + 1) index)) r.seat (mine.roots index small)))
 
     -- a root that no mutator has
     no_root : (t i : ℕ) → is_root_of c.mutators t i ≡ false → root_word roots t i ≡ 0

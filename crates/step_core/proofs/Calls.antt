@@ -2,44 +2,33 @@
 use Rattle.std.proofs.Common.{◌≡◌, ℕ, ◌+◌, ◌<◌, true, Option, refl, sym, ap, ◌∙◌, arith}
 use Rattle.std.proofs.lemmas.Bool.Decides.{nat_tests}
 use Rattle.heap_words.specs.declared.config.Config.{Config}
-use Rattle.heap_words.specs.Words.{State}
-use Rattle.steps_base.specs.Touch.{touched}
 use Rattle.shen_graph.specs.declared.command.Command.{Command}
-use Rattle.shen_graph.specs.declared.command.Command.TheVariants.{Gc}
 use Rattle.shen_graph.specs.declared.command.Reply.{Reply}
 use Rattle.shen_graph.specs.declared.command.Reply.TheVariants as reply
 use Rattle.shen_graph.specs.Step.{outcome}
 use Rattle.mutator.specs.declared.spot.Spot.{Spot}
-use Rattle.mutator.specs.declared.spot.Spot.TheVariants.{Rest, Ended, LoadSet, AskCycle, Leave}
+use Rattle.mutator.specs.declared.spot.Spot.TheVariants.{Rest, Ended, AskCycle, Leave}
 use Rattle.mutator.specs.declared.spot.Order.{Order}
 use Rattle.mutator.specs.declared.spot.Order.TheVariants.{Nothing, Begin}
-use Rattle.mutator.specs.Rows.{Mutating, touch_of}
+use Rattle.mutator.specs.Rows.{Mutating}
 use Rattle.step_core.specs.World.{World}
 use Rattle.step_core.specs.Stepped.{Row}
-use Rattle.mutator.specs.Orders.{is_valid, is_served, is_next}
-use Rattle.mutator.specs.Fit.{touch_fits}
-use Rattle.steps_base.specs.Touch.{touch, stores}
+use Rattle.mutator.specs.Fit.{is_ready}
+use Rattle.step_core.proofs.Spots.{mutator_at, accessed}
 use Rattle.step_core.proofs.Settling.{legal_answer, graph_answer}
 
 -- a mutator can always leave
-pub leave_ready : (c : Config) (seat : ℕ) → seat < c.mutators → touch_fits c (touch (State seat) (stores 0)) ≡ true
-leave_ready c seat below = grind (arith, nat_tests)
-
--- what it needs to begin a command
-pub next_parts : (made : ℕ) (k : Command) → is_next made k ≡ true → (is_valid k ≡ true) × (is_served k ≡ true)
-next_parts made k is = grind (arith, nat_tests)
+pub leave_ready : (c : Config) (seat made : ℕ) (reply : Reply) → seat < c.mutators → is_ready c seat made (Leave reply) ≡ true
+leave_ready c seat made reply below = grind (arith, nat_tests)
 
 module _ (c : Config) (u : World) (seat made phase cset : ℕ) (command : Command) (fixed : Option Reply) where
   abbrev at_spot : Spot → Mutating
-  at_spot spot = record { seat = seat; made = made; phase = phase; cset = cset; spot = spot }
-
-  abbrev accessed : Spot → World
-  accessed spot = record { memory = touched u.memory (touch_of c (at_spot spot)); block = u.block; graph = u.graph }
+  at_spot spot = mutator_at seat made phase cset spot
 
   pub at_rest : (order : Order) → Row c u (at_spot Rest) command order fixed
   at_rest Nothing shared mine takes = cc
   at_rest (Begin k) shared mine takes = record {
-    world = accessed Rest;
+    world = accessed c u (at_spot Rest);
     memory = refl;
     graph = refl;
     legal = tt;
@@ -50,7 +39,8 @@ module _ (c : Config) (u : World) (seat made phase cset : ℕ) (command : Comman
       ready = refl;
       made = mine.made;
       roots = mine.roots;
-      facts = (mine.facts, refl, (next_parts made k takes).0, (next_parts made k takes).1);
+      hands = mine.hands;
+      facts = record { unsettled = mine.facts; is = refl; next = takes };
     };
     others = λ j d. search (arith, nat_tests);
   }
@@ -58,7 +48,7 @@ module _ (c : Config) (u : World) (seat made phase cset : ℕ) (command : Comman
   pub at_ended : (r : Reply) (order : Order) → Row c u (at_spot (Ended r)) command order fixed
   at_ended r Nothing shared mine takes = cc
   at_ended r (Begin k) shared mine takes = record {
-    world = accessed (Ended r);
+    world = accessed c u (at_spot (Ended r));
     memory = refl;
     graph = refl;
     legal = tt;
@@ -69,49 +59,36 @@ module _ (c : Config) (u : World) (seat made phase cset : ℕ) (command : Comman
       ready = refl;
       made = mine.made;
       roots = mine.roots;
-      facts = (mine.facts, refl, (next_parts made k takes).0, (next_parts made k takes).1);
+      hands = mine.hands;
+      facts = record { unsettled = mine.facts; is = refl; next = takes };
     };
     others = λ j d. search (arith, nat_tests);
   }
-
-  pub at_load_set : (k : Command) (order : Order) → Row c u (at_spot (LoadSet k)) command order fixed
-  at_load_set Gc Nothing shared mine takes = record {
-    world = accessed (LoadSet Gc);
-    memory = refl;
-    graph = refl;
-    legal = tt;
-    settles = λ r e. cc;
-    shared = shared;
-    mine = record { seat = mine.seat; ready = refl; made = mine.made; roots = mine.roots; facts = (mine.facts.0, mine.facts.1) };
-    others = λ j d. search (arith, nat_tests);
-  }
-  at_load_set k (Begin l) shared mine takes = cc
-  at_load_set _ Nothing shared mine takes = absurd (let no = mine.facts.3 in cc)
 
   pub at_ask : (order : Order) → Row c u (at_spot AskCycle) command order fixed
   at_ask (Begin k) shared mine takes = cc
   at_ask Nothing shared mine takes =
       let gc : (outcome u.graph (seat + 1) command).reply ≡ reply.Ok = ap (λ k. (outcome u.graph (seat + 1) k).reply) mine.facts.1 in
       record {
-        world = accessed AskCycle;
+        world = accessed c u (at_spot AskCycle);
         memory = refl;
         graph = sym (graph_answer u.graph seat command reply.Ok refl ∙ ap (λ k. (outcome u.graph (seat + 1) k).graph) mine.facts.1);
         legal = legal_answer u.graph seat command reply.Ok refl gc;
         settles = λ r e. (mine.facts.0, refl);
         shared = shared;
-        mine = record { seat = mine.seat; ready = leave_ready c seat mine.seat; made = mine.made; roots = mine.roots; facts = refl };
+        mine = record { seat = mine.seat; ready = leave_ready c seat made reply.Ok mine.seat; made = mine.made; roots = mine.roots; hands = mine.hands; facts = refl };
         others = λ j d. search (arith, nat_tests);
       }
 
   pub at_leave : (r : Reply) (order : Order) → Row c u (at_spot (Leave r)) command order fixed
   at_leave r (Begin k) shared mine takes = cc
   at_leave r Nothing shared mine takes = record {
-    world = accessed (Leave r);
+    world = accessed c u (at_spot (Leave r));
     memory = refl;
     graph = refl;
     legal = tt;
     settles = λ q e. cc;
     shared = shared;
-    mine = record { seat = mine.seat; ready = refl; made = mine.made; roots = mine.roots; facts = refl };
+    mine = record { seat = mine.seat; ready = refl; made = mine.made; roots = mine.roots; hands = mine.hands; facts = refl };
     others = λ j d. search (arith, nat_tests);
   }

@@ -11,6 +11,7 @@ use Rattle.std.proofs.lemmas.Bool.{cases_eq, and_parts, eqb-true, ltb-true}
 use Rattle.std.proofs.lemmas.Bool.Decides.{nat_tests}
 use Rattle.heap_words.specs.declared.config.Config.{Config}
 use Rattle.heap_words.specs.Ranges.{seat_count}
+use Rattle.regions.specs.Place.{base_of}
 use Rattle.heap_words.specs.Words.{Top, Root, Heap, Phase, Cset, Free, Evac, Current, Wait, Answer}
 use Rattle.shen_graph.specs.declared.name.Name.{Name}
 use Rattle.shen_graph.specs.declared.command.Command.TheVariants.{Gc}
@@ -18,7 +19,7 @@ use Rattle.shen_graph.specs.Graph.{Reference, Object, hub, same_name, blank}
 use Rattle.mutator.specs.Rows.{fresh_mutator}
 use Rattle.step_core.specs.Actor.{mutating, helping, controlling}
 use Rattle.step_core.specs.Opening.{opening_machine, opening_actor, opening, first_free}
-use Rattle.step_core.specs.World.{World, Plot, Block, thing, words_of, name_at, Points, IsInUse, IsPlotted, IsFilled, IsObject, IsGiven, AreObjects, IsFreeWord, Shared, base}
+use Rattle.step_core.specs.World.{World, Plot, Block, thing, hand, words_of, name_at, Points, IsInUse, IsPlotted, IsFilled, IsObject, IsGiven, AreObjects, IsFreeWord, Shared}
 use Rattle.step_core.specs.Stepped.{Mine}
 use Rattle.step_core.specs.Follows.{first_graph, IsMachine, Follows}
 use Rattle.step_core.proofs.OpeningStands.{rooted_memory, first_memory, view-opening, length-opening}
@@ -28,7 +29,7 @@ abbrev pub first_block : Config → Plot
 first_block c a = if a == c.region_words then Some (thing hub 16 0) else None
 
 abbrev pub first_world : Config → World
-first_world c = record { memory = first_memory c; block = first_block c; graph = first_graph c }
+first_world c = record { memory = first_memory c; block = first_block c; owner = λ _. None; graph = first_graph c }
 
 rooted_heap : (c : Config) (t a : ℕ) → rooted_memory c t (Heap a) ≡ 0
 rooted_heap c zero a = refl
@@ -129,13 +130,13 @@ first_plotted c = record {
       let one = (block_only c a x is_x).0 in let two = (block_only c b y is_y).0 in omega arith;
 }
 
-first_base : (c : Config) → base c 0 ≡ c.region_words
+first_base : (c : Config) → base_of c 0 ≡ c.region_words
 first_base c = omega arith
 
 first_filled : (c : Config) → IsFilled c (λ r. first_memory c (Top r)) (first_block c)
 first_filled c = record {
   first = λ r within used. ⊎_elim
-      (λ (same : r ≡ 0). (thing hub 16 0, subst (λ a. first_block c a ≡ Some (thing hub 16 0)) (sym (first_base c) ∙ ap (base c) (sym same)) (block_hub c)))
+      (λ (same : r ≡ 0). (thing hub 16 0, subst (λ a. first_block c a ≡ Some (thing hub 16 0)) (sym (first_base c) ∙ ap (base_of c) (sym same)) (block_hub c)))
       (λ (other : r ≡ 0 → ⊥). let none = top_other c r other in absurd (omega arith))
       (cases_eq r 0);
   next = λ r a x within from is below.
@@ -144,7 +145,7 @@ first_filled c = record {
       absurd (⊎_elim
       (λ (same : r ≡ 0).
       let top : first_memory c (Top r) ≡ 19 = ap (λ k. first_memory c (Top k)) same in
-      let start : base c r ≡ c.region_words = ap (base c) same ∙ first_base c in
+      let start : base_of c r ≡ c.region_words = ap (base_of c) same ∙ first_base c in
       omega (arith, below, top, start, long, at))
       (λ (other : r ≡ 0 → ⊥). let none = top_other c r other in omega (arith, below, from, none, long, at))
       (cases_eq r 0));
@@ -196,7 +197,7 @@ first_free_small : (n : ℕ) → first_free n < 2 ^ n
 first_free_small n = let some = pow_pos n in omega (arith, some)
 
 -- region 0 is in use, and no other has a top
-first_free_word : (c : Config) → IsFreeWord c (first_memory c Free) (λ r. first_memory c (Top r)) (λ s. first_memory c (Current s))
+first_free_word : (c : Config) → IsFreeWord c (first_memory c Free) (λ r. first_memory c (Top r)) (λ _. None)
 first_free_word c = record {
   no_more = first_free_small c.regions;
   empty = λ r within bit. ⊎_elim
@@ -206,7 +207,7 @@ first_free_word c = record {
       absurd (omega (arith, sym even ∙ set)))
       (λ (other : r ≡ 0 → ⊥). top_other c r other)
       (cases_eq r 0);
-  nobodys = λ r seat within bit is_seat names. let none = rooted_current c c.mutators seat in absurd (omega (arith, none, names));
+  nobodys = λ r within bit. refl;
 }
 
 first_shared : (c : Config) → Shared c (first_world c)
@@ -219,6 +220,11 @@ first_shared c = record {
       (record { thread = omega arith; made = omega arith; by_thread = λ one. absurd (omega arith); small = omega arith });
   calm = record { phase_is = rooted_phase c c.mutators; cset_is = rooted_cset c c.mutators; evac_is = rooted_evac c c.mutators };
   free_word = first_free_word c;
+  currents = record {
+    within = λ seat r is. let none = rooted_current c c.mutators seat in absurd (omega (arith, none, is));
+    own = λ seat r is. let none = rooted_current c c.mutators seat in absurd (omega (arith, none, is));
+  };
+  rooms = λ a seat words is. absurd (let no = (block_only c a (hand seat words) is).1 in cc);
   unasked = record { waits = λ t within. rooted_wait c c.mutators t; answers = λ t within. rooted_answer c c.mutators t };
 }
 
@@ -239,7 +245,7 @@ first_roots c k i below = ⊎_elim
         subst (λ r. Points (first_block c) (first_memory c (Root k 0)) r) (sym named) at_hub
 
 first_mine : (c : Config) (k : ℕ) → k < c.mutators → Mine c (first_world c) (fresh_mutator k) Gc None
-first_mine c k below = record { seat = below; ready = refl; made = refl; roots = λ i small. first_roots c k i below; facts = refl }
+first_mine c k below = record { seat = below; ready = refl; made = refl; roots = λ i small. first_roots c k i below; hands = λ a words is. (let no = (block_only c a (hand k words) is).1 in cc); facts = refl }
 
 first_machine : (c : Config) (k : ℕ) → IsMachine c (first_world c) [] k (opening_actor c k) (opening_machine c k)
 first_machine c k = by_test (nat_lt k c.mutators) (nat_lt k (c.mutators + c.helpers)) refl
@@ -253,15 +259,16 @@ pub follows_first : (c : Config) → Follows c (opening c) []
 unfolding opening
 follows_first c = record {
   block = first_block c;
+  owner = λ _. None;
   words = length-opening c;
   legal = tt;
-  shared = subst (λ m. Shared c (record { memory = m; block = first_block c; graph = first_graph c })) (sym (view-opening c)) (first_shared c);
+  shared = subst (λ m. Shared c (record { memory = m; block = first_block c; owner = λ _. None; graph = first_graph c })) (sym (view-opening c)) (first_shared c);
   machines = λ k a there.
       let within = slice_get_within _ k a there in
       let count : length (opening c).machines ≡ seat_count c.mutators c.helpers = length-map-range_with_len (opening_actor c) 0 (seat_count c.mutators c.helpers) in
       let is : opening_actor c k ≡ a =
       sym (get_or-map-range_with_len (opening_actor c) 0 (seat_count c.mutators c.helpers) k k a (omega (arith, within, count)) (omega arith))
       ∙ get_or_from_slice_get (opening c).machines k a a there in
-      subst (λ m. IsMachine c (record { memory = m; block = first_block c; graph = first_graph c }) [] k a a.machine) (sym (view-opening c))
+      subst (λ m. IsMachine c (record { memory = m; block = first_block c; owner = λ _. None; graph = first_graph c }) [] k a a.machine) (sym (view-opening c))
       (subst (λ b. IsMachine c (first_world c) [] k b b.machine) is (first_machine c k));
 }

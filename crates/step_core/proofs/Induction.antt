@@ -21,8 +21,8 @@ use Rattle.mutator.specs.declared.spot.Order.{Order}
 use Rattle.mutator.specs.declared.spot.Order.TheVariants.{Nothing, Begin}
 use Rattle.mutator.specs.Orders.{takes_at}
 use Rattle.mutator.specs.Rows.{Mutating, touch_of, next_at, next_of, given_at}
-use Rattle.mutator.specs.Told.{told_at}
-use Rattle.mutator.specs.Fit.{touch_fits}
+use Rattle.mutator.specs.Told.{told_of as settled_by}
+use Rattle.mutator.specs.Fit.{is_ready}
 use Rattle.step_core.specs.Actor.{Machine, mutating, helping, controlling, Actor, entries_of, command_by, takes_of, took_of, kind}
 use Rattle.step_core.specs.History.{told_by, told_of_machine, told, history}
 use Rattle.step_core.specs.World.{World, Plot, Shared}
@@ -43,20 +43,20 @@ view-placed c words t is long =
     (view_set_all c words t.word (formed t.form (view c words t.word)) long (is_word_true c t.word is))
 
 -- a mutator that begins a call has no settled reply
-pub begins_unsettled : (c : Config) (w : World) (command : Command) (fixed : Option Reply) (spot : Spot) (made : ℕ) (k : Command) → takes_at spot made (Begin k) ≡ true → SpotFacts c w command fixed spot → fixed ≡ None
-begins_unsettled c w command fixed Rest made k takes facts = facts
-begins_unsettled c w command fixed (Ended r) made k takes facts = facts
-begins_unsettled c w command fixed _ made k takes facts = cc
+pub begins_unsettled : (c : Config) (w : World) (seat : ℕ) (command : Command) (fixed : Option Reply) (spot : Spot) (made : ℕ) (k : Command) → takes_at spot made (Begin k) ≡ true → SpotFacts c w seat made command fixed spot → fixed ≡ None
+begins_unsettled c w seat command fixed Rest made k takes facts = facts
+begins_unsettled c w seat command fixed (Ended r) made k takes facts = facts
+begins_unsettled c w seat command fixed _ made k takes facts = cc
 
 -- a reply that is given is the settled one, of a call that goes on
-pub gives_settled : (c : Config) (w : World) (command : Command) (fixed : Option Reply) (spot : Spot) (made : ℕ) (order : Order) (reply : Reply) → takes_at spot made order ≡ true → SpotFacts c w command fixed spot → given_at spot ≡ Some reply → fixed ≡ Some reply
-gives_settled c w command fixed (Leave r) made order reply takes facts is = facts ∙ is
-gives_settled c w command fixed _ made order reply takes facts is = cc
+pub gives_settled : (c : Config) (w : World) (seat : ℕ) (command : Command) (fixed : Option Reply) (spot : Spot) (made : ℕ) (order : Order) (reply : Reply) → takes_at spot made order ≡ true → SpotFacts c w seat made command fixed spot → given_at spot ≡ Some reply → fixed ≡ Some reply
+gives_settled c w seat command fixed (Leave r) made order reply takes facts is = facts ∙ is
+gives_settled c w seat command fixed _ made order reply takes facts is = cc
 
 -- the command stays, or no reply is settled
-pub command_stays : (c : Config) (w : World) (command : Command) (fixed : Option Reply) (spot : Spot) (made : ℕ) (order : Order) → takes_at spot made order ≡ true → SpotFacts c w command fixed spot → (fixed ≡ None) ⊎ (command_by order command ≡ command)
-command_stays c w command fixed spot made Nothing takes facts = inr refl
-command_stays c w command fixed spot made (Begin k) takes facts = inl (begins_unsettled c w command fixed spot made k takes facts)
+pub command_stays : (c : Config) (w : World) (seat : ℕ) (command : Command) (fixed : Option Reply) (spot : Spot) (made : ℕ) (order : Order) → takes_at spot made order ≡ true → SpotFacts c w seat made command fixed spot → (fixed ≡ None) ⊎ (command_by order command ≡ command)
+command_stays c w seat command fixed spot made Nothing takes facts = inr refl
+command_stays c w seat command fixed spot made (Begin k) takes facts = inl (begins_unsettled c w seat command fixed spot made k takes facts)
 
 -- the entries of a mutator after a step that settles a reply, gives one, or does neither
 pub entries_step : (calls : List Entry) (seat : ℕ) (command after : Command) (fixed told given : Option Reply)
@@ -74,8 +74,8 @@ entries_step calls seat command after fixed None None gives settles stays =
     stays
 
 -- two worlds of equal parts are equal
-pub same_world : (a b : World) → a.memory ≡ b.memory → a.block ≡ b.block → a.graph ≡ b.graph → a ≡ b
-same_world a b memory block graph = λ i. record { memory = memory i; block = block i; graph = graph i }
+pub same_world : (a b : World) → a.memory ≡ b.memory → a.block ≡ b.block → a.owner ≡ b.owner → a.graph ≡ b.graph → a ≡ b
+same_world a b memory block owner graph = λ i. record { memory = memory i; block = block i; owner = owner i; graph = graph i }
 
 -- a mutator keeps its seat
 pub next_seat : (c : Config) (m : Mutating) (order : Order) (got : ℕ) (spot : Spot) → (next_at c m order got spot).seat ≡ m.seat
@@ -93,7 +93,7 @@ module _ (c : Config) (s : Stage Actor) (past : List Entry) (number : ℕ) (orde
   the_actor = record { machine = mutating m; command = command; calls = calls }
 
   abbrev the_told : Option Reply
-  the_told = told_at (settled c s) m.spot
+  the_told = settled_by (settled c s) m
 
   abbrev new_past : List Entry
   new_past = past ++ entries_of m.seat (command_by order command) the_told
@@ -104,24 +104,25 @@ module _ (c : Config) (s : Stage Actor) (past : List Entry) (number : ℕ) (orde
     machines = slice_set s.machines number (took_of c the_actor order (slice_index s.words (place_of (placed c (touch_of c m)))) (mutating m));
   }
 
-  abbrev old_world : Plot → World
-  old_world block = world_of c s block (after (first_graph c) past)
+  abbrev old_world : Plot → (ℕ → Option ℕ) → World
+  old_world block owner = world_of c s block owner (after (first_graph c) past)
 
-  abbrev new_world : Plot → World
-  new_world block = world_of c new_stage block (after (first_graph c) new_past)
+  abbrev new_world : Plot → (ℕ → Option ℕ) → World
+  new_world block owner = world_of c new_stage block owner (after (first_graph c) new_past)
 
-  worlds : (follows : Follows c s past) (fixed : Option Reply) → touch_fits c (touch_of c m) ≡ true → (step : Stepped c (old_world follows.block) m command order fixed) → step.world ≡ new_world step.world.block
+  worlds : (follows : Follows c s past) (fixed : Option Reply) → is_ready c m.seat m.made m.spot ≡ true → (step : Stepped c (old_world follows.block follows.owner) m command order fixed) → step.world ≡ new_world step.world.block step.world.owner
   worlds follows fixed ready step =
-      same_world step.world (new_world step.world.block)
-      (step.memory ∙ sym (view-placed c s.words (touch_of c m) (first_part _ _ ready) follows.words))
+      same_world step.world (new_world step.world.block step.world.owner)
+      (step.memory ∙ sym (view-placed c s.words (touch_of c m) (first_part _ _ (first_part _ _ ready)) follows.words))
+      refl
       refl
       (step.graph ∙ sym (after-more (first_graph c) past m.seat (command_by order command) the_told))
 
   -- its own machine
-  own_machine : (follows : Follows c s past) (thread : IsThread c (old_world follows.block) (of_thread past (number + 1)) number the_actor m) → (step : Stepped c (old_world follows.block) m command order thread.fixed) → takes_at m.spot m.made order ≡ true
-      → IsMachine c (new_world step.world.block) (of_thread new_past (number + 1)) number (took_of c the_actor order (slice_index s.words (place_of (placed c (touch_of c m)))) (mutating m)) (mutating (next_of c m order (slice_index s.words (place_of (placed c (touch_of c m))))))
+  own_machine : (follows : Follows c s past) (thread : IsThread c (old_world follows.block follows.owner) (of_thread past (number + 1)) number the_actor m) → (step : Stepped c (old_world follows.block follows.owner) m command order thread.fixed) → takes_at m.spot m.made order ≡ true
+      → IsMachine c (new_world step.world.block step.world.owner) (of_thread new_past (number + 1)) number (took_of c the_actor order (slice_index s.words (place_of (placed c (touch_of c m)))) (mutating m)) (mutating (next_of c m order (slice_index s.words (place_of (placed c (touch_of c m))))))
   own_machine follows thread step takes =
-      let found : settled c s (touch_of c m).word ≡ slice_index s.words (place_of (placed c (touch_of c m))) = sym (found-placed c s.words (touch_of c m) (first_part _ _ thread.mine.ready)) in
+      let found : settled c s (touch_of c m).word ≡ slice_index s.words (place_of (placed c (touch_of c m))) = sym (found-placed c s.words (touch_of c m) (first_part _ _ (first_part _ _ thread.mine.ready))) in
       record {
         fixed = fixed_by thread.fixed the_told (given_at m.spot);
         number_is = next_seat c m order _ m.spot ∙ thread.number_is;
@@ -134,14 +135,14 @@ module _ (c : Config) (s : Stage Actor) (past : List Entry) (number : ℕ) (orde
             ∙ ap (λ es. es ++ entries_of m.seat (command_by order command) the_told)
             (subst (λ n. of_thread past (n + 1) ≡ calls ++ entries_of n command thread.fixed) (sym thread.number_is) thread.entries_are)
             ∙ entries_step calls m.seat command (command_by order command) thread.fixed the_told (given_at m.spot)
-            (λ reply is. gives_settled c (old_world follows.block) command thread.fixed m.spot m.made order reply takes thread.mine.facts is)
+            (λ reply is. gives_settled c (old_world follows.block follows.owner) m.seat command thread.fixed m.spot m.made order reply takes thread.mine.facts is)
             step.settles
-            (command_stays c (old_world follows.block) command thread.fixed m.spot m.made order takes thread.mine.facts));
+            (command_stays c (old_world follows.block follows.owner) m.seat command thread.fixed m.spot m.made order takes thread.mine.facts));
       }
 
   -- the machine of another number
-  other_machine : (follows : Follows c s past) (fixed : Option Reply) (ready : touch_fits c (touch_of c m) ≡ true) (step : Stepped c (old_world follows.block) m command order fixed) → m.seat ≡ number → (other : ℕ) → other ≢ number → (a : Actor) (machine : Machine)
-      → IsMachine c (old_world follows.block) (of_thread past (other + 1)) other a machine → IsMachine c (new_world step.world.block) (of_thread new_past (other + 1)) other a machine
+  other_machine : (follows : Follows c s past) (fixed : Option Reply) (ready : is_ready c m.seat m.made m.spot ≡ true) (step : Stepped c (old_world follows.block follows.owner) m command order fixed) → m.seat ≡ number → (other : ℕ) → other ≢ number → (a : Actor) (machine : Machine)
+      → IsMachine c (old_world follows.block follows.owner) (of_thread past (other + 1)) other a machine → IsMachine c (new_world step.world.block step.world.owner) (of_thread new_past (other + 1)) other a machine
   other_machine follows fixed ready step seat_is other differs a helping is = tt
   other_machine follows fixed ready step seat_is other differs a controlling is = tt
   other_machine follows fixed ready step seat_is other differs a (mutating n) is =
@@ -149,20 +150,20 @@ module _ (c : Config) (s : Stage Actor) (past : List Entry) (number : ℕ) (orde
         fixed = is.fixed;
         number_is = is.number_is;
         mine = subst (λ w. Mine c w n a.command is.fixed) (worlds follows fixed ready step)
-            (mine_stays c (old_world follows.block) step.world n a.command is.fixed (step.others n.seat (λ e. differs (sym is.number_is ∙ e ∙ seat_is))) is.mine);
+            (mine_stays c (old_world follows.block follows.owner) step.world n a.command is.fixed follows.shared (step.others n.seat (λ e. differs (sym is.number_is ∙ e ∙ seat_is))) is.mine);
         entries_are = other_more past m.seat (command_by order command) the_told other (λ e. differs (e ∙ seat_is)) ∙ is.entries_are;
       }
 
   -- all machines
-  all_machines : (follows : Follows c s past) (thread : IsThread c (old_world follows.block) (of_thread past (number + 1)) number the_actor m) → (step : Stepped c (old_world follows.block) m command order thread.fixed) → takes_at m.spot m.made order ≡ true
+  all_machines : (follows : Follows c s past) (thread : IsThread c (old_world follows.block follows.owner) (of_thread past (number + 1)) number the_actor m) → (step : Stepped c (old_world follows.block follows.owner) m command order thread.fixed) → takes_at m.spot m.made order ≡ true
       → slice_get s.machines number ≡ Some the_actor
-      → (k : ℕ) (a : Actor) → slice_get new_stage.machines k ≡ Some a → IsMachine c (new_world step.world.block) (of_thread new_past (k + 1)) k a a.machine
+      → (k : ℕ) (a : Actor) → slice_get new_stage.machines k ≡ Some a → IsMachine c (new_world step.world.block step.world.owner) (of_thread new_past (k + 1)) k a a.machine
   all_machines follows thread step takes here k a there = ⊎_elim
       (λ (same : k ≡ number).
       let new : Actor = took_of c the_actor order (slice_index s.words (place_of (placed c (touch_of c m)))) (mutating m) in
       let is : new ≡ a = same_Some new a (sym (slice_get-set_same s.machines number the_actor new here) ∙ ap (λ n. slice_get new_stage.machines n) (sym same) ∙ there) in
-      subst (λ n. IsMachine c (new_world step.world.block) (of_thread new_past (n + 1)) n a a.machine) (sym same)
-      (subst (λ b. IsMachine c (new_world step.world.block) (of_thread new_past (number + 1)) number b b.machine) is (own_machine follows thread step takes)))
+      subst (λ n. IsMachine c (new_world step.world.block step.world.owner) (of_thread new_past (n + 1)) n a a.machine) (sym same)
+      (subst (λ b. IsMachine c (new_world step.world.block step.world.owner) (of_thread new_past (number + 1)) number b b.machine) is (own_machine follows thread step takes)))
       (λ (differs : k ≢ number).
       other_machine follows thread.fixed thread.mine.ready step thread.number_is k differs a a.machine
       (follows.machines k a (sym (slice_get-set_other s.machines number k _ differs) ∙ there)))
@@ -171,10 +172,11 @@ module _ (c : Config) (s : Stage Actor) (past : List Entry) (number : ℕ) (orde
   pub follows_step : slice_get s.machines number ≡ Some the_actor → takes_at m.spot m.made order ≡ true → Follows c s past → Follows c (moved (kind c) s number the_actor order) new_past
   unfolding kind
   follows_step here takes follows =
-      let thread : IsThread c (old_world follows.block) (of_thread past (number + 1)) number the_actor m = follows.machines number the_actor here in
-      let step : Stepped c (old_world follows.block) m command order thread.fixed = each_step c (old_world follows.block) m command order thread.fixed follows.shared thread.mine takes in
+      let thread : IsThread c (old_world follows.block follows.owner) (of_thread past (number + 1)) number the_actor m = follows.machines number the_actor here in
+      let step : Stepped c (old_world follows.block follows.owner) m command order thread.fixed = each_step c (old_world follows.block follows.owner) m command order thread.fixed follows.shared thread.mine takes in
       record {
         block = step.world.block;
+        owner = step.world.owner;
         words = length-set s.words _ _ ∙ follows.words;
         legal = legal-more (first_graph c) past m.seat (command_by order command) the_told follows.legal step.legal;
         shared = subst (λ w. Shared c w) (worlds follows thread.fixed thread.mine.ready step) step.shared;

@@ -1,6 +1,24 @@
 pub mod Stable
 pub mod Settling
-pub mod Calls
+pub mod Pointing
+pub mod Apart
+pub mod Objects
+pub mod Naming
+pub mod Loading
+pub mod InHand
+pub mod Spots
+mod Calls
+mod Loads
+mod Fields
+mod RootStores
+mod Stores
+mod Pieces
+mod NewPiece
+mod NewObject
+mod Ready
+mod FreeRegions
+mod Takes
+mod Fresh
 pub mod Places
 pub mod Entries
 pub mod Induction

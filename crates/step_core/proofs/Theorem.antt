@@ -30,15 +30,15 @@ follows_reached c events = follows_run c (opening c) [] events (follows_first c)
 
 -- what a stage that follows its history says of a mutator
 pub thread_of : (c : Config) (s : Stage Actor) (h : List Entry) (follows : Follows c s h) (number : ℕ) (a : Actor) (m : Mutating) → IsMutator s number a m
-    → IsThread c (world_of c s follows.block (after (first_graph c) h)) (of_thread h (number + 1)) number a m
+    → IsThread c (world_of c s follows.block follows.owner (after (first_graph c) h)) (of_thread h (number + 1)) number a m
 thread_of c s h follows number a m here =
-    subst (λ machine. IsMachine c (world_of c s follows.block (after (first_graph c) h)) (of_thread h (number + 1)) number a machine) here.is (follows.machines number a here.here)
+    subst (λ machine. IsMachine c (world_of c s follows.block follows.owner (after (first_graph c) h)) (of_thread h (number + 1)) number a machine) here.is (follows.machines number a here.here)
 
 -- the place of a ready mutator's access
 pub inside_ready : (c : Config) (m : Mutating) → IsReady c m → place_of (placed c (touch_of c m)) < table_words c
 inside_ready c m ready =
     subst (λ k. k < table_words c) (sym (place_of-access_at (word_at c (touch_of c m).word) (touch_of c m).form))
-    (word_inside c (touch_of c m).word (is_word_true c (touch_of c m).word (first_part _ _ ready)))
+    (word_inside c (touch_of c m).word (is_word_true c (touch_of c m).word (first_part _ _ (first_part _ _ ready))))
 
 calls_of : (number : ℕ) (a : Actor) (entries : List Entry) (fixed : Option Reply) → entries ≡ a.calls ++ entries_of number a.command fixed → AreCalls entries number a
 calls_of number a entries None is = inl (is ∙ append_none a.calls)
@@ -51,10 +51,10 @@ finds_fit c s h follows number a m here =
       ready = thread.mine.ready;
       inside = subst (λ machine. place_of (plan_of c machine) < table_words c) (sym here.is) (inside_ready c m thread.mine.ready);
       fit = λ order takes.
-          let step : Stepped c (world_of c s follows.block (after (first_graph c) h)) m a.command order thread.fixed =
-          each_step c (world_of c s follows.block (after (first_graph c) h)) m a.command order thread.fixed follows.shared thread.mine takes in
+          let step : Stepped c (world_of c s follows.block follows.owner (after (first_graph c) h)) m a.command order thread.fixed =
+          each_step c (world_of c s follows.block follows.owner (after (first_graph c) h)) m a.command order thread.fixed follows.shared thread.mine takes in
           subst (λ machine. IsFit c m order (slice_index s.words (place_of (plan_of c machine)))) (sym here.is)
-          (subst (λ got. IsFit c m order got) (sym (found-placed c s.words (touch_of c m) (first_part _ _ thread.mine.ready))) step.mine.ready);
+          (subst (λ got. IsFit c m order got) (sym (found-placed c s.words (touch_of c m) (first_part _ _ (first_part _ _ thread.mine.ready)))) step.mine.ready);
     }
 
 -- a stage that follows its history is sound
@@ -62,6 +62,7 @@ pub sound : (c : Config) (s : Stage Actor) (h : List Entry) → Follows c s h �
 sound c s h follows = record {
   stands = record {
     block = follows.block;
+    owner = follows.owner;
     shared = follows.shared;
     mutators = λ number a m here. let thread = thread_of c s h follows number a m here in (thread.fixed, thread.mine);
   };

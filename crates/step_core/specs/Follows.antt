@@ -39,18 +39,19 @@ IsMachine c w entries number a (mutating m) = IsThread c w entries number a m
 IsMachine c w entries number a helping = Unit {0}
 IsMachine c w entries number a controlling = Unit {0}
 
--- the world of a stage: its settled words, a way to divide the regions, and a graph
-abbrev pub world_of : Config → Stage Actor → Plot → Graph → World
-world_of c s block g = record { memory = settled c s; block = block; graph = g }
+-- the world of a stage: its settled words, a way to divide the regions, the seats that have one, and a graph
+abbrev pub world_of : Config → Stage Actor → Plot → (ℕ → Option ℕ) → Graph → World
+world_of c s block owner g = record { memory = settled c s; block = block; owner = owner; graph = g }
 
 -- The stage stands for the graph after the history, the history is legal, and each machine is where it should be.
 pub record Follows (c : Config) (s : Stage Actor) (past : List Entry) : Type 0 where
   pub block : Plot
+  pub owner : ℕ → Option ℕ
   pub words : length s.words ≡ table_words c
   pub legal : EachIsLegal (first_graph c) past
-  pub shared : Shared c (world_of c s block (after (first_graph c) past))
+  pub shared : Shared c (world_of c s block owner (after (first_graph c) past))
   pub machines : (number : ℕ) (a : Actor) → slice_get s.machines number ≡ Some a
-      → IsMachine c (world_of c s block (after (first_graph c) past)) (of_thread past (number + 1)) number a a.machine
+      → IsMachine c (world_of c s block owner (after (first_graph c) past)) (of_thread past (number + 1)) number a a.machine
 
 -- the stage that events lead to from the opening
 abbrev pub reached : Config → List (Event Order) → Stage Actor
@@ -69,9 +70,10 @@ pub record IsMutator (s : Stage Actor) (number : ℕ) (a : Actor) (m : Mutating)
 -- hand, such that each mutator's roots stand for its roots and what it has in hand is what its place says.
 pub record StandsFor (c : Config) (s : Stage Actor) (g : Graph) : Type 0 where
   pub block : Plot
-  pub shared : Shared c (world_of c s block g)
+  pub owner : ℕ → Option ℕ
+  pub shared : Shared c (world_of c s block owner g)
   pub mutators : (number : ℕ) (a : Actor) (m : Mutating) → IsMutator s number a m
-      → (fixed : Option Reply) × Mine c (world_of c s block g) m a.command fixed
+      → (fixed : Option Reply) × Mine c (world_of c s block owner g) m a.command fixed
 
 -- the entries of a mutator in the history are the calls that it has ended, or these and one more, of its call in progress
 abbrev pub AreCalls : List Entry → ℕ → Actor → Type 0

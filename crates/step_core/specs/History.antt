@@ -5,12 +5,12 @@ use Rattle.heap_words.specs.Words.{Word, view}
 use Rattle.steps_base.specs.Steps.{Stage, Event, act}
 use Rattle.shen_graph.specs.History.{Entry}
 use Rattle.mutator.specs.declared.spot.Order.{Order}
-use Rattle.mutator.specs.Told.{told_at}
+use Rattle.mutator.specs.Told.{told_of}
 use Rattle.step_core.specs.Actor.{Machine, mutating, helping, controlling, Actor, entries_of, command_by, takes_of, kind}
 
 -- what an event of this machine settles, by the memory that it finds
 abbrev pub told_by : (Word → ℕ) → Actor → Order → Machine → List Entry
-told_by memory a order (mutating m) = entries_of m.seat (command_by order a.command) (told_at memory m.spot)
+told_by memory a order (mutating m) = entries_of m.seat (command_by order a.command) (told_of memory m)
 told_by memory a order helping = []
 told_by memory a order controlling = []
 

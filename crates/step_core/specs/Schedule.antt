@@ -48,7 +48,7 @@ is_again Again = true
 is_again _ = false
 
 abbrev pub waits_in : Stage Actor → Config → Machine → Bool
-waits_in s c (mutating m) = is_again (answer_at m.spot (slice_index s.words (place_of (plan_of c (mutating m)))))
+waits_in s c (mutating m) = is_again (answer_at c m.spot (slice_index s.words (place_of (plan_of c (mutating m)))))
 waits_in s c helping = false
 waits_in s c controlling = false
 

@@ -1,37 +1,204 @@
 -- What one machine knows of a world, and what each step of a place owes.
-use Rattle.std.specs.Prelude.{ℕ, ◌≡◌, ◌≢◌, ◌+◌, ◌<◌, true, Option, Some, None}
+use Rattle.std.specs.Prelude.{ℕ, ◌≡◌, ◌≢◌, ◌⊎◌, ◌+◌, ◌<◌, ◌≤◌, ◌==◌, true, length, Option, Some, None, if◌then◌else◌}
 use Rattle.heap_words.specs.declared.config.Config.{Config}
-use Rattle.heap_words.specs.Words.{Root}
+use Rattle.heap_words.specs.Words.{Root, Top, Current, Heap}
 use Rattle.steps_base.specs.Touch.{touched}
 use Rattle.shen_graph.specs.declared.name.Name.{Name}
 use Rattle.shen_graph.specs.declared.command.Command.{Command}
-use Rattle.shen_graph.specs.declared.command.Command.TheVariants.{Gc}
+use Rattle.shen_graph.specs.declared.command.Command.TheVariants.{New, Get, Set, Cas, Xchg, Rd, Wr, Copy, Drop, Gc}
 use Rattle.shen_graph.specs.declared.command.Reply.{Reply}
+use Rattle.shen_graph.specs.declared.command.Reply.TheVariants as reply
 use Rattle.shen_graph.specs.Graph.{Graph}
 use Rattle.shen_graph.specs.Step.{IsLegal}
 use Rattle.shen_graph.specs.History.{after_entry}
+use Rattle.alloc_buffers.specs.declared.spot.TakeSpot.{TakeSpot}
+use Rattle.alloc_buffers.specs.declared.spot.TakeSpot.TheVariants as take_spot
 use Rattle.mutator.specs.declared.spot.Spot.{Spot}
-use Rattle.mutator.specs.declared.spot.Spot.TheVariants.{Rest, Ended, LoadSet, AskCycle, Leave}
+use Rattle.mutator.specs.declared.spot.Spot.TheVariants.{Rest, Ended, LoadSet, LoadRoot, LoadSecond, LoadThird, LoadShape, LoadField, LoadExpected, StoreField, SwapField, ExchangeField, LoadNumber, StoreNumber, LoadName, StoreLoaded, StoreRoot, Taking, StoreWord, StoreFresh, AskCycle, Leave}
 use Rattle.mutator.specs.declared.spot.Order.{Order}
-use Rattle.mutator.specs.Orders.{takes_at, is_valid, is_served}
-use Rattle.mutator.specs.Rows.{Mutating, touch_of, next_of, given_at}
-use Rattle.mutator.specs.Told.{told_at}
+use Rattle.mutator.specs.Orders.{takes_at, is_next}
+use Rattle.mutator.specs.Rows.{Mutating, touch_of, next_of, given_at, roots_of, root_of, is_on_object, fresh_word}
+use Rattle.mutator.specs.Told.{told_of}
 use Rattle.mutator.specs.Fit.{IsReady}
 use Rattle.step_core.specs.Actor.{entry_of, command_by}
-use Rattle.step_core.specs.World.{World, thing, name_at, Points, Shared}
+use Rattle.step_core.specs.World.{World, thing, hand, name_at, Points, Target, Shared}
+
+-- A word is that of a root which the command loads: it stands for the root's reference. Of a root that the command does
+-- not load nothing is known.
+abbrev pub HasRoot : World → ℕ → Command → ℕ → ℕ → Type 0
+HasRoot w seat command k word = k < length (roots_of command) → Points w.block word (w.graph.root (seat + 1) (root_of command k))
+
+-- the call has begun and nothing is settled
+pub record IsBegun (made : ℕ) (command : Command) (fixed : Option Reply) (k : Command) : Type 0 where
+  pub unsettled : fixed ≡ None
+  pub is : command ≡ k
+  pub next : is_next made k ≡ true
+
+-- the object that a root of the mutator names
+pub record HasObject (w : World) (seat root object : ℕ) : Type 0 where
+  pub name : Name
+  pub refs : ℕ
+  pub nums : ℕ
+  pub root_is : w.graph.root (seat + 1) root ≡ Some name
+  pub target : Target w.block object name refs nums
+
+-- the first root of a command is loaded, and if the command works on an object, it is not null
+pub record HasFirst (w : World) (seat : ℕ) (k : Command) (first : ℕ) : Type 0 where
+  pub some : 0 < length (roots_of k)
+  pub first_is : HasRoot w seat k 0 first
+  pub not_null : is_on_object k ≡ true → first ≢ 0
+
+-- all roots are loaded
+pub record HasRoots (w : World) (seat : ℕ) (k : Command) (first second third : ℕ) : Type 0 where
+  pub first_is : HasFirst w seat k first
+  pub second_is : HasRoot w seat k 1 second
+  pub third_is : HasRoot w seat k 2 third
+
+-- The command works on a reference field of an object, or on a number of it.
+pub record IsGet (w : World) (seat : ℕ) (command : Command) (object field dst : ℕ) : Type 0 where
+  pub src : ℕ
+  pub is : command ≡ Get dst src field
+  pub small : dst < 16
+  pub of : HasObject w seat src object
+  pub below : field < of.refs
+
+pub record IsSet (w : World) (seat : ℕ) (command : Command) (object field value : ℕ) : Type 0 where
+  pub obj : ℕ
+  pub val : ℕ
+  pub is : command ≡ Set obj field val
+  pub of : HasObject w seat obj object
+  pub below : field < of.refs
+  pub value_is : Points w.block value (w.graph.root (seat + 1) val)
+
+pub record IsCas (w : World) (seat : ℕ) (command : Command) (object field expect value : ℕ) : Type 0 where
+  pub obj : ℕ
+  pub expected : ℕ
+  pub val : ℕ
+  pub is : command ≡ Cas obj field expected val
+  pub of : HasObject w seat obj object
+  pub below : field < of.refs
+  pub expect_is : Points w.block expect (w.graph.root (seat + 1) expected)
+  pub value_is : Points w.block value (w.graph.root (seat + 1) val)
+
+pub record IsXchg (w : World) (seat : ℕ) (command : Command) (object field value dst : ℕ) : Type 0 where
+  pub obj : ℕ
+  pub val : ℕ
+  pub is : command ≡ Xchg dst obj field val
+  pub small : dst < 16
+  pub of : HasObject w seat obj object
+  pub below : field < of.refs
+  pub value_is : Points w.block value (w.graph.root (seat + 1) val)
+
+pub record IsRd (w : World) (seat : ℕ) (command : Command) (object refs index : ℕ) : Type 0 where
+  pub obj : ℕ
+  pub is : command ≡ Rd obj index
+  pub of : HasObject w seat obj object
+  pub refs_are : refs ≡ of.refs
+  pub below : index < of.nums
+
+pub record IsWr (w : World) (seat : ℕ) (command : Command) (object refs index value : ℕ) : Type 0 where
+  pub obj : ℕ
+  pub is : command ≡ Wr obj index value
+  pub of : HasObject w seat obj object
+  pub refs_are : refs ≡ of.refs
+  pub below : index < of.nums
+
+-- the reply shows the object that was found, which is in hand
+pub record IsFound (w : World) (fixed : Option Reply) (value dst : ℕ) : Type 0 where
+  pub name : Name
+  pub settled : fixed ≡ Some (reply.Ref name)
+  pub is : name_at (w.block value) ≡ Some name
+  pub small : dst < 16
+
+-- the command makes one root another, or null
+pub record IsCopy (w : World) (seat : ℕ) (command : Command) (dst value : ℕ) : Type 0 where
+  pub src : ℕ
+  pub is : command ≡ Copy dst src
+  pub value_is : Points w.block value (w.graph.root (seat + 1) src)
+
+pub record IsDrop (command : Command) (dst value : ℕ) : Type 0 where
+  pub is : command ≡ Drop dst
+  pub value_is : value ≡ 0
+
+-- the command makes an object, and nothing is settled
+pub record IsMaking (made : ℕ) (command : Command) (fixed : Option Reply) (dst refs nums : ℕ) : Type 0 where
+  pub unsettled : fixed ≡ None
+  pub is : command ≡ New dst refs nums
+  pub small : dst < 16
+  pub few_refs : refs ≤ 16
+  pub few_nums : nums ≤ 16
+  pub few : made < 4294967295
+
+-- the current region of a seat, if it has one, has less room than so many words
+abbrev pub HasLess : Config → World → ℕ → ℕ → Type 0
+HasLess c w seat words = (r : ℕ) → w.memory (Current seat) ≡ r + 1 → c.region_words < w.memory (Top r) + words
+
+-- a region that a seat has taken and not made its current one yet
+pub record IsTaken (c : Config) (w : World) (seat region : ℕ) : Type 0 where
+  pub within : region < c.regions
+  pub own : w.owner region ≡ Some seat
+  pub empty : w.memory (Top region) ≡ 0
+
+-- a top of the current region that has room for so many words
+pub record IsRoomy (c : Config) (w : World) (seat words region top : ℕ) : Type 0 where
+  pub within : region < c.regions
+  pub is_current : w.memory (Current seat) ≡ region + 1
+  pub top_is : w.memory (Top region) ≡ top
+  pub room : top + words ≤ c.region_words
+
+-- what holds while a seat takes room for so many words
+abbrev pub TakeFacts : Config → World → ℕ → ℕ → TakeSpot → Type 0
+TakeFacts c w seat words take_spot.LoadCurrent = Unit {0}
+TakeFacts c w seat words (take_spot.LoadTop region) = w.memory (Current seat) ≡ region + 1
+TakeFacts c w seat words take_spot.LoadFree = HasLess c w seat words
+TakeFacts c w seat words (take_spot.TakeRegion region) = HasLess c w seat words × (region < c.regions)
+TakeFacts c w seat words (take_spot.StoreCurrent region) = IsTaken c w seat region
+TakeFacts c w seat words (take_spot.StoreTop region top) = IsRoomy c w seat words region top
+TakeFacts c w seat words (take_spot.Ended taken) = ⊥
+
+-- room in hand, in which so many words of the new object stand
+pub record IsFilling (w : World) (seat made refs nums address done : ℕ) : Type 0 where
+  pub room : w.block address ≡ Some (hand seat (3 + refs + nums))
+  pub within : done ≤ 3 + refs + nums
+  pub stored : (k : ℕ) → k < done → w.memory (Heap (address + k)) ≡ fresh_word seat made refs nums k
 
 -- What holds while a mutator stands at a spot in a call of this command. `fixed` is the reply that the history has for
 -- the call, once it is settled.
-abbrev pub SpotFacts : Config → World → Command → Option Reply → Spot → Type 0
-SpotFacts c w command fixed Rest = fixed ≡ None
-SpotFacts c w command fixed (Ended reply) = fixed ≡ None
-SpotFacts c w command fixed (LoadSet k) = (fixed ≡ None) × (command ≡ k) × (is_valid k ≡ true) × (is_served k ≡ true)
-SpotFacts c w command fixed AskCycle = (fixed ≡ None) × (command ≡ Gc)
-SpotFacts c w command fixed (Leave reply) = fixed ≡ Some reply
+abbrev pub SpotFacts : Config → World → ℕ → ℕ → Command → Option Reply → Spot → Type 0
+SpotFacts c w seat made command fixed Rest = fixed ≡ None
+SpotFacts c w seat made command fixed (Ended reply) = fixed ≡ None
+SpotFacts c w seat made command fixed (LoadSet k) = IsBegun made command fixed k
+SpotFacts c w seat made command fixed (LoadRoot k) = IsBegun made command fixed k × (0 < length (roots_of k))
+SpotFacts c w seat made command fixed (LoadSecond k first) = IsBegun made command fixed k × (1 < length (roots_of k)) × HasFirst w seat k first
+SpotFacts c w seat made command fixed (LoadThird k first second) = IsBegun made command fixed k × (2 < length (roots_of k)) × HasFirst w seat k first × HasRoot w seat k 1 second
+SpotFacts c w seat made command fixed (LoadShape k object second third) = IsBegun made command fixed k × (is_on_object k ≡ true) × HasRoots w seat k object second third
+SpotFacts c w seat made command fixed (LoadField object field dst) = (fixed ≡ None) × IsGet w seat command object field dst
+SpotFacts c w seat made command fixed (LoadExpected object field expect value) = (fixed ≡ None) × IsCas w seat command object field expect value
+SpotFacts c w seat made command fixed (StoreField object field value) = (fixed ≡ None) × IsSet w seat command object field value
+SpotFacts c w seat made command fixed (SwapField object field value dst) = (fixed ≡ None) × IsXchg w seat command object field value dst
+SpotFacts c w seat made command fixed (ExchangeField object field found expect value) = (fixed ≡ None) × IsCas w seat command object field expect value × (found ≡ expect)
+SpotFacts c w seat made command fixed (LoadNumber object refs index) = (fixed ≡ None) × IsRd w seat command object refs index
+SpotFacts c w seat made command fixed (StoreNumber object refs index value) = (fixed ≡ None) × IsWr w seat command object refs index value
+SpotFacts c w seat made command fixed (LoadName value dst) = IsFound w fixed value dst
+SpotFacts c w seat made command fixed (StoreLoaded dst value reply) = (fixed ≡ Some reply) × (dst < 16)
+SpotFacts c w seat made command fixed (StoreRoot dst value) = (fixed ≡ None) × (dst < 16) × (IsCopy w seat command dst value ⊎ IsDrop command dst value)
+SpotFacts c w seat made command fixed (Taking dst refs nums take) = IsMaking made command fixed dst refs nums × TakeFacts c w seat (3 + refs + nums) take
+SpotFacts c w seat made command fixed (StoreWord dst refs nums address done) = IsMaking made command fixed dst refs nums × IsFilling w seat made refs nums address done × (done < 3 + refs + nums)
+SpotFacts c w seat made command fixed (StoreFresh dst refs nums address) = IsMaking made command fixed dst refs nums × IsFilling w seat made refs nums address (3 + refs + nums)
+SpotFacts c w seat made command fixed AskCycle = (fixed ≡ None) × (command ≡ Gc)
+SpotFacts c w seat made command fixed (Leave reply) = fixed ≡ Some reply
 
 -- the word that counts as a root of the mutator: while a call has the root's new value in hand, that value
 abbrev pub root_now : World → ℕ → Spot → ℕ → ℕ
-root_now w seat spot index = w.memory (Root seat index)
+root_now w seat (LoadName value dst) index = if index == dst then value else w.memory (Root seat index)
+root_now w seat (StoreLoaded dst value reply) index = if index == dst then value else w.memory (Root seat index)
+root_now w seat _ index = w.memory (Root seat index)
+
+-- room is in hand at a spot: these words from this address on
+abbrev pub IsInHand : Spot → ℕ → ℕ → Type 0
+IsInHand (StoreWord dst refs nums address done) a words = (a ≡ address) × (words ≡ 3 + refs + nums)
+IsInHand (StoreFresh dst refs nums address) a words = (a ≡ address) × (words ≡ 3 + refs + nums)
+IsInHand _ a words = ⊥
 
 -- what a mutator counts on
 pub record Mine (c : Config) (w : World) (m : Mutating) (command : Command) (fixed : Option Reply) : Type 0 where
@@ -39,13 +206,20 @@ pub record Mine (c : Config) (w : World) (m : Mutating) (command : Command) (fix
   pub ready : IsReady c m
   pub made : w.graph.count (m.seat + 1) ≡ m.made
   pub roots : (i : ℕ) → i < 16 → Points w.block (root_now w m.seat m.spot i) (w.graph.root (m.seat + 1) i)
-  pub facts : SpotFacts c w command fixed m.spot
+  pub hands : (a words : ℕ) → w.block a ≡ Some (hand m.seat words) → IsInHand m.spot a words
+  pub facts : SpotFacts c w m.seat m.made command fixed m.spot
 
 -- What the mutator of a seat relies on while another machine leads from u to w: objects stay where they are, and what
 -- is its own stays as it is.
 pub record Rely (seat : ℕ) (u w : World) : Type 0 where
   pub names : (a : ℕ) (name : Name) → name_at (u.block a) ≡ Some name → name_at (w.block a) ≡ Some name
   pub things : (a refs nums : ℕ) (name : Name) → u.block a ≡ Some (thing name refs nums) → w.block a ≡ Some (thing name refs nums)
+  pub hands : (a words : ℕ) → u.block a ≡ Some (hand seat words) → w.block a ≡ Some (hand seat words)
+  pub no_hands : (a words : ℕ) → w.block a ≡ Some (hand seat words) → u.block a ≡ Some (hand seat words)
+  pub hand_words : (a words k : ℕ) → u.block a ≡ Some (hand seat words) → k < words → w.memory (Heap (a + k)) ≡ u.memory (Heap (a + k))
+  pub current : w.memory (Current seat) ≡ u.memory (Current seat)
+  pub owners : (r : ℕ) → u.owner r ≡ Some seat → w.owner r ≡ Some seat
+  pub tops : (r : ℕ) → u.owner r ≡ Some seat → w.memory (Top r) ≡ u.memory (Top r)
   pub root_words : (i : ℕ) → w.memory (Root seat i) ≡ u.memory (Root seat i)
   pub roots : (i : ℕ) → w.graph.root (seat + 1) i ≡ u.graph.root (seat + 1) i
   pub count : w.graph.count (seat + 1) ≡ u.graph.count (seat + 1)
@@ -72,11 +246,11 @@ fixed_by fixed None None = fixed
 pub record Stepped (c : Config) (u : World) (m : Mutating) (command : Command) (order : Order) (fixed : Option Reply) : Type 0 where
   pub world : World
   pub memory : world.memory ≡ touched u.memory (touch_of c m)
-  pub graph : world.graph ≡ graph_by u.graph m.seat (command_by order command) (told_at u.memory m.spot)
-  pub legal : LegalBy u.graph m.seat (command_by order command) (told_at u.memory m.spot)
-  pub settles : (reply : Reply) → told_at u.memory m.spot ≡ Some reply → (fixed ≡ None) × (given_at m.spot ≡ None)
+  pub graph : world.graph ≡ graph_by u.graph m.seat (command_by order command) (told_of u.memory m)
+  pub legal : LegalBy u.graph m.seat (command_by order command) (told_of u.memory m)
+  pub settles : (reply : Reply) → told_of u.memory m ≡ Some reply → (fixed ≡ None) × (given_at m.spot ≡ None)
   pub shared : Shared c world
-  pub mine : Mine c world (next_of c m order (u.memory (touch_of c m).word)) (command_by order command) (fixed_by fixed (told_at u.memory m.spot) (given_at m.spot))
+  pub mine : Mine c world (next_of c m order (u.memory (touch_of c m).word)) (command_by order command) (fixed_by fixed (told_of u.memory m) (given_at m.spot))
   pub others : (seat : ℕ) → seat ≢ m.seat → Rely seat u world
 
 -- what is proved of each spot: from the shared facts and the mutator's own its step is as it should be

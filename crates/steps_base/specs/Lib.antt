@@ -1,2 +1,3 @@
 pub mod Touch
+pub mod Fits
 pub mod Steps

@@ -2,13 +2,11 @@ use Rattle.std.proofs.Common.{◌≡◌, true, sym, ap, ◌∙◌, get_or, arith
 use Rattle.std.proofs.lemmas.List.{length-map, get_or-set_same}
 use Rattle.mutator.specs.declared.spot.Order.TheVariants.{Nothing, Begin}
 use Rattle.std.specs.Option.{option_map}
-use Rattle.shen_graph.specs.Valid.{IsValid}
-use Rattle.mutator.specs.Orders.{is_served}
 use Rattle.std.proofs.Common.{Some}
 use Rattle.shen_core.specs.Shown.{shown, order_of_machine}
 use Rattle.shen_core.specs.Runs.{event}
 use Rattle.shen_core.specs.State.{config_of, words_of, machines_of, orders_of, machine_at, order_at}
-use Rattle.shen_core.proofs.Turns.{turn_by_next, machine_within, element, rest_takes}
+use Rattle.shen_core.proofs.Turns.{turn_by_next, machine_within}
 use Rattle.step_core.specs.Actor.{takes_of, controlling}
 use Rattle.shen_core.proofs.plain.Plain.order_next.Goals as goal
 
@@ -28,13 +26,12 @@ pub returns-in-Some-clause-has : goal.returns-in-Some-clause-has
 returns-in-Some-clause-has c =
     let rest = sym c.is_resting.ensures.rest ∙ c.if-not-is_resting.false in
     let below = c.is_resting.ensures.below c.if-not-is_resting.false in
-    let may = element (λ command. IsValid command × (is_served command ≡ true)) _ _ _ (c.requires.run.commands c.args.number below) (sym c.next.ensures.next ∙ c.in-Some.is) in
     let order : order_at c.begin.new.self c.args.number ≡ Begin c.in-Some.command =
     ap (λ orders. get_or orders c.args.number Nothing) c.begin.ensures.order
     ∙ get_or-set_same (orders_of c.args.self.now) c.args.number (Begin c.in-Some.command) Nothing (omega (arith, length-map c.args.self.now.machines.items order_of_machine, c.args.self.now.all_machines, c.requires.number)) in
     ap (λ machines. takes_of (get_or machines c.args.number controlling) (order_at c.begin.new.self c.args.number)) c.begin.ensures.machines
     ∙ ap (takes_of (machine_at c.args.self.now c.args.number)) order
-    ∙ rest_takes (machine_at c.args.self.now c.args.number) c.in-Some.command rest may.0 may.1 (c.requires.run.made c.args.number)
+    ∙ c.begin.ensures.takes
 
 pub returns-in-None-clause-turn : goal.returns-in-None-clause-turn
 returns-in-None-clause-turn c = λ scripts s shows tells.

@@ -1,8 +1,18 @@
-use Rattle.std.proofs.Common.{◌∙◌, arith}
+use Rattle.std.proofs.Common.{◌≡◌, true, sym, ap, ◌∙◌, subst, arith}
+use Rattle.std.specs.Prelude.{slice_index}
+use Rattle.std.proofs.lemmas.Bool.{false≢true}
+use Rattle.heap_words.specs.Access.{place_of}
+use Rattle.mutator.specs.Orders.{takes_at}
+use Rattle.mutator.specs.Fit.{IsFit}
+use Rattle.mutator.specs.Seen.{seen, order_of}
+use Rattle.step_core.specs.Actor.{takes_of}
+use Rattle.shen_core.specs.Runs.{access_of}
+use Rattle.shen_core.specs.State.{has_turn, order_at}
 use Rattle.std.proofs.lemmas.List.{length-set}
 use Rattle.std.proofs.Math.Logic.{∥∥₁_map}
-use Rattle.shen_core.proofs.Memory.{from_read, shown_here, made_from, made_step, made_shown, made_heap, made_orders, made_machines}
-use Rattle.shen_core.proofs.Turns.{seat_below_some}
+use Rattle.shen_core.proofs.Memory.{from_read, shown_here, made_from, made_step, made_shown, made_heap, made_orders, made_machines, machine_here, order_here, heap_here}
+use Rattle.shen_core.proofs.Noted.{never_idle}
+use Rattle.shen_core.proofs.Turns.{seat_below_some, fit_shown}
 use Rattle.shen_core.proofs.plain.Plain.step.Goals as goal
 
 pub invariant_of-self-else-is_idle-clause-reached : goal.invariant_of-self-else-is_idle-clause-reached
@@ -50,3 +60,22 @@ returns-else-is_idle-clause-below c = λ turn.
     seat_below_some c.args.self.now.config c.args.self.now.words.items _ c.args.number _ c.args.self.now.reached
     (shown_here c.args.self.now.machines.items c.args.number c.in-Mutator.mutator
     (from_read c.args.self.now.machines.items c.args.number _ _ (omega (arith, c.args.self.now.all_machines, c.requires)) c.index_mut.ensures.value c.in-Mutator.is))
+
+pub make_step-requires-clause-fit : goal.make_step-requires-clause-fit
+make_step-requires-clause-fit c =
+    let m = c.in-Mutator.mutator in
+    let here = from_read c.args.self.now.machines.items c.args.number _ _ (omega (arith, c.args.self.now.all_machines, c.requires)) c.index_mut.ensures.value c.in-Mutator.is in
+    subst (λ k. IsFit k (seen m) (order_of m) (slice_index c.args.self.now.words.items (place_of (access_of k (seen m)))))
+    (sym (heap_here c.args.self.now.config c.args.self.now.machines.items c.args.number m c.args.self.now.one_heap here))
+    (fit_shown c.args.self.now.config c.args.self.now.words.items _ c.args.number (seen m) (order_of m) c.args.self.now.reached
+    (shown_here c.args.self.now.machines.items c.args.number m here) (c.is_idle.ensures.takes c.if-is_idle.false))
+
+pub returns-else-is_idle-clause-idle : goal.returns-else-is_idle-clause-idle
+returns-else-is_idle-clause-idle c =
+    let m = c.in-Mutator.mutator in
+    let here = from_read c.args.self.now.machines.items c.args.number _ _ (omega (arith, c.args.self.now.all_machines, c.requires)) c.index_mut.ensures.value c.in-Mutator.is in
+    let has : has_turn c.args.self.now c.args.number ≡ true =
+    ap (λ machine. takes_of machine (order_at c.args.self.now c.args.number)) (machine_here c.args.self.now.machines.items c.args.number m here)
+    ∙ ap (λ order. takes_at (seen m).spot (seen m).made order) (order_here c.args.self.now.machines.items c.args.number m here)
+    ∙ c.is_idle.ensures.takes c.if-is_idle.false in
+    (λ is. absurd (never_idle _ (sym c.make_step.ensures.says ∙ is)), λ none. absurd (false≢true (sym none ∙ has)))

@@ -1,0 +1,84 @@
+ghost use Rattle.std.specs.Prelude.{◌≡◌, ◌<◌, ◌≤◌, true};
+ghost use Rattle.heap_words.specs.Ranges.{seat_count};
+ghost use Rattle.alloc_buffers.specs.Rows.{is_ready};
+
+use crate::spot::{Kind, TakeSpot, Taken};
+use heap_words::{Access, Config, Place, Took};
+
+/// A machine that takes room of so many words for one object, in steps of one access.
+#[derive(Debug, Drop)]
+pub struct Take {
+    config: Config,
+    seat: usize,
+    words: u64,
+    kind: Kind,
+    spot: TakeSpot,
+    ghost is_seat: { seat < seat_count config.mutators config.helpers },
+    ghost least: { 3 ≤ words },
+    ghost most: { words ≤ 35 },
+    ghost ready: { is_ready config seat words spot ≡ true },
+}
+
+impl Take {
+    ghost use Rattle.std.specs.Prelude.{false};
+    ghost use Rattle.steps_base.specs.Touch.{placed};
+    ghost use Rattle.alloc_buffers.specs.Rows.{place_at, touch_at, next_at, is_ended, says};
+    ghost use Rattle.alloc_buffers.specs.Seen.{wanted, spot_of, IsFit};
+
+    /// A machine of a seat that wants 3 to 35 words.
+    pub fn new(config: Config, seat: usize, words: u64, kind: Kind) -> Take
+        requires seat { seat < seat_count config.mutators config.helpers }
+        requires least { 3 ≤ words }
+        requires most { words ≤ 35 }
+        ensures wanted { wanted result ≡ record { config = config; seat = seat; words = words; kind = kind } }
+        ensures spot { spot_of result ≡ TakeSpot.LoadCurrent }
+    {
+        Take {
+            config,
+            seat,
+            words,
+            kind,
+            spot: TakeSpot::LoadCurrent,
+        }
+    }
+
+    /// The place of its next access.
+    pub fn place(&self) -> Place
+        requires { is_ended (spot_of self.now) ≡ false }
+        ensures { result ≡ place_at (spot_of self.now) }
+    {
+        self.spot.place()
+    }
+
+    /// The access of its next step.
+    pub fn plan(&self) -> Access
+        requires { is_ended (spot_of self.now) ≡ false }
+        ensures row { result ≡ placed (wanted self.now).config (touch_at (wanted self.now).seat (wanted self.now).words (spot_of self.now)) }
+    {
+        self.spot.access(self.config, self.seat, self.words)
+    }
+
+    /// Goes on with the word that its access has found.
+    pub fn took(&mut self, got: u64) -> Took
+        requires busy { is_ended (spot_of self.old) ≡ false }
+        requires fit { let w = wanted self.old in IsFit w.config w.seat w.words w.kind (spot_of self.old) got }
+        ensures row { let w = wanted self.old in spot_of self.new ≡ next_at w.config w.words w.kind (spot_of self.old) got }
+        ensures wanted { wanted self.new ≡ wanted self.old }
+        ensures says { result ≡ says (spot_of self.old) (spot_of self.new) }
+    {
+        let before = self.spot;
+        self.spot = before.after(self.config, self.seat, self.words, self.kind, got);
+        before.says(self.spot)
+    }
+
+    /// The answer, once it has one: where its room begins, an address in words, or that there was no room.
+    pub fn answer(&self) -> Taken
+        requires { is_ended (spot_of self.now) ≡ true }
+        ensures { spot_of self.now ≡ TakeSpot.Ended result }
+    {
+        match self.spot {
+            TakeSpot::Ended { taken } => taken,
+            _ => unreachable!(),
+        }
+    }
+}

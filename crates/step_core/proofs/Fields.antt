@@ -1,0 +1,105 @@
+-- The steps that load a field, a number or a name.
+use Rattle.std.proofs.Common.{◌≡◌, ℕ, ◌+◌, ⊎_elim, true, false, Option, Some, refl, sym, ap, ◌∙◌, arith}
+use Rattle.std.specs.Prelude.{◌==◌, ◌&&◌}
+use Rattle.std.proofs.lemmas.Bool.{and_from, cases_Bool, cond-true, cond-false, eqb-true}
+use Rattle.std.proofs.lemmas.Bool.Decides.{nat_tests}
+use Rattle.heap_words.specs.declared.config.Config.{Config}
+use Rattle.heap_words.specs.Words.{Root, Heap}
+use Rattle.steps_base.specs.Fits.{is_number}
+use Rattle.shen_graph.specs.declared.command.Command.{Command}
+use Rattle.shen_graph.specs.declared.command.Reply.{Reply}
+use Rattle.shen_graph.specs.declared.command.Reply.TheVariants as reply
+use Rattle.shen_graph.specs.Graph.{with_root, same_reference}
+use Rattle.shen_graph.specs.Step.{shown, answers, outcome}
+use Rattle.mutator.specs.declared.spot.Spot.{Spot}
+use Rattle.mutator.specs.declared.spot.Spot.TheVariants.{LoadField, LoadExpected, LoadNumber, LoadName}
+use Rattle.mutator.specs.declared.spot.Order.{Order}
+use Rattle.mutator.specs.declared.spot.Order.TheVariants.{Nothing, Begin}
+use Rattle.mutator.specs.Rows.{Mutating, name_in}
+use Rattle.mutator.specs.Told.{name_the_same}
+use Rattle.step_core.specs.World.{World}
+use Rattle.step_core.specs.Stepped.{Row}
+use Rattle.step_core.proofs.Spots.{mutator_at}
+use Rattle.step_core.proofs.Calls.{leave_ready}
+use Rattle.step_core.proofs.Pointing.{points_small}
+use Rattle.step_core.proofs.Naming.{same_words, names_agree, name_there, name_read, shown_is, field_in, number_in, word_in}
+use Rattle.step_core.proofs.Loading.{looks, replies, replies_root, roots_then, ready_of, number_small}
+use Rattle.step_core.proofs.InHand.{shown_not_full, field_mine}
+
+module _ (c : Config) (u : World) (seat made phase cset : ℕ) (command : Command) (fixed : Option Reply) where
+  abbrev at_spot : Spot → Mutating
+  at_spot spot = mutator_at seat made phase cset spot
+
+  pub at_load_field : (object field dst : ℕ) (order : Order) → Row c u (at_spot (LoadField object field dst)) command order fixed
+  at_load_field object field dst (Begin l) shared mine takes = cc
+  at_load_field object field dst Nothing shared mine takes =
+      let get = mine.facts.1 in
+      let here = field_in c u shared seat get.src object field get.of get.below in
+      let got : ℕ = u.memory (Heap (object + 3 + field)) in
+      replies_root c u (at_spot (LoadField object field dst)) (Heap (object + 3 + field)) command fixed (shown here.0) dst here.0
+      refl
+      (ap (λ r. Some r) (shown_is c u shared got here.0 here.2))
+      refl mine.facts.0 (shown_not_full here.0)
+      (ap (λ k. outcome u.graph (seat + 1) k) get.is ∙ rw here.1 refl)
+      shared
+      (field_mine c (record { memory = u.memory; block = u.block; owner = u.owner; graph = with_root u.graph (seat + 1) dst here.0 }) seat made phase cset command dst got here.0
+      shared mine.seat mine.made get.small
+      (roots_then u.block (λ i. u.memory (Root seat i)) u.graph.root (seat + 1) dst got here.0 mine.roots here.2)
+      mine.hands here.2)
+
+  pub at_load_expected : (object field expect value : ℕ) (order : Order) → Row c u (at_spot (LoadExpected object field expect value)) command order fixed
+  at_load_expected object field expect value (Begin l) shared mine takes = cc
+  at_load_expected object field expect value Nothing shared mine takes =
+      let cas = mine.facts.1 in
+      let here = field_in c u shared seat cas.obj object field cas.of cas.below in
+      let got : ℕ = u.memory (Heap (object + 3 + field)) in
+      let agree : name_the_same u.memory got expect ≡ (got == expect) = names_agree c u shared got expect here.0 _ here.2 cas.expect_is in
+      let words : (got == expect) ≡ same_reference here.0 (u.graph.root (seat + 1) cas.expected) = same_words c u shared got expect here.0 _ here.2 cas.expect_is in
+      let below = cas.below in
+      ⊎_elim
+      (λ (same : (got == expect) ≡ true).
+      looks c u (at_spot (LoadExpected object field expect value)) (Heap (object + 3 + field)) command fixed refl (cond-true _ _ _ (agree ∙ same)) refl shared
+      (rw same (record {
+        seat = mine.seat;
+        ready = ready_of _ (is_number got && is_number value) (word_in c u shared seat cas.obj object (object + 3 + field) (3 + field) cas.of (omega arith) (omega arith))
+            (and_from _ _ (number_small got (points_small c _ u.block shared.plotted got here.0 here.2)) (number_small value (points_small c _ u.block shared.plotted value _ cas.value_is)));
+        made = mine.made;
+        roots = mine.roots;
+        hands = mine.hands;
+        facts = (mine.facts.0, cas, eqb-true _ _ same);
+      })))
+      (λ (differs : (got == expect) ≡ false).
+      replies c u (at_spot (LoadExpected object field expect value)) (Heap (object + 3 + field)) command fixed reply.No refl (cond-false _ _ _ (agree ∙ differs)) refl mine.facts.0 refl
+      (ap (λ k. outcome u.graph (seat + 1) k) cas.is ∙ rw here.1 (cond-false _ _ _ (sym words ∙ differs)))
+      shared
+      (rw differs (record { seat = mine.seat; ready = leave_ready c seat made reply.No mine.seat; made = mine.made; roots = mine.roots; hands = mine.hands; facts = refl })))
+      (cases_Bool (got == expect))
+
+  pub at_load_number : (object refs index : ℕ) (order : Order) → Row c u (at_spot (LoadNumber object refs index)) command order fixed
+  at_load_number object refs index (Begin l) shared mine takes = cc
+  at_load_number object refs index Nothing shared mine takes =
+      let rd = mine.facts.1 in
+      let here = number_in c u shared seat rd.obj object index rd.of rd.below in
+      let got : ℕ = u.memory (Heap (object + 3 + refs + index)) in
+      replies c u (at_spot (LoadNumber object refs index)) (Heap (object + 3 + refs + index)) command fixed (reply.Number got) refl refl refl mine.facts.0 refl
+      (ap (λ k. outcome u.graph (seat + 1) k) rd.is ∙ rw here (ap (λ n. answers (reply.Number (u.memory (Heap (object + 3 + n + index)))) u.graph) (sym rd.refs_are)))
+      shared
+      (record { seat = mine.seat; ready = leave_ready c seat made (reply.Number got) mine.seat; made = mine.made; roots = mine.roots; hands = mine.hands; facts = refl })
+
+  pub at_load_name : (value dst : ℕ) (order : Order) → Row c u (at_spot (LoadName value dst)) command order fixed
+  at_load_name value dst (Begin l) shared mine takes = cc
+  at_load_name value dst Nothing shared mine takes =
+      let found = mine.facts in
+      let word = name_there c u shared value found.name found.is in
+      let read : name_in (u.memory (Heap (value + 2))) ≡ found.name = ap name_in word.0 ∙ name_read found.name word.1 in
+      let below = mine.seat in
+      let small = found.small in
+      looks c u (at_spot (LoadName value dst)) (Heap (value + 2)) command fixed refl refl refl shared
+      (record {
+        seat = mine.seat;
+        ready = ready_of _ _ (grind (arith, nat_tests)) (number_small value (points_small c _ u.block shared.plotted value (Some found.name) found.is));
+        made = mine.made;
+        roots = mine.roots;
+        hands = mine.hands;
+        facts = (found.settled ∙ ap (λ n. Some (reply.Ref n)) (sym read), found.small);
+      })

@@ -1,0 +1,251 @@
+-- The steps that make a new object in room in hand.
+use Rattle.std.proofs.Common.{◌≡◌, ◌≢◌, ℕ, ◌+◌, ◌<◌, Bool, true, false, Option, Some, ⊎_elim, refl, sym, ap, ◌∙◌, subst, subst₂, arith}
+use Rattle.std.specs.Prelude.{◌==◌, ◌&&◌, nat_lt, if◌then◌else◌}
+use Rattle.std.proofs.lemmas.Bool.{cases_eq, cond-true, cond-false, eq-eqb, ne_eqb, and_from, and_left, and_right, ltb-true, ltb-false}
+use Rattle.heap_words.specs.declared.config.Config.{Config}
+use Rattle.heap_words.specs.Words.{Word, Root, Top, Heap, Current, write}
+use Rattle.shen_graph.specs.declared.name.Name.{Name}
+use Rattle.shen_graph.specs.declared.command.Command.{Command}
+use Rattle.shen_graph.specs.declared.command.Reply.{Reply}
+use Rattle.shen_graph.specs.declared.command.Reply.TheVariants as reply
+use Rattle.shen_graph.specs.Graph.{Graph, Object, blank, fresh, with_root, with_fresh}
+use Rattle.shen_graph.specs.Step.{outcome}
+use Rattle.mutator.specs.declared.spot.Spot.{Spot}
+use Rattle.mutator.specs.declared.spot.Spot.TheVariants.{StoreWord, StoreFresh, Leave}
+use Rattle.mutator.specs.declared.spot.Order.{Order}
+use Rattle.mutator.specs.declared.spot.Order.TheVariants.{Nothing, Begin}
+use Rattle.mutator.specs.Rows.{Mutating, fresh_word, touch_of}
+use Rattle.steps_base.specs.Touch.{touched}
+use Rattle.step_core.specs.World.{World, Plot, Block, thing, hand, words_of, name_at, Points, IsObject, IsGiven, Shared}
+use Rattle.step_core.specs.Stepped.{IsFilling, Mine, Rely, Row}
+use Rattle.step_core.proofs.Spots.{mutator_at, accessed}
+use Rattle.step_core.proofs.Settling.{legal_answer, graph_answer}
+use Rattle.step_core.proofs.Stable.{points_stay}
+use Rattle.step_core.proofs.Calls.{leave_ready}
+use Rattle.step_core.proofs.Apart.{far}
+use Rattle.step_core.proofs.Pieces.{with_piece, piece_at, object_reads}
+use Rattle.step_core.proofs.NewObject.{new_object, names_stay, things_stay, hands_stay, old_hand, plotted_again, filled_again, objects_again, rooms_again, given_again, with_count, count_own}
+use Rattle.step_core.proofs.Ready.{word_ready, fresh_ready}
+
+-- the name of a thread's next object
+abbrev next_name : ℕ → ℕ → Name
+next_name thread made = record { thread = thread; count = made + 1 }
+
+-- The word of a root that is written stands for the reference that the root is, and the words of other roots for theirs.
+pub roots_written : (block more : Plot) (memory : Word → ℕ) (g : Graph) (seat dst value : ℕ) (name : Name)
+    → ((a : ℕ) (n : Name) → name_at (block a) ≡ Some n → name_at (more a) ≡ Some n)
+    → name_at (more value) ≡ Some name → (i : ℕ) → Points block (memory (Root seat i)) (g.root (seat + 1) i)
+    → Points more (write memory (Root seat dst) value (Root seat i)) ((with_root g (seat + 1) dst (Some name)).root (seat + 1) i)
+roots_written block more memory g seat dst value name names new i old = ⊎_elim
+    (λ (same : i ≡ dst).
+    let word : write memory (Root seat dst) value (Root seat i) ≡ value = cond-true ((seat == seat) && (dst == i)) _ _ (and_from _ _ (eq-eqb seat seat refl) (eq-eqb dst i (sym same))) in
+    let root : (with_root g (seat + 1) dst (Some name)).root (seat + 1) i ≡ Some name = cond-true (((seat + 1) == (seat + 1)) && (i == dst)) _ _ (and_from _ _ (eq-eqb (seat + 1) (seat + 1) refl) (eq-eqb i dst same)) in
+    subst₂ (λ w r. Points more w r) (sym word) (sym root) new)
+    (λ (other : i ≢ dst).
+    let word : write memory (Root seat dst) value (Root seat i) ≡ memory (Root seat i) = cond-false ((seat == seat) && (dst == i)) _ _ (and_right _ _ (ne_eqb dst i (λ e. other (sym e)))) in
+    let root : (with_root g (seat + 1) dst (Some name)).root (seat + 1) i ≡ g.root (seat + 1) i = cond-false (((seat + 1) == (seat + 1)) && (i == dst)) _ _ (and_right _ _ (ne_eqb i dst other)) in
+    subst₂ (λ w r. Points more w r) (sym word) (sym root) (points_stay block more names (memory (Root seat i)) (g.root (seat + 1) i) old))
+    (cases_eq i dst)
+
+module _ (c : Config) (u : World) (seat made phase cset : ℕ) (command : Command) (fixed : Option Reply) where
+  abbrev at_spot : Spot → Mutating
+  at_spot spot = mutator_at seat made phase cset spot
+
+  module _ (dst refs nums address done : ℕ) (shared : Shared c u) (mine : Mine c u (at_spot (StoreWord dst refs nums address done)) command fixed) where
+    abbrev stored_world : World
+    stored_world = accessed c u (at_spot (StoreWord dst refs nums address done))
+
+    -- the words of other pieces stay
+    else_stays : (a k : ℕ) (b : Block) → u.block a ≡ Some b → a ≢ address → k < words_of b → stored_world.memory (Heap (a + k)) ≡ u.memory (Heap (a + k))
+    else_stays a k b is other below =
+        cond-false ((address + done) == (a + k)) _ _
+        (ne_eqb (address + done) (a + k)
+        (λ e. far c (λ r. u.memory (Top r)) u.block shared.plotted a address k done b (hand seat (3 + refs + nums)) is mine.facts.1.room other below mine.facts.2 (sym e)))
+
+    shared_stored : Shared c stored_world
+    shared_stored = record {
+      plotted = shared.plotted;
+      filled = shared.filled;
+      objects = record {
+        each = λ a more_refs more_nums n is.
+            let o = shared.objects.each a more_refs more_nums n is in
+            let other : a ≢ address = λ same. (let clash : Some (thing n more_refs more_nums) ≡ Some (hand seat (3 + refs + nums)) = sym is ∙ ap u.block same ∙ mine.facts.1.room in cc) in
+            let kept = λ (k : ℕ) (below : k < 3 + more_refs + more_nums). else_stays a k (thing n more_refs more_nums) is other below in
+            (o.0, o.1, object_reads (λ b. u.memory (Heap b)) (λ b. stored_world.memory (Heap b)) u.block u.block a more_refs more_nums n o.0 kept (λ b m e. e) o.2);
+        all = shared.objects.all;
+        once = shared.objects.once;
+      };
+      given = shared.given;
+      calm = shared.calm;
+      free_word = shared.free_word;
+      currents = shared.currents;
+      rooms = shared.rooms;
+      unasked = shared.unasked;
+    }
+
+    -- one word more of the new object stands in the room
+    filling : IsFilling stored_world seat made refs nums address (done + 1)
+    filling = record {
+      room = mine.facts.1.room;
+      within = (let less = mine.facts.2 in omega arith);
+      stored = λ k below. ⊎_elim
+          (λ (same : k ≡ done).
+          cond-true ((address + done) == (address + k)) _ _ (eq-eqb (address + done) (address + k) (omega (arith, same)))
+          ∙ ap (λ n. fresh_word seat made refs nums n) (sym same))
+          (λ (other : k ≢ done).
+          cond-false ((address + done) == (address + k)) _ _ (ne_eqb (address + done) (address + k) (λ e. other (omega (arith, e))))
+          ∙ mine.facts.1.stored k (omega (arith, below, other)))
+          (cases_eq k done);
+    }
+
+    mine_stored : (b : Bool) → nat_lt (done + 1) (3 + refs + nums) ≡ b
+        → Mine c stored_world (at_spot (if b then StoreWord dst refs nums address (done + 1) else StoreFresh dst refs nums address)) command fixed
+    mine_stored true more = record {
+      seat = mine.seat;
+      ready = word_ready c seat made command fixed dst refs nums mine.facts.0 (λ r. u.memory (Top r)) u.block shared.plotted address mine.facts.1.room mine.seat (done + 1) (ltb-true _ _ more);
+      made = mine.made;
+      roots = mine.roots;
+      hands = mine.hands;
+      facts = (mine.facts.0, filling, ltb-true _ _ more);
+    }
+    mine_stored false all = record {
+      seat = mine.seat;
+      ready = fresh_ready c seat made command fixed dst refs nums mine.facts.0 (λ r. u.memory (Top r)) u.block shared.plotted address mine.facts.1.room mine.seat;
+      made = mine.made;
+      roots = mine.roots;
+      hands = mine.hands;
+      facts = (
+        mine.facts.0,
+        subst (λ n. IsFilling stored_world seat made refs nums address n) (let most = ltb-false _ _ all in let less = mine.facts.2 in omega (arith, most, less)) filling,
+      );
+    }
+
+    others_stored : (j : ℕ) → j ≢ seat → Rely j u stored_world
+    others_stored j differs = record {
+      names = λ a n is. is;
+      things = λ a more_refs more_nums n is. is;
+      hands = λ a words is. is;
+      no_hands = λ a words is. is;
+      hand_words = λ a words k is below.
+          let other : a ≢ address = λ same. (let clash : Some (hand j words) ≡ Some (hand seat (3 + refs + nums)) = sym is ∙ ap u.block same ∙ mine.facts.1.room in let seats : j ≡ seat = cc in differs seats) in
+          else_stays a k (hand j words) is other below;
+      current = refl;
+      owners = λ r is. is;
+      tops = λ r is. refl;
+      root_words = λ i. refl;
+      roots = λ i. refl;
+      count = refl;
+    }
+
+  pub at_store_word : (dst refs nums address done : ℕ) (order : Order) → Row c u (at_spot (StoreWord dst refs nums address done)) command order fixed
+  at_store_word dst refs nums address done (Begin l) shared mine takes = cc
+  at_store_word dst refs nums address done Nothing shared mine takes = record {
+    world = stored_world dst refs nums address done shared mine;
+    memory = refl;
+    graph = refl;
+    legal = tt;
+    settles = λ r e. cc;
+    shared = shared_stored dst refs nums address done shared mine;
+    mine = mine_stored dst refs nums address done shared mine (nat_lt (done + 1) (3 + refs + nums)) refl;
+    others = others_stored dst refs nums address done shared mine;
+  }
+
+  module _ (dst refs nums address : ℕ) (shared : Shared c u) (mine : Mine c u (at_spot (StoreFresh dst refs nums address)) command fixed) where
+    abbrev top : ℕ → ℕ
+    top r = u.memory (Top r)
+
+    abbrev name : Name
+    name = fresh u.graph (seat + 1)
+
+    abbrev made_world : World
+    made_world = record {
+      memory = touched u.memory (touch_of c (at_spot (StoreFresh dst refs nums address)));
+      block = with_piece u.block address (thing name refs nums);
+      owner = u.owner;
+      graph = with_root (with_fresh u.graph (seat + 1) (blank refs nums)) (seat + 1) dst (Some name);
+    }
+
+    room : u.block address ≡ Some (hand seat (3 + refs + nums))
+    room = mine.facts.1.room
+
+    -- the thread's fresh name is the one that the mutator writes
+    name_is : name ≡ next_name (seat + 1) made
+    name_is = ap (next_name (seat + 1)) mine.made
+
+    -- no object has it
+    not_given : (o : Object) → u.graph.object name ≡ Some o → ⊥
+    not_given o is = let given = shared.given name o is in let most = given.by_thread (omega arith) in omega (arith, most)
+
+    new_is : IsObject (λ a. u.memory (Heap a)) made_world.block address refs nums name (blank refs nums)
+    new_is =
+        let making = mine.facts.0 in
+        subst (λ n. IsObject (λ a. u.memory (Heap a)) made_world.block address refs nums n (blank refs nums)) (sym name_is)
+        (new_object (λ a. u.memory (Heap a)) made_world.block address seat made refs nums making.few_refs making.few_nums mine.facts.1.stored)
+
+    is_given : IsGiven c (with_count u.graph.count (seat + 1)) name
+    is_given =
+        let own = count_own u.graph.count (seat + 1) in
+        let few = mine.facts.0.few in
+        let counted = mine.made in
+        let within = mine.seat in
+        record { thread = omega (arith, within); made = omega (arith, own); by_thread = λ one. omega (arith, own); small = omega (arith, few, counted) }
+
+    shared_made : Shared c made_world
+    shared_made = record {
+      plotted = plotted_again c top u.block address seat refs nums name room shared.plotted;
+      filled = filled_again c top u.block address seat refs nums name room shared.filled;
+      objects = objects_again c top u.block address seat refs nums name room (λ a. u.memory (Heap a)) u.graph.object shared.objects not_given (blank refs nums) new_is;
+      given = given_again c u.graph.count u.graph.object name (blank refs nums) shared.given is_given;
+      calm = shared.calm;
+      free_word = shared.free_word;
+      currents = shared.currents;
+      rooms = rooms_again c top u.block address seat refs nums name room (λ s. u.memory (Current s)) shared.rooms;
+      unasked = shared.unasked;
+    }
+
+    mine_made : Mine c made_world (mutator_at seat (made + 1) phase cset (Leave (reply.Ref (next_name (seat + 1) made)))) command (Some (reply.Ref (next_name (seat + 1) made)))
+    mine_made = record {
+      seat = mine.seat;
+      ready = leave_ready c seat (made + 1) (reply.Ref (next_name (seat + 1) made)) mine.seat;
+      made = count_own u.graph.count (seat + 1) ∙ ap (λ k. k + 1) mine.made;
+      roots = λ i below.
+          roots_written u.block made_world.block u.memory (with_fresh u.graph (seat + 1) (blank refs nums)) seat dst address name
+          (names_stay c top u.block address seat refs nums name room) (ap name_at (piece_at u.block address (thing name refs nums))) i (mine.roots i below);
+      hands = λ a words is.
+          let old = old_hand c top u.block address seat refs nums name room a seat words is in
+          old.0 (mine.hands a words old.1).0;
+      facts = refl;
+    }
+
+    others_made : (j : ℕ) → j ≢ seat → Rely j u made_world
+    others_made j differs = record {
+      names = names_stay c top u.block address seat refs nums name room;
+      things = λ a more_refs more_nums n is. things_stay c top u.block address seat refs nums name room a more_refs more_nums n is;
+      hands = λ a words is. hands_stay c top u.block address seat refs nums name room a j words differs is;
+      no_hands = λ a words is. (old_hand c top u.block address seat refs nums name room a j words is).1;
+      hand_words = λ a words k is below. refl;
+      current = refl;
+      owners = λ r is. is;
+      tops = λ r is. refl;
+      root_words = λ i. cond-false ((seat == j) && (dst == i)) _ _ (and_left _ _ (ne_eqb seat j (λ e. differs (sym e))));
+      roots = λ i. cond-false (((j + 1) == (seat + 1)) && (i == dst)) _ _ (and_left _ _ (ne_eqb (j + 1) (seat + 1) (λ e. differs (omega (arith, e)))));
+      count = cond-false ((j + 1) == (seat + 1)) _ _ (ne_eqb (j + 1) (seat + 1) (λ e. differs (omega (arith, e))));
+    }
+
+  pub at_store_fresh : (dst refs nums address : ℕ) (order : Order) → Row c u (at_spot (StoreFresh dst refs nums address)) command order fixed
+  at_store_fresh dst refs nums address (Begin l) shared mine takes = cc
+  at_store_fresh dst refs nums address Nothing shared mine takes =
+      let making = mine.facts.0 in
+      let answer : Reply = reply.Ref (next_name (seat + 1) made) in
+      let replied : (outcome u.graph (seat + 1) command).reply ≡ answer =
+      ap (λ k. (outcome u.graph (seat + 1) k).reply) making.is ∙ ap (λ n. reply.Ref n) (name_is dst refs nums address shared mine) in
+      record {
+        world = made_world dst refs nums address shared mine;
+        memory = refl;
+        graph = sym (graph_answer u.graph seat command answer refl ∙ ap (λ k. (outcome u.graph (seat + 1) k).graph) making.is);
+        legal = legal_answer u.graph seat command answer refl replied;
+        settles = λ r e. (making.unsettled, refl);
+        shared = shared_made dst refs nums address shared mine;
+        mine = mine_made dst refs nums address shared mine;
+        others = others_made dst refs nums address shared mine;
+      }

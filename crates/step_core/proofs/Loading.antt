@@ -1,0 +1,110 @@
+-- Steps that load a word: what they settle, and what they leave as it was.
+use Rattle.std.proofs.Common.{◌≡◌, ℕ, ◌+◌, ◌<◌, ⊎_elim, Bool, true, false, Option, Some, None, refl, sym, ap, ◌∙◌, arith}
+use Rattle.std.specs.Prelude.{◌==◌, ◌&&◌, ◌^◌, if◌then◌else◌}
+use Rattle.std.proofs.Math.Path.{fun_ext}
+use Rattle.std.proofs.lemmas.Bool.{cases_Bool, eq-eqb, lt-ltb, cond-true, cond-false}
+use Rattle.std.proofs.lemmas.Bool.Decides.{nat_tests}
+use Rattle.heap_words.specs.declared.config.Config.{Config}
+use Rattle.heap_words.specs.Words.{Word, same_word, write}
+use Rattle.heap_words.proofs.Stores.{same_word_true}
+use Rattle.steps_base.specs.Touch.{touch, loads}
+use Rattle.steps_base.specs.Fits.{is_number}
+use Rattle.shen_graph.specs.declared.command.Command.{Command}
+use Rattle.shen_graph.specs.declared.command.Reply.{Reply}
+use Rattle.shen_graph.specs.Graph.{Reference, with_root}
+use Rattle.shen_graph.specs.Step.{answers, outcome}
+use Rattle.shen_graph.specs.History.{is_full}
+use Rattle.mutator.specs.declared.spot.Order.TheVariants.{Nothing}
+use Rattle.mutator.specs.Rows.{Mutating, touch_of, next_of, given_at}
+use Rattle.mutator.specs.Told.{told_of}
+use Rattle.step_core.specs.World.{World, Plot, Points, Shared}
+use Rattle.step_core.specs.Stepped.{Mine, Rely, Stepped}
+use Rattle.step_core.proofs.Settling.{legal_answer, graph_answer}
+
+-- a load leaves the memory as it is
+pub load_keeps : (memory : Word → ℕ) (at : Word) → memory ≡ write memory at (memory at)
+load_keeps memory at = fun_ext (λ w. ⊎_elim
+    (λ (same : same_word at w ≡ true). sym (cond-true (same_word at w) (memory at) (memory w) same ∙ ap memory (same_word_true at w same)))
+    (λ (differs : same_word at w ≡ false). sym (cond-false (same_word at w) (memory at) (memory w) differs))
+    (cases_Bool (same_word at w)))
+
+-- where nothing changes, everything can be relied on
+pub rely_same : (seat : ℕ) (u : World) → Rely seat u u
+rely_same seat u = record {
+  names = λ a name is. is;
+  things = λ a refs nums name is. is;
+  hands = λ a words is. is;
+  no_hands = λ a words is. is;
+  hand_words = λ a words k is below. refl;
+  current = refl;
+  owners = λ r is. is;
+  tops = λ r is. refl;
+  root_words = λ i. refl;
+  roots = λ i. refl;
+  count = refl;
+}
+
+-- a step that loads a word and settles nothing
+pub looks : (c : Config) (u : World) (m : Mutating) (at : Word) (command : Command) (fixed : Option Reply)
+    → touch_of c m ≡ touch at loads → told_of u.memory m ≡ None → given_at m.spot ≡ None
+    → Shared c u → Mine c u (next_of c m Nothing (u.memory at)) command fixed → Stepped c u m command Nothing fixed
+looks c u m at command fixed loaded told given shared mine = record {
+  world = u;
+  memory = rw loaded (load_keeps u.memory at);
+  graph = rw told refl;
+  legal = rw told tt;
+  settles = λ r e. absurd (cc);
+  shared = shared;
+  mine = rw (loaded, told, given) mine;
+  others = λ j d. rely_same j u;
+}
+
+-- a step that loads a word and settles a reply which leaves the graph as it is
+pub replies : (c : Config) (u : World) (m : Mutating) (at : Word) (command : Command) (fixed : Option Reply) (r : Reply)
+    → touch_of c m ≡ touch at loads → told_of u.memory m ≡ Some r → given_at m.spot ≡ None → fixed ≡ None
+    → is_full r ≡ false → outcome u.graph (m.seat + 1) command ≡ answers r u.graph
+    → Shared c u → Mine c u (next_of c m Nothing (u.memory at)) command (Some r) → Stepped c u m command Nothing fixed
+replies c u m at command fixed r loaded told given unsettled other is shared mine = record {
+  world = u;
+  memory = rw loaded (load_keeps u.memory at);
+  graph = rw told (sym (graph_answer u.graph m.seat command r other ∙ ap (λ o. o.graph) is));
+  legal = rw told (legal_answer u.graph m.seat command r other (ap (λ o. o.reply) is));
+  settles = λ q e. (unsettled, given);
+  shared = shared;
+  mine = rw (loaded, told) mine;
+  others = λ j d. rely_same j u;
+}
+
+-- a step that loads a word and settles a reply which makes a root of the mutator another
+pub replies_root : (c : Config) (u : World) (m : Mutating) (at : Word) (command : Command) (fixed : Option Reply) (r : Reply) (dst : ℕ) (v : Reference)
+    → touch_of c m ≡ touch at loads → told_of u.memory m ≡ Some r → given_at m.spot ≡ None → fixed ≡ None
+    → is_full r ≡ false → outcome u.graph (m.seat + 1) command ≡ answers r (with_root u.graph (m.seat + 1) dst v)
+    → Shared c u
+    → Mine c (record { memory = u.memory; block = u.block; owner = u.owner; graph = with_root u.graph (m.seat + 1) dst v }) (next_of c m Nothing (u.memory at)) command (Some r)
+    → Stepped c u m command Nothing fixed
+replies_root c u m at command fixed r dst v loaded told given unsettled other is shared mine = record {
+  world = record { memory = u.memory; block = u.block; owner = u.owner; graph = with_root u.graph (m.seat + 1) dst v };
+  memory = rw loaded (load_keeps u.memory at);
+  graph = rw told (sym (graph_answer u.graph m.seat command r other ∙ ap (λ o. o.graph) is));
+  legal = rw told (legal_answer u.graph m.seat command r other (ap (λ o. o.reply) is));
+  settles = λ q e. (unsettled, given);
+  shared = shared;
+  mine = rw (loaded, told) mine;
+  others = λ j d. search (arith, nat_tests);
+}
+
+-- Words that stand for a mutator's roots do so after one of them became another, if the word of that one is another too.
+pub roots_then : (block : Plot) (words : ℕ → ℕ) (root : ℕ → ℕ → Reference) (t dst value : ℕ) (v : Reference)
+    → ((i : ℕ) → i < 16 → Points block (words i) (root t i)) → Points block value v
+    → (i : ℕ) → i < 16 → Points block (if i == dst then value else words i) (if (t == t) && (i == dst) then v else root t i)
+roots_then block words root t dst value v roots is i below =
+    rw (eq-eqb t t refl)
+    (elim (i == dst) as (λ b. Points block (if b then value else words i) (if b then v else root t i)) [ true ↦ is | false ↦ roots i below ])
+
+-- an access can be made whose word is one of the table and whose number is a word
+pub ready_of : (b d : Bool) → b ≡ true → d ≡ true → ((b && d) && true) ≡ true
+ready_of b d is_b is_d = rw (is_b, is_d) refl
+
+-- a small number is one that a word holds
+pub number_small : (n : ℕ) → n < 2097152 → is_number n ≡ true
+number_small n small = lt-ltb n (2 ^ 64) (omega arith)

@@ -1,0 +1,358 @@
+-- The steps by which a call loads its command's roots and the shape of its object.
+use Rattle.std.proofs.Common.{◌≡◌, ℕ, zero, suc, ◌+◌, ◌<◌, inl, inr, ⊎_elim, Bool, true, false, length, Option, Some, None, refl, sym, ap, ◌∙◌, arith}
+use Rattle.std.specs.Prelude.{◌==◌}
+use Rattle.std.proofs.lemmas.Bool.{and_parts, cases_Bool, cond-true, cond-false, eq-eqb, eqb-true, ltb-true}
+use Rattle.std.proofs.lemmas.Bool.Decides.{nat_tests}
+use Rattle.heap_words.specs.declared.config.Config.{Config}
+use Rattle.heap_words.specs.Words.{Cset, Root, Heap}
+use Rattle.steps_base.specs.Fits.{is_number}
+use Rattle.heap_words.specs.Encoding.{refs_in, nums_in}
+use Rattle.shen_graph.specs.declared.command.Command.{Command}
+use Rattle.shen_graph.specs.declared.command.Command.TheVariants.{New, Get, Set, Cas, Xchg, Rd, Wr, Copy, Drop, Same, Gc}
+use Rattle.shen_graph.specs.declared.command.Reply.{Reply}
+use Rattle.shen_graph.specs.declared.command.Reply.TheVariants as reply
+use Rattle.shen_graph.specs.Step.{yes_or_no, answers, outcome}
+use Rattle.shen_graph.specs.History.{is_full}
+use Rattle.mutator.specs.declared.spot.Spot.{Spot}
+use Rattle.mutator.specs.declared.spot.Spot.TheVariants.{LoadSet, LoadRoot, LoadSecond, LoadThird, LoadShape, Leave}
+use Rattle.mutator.specs.declared.spot.Order.{Order}
+use Rattle.mutator.specs.declared.spot.Order.TheVariants.{Nothing, Begin}
+use Rattle.mutator.specs.Orders.{is_next}
+use Rattle.mutator.specs.Rows.{Mutating, roots_of, root_of, is_on_object, lacks_object, has_part, first_spot, after_first, with_part}
+use Rattle.mutator.specs.Told.{name_the_same}
+use Rattle.step_core.specs.World.{World, Points, Shared}
+use Rattle.step_core.specs.Stepped.{HasRoot, HasObject, HasFirst, HasRoots, Mine, Stepped, Row}
+use Rattle.step_core.proofs.Spots.{mutator_at}
+use Rattle.step_core.proofs.Calls.{leave_ready}
+use Rattle.step_core.proofs.Pointing.{named_thing, named_if_not_0, null_if_0, points_small}
+use Rattle.step_core.proofs.Naming.{same_words, names_agree, word_in, shape_in, bad_on_null, bad_on_shape}
+use Rattle.step_core.proofs.Loading.{looks, replies, ready_of, number_small}
+
+-- the roots that a command loads are below 16
+root_small : (made : ℕ) (k : Command) (i : ℕ) → is_next made k ≡ true → i < length (roots_of k) → root_of k i < 16
+root_small made (Get dst src field) zero next below = grind (arith, nat_tests)
+root_small made (Get dst src field) (suc i) next below = absurd (omega arith)
+root_small made (Set obj field val) zero next below = grind (arith, nat_tests)
+root_small made (Set obj field val) (suc zero) next below = grind (arith, nat_tests)
+root_small made (Set obj field val) (suc (suc i)) next below = absurd (omega arith)
+root_small made (Cas obj field expect val) zero next below = grind (arith, nat_tests)
+root_small made (Cas obj field expect val) (suc zero) next below = grind (arith, nat_tests)
+root_small made (Cas obj field expect val) (suc (suc zero)) next below = grind (arith, nat_tests)
+root_small made (Cas obj field expect val) (suc (suc (suc i))) next below = absurd (omega arith)
+root_small made (Xchg dst obj field val) zero next below = grind (arith, nat_tests)
+root_small made (Xchg dst obj field val) (suc zero) next below = grind (arith, nat_tests)
+root_small made (Xchg dst obj field val) (suc (suc i)) next below = absurd (omega arith)
+root_small made (Rd obj index) zero next below = grind (arith, nat_tests)
+root_small made (Rd obj index) (suc i) next below = absurd (omega arith)
+root_small made (Wr obj index value) zero next below = grind (arith, nat_tests)
+root_small made (Wr obj index value) (suc i) next below = absurd (omega arith)
+root_small made (Copy dst src) zero next below = grind (arith, nat_tests)
+root_small made (Copy dst src) (suc i) next below = absurd (omega arith)
+root_small made (Same a b) zero next below = grind (arith, nat_tests)
+root_small made (Same a b) (suc zero) next below = grind (arith, nat_tests)
+root_small made (Same a b) (suc (suc i)) next below = absurd (omega arith)
+root_small made _ i next below = absurd (omega arith)
+
+-- the object of a command whose first root is not null
+abbrev object_of : (c : Config) (u : World) (seat : ℕ) (k : Command) (object : ℕ) → Shared c u → is_on_object k ≡ true → HasFirst u seat k object → HasObject u seat (root_of k 0) object
+object_of c u seat k object shared on first =
+    let named = named_if_not_0 c _ u.block shared.plotted object _ (first.first_is first.some) (first.not_null on) in
+    let piece = named_thing (u.block object) named.0 named.2 in
+    record { name = named.0; refs = piece.0; nums = piece.1; root_is = named.1; target = piece.2 }
+
+-- yes and no are not full
+full_no : (b : Bool) → is_full (yes_or_no b) ≡ false
+full_no true = refl
+full_no false = refl
+
+module _ (c : Config) (u : World) (seat made phase cset : ℕ) (command : Command) (fixed : Option Reply) where
+  abbrev at_spot : Spot → Mutating
+  at_spot spot = mutator_at seat made phase cset spot
+
+  -- what the mutator counts on at a spot, once the call has a settled reply or none
+  abbrev HasSpot : ℕ → Option Reply → Spot → Type 0
+  HasSpot now settled spot = Mine c u (mutator_at seat made phase now spot) command settled
+
+  -- a call of a command has begun, and no root is in hand
+  abbrev HasBegun : ℕ → Command → Type 0
+  HasBegun now k = HasSpot now fixed (LoadSet k)
+
+  -- it can go on with the command's first root
+  root_mine : (k : Command) (now : ℕ) → 0 < length (roots_of k) → HasBegun cset k → HasSpot now fixed (LoadRoot k)
+  root_mine k now some mine =
+      let below = mine.seat in
+      let small = root_small made k 0 mine.facts.next some in
+      record { seat = mine.seat; ready = grind (arith, nat_tests); made = mine.made; roots = mine.roots; hands = mine.hands; facts = (mine.facts, some) }
+
+  -- where it goes on after the collection set
+  set_mine : (k : Command) (now : ℕ) → HasBegun cset k → HasSpot now fixed (first_spot k)
+  set_mine (New dst refs nums) now mine =
+      let below = mine.seat in
+      let next = mine.facts.next in
+      record {
+        seat = mine.seat;
+        ready = grind (arith, nat_tests);
+        made = mine.made;
+        roots = mine.roots;
+        hands = mine.hands;
+        facts = (
+          record {
+            unsettled = mine.facts.unsettled;
+            is = mine.facts.is;
+            small = grind (arith, nat_tests);
+            few_refs = grind (arith, nat_tests);
+            few_nums = grind (arith, nat_tests);
+            few = grind (arith, nat_tests);
+          },
+          tt,
+        );
+      }
+  set_mine (Drop dst) now mine =
+      let below = mine.seat in
+      let next = mine.facts.next in
+      let small : dst < 16 = grind (arith, nat_tests) in
+      record {
+        seat = mine.seat;
+        ready = grind (arith, nat_tests);
+        made = mine.made;
+        roots = mine.roots;
+        hands = mine.hands;
+        facts = (mine.facts.unsettled, small, inr (record { is = mine.facts.is; value_is = refl }));
+      }
+  set_mine Gc now mine = record { seat = mine.seat; ready = refl; made = mine.made; roots = mine.roots; hands = mine.hands; facts = (mine.facts.unsettled, mine.facts.is) }
+  set_mine (Get dst src field) now mine = root_mine (Get dst src field) now (omega arith) mine
+  set_mine (Set obj field val) now mine = root_mine (Set obj field val) now (omega arith) mine
+  set_mine (Cas obj field expect val) now mine = root_mine (Cas obj field expect val) now (omega arith) mine
+  set_mine (Xchg dst obj field val) now mine = root_mine (Xchg dst obj field val) now (omega arith) mine
+  set_mine (Rd obj index) now mine = root_mine (Rd obj index) now (omega arith) mine
+  set_mine (Wr obj index value) now mine = root_mine (Wr obj index value) now (omega arith) mine
+  set_mine (Copy dst src) now mine = root_mine (Copy dst src) now (omega arith) mine
+  set_mine (Same a b) now mine = root_mine (Same a b) now (omega arith) mine
+
+  -- it leaves with the reply that is settled
+  leave_mine : (k : Command) (r : Reply) → HasBegun cset k → HasSpot cset (Some r) (Leave r)
+  leave_mine k r mine = record { seat = mine.seat; ready = leave_ready c seat made r mine.seat; made = mine.made; roots = mine.roots; hands = mine.hands; facts = refl }
+
+  -- it can go on with the shape of the command's object
+  shape_mine : (k : Command) (object second third : ℕ) → Shared c u → HasBegun cset k → is_on_object k ≡ true → HasRoots u seat k object second third → HasSpot cset fixed (LoadShape k object second third)
+  shape_mine k object second third shared mine on has =
+      let of : HasObject u seat (root_of k 0) object = object_of c u seat k object shared on has.first_is in
+      record {
+        seat = mine.seat;
+        ready = ready_of _ true (word_in c u shared seat (root_of k 0) object (object + 1) 1 of (omega arith) refl) refl;
+        made = mine.made;
+        roots = mine.roots;
+        hands = mine.hands;
+        facts = (mine.facts, on, has);
+      }
+
+  -- the word of a root of the command stands for the root
+  root_has : (k : Command) (i : ℕ) → HasBegun cset k → HasRoot u seat k i (u.memory (Root seat (root_of k i)))
+  root_has k i mine below = mine.roots (root_of k i) (root_small made k i mine.facts.next below)
+
+  -- it can go on with the second root, and with the third
+  second_mine : (k : Command) (first : ℕ) → HasBegun cset k → 1 < length (roots_of k) → HasFirst u seat k first → HasSpot cset fixed (LoadSecond k first)
+  second_mine k first mine more has =
+      let below = mine.seat in
+      let small = root_small made k 1 mine.facts.next more in
+      record { seat = mine.seat; ready = grind (arith, nat_tests); made = mine.made; roots = mine.roots; hands = mine.hands; facts = (mine.facts, more, has) }
+
+  third_mine : (k : Command) (first second : ℕ) → HasBegun cset k → 2 < length (roots_of k) → HasFirst u seat k first → HasRoot u seat k 1 second → HasSpot cset fixed (LoadThird k first second)
+  third_mine k first second mine more has has_second =
+      let below = mine.seat in
+      let small = root_small made k 2 mine.facts.next more in
+      record { seat = mine.seat; ready = grind (arith, nat_tests); made = mine.made; roots = mine.roots; hands = mine.hands; facts = (mine.facts, more, has, has_second) }
+
+  -- where it goes on after the first root
+  first_mine : (k : Command) (first : ℕ) → Shared c u → HasBegun cset k → HasFirst u seat k first → HasSpot cset fixed (after_first k first)
+  first_mine (Get dst src field) first shared mine has =
+      shape_mine (Get dst src field) first 0 0 shared mine refl (record { first_is = has; second_is = λ below. absurd (omega arith); third_is = λ below. absurd (omega arith) })
+  first_mine (Rd obj index) first shared mine has =
+      shape_mine (Rd obj index) first 0 0 shared mine refl (record { first_is = has; second_is = λ below. absurd (omega arith); third_is = λ below. absurd (omega arith) })
+  first_mine (Wr obj index value) first shared mine has =
+      shape_mine (Wr obj index value) first 0 0 shared mine refl (record { first_is = has; second_is = λ below. absurd (omega arith); third_is = λ below. absurd (omega arith) })
+  first_mine (Set obj field val) first shared mine has = second_mine (Set obj field val) first mine (omega arith) has
+  first_mine (Cas obj field expect val) first shared mine has = second_mine (Cas obj field expect val) first mine (omega arith) has
+  first_mine (Xchg dst obj field val) first shared mine has = second_mine (Xchg dst obj field val) first mine (omega arith) has
+  first_mine (Same a b) first shared mine has = second_mine (Same a b) first mine (omega arith) has
+  first_mine (Copy dst src) first shared mine has =
+      let below = mine.seat in
+      let next = mine.facts.next in
+      let small : dst < 16 = grind (arith, nat_tests) in
+      let value_is : Points u.block first (u.graph.root (seat + 1) src) = has.first_is has.some in
+      record {
+        seat = mine.seat;
+        ready = ready_of _ _ (grind (arith, nat_tests)) (number_small first (points_small c _ u.block shared.plotted first _ value_is));
+        made = mine.made;
+        roots = mine.roots;
+        hands = mine.hands;
+        facts = (mine.facts.unsettled, small, inl (record { src = src; is = mine.facts.is; value_is = value_is }));
+      }
+  first_mine _ first shared mine has = let some = has.some in absurd (omega arith)
+
+  pub at_load_set : (k : Command) (order : Order) → Row c u (at_spot (LoadSet k)) command order fixed
+  at_load_set k (Begin l) shared mine takes = cc
+  at_load_set k Nothing shared mine takes = looks c u (at_spot (LoadSet k)) Cset command fixed refl refl refl shared (set_mine k (u.memory Cset) mine)
+
+  -- the first root of a command is null, and there is no object
+  root_lacks : (k : Command) → Shared c u → HasBegun cset k → 0 < length (roots_of k) → lacks_object k (u.memory (Root seat (root_of k 0))) ≡ true → Stepped c u (at_spot (LoadRoot k)) command Nothing fixed
+  root_lacks k shared mine some lacks =
+      let parts = and_parts _ _ lacks in
+      let null : u.graph.root (seat + 1) (root_of k 0) ≡ None = null_if_0 c _ u.block shared.plotted _ _ (root_has k 0 mine some) (eqb-true _ _ parts.1) in
+      replies c u (at_spot (LoadRoot k)) (Root seat (root_of k 0)) command fixed reply.Bad refl
+      (cond-true _ _ _ lacks) refl mine.facts.unsettled refl
+      (ap (λ x. outcome u.graph (seat + 1) x) mine.facts.is ∙ bad_on_null u.graph (seat + 1) k parts.0 null)
+      shared (rw lacks (leave_mine k reply.Bad mine))
+
+  -- it is not, or the command works on none
+  root_goes : (k : Command) → Shared c u → HasBegun cset k → 0 < length (roots_of k) → lacks_object k (u.memory (Root seat (root_of k 0))) ≡ false → Stepped c u (at_spot (LoadRoot k)) command Nothing fixed
+  root_goes k shared mine some lacks =
+      looks c u (at_spot (LoadRoot k)) (Root seat (root_of k 0)) command fixed refl (cond-false _ _ _ lacks) refl shared
+      (rw lacks (first_mine k (u.memory (Root seat (root_of k 0))) shared mine (record {
+        some = some;
+        first_is = root_has k 0 mine;
+        not_null = λ on is. absurd (let both : lacks_object k (u.memory (Root seat (root_of k 0))) ≡ true = rw on (eq-eqb _ _ is) in cc);
+      })))
+
+  pub at_load_root : (k : Command) (order : Order) → Row c u (at_spot (LoadRoot k)) command order fixed
+  at_load_root k (Begin l) shared mine takes = cc
+  at_load_root k Nothing shared mine takes =
+      let base : HasBegun cset k = record { seat = mine.seat; ready = refl; made = mine.made; roots = mine.roots; hands = mine.hands; facts = mine.facts.0 } in
+      ⊎_elim (root_lacks k shared base mine.facts.1) (root_goes k shared base mine.facts.1) (cases_Bool (lacks_object k (u.memory (Root seat (root_of k 0)))))
+
+  -- where it goes on after the second root; for a Same it is settled here whether the roots are the same
+  second_step : (k : Command) (first : ℕ) → Shared c u → HasBegun cset k → 1 < length (roots_of k) → HasFirst u seat k first → Stepped c u (at_spot (LoadSecond k first)) command Nothing fixed
+  second_step (Set obj field val) first shared mine more has =
+      looks c u (at_spot (LoadSecond (Set obj field val) first)) (Root seat val) command fixed refl refl refl shared
+      (shape_mine (Set obj field val) first (u.memory (Root seat val)) 0 shared mine refl (record { first_is = has; second_is = root_has (Set obj field val) 1 mine; third_is = λ below. absurd (omega arith) }))
+  second_step (Cas obj field expect val) first shared mine more has =
+      looks c u (at_spot (LoadSecond (Cas obj field expect val) first)) (Root seat expect) command fixed refl refl refl shared
+      (third_mine (Cas obj field expect val) first (u.memory (Root seat expect)) mine (omega arith) has (root_has (Cas obj field expect val) 1 mine))
+  second_step (Xchg dst obj field val) first shared mine more has =
+      looks c u (at_spot (LoadSecond (Xchg dst obj field val) first)) (Root seat val) command fixed refl refl refl shared
+      (shape_mine (Xchg dst obj field val) first (u.memory (Root seat val)) 0 shared mine refl (record { first_is = has; second_is = root_has (Xchg dst obj field val) 1 mine; third_is = λ below. absurd (omega arith) }))
+  second_step (Same a b) first shared mine more has =
+      let got : ℕ = u.memory (Root seat b) in
+      let is_first = has.first_is has.some in
+      let is_second = root_has (Same a b) 1 mine more in
+      let agree : name_the_same u.memory first got ≡ (first == got) = names_agree c u shared first got _ _ is_first is_second in
+      replies c u (at_spot (LoadSecond (Same a b) first)) (Root seat b) command fixed (yes_or_no (name_the_same u.memory first got)) refl refl refl mine.facts.unsettled
+      (full_no (name_the_same u.memory first got))
+      (ap (λ x. outcome u.graph (seat + 1) x) mine.facts.is ∙ ap (λ x. answers (yes_or_no x) u.graph) (sym (agree ∙ same_words c u shared first got _ _ is_first is_second)))
+      shared
+      (record {
+        seat = mine.seat;
+        ready = leave_ready c seat made (yes_or_no (first == got)) mine.seat;
+        made = mine.made;
+        roots = mine.roots;
+        hands = mine.hands;
+        facts = ap (λ x. Some (yes_or_no x)) agree;
+      })
+  second_step _ first shared mine more has = absurd (omega arith)
+
+  pub at_load_second : (k : Command) (first : ℕ) (order : Order) → Row c u (at_spot (LoadSecond k first)) command order fixed
+  at_load_second k first (Begin l) shared mine takes = cc
+  at_load_second k first Nothing shared mine takes =
+      second_step k first shared (record { seat = mine.seat; ready = refl; made = mine.made; roots = mine.roots; hands = mine.hands; facts = mine.facts.0 }) mine.facts.1 mine.facts.2
+
+  -- where it goes on after the third root: only a Cas has one
+  third_step : (k : Command) (first second : ℕ) → Shared c u → HasBegun cset k → 2 < length (roots_of k) → HasFirst u seat k first → HasRoot u seat k 1 second → Stepped c u (at_spot (LoadThird k first second)) command Nothing fixed
+  third_step (Cas obj field expect val) first second shared mine more has has_second =
+      looks c u (at_spot (LoadThird (Cas obj field expect val) first second)) (Root seat val) command fixed refl refl refl shared
+      (shape_mine (Cas obj field expect val) first second (u.memory (Root seat val)) shared mine refl (record { first_is = has; second_is = has_second; third_is = root_has (Cas obj field expect val) 2 mine }))
+  third_step _ first second shared mine more has has_second = absurd (omega arith)
+
+  pub at_load_third : (k : Command) (first second : ℕ) (order : Order) → Row c u (at_spot (LoadThird k first second)) command order fixed
+  at_load_third k first second (Begin l) shared mine takes = cc
+  at_load_third k first second Nothing shared mine takes =
+      third_step k first second shared (record { seat = mine.seat; ready = refl; made = mine.made; roots = mine.roots; hands = mine.hands; facts = mine.facts.0 }) mine.facts.1 mine.facts.2 mine.facts.3
+
+  -- where it goes on with a part of the object that there is
+  part_mine : (k : Command) (object second third shape : ℕ) → Shared c u → HasBegun cset k → HasRoots u seat k object second third → (of : HasObject u seat (root_of k 0) object)
+      → refs_in shape ≡ of.refs → nums_in shape ≡ of.nums → is_on_object k ≡ true → has_part k shape ≡ true → HasSpot cset fixed (with_part k object second third shape)
+  part_mine (Get dst src field) object second third shape shared mine has of refs nums on part =
+      let next = mine.facts.next in
+      let below : field < of.refs = let lt = ltb-true _ _ part in omega arith in
+      record {
+        seat = mine.seat;
+        ready = ready_of _ true (word_in c u shared seat src object (object + 3 + field) (3 + field) of (omega arith) (omega arith)) refl;
+        made = mine.made;
+        roots = mine.roots;
+        hands = mine.hands;
+        facts = (mine.facts.unsettled, record { src = src; is = mine.facts.is; small = grind (arith, nat_tests); of = of; below = below });
+      }
+  part_mine (Set obj field val) object second third shape shared mine has of refs nums on part =
+      let below : field < of.refs = let lt = ltb-true _ _ part in omega arith in
+      let value_is : Points u.block second (u.graph.root (seat + 1) val) = has.second_is (omega arith) in
+      record {
+        seat = mine.seat;
+        ready = ready_of _ _ (word_in c u shared seat obj object (object + 3 + field) (3 + field) of (omega arith) (omega arith)) (number_small second (points_small c _ u.block shared.plotted second _ value_is));
+        made = mine.made;
+        roots = mine.roots;
+        hands = mine.hands;
+        facts = (mine.facts.unsettled, record { obj = obj; val = val; is = mine.facts.is; of = of; below = below; value_is = value_is });
+      }
+  part_mine (Cas obj field expect val) object second third shape shared mine has of refs nums on part =
+      let below : field < of.refs = let lt = ltb-true _ _ part in omega arith in
+      record {
+        seat = mine.seat;
+        ready = ready_of _ true (word_in c u shared seat obj object (object + 3 + field) (3 + field) of (omega arith) (omega arith)) refl;
+        made = mine.made;
+        roots = mine.roots;
+        hands = mine.hands;
+        facts = (
+          mine.facts.unsettled,
+          record { obj = obj; expected = expect; val = val; is = mine.facts.is; of = of; below = below; expect_is = has.second_is (omega arith); value_is = has.third_is (omega arith) },
+        );
+      }
+  part_mine (Xchg dst obj field val) object second third shape shared mine has of refs nums on part =
+      let next = mine.facts.next in
+      let below : field < of.refs = let lt = ltb-true _ _ part in omega arith in
+      let value_is : Points u.block second (u.graph.root (seat + 1) val) = has.second_is (omega arith) in
+      record {
+        seat = mine.seat;
+        ready = ready_of _ _ (word_in c u shared seat obj object (object + 3 + field) (3 + field) of (omega arith) (omega arith)) (number_small second (points_small c _ u.block shared.plotted second _ value_is));
+        made = mine.made;
+        roots = mine.roots;
+        hands = mine.hands;
+        facts = (mine.facts.unsettled, record { obj = obj; val = val; is = mine.facts.is; small = grind (arith, nat_tests); of = of; below = below; value_is = value_is });
+      }
+  part_mine (Rd obj index) object second third shape shared mine has of refs nums on part =
+      let below : index < of.nums = let lt = ltb-true _ _ part in omega arith in
+      record {
+        seat = mine.seat;
+        ready = ready_of _ true (word_in c u shared seat obj object (object + 3 + refs_in shape + index) (3 + refs_in shape + index) of (omega arith) (omega arith)) refl;
+        made = mine.made;
+        roots = mine.roots;
+        hands = mine.hands;
+        facts = (mine.facts.unsettled, record { obj = obj; is = mine.facts.is; of = of; refs_are = refs; below = below });
+      }
+  part_mine (Wr obj index value) object second third shape shared mine has of refs nums on part =
+      let next = mine.facts.next in
+      let below : index < of.nums = let lt = ltb-true _ _ part in omega arith in
+      let small : is_number value ≡ true = grind (arith, nat_tests) in
+      record {
+        seat = mine.seat;
+        ready = ready_of _ _ (word_in c u shared seat obj object (object + 3 + refs_in shape + index) (3 + refs_in shape + index) of (omega arith) (omega arith)) small;
+        made = mine.made;
+        roots = mine.roots;
+        hands = mine.hands;
+        facts = (mine.facts.unsettled, record { obj = obj; is = mine.facts.is; of = of; refs_are = refs; below = below });
+      }
+  part_mine _ object second third shape shared mine has of refs nums on part = cc
+
+  pub at_load_shape : (k : Command) (object second third : ℕ) (order : Order) → Row c u (at_spot (LoadShape k object second third)) command order fixed
+  at_load_shape k object second third (Begin l) shared mine takes = cc
+  at_load_shape k object second third Nothing shared mine takes =
+      let base : HasBegun cset k = record { seat = mine.seat; ready = refl; made = mine.made; roots = mine.roots; hands = mine.hands; facts = mine.facts.0 } in
+      let of : HasObject u seat (root_of k 0) object = object_of c u seat k object shared mine.facts.1 mine.facts.2.first_is in
+      let sizes = shape_in c u shared seat (root_of k 0) object of in
+      ⊎_elim
+      (λ (part : has_part k (u.memory (Heap (object + 1))) ≡ true).
+      looks c u (at_spot (LoadShape k object second third)) (Heap (object + 1)) command fixed refl (cond-true _ _ _ part) refl shared
+      (rw part (part_mine k object second third (u.memory (Heap (object + 1))) shared base mine.facts.2 of sizes.0 sizes.1 mine.facts.1 part)))
+      (λ (lacks : has_part k (u.memory (Heap (object + 1))) ≡ false).
+      replies c u (at_spot (LoadShape k object second third)) (Heap (object + 1)) command fixed reply.Bad refl (cond-false _ _ _ lacks) refl mine.facts.0.unsettled refl
+      (ap (λ x. outcome u.graph (seat + 1) x) mine.facts.0.is ∙ bad_on_shape c u shared seat object k of mine.facts.1 lacks)
+      shared (rw lacks (leave_mine k reply.Bad base)))
+      (cases_Bool (has_part k (u.memory (Heap (object + 1)))))

@@ -1,0 +1,164 @@
+-- Words that stand for references, and the names and numbers of the objects that they lead to.
+use Rattle.std.proofs.Common.{◌≡◌, ◌≢◌, ℕ, ◌+◌, ◌<◌, ◌≤◌, ⊎_elim, true, false, get_or, Some, None, refl, sym, ap, ◌∙◌, arith}
+use Rattle.std.specs.Prelude.{◌==◌, ◌||◌, ◌^◌, slice_get}
+use Rattle.std.proofs.lemmas.Bool.{cases_Bool, cases_eq, eq-eqb, ne_eqb, cond-true, cond-false, ltb-false}
+use Rattle.std.proofs.lemmas.Bool.Decides.{nat_tests}
+use Rattle.std.proofs.lemmas.Option.{same_Some, none-some, slice_get-get_or, slice_get_past}
+use Rattle.heap_words.specs.declared.config.Config.{Config}
+use Rattle.heap_words.specs.Words.{Heap, is_word}
+use Rattle.heap_words.specs.Encoding.{shape_word, refs_in, nums_in, name_code}
+use Rattle.shen_graph.specs.declared.name.Name.{Name}
+use Rattle.shen_graph.specs.declared.command.Command.{Command}
+use Rattle.shen_graph.specs.declared.command.Command.TheVariants.{Get, Set, Cas, Xchg, Rd, Wr}
+use Rattle.shen_graph.specs.declared.command.Reply.TheVariants as reply
+use Rattle.shen_graph.specs.Graph.{Reference, Object, Graph, same_name, same_reference, named, field_at, number_at}
+use Rattle.shen_graph.specs.Step.{shown, answers, outcome}
+use Rattle.shen_graph.proofs.PlainLemmas.{same_name-true, same_name-itself}
+use Rattle.mutator.specs.Rows.{root_of, is_on_object, has_part, name_in}
+use Rattle.mutator.specs.Told.{name_the_same, shown_word}
+use Rattle.step_core.specs.World.{World, thing, name_at, Points, IsObject, Shared}
+use Rattle.step_core.specs.Stepped.{HasObject}
+use Rattle.step_core.proofs.Pointing.{named_thing, piece_word, null_if_0}
+
+-- a name is its thread and its count
+pub same_parts : (m n : Name) → m.thread ≡ n.thread → m.count ≡ n.count → m ≡ n
+same_parts m n threads counts = λ i. record { thread = threads i; count = counts i }
+
+-- name words are equal exactly where their names are
+pub same_codes : (m n : Name) → m.count < 2 ^ 32 → n.count < 2 ^ 32 → (name_code m.thread m.count == name_code n.thread n.count) ≡ same_name m n
+same_codes m n small_m small_n = ⊎_elim
+    (λ (same : m.thread ≡ n.thread). let codes : (name_code m.thread m.count == name_code n.thread n.count) ≡ (m.count == n.count) = rw same (grind (arith, nat_tests)) in rw (eq-eqb m.thread n.thread same) codes)
+    (λ (differs : m.thread ≢ n.thread). rw (ne_eqb m.thread n.thread differs) (ne_eqb _ _ (λ e. differs (omega (arith, e, small_m, small_n)))))
+    (cases_eq m.thread n.thread)
+
+-- a name word reads as its name
+pub name_read : (n : Name) → n.count < 2 ^ 32 → name_in (name_code n.thread n.count) ≡ n
+name_read n small = same_parts _ n (omega arith) (omega arith)
+
+-- a shape word reads as its sizes
+pub refs_read : (refs nums : ℕ) → refs ≤ 16 → nums ≤ 16 → refs_in (shape_word refs nums) ≡ refs
+refs_read refs nums few_refs few_nums = omega arith
+
+pub nums_read : (refs nums : ℕ) → refs ≤ 16 → nums ≤ 16 → nums_in (shape_word refs nums) ≡ nums
+nums_read refs nums few_refs few_nums = omega arith
+
+-- the object that a root names, in a graph
+pub named_object : (g : Graph) (t root : ℕ) (n : Name) (o : Object) → g.root t root ≡ Some n → g.object n ≡ Some o → named g (g.root t root) ≡ o
+named_object g t root n o is there = rw (is, there) refl
+
+-- A command on an object is answered Bad where its root is null.
+pub bad_on_null : (g : Graph) (t : ℕ) (k : Command) → is_on_object k ≡ true → g.root t (root_of k 0) ≡ None → outcome g t k ≡ answers reply.Bad g
+bad_on_null g t (Get dst src field) on is = rw is refl
+bad_on_null g t (Set obj field val) on is = rw is refl
+bad_on_null g t (Cas obj field expect val) on is = rw is refl
+bad_on_null g t (Xchg dst obj field val) on is = rw is refl
+bad_on_null g t (Rd obj index) on is = rw is refl
+bad_on_null g t (Wr obj index value) on is = rw is refl
+bad_on_null g t _ on is = cc
+
+module _ (c : Config) (u : World) (shared : Shared c u) where
+  -- words are equal exactly where they stand for equal references
+  pub same_words : (a b : ℕ) (r s : Reference) → Points u.block a r → Points u.block b s → (a == b) ≡ same_reference r s
+  same_words a b None None is_a is_b = eq-eqb a b (is_a ∙ sym is_b)
+  same_words a b None (Some n) is_a is_b = ne_eqb a b (λ e. none-some n (sym (null_if_0 c _ u.block shared.plotted b (Some n) is_b (sym e ∙ is_a))))
+  same_words a b (Some m) None is_a is_b = ne_eqb a b (λ e. none-some m (sym (null_if_0 c _ u.block shared.plotted a (Some m) is_a (e ∙ is_b))))
+  same_words a b (Some m) (Some n) is_a is_b = ⊎_elim
+      (λ (same : same_name m n ≡ true).
+      let first = named_thing (u.block a) m is_a in
+      let second = named_thing (u.block b) n is_b in
+      let is_m : u.block b ≡ Some (thing m second.0 second.1) = second.2 ∙ ap (λ x. Some (thing x second.0 second.1)) (sym (same_name-true m n same)) in
+      eq-eqb a b (shared.objects.once a b first.0 first.1 second.0 second.1 m first.2 is_m) ∙ sym same)
+      (λ (differs : same_name m n ≡ false).
+      ne_eqb a b (λ e.
+      let is : m ≡ n = same_Some m n (sym is_a ∙ ap (λ x. name_at (u.block x)) e ∙ is_b) in
+      let same : same_name m n ≡ true = ap (λ x. same_name x n) is ∙ same_name-itself n in
+      absurd (cc))
+      ∙ sym differs)
+      (cases_Bool (same_name m n))
+
+  -- the name word of the object at an address, whose count is small
+  pub name_there : (a : ℕ) (n : Name) → name_at (u.block a) ≡ Some n → (u.memory (Heap (a + 2)) ≡ name_code n.thread n.count) × (n.count < 2 ^ 32)
+  name_there a n is =
+      let piece = named_thing (u.block a) n is in
+      let object = shared.objects.each a piece.0 piece.1 n piece.2 in
+      (object.2.name_word, (shared.given n object.0 object.1).small)
+
+  -- the reply that shows a word shows the reference that it stands for
+  pub shown_is : (value : ℕ) (r : Reference) → Points u.block value r → shown_word u.memory value ≡ shown r
+  shown_is value None is = cond-true (value == 0) _ _ (eq-eqb value 0 is)
+  shown_is value (Some n) is =
+      let other : (value == 0) ≡ false = ne_eqb value 0 (λ e. none-some n (sym (null_if_0 c _ u.block shared.plotted value (Some n) is e))) in
+      let word = name_there value n is in
+      cond-false (value == 0) _ _ other ∙ ap (λ w. reply.Ref (name_in w)) word.0 ∙ ap (λ m. reply.Ref m) (name_read n word.1)
+
+  -- words name the same exactly where they are equal
+  pub names_agree : (a b : ℕ) (r s : Reference) → Points u.block a r → Points u.block b s → name_the_same u.memory a b ≡ (a == b)
+  names_agree a b None s is_a is_b = cond-true ((a == 0) || (b == 0)) _ _ (rw (eq-eqb a 0 is_a) refl)
+  names_agree a b (Some m) None is_a is_b = cond-true ((a == 0) || (b == 0)) _ _ (grind (arith, nat_tests))
+  names_agree a b (Some m) (Some n) is_a is_b =
+      let some_a : (a == 0) ≡ false = ne_eqb a 0 (λ e. none-some m (sym (null_if_0 c _ u.block shared.plotted a (Some m) is_a e))) in
+      let some_b : (b == 0) ≡ false = ne_eqb b 0 (λ e. none-some n (sym (null_if_0 c _ u.block shared.plotted b (Some n) is_b e))) in
+      let word_a = name_there a m is_a in
+      let word_b = name_there b n is_b in
+      let codes = same_codes m n word_a.1 word_b.1 in
+      cond-false ((a == 0) || (b == 0)) _ _ (rw (some_a, some_b) refl) ∙ rw (word_a.0, word_b.0) codes ∙ sym (same_words a b (Some m) (Some n) is_a is_b)
+
+  -- the graph's object of an object in hand
+  pub object_in : (seat root object : ℕ) (has : HasObject u seat root object)
+      → (o : Object) × (u.graph.object has.name ≡ Some o) × IsObject (λ a. u.memory (Heap a)) u.block object has.refs has.nums has.name o
+  object_in seat root object has = shared.objects.each object has.refs has.nums has.name has.target
+
+  -- a reference field of an object in hand
+  pub field_in : (seat root object field : ℕ) (has : HasObject u seat root object) → field < has.refs
+      → (v : Reference) × (field_at u.graph (seat + 1) root field ≡ Some v) × Points u.block (u.memory (Heap (object + 3 + field))) v
+  field_in seat root object field has below =
+      let o = object_in seat root object has in
+      let there : slice_get o.0.refs field ≡ Some (get_or o.0.refs field None) = slice_get-get_or o.0.refs field None (let long = o.2.refs_are in omega arith) in
+      (get_or o.0.refs field None, ap (λ x. slice_get x.refs field) (named_object u.graph (seat + 1) root has.name o.0 has.root_is o.1) ∙ there, o.2.references field _ there)
+
+  -- a number of it
+  pub number_in : (seat root object index : ℕ) (has : HasObject u seat root object) → index < has.nums
+      → number_at u.graph (seat + 1) root index ≡ Some (u.memory (Heap (object + 3 + has.refs + index)))
+  number_in seat root object index has below =
+      let o = object_in seat root object has in
+      let there : slice_get o.0.nums index ≡ Some (get_or o.0.nums index 0) = slice_get-get_or o.0.nums index 0 (let long = o.2.nums_are in omega arith) in
+      ap (λ x. slice_get x.nums index) (named_object u.graph (seat + 1) root has.name o.0 has.root_is o.1) ∙ there ∙ ap (λ n. Some n) (sym (o.2.numbers index _ there))
+
+  -- the words of an object in hand are words of the heap
+  pub word_in : (seat root object at k : ℕ) (has : HasObject u seat root object) → k < 3 + has.refs + has.nums → at ≡ object + k → is_word c (Heap at) ≡ true
+  word_in seat root object at k has below is = ap (λ a. is_word c (Heap a)) is ∙ piece_word c _ u.block shared.plotted object k (thing has.name has.refs has.nums) has.target below
+
+  -- there is no field and no number past the last
+  pub no_field_in : (seat root object field : ℕ) (has : HasObject u seat root object) → has.refs ≤ field → field_at u.graph (seat + 1) root field ≡ None
+  no_field_in seat root object field has past =
+      let o = object_in seat root object has in
+      ap (λ x. slice_get x.refs field) (named_object u.graph (seat + 1) root has.name o.0 has.root_is o.1) ∙ slice_get_past o.0.refs field (let long = o.2.refs_are in omega arith)
+
+  pub no_number_in : (seat root object index : ℕ) (has : HasObject u seat root object) → has.nums ≤ index → number_at u.graph (seat + 1) root index ≡ None
+  no_number_in seat root object index has past =
+      let o = object_in seat root object has in
+      ap (λ x. slice_get x.nums index) (named_object u.graph (seat + 1) root has.name o.0 has.root_is o.1) ∙ slice_get_past o.0.nums index (let long = o.2.nums_are in omega arith)
+
+  -- the shape word of an object in hand reads as its sizes
+  pub shape_in : (seat root object : ℕ) (has : HasObject u seat root object)
+      → (refs_in (u.memory (Heap (object + 1))) ≡ has.refs) × (nums_in (u.memory (Heap (object + 1))) ≡ has.nums)
+  shape_in seat root object has =
+      let o = object_in seat root object has in
+      (ap refs_in o.2.shape ∙ refs_read has.refs has.nums o.2.few_refs o.2.few_nums, ap nums_in o.2.shape ∙ nums_read has.refs has.nums o.2.few_refs o.2.few_nums)
+
+  -- A command on an object is answered Bad where the object has no such part.
+  pub bad_on_shape : (seat object : ℕ) (k : Command) → HasObject u seat (root_of k 0) object → is_on_object k ≡ true → has_part k (u.memory (Heap (object + 1))) ≡ false
+      → outcome u.graph (seat + 1) k ≡ answers reply.Bad u.graph
+  bad_on_shape seat object (Get dst src field) has on lacks =
+      let past = ltb-false _ _ lacks in let shape = shape_in seat src object has in rw (no_field_in seat src object field has (omega (arith, past, shape.0))) refl
+  bad_on_shape seat object (Set obj field val) has on lacks =
+      let past = ltb-false _ _ lacks in let shape = shape_in seat obj object has in rw (no_field_in seat obj object field has (omega (arith, past, shape.0))) refl
+  bad_on_shape seat object (Cas obj field expect val) has on lacks =
+      let past = ltb-false _ _ lacks in let shape = shape_in seat obj object has in rw (no_field_in seat obj object field has (omega (arith, past, shape.0))) refl
+  bad_on_shape seat object (Xchg dst obj field val) has on lacks =
+      let past = ltb-false _ _ lacks in let shape = shape_in seat obj object has in rw (no_field_in seat obj object field has (omega (arith, past, shape.0))) refl
+  bad_on_shape seat object (Rd obj index) has on lacks =
+      let past = ltb-false _ _ lacks in let shape = shape_in seat obj object has in rw (no_number_in seat obj object index has (omega (arith, past, shape.1))) refl
+  bad_on_shape seat object (Wr obj index value) has on lacks =
+      let past = ltb-false _ _ lacks in let shape = shape_in seat obj object has in rw (no_number_in seat obj object index has (omega (arith, past, shape.1))) refl
+  bad_on_shape seat object _ has on lacks = cc

@@ -1,0 +1,85 @@
+-- The steps that store a reference into a root.
+use Rattle.std.proofs.Common.{◌≡◌, ℕ, ◌+◌, ⊎_elim, Option, None, refl, sym, ap, ◌∙◌, subst, arith}
+use Rattle.std.specs.Prelude.{◌==◌, if◌then◌else◌}
+use Rattle.std.proofs.lemmas.Bool.{eq-eqb}
+use Rattle.std.proofs.lemmas.Bool.Decides.{nat_tests}
+use Rattle.heap_words.specs.declared.config.Config.{Config}
+use Rattle.heap_words.specs.Words.{Word, Root, write}
+use Rattle.steps_base.specs.Touch.{touched}
+use Rattle.shen_graph.specs.declared.command.Command.{Command}
+use Rattle.shen_graph.specs.declared.command.Reply.{Reply}
+use Rattle.shen_graph.specs.declared.command.Reply.TheVariants as reply
+use Rattle.shen_graph.specs.Graph.{Reference, with_root}
+use Rattle.shen_graph.specs.Step.{answers, outcome}
+use Rattle.mutator.specs.declared.spot.Spot.{Spot}
+use Rattle.mutator.specs.declared.spot.Spot.TheVariants.{StoreLoaded, StoreRoot}
+use Rattle.mutator.specs.declared.spot.Order.{Order}
+use Rattle.mutator.specs.declared.spot.Order.TheVariants.{Nothing, Begin}
+use Rattle.mutator.specs.Rows.{Mutating, touch_of}
+use Rattle.step_core.specs.World.{World, Points, Shared}
+use Rattle.step_core.specs.Stepped.{Mine, Stepped, Row}
+use Rattle.step_core.proofs.Spots.{mutator_at, accessed}
+use Rattle.step_core.proofs.Settling.{legal_answer, graph_answer}
+use Rattle.step_core.proofs.Calls.{leave_ready}
+use Rattle.step_core.proofs.Loading.{roots_then}
+
+-- a mutator's roots, after a number was stored into one of them
+pub root_written : (memory : Word → ℕ) (seat dst value i : ℕ) → (if i == dst then value else memory (Root seat i)) ≡ write memory (Root seat dst) value (Root seat i)
+root_written memory seat dst value i =
+    let turned : (dst == i) ≡ (i == dst) = grind (arith, nat_tests) in
+    rw (eq-eqb seat seat refl, turned) refl
+
+module _ (c : Config) (u : World) (seat made phase cset : ℕ) (command : Command) (fixed : Option Reply) where
+  abbrev at_spot : Spot → Mutating
+  at_spot spot = mutator_at seat made phase cset spot
+
+  pub at_store_loaded : (dst value : ℕ) (r : Reply) (order : Order) → Row c u (at_spot (StoreLoaded dst value r)) command order fixed
+  at_store_loaded dst value r (Begin l) shared mine takes = cc
+  at_store_loaded dst value r Nothing shared mine takes = record {
+    world = accessed c u (at_spot (StoreLoaded dst value r));
+    memory = refl;
+    graph = refl;
+    legal = tt;
+    settles = λ q e. cc;
+    shared = shared;
+    mine = record {
+      seat = mine.seat;
+      ready = leave_ready c seat made r mine.seat;
+      made = mine.made;
+      roots = λ i below. subst (λ word. Points u.block word (u.graph.root (seat + 1) i)) (root_written u.memory seat dst value i) (mine.roots i below);
+      hands = mine.hands;
+      facts = mine.facts.0;
+    };
+    others = λ j d. search (arith, nat_tests);
+  }
+
+  -- A step that stores a reference into a root settles the reply Ok of a command which makes that root the reference.
+  root_step : (dst value : ℕ) (v : Reference) → Shared c u → Mine c u (at_spot (StoreRoot dst value)) command fixed
+      → outcome u.graph (seat + 1) command ≡ answers reply.Ok (with_root u.graph (seat + 1) dst v) → Points u.block value v
+      → Stepped c u (at_spot (StoreRoot dst value)) command Nothing fixed
+  root_step dst value v shared mine is stands = record {
+    world = record { memory = touched u.memory (touch_of c (at_spot (StoreRoot dst value))); block = u.block; owner = u.owner; graph = with_root u.graph (seat + 1) dst v };
+    memory = refl;
+    graph = sym (graph_answer u.graph seat command reply.Ok refl ∙ ap (λ o. o.graph) is);
+    legal = legal_answer u.graph seat command reply.Ok refl (ap (λ o. o.reply) is);
+    settles = λ r e. (mine.facts.0, refl);
+    shared = shared;
+    mine = record {
+      seat = mine.seat;
+      ready = leave_ready c seat made reply.Ok mine.seat;
+      made = mine.made;
+      roots = λ i below.
+          subst (λ word. Points u.block word ((with_root u.graph (seat + 1) dst v).root (seat + 1) i)) (root_written u.memory seat dst value i)
+          (roots_then u.block (λ k. u.memory (Root seat k)) u.graph.root (seat + 1) dst value v mine.roots stands i below);
+      hands = mine.hands;
+      facts = refl;
+    };
+    others = λ j d. search (arith, nat_tests);
+  }
+
+  pub at_store_root : (dst value : ℕ) (order : Order) → Row c u (at_spot (StoreRoot dst value)) command order fixed
+  at_store_root dst value (Begin l) shared mine takes = cc
+  at_store_root dst value Nothing shared mine takes = ⊎_elim
+      (λ copy. root_step dst value (u.graph.root (seat + 1) copy.src) shared mine (ap (λ k. outcome u.graph (seat + 1) k) copy.is) copy.value_is)
+      (λ drop. root_step dst value None shared mine (ap (λ k. outcome u.graph (seat + 1) k) drop.is) drop.value_is)
+      mine.facts.2

@@ -1,0 +1,13 @@
+-- A mutator at a spot, and the world after its access where nothing but the memory changes.
+use Rattle.std.proofs.Common.{ℕ}
+use Rattle.heap_words.specs.declared.config.Config.{Config}
+use Rattle.steps_base.specs.Touch.{touched}
+use Rattle.mutator.specs.declared.spot.Spot.{Spot}
+use Rattle.mutator.specs.Rows.{Mutating, touch_of}
+use Rattle.step_core.specs.World.{World}
+
+abbrev pub mutator_at : ℕ → ℕ → ℕ → ℕ → Spot → Mutating
+mutator_at seat made phase cset spot = record { seat = seat; made = made; phase = phase; cset = cset; spot = spot }
+
+abbrev pub accessed : Config → World → Mutating → World
+accessed c u m = record { memory = touched u.memory (touch_of c m); block = u.block; owner = u.owner; graph = u.graph }

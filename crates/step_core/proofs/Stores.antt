@@ -1,0 +1,193 @@
+-- The steps that store into an object.
+use Rattle.std.proofs.Common.{◌≡◌, ◌≢◌, ℕ, ◌+◌, ◌<◌, ◌≤◌, true, false, Option, Some, None, ⊎_elim, refl, sym, ap, ◌∙◌, subst, arith}
+use Rattle.std.specs.Prelude.{◌==◌, ◌&&◌, slice_set}
+use Rattle.std.proofs.lemmas.Bool.{cases_Bool, cond-false}
+use Rattle.std.proofs.lemmas.Bool.Decides.{nat_tests}
+use Rattle.heap_words.specs.declared.config.Config.{Config}
+use Rattle.heap_words.specs.Words.{Root, Heap, write}
+use Rattle.steps_base.specs.Touch.{touched}
+use Rattle.shen_graph.specs.declared.name.Name.{Name}
+use Rattle.shen_graph.specs.declared.command.Command.{Command}
+use Rattle.shen_graph.specs.declared.command.Command.TheVariants.{Set, Cas, Xchg, Wr}
+use Rattle.shen_graph.specs.declared.command.Reply.{Reply}
+use Rattle.shen_graph.specs.declared.command.Reply.TheVariants as reply
+use Rattle.shen_graph.specs.Graph.{Reference, Object, Graph, same_reference, field_at, number_at, with_root}
+use Rattle.shen_graph.specs.Step.{outcome, answers, shown}
+use Rattle.shen_graph.specs.History.{is_full}
+use Rattle.mutator.specs.declared.spot.Spot.{Spot}
+use Rattle.mutator.specs.declared.spot.Spot.TheVariants.{StoreField, SwapField, ExchangeField, StoreNumber, Leave}
+use Rattle.mutator.specs.declared.spot.Order.{Order}
+use Rattle.mutator.specs.declared.spot.Order.TheVariants.{Nothing, Begin}
+use Rattle.mutator.specs.Rows.{Mutating, touch_of, next_of, given_at}
+use Rattle.mutator.specs.Told.{told_of}
+use Rattle.step_core.specs.World.{World, hand, Points, Target, IsObject, Shared}
+use Rattle.step_core.specs.Stepped.{HasObject, Mine, Stepped, Row}
+use Rattle.step_core.proofs.Calls.{leave_ready}
+use Rattle.step_core.proofs.Naming.{object_in, field_in, number_in, same_words, shown_is}
+use Rattle.step_core.proofs.Objects.{stored_word, field_stored, number_stored, stored, changed, shared_stored, rely_stored}
+use Rattle.step_core.proofs.Settling.{legal_answer, graph_answer}
+use Rattle.step_core.proofs.Spots.{mutator_at}
+use Rattle.step_core.proofs.InHand.{shown_not_full, field_mine}
+use Rattle.step_core.proofs.Loading.{load_keeps, rely_same, roots_then}
+
+-- an object with another reference in a field, and with another number
+abbrev with_reference : Object → ℕ → Reference → Object
+with_reference o field r = record { refs = slice_set o.refs field r; nums = o.nums }
+
+abbrev with_value : Object → ℕ → ℕ → Object
+with_value o index n = record { refs = o.refs; nums = slice_set o.nums index n }
+
+-- what a command that stores into an object answers and makes of the graph, where its root names an object that has the
+-- field or the number
+module _ (g : Graph) (t obj : ℕ) (name : Name) (o : Object) (root_is : g.root t obj ≡ Some name) (object_is : g.object name ≡ Some o) where
+  set_outcome : (field val : ℕ) (v : Reference) → field_at g t obj field ≡ Some v
+      → outcome g t (Set obj field val) ≡ answers reply.Ok (changed g name (with_reference o field (g.root t val)) g.root)
+  set_outcome field val v is = rw (is, root_is, object_is) refl
+
+  xchg_outcome : (dst field val : ℕ) (v : Reference) → field_at g t obj field ≡ Some v
+      → outcome g t (Xchg dst obj field val) ≡ answers (shown v) (with_root (changed g name (with_reference o field (g.root t val)) g.root) t dst v)
+  xchg_outcome dst field val v is = rw (is, root_is, object_is) refl
+
+  cas_outcome : (field expect val : ℕ) (v : Reference) → field_at g t obj field ≡ Some v → same_reference v (g.root t expect) ≡ true
+      → outcome g t (Cas obj field expect val) ≡ answers reply.Yes (changed g name (with_reference o field (g.root t val)) g.root)
+  cas_outcome field expect val v is same = rw (is, same, root_is, object_is) refl
+
+  wr_outcome : (index value n : ℕ) → number_at g t obj index ≡ Some n
+      → outcome g t (Wr obj index value) ≡ answers reply.Ok (changed g name (with_value o index value) g.root)
+  wr_outcome index value n is = rw (is, root_is, object_is) refl
+
+-- A step that stores into an object and settles a reply. The object of its name is another then, the one that its words
+-- say, and roots of the mutator may be others.
+module _ (c : Config) (u : World) (m : Mutating) (object refs nums at value : ℕ) (name : Name) (o : Object) (root : ℕ → ℕ → Reference) (command : Command) (fixed : Option Reply) (r : Reply) where
+  store_settles : touched u.memory (touch_of c m) ≡ write u.memory (Heap at) value → told_of u.memory m ≡ Some r → given_at m.spot ≡ None → fixed ≡ None → is_full r ≡ false
+      → Shared c u → Target u.block object name refs nums → object ≤ at → at < object + (3 + refs + nums)
+      → IsObject (stored_word (λ a. u.memory (Heap a)) at value) u.block object refs nums name o
+      → outcome u.graph (m.seat + 1) command ≡ answers r (changed u.graph name o root)
+      → ((seat i : ℕ) → seat ≢ m.seat → root (seat + 1) i ≡ u.graph.root (seat + 1) i)
+      → Mine c (stored u at value (changed u.graph name o root)) (next_of c m Nothing (u.memory (touch_of c m).word)) command (Some r)
+      → Stepped c u m command Nothing fixed
+  store_settles memory told given unsettled other shared target from_start to_end is answered roots mine = record {
+    world = stored u at value (changed u.graph name o root);
+    memory = sym memory;
+    graph = rw told (sym (graph_answer u.graph m.seat command r other ∙ ap (λ x. x.graph) answered));
+    legal = rw told (legal_answer u.graph m.seat command r other (ap (λ x. x.reply) answered));
+    settles = λ q e. (unsettled, given);
+    shared = shared_stored c u object refs nums at value name o root shared target from_start to_end is;
+    mine = rw told mine;
+    others = λ j d. rely_stored c u object refs nums at value name o root shared target from_start to_end j (λ i. roots j i d);
+  }
+
+-- A step that makes a reference field of an object in hand that of a root of the mutator.
+module _ (c : Config) (u : World) (m : Mutating) (object field value obj val : ℕ) (shared : Shared c u) (of : HasObject u m.seat obj object) (below : field < of.refs) (value_is : Points u.block value (u.graph.root (m.seat + 1) val)) (root : ℕ → ℕ → Reference) where
+  abbrev object_then : Object
+  object_then = with_reference (object_in c u shared m.seat obj object of).0 field (u.graph.root (m.seat + 1) val)
+
+  abbrev world_then : World
+  world_then = stored u (object + 3 + field) value (changed u.graph of.name object_then root)
+
+  object_stands : IsObject (stored_word (λ a. u.memory (Heap a)) (object + 3 + field) value) u.block object of.refs of.nums of.name object_then
+  object_stands = field_stored (λ a. u.memory (Heap a)) u.block object of.refs of.nums of.name _ (object_in c u shared m.seat obj object of).2 field value (u.graph.root (m.seat + 1) val) below value_is
+
+  shared_then : Shared c world_then
+  shared_then = shared_stored c u object of.refs of.nums (object + 3 + field) value of.name object_then root shared of.target (omega arith) (omega arith) object_stands
+
+  field_settles : (command : Command) (fixed : Option Reply) (r : Reply)
+      → touched u.memory (touch_of c m) ≡ write u.memory (Heap (object + 3 + field)) value → told_of u.memory m ≡ Some r → given_at m.spot ≡ None → fixed ≡ None → is_full r ≡ false
+      → outcome u.graph (m.seat + 1) command ≡ answers r (changed u.graph of.name object_then root)
+      → ((seat i : ℕ) → seat ≢ m.seat → root (seat + 1) i ≡ u.graph.root (seat + 1) i)
+      → Mine c world_then (next_of c m Nothing (u.memory (touch_of c m).word)) command (Some r)
+      → Stepped c u m command Nothing fixed
+  field_settles command fixed r memory told given unsettled other answered roots mine =
+      store_settles c u m object of.refs of.nums (object + 3 + field) value of.name object_then root command fixed r memory told given unsettled other shared of.target (omega arith) (omega arith) object_stands answered roots mine
+
+module _ (c : Config) (u : World) (seat made phase cset : ℕ) (command : Command) (fixed : Option Reply) where
+  abbrev at_spot : Spot → Mutating
+  at_spot spot = mutator_at seat made phase cset spot
+
+  -- after its reply a mutator has only to leave
+  leaving : (w : World) (r : Reply) → seat < c.mutators → w.graph.count (seat + 1) ≡ made
+      → ((i : ℕ) → i < 16 → Points w.block (w.memory (Root seat i)) (w.graph.root (seat + 1) i)) → ((a words : ℕ) → w.block a ≡ Some (hand seat words) → ⊥)
+      → Mine c w (at_spot (Leave r)) command (Some r)
+  leaving w r below is_made roots hands = record { seat = below; ready = leave_ready c seat made r below; made = is_made; roots = roots; hands = hands; facts = refl }
+
+  pub at_store_field : (object field value : ℕ) (order : Order) → Row c u (at_spot (StoreField object field value)) command order fixed
+  at_store_field object field value (Begin l) shared mine takes = cc
+  at_store_field object field value Nothing shared mine takes =
+      let is = mine.facts.1 in
+      let o = object_in c u shared seat is.obj object is.of in
+      let v = field_in c u shared seat is.obj object field is.of is.below in
+      let answered = set_outcome u.graph (seat + 1) is.obj is.of.name o.0 is.of.root_is o.1 field is.val v.0 v.1 in
+      field_settles c u (at_spot (StoreField object field value)) object field value is.obj is.val shared is.of is.below is.value_is u.graph.root command fixed reply.Ok
+      refl refl refl mine.facts.0 refl (ap (λ k. outcome u.graph (seat + 1) k) is.is ∙ answered) (λ j i d. refl)
+      (leaving _ reply.Ok mine.seat mine.made mine.roots mine.hands)
+
+  pub at_swap_field : (object field value dst : ℕ) (order : Order) → Row c u (at_spot (SwapField object field value dst)) command order fixed
+  at_swap_field object field value dst (Begin l) shared mine takes = cc
+  at_swap_field object field value dst Nothing shared mine takes =
+      let is = mine.facts.1 in
+      let o = object_in c u shared seat is.obj object is.of in
+      let v = field_in c u shared seat is.obj object field is.of is.below in
+      let root = (with_root u.graph (seat + 1) dst v.0).root in
+      let got = u.memory (Heap (object + 3 + field)) in
+      let answered = xchg_outcome u.graph (seat + 1) is.obj is.of.name o.0 is.of.root_is o.1 dst field is.val v.0 v.1 in
+      field_settles c u (at_spot (SwapField object field value dst)) object field value is.obj is.val shared is.of is.below is.value_is root command fixed (shown v.0)
+      refl (ap (λ x. Some x) (shown_is c u shared got v.0 v.2)) refl mine.facts.0 (shown_not_full v.0) (ap (λ k. outcome u.graph (seat + 1) k) is.is ∙ answered)
+      (λ j i d. cond-false ((j + 1 == seat + 1) && (i == dst)) v.0 (u.graph.root (j + 1) i) (grind (arith, nat_tests)))
+      (field_mine c _ seat made phase cset command dst got v.0
+      (shared_then c u (at_spot (SwapField object field value dst)) object field value is.obj is.val shared is.of is.below is.value_is root)
+      mine.seat mine.made is.small (roots_then u.block (λ i. u.memory (Root seat i)) u.graph.root (seat + 1) dst got v.0 mine.roots v.2) mine.hands v.2)
+
+  -- the field has the word that was found in it: it changes
+  exchange_done : (object field found expect value : ℕ) → (u.memory (Heap (object + 3 + field)) == found) ≡ true → Row c u (at_spot (ExchangeField object field found expect value)) command Nothing fixed
+  exchange_done object field found expect value same shared mine takes =
+      let is = mine.facts.1 in
+      let o = object_in c u shared seat is.obj object is.of in
+      let v = field_in c u shared seat is.obj object field is.of is.below in
+      let got = u.memory (Heap (object + 3 + field)) in
+      let expected : (got == expect) ≡ true = ap (λ x. got == x) (sym mine.facts.2) ∙ same in
+      let references : same_reference v.0 (u.graph.root (seat + 1) is.expected) ≡ true = sym (same_words c u shared got expect v.0 _ v.2 is.expect_is) ∙ expected in
+      let answered = cas_outcome u.graph (seat + 1) is.obj is.of.name o.0 is.of.root_is o.1 field is.expected is.val v.0 v.1 references in
+      field_settles c u (at_spot (ExchangeField object field found expect value)) object field value is.obj is.val shared is.of is.below is.value_is u.graph.root command fixed reply.Yes
+      (rw same refl) (rw same refl) refl mine.facts.0 refl (ap (λ k. outcome u.graph (seat + 1) k) is.is ∙ answered) (λ j i d. refl)
+      (rw same (leaving _ reply.Yes mine.seat mine.made mine.roots mine.hands))
+
+  -- it has another: nothing changes, and the field is loaded again
+  exchange_again : (object field found expect value : ℕ) → (u.memory (Heap (object + 3 + field)) == found) ≡ false → Row c u (at_spot (ExchangeField object field found expect value)) command Nothing fixed
+  exchange_again object field found expect value other shared mine takes = record {
+    world = u;
+    memory = rw other (load_keeps u.memory (Heap (object + 3 + field)));
+    graph = rw other refl;
+    legal = rw other tt;
+    settles = λ q e. (mine.facts.0, refl);
+    shared = shared;
+    mine = rw other (record {
+      seat = mine.seat;
+      ready = let ready = mine.ready in grind (arith, nat_tests);
+      made = mine.made;
+      roots = mine.roots;
+      hands = mine.hands;
+      facts = (mine.facts.0, mine.facts.1);
+    });
+    others = λ j d. rely_same j u;
+  }
+
+  pub at_exchange_field : (object field found expect value : ℕ) (order : Order) → Row c u (at_spot (ExchangeField object field found expect value)) command order fixed
+  at_exchange_field object field found expect value (Begin l) shared mine takes = cc
+  at_exchange_field object field found expect value Nothing shared mine takes = ⊎_elim
+      (λ same. exchange_done object field found expect value same shared mine takes)
+      (λ other. exchange_again object field found expect value other shared mine takes)
+      (cases_Bool (u.memory (Heap (object + 3 + field)) == found))
+
+  pub at_store_number : (object refs index value : ℕ) (order : Order) → Row c u (at_spot (StoreNumber object refs index value)) command order fixed
+  at_store_number object refs index value (Begin l) shared mine takes = cc
+  at_store_number object refs index value Nothing shared mine takes =
+      let is = mine.facts.1 in
+      let o = object_in c u shared seat is.obj object is.of in
+      let at = object + 3 + refs + index in
+      let stands = number_stored (λ a. u.memory (Heap a)) u.block object is.of.refs is.of.nums is.of.name o.0 o.2 index value is.below in
+      let answered = wr_outcome u.graph (seat + 1) is.obj is.of.name o.0 is.of.root_is o.1 index value _ (number_in c u shared seat is.obj object index is.of is.below) in
+      store_settles c u (at_spot (StoreNumber object refs index value)) object is.of.refs is.of.nums at value is.of.name (with_value o.0 index value) u.graph.root command fixed reply.Ok
+      refl refl refl mine.facts.0 refl shared is.of.target (omega arith) (omega (arith, is.below, is.refs_are))
+      (subst (λ (x : ℕ). IsObject (stored_word (λ a. u.memory (Heap a)) (object + 3 + x + index) value) u.block object is.of.refs is.of.nums is.of.name (with_value o.0 index value)) (sym is.refs_are) stands)
+      (ap (λ k. outcome u.graph (seat + 1) k) is.is ∙ answered) (λ j i d. refl)
+      (leaving _ reply.Ok mine.seat mine.made mine.roots mine.hands)
