@@ -35,3 +35,6 @@ fn main(rt: HostRuntime) -> ExitCode {
     let status = shenrun(rt.alloc(), &words, &mut source, &mut sink);
     ExitCode::from(status.number())
 }
+
+#[cfg(test)]
+mod tests;

@@ -1,0 +1,557 @@
+//! The program's worked examples: words and bytes in, bytes and a status out.
+ghost use Rattle.std.specs.Prelude.{◌≤◌};
+
+use crate::replay::shenrun;
+use crate::status::Status;
+use shen_base::{Failed, MemorySink, MemorySource, Source};
+use std::alloc::Global;
+use std::process::Abort;
+use std::test::Fail;
+
+/// A trace, the words that run it, and what is written: the answer, or the line that stands in its place.
+struct Row {
+    words: &'static [&'static str],
+    trace: &'static str,
+    answer: &'static str,
+}
+
+const REPLAY: &[&str] = &["replay"];
+
+/// Traces of one thread.
+const PLAIN: &[Row] = &[
+    // An object is stored and loaded again.
+    Row {
+        words: REPLAY,
+        trace: "shen 1\nheap 4 64 0\nthreads 1 0\n1 new 1 1 1\n1 set 0 3 1\n1 get 2 0 3\n",
+        answer: "1 1.1\n1 ok\n1 1.1\ngraph\nobject 0.1 - - - 1.1 - - - - - - - - - - - - /\nobject 1.1 - / 0\nroots 1 0.1 1.1 1.1 - - - - - - - - - - - - -\n",
+    },
+    // No command.
+    Row {
+        words: REPLAY,
+        trace: "shen 1\nheap 4 64 0\nthreads 1 0\n",
+        answer: "graph\nobject 0.1 - - - - - - - - - - - - - - - - /\nroots 1 0.1 - - - - - - - - - - - - - - -\n",
+    },
+    // A null root, a field and a number behind the last.
+    Row {
+        words: REPLAY,
+        trace: "shen 1\nheap 4 64 0\nthreads 1 0\n1 get 1 5 0\n1 get 1 0 16\n1 new 1 0 2\n1 rd 1 2\n1 rd 1 1\n",
+        answer: "1 bad\n1 bad\n1 1.1\n1 bad\n1 0\ngraph\nobject 0.1 - - - - - - - - - - - - - - - - /\nobject 1.1 / 0 0\nroots 1 0.1 1.1 - - - - - - - - - - - - - -\n",
+    },
+    // The largest number, copies, and null that is equal to null.
+    Row {
+        words: REPLAY,
+        trace: "shen 1\nheap 4 64 0\nthreads 1 0\n1 new 1 0 1\n1 wr 1 0 18446744073709551615\n1 rd 1 0\n1 copy 2 1\n1 same 1 2\n1 same 3 4\n1 same 1 3\n1 cas 0 0 3 1\n1 cas 0 0 3 2\n",
+        answer: "1 1.1\n1 ok\n1 18446744073709551615\n1 ok\n1 yes\n1 yes\n1 no\n1 yes\n1 no\ngraph\nobject 0.1 1.1 - - - - - - - - - - - - - - - /\nobject 1.1 / 18446744073709551615\nroots 1 0.1 1.1 1.1 - - - - - - - - - - - - -\n",
+    },
+];
+
+/// Traces of several threads with schedules. In a heap of three machines, 1 and 2 are the mutators and 3 is the control.
+const SCHEDULED: &[Row] = &[
+    // The store comes between the load of the field and the exchange.
+    Row {
+        words: REPLAY,
+        trace: "shen 1\nheap 8 64 0\nthreads 2 0\n1 new 1 0 0\n1 cas 0 0 2 1\n2 new 1 0 0\n2 set 0 0 1\n! 1@CX 2=2 1=2\n",
+        answer: "1 1.1\n1 no\n2 2.1\n2 ok\ngraph\nobject 0.1 2.1 - - - - - - - - - - - - - - - /\nobject 1.1 /\nobject 2.1 /\nroots 1 0.1 1.1 - - - - - - - - - - - - - -\nroots 2 0.1 2.1 - - - - - - - - - - - - - -\n",
+    },
+    // One thread after the other.
+    Row {
+        words: REPLAY,
+        trace: "shen 1\nheap 8 64 0\nthreads 2 0\n1 new 1 0 0\n1 cas 0 0 2 1\n2 new 1 0 0\n2 set 0 0 1\n! 1=2 2=2\n",
+        answer: "1 1.1\n1 yes\n2 2.1\n2 ok\ngraph\nobject 0.1 2.1 - - - - - - - - - - - - - - - /\nobject 1.1 /\nobject 2.1 /\nroots 1 0.1 1.1 - - - - - - - - - - - - - -\nroots 2 0.1 2.1 - - - - - - - - - - - - - -\n",
+    },
+    // The other thread first.
+    Row {
+        words: REPLAY,
+        trace: "shen 1\nheap 8 64 0\nthreads 2 0\n1 new 1 0 0\n1 cas 0 0 2 1\n2 new 1 0 0\n2 set 0 0 1\n! 2=2 1=2\n",
+        answer: "1 1.1\n1 no\n2 2.1\n2 ok\ngraph\nobject 0.1 2.1 - - - - - - - - - - - - - - - /\nobject 1.1 /\nobject 2.1 /\nroots 1 0.1 1.1 - - - - - - - - - - - - - -\nroots 2 0.1 2.1 - - - - - - - - - - - - - -\n",
+    },
+    // The store comes before the load of the field.
+    Row {
+        words: REPLAY,
+        trace: "shen 1\nheap 8 64 0\nthreads 2 0\n1 new 1 0 0\n1 cas 0 0 2 1\n2 new 1 0 0\n2 set 0 0 1\n! 1@FL 2=2 1=2\n",
+        answer: "1 1.1\n1 no\n2 2.1\n2 ok\ngraph\nobject 0.1 2.1 - - - - - - - - - - - - - - - /\nobject 1.1 /\nobject 2.1 /\nroots 1 0.1 1.1 - - - - - - - - - - - - - -\nroots 2 0.1 2.1 - - - - - - - - - - - - - -\n",
+    },
+    // The exchange comes before the store.
+    Row {
+        words: REPLAY,
+        trace: "shen 1\nheap 8 64 0\nthreads 2 0\n1 new 1 0 0\n1 cas 0 0 2 1\n2 new 1 0 0\n2 set 0 0 1\n! 2@FS 1=2 2=2\n",
+        answer: "1 1.1\n1 yes\n2 2.1\n2 ok\ngraph\nobject 0.1 2.1 - - - - - - - - - - - - - - - /\nobject 1.1 /\nobject 2.1 /\nroots 1 0.1 1.1 - - - - - - - - - - - - - -\nroots 2 0.1 2.1 - - - - - - - - - - - - - -\n",
+    },
+    // A machine that stands at the place already makes no step.
+    Row {
+        words: REPLAY,
+        trace: "shen 1\nheap 8 64 0\nthreads 2 0\n1 new 1 0 0\n1 cas 0 0 2 1\n2 new 1 0 0\n2 set 0 0 1\n! 2@FS 2@FS 1=2 2=2\n",
+        answer: "1 1.1\n1 yes\n2 2.1\n2 ok\ngraph\nobject 0.1 2.1 - - - - - - - - - - - - - - - /\nobject 1.1 /\nobject 2.1 /\nroots 1 0.1 1.1 - - - - - - - - - - - - - -\nroots 2 0.1 2.1 - - - - - - - - - - - - - -\n",
+    },
+    // Both stand before their access, and the exchange comes first.
+    Row {
+        words: REPLAY,
+        trace: "shen 1\nheap 8 64 0\nthreads 2 0\n1 new 1 0 0\n1 cas 0 0 2 1\n2 new 1 0 0\n2 set 0 0 1\n! 1@CX 2@FS 1:1 2:1\n",
+        answer: "1 1.1\n1 yes\n2 2.1\n2 ok\ngraph\nobject 0.1 2.1 - - - - - - - - - - - - - - - /\nobject 1.1 /\nobject 2.1 /\nroots 1 0.1 1.1 - - - - - - - - - - - - - -\nroots 2 0.1 2.1 - - - - - - - - - - - - - -\n",
+    },
+    // Both stand before their access, and the store comes first.
+    Row {
+        words: REPLAY,
+        trace: "shen 1\nheap 8 64 0\nthreads 2 0\n1 new 1 0 0\n1 cas 0 0 2 1\n2 new 1 0 0\n2 set 0 0 1\n! 1@CX 2@FS 2:1 1:1\n",
+        answer: "1 1.1\n1 no\n2 2.1\n2 ok\ngraph\nobject 0.1 2.1 - - - - - - - - - - - - - - - /\nobject 1.1 /\nobject 2.1 /\nroots 1 0.1 1.1 - - - - - - - - - - - - - -\nroots 2 0.1 2.1 - - - - - - - - - - - - - -\n",
+    },
+    // Rounds alone: in the round of both accesses machine 1 comes first.
+    Row {
+        words: REPLAY,
+        trace: "shen 1\nheap 8 64 0\nthreads 2 0\n1 new 1 0 0\n1 cas 0 0 2 1\n2 new 1 0 0\n2 set 0 0 1\n",
+        answer: "1 1.1\n1 yes\n2 2.1\n2 ok\ngraph\nobject 0.1 2.1 - - - - - - - - - - - - - - - /\nobject 1.1 /\nobject 2.1 /\nroots 1 0.1 1.1 - - - - - - - - - - - - - -\nroots 2 0.1 2.1 - - - - - - - - - - - - - -\n",
+    },
+    // Steps that end in the middle of a command.
+    Row {
+        words: REPLAY,
+        trace: "shen 1\nheap 8 64 0\nthreads 2 0\n1 new 1 0 0\n1 cas 0 0 2 1\n2 new 1 0 0\n2 set 0 0 1\n! 1:15\n",
+        answer: "1 1.1\n1 yes\n2 2.1\n2 ok\ngraph\nobject 0.1 2.1 - - - - - - - - - - - - - - - /\nobject 1.1 /\nobject 2.1 /\nroots 1 0.1 1.1 - - - - - - - - - - - - - -\nroots 2 0.1 2.1 - - - - - - - - - - - - - -\n",
+    },
+    // More steps than the thread has to make.
+    Row {
+        words: REPLAY,
+        trace: "shen 1\nheap 8 64 0\nthreads 2 0\n1 new 1 0 0\n1 cas 0 0 2 1\n2 new 1 0 0\n2 set 0 0 1\n! 2:30 1:1\n",
+        answer: "1 1.1\n1 no\n2 2.1\n2 ok\ngraph\nobject 0.1 2.1 - - - - - - - - - - - - - - - /\nobject 1.1 /\nobject 2.1 /\nroots 1 0.1 1.1 - - - - - - - - - - - - - -\nroots 2 0.1 2.1 - - - - - - - - - - - - - -\n",
+    },
+    // As many steps as the thread has to make, less the store.
+    Row {
+        words: REPLAY,
+        trace: "shen 1\nheap 8 64 0\nthreads 2 0\n1 new 1 0 0\n1 cas 0 0 2 1\n2 new 1 0 0\n2 set 0 0 1\n! 2:17 1=2\n",
+        answer: "1 1.1\n1 yes\n2 2.1\n2 ok\ngraph\nobject 0.1 2.1 - - - - - - - - - - - - - - - /\nobject 1.1 /\nobject 2.1 /\nroots 1 0.1 1.1 - - - - - - - - - - - - - -\nroots 2 0.1 2.1 - - - - - - - - - - - - - -\n",
+    },
+    // One step more, and the store is made.
+    Row {
+        words: REPLAY,
+        trace: "shen 1\nheap 8 64 0\nthreads 2 0\n1 new 1 0 0\n1 cas 0 0 2 1\n2 new 1 0 0\n2 set 0 0 1\n! 2:18 1=2\n",
+        answer: "1 1.1\n1 no\n2 2.1\n2 ok\ngraph\nobject 0.1 2.1 - - - - - - - - - - - - - - - /\nobject 1.1 /\nobject 2.1 /\nroots 1 0.1 1.1 - - - - - - - - - - - - - -\nroots 2 0.1 2.1 - - - - - - - - - - - - - -\n",
+    },
+    // More replies than the script has commands.
+    Row {
+        words: REPLAY,
+        trace: "shen 1\nheap 8 64 0\nthreads 2 0\n1 new 1 0 0\n1 cas 0 0 2 1\n2 new 1 0 0\n2 set 0 0 1\n! 1=9 2=1\n",
+        answer: "1 1.1\n1 yes\n2 2.1\n2 ok\ngraph\nobject 0.1 2.1 - - - - - - - - - - - - - - - /\nobject 1.1 /\nobject 2.1 /\nroots 1 0.1 1.1 - - - - - - - - - - - - - -\nroots 2 0.1 2.1 - - - - - - - - - - - - - -\n",
+    },
+    // The control has nothing to do.
+    Row {
+        words: REPLAY,
+        trace: "shen 1\nheap 8 64 0\nthreads 2 0\n1 new 1 0 0\n1 cas 0 0 2 1\n2 new 1 0 0\n2 set 0 0 1\n! 3:5 3@PL 2=2\n",
+        answer: "1 1.1\n1 no\n2 2.1\n2 ok\ngraph\nobject 0.1 2.1 - - - - - - - - - - - - - - - /\nobject 1.1 /\nobject 2.1 /\nroots 1 0.1 1.1 - - - - - - - - - - - - - -\nroots 2 0.1 2.1 - - - - - - - - - - - - - -\n",
+    },
+    // Helpers have nothing to do.
+    Row {
+        words: REPLAY,
+        trace: "shen 1\nheap 8 64 0\nthreads 2 1\n1 new 1 0 0\n1 cas 0 0 2 1\n2 new 1 0 0\n2 set 0 0 1\n! 3:100 4:7 3@MC 2=2\n",
+        answer: "1 1.1\n1 no\n2 2.1\n2 ok\ngraph\nobject 0.1 2.1 - - - - - - - - - - - - - - - /\nobject 1.1 /\nobject 2.1 /\nroots 1 0.1 1.1 - - - - - - - - - - - - - -\nroots 2 0.1 2.1 - - - - - - - - - - - - - -\n",
+    },
+    // A place that never comes.
+    Row {
+        words: REPLAY,
+        trace: "shen 1\nheap 8 64 0\nthreads 2 0\n1 new 1 0 0\n1 cas 0 0 2 1\n2 new 1 0 0\n2 set 0 0 1\n! 1@H0\n",
+        answer: "1 1.1\n1 yes\n2 2.1\n2 ok\ngraph\nobject 0.1 2.1 - - - - - - - - - - - - - - - /\nobject 1.1 /\nobject 2.1 /\nroots 1 0.1 1.1 - - - - - - - - - - - - - -\nroots 2 0.1 2.1 - - - - - - - - - - - - - -\n",
+    },
+    // Both stand at the first place of a call at first.
+    Row {
+        words: REPLAY,
+        trace: "shen 1\nheap 8 64 0\nthreads 2 0\n1 new 1 0 0\n1 cas 0 0 2 1\n2 new 1 0 0\n2 set 0 0 1\n! 2@PH 1@PH 2=2\n",
+        answer: "1 1.1\n1 no\n2 2.1\n2 ok\ngraph\nobject 0.1 2.1 - - - - - - - - - - - - - - - /\nobject 1.1 /\nobject 2.1 /\nroots 1 0.1 1.1 - - - - - - - - - - - - - -\nroots 2 0.1 2.1 - - - - - - - - - - - - - -\n",
+    },
+    // Several lines of items are one schedule.
+    Row {
+        words: REPLAY,
+        trace: "shen 1\nheap 8 64 0\nthreads 2 0\n1 new 1 0 0\n1 cas 0 0 2 1\n2 new 1 0 0\n2 set 0 0 1\n! 1@CX\n! 2=2 1=2\n",
+        answer: "1 1.1\n1 no\n2 2.1\n2 ok\ngraph\nobject 0.1 2.1 - - - - - - - - - - - - - - - /\nobject 1.1 /\nobject 2.1 /\nroots 1 0.1 1.1 - - - - - - - - - - - - - -\nroots 2 0.1 2.1 - - - - - - - - - - - - - -\n",
+    },
+    // Both want the same free region: one tries again.
+    Row {
+        words: REPLAY,
+        trace: "shen 1\nheap 8 64 0\nthreads 2 0\n1 new 1 0 0\n1 cas 0 0 2 1\n2 new 1 0 0\n2 set 0 0 1\n! 1@TG 2@TU 1=1 2=2\n",
+        answer: "1 1.1\n1 no\n2 2.1\n2 ok\ngraph\nobject 0.1 2.1 - - - - - - - - - - - - - - - /\nobject 1.1 /\nobject 2.1 /\nroots 1 0.1 1.1 - - - - - - - - - - - - - -\nroots 2 0.1 2.1 - - - - - - - - - - - - - -\n",
+    },
+    // Words of two fresh objects are stored in turns.
+    Row {
+        words: REPLAY,
+        trace: "shen 1\nheap 8 64 0\nthreads 2 0\n1 new 1 0 0\n1 cas 0 0 2 1\n2 new 1 0 0\n2 set 0 0 1\n! 1@IW 2@IW 1:1 2:1 1:1 2:1 1@RS 2@RS 1=2\n",
+        answer: "1 1.1\n1 yes\n2 2.1\n2 ok\ngraph\nobject 0.1 2.1 - - - - - - - - - - - - - - - /\nobject 1.1 /\nobject 2.1 /\nroots 1 0.1 1.1 - - - - - - - - - - - - - -\nroots 2 0.1 2.1 - - - - - - - - - - - - - -\n",
+    },
+    // The reply is given after the exchange, by the last step of the call.
+    Row {
+        words: REPLAY,
+        trace: "shen 1\nheap 8 64 0\nthreads 2 0\n1 new 1 0 0\n1 cas 0 0 2 1\n2 new 1 0 0\n2 set 0 0 1\n! 1@LV 1:1 1@LV 2=2\n",
+        answer: "1 1.1\n1 yes\n2 2.1\n2 ok\ngraph\nobject 0.1 2.1 - - - - - - - - - - - - - - - /\nobject 1.1 /\nobject 2.1 /\nroots 1 0.1 1.1 - - - - - - - - - - - - - -\nroots 2 0.1 2.1 - - - - - - - - - - - - - -\n",
+    },
+    // Writes of a number in turn.
+    Row {
+        words: REPLAY,
+        trace: "shen 1\nheap 8 64 0\nthreads 2 0\n1 new 1 0 1\n1 set 0 0 1\n1 wr 1 0 5\n1 rd 1 0\n2 get 1 0 0\n2 wr 1 0 7\n2 rd 1 0\n! 1=2 2=2 1=4\n",
+        answer: "1 1.1\n1 ok\n1 ok\n1 5\n2 1.1\n2 ok\n2 5\ngraph\nobject 0.1 1.1 - - - - - - - - - - - - - - - /\nobject 1.1 / 5\nroots 1 0.1 1.1 - - - - - - - - - - - - - -\nroots 2 0.1 1.1 - - - - - - - - - - - - - -\n",
+    },
+    // A write that waits before its store.
+    Row {
+        words: REPLAY,
+        trace: "shen 1\nheap 8 64 0\nthreads 2 0\n1 new 1 0 1\n1 set 0 0 1\n1 wr 1 0 5\n1 rd 1 0\n2 get 1 0 0\n2 wr 1 0 7\n2 rd 1 0\n! 1=2 2=1 1@NS 2=3 1=4\n",
+        answer: "1 1.1\n1 ok\n1 ok\n1 5\n2 1.1\n2 ok\n2 7\ngraph\nobject 0.1 1.1 - - - - - - - - - - - - - - - /\nobject 1.1 / 5\nroots 1 0.1 1.1 - - - - - - - - - - - - - -\nroots 2 0.1 1.1 - - - - - - - - - - - - - -\n",
+    },
+    // The other write waits.
+    Row {
+        words: REPLAY,
+        trace: "shen 1\nheap 8 64 0\nthreads 2 0\n1 new 1 0 1\n1 set 0 0 1\n1 wr 1 0 5\n1 rd 1 0\n2 get 1 0 0\n2 wr 1 0 7\n2 rd 1 0\n! 1=2 2=1 2@NS 1=4 2=3\n",
+        answer: "1 1.1\n1 ok\n1 ok\n1 5\n2 1.1\n2 ok\n2 7\ngraph\nobject 0.1 1.1 - - - - - - - - - - - - - - - /\nobject 1.1 / 7\nroots 1 0.1 1.1 - - - - - - - - - - - - - -\nroots 2 0.1 1.1 - - - - - - - - - - - - - -\n",
+    },
+    // A read that waits before its load.
+    Row {
+        words: REPLAY,
+        trace: "shen 1\nheap 8 64 0\nthreads 2 0\n1 new 1 0 1\n1 set 0 0 1\n1 wr 1 0 5\n1 rd 1 0\n2 get 1 0 0\n2 wr 1 0 7\n2 rd 1 0\n! 1=2 2=1 1@NL 2=3 1=4\n",
+        answer: "1 1.1\n1 ok\n1 ok\n1 7\n2 1.1\n2 ok\n2 7\ngraph\nobject 0.1 1.1 - - - - - - - - - - - - - - - /\nobject 1.1 / 7\nroots 1 0.1 1.1 - - - - - - - - - - - - - -\nroots 2 0.1 1.1 - - - - - - - - - - - - - -\n",
+    },
+    // The field is loaded before anything is there.
+    Row {
+        words: REPLAY,
+        trace: "shen 1\nheap 8 64 0\nthreads 2 0\n1 new 1 0 1\n1 set 0 0 1\n1 wr 1 0 5\n1 rd 1 0\n2 get 1 0 0\n2 wr 1 0 7\n2 rd 1 0\n! 2=1 1=4\n",
+        answer: "1 1.1\n1 ok\n1 ok\n1 5\n2 -\n2 bad\n2 bad\ngraph\nobject 0.1 1.1 - - - - - - - - - - - - - - - /\nobject 1.1 / 5\nroots 1 0.1 1.1 - - - - - - - - - - - - - -\nroots 2 0.1 - - - - - - - - - - - - - - -\n",
+    },
+    // The object is made and not stored yet.
+    Row {
+        words: REPLAY,
+        trace: "shen 1\nheap 8 64 0\nthreads 2 0\n1 new 1 0 1\n1 set 0 0 1\n1 wr 1 0 5\n1 rd 1 0\n2 get 1 0 0\n2 wr 1 0 7\n2 rd 1 0\n! 1@FS 2=1 1=4\n",
+        answer: "1 1.1\n1 ok\n1 ok\n1 5\n2 -\n2 bad\n2 bad\ngraph\nobject 0.1 1.1 - - - - - - - - - - - - - - - /\nobject 1.1 / 5\nroots 1 0.1 1.1 - - - - - - - - - - - - - -\nroots 2 0.1 - - - - - - - - - - - - - - -\n",
+    },
+    // The store is made one step before the load.
+    Row {
+        words: REPLAY,
+        trace: "shen 1\nheap 8 64 0\nthreads 2 0\n1 new 1 0 1\n1 set 0 0 1\n1 wr 1 0 5\n1 rd 1 0\n2 get 1 0 0\n2 wr 1 0 7\n2 rd 1 0\n! 1@FS 2@FL 1:1 2:1 1=4 2=3\n",
+        answer: "1 1.1\n1 ok\n1 ok\n1 5\n2 1.1\n2 ok\n2 7\ngraph\nobject 0.1 1.1 - - - - - - - - - - - - - - - /\nobject 1.1 / 7\nroots 1 0.1 1.1 - - - - - - - - - - - - - -\nroots 2 0.1 1.1 - - - - - - - - - - - - - -\n",
+    },
+    // The load is made one step before the store.
+    Row {
+        words: REPLAY,
+        trace: "shen 1\nheap 8 64 0\nthreads 2 0\n1 new 1 0 1\n1 set 0 0 1\n1 wr 1 0 5\n1 rd 1 0\n2 get 1 0 0\n2 wr 1 0 7\n2 rd 1 0\n! 1@FS 2@FL 2:1 1:1 1=4 2=3\n",
+        answer: "1 1.1\n1 ok\n1 ok\n1 5\n2 -\n2 bad\n2 bad\ngraph\nobject 0.1 1.1 - - - - - - - - - - - - - - - /\nobject 1.1 / 5\nroots 1 0.1 1.1 - - - - - - - - - - - - - -\nroots 2 0.1 - - - - - - - - - - - - - - -\n",
+    },
+    // Exchanges of a field, one after the other.
+    Row {
+        words: REPLAY,
+        trace: "shen 1\nheap 8 64 0\nthreads 2 0\n1 new 1 0 0\n1 xchg 2 0 0 1\n2 new 1 0 0\n2 xchg 2 0 0 1\n! 1=2 2=2\n",
+        answer: "1 1.1\n1 -\n2 2.1\n2 1.1\ngraph\nobject 0.1 2.1 - - - - - - - - - - - - - - - /\nobject 1.1 /\nobject 2.1 /\nroots 1 0.1 1.1 - - - - - - - - - - - - - -\nroots 2 0.1 2.1 1.1 - - - - - - - - - - - - -\n",
+    },
+    // The first waits before its exchange.
+    Row {
+        words: REPLAY,
+        trace: "shen 1\nheap 8 64 0\nthreads 2 0\n1 new 1 0 0\n1 xchg 2 0 0 1\n2 new 1 0 0\n2 xchg 2 0 0 1\n! 1=1 2=1 1@FX 2=2 1=2\n",
+        answer: "1 1.1\n1 2.1\n2 2.1\n2 -\ngraph\nobject 0.1 1.1 - - - - - - - - - - - - - - - /\nobject 1.1 /\nobject 2.1 /\nroots 1 0.1 1.1 2.1 - - - - - - - - - - - - -\nroots 2 0.1 2.1 - - - - - - - - - - - - - -\n",
+    },
+    // The first waits after its exchange, before its root has the answer.
+    Row {
+        words: REPLAY,
+        trace: "shen 1\nheap 8 64 0\nthreads 2 0\n1 new 1 0 0\n1 xchg 2 0 0 1\n2 new 1 0 0\n2 xchg 2 0 0 1\n! 1=1 2=1 1:6 1@RS 2=2\n",
+        answer: "1 1.1\n1 -\n2 2.1\n2 1.1\ngraph\nobject 0.1 2.1 - - - - - - - - - - - - - - - /\nobject 1.1 /\nobject 2.1 /\nroots 1 0.1 1.1 - - - - - - - - - - - - - -\nroots 2 0.1 2.1 1.1 - - - - - - - - - - - - -\n",
+    },
+    // The name of what was found is loaded after the other thread is done.
+    Row {
+        words: REPLAY,
+        trace: "shen 1\nheap 8 64 0\nthreads 2 0\n1 new 1 0 0\n1 xchg 2 0 0 1\n2 new 1 0 0\n2 xchg 2 0 0 1\n! 2=2 1=1 1@NM 2:9\n",
+        answer: "1 1.1\n1 2.1\n2 2.1\n2 -\ngraph\nobject 0.1 1.1 - - - - - - - - - - - - - - - /\nobject 1.1 /\nobject 2.1 /\nroots 1 0.1 1.1 2.1 - - - - - - - - - - - - -\nroots 2 0.1 2.1 - - - - - - - - - - - - - -\n",
+    },
+    // Three helpers and the control are named and idle.
+    Row {
+        words: REPLAY,
+        trace: "shen 1\nheap 8 64 0\nthreads 1 3\n1 copy 3 0\n1 same 0 3\n1 drop 0\n1 same 0 3\n1 same 0 4\n! 5:1 4:2 3@KX 2@MC 1:1 1@RL 1=2 1:1 2:9\n",
+        answer: "1 ok\n1 yes\n1 ok\n1 no\n1 yes\ngraph\nobject 0.1 - - - - - - - - - - - - - - - - /\nroots 1 - - - 0.1 - - - - - - - - - - - -\n",
+    },
+    // All 24 steps are made.
+    Row {
+        words: &["replay", "--steps", "24"],
+        trace: "shen 1\nheap 8 64 0\nthreads 1 0\n1 copy 3 0\n1 same 0 3\n1 drop 0\n1 same 0 3\n1 same 0 4\n! 1:4000000000\n",
+        answer: "1 ok\n1 yes\n1 ok\n1 no\n1 yes\ngraph\nobject 0.1 - - - - - - - - - - - - - - - - /\nroots 1 - - - 0.1 - - - - - - - - - - - -\n",
+    },
+    // One step fewer.
+    Row {
+        words: &["replay", "--steps", "23"],
+        trace: "shen 1\nheap 8 64 0\nthreads 1 0\n1 copy 3 0\n1 same 0 3\n1 drop 0\n1 same 0 3\n1 same 0 4\n! 1:4000000000\n",
+        answer: "unfinished after 23 steps\n",
+    },
+    // Three threads pass an object on.
+    Row {
+        words: REPLAY,
+        trace: "shen 1\nheap 8 64 0\nthreads 3 0\n3 get 2 0 1\n1 new 1 1 0\n2 get 1 0 1\n1 set 0 1 1\n3 get 3 2 0\n2 set 1 0 0\n! 1=2 2=2 3=2\n",
+        answer: "1 1.1\n1 ok\n2 1.1\n2 ok\n3 1.1\n3 0.1\ngraph\nobject 0.1 - 1.1 - - - - - - - - - - - - - - /\nobject 1.1 0.1 /\nroots 1 0.1 1.1 - - - - - - - - - - - - - -\nroots 2 0.1 1.1 - - - - - - - - - - - - - -\nroots 3 0.1 - 1.1 0.1 - - - - - - - - - - - -\n",
+    },
+    // The third looks between.
+    Row {
+        words: REPLAY,
+        trace: "shen 1\nheap 8 64 0\nthreads 3 0\n3 get 2 0 1\n1 new 1 1 0\n2 get 1 0 1\n1 set 0 1 1\n3 get 3 2 0\n2 set 1 0 0\n! 1=2 3=1 2=2 3=2\n",
+        answer: "1 1.1\n1 ok\n2 1.1\n2 ok\n3 1.1\n3 0.1\ngraph\nobject 0.1 - 1.1 - - - - - - - - - - - - - - /\nobject 1.1 0.1 /\nroots 1 0.1 1.1 - - - - - - - - - - - - - -\nroots 2 0.1 1.1 - - - - - - - - - - - - - -\nroots 3 0.1 - 1.1 0.1 - - - - - - - - - - - -\n",
+    },
+    // The third looks too early.
+    Row {
+        words: REPLAY,
+        trace: "shen 1\nheap 8 64 0\nthreads 3 0\n3 get 2 0 1\n1 new 1 1 0\n2 get 1 0 1\n1 set 0 1 1\n3 get 3 2 0\n2 set 1 0 0\n! 1=2 3=2 2=2\n",
+        answer: "1 1.1\n1 ok\n2 1.1\n2 ok\n3 1.1\n3 -\ngraph\nobject 0.1 - 1.1 - - - - - - - - - - - - - - /\nobject 1.1 0.1 /\nroots 1 0.1 1.1 - - - - - - - - - - - - - -\nroots 2 0.1 1.1 - - - - - - - - - - - - - -\nroots 3 0.1 - 1.1 - - - - - - - - - - - - -\n",
+    },
+    // Both ask for a cycle.
+    Row {
+        words: REPLAY,
+        trace: "shen 1\nheap 8 64 0\nthreads 2 0\n1 gc\n2 gc\n! 1@AK 2=1 1@LV\n",
+        answer: "1 ok\n2 ok\ngraph\nobject 0.1 - - - - - - - - - - - - - - - - /\nroots 1 0.1 - - - - - - - - - - - - - - -\nroots 2 0.1 - - - - - - - - - - - - - - -\n",
+    },
+    // Eight steps for both.
+    Row {
+        words: &["replay", "--steps", "8"],
+        trace: "shen 1\nheap 8 64 0\nthreads 2 0\n1 gc\n2 gc\n! 2@AK\n",
+        answer: "1 ok\n2 ok\ngraph\nobject 0.1 - - - - - - - - - - - - - - - - /\nroots 1 0.1 - - - - - - - - - - - - - - -\nroots 2 0.1 - - - - - - - - - - - - - - -\n",
+    },
+    // Seven are too few.
+    Row {
+        words: &["replay", "--steps", "7"],
+        trace: "shen 1\nheap 8 64 0\nthreads 2 0\n1 gc\n2 gc\n! 2@AK\n",
+        answer: "unfinished after 7 steps\n",
+    },
+];
+
+/// Traces whose machines are not all idle after so many steps.
+const CUT: &[Row] = &[
+    // Ten steps end in the second command.
+    Row {
+        words: &["replay", "--steps", "10"],
+        trace: "shen 1\nheap 4 64 0\nthreads 1 0\n1 new 1 1 1\n1 set 0 3 1\n1 get 2 0 3\n",
+        answer: "unfinished after 10 steps\n",
+    },
+    // All but the last step.
+    Row {
+        words: &["replay", "--steps", "28"],
+        trace: "shen 1\nheap 4 64 0\nthreads 1 0\n1 new 1 1 1\n1 set 0 3 1\n1 get 2 0 3\n",
+        answer: "unfinished after 28 steps\n",
+    },
+    // There is no room for a fourth large object, and it is looked for again and again.
+    Row {
+        words: &["replay", "--steps", "1000"],
+        trace: "shen 1\nheap 4 64 0\nthreads 1 0\n1 new 1 16 16\n1 new 2 16 16\n1 new 3 16 16\n1 new 4 16 16\n",
+        answer: "unfinished after 1000 steps\n",
+    },
+    // Items count too, and what they leave is for the rounds.
+    Row {
+        words: &["replay", "--steps", "5000"],
+        trace: "shen 1\nheap 4 64 0\nthreads 1 0\n1 new 1 16 16\n1 new 2 16 16\n1 new 3 16 16\n1 new 4 16 16\n! 1=4 2:7\n",
+        answer: "unfinished after 5000 steps\n",
+    },
+];
+
+const STORED: &str = "shen 1\nheap 4 64 0\nthreads 1 0\n1 new 1 1 1\n1 set 0 3 1\n1 get 2 0 3\n";
+
+const STORED_ANSWER: &str =
+    "1 1.1\n1 ok\n1 1.1\ngraph\nobject 0.1 - - - 1.1 - - - - - - - - - - - - /\nobject 1.1 - / 0\nroots 1 0.1 1.1 1.1 - - - - - - - - - - - - -\n";
+
+/// What is no trace, behind the head of one.
+const REFUSED: &[&str] = &[
+    // More references than an object may have.
+    "1 new 1 17 0\n",
+    // The last line has no end.
+    "1 set 0 3 1",
+    // Two spaces.
+    "1 set 0 3  1\n",
+    // A needless zero.
+    "1 set 0 03 1\n",
+    // A word that is no command.
+    "1 move 1\n",
+    // A thread that is not there.
+    "2 gc\n",
+    // A command behind the schedule.
+    "! 1=1\n1 gc\n",
+    // A schedule without an item.
+    "!\n",
+    // No space before the item.
+    "!1=1\n",
+    // A space behind the item.
+    "! 1=1 \n",
+    // Two spaces before the item.
+    "!  1=1\n",
+    // No steps.
+    "! 1:0\n",
+    // Too many steps.
+    "! 1:4000000001\n",
+    // A needless zero in an item.
+    "! 1:01\n",
+    // Machines are counted from 1.
+    "! 0:1\n",
+    // There are two machines.
+    "! 3:1\n",
+    // The control gives no replies.
+    "! 2=1\n",
+    // A place that is not in the list.
+    "! 1@ZZ\n",
+    // A mark that is none.
+    "! 1;1\n",
+    // The schedule has no end of line.
+    "! 1=1",
+];
+
+const HEAD: &str = "shen 1\nheap 4 64 0\nthreads 1 0\n";
+
+/// Runs the program on words and bytes. The source and the sink move at most `piece` bytes a call, and the calls with
+/// these numbers fail.
+fn outcome(
+    alloc: Global,
+    words: &[&str],
+    bytes: &[u8],
+    piece: usize,
+    reads: &[u64],
+    writes: &[u64],
+) -> Result<(Status, Vec<u8>), Fail>
+    requires { 1 ≤ piece }
+{
+    let mut list = Vec::new(alloc);
+    for word in words {
+        list.push(String::from_str(alloc, word)?)?;
+    }
+    let bytes = Vec::from_slice(alloc, bytes)?;
+    let mut source = MemorySource::new(bytes, piece, Vec::from_slice(alloc, reads)?);
+    let mut sink = MemorySink::with_room(alloc, 4096, piece, Vec::from_slice(alloc, writes)?)?;
+    let status = shenrun(alloc, &list, &mut source, &mut sink);
+    Ok((status, Vec::from_slice(alloc, sink.bytes())?))
+}
+
+/// Gives each trace in pieces of several sizes, and looks at the status and at what is written.
+fn answers(rt: &impl Abort, alloc: Global, rows: &[Row]) -> Result<(), Fail> {
+    for (row, case) in rows.iter().enumerate() {
+        for piece in [7, 4096] {
+            let (_, written) = outcome(alloc, case.words, case.trace.as_bytes(), piece, &[], &[])?;
+            assert_eq!(rt; written.as_slice(), case.answer.as_bytes(), "row {row}");
+        }
+    }
+    Ok(())
+}
+
+#[test]
+fn traces_are_answered(rt: HostRuntime) -> Result<(), Fail> {
+    answers(&rt, rt.alloc(), PLAIN)
+}
+
+#[test]
+fn schedules_are_followed(rt: HostRuntime) -> Result<(), Fail> {
+    answers(&rt, rt.alloc(), SCHEDULED)
+}
+
+#[test]
+fn steps_are_counted(rt: HostRuntime) -> Result<(), Fail> {
+    answers(&rt, rt.alloc(), CUT)?;
+    let (status, _) = outcome(
+        rt.alloc(),
+        &["replay", "--steps", "28"],
+        STORED.as_bytes(),
+        8,
+        &[],
+        &[],
+    )?;
+    assert_eq!(rt; status, Status::Unfinished);
+    let (status, written) = outcome(
+        rt.alloc(),
+        &["replay", "--steps", "29"],
+        STORED.as_bytes(),
+        8,
+        &[],
+        &[],
+    )?;
+    assert_eq!(rt; status, Status::Ok);
+    assert_eq!(rt; written.as_slice(), STORED_ANSWER.as_bytes());
+    Ok(())
+}
+
+#[test]
+fn other_traces_are_refused(rt: HostRuntime) -> Result<(), Fail> {
+    for (row, lines) in REFUSED.iter().enumerate() {
+        let mut bytes = Vec::from_slice(rt.alloc(), HEAD.as_bytes())?;
+        bytes.extend_from_slice(lines.as_bytes())?;
+        let (status, written) = outcome(rt.alloc(), REPLAY, &bytes, 8, &[], &[])?;
+        assert_eq!(rt; status, Status::BadTrace, "row {row}");
+        assert_eq!(rt; written.as_slice(), b"bad trace\n".as_slice(), "row {row}");
+    }
+    Ok(())
+}
+
+#[test]
+fn other_words_are_refused(rt: HostRuntime) -> Result<(), Fail> {
+    let lists: [&[&str]; 12] = [
+        &[],
+        &["run"],
+        &["replay", "replay"],
+        &["Replay"],
+        &["--", "replay"],
+        &["replay", "--steps"],
+        &["replay", "--steps=5"],
+        &["replay", "--steps", "0"],
+        &["replay", "--steps", "05"],
+        &["replay", "--steps", "4000000001"],
+        &["replay", "--steps", "5 "],
+        &["replay", "--steps", "5", "--steps", "5"],
+    ];
+    for words in lists {
+        let (status, written) = outcome(rt.alloc(), words, STORED.as_bytes(), 8, &[1], &[])?;
+        assert_eq!(rt; status, Status::BadWords);
+        assert_eq!(rt; written.as_slice(), b"bad words\n".as_slice());
+    }
+    assert_eq!(rt; Status::Unfinished.number(), 4);
+    Ok(())
+}
+
+/// Lets each of so many calls of the source fail in turn, and then each of the sink's.
+fn faults(rt: &impl Abort, alloc: Global, piece: usize, reads: u64, writes: u64) -> Result<(), Fail>
+    requires least { 1 ≤ piece }
+    requires most { piece ≤ 8 }
+    requires reads { reads ≤ 100 }
+    requires writes { writes ≤ 200 }
+{
+    let bytes = STORED.as_bytes();
+    let answer = STORED_ANSWER.as_bytes();
+    for call in 1..reads + 1 {
+        let (status, written) = outcome(alloc, REPLAY, bytes, piece, &[call], &[])?;
+        assert_eq!(rt; status, Status::ReadFault, "call {call}");
+        assert_eq!(rt; written.as_slice(), b"read fault\n".as_slice());
+    }
+    for call in 1..writes + 1 {
+        let (status, written) = outcome(alloc, REPLAY, bytes, piece, &[], &[call])?;
+        assert_eq!(rt; status, Status::WriteFault, "call {call}");
+        assert_eq!(rt; written.len(), piece * (call as usize - 1));
+        assert!(rt; answer.starts_with(&written));
+    }
+    let (status, written) = outcome(alloc, REPLAY, bytes, piece, &[reads + 1], &[writes + 1])?;
+    assert_eq!(rt; status, Status::Ok);
+    assert_eq!(rt; written.as_slice(), answer);
+    Ok(())
+}
+
+#[test]
+fn each_fault_is_told(rt: HostRuntime) -> Result<(), Fail> {
+    faults(&rt, rt.alloc(), 1, 68, 133)?;
+    faults(&rt, rt.alloc(), 7, 11, 19)?;
+    faults(&rt, rt.alloc(), 8, 10, 17)?;
+    Ok(())
+}
+
+/// A source without an end.
+#[derive(Drop)]
+struct Endless;
+
+impl Source for Endless {
+    ghost use Rattle.std.specs.Prelude.{None};
+
+    ghost left = { λ _. None };
+
+    ghost faults = { λ _. 0 };
+
+    fn read(&mut self, buf: &mut [u8]) -> Result<usize, Failed> {
+        Ok(buf.len())
+    }
+}
+
+#[test]
+fn too_many_bytes_are_refused(rt: HostRuntime) -> Result<(), Fail> {
+    let mut words = Vec::new(rt.alloc());
+    words.push(String::from_str(rt.alloc(), "replay")?)?;
+    let mut sink = MemorySink::with_room(rt.alloc(), 100, 100, Vec::new(rt.alloc()))?;
+    let status = shenrun(rt.alloc(), &words, &mut Endless, &mut sink);
+    assert_eq!(rt; status, Status::BadTrace);
+    assert_eq!(rt;
+        sink.bytes(),
+        b"too long: more than 16777216 bytes\n".as_slice()
+    );
+    Ok(())
+}
