@@ -1,18 +1,22 @@
 -- No event answers that the heap is full.
-use Rattle.std.proofs.Common.{◌≡◌, ◌≢◌, ℕ, Bool, true, false, List, [], ◌∷◌, ◌++◌, All, Option, Some, None, ap, refl}
-use Rattle.std.specs.Prelude.{slice_get, if◌then◌else◌}
+use Rattle.std.proofs.Common.{◌≡◌, ◌≢◌, ℕ, ◌+◌, Bool, true, false, List, [], ◌∷◌, ◌++◌, All, Option, Some, None, ap, refl}
+use Rattle.std.specs.Prelude.{◌==◌, slice_get, if◌then◌else◌}
+use Rattle.std.proofs.lemmas.Option.{same_Some}
 use Rattle.std.proofs.lemmas.List.Elements.{All-nil, All-cons, All-append}
 use Rattle.heap_words.specs.declared.config.Config.{Config}
-use Rattle.heap_words.specs.Words.{Word, view}
+use Rattle.heap_words.specs.Words.{Word, Root, Heap, view}
 use Rattle.steps_base.specs.Steps.{Stage, Event, act}
 use Rattle.shen_graph.specs.declared.command.Command.{Command}
 use Rattle.shen_graph.specs.declared.command.Reply.{Reply}
-use Rattle.shen_graph.specs.declared.command.Reply.TheVariants.{Full}
+use Rattle.shen_graph.specs.declared.command.Reply.TheVariants.{Ref, Null, Yes, No, Bad, Full}
+use Rattle.shen_graph.specs.declared.command.Command.TheVariants.{Same}
+use Rattle.shen_graph.specs.Step.{yes_or_no}
 use Rattle.shen_graph.specs.History.{Entry, IsWithoutFull}
 use Rattle.mutator.specs.declared.spot.Order.{Order}
 use Rattle.mutator.specs.declared.spot.Spot.{Spot}
-use Rattle.mutator.specs.declared.spot.Spot.TheVariants.{AskCycle}
-use Rattle.mutator.specs.Told.{told_at}
+use Rattle.mutator.specs.declared.spot.Spot.TheVariants.{LoadRoot, LoadSecond, LoadShape, LoadField, LoadExpected, StoreField, SwapField, ExchangeField, LoadNumber, StoreNumber, StoreRoot, StoreFresh, AskCycle}
+use Rattle.mutator.specs.Rows.{root_of, lacks_object, has_part, name_in}
+use Rattle.mutator.specs.Told.{name_of_object, name_the_same, shown_word, told_second, told_at}
 use Rattle.step_core.specs.Actor.{Machine, mutating, helping, controlling, Actor, entries_of, command_by, takes_of, kind}
 use Rattle.step_core.specs.History.{told_by, told_of_machine, told, history}
 use Rattle.step_core.specs.Follows.{past}
@@ -21,17 +25,55 @@ use Rattle.step_core.specs.Opening.{opening}
 abbrev IsNotFull : Entry → Type 0
 IsNotFull e = e.reply ≢ Full
 
+some_same : (a b : Reply) → ◌≡◌ {A = Option Reply} (Some a) (Some b) → a ≡ b
+some_same a b e = same_Some a b e
+
+shown_not_full : (memory : Word → ℕ) (value : ℕ) → shown_word memory value ≢ Full
+shown_not_full memory value = by_null (value == 0)
+  where
+    by_null : (b : Bool) → (if b then Null else Ref (name_in (name_of_object memory value))) ≢ Full
+    by_null true e = absurd cc
+    by_null false e = absurd cc
+
+second_not_full : (memory : Word → ℕ) (command : Command) (first second : ℕ) → told_second memory command first second ≢ Some Full
+second_not_full memory (Same a b) first second = by_same (name_the_same memory first second)
+  where
+    by_same : (b : Bool) → Some (yes_or_no b) ≢ Some Full
+    by_same true e = absurd cc
+    by_same false e = absurd cc
+second_not_full memory _ first second = λ e. absurd cc
+
+if_then : (b : Bool) (r : Reply) → r ≢ Full → (if b then Some r else None) ≢ Some Full
+if_then true r not e = not (some_same r Full e)
+if_then false r not e = absurd cc
+
+if_else : (b : Bool) (r : Reply) → r ≢ Full → (if b then None else Some r) ≢ Some Full
+if_else true r not e = absurd cc
+if_else false r not e = not (some_same r Full e)
+
 -- what an access settles is no Full
-told_not_full : (memory : Word → ℕ) (spot : Spot) → told_at memory spot ≢ Some Full
-told_not_full memory AskCycle e = absurd cc
-told_not_full memory _ e = absurd cc
+told_not_full : (memory : Word → ℕ) (seat made : ℕ) (spot : Spot) → told_at memory seat made spot ≢ Some Full
+told_not_full memory seat made (LoadRoot command) = if_then (lacks_object command (memory (Root seat (root_of command 0)))) Bad (λ h. absurd cc)
+told_not_full memory seat made (LoadSecond command first) = second_not_full memory command first (memory (Root seat (root_of command 1)))
+told_not_full memory seat made (LoadShape command object second third) = if_else (has_part command (memory (Heap (object + 1)))) Bad (λ h. absurd cc)
+told_not_full memory seat made (LoadField object field dst) = λ e. shown_not_full memory (memory (Heap (object + 3 + field))) (some_same _ Full e)
+told_not_full memory seat made (LoadExpected object field expect value) = if_else (name_the_same memory (memory (Heap (object + 3 + field))) expect) No (λ h. absurd cc)
+told_not_full memory seat made (StoreField object field value) = λ e. absurd cc
+told_not_full memory seat made (SwapField object field value dst) = λ e. shown_not_full memory (memory (Heap (object + 3 + field))) (some_same _ Full e)
+told_not_full memory seat made (ExchangeField object field found expect value) = if_then (memory (Heap (object + 3 + field)) == found) Yes (λ h. absurd cc)
+told_not_full memory seat made (LoadNumber object refs index) = λ e. absurd cc
+told_not_full memory seat made (StoreNumber object refs index value) = λ e. absurd cc
+told_not_full memory seat made (StoreRoot dst value) = λ e. absurd cc
+told_not_full memory seat made (StoreFresh dst refs nums address) = λ e. absurd cc
+told_not_full memory seat made AskCycle = λ e. absurd cc
+told_not_full memory seat made _ = λ e. absurd cc
 
 entries_not_full : (seat : ℕ) (command : Command) (o : Option Reply) → o ≢ Some Full → All IsNotFull (entries_of seat command o)
 entries_not_full seat command None not = All-nil IsNotFull
 entries_not_full seat command (Some r) not = All-cons IsNotFull _ [] (λ e. not (ap (λ (x : Reply). Some x) e)) (All-nil IsNotFull)
 
 machine_not_full : (memory : Word → ℕ) (a : Actor) (order : Order) (machine : Machine) → All IsNotFull (told_by memory a order machine)
-machine_not_full memory a order (mutating m) = entries_not_full m.seat (command_by order a.command) _ (told_not_full memory m.spot)
+machine_not_full memory a order (mutating m) = entries_not_full m.seat (command_by order a.command) _ (told_not_full memory m.seat m.made m.spot)
 machine_not_full memory a order helping = All-nil IsNotFull
 machine_not_full memory a order controlling = All-nil IsNotFull
 

@@ -10,14 +10,14 @@ use Rattle.shen_core.specs.declared.plain.Plain.{Plain}
 use Rattle.shen_core.specs.declared.run.Ran.{Ran}
 use Rattle.shen_core.specs.declared.run.Ran.TheVariants.{Finished, Unfinished}
 use Rattle.shen_core.specs.State.{config_of, orders_of, Shows}
-use Rattle.shen_core.specs.Progress.{Jobs, Tells, CanRun, AreServed}
+use Rattle.shen_core.specs.Progress.{Jobs, Tells, CanRun, IsRunnable}
 use Rattle.shen_core.specs.Ending.{HasRun, RunsSchedule}
 use Rattle.shen_core.proofs.Fresh.{can_run_first, tells_first}
 use Rattle.trace_text.specs.Grammar.{Reads}
 use Rattle.shenrun.specs.Replayed.{IsCut, IsUnfinished}
 use Rattle.shenrun.specs.Running.{HasFinished}
 
-pub can_run : (p : Plain) (c : Config) (scripts : Scripts) (jobs : Jobs) → config_of p ≡ c → Shows p (opening c) → All (λ order. order ≡ Nothing) (orders_of p) → length scripts ≡ c.mutators → All AreServed scripts → jobs ≡ work.opened scripts → CanRun p jobs
+pub can_run : (p : Plain) (c : Config) (scripts : Scripts) (jobs : Jobs) → config_of p ≡ c → Shows p (opening c) → All (λ order. order ≡ Nothing) (orders_of p) → length scripts ≡ c.mutators → All IsRunnable scripts → jobs ≡ work.opened scripts → CanRun p jobs
 can_run p c scripts jobs same shows orders count served opened =
     let mutators = ap (λ (d : Config). d.mutators) same in
     subst (CanRun p) (sym opened)

@@ -2,8 +2,9 @@
 use Rattle.std.proofs.Common.{◌≡◌, ℕ, ◌^◌, ◌+◌, ◌<◌, ◌≤◌, Bool, true, false, cond, eqb, List, [], ◌∷◌, ◌++◌, length, get_or, map, All, refl, sym, ap, subst, ◌∙◌, arith}
 use Rattle.std.specs.Prelude.{filter, slice_index_or}
 use Rattle.std.specs.List.{flat_map, AllByRecursion}
+use Rattle.std.specs.Fmt.{decimal}
 use Rattle.std.proofs.lemmas.List.{length-append}
-use Rattle.std.proofs.lemmas.List.Elements.{All-from_recursion, All-from_get_or, All-weaker}
+use Rattle.std.proofs.lemmas.List.Elements.{All-from_recursion, All-from_get_or}
 use Rattle.std.proofs.lemmas.List.FromFn.{get_or-map-range_with_len, length-map-range_with_len}
 use Rattle.shen_graph.specs.declared.command.Command.{Command}
 use Rattle.shen_graph.specs.Valid.{IsValid}
@@ -11,9 +12,8 @@ use Rattle.heap_words.specs.declared.config.Config.{Config}
 use Rattle.heap_words.specs.declared.schedule.Item.{Item}
 use Rattle.heap_words.specs.declared.schedule.Item.TheVariants.{Steps, Until, Replies}
 use Rattle.heap_words.specs.Ranges.{seat_count}
-use Rattle.mutator.specs.Orders.{is_served}
-use Rattle.shen_core.specs.Progress.{IsInSeats, AreServed}
-use Rattle.trace_text.specs.Spelling.{Line, IsLine, IsItem, IsScheduleLine}
+use Rattle.shen_core.specs.Progress.{IsInSeats, IsRunnable}
+use Rattle.trace_text.specs.Spelling.{Line, IsLine, line, space, newline, word_of, numbers, numbers_of, header, IsItem, IsScheduleLine, schedule_line}
 use Rattle.trace_text.specs.Grammar.{Reads, scripts_of, items_of}
 use Rattle.trace_text.specs.Grammar as grammar
 
@@ -39,12 +39,32 @@ valid_scripts bytes c scripts items reads = All-from_get_or (All IsValid) script
     let below : t < c.mutators = omega (arith, within, count_scripts bytes c scripts items reads) in
     subst (All IsValid) (sym (script_at bytes c scripts items t reads below)) (All-from_recursion IsValid _ (valid_lines c.mutators reads.lines (t + 1) reads.in_range)))
 
--- to go: each command will be served
-served : (k : Command) → is_served k ≡ true
-served k = ?
+-- a trace has fewer commands than there are names
+some_bytes : (l : Line) → 1 ≤ length (line l)
+some_bytes l = omega (arith, length-append (decimal l.thread) (space ∷ (word_of l.command ++ (numbers (numbers_of l.command) ++ newline ∷ []))))
 
-pub runnable_scripts : (bytes : List ℕ) (c : Config) (scripts : List (List Command)) (items : List Item) → Reads bytes c scripts items → All AreServed scripts
-runnable_scripts bytes c scripts items reads = All-weaker (All IsValid) AreServed (λ script valid. All-weaker IsValid (λ k. IsValid k × (is_served k ≡ true)) (λ k one. (one, served k)) script valid) scripts (valid_scripts bytes c scripts items reads)
+few_lines : (lines : List Line) → length lines ≤ length (flat_map line lines)
+few_lines [] = omega arith
+few_lines (l ∷ lines) = omega (arith, few_lines lines, some_bytes l, length-append (line l) (flat_map line lines))
+
+short_script : (lines : List Line) (t : ℕ) → length (grammar.script_of lines t) ≤ length lines
+short_script [] t = omega arith
+short_script (l ∷ lines) t = by_thread (eqb l.thread t) (short_script lines t)
+  where
+    by_thread : (own : Bool) → length (grammar.script_of lines t) ≤ length lines → length (map (λ x. x.command) (cond own (l ∷ filter (λ x. eqb x.thread t) lines) (filter (λ x. eqb x.thread t) lines))) ≤ length (l ∷ lines)
+    by_thread true others = omega arith
+    by_thread false others = omega arith
+
+few_commands : (bytes : List ℕ) (c : Config) (scripts : List (List Command)) (items : List Item) (t : ℕ) → Reads bytes c scripts items → t < c.mutators → length (get_or scripts t []) < 4294967295
+few_commands bytes c scripts items t reads below =
+    let script = ap length (script_at bytes c scripts items t reads below) in
+    let lines = flat_map line reads.lines in
+    let turns = flat_map schedule_line reads.turns in
+    omega (arith, script, short_script reads.lines (t + 1), few_lines reads.lines, reads.short, ap length reads.spelled, length-append (header c) (lines ++ turns), length-append lines turns)
+
+pub runnable_scripts : (bytes : List ℕ) (c : Config) (scripts : List (List Command)) (items : List Item) → Reads bytes c scripts items → All IsRunnable scripts
+runnable_scripts bytes c scripts items reads = All-from_get_or IsRunnable scripts [] (λ t within.
+    (valid_scripts bytes c scripts items reads t [] within, few_commands bytes c scripts items t reads (omega (arith, within, count_scripts bytes c scripts items reads))))
 
 -- ---- items
 

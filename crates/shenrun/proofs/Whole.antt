@@ -50,14 +50,14 @@ use Rattle.shenrun.proofs.NoFull.{past_without_full}
 -- ---- the entries of each thread
 
 -- between two calls no reply is settled that is not given
-rest_unsettled : (c : Config) (w : World) (command : Command) (fixed : Option Reply) (spot : Spot) → is_at_rest spot ≡ true → SpotFacts c w command fixed spot → fixed ≡ None
-rest_unsettled c w command fixed Rest rest facts = facts
-rest_unsettled c w command fixed (Ended reply) rest facts = facts
-rest_unsettled c w command fixed _ rest facts = absurd cc
+rest_unsettled : (c : Config) (w : World) (seat made : ℕ) (command : Command) (fixed : Option Reply) (spot : Spot) → is_at_rest spot ≡ true → SpotFacts c w seat made command fixed spot → fixed ≡ None
+rest_unsettled c w seat made command fixed Rest rest facts = facts
+rest_unsettled c w seat made command fixed (Ended reply) rest facts = facts
+rest_unsettled c w seat made command fixed _ rest facts = absurd cc
 
 entries_at_rest : (c : Config) (w : World) (entries : List Entry) (number : ℕ) (a : Actor) (m : Mutating) → IsThread c w entries number a m → is_at_rest m.spot ≡ true → entries ≡ a.calls
 entries_at_rest c w entries number a m thread rest =
-    thread.entries_are ∙ ap (λ (o : Option Reply). a.calls ++ entries_of number a.command o) (rest_unsettled c w a.command thread.fixed m.spot rest thread.mine.facts) ∙ append-nil a.calls
+    thread.entries_are ∙ ap (λ (o : Option Reply). a.calls ++ entries_of number a.command o) (rest_unsettled c w m.seat m.made a.command thread.fixed m.spot rest thread.mine.facts) ∙ append-nil a.calls
 
 -- a mutator that has called its script, in the end
 called_at : (c : Config) (scripts : Scripts) (items : List Item) (limit t : ℕ) → AreIdle c scripts (end_of c scripts items limit) → t < c.mutators → HasCalled scripts (end_of c scripts items limit) t
