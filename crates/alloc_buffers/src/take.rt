@@ -20,9 +20,9 @@ pub struct Take {
 }
 
 impl Take {
-    ghost use Rattle.std.specs.Prelude.{false};
+    ghost use Rattle.std.specs.Prelude.{false, ◌↔◌};
     ghost use Rattle.steps_base.specs.Touch.{placed};
-    ghost use Rattle.alloc_buffers.specs.Rows.{place_at, touch_at, next_at, is_ended, says};
+    ghost use Rattle.alloc_buffers.specs.Rows.{place_at, touch_at, next_at, has_none, is_ended, says};
     ghost use Rattle.alloc_buffers.specs.Seen.{wanted, spot_of, IsFit};
 
     /// A machine of a seat that wants 3 to 35 words.
@@ -65,6 +65,9 @@ impl Take {
         ensures row { let w = wanted self.old in spot_of self.new ≡ next_at w.config w.words w.kind (spot_of self.old) got }
         ensures wanted { wanted self.new ≡ wanted self.old }
         ensures says { result ≡ says (spot_of self.old) (spot_of self.new) }
+
+        // There is no room exactly where the free word that was read has no region that may be taken.
+        ensures no_room { (spot_of self.new ≡ TakeSpot.Ended Taken.NoRoom) ↔ ((spot_of self.old ≡ TakeSpot.LoadFree) × (has_none (wanted self.old).config (wanted self.old).kind got ≡ true)) }
     {
         let before = self.spot;
         self.spot = before.after(self.config, self.seat, self.words, self.kind, got);
