@@ -1,0 +1,88 @@
+#!/usr/bin/env python3
+"""Writes a large trace for `./shenrun replay`.
+
+usage: large_trace.py short|mixed [BYTES] > FILE
+
+`short` has as many commands as the bytes hold: each asks for a cycle. `mixed` has eight threads, all commands and a long
+schedule, and few enough objects for its heap. The trace has at most BYTES bytes, 16777216 if left out.
+"""
+import sys
+
+kind = sys.argv[1] if len(sys.argv) > 1 else "mixed"
+limit = int(sys.argv[2]) if len(sys.argv) > 2 else 16_777_216
+state = 12345
+
+
+def below(n):
+    """A number from 0 to n - 1, the same in each run."""
+    global state
+    state = (state * 6364136223846793005 + 1442695040888963407) % 2**64
+    return (state >> 33) % n
+
+
+def root():
+    return below(16)
+
+
+def target():
+    """A root that may be written: root 0 goes on naming the hub."""
+    return 1 + below(15)
+
+
+def command(words):
+    """The words of a command behind the thread, and the words of the object that it makes."""
+    which = below(40)
+    if which == 0 and words > 35:
+        refs, nums = below(17), below(17)
+        return f"new {target()} {refs} {nums}", 3 + refs + nums
+    if which < 6:
+        return f"get {target()} {root()} {root()}", 0
+    if which < 10:
+        return f"set {root()} {root()} {root()}", 0
+    if which < 14:
+        return f"cas {root()} {root()} {root()} {root()}", 0
+    if which < 17:
+        return f"xchg {target()} {root()} {root()} {root()}", 0
+    if which < 20:
+        return f"rd {root()} {root()}", 0
+    if which < 23:
+        return f"wr {root()} {root()} {below(100)}", 0
+    if which < 26:
+        return f"copy {target()} {root()}", 0
+    if which < 28:
+        return f"same {root()} {root()}", 0
+    if which < 29:
+        return f"drop {8 + below(8)}", 0
+    return "gc", 0
+
+
+def item():
+    if below(2) == 0:
+        return f" {1 + below(12)}:{1 + below(30)}"
+    return f" {1 + below(8)}@" + ["FL", "CX", "LV", "RS", "PH"][below(5)]
+
+
+def short():
+    head = "shen 1\nheap 4 64 0\nthreads 1 0\n"
+    return head + "1 gc\n" * ((limit - len(head)) // 5)
+
+
+def mixed():
+    out = ["shen 1\nheap 64 1024 2\nthreads 8 3\n"]
+    size = len(out[0])
+    words = 50 * 900
+    while size < limit * 39 // 40:
+        text, made = command(words)
+        words -= made
+        out.append(f"{1 + below(8)} {text}\n")
+        size += len(out[-1])
+    while size + 240 < limit:
+        line = "!"
+        while len(line) < 200:
+            line += item()
+        out.append(line + "\n")
+        size += len(out[-1])
+    return "".join(out)
+
+
+sys.stdout.write(short() if kind == "short" else mixed())
