@@ -1,12 +1,12 @@
 -- Where the words ask for a replay, a trace comes and nothing fails, the other statuses cannot be.
-use Rattle.std.proofs.Common.{◌≡◌, ◌⊎◌, inl, inr, ℕ, ◌+◌, ◌≤◌, List, [], ◌++◌, length, Option, Some, None, sym, ap, subst, ◌∙◌, arith}
+use Rattle.std.proofs.Common.{◌≡◌, ◌⊎◌, inl, inr, ℕ, ◌≤◌, List, ◌++◌, length, Option, Some, None, sym, ap, subst, ◌∙◌, arith}
 use Rattle.std.specs.Io.KnownBytes.{Consumes, IsAtEnd}
 use Rattle.std.proofs.lemmas.List.{length-append, append-nil}
 use Rattle.shen_base.specs.Count.{Rose}
 use Rattle.shen_graph.specs.declared.command.Command.{Command}
 use Rattle.heap_words.specs.declared.config.Config.{Config}
 use Rattle.heap_words.specs.declared.schedule.Item.{Item}
-use Rattle.trace_text.specs.Grammar.{most_bytes, Came, Reads}
+use Rattle.trace_text.specs.Grammar.{Came, Reads}
 use Rattle.shenrun.specs.declared.status.Status.{Status}
 use Rattle.shenrun.specs.declared.status.Status.TheVariants.{Ok, BadWords, BadTrace, Unfinished, ReadFault, WriteFault, NoMemory}
 use Rattle.shenrun.specs.Words.{AskReplay}

@@ -1,5 +1,5 @@
 -- A heap that was just opened runs a trace.
-use Rattle.std.proofs.Common.{◌≡◌, ℕ, ◌<◌, ◌≤◌, List, length, All, sym, ap, subst, ◌∙◌, arith}
+use Rattle.std.proofs.Common.{◌≡◌, ℕ, ◌<◌, List, length, All, sym, ap, subst, ◌∙◌, arith}
 use Rattle.heap_words.specs.declared.config.Config.{Config}
 use Rattle.heap_words.specs.declared.schedule.Item.{Item}
 use Rattle.shen_graph.specs.Work as work
@@ -14,7 +14,7 @@ use Rattle.shen_core.specs.Progress.{Jobs, Tells, CanRun, IsRunnable}
 use Rattle.shen_core.specs.Ending.{HasRun, RunsSchedule}
 use Rattle.shen_core.proofs.Fresh.{can_run_first, tells_first}
 use Rattle.trace_text.specs.Grammar.{Reads}
-use Rattle.shenrun.specs.Replayed.{IsCut, IsUnfinished}
+use Rattle.shenrun.specs.Replayed.{IsUnfinished}
 use Rattle.shenrun.specs.Running.{HasFinished}
 
 pub can_run : (p : Plain) (c : Config) (scripts : Scripts) (jobs : Jobs) → config_of p ≡ c → Shows p (opening c) → All (λ order. order ≡ Nothing) (orders_of p) → length scripts ≡ c.mutators → All IsRunnable scripts → jobs ≡ work.opened scripts → CanRun p jobs

@@ -1,6 +1,6 @@
 -- What a trace gives its heap: commands in range, and items that name its machines.
-use Rattle.std.proofs.Common.{◌≡◌, ℕ, ◌^◌, ◌+◌, ◌<◌, ◌≤◌, Bool, true, false, cond, eqb, List, [], ◌∷◌, ◌++◌, length, get_or, map, All, refl, sym, ap, subst, ◌∙◌, arith}
-use Rattle.std.specs.Prelude.{filter, slice_index_or}
+use Rattle.std.proofs.Common.{◌≡◌, ℕ, ◌+◌, ◌<◌, ◌≤◌, Bool, true, false, cond, eqb, List, [], ◌∷◌, ◌++◌, length, get_or, map, All, sym, ap, subst, ◌∙◌, arith}
+use Rattle.std.specs.Prelude.{filter}
 use Rattle.std.specs.List.{flat_map, AllByRecursion}
 use Rattle.std.specs.Fmt.{decimal}
 use Rattle.std.proofs.lemmas.List.{length-append}
@@ -11,7 +11,6 @@ use Rattle.shen_graph.specs.Valid.{IsValid}
 use Rattle.heap_words.specs.declared.config.Config.{Config}
 use Rattle.heap_words.specs.declared.schedule.Item.{Item}
 use Rattle.heap_words.specs.declared.schedule.Item.TheVariants.{Steps, Until, Replies}
-use Rattle.heap_words.specs.Ranges.{seat_count}
 use Rattle.shen_core.specs.Progress.{IsInSeats, IsRunnable}
 use Rattle.trace_text.specs.Spelling.{Line, IsLine, line, space, newline, word_of, numbers, numbers_of, header, IsItem, IsScheduleLine, schedule_line}
 use Rattle.trace_text.specs.Grammar.{Reads, scripts_of, items_of}

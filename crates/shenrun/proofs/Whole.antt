@@ -1,5 +1,5 @@
 -- A trace whose machines are all idle in the end: the history, and the answer.
-use Rattle.std.proofs.Common.{◌≡◌, ◌≢◌, ◌⊎◌, inl, inr, ℕ, zero, suc, ◌+◌, ◌-◌, ◌<◌, ◌≤◌, Bool, true, false, eqb, List, [], ◌∷◌, ◌++◌, length, get_or, map, All, Option, Some, None, refl, sym, ap, ◌∙◌, subst, arith}
+use Rattle.std.proofs.Common.{◌≡◌, ◌⊎◌, inl, inr, ℕ, zero, suc, ◌+◌, ◌-◌, ◌<◌, ◌≤◌, true, false, eqb, List, [], ◌∷◌, ◌++◌, length, get_or, map, All, Option, Some, None, refl, sym, ap, ◌∙◌, subst, arith}
 use Rattle.std.specs.Prelude.{slice_get, slice_index_or}
 use Rattle.std.specs.Option.{option_map}
 use Rattle.std.specs.List.{range_with_len}
@@ -11,7 +11,6 @@ use Rattle.std.proofs.lemmas.List.FromFn.{get_or-map-range_with_len}
 use Rattle.std.proofs.lemmas.Option.{slice_get-map, get_or_from_slice_get}
 use Rattle.heap_words.specs.declared.config.Config.{Config}
 use Rattle.heap_words.specs.declared.schedule.Item.{Item}
-use Rattle.heap_words.specs.Ranges.{seat_count}
 use Rattle.steps_base.specs.Steps.{Stage, Event}
 use Rattle.shen_graph.specs.declared.command.Command.{Command}
 use Rattle.shen_graph.specs.declared.command.Reply.{Reply}
@@ -25,22 +24,22 @@ use Rattle.mutator.specs.declared.spot.Spot.TheVariants.{Rest, Ended}
 use Rattle.mutator.specs.declared.spot.Order.{Order}
 use Rattle.mutator.specs.Orders.{is_at_rest}
 use Rattle.mutator.specs.Rows.{Mutating}
-use Rattle.step_core.specs.Actor.{Machine, mutating, controlling, Actor, entries_of}
+use Rattle.step_core.specs.Actor.{Machine, controlling, Actor, entries_of}
 use Rattle.step_core.specs.World.{World}
 use Rattle.step_core.specs.Stepped.{SpotFacts}
-use Rattle.step_core.specs.Schedule.{Scripts, script_of, agenda_of}
-use Rattle.step_core.specs.Follows.{first_graph, reached, past, Follows, IsThread}
+use Rattle.step_core.specs.Schedule.{Scripts, agenda_of}
+use Rattle.step_core.specs.Follows.{first_graph, reached, past, IsThread}
 use Rattle.step_core.proofs.Theorem.{follows_reached, thread_of, every_list}
 use Rattle.stage_graph.specs.Settled.{IsSettled}
 use Rattle.stage_graph.proofs.Entries.{past_settled}
 use Rattle.heap_graph.specs.Shows as texts
 use Rattle.heap_graph.specs.Rows.{root_rows}
 use Rattle.shen_core.specs.declared.plain.Plain.{Plain}
-use Rattle.shen_core.specs.State.{config_of, machine_at, Shows}
+use Rattle.shen_core.specs.State.{machine_at, Shows}
 use Rattle.shen_core.specs.Answer.{is_resting}
-use Rattle.shen_core.specs.Progress.{Jobs, Tells, AreIdle, AllRest}
+use Rattle.shen_core.specs.Progress.{Jobs, AreIdle, AllRest}
 use Rattle.trace_text.specs.Grammar.{Reads}
-use Rattle.trace_text.specs.Answer.{answer_text, IsAnswerText, row_in}
+use Rattle.trace_text.specs.Answer.{answer_text, row_in}
 use Rattle.trace_text.proofs.AnswerLemmas.{answer_text_same}
 use Rattle.shenrun.specs.Replayed.{events_of, history_of, end_of, IsWhole, IsReplayed}
 use Rattle.shenrun.specs.Running.{HasFinished}

@@ -1,7 +1,6 @@
 -- The two laws of the reader of a command's line.
-use Rattle.std.proofs.Common.{◌≡◌, ℕ, zero, suc, ◌^◌, ◌<◌, ◌≤◌, false, cond, eqb, List, [], ◌∷◌, ◌++◌, length, get_or, take, Option, Some, None, refl, sym, ap, subst, ◌∙◌, append_assoc, lit<, arith}
+use Rattle.std.proofs.Common.{◌≡◌, ℕ, zero, suc, ◌^◌, ◌<◌, ◌≤◌, List, [], ◌∷◌, ◌++◌, length, get_or, take, Option, Some, None, refl, sym, ap, subst, ◌∙◌, append_assoc, lit<, arith}
 use Rattle.std.specs.Fmt.{decimal}
-use Rattle.std.proofs.lemmas.Bool.Decides.{nat_tests}
 use Rattle.std.proofs.lemmas.List.{get_or-take}
 use Rattle.shen_graph.specs.declared.command.Command.{Command}
 use Rattle.shen_graph.specs.declared.command.Command.TheVariants as command
@@ -10,9 +9,9 @@ use Rattle.trace_text.specs.declared.kind.Kind.{Kind}
 use Rattle.trace_text.specs.declared.kind.Kind.TheVariants.{New, Get, Set, Cas, Xchg, Rd, Wr, Copy, Drop, Same, Gc}
 use Rattle.trace_text.specs.Spelling.{Line, IsLine, FitsValue, line, numbers, word_of, numbers_of}
 use Rattle.trace_text.specs.Kinds.{kinds, word, limits, command_from, AreWithin, Suit}
-use Rattle.trace_text.specs.Scanning.{◌>>=◌, behind, found, number_at, positive_at, numbers_at, kind_among, command_at, line_at}
+use Rattle.trace_text.specs.Scanning.{◌>>=◌, behind, found, positive_at, numbers_at, kind_among, command_at, line_at}
 use Rattle.trace_text.specs.Front.{NoDigit}
-use Rattle.trace_text.proofs.Numbers.{AreSmall, bind_some, then_some, not_stopped, same_some, behind_takes, positive_takes, positive_again, numbers_take, numbers_again}
+use Rattle.trace_text.proofs.Numbers.{AreSmall, then_some, same_some, behind_takes, positive_takes, positive_again, numbers_take, numbers_again}
 
 -- ---- kinds
 

@@ -1,5 +1,5 @@
 -- Bytes are read in one way.
-use Rattle.std.proofs.Common.{◌≡◌, ℕ, ◌+◌, ◌-◌, ◌^◌, ◌<◌, ◌≤◌, List, [], ◌∷◌, ◌++◌, get_or, refl, sym, ap, subst, ◌∙◌, append_assoc, lit<, arith}
+use Rattle.std.proofs.Common.{◌≡◌, ℕ, ◌+◌, ◌-◌, ◌^◌, ◌<◌, List, [], ◌∷◌, ◌++◌, get_or, refl, sym, ap, subst, ◌∙◌, append_assoc, lit<, arith}
 use Rattle.std.specs.List.{flat_map, AllByRecursion}
 use Rattle.std.specs.Fmt.{decimal}
 use Rattle.std.proofs.lemmas.List.{append-nil}
@@ -14,15 +14,15 @@ use Rattle.heap_words.specs.Ranges.{seat_count, IsInRange}
 use Rattle.std.proofs.Props.{props}
 use Rattle.heap_words.proofs.Codes.{same_code}
 use Rattle.trace_text.specs.Spelling.{IsUpTo, line, IsLine, number_of, aim, item, spaced_item, items_and_end, schedule_line, IsItem, IsScheduleLine}
-use Rattle.trace_text.specs.Scanning.{positive_at, sizes_at}
+use Rattle.trace_text.specs.Scanning.{sizes_at}
 use Rattle.trace_text.specs.Front.{NoDigit, IsLineEnd, BeginsWith, IsAny, IsItemOf}
 use Rattle.trace_text.specs.Grammar.{items_of, scripts_of, Reads, IsSameTrace}
 use Rattle.trace_text.proofs.Numbers.{positive_again, same_some}
 use Rattle.trace_text.proofs.Header.{sizes_again}
 use Rattle.trace_text.proofs.Traces.{lines_once, turns_behind}
-use Rattle.trace_text.proofs.Pieces.{HasBegun, ArePieces, first_piece}
+use Rattle.trace_text.proofs.Pieces.{ArePieces, first_piece}
 use Rattle.trace_text.proofs.ReadItems.{number_read, steps_read, until_read, replies_read, item_read, seat_of, aim_no_digit}
-use Rattle.trace_text.proofs.ScheduleLines.{IsEmpty, items_are_pieces, lines_are_pieces, with_end, spaced, line_read}
+use Rattle.trace_text.proofs.ScheduleLines.{IsEmpty, items_are_pieces, lines_are_pieces, with_end, spaced}
 
 -- ---- items
 

@@ -1,5 +1,5 @@
 -- The readers of one item of a schedule.
-use Rattle.std.proofs.Common.{◌≡◌, ℕ, ◌+◌, ◌-◌, ◌^◌, ◌<◌, ◌≤◌, List, [], ◌∷◌, ◌++◌, length, true, eqb, get_or, Option, Some, None, MatchOption, refl, sym, ap, subst, ◌∙◌, append_assoc, lit<, arith}
+use Rattle.std.proofs.Common.{◌≡◌, ℕ, ◌+◌, ◌-◌, ◌^◌, ◌<◌, ◌≤◌, List, [], ◌∷◌, ◌++◌, length, true, eqb, Option, Some, None, MatchOption, refl, sym, ap, ◌∙◌, append_assoc, arith}
 use Rattle.std.specs.Fmt.{decimal}
 use Rattle.std.proofs.lemmas.List.{append-nil}
 use Rattle.std.proofs.lemmas.Bool.Decides.{nat_tests}
@@ -9,7 +9,7 @@ use Rattle.heap_words.specs.declared.schedule.Item.{Item}
 use Rattle.heap_words.specs.declared.schedule.Item.TheVariants.{Steps, Until, Replies}
 use Rattle.heap_words.specs.Place.{code_of}
 use Rattle.heap_words.specs.Ranges.{seat_count}
-use Rattle.trace_text.specs.Spelling.{IsUpTo, number_of, aim, item, IsCount, IsItem}
+use Rattle.trace_text.specs.Spelling.{IsUpTo, number_of, aim, item, IsItem}
 use Rattle.trace_text.specs.Scanning.{positive_at}
 use Rattle.trace_text.specs.Front.{NoDigit, BeginsWith, BeginsWithNone, IsAny, IsItemOf}
 use Rattle.trace_text.proofs.Numbers.{positive_takes, positive_again, same_some}

@@ -13,11 +13,10 @@ use Rattle.shen_graph.specs.declared.command.Command.{Command}
 use Rattle.heap_words.specs.declared.config.Config.{Config}
 use Rattle.heap_words.specs.declared.schedule.Item.{Item}
 use Rattle.heap_words.specs.declared.schedule.Item.TheVariants.{Steps, Until, Replies}
-use Rattle.heap_words.specs.Ranges.{seat_count}
 use Rattle.trace_text.specs.Spelling.{Line, IsLine, line, header, IsItem, IsScheduleLine, schedule_line}
 use Rattle.trace_text.specs.Front.{IsBehindCommands}
 use Rattle.trace_text.specs.Scanning.{numeral, number_at, positive_at, line_at, sizes_at}
-use Rattle.trace_text.specs.Grammar.{most_bytes, script_of, scripts_of, with_line, items_of, HasTaken, HasScheduled, Reads}
+use Rattle.trace_text.specs.Grammar.{most_bytes, script_of, scripts_of, with_line, HasTaken, HasScheduled, Reads}
 use Rattle.trace_text.proofs.Numbers.{same_some}
 use Rattle.trace_text.proofs.Lines.{line_again}
 use Rattle.trace_text.proofs.Header.{sizes_again}

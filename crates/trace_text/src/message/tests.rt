@@ -24,7 +24,6 @@ fn each_line_has_its_text(rt: HostRuntime) -> Result<(), Fail> {
     for (line, text) in [
         (Line::BadWords, "bad words\n"),
         (Line::BadTrace, "bad trace\n"),
-        (Line::HeapTooSmall, "heap too small\n"),
         (Line::TooLong, "too long: more than 16777216 bytes\n"),
         (
             Line::Unfinished {

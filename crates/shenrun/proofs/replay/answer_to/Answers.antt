@@ -1,4 +1,3 @@
-use Rattle.std.proofs.Common.{◌≡◌, ℕ}
 use Rattle.shenrun.proofs.Scripts.{count_scripts}
 use Rattle.shenrun.proofs.Whole.{all_rest, replayed}
 use Rattle.shenrun.specs.Replayed.{events_of}

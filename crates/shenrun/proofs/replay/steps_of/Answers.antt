@@ -1,6 +1,5 @@
-use Rattle.std.proofs.Common.{ℕ, List, eqb, inl, refl, sym, ap, ◌∙◌}
-use Rattle.std.specs.Prelude.{codes, MatchOption}
-use Rattle.std.specs.Fmt.{decimal}
+use Rattle.std.proofs.Common.{ℕ, List, eqb, inl, refl, ap, ◌∙◌}
+use Rattle.std.specs.Prelude.{codes}
 use Rattle.std.specs.Cmp.Lexicographic.{pointwise}
 use Rattle.std.specs.String.{string_bytes}
 use Rattle.shenrun.proofs.Words.{one_word, three_words, steps_named}

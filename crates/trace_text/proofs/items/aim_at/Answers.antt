@@ -1,4 +1,4 @@
-use Rattle.std.proofs.Common.{◌∷◌, ap, List, ℕ, ◌∙◌, lit<, arith}
+use Rattle.std.proofs.Common.{◌∷◌, ap, ℕ, ◌∙◌, lit<, arith}
 use Rattle.trace_text.proofs.ReadItems.{number_read, no_number, steps_read, replies_read, no_steps, no_replies}
 use Rattle.trace_text.proofs.items.aim_at.Goals as goal
 

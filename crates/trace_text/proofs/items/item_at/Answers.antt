@@ -1,8 +1,5 @@
-use Rattle.std.proofs.Common.{◌≡◌, ℕ, ◌-◌, Option, Some, None, MatchOption, sym, arith}
-use Rattle.heap_words.specs.declared.schedule.Item.{Item}
+use Rattle.std.proofs.Common.{◌≡◌, arith}
 use Rattle.heap_words.specs.Ranges.{seat_count}
-use Rattle.trace_text.specs.Spelling.{IsItem, aim, item}
-use Rattle.trace_text.specs.Front.{BeginsWith, BeginsWithNone, IsItemOf}
 use Rattle.trace_text.proofs.ReadItems.{number_read, no_number, no_machine, machine_found}
 use Rattle.trace_text.proofs.items.item_at.Goals as goal
 

@@ -1,5 +1,5 @@
 use Rattle.std.proofs.lemmas.Result.{err_from_is_err_and}
-use Rattle.trace_text.proofs.Traces.{no_trace, no_turns, whole}
+use Rattle.trace_text.proofs.Traces.{no_trace, no_turns}
 use Rattle.trace_text.proofs.read.trace_of.Goals as goal
 
 pub returns-in_err-turns-clause-not_read : goal.returns-in_err-turns-clause-not_read

@@ -1,7 +1,6 @@
 use Rattle.std.proofs.Common.{◌∷◌, [], ◌++◌, refl}
 use Rattle.std.proofs.lemmas.Bool.{false≢true}
 use Rattle.std.proofs.lemmas.Result.{err_from_is_err_and}
-use Rattle.heap_words.specs.declared.schedule.Item.{Item}
 use Rattle.trace_text.specs.Spelling.{IsItem, spaced_item}
 use Rattle.trace_text.specs.Front.{IsLineEnd}
 use Rattle.trace_text.proofs.Pieces.{one_taken}
