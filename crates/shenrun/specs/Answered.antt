@@ -41,7 +41,7 @@ Allows words input Unfinished out = (steps : ℕ) × IsReplay words steps × ((b
     × (out ≡ line_text (line.Unfinished steps))
 Allows words input ReadFault out = AskReplay words × Rose input.faults_before input.faults_after × (out ≡ line_text line.ReadFault)
 Allows words input WriteFault out = ⊥
-Allows words input NoMemory out = out ≡ line_text line.NoMemory
+Allows words input NoMemory out = AskReplay words × (out ≡ line_text line.NoMemory)
 
 -- What was written where it is told, before the call and after it, and the sink's faults.
 pub record Output : Type 0 where

@@ -23,7 +23,7 @@ returns-in-Err-ReadFault g c = λ words asked.
 
 pub returns-in-Err-NoMemory : goal.returns-in-Err-NoMemory
 returns-in-Err-NoMemory g c = λ words asked.
-    said words _ _ (line_text line.NoMemory) NoMemory c.say-in-Err-NoMemory.result refl c.say-in-Err-NoMemory.ensures
+    said words _ _ (line_text line.NoMemory) NoMemory c.say-in-Err-NoMemory.result ((c.args.steps, asked), refl) c.say-in-Err-NoMemory.ensures
 
 pub returns-in-Err-Unfinished : goal.returns-in-Err-Unfinished
 returns-in-Err-Unfinished g c = λ words asked.
@@ -33,7 +33,7 @@ returns-in-Err-Unfinished g c = λ words asked.
 
 pub returns-in-Err-NoMemory-answer_to : goal.returns-in-Err-NoMemory-answer_to
 returns-in-Err-NoMemory-answer_to g c = λ words asked.
-    said words _ _ (line_text line.NoMemory) NoMemory c.say-in-Err-NoMemory-answer_to.result refl c.say-in-Err-NoMemory-answer_to.ensures
+    said words _ _ (line_text line.NoMemory) NoMemory c.say-in-Err-NoMemory-answer_to.result ((c.args.steps, asked), refl) c.say-in-Err-NoMemory-answer_to.ensures
 
 pub returns : goal.returns
 returns g c = λ words asked.
