@@ -22,6 +22,8 @@ use Rattle.step_core.specs.Opening.{opening_machine, opening_actor, opening, fir
 use Rattle.step_core.specs.World.{World, Plot, Block, thing, hand, words_of, name_at, Points, IsInUse, IsPlotted, IsFilled, IsObject, IsGiven, AreObjects, IsFreeWord, Shared}
 use Rattle.step_core.specs.Stepped.{Mine}
 use Rattle.step_core.specs.Follows.{first_graph, IsMachine, Follows}
+use Rattle.shen_graph.proofs.PlainLemmas.{same_name-true}
+use Rattle.step_core.proofs.NewObject.{all_alike}
 use Rattle.step_core.proofs.OpeningStands.{rooted_memory, first_memory, view-opening, length-opening}
 
 -- the hub alone
@@ -98,20 +100,8 @@ block_only c a b is = let parts = cond_some (a == c.region_words) (thing hub 16 
 block_hub : (c : Config) → first_block c c.region_words ≡ Some (thing hub 16 0)
 block_hub c = let same : (c.region_words == c.region_words) ≡ true = grind (arith, nat_tests) in rw same refl
 
-same_name_is : (a b : Name) → same_name a b ≡ true → a ≡ b
-same_name_is a b is =
-    let parts = and_parts _ _ is in
-    let threads : a.thread ≡ b.thread = eqb-true _ _ parts.0 in
-    let counts : a.count ≡ b.count = eqb-true _ _ parts.1 in
-    λ i. record { thread = threads i; count = counts i }
-
 object_only : (c : Config) (n : Name) (o : Object) → (first_graph c).object n ≡ Some o → (n ≡ hub) × (blank 16 0 ≡ o)
-object_only c n o is = let parts = cond_some (same_name n hub) (blank 16 0) o is in (same_name_is n hub parts.0, parts.1)
-
-nulls : (n i : ℕ) (reference : Reference) → slice_get (replicate n None) i ≡ Some reference → reference ≡ None
-nulls zero i reference is = cc
-nulls (suc n) zero reference is = cc
-nulls (suc n) (suc i) reference is = nulls n i reference is
+object_only c n o is = let parts = cond_some (same_name n hub) (blank 16 0) o is in (same_name-true n hub parts.0, parts.1)
 
 top_within : (c : Config) (r : ℕ) → first_memory c (Top r) ≤ c.region_words
 top_within c r = ⊎_elim
@@ -161,7 +151,7 @@ hub_object c = record {
   refs_are = refl;
   nums_are = refl;
   references = λ i reference is.
-      subst (λ r. Points (first_block c) (first_memory c (Heap (c.region_words + 3 + i))) r) (sym (nulls 16 i reference is))
+      subst (λ r. Points (first_block c) (first_memory c (Heap (c.region_words + 3 + i))) r) (sym (all_alike 16 i None reference is))
       (ap (λ a. first_memory c (Heap a)) (omega arith) ∙ heap_later c (3 + i) (omega arith));
   numbers = λ i n is. cc;
 }

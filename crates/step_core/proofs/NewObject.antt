@@ -13,15 +13,8 @@ use Rattle.shen_graph.proofs.PlainLemmas.{same_name-true, same_name-itself}
 use Rattle.mutator.specs.Rows.{fresh_word}
 use Rattle.step_core.specs.World.{Block, thing, hand, words_of, Plot, name_at, Points, IsInUse, IsPlotted, IsFilled, IsObject, IsGiven, AreObjects, AreRooms}
 use Rattle.step_core.proofs.Pointing.{named_thing}
+use Rattle.step_core.proofs.Objects.{two_names, where_object}
 use Rattle.step_core.proofs.Pieces.{with_piece, piece_at, piece_else, piece_cases, object_reads}
-
--- the objects of a graph with one of a name
-abbrev pub with_one : (Name → Option Object) → Name → Object → Name → Option Object
-with_one object name o n = if same_name n name then Some o else object n
-
--- names that are not equal, by the test
-pub two_names : (m n : Name) → m ≢ n → same_name m n ≡ false
-two_names m n differ = ⊎_elim (λ is. absurd (differ (same_name-true m n is))) (λ is. is) (cases_Bool (same_name m n))
 
 -- the references of a new object are null, and its numbers 0
 pub all_alike : {A : Type 0} (n i : ℕ) (x y : A) → slice_get (replicate n x) i ≡ Some y → y ≡ x
@@ -122,17 +115,17 @@ module _ (c : Config) (top : ℕ → ℕ) (block : Plot) (address seat refs nums
 
   module _ (heap : ℕ → ℕ) (object : Name → Option Object) (objects : AreObjects heap block object) (fresh : (o : Object) → object name ≡ Some o → ⊥) (o : Object) where
     -- the objects of other names are as before
-    other_object : (n : Name) → name ≢ n → with_one object name o n ≡ object n
+    other_object : (n : Name) → name ≢ n → where_object object name o n ≡ object n
     other_object n differs = cond-false (same_name n name) _ _ (two_names n name (λ same. differs (sym same)))
 
-    own_object : with_one object name o name ≡ Some o
+    own_object : where_object object name o name ≡ Some o
     own_object = cond-true (same_name name name) _ _ (same_name-itself name)
 
     -- no old object has the name
     not_old : (a more_refs more_nums : ℕ) (n : Name) → block a ≡ Some (thing n more_refs more_nums) → name ≢ n
     not_old a more_refs more_nums n is same = let old = objects.each a more_refs more_nums n is in fresh old.0 (ap object same ∙ old.1)
 
-    pub objects_again : IsObject heap new_block address refs nums name o → AreObjects heap new_block (with_one object name o)
+    pub objects_again : IsObject heap new_block address refs nums name o → AreObjects heap new_block (where_object object name o)
     objects_again new_is = record {
       each = λ a more_refs more_nums n is. ⊎_elim
           (λ (new : (a ≡ address) × (new_thing ≡ thing n more_refs more_nums)).
@@ -141,7 +134,7 @@ module _ (c : Config) (top : ℕ → ℕ) (block : Plot) (address seat refs nums
           let all_refs : refs ≡ more_refs = cc in
           let all_nums : nums ≡ more_nums = cc in (
             o,
-            ap (with_one object name o) (sym names) ∙ own_object,
+            ap (where_object object name o) (sym names) ∙ own_object,
             subst (λ b. IsObject heap new_block b more_refs more_nums n o) (sym new.0)
                 (subst (λ m. IsObject heap new_block address more_refs more_nums m o) names
                 (subst (λ k. IsObject heap new_block address k more_nums name o) all_refs
@@ -189,7 +182,7 @@ count_own count thread = cond-true (thread == thread) _ _ (eq-eqb thread thread 
 pub given_again : (c : Config) (count : ℕ → ℕ) (object : Name → Option Object) (name : Name) (o : Object)
     → ((n : Name) (p : Object) → object n ≡ Some p → IsGiven c count n)
     → IsGiven c (with_count count name.thread) name
-    → (n : Name) (p : Object) → with_one object name o n ≡ Some p → IsGiven c (with_count count name.thread) n
+    → (n : Name) (p : Object) → where_object object name o n ≡ Some p → IsGiven c (with_count count name.thread) n
 given_again c count object name o given new n p is = ⊎_elim
     (λ (same : same_name n name ≡ true). subst (λ m. IsGiven c (with_count count name.thread) m) (sym (same_name-true n name same)) new)
     (λ (differs : same_name n name ≡ false).

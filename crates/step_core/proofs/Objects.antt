@@ -13,6 +13,7 @@ use Rattle.shen_graph.proofs.PlainLemmas.{same_name-true, same_name-itself}
 use Rattle.step_core.specs.World.{World, thing, hand, Plot, Points, Target, IsPlotted, IsObject, AreObjects, Shared}
 use Rattle.step_core.specs.Stepped.{Rely}
 use Rattle.step_core.proofs.Apart.{one_piece}
+use Rattle.step_core.proofs.Pieces.{object_reads}
 
 -- an element that was set
 get_set_same : {X : Type 0} (xs : List X) (i : ℕ) (x : X) → i < length xs → slice_get (slice_set xs i x) i ≡ Some x
@@ -32,21 +33,6 @@ new_word heap at value a is = cond-true (at == a) value (heap a) (eq-eqb at a (s
 
 pub old_word : (heap : ℕ → ℕ) (at value a : ℕ) → a ≢ at → stored_word heap at value a ≡ heap a
 old_word heap at value a other = cond-false (at == a) value (heap a) (ne_eqb at a (λ same. other (sym same)))
-
--- an object reads as before where its words are as before
-pub object_kept : (heap after : ℕ → ℕ) (block : Plot) (a refs nums : ℕ) (name : Name) (o : Object)
-    → ((at : ℕ) → a ≤ at → at < a + (3 + refs + nums) → after at ≡ heap at) → IsObject heap block a refs nums name o → IsObject after block a refs nums name o
-object_kept heap after block a refs nums name o kept is = record {
-  header = kept a (omega arith) (omega arith) ∙ is.header;
-  shape = kept (a + 1) (omega arith) (omega arith) ∙ is.shape;
-  name_word = kept (a + 2) (omega arith) (omega arith) ∙ is.name_word;
-  few_refs = is.few_refs;
-  few_nums = is.few_nums;
-  refs_are = is.refs_are;
-  nums_are = is.nums_are;
-  references = λ i r here. rw (kept (a + 3 + i) (omega arith) (omega (arith, is.refs_are, slice_get_within o.refs i r here))) (is.references i r here);
-  numbers = λ i n here. kept (a + 3 + refs + i) (omega arith) (omega (arith, is.nums_are, slice_get_within o.nums i n here)) ∙ is.numbers i n here;
-}
 
 module _ (heap : ℕ → ℕ) (block : Plot) (a refs nums : ℕ) (name : Name) (o : Object) (is : IsObject heap block a refs nums name o) where
   -- a reference field of an object is another
@@ -128,9 +114,9 @@ module _ (c : Config) (top heap : ℕ → ℕ) (block : Plot) (object : Name →
         let other_name : n ≢ name = λ same. other (are.once b a more_refs more_nums refs nums name (there ∙ ap (λ m. Some (thing m more_refs more_nums)) same) piece) in (
           before.0,
           cond-false (same_name n name) (Some o) (object n) (two_names n name other_name) ∙ before.1,
-          object_kept heap (stored_word heap at value) block b more_refs more_nums n before.0
-              (λ word low high. old_word heap at value word (λ same. other (one_piece c top block plotted b a word (thing n more_refs more_nums) (thing name refs nums) there piece low high (omega arith) (omega arith))))
-              before.2,
+          object_reads heap (stored_word heap at value) block block b more_refs more_nums n before.0
+              (λ k below. old_word heap at value (b + k) (λ same. other (one_piece c top block plotted b a (b + k) (thing n more_refs more_nums) (thing name refs nums) there piece (omega arith) (omega arith) (omega arith) (omega arith))))
+              (λ x m e. e) before.2,
         ))
         (cases_eq b a);
     all = λ n x there. are.all n (object_before object name (are.each a refs nums name piece).0 o (are.each a refs nums name piece).1 n x there).0

@@ -33,41 +33,7 @@ use Rattle.step_core.proofs.Pieces.{with_piece, piece_at}
 use Rattle.step_core.proofs.NewPiece.{CanGrow, names_stay, stays, old_hand, own_hand, plotted_more, filled_more, objects_more, free_more, rooms_more, top_else}
 use Rattle.step_core.proofs.FreeRegions.{lowest_within, with_owner, owner_at, owner_else, owner_stays, free_without, currents_stay}
 use Rattle.step_core.proofs.Ready.{taking_ready, word_ready}
-
--- a load leaves the memory as it is
-loaded_current : (m : Word → ℕ) (s : ℕ) (q : Word) → m q ≡ touched m (touch (Current s) loads) q
-loaded_current m s (Current t) = ⊎_elim
-    (λ (same : s ≡ t). sym (cond-true (s == t) _ _ (eq-eqb s t same) ∙ ap (λ k. m (Current k)) same))
-    (λ (other : s ≢ t). sym (cond-false (s == t) _ _ (ne_eqb s t other)))
-    (cases_eq s t)
-loaded_current m s _ = refl
-
-loaded_top : (m : Word → ℕ) (r : ℕ) (q : Word) → m q ≡ touched m (touch (Top r) loads) q
-loaded_top m r (Top s) = ⊎_elim
-    (λ (same : r ≡ s). sym (cond-true (r == s) _ _ (eq-eqb r s same) ∙ ap (λ k. m (Top k)) same))
-    (λ (other : r ≢ s). sym (cond-false (r == s) _ _ (ne_eqb r s other)))
-    (cases_eq r s)
-loaded_top m r _ = refl
-
-loaded_free : (m : Word → ℕ) (q : Word) → m q ≡ touched m (touch Free loads) q
-loaded_free m Free = refl
-loaded_free m _ = refl
-
--- nothing changes
-rely_same : (j : ℕ) (u : World) → Rely j u u
-rely_same j u = record {
-  names = λ a n is. is;
-  things = λ a refs nums n is. is;
-  hands = λ a words is. is;
-  no_hands = λ a words is. is;
-  hand_words = λ a words k is below. refl;
-  current = refl;
-  owners = λ r is. is;
-  tops = λ r is. refl;
-  root_words = λ i. refl;
-  roots = λ i. refl;
-  count = refl;
-}
+use Rattle.step_core.proofs.Loading.{looks}
 
 -- the seat's current region is another, which is its own
 currents_with : (c : Config) (current : ℕ → ℕ) (owner : ℕ → Option ℕ) (seat region : ℕ) → region < c.regions → owner region ≡ Some seat → AreCurrent c current owner
@@ -124,21 +90,14 @@ module _ (c : Config) (u : World) (seat made phase cset : ℕ) (command : Comman
     }
 
     -- a load that leads to another spot of the taking
-    looked : (take next : TakeSpot) → Shared c u → Mine c u (at_spot (Taking dst refs nums take)) command fixed
-        → ((q : Word) → u.memory q ≡ touched u.memory (touch_of c (at_spot (Taking dst refs nums take))) q)
-        → after_take dst refs nums (take_next c refs nums take (u.memory (touch_of c (at_spot (Taking dst refs nums take))).word)) ≡ Taking dst refs nums next
+    looked : (take next : TakeSpot) (at : Word) → Shared c u → Mine c u (at_spot (Taking dst refs nums take)) command fixed
+        → touch_of c (at_spot (Taking dst refs nums take)) ≡ touch at loads
+        → after_take dst refs nums (take_next c refs nums take (u.memory at)) ≡ Taking dst refs nums next
         → is_ready c seat made (Taking dst refs nums next) ≡ true → TakeFacts c u seat words next
         → Stepped c u (at_spot (Taking dst refs nums take)) command Nothing fixed
-    looked take next shared mine kept leads ready facts = record {
-      world = u;
-      memory = λ i q. kept q i;
-      graph = refl;
-      legal = tt;
-      settles = λ r e. cc;
-      shared = shared;
-      mine = subst (λ s. Mine c u (at_spot s) command fixed) (sym leads) (mine_at take next u mine refl refl (λ i. refl) ready facts);
-      others = λ j d. rely_same j u;
-    }
+    looked take next at shared mine loaded leads ready facts =
+        looks c u (at_spot (Taking dst refs nums take)) at command fixed loaded refl refl shared
+        (subst (λ s. Mine c u (at_spot s) command fixed) (sym leads) (mine_at take next u mine refl refl (λ i. refl) ready facts))
 
     -- from anywhere it can look at its current region, and for free ones
     current_ready : IsMaking made command fixed dst refs nums → seat < c.mutators → is_ready c seat made (Taking dst refs nums LoadCurrent) ≡ true
@@ -152,13 +111,13 @@ module _ (c : Config) (u : World) (seat made phase cset : ℕ) (command : Comman
         let got : ℕ = u.memory (Current seat) in
         ⊎_elim
         (λ (none : got ≡ 0).
-        looked LoadCurrent LoadFree shared mine (loaded_current u.memory seat)
+        looked LoadCurrent LoadFree (Current seat) shared mine refl
         (ap (after_take dst refs nums) (cond-true (got == 0) LoadFree (LoadTop (got - 1)) (eq-eqb got 0 none)))
         (free_ready mine.facts.0)
         (λ r is. absurd (omega (arith, none, is))))
         (λ (some : got ≢ 0).
         let is : got ≡ (got - 1) + 1 = omega (arith, some) in
-        looked LoadCurrent (LoadTop (got - 1)) shared mine (loaded_current u.memory seat)
+        looked LoadCurrent (LoadTop (got - 1)) (Current seat) shared mine refl
         (ap (after_take dst refs nums) (cond-false (got == 0) LoadFree (LoadTop (got - 1)) (ne_eqb got 0 some)))
         (taking_ready c seat made command fixed dst refs nums mine.facts.0 (LoadTop (got - 1)) (and_from _ _ (lt-ltb _ _ (shared.currents.within seat (got - 1) is)) refl) refl refl)
         is)
@@ -171,14 +130,14 @@ module _ (c : Config) (u : World) (seat made phase cset : ℕ) (command : Comman
         ⊎_elim
         (λ (room : has_room c words got ≡ true).
         let most : got + words ≤ c.region_words = leb-true _ _ room in
-        looked (LoadTop region) (StoreTop region got) shared mine (loaded_top u.memory region)
+        looked (LoadTop region) (StoreTop region got) (Top region) shared mine refl
         (ap (after_take dst refs nums) (cond-true (has_room c words got) (StoreTop region got) LoadFree room))
         (taking_ready c seat made command fixed dst refs nums mine.facts.0 (StoreTop region got)
         (and_from _ _ (lt-ltb _ _ within) (lt-ltb _ _ (let long = c.in_range.most_words in omega (arith, most, long)))) refl room)
         (record { within = within; is_current = mine.facts.1; top_is = refl; room = most }))
         (λ (less : has_room c words got ≡ false).
         let most : c.region_words < got + words = leb-false _ _ less in
-        looked (LoadTop region) LoadFree shared mine (loaded_top u.memory region)
+        looked (LoadTop region) LoadFree (Top region) shared mine refl
         (ap (after_take dst refs nums) (cond-false (has_room c words got) (StoreTop region got) LoadFree less))
         (free_ready mine.facts.0)
         (λ r is. (let is_now = mine.facts.1 in let same : region ≡ r = omega (arith, is, is_now) in subst (λ k. c.region_words < u.memory (Top k) + words) same most)))
@@ -189,13 +148,13 @@ module _ (c : Config) (u : World) (seat made phase cset : ℕ) (command : Comman
         let got : ℕ = u.memory Free in
         ⊎_elim
         (λ (none : has_none c Fresh got ≡ true).
-        looked LoadFree LoadCurrent shared mine (loaded_free u.memory)
+        looked LoadFree LoadCurrent Free shared mine refl
         (ap (after_take dst refs nums) (cond-true (has_none c Fresh got) (Ended NoRoom) (TakeRegion (lowest_in got)) none))
         (current_ready mine.facts.0 mine.seat)
         tt)
         (λ (some : has_none c Fresh got ≡ false).
         let within : lowest_in got < c.regions = lowest_within c got c.reserve shared.free_word.no_more (leb-false _ _ some) in
-        looked LoadFree (TakeRegion (lowest_in got)) shared mine (loaded_free u.memory)
+        looked LoadFree (TakeRegion (lowest_in got)) Free shared mine refl
         (ap (after_take dst refs nums) (cond-false (has_none c Fresh got) (Ended NoRoom) (TakeRegion (lowest_in got)) some))
         (taking_ready c seat made command fixed dst refs nums mine.facts.0 (TakeRegion (lowest_in got)) (lt-ltb _ _ (omega arith)) refl (lt-ltb _ _ within))
         (mine.facts.1, within))
