@@ -15,11 +15,8 @@ use Rattle.step_core.specs.World.{World}
 use Rattle.step_core.specs.Stepped.{Row}
 use Rattle.mutator.specs.Fit.{is_ready}
 use Rattle.step_core.proofs.Spots.{mutator_at, accessed}
+use Rattle.step_core.proofs.Ready.{leave_ready}
 use Rattle.step_core.proofs.Settling.{legal_answer, graph_answer}
-
--- a mutator can always leave
-pub leave_ready : (c : Config) (seat made : ℕ) (reply : Reply) → seat < c.mutators → is_ready c seat made (Leave reply) ≡ true
-leave_ready c seat made reply below = grind (arith, nat_tests)
 
 module _ (c : Config) (u : World) (seat made phase cset : ℕ) (command : Command) (fixed : Option Reply) where
   abbrev at_spot : Spot → Mutating

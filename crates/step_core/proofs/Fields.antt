@@ -20,10 +20,10 @@ use Rattle.mutator.specs.Told.{name_the_same}
 use Rattle.step_core.specs.World.{World}
 use Rattle.step_core.specs.Stepped.{Row}
 use Rattle.step_core.proofs.Spots.{mutator_at}
-use Rattle.step_core.proofs.Calls.{leave_ready}
+use Rattle.step_core.proofs.Ready.{leave_ready, ready_of, number_small}
 use Rattle.step_core.proofs.Pointing.{points_small}
 use Rattle.step_core.proofs.Naming.{same_words, names_agree, name_there, name_read, shown_is, field_in, number_in, word_in}
-use Rattle.step_core.proofs.Loading.{looks, replies, replies_root, roots_then, ready_of, number_small}
+use Rattle.step_core.proofs.Loading.{looks, replies, replies_root, roots_then}
 use Rattle.step_core.proofs.InHand.{shown_not_full, field_mine}
 
 module _ (c : Config) (u : World) (seat made phase cset : ℕ) (command : Command) (fixed : Option Reply) where

@@ -21,31 +21,15 @@ use Rattle.step_core.specs.Stepped.{IsFilling, Mine, Rely, Row}
 use Rattle.step_core.proofs.Spots.{mutator_at, accessed}
 use Rattle.step_core.proofs.Settling.{legal_answer, graph_answer}
 use Rattle.step_core.proofs.Stable.{points_stay}
-use Rattle.step_core.proofs.Calls.{leave_ready}
+use Rattle.step_core.proofs.Ready.{leave_ready, word_ready, fresh_ready}
+use Rattle.step_core.proofs.RootStores.{roots_written}
 use Rattle.step_core.proofs.Apart.{far}
 use Rattle.step_core.proofs.Pieces.{with_piece, piece_at, object_reads}
 use Rattle.step_core.proofs.NewObject.{new_object, names_stay, things_stay, hands_stay, old_hand, plotted_again, filled_again, objects_again, rooms_again, given_again, with_count, count_own}
-use Rattle.step_core.proofs.Ready.{word_ready, fresh_ready}
 
 -- the name of a thread's next object
 abbrev next_name : ℕ → ℕ → Name
 next_name thread made = record { thread = thread; count = made + 1 }
-
--- The word of a root that is written stands for the reference that the root is, and the words of other roots for theirs.
-pub roots_written : (block more : Plot) (memory : Word → ℕ) (g : Graph) (seat dst value : ℕ) (name : Name)
-    → ((a : ℕ) (n : Name) → name_at (block a) ≡ Some n → name_at (more a) ≡ Some n)
-    → name_at (more value) ≡ Some name → (i : ℕ) → Points block (memory (Root seat i)) (g.root (seat + 1) i)
-    → Points more (write memory (Root seat dst) value (Root seat i)) ((with_root g (seat + 1) dst (Some name)).root (seat + 1) i)
-roots_written block more memory g seat dst value name names new i old = ⊎_elim
-    (λ (same : i ≡ dst).
-    let word : write memory (Root seat dst) value (Root seat i) ≡ value = cond-true ((seat == seat) && (dst == i)) _ _ (and_from _ _ (eq-eqb seat seat refl) (eq-eqb dst i (sym same))) in
-    let root : (with_root g (seat + 1) dst (Some name)).root (seat + 1) i ≡ Some name = cond-true (((seat + 1) == (seat + 1)) && (i == dst)) _ _ (and_from _ _ (eq-eqb (seat + 1) (seat + 1) refl) (eq-eqb i dst same)) in
-    subst₂ (λ w r. Points more w r) (sym word) (sym root) new)
-    (λ (other : i ≢ dst).
-    let word : write memory (Root seat dst) value (Root seat i) ≡ memory (Root seat i) = cond-false ((seat == seat) && (dst == i)) _ _ (and_right _ _ (ne_eqb dst i (λ e. other (sym e)))) in
-    let root : (with_root g (seat + 1) dst (Some name)).root (seat + 1) i ≡ g.root (seat + 1) i = cond-false (((seat + 1) == (seat + 1)) && (i == dst)) _ _ (and_right _ _ (ne_eqb i dst other)) in
-    subst₂ (λ w r. Points more w r) (sym word) (sym root) (points_stay block more names (memory (Root seat i)) (g.root (seat + 1) i) old))
-    (cases_eq i dst)
 
 module _ (c : Config) (u : World) (seat made phase cset : ℕ) (command : Command) (fixed : Option Reply) where
   abbrev at_spot : Spot → Mutating
@@ -168,6 +152,10 @@ module _ (c : Config) (u : World) (seat made phase cset : ℕ) (command : Comman
     room : u.block address ≡ Some (hand seat (3 + refs + nums))
     room = mine.facts.1.room
 
+    -- what a word stands for it still stands for
+    names : (a : ℕ) (n : Name) → name_at (u.block a) ≡ Some n → name_at (made_world.block a) ≡ Some n
+    names = names_stay c top u.block address seat refs nums name room
+
     -- the thread's fresh name is the one that the mutator writes
     name_is : name ≡ next_name (seat + 1) made
     name_is = ap (next_name (seat + 1)) mine.made
@@ -208,9 +196,10 @@ module _ (c : Config) (u : World) (seat made phase cset : ℕ) (command : Comman
       seat = mine.seat;
       ready = leave_ready c seat (made + 1) (reply.Ref (next_name (seat + 1) made)) mine.seat;
       made = count_own u.graph.count (seat + 1) ∙ ap (λ k. k + 1) mine.made;
-      roots = λ i below.
-          roots_written u.block made_world.block u.memory (with_fresh u.graph (seat + 1) (blank refs nums)) seat dst address name
-          (names_stay c top u.block address seat refs nums name room) (ap name_at (piece_at u.block address (thing name refs nums))) i (mine.roots i below);
+      roots =
+          roots_written made_world.block u.memory u.graph.root seat dst address (Some name)
+          (λ i below. points_stay u.block made_world.block names (u.memory (Root seat i)) (u.graph.root (seat + 1) i) (mine.roots i below))
+          (ap name_at (piece_at u.block address (thing name refs nums)));
       hands = λ a words is.
           let old = old_hand c top u.block address seat refs nums name room a seat words is in
           old.0 (mine.hands a words old.1).0;
@@ -219,7 +208,7 @@ module _ (c : Config) (u : World) (seat made phase cset : ℕ) (command : Comman
 
     others_made : (j : ℕ) → j ≢ seat → Rely j u made_world
     others_made j differs = record {
-      names = names_stay c top u.block address seat refs nums name room;
+      names = names;
       things = λ a more_refs more_nums n is. things_stay c top u.block address seat refs nums name room a more_refs more_nums n is;
       hands = λ a words is. hands_stay c top u.block address seat refs nums name room a j words differs is;
       no_hands = λ a words is. (old_hand c top u.block address seat refs nums name room a j words is).1;

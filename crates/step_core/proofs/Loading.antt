@@ -100,11 +100,3 @@ pub roots_then : (block : Plot) (words : ℕ → ℕ) (root : ℕ → ℕ → Re
 roots_then block words root t dst value v roots is i below =
     rw (eq-eqb t t refl)
     (elim (i == dst) as (λ b. Points block (if b then value else words i) (if b then v else root t i)) [ true ↦ is | false ↦ roots i below ])
-
--- an access can be made whose word is one of the table and whose number is a word
-pub ready_of : (b d : Bool) → b ≡ true → d ≡ true → ((b && d) && true) ≡ true
-ready_of b d is_b is_d = rw (is_b, is_d) refl
-
--- a small number is one that a word holds
-pub number_small : (n : ℕ) → n < 2097152 → is_number n ≡ true
-number_small n small = lt-ltb n (2 ^ 64) (omega arith)

@@ -23,10 +23,10 @@ use Rattle.mutator.specs.Told.{name_the_same}
 use Rattle.step_core.specs.World.{World, Points, Shared}
 use Rattle.step_core.specs.Stepped.{HasRoot, HasObject, HasFirst, HasRoots, Mine, Stepped, Row}
 use Rattle.step_core.proofs.Spots.{mutator_at}
-use Rattle.step_core.proofs.Calls.{leave_ready}
+use Rattle.step_core.proofs.Ready.{leave_ready, ready_of, number_small}
 use Rattle.step_core.proofs.Pointing.{named_thing, named_if_not_0, null_if_0, points_small}
 use Rattle.step_core.proofs.Naming.{same_words, names_agree, word_in, shape_in, bad_on_null, bad_on_shape}
-use Rattle.step_core.proofs.Loading.{looks, replies, ready_of, number_small}
+use Rattle.step_core.proofs.Loading.{looks, replies}
 
 -- the roots that a command loads are below 16
 root_small : (made : ℕ) (k : Command) (i : ℕ) → is_next made k ≡ true → i < length (roots_of k) → root_of k i < 16

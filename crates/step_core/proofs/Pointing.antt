@@ -47,12 +47,15 @@ module _ (c : Config) (top : ℕ → ℕ) (block : Plot) (plotted : IsPlotted c 
   named_if_not_0 word None points other = absurd (other points)
   named_if_not_0 word (Some n) points other = (n, refl, points)
 
-  -- a word that stands for a reference is a word of 64 bits
-  pub points_small : (word : ℕ) (r : Reference) → Points block word r → word < 2097152
-  points_small word None points = omega (arith, points)
-  points_small word (Some n) points =
-      let piece = named_thing (block word) n points in
-      let inside = piece_inside word (thing n piece.0 piece.1) piece.2 in
+  -- the address of a piece is small
+  pub piece_small : (a : ℕ) (b : Block) → block a ≡ Some b → a < 2097152
+  piece_small a b is =
+      let inside = piece_inside a b is in
       let most : (c.regions + 1) * c.region_words ≤ (64 + 1) * c.region_words = mul-le-mul_right c.region_words (let few = c.in_range.most_regions in omega (arith, few)) in
       let long = c.in_range.most_words in
       omega (arith, inside.1, most, long)
+
+  -- and so is a word that stands for a reference
+  pub points_small : (word : ℕ) (r : Reference) → Points block word r → word < 2097152
+  points_small word None points = omega (arith, points)
+  points_small word (Some n) points = let piece = named_thing (block word) n points in piece_small word (thing n piece.0 piece.1) piece.2

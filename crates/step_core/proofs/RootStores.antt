@@ -1,6 +1,6 @@
 -- The steps that store a reference into a root.
-use Rattle.std.proofs.Common.{◌≡◌, ℕ, ◌+◌, ⊎_elim, Option, None, refl, sym, ap, ◌∙◌, subst, arith}
-use Rattle.std.specs.Prelude.{◌==◌, if◌then◌else◌}
+use Rattle.std.proofs.Common.{◌≡◌, ℕ, ◌+◌, ◌<◌, ⊎_elim, Option, None, refl, sym, ap, ◌∙◌, subst, arith}
+use Rattle.std.specs.Prelude.{◌==◌, ◌&&◌, if◌then◌else◌}
 use Rattle.std.proofs.lemmas.Bool.{eq-eqb}
 use Rattle.std.proofs.lemmas.Bool.Decides.{nat_tests}
 use Rattle.heap_words.specs.declared.config.Config.{Config}
@@ -16,18 +16,26 @@ use Rattle.mutator.specs.declared.spot.Spot.TheVariants.{StoreLoaded, StoreRoot}
 use Rattle.mutator.specs.declared.spot.Order.{Order}
 use Rattle.mutator.specs.declared.spot.Order.TheVariants.{Nothing, Begin}
 use Rattle.mutator.specs.Rows.{Mutating, touch_of}
-use Rattle.step_core.specs.World.{World, Points, Shared}
+use Rattle.step_core.specs.World.{World, Plot, Points, Shared}
 use Rattle.step_core.specs.Stepped.{Mine, Stepped, Row}
 use Rattle.step_core.proofs.Spots.{mutator_at, accessed}
 use Rattle.step_core.proofs.Settling.{legal_answer, graph_answer}
-use Rattle.step_core.proofs.Calls.{leave_ready}
+use Rattle.step_core.proofs.Ready.{leave_ready}
 use Rattle.step_core.proofs.Loading.{roots_then}
 
 -- a mutator's roots, after a number was stored into one of them
-pub root_written : (memory : Word → ℕ) (seat dst value i : ℕ) → (if i == dst then value else memory (Root seat i)) ≡ write memory (Root seat dst) value (Root seat i)
+root_written : (memory : Word → ℕ) (seat dst value i : ℕ) → (if i == dst then value else memory (Root seat i)) ≡ write memory (Root seat dst) value (Root seat i)
 root_written memory seat dst value i =
     let turned : (dst == i) ≡ (i == dst) = grind (arith, nat_tests) in
     rw (eq-eqb seat seat refl, turned) refl
+
+-- Words that stand for a mutator's roots do so after a reference was stored into one of them.
+pub roots_written : (block : Plot) (memory : Word → ℕ) (root : ℕ → ℕ → Reference) (seat dst value : ℕ) (v : Reference)
+    → ((i : ℕ) → i < 16 → Points block (memory (Root seat i)) (root (seat + 1) i)) → Points block value v → (i : ℕ) → i < 16
+    → Points block (write memory (Root seat dst) value (Root seat i)) (if ((seat + 1) == (seat + 1)) && (i == dst) then v else root (seat + 1) i)
+roots_written block memory root seat dst value v roots stands i below =
+    subst (λ word. Points block word (if ((seat + 1) == (seat + 1)) && (i == dst) then v else root (seat + 1) i)) (root_written memory seat dst value i)
+    (roots_then block (λ k. memory (Root seat k)) root (seat + 1) dst value v roots stands i below)
 
 module _ (c : Config) (u : World) (seat made phase cset : ℕ) (command : Command) (fixed : Option Reply) where
   abbrev at_spot : Spot → Mutating
@@ -68,9 +76,7 @@ module _ (c : Config) (u : World) (seat made phase cset : ℕ) (command : Comman
       seat = mine.seat;
       ready = leave_ready c seat made reply.Ok mine.seat;
       made = mine.made;
-      roots = λ i below.
-          subst (λ word. Points u.block word ((with_root u.graph (seat + 1) dst v).root (seat + 1) i)) (root_written u.memory seat dst value i)
-          (roots_then u.block (λ k. u.memory (Root seat k)) u.graph.root (seat + 1) dst value v mine.roots stands i below);
+      roots = roots_written u.block u.memory u.graph.root seat dst value v mine.roots stands;
       hands = mine.hands;
       facts = refl;
     };

@@ -22,7 +22,7 @@ use Rattle.mutator.specs.Rows.{Mutating, touch_of, next_of, given_at}
 use Rattle.mutator.specs.Told.{told_of}
 use Rattle.step_core.specs.World.{World, hand, Points, Target, IsObject, Shared}
 use Rattle.step_core.specs.Stepped.{HasObject, Mine, Stepped, Row}
-use Rattle.step_core.proofs.Calls.{leave_ready}
+use Rattle.step_core.proofs.Ready.{leave_ready}
 use Rattle.step_core.proofs.Naming.{object_in, field_in, number_in, same_words, shown_is}
 use Rattle.step_core.proofs.Objects.{stored_word, field_stored, number_stored, stored, changed, shared_stored, rely_stored}
 use Rattle.step_core.proofs.Settling.{legal_answer, graph_answer}
