@@ -34,7 +34,7 @@ use Rattle.shen_core.specs.Answer.{stepped_of, says, is_resting, reply_in, made_
 use Rattle.shen_core.specs.Progress.{Jobs, Tells, CanRun, IsTurn, Turned, IsMoved, HasTurned}
 use Rattle.shen_core.specs.State.{config_of, words_of, orders_of, machines_of, machine_at, order_at, has_turn, next_machine, IsStep}
 use Rattle.shen_graph.specs.Valid.{IsValid}
-use Rattle.step_core.proofs.Entries.{append_none}
+use Rattle.std.proofs.lemmas.List.{append-nil}
 use Rattle.shen_core.proofs.Events.{shown_actor}
 use Rattle.shen_core.proofs.Turns.{machine_within}
 
@@ -127,7 +127,7 @@ tells_on c words machines jobs number machine order scripts s shows tells here t
       let there_now : slice_get (act (kind c) s (event number order)).machines number ≡ Some b = ap (λ n. slice_get (act (kind c) s (event number order)).machines n) (sym same) ∙ there in
       let before : slice_get s.machines t ≡ Some found.0 = ap (slice_get s.machines) same ∙ found.1 in
       tells.replies t found.0 below before
-      ∙ sym (acted_replies c s number order found.0 machine found.1 found.2 takes b there_now ∙ ap (λ g. map (λ e. e.reply) found.0.calls ++ listed g) none ∙ append_none _))
+      ∙ sym (acted_replies c s number order found.0 machine found.1 found.2 takes b there_now ∙ ap (λ g. map (λ e. e.reply) found.0.calls ++ listed g) none ∙ append-nil _))
       (λ (other : t ≡ number → ⊥). tells.replies t b below (sym (machines_other (kind c) s (event number order) t other) ∙ there))
       (cases_eq t number);
 }

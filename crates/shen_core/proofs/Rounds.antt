@@ -18,7 +18,7 @@ use Rattle.std.proofs.lemmas.List.{length-append}
 use Rattle.mutator.specs.declared.spot.Order.{Order}
 use Rattle.step_core.specs.Actor.{Actor, kind}
 use Rattle.step_core.specs.Schedule.{Scripts, turn, turn_of, order_on_turn, Agenda, next, numbers_from, first_turn, or_else, round_of, and_then, scheduled}
-use Rattle.step_core.proofs.Entries.{append_none}
+use Rattle.std.proofs.lemmas.List.{append-nil}
 use Rattle.shen_core.specs.declared.plain.Plain.{Plain}
 use Rattle.shen_core.specs.declared.run.Ran.{Ran}
 use Rattle.shen_core.specs.declared.run.Ran.TheVariants.{Finished, Unfinished}
@@ -92,7 +92,7 @@ round_again c scripts s =
     let none : seats - seats ≡ 0 = omega arith in
     let all : seats - 0 ≡ seats = omega arith in
     let last : numbers_from c seats ≡ range_with_len 0 seats = ap (λ n. range_with_len seats n ++ range_with_len 0 seats) none in
-    let first : numbers_from c 0 ≡ range_with_len 0 seats = ap (λ n. range_with_len 0 n ++ []) all ∙ append_none (range_with_len 0 seats) in
+    let first : numbers_from c 0 ≡ range_with_len 0 seats = ap (λ n. range_with_len 0 n ++ []) all ∙ append-nil (range_with_len 0 seats) in
     ap (λ ks. round_of (first_turn scripts s ks)) (last ∙ sym first)
 
 none_turn : (scripts : Scripts) (s : Stage Actor) (a n : ℕ) → ((k : ℕ) → a ≤ k → k < a + n → turn scripts s k ≡ None) → first_turn scripts s (range_with_len a n) ≡ None
@@ -104,7 +104,7 @@ pub idle_round : (c : Config) (scripts : Scripts) (s : Stage Actor) → AreIdle 
 idle_round c scripts s idle =
     let seats = seat_count c.mutators c.helpers in
     let all : seats - 0 ≡ seats = omega arith in
-    let first : numbers_from c 0 ≡ range_with_len 0 seats = ap (λ n. range_with_len 0 n ++ []) all ∙ append_none (range_with_len 0 seats) in
+    let first : numbers_from c 0 ≡ range_with_len 0 seats = ap (λ n. range_with_len 0 n ++ []) all ∙ append-nil (range_with_len 0 seats) in
     ap (λ ks. round_of (first_turn scripts s ks)) first
     ∙ ap round_of (none_turn scripts s 0 seats (λ k from below. idle k (omega arith)))
 

@@ -4,7 +4,7 @@ use Rattle.std.specs.Prelude.{slice_get, if◌then◌else◌}
 use Rattle.std.proofs.lemmas.List.Elements.{All-nil, All-cons, All-append}
 use Rattle.std.proofs.lemmas.List.FromFn.{get_or-map-range_with_len, length-map-range_with_len}
 use Rattle.std.proofs.lemmas.Option.{same_Some, slice_get_within, get_or_from_slice_get}
-use Rattle.std.proofs.lemmas.Bool.{cases_eq}
+use Rattle.std.proofs.lemmas.Bool.{cases_eq, and_parts}
 use Rattle.heap_words.specs.declared.config.Config.{Config}
 use Rattle.heap_words.specs.Ranges.{seat_count}
 use Rattle.steps_base.specs.Steps.{Stage, Event, moved, act_of, act}
@@ -21,7 +21,7 @@ use Rattle.step_core.specs.Actor.{Machine, mutating, helping, controlling, Actor
 use Rattle.step_core.specs.Opening.{opening_actor, opening}
 use Rattle.step_core.specs.History.{told_by, told_of_machine, told, history}
 use Rattle.step_core.specs.Follows.{settled, past, Follows}
-use Rattle.step_core.proofs.Induction.{first_part, follows_event}
+use Rattle.step_core.proofs.Induction.{follows_event}
 use Rattle.step_core.proofs.FirstFacts.{follows_first}
 use Rattle.step_core.proofs.Theorem.{thread_of}
 use Rattle.stage_graph.specs.Settled.{IsSettled}
@@ -32,8 +32,8 @@ AreValid s = (number : ℕ) (a : Actor) → slice_get s.machines number ≡ Some
 
 -- a command that is begun is in range
 begun_valid : (spot : Spot) (made : ℕ) (k : Command) → takes_at spot made (Begin k) ≡ true → is_valid k ≡ true
-begun_valid Rest made k takes = first_part _ _ takes
-begun_valid (Ended reply) made k takes = first_part _ _ takes
+begun_valid Rest made k takes = (and_parts _ _ takes).0
+begun_valid (Ended reply) made k takes = (and_parts _ _ takes).0
 begun_valid _ made k takes = cc
 
 -- so is that of a call after any order that is taken

@@ -3,16 +3,13 @@ use Rattle.std.proofs.Common.{◌≡◌, ◌≢◌, ℕ, ◌+◌, true, false, L
 use Rattle.std.specs.Prelude.{◌==◌, if◌then◌else◌}
 use Rattle.std.proofs.lemmas.Bool.Decides.{nat_tests}
 use Rattle.std.proofs.lemmas.List.Elements.{filter-append}
+use Rattle.std.proofs.lemmas.List.{append-nil}
 use Rattle.shen_graph.specs.declared.command.Command.{Command}
 use Rattle.shen_graph.specs.declared.command.Reply.{Reply}
 use Rattle.shen_graph.specs.Graph.{Graph}
 use Rattle.shen_graph.specs.History.{Entry, after_entry, after, EachIsLegal, of_thread}
 use Rattle.step_core.specs.Actor.{entry_of, entries_of}
 use Rattle.step_core.specs.Stepped.{graph_by, LegalBy}
-
-pub append_none : {A : Type 0} (xs : List A) → xs ++ [] ≡ xs
-append_none [] = refl
-append_none (x ∷ xs) = ap (λ ys. x ∷ ys) (append_none xs)
 
 pub after-more : (g : Graph) (past : List Entry) (seat : ℕ) (k : Command) (r : Option Reply) → after g (past ++ entries_of seat k r) ≡ graph_by (after g past) seat k r
 after-more g [] seat k None = refl
@@ -34,8 +31,8 @@ own_more past seat k (Some r) = filter-append _ past _ ∙ ap (λ b. of_thread p
 
 -- those of another do not
 pub other_more : (past : List Entry) (seat : ℕ) (k : Command) (r : Option Reply) (number : ℕ) → number ≢ seat → of_thread (past ++ entries_of seat k r) (number + 1) ≡ of_thread past (number + 1)
-other_more past seat k None number other = ap (λ es. of_thread es (number + 1)) (append_none past)
-other_more past seat k (Some r) number other = filter-append _ past _ ∙ ap (λ b. of_thread past (number + 1) ++ (if b then entry_of seat k r ∷ [] else [])) differs ∙ append_none _
+other_more past seat k None number other = ap (λ es. of_thread es (number + 1)) (append-nil past)
+other_more past seat k (Some r) number other = filter-append _ past _ ∙ ap (λ b. of_thread past (number + 1) ++ (if b then entry_of seat k r ∷ [] else [])) differs ∙ append-nil _
   where
     differs : ((seat + 1) == (number + 1)) ≡ false
     differs = grind (arith, nat_tests)

@@ -7,12 +7,12 @@ use Rattle.std.specs.Int.{bit_at}
 use Rattle.std.proofs.lemmas.Nat.Bits.{bit_at_lowest}
 use Rattle.std.proofs.lemmas.Nat.{pow_pos}
 use Rattle.std.proofs.Math.Nat.{pow-succ'}
-use Rattle.std.proofs.lemmas.Bool.{cases_eq, and_parts, eqb-true, ltb-true}
+use Rattle.std.proofs.lemmas.Bool.{cases_eq, and_right, cond-false, ne_eqb, and_parts, eqb-true, ltb-true}
 use Rattle.std.proofs.lemmas.Bool.Decides.{nat_tests}
 use Rattle.heap_words.specs.declared.config.Config.{Config}
 use Rattle.heap_words.specs.Ranges.{seat_count}
 use Rattle.regions.specs.Place.{base_of}
-use Rattle.heap_words.specs.Words.{Top, Root, Heap, Phase, Cset, Free, Evac, Current, Wait, Answer}
+use Rattle.heap_words.specs.Words.{Word, same_word, Top, Root, Heap, Phase, Cset, Free, Evac, Current, Wait, Answer}
 use Rattle.shen_graph.specs.declared.name.Name.{Name}
 use Rattle.shen_graph.specs.declared.command.Command.TheVariants.{Gc}
 use Rattle.shen_graph.specs.Graph.{Reference, Object, hub, same_name, blank}
@@ -33,48 +33,18 @@ first_block c a = if a == c.region_words then Some (thing hub 16 0) else None
 abbrev pub first_world : Config → World
 first_world c = record { memory = first_memory c; block = first_block c; owner = λ _. None; graph = first_graph c }
 
-rooted_heap : (c : Config) (t a : ℕ) → rooted_memory c t (Heap a) ≡ 0
-rooted_heap c zero a = refl
-rooted_heap c (suc t) a = rooted_heap c t a
+-- the roots leave each other word as it was
+rooted_else : (c : Config) (w : Word) → ((k : ℕ) → same_word (Root k 0) w ≡ false) → (t : ℕ) → rooted_memory c t w ≡ 0
+rooted_else c w other zero = refl
+rooted_else c w other (suc t) = cond-false (same_word (Root t 0) w) _ _ (other t) ∙ rooted_else c w other t
 
-rooted_top : (c : Config) (t r : ℕ) → rooted_memory c t (Top r) ≡ 0
-rooted_top c zero r = refl
-rooted_top c (suc t) r = rooted_top c t r
-
-rooted_phase : (c : Config) (t : ℕ) → rooted_memory c t Phase ≡ 0
-rooted_phase c zero = refl
-rooted_phase c (suc t) = rooted_phase c t
-
-rooted_cset : (c : Config) (t : ℕ) → rooted_memory c t Cset ≡ 0
-rooted_cset c zero = refl
-rooted_cset c (suc t) = rooted_cset c t
-
-rooted_evac : (c : Config) (t : ℕ) → rooted_memory c t Evac ≡ 0
-rooted_evac c zero = refl
-rooted_evac c (suc t) = rooted_evac c t
-
-rooted_current : (c : Config) (t s : ℕ) → rooted_memory c t (Current s) ≡ 0
-rooted_current c zero s = refl
-rooted_current c (suc t) s = rooted_current c t s
-
-rooted_wait : (c : Config) (t k : ℕ) → rooted_memory c t (Wait k) ≡ 0
-rooted_wait c zero k = refl
-rooted_wait c (suc t) k = rooted_wait c t k
-
-rooted_answer : (c : Config) (t k : ℕ) → rooted_memory c t (Answer k) ≡ 0
-rooted_answer c zero k = refl
-rooted_answer c (suc t) k = rooted_answer c t k
-
+-- the first root of each mutator is the hub
 rooted_root : (c : Config) (t k : ℕ) → k < t → rooted_memory c t (Root k 0) ≡ c.region_words
 rooted_root c zero k below = absurd (omega arith)
 rooted_root c (suc t) k below = ⊎_elim
     (λ (same : t ≡ k). grind (arith, nat_tests))
     (λ (differs : t ≡ k → ⊥). let rest : rooted_memory c t (Root k 0) ≡ c.region_words = rooted_root c t k (omega arith) in grind (arith, nat_tests))
     (cases_eq t k)
-
-rooted_other : (c : Config) (t k i : ℕ) → i ≢ 0 → rooted_memory c t (Root k i) ≡ 0
-rooted_other c zero k i other = refl
-rooted_other c (suc t) k i other = let rest : rooted_memory c t (Root k i) ≡ 0 = rooted_other c t k i other in grind (arith, nat_tests)
 
 heap_first : (c : Config) → first_memory c (Heap c.region_words) ≡ 1
 heap_first c = grind (arith, nat_tests)
@@ -86,13 +56,13 @@ heap_third : (c : Config) → first_memory c (Heap (c.region_words + 2)) ≡ 1
 heap_third c = grind (arith, nat_tests)
 
 heap_later : (c : Config) (k : ℕ) → 3 ≤ k → first_memory c (Heap (c.region_words + k)) ≡ 0
-heap_later c k later = let rest = rooted_heap c c.mutators (c.region_words + k) in grind (arith, nat_tests)
+heap_later c k later = let rest = rooted_else c (Heap (c.region_words + k)) (λ i. refl) c.mutators in grind (arith, nat_tests)
 
 top_first : (c : Config) → first_memory c (Top 0) ≡ 19
 top_first c = refl
 
 top_other : (c : Config) (r : ℕ) → r ≢ 0 → first_memory c (Top r) ≡ 0
-top_other c r other = let rest = rooted_top c c.mutators r in grind (arith, nat_tests)
+top_other c r other = let rest = rooted_else c (Top r) (λ k. refl) c.mutators in grind (arith, nat_tests)
 
 block_only : (c : Config) (a : ℕ) (b : Block) → first_block c a ≡ Some b → (a ≡ c.region_words) × (thing hub 16 0 ≡ b)
 block_only c a b is = let parts = cond_some (a == c.region_words) (thing hub 16 0) b is in (eqb-true _ _ parts.0, parts.1)
@@ -208,14 +178,14 @@ first_shared c = record {
   given = λ name o is.
       subst (λ n. IsGiven c (λ t. 0) n) (sym (object_only c name o is).0)
       (record { thread = omega arith; made = omega arith; by_thread = λ one. absurd (omega arith); small = omega arith });
-  calm = record { phase_is = rooted_phase c c.mutators; cset_is = rooted_cset c c.mutators; evac_is = rooted_evac c c.mutators };
+  calm = record { phase_is = rooted_else c Phase (λ k. refl) c.mutators; cset_is = rooted_else c Cset (λ k. refl) c.mutators; evac_is = rooted_else c Evac (λ k. refl) c.mutators };
   free_word = first_free_word c;
   currents = record {
-    within = λ seat r is. let none = rooted_current c c.mutators seat in absurd (omega (arith, none, is));
-    own = λ seat r is. let none = rooted_current c c.mutators seat in absurd (omega (arith, none, is));
+    within = λ seat r is. let none = rooted_else c (Current seat) (λ k. refl) c.mutators in absurd (omega (arith, none, is));
+    own = λ seat r is. let none = rooted_else c (Current seat) (λ k. refl) c.mutators in absurd (omega (arith, none, is));
   };
   rooms = λ a seat words is. absurd (let no = (block_only c a (hand seat words) is).1 in cc);
-  unasked = record { waits = λ t within. rooted_wait c c.mutators t; answers = λ t within. rooted_answer c c.mutators t };
+  unasked = record { waits = λ t within. rooted_else c (Wait t) (λ k. refl) c.mutators; answers = λ t within. rooted_else c (Answer t) (λ k. refl) c.mutators };
 }
 
 first_roots : (c : Config) (k i : ℕ) → k < c.mutators → Points (first_block c) (first_memory c (Root k i)) ((first_graph c).root (k + 1) i)
@@ -224,7 +194,7 @@ first_roots c k i below = ⊎_elim
     subst (λ j. Points (first_block c) (first_memory c (Root k j)) ((first_graph c).root (k + 1) j)) (sym same) zeroth)
     (λ (other : i ≡ 0 → ⊥).
     let none : (first_graph c).root (k + 1) i ≡ None = grind (arith, nat_tests) in
-    rw none (rooted_other c c.mutators k i other))
+    rw none (rooted_else c (Root k i) (λ t. and_right _ _ (ne_eqb 0 i (λ e. other (sym e)))) c.mutators))
     (cases_eq i 0)
   where
     zeroth : Points (first_block c) (first_memory c (Root k 0)) ((first_graph c).root (k + 1) 0)

@@ -1,9 +1,9 @@
 -- The induction over events: each event leads from a stage that follows its history to one that does.
 use Rattle.std.proofs.Common.{◌≡◌, ◌≢◌, ℕ, ◌+◌, ◌⊎◌, inl, inr, ⊎_elim, Bool, true, false, List, [], ◌∷◌, ◌++◌, length, Option, Some, None, refl, sym, ap, ◌∙◌, subst, append_assoc}
 use Rattle.std.specs.Prelude.{slice_get, slice_set, slice_index, ◌&&◌, if◌then◌else◌}
-use Rattle.std.proofs.lemmas.List.{length-set}
+use Rattle.std.proofs.lemmas.List.{append-nil, length-set}
 use Rattle.std.proofs.lemmas.Option.{same_Some}
-use Rattle.std.proofs.lemmas.Bool.{cases_eq}
+use Rattle.std.proofs.lemmas.Bool.{cases_eq, and_parts}
 use Rattle.heap_words.specs.declared.config.Config.{Config}
 use Rattle.heap_words.specs.Access.{place_of, made_of}
 use Rattle.heap_words.specs.Words.{is_word, word_at, view, table_words}
@@ -28,9 +28,10 @@ use Rattle.step_core.specs.History.{told_by, told_of_machine, told, history}
 use Rattle.step_core.specs.World.{World, Plot, Shared}
 use Rattle.step_core.specs.Stepped.{SpotFacts, Mine, Stepped, fixed_by}
 use Rattle.step_core.specs.Follows.{settled, first_graph, world_of, IsThread, IsMachine, Follows}
+use Rattle.mutator.proofs.Ready.{word_of_ready}
 use Rattle.step_core.proofs.Stable.{mine_stays}
 use Rattle.step_core.proofs.Places.{each_step}
-use Rattle.step_core.proofs.Entries.{append_none, after-more, legal-more, own_more, other_more}
+use Rattle.step_core.proofs.Entries.{after-more, legal-more, own_more, other_more}
 
 -- the word that an access finds, by its name
 pub found-placed : (c : Config) (words : List ℕ) (t : Touch) → is_word c t.word ≡ true → slice_index words (place_of (placed c t)) ≡ view c words t.word
@@ -68,9 +69,9 @@ pub entries_step : (calls : List Entry) (seat : ℕ) (command after : Command) (
 entries_step calls seat command after fixed (Some t) given gives settles stays = rw ((settles t refl).0, (settles t refl).1) refl
 entries_step calls seat command after fixed None (Some g) gives settles stays = rw (gives g refl) refl
 entries_step calls seat command after fixed None None gives settles stays =
-    append_none _ ∙ ⊎_elim
-    (λ (no : fixed ≡ None). rw no (sym (append_none _)))
-    (λ (same : after ≡ command). rw (same, append_none calls) refl)
+    append-nil _ ∙ ⊎_elim
+    (λ (no : fixed ≡ None). rw no (sym (append-nil _)))
+    (λ (same : after ≡ command). rw (same, append-nil calls) refl)
     stays
 
 -- two worlds of equal parts are equal
@@ -81,11 +82,6 @@ same_world a b memory block owner graph = λ i. record { memory = memory i; bloc
 pub next_seat : (c : Config) (m : Mutating) (order : Order) (got : ℕ) (spot : Spot) → (next_at c m order got spot).seat ≡ m.seat
 next_seat c m order got Rest = refl
 next_seat c m order got _ = refl
-
--- a test of two parts shows the first
-pub first_part : (a b : Bool) → (a && b) ≡ true → a ≡ true
-first_part true b is = refl
-first_part false b is = cc
 
 -- The step of a mutator, as an event.
 module _ (c : Config) (s : Stage Actor) (past : List Entry) (number : ℕ) (order : Order) (m : Mutating) (command : Command) (calls : List Entry) where
@@ -113,7 +109,7 @@ module _ (c : Config) (s : Stage Actor) (past : List Entry) (number : ℕ) (orde
   worlds : (follows : Follows c s past) (fixed : Option Reply) → is_ready c m.seat m.made m.spot ≡ true → (step : Stepped c (old_world follows.block follows.owner) m command order fixed) → step.world ≡ new_world step.world.block step.world.owner
   worlds follows fixed ready step =
       same_world step.world (new_world step.world.block step.world.owner)
-      (step.memory ∙ sym (view-placed c s.words (touch_of c m) (first_part _ _ (first_part _ _ ready)) follows.words))
+      (step.memory ∙ sym (view-placed c s.words (touch_of c m) (word_of_ready c (touch_of c m) (and_parts _ _ ready).0) follows.words))
       refl
       refl
       (step.graph ∙ sym (after-more (first_graph c) past m.seat (command_by order command) the_told))
@@ -122,7 +118,7 @@ module _ (c : Config) (s : Stage Actor) (past : List Entry) (number : ℕ) (orde
   own_machine : (follows : Follows c s past) (thread : IsThread c (old_world follows.block follows.owner) (of_thread past (number + 1)) number the_actor m) → (step : Stepped c (old_world follows.block follows.owner) m command order thread.fixed) → takes_at m.spot m.made order ≡ true
       → IsMachine c (new_world step.world.block step.world.owner) (of_thread new_past (number + 1)) number (took_of c the_actor order (slice_index s.words (place_of (placed c (touch_of c m)))) (mutating m)) (mutating (next_of c m order (slice_index s.words (place_of (placed c (touch_of c m))))))
   own_machine follows thread step takes =
-      let found : settled c s (touch_of c m).word ≡ slice_index s.words (place_of (placed c (touch_of c m))) = sym (found-placed c s.words (touch_of c m) (first_part _ _ (first_part _ _ thread.mine.ready))) in
+      let found : settled c s (touch_of c m).word ≡ slice_index s.words (place_of (placed c (touch_of c m))) = sym (found-placed c s.words (touch_of c m) (word_of_ready c (touch_of c m) (and_parts _ _ thread.mine.ready).0)) in
       record {
         fixed = fixed_by thread.fixed the_told (given_at m.spot);
         number_is = next_seat c m order _ m.spot ∙ thread.number_is;
@@ -198,7 +194,7 @@ unfolding act told kind
 follows_event c s past e follows = by_machine (slice_get s.machines e.number) refl
   where
     same : Follows c s (past ++ [])
-    same = subst (λ es. Follows c s es) (sym (append_none past)) follows
+    same = subst (λ es. Follows c s es) (sym (append-nil past)) follows
 
     by_order : (a : Actor) (b : Bool) → slice_get s.machines e.number ≡ Some a → takes_of a.machine e.order ≡ b
         → Follows c (if b then moved (kind c) s e.number a e.order else s) (past ++ (if b then told_by (settled c s) a e.order a.machine else []))
@@ -212,7 +208,7 @@ follows_event c s past e follows = by_machine (slice_get s.machines e.number) re
 -- a run
 pub follows_run : (c : Config) (s : Stage Actor) (past : List Entry) (es : List (Event Order)) → Follows c s past → Follows c (go (kind c) s es) (past ++ history c s es)
 unfolding go history
-follows_run c s past [] follows = subst (λ h. Follows c s h) (sym (append_none past)) follows
+follows_run c s past [] follows = subst (λ h. Follows c s h) (sym (append-nil past)) follows
 follows_run c s past (e ∷ es) follows =
     subst (λ h. Follows c (go (kind c) (act (kind c) s e) es) h) (append_assoc past (told c s e) (history c (act (kind c) s e) es))
     (follows_run c (act (kind c) s e) (past ++ told c s e) es (follows_event c s past e follows))

@@ -1,7 +1,7 @@
 -- Words that stand for references, and the names and numbers of the objects that they lead to.
 use Rattle.std.proofs.Common.{◌≡◌, ◌≢◌, ℕ, ◌+◌, ◌<◌, ◌≤◌, ⊎_elim, true, false, get_or, Some, None, refl, sym, ap, ◌∙◌, arith}
 use Rattle.std.specs.Prelude.{◌==◌, ◌||◌, ◌^◌, slice_get}
-use Rattle.std.proofs.lemmas.Bool.{cases_Bool, cases_eq, eq-eqb, ne_eqb, cond-true, cond-false, ltb-false}
+use Rattle.std.proofs.lemmas.Bool.{and_from, cases_Bool, cases_eq, eq-eqb, ne_eqb, cond-true, cond-false, ltb-false}
 use Rattle.std.proofs.lemmas.Bool.Decides.{nat_tests}
 use Rattle.std.proofs.lemmas.Option.{same_Some, none-some, slice_get-get_or, slice_get_past}
 use Rattle.heap_words.specs.declared.config.Config.{Config}
@@ -20,10 +20,6 @@ use Rattle.step_core.specs.World.{World, thing, name_at, Points, IsObject, Share
 use Rattle.step_core.specs.Stepped.{HasObject}
 use Rattle.step_core.proofs.Pointing.{named_thing, piece_word, null_if_0}
 
--- a name is its thread and its count
-pub same_parts : (m n : Name) → m.thread ≡ n.thread → m.count ≡ n.count → m ≡ n
-same_parts m n threads counts = λ i. record { thread = threads i; count = counts i }
-
 -- name words are equal exactly where their names are
 pub same_codes : (m n : Name) → m.count < 2 ^ 32 → n.count < 2 ^ 32 → (name_code m.thread m.count == name_code n.thread n.count) ≡ same_name m n
 same_codes m n small_m small_n = ⊎_elim
@@ -33,7 +29,9 @@ same_codes m n small_m small_n = ⊎_elim
 
 -- a name word reads as its name
 pub name_read : (n : Name) → n.count < 2 ^ 32 → name_in (name_code n.thread n.count) ≡ n
-name_read n small = same_parts _ n (omega arith) (omega arith)
+name_read n small =
+    let read = name_in (name_code n.thread n.count) in
+    same_name-true read n (and_from _ _ (eq-eqb read.thread n.thread (omega arith)) (eq-eqb read.count n.count (omega arith)))
 
 -- a shape word reads as its sizes
 pub refs_read : (refs nums : ℕ) → refs ≤ 16 → nums ≤ 16 → refs_in (shape_word refs nums) ≡ refs
