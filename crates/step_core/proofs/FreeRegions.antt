@@ -11,6 +11,7 @@ use Rattle.heap_words.specs.declared.config.Config.{Config}
 use Rattle.regions.specs.Sets.{IsIn, members_below, lowest_in, all_but}
 use Rattle.regions.proofs.SetLemmas.{lowest_member, no_members}
 use Rattle.step_core.specs.World.{IsFreeWord, AreCurrent}
+use Rattle.step_core.proofs.Updates.{updated, updated_else}
 
 -- a word has no bit past its size
 bit_past : (n k i : ℕ) → n < 2 ^ k → k ≤ i → bit_at n i ≡ 0
@@ -31,20 +32,9 @@ lowest_within c free kept small some = ⊎_elim
     absurd (omega (arith, bit, lowest.member)))
     (cases_lt (lowest_in free) c.regions)
 
--- the owners with one more region of a seat
-abbrev pub with_owner : (ℕ → Option ℕ) → ℕ → ℕ → ℕ → Option ℕ
-with_owner owner region seat r = if r == region then Some seat else owner r
-
-module _ (owner : ℕ → Option ℕ) (region seat : ℕ) where
-  pub owner_at : with_owner owner region seat region ≡ Some seat
-  owner_at = cond-true (region == region) _ _ (eq-eqb region region refl)
-
-  pub owner_else : (r : ℕ) → r ≢ region → with_owner owner region seat r ≡ owner r
-  owner_else r other = cond-false (r == region) _ _ (ne_eqb r region other)
-
-  -- where the region was nobody's, each one keeps its regions
-  pub owner_stays : owner region ≡ None → (r s : ℕ) → owner r ≡ Some s → with_owner owner region seat r ≡ Some s
-  owner_stays nobodys r s is = owner_else r (λ same. none-some s (sym nobodys ∙ ap owner (sym same) ∙ is)) ∙ is
+-- where a region was nobody's, each one keeps its regions
+pub owner_stays : (owner : ℕ → Option ℕ) (region seat : ℕ) → owner region ≡ None → (r s : ℕ) → owner r ≡ Some s → updated owner region (Some seat) r ≡ Some s
+owner_stays owner region seat nobodys r s is = updated_else owner region (Some seat) r (λ same. none-some s (sym nobodys ∙ ap owner same ∙ is)) ∙ is
 
 -- The free word without a region: the others stay free, and nobody's.
 pub free_without : (c : Config) (free region : ℕ) (top : ℕ → ℕ) (owner after : ℕ → Option ℕ) → region < c.regions
@@ -66,7 +56,7 @@ free_without c free region top owner after within others free_word =
     }
 
 -- the current regions stay their seats' own
-pub currents_stay : (c : Config) (current : ℕ → ℕ) (owner : ℕ → Option ℕ) (region seat : ℕ) → owner region ≡ None → AreCurrent c current owner → AreCurrent c current (with_owner owner region seat)
+pub currents_stay : (c : Config) (current : ℕ → ℕ) (owner : ℕ → Option ℕ) (region seat : ℕ) → owner region ≡ None → AreCurrent c current owner → AreCurrent c current (updated owner region (Some seat))
 currents_stay c current owner region seat nobodys currents = record {
   within = currents.within;
   own = λ s r is. owner_stays owner region seat nobodys r s (currents.own s r is);

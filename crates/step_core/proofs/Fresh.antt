@@ -18,13 +18,14 @@ use Rattle.mutator.specs.Rows.{Mutating, fresh_word, touch_of}
 use Rattle.steps_base.specs.Touch.{touched}
 use Rattle.step_core.specs.World.{World, Plot, Block, thing, hand, words_of, name_at, Points, IsObject, IsGiven, Shared}
 use Rattle.step_core.specs.Stepped.{IsFilling, Mine, Rely, Row}
+use Rattle.step_core.proofs.Updates.{updated, updated_same, updated_there, updated_else}
 use Rattle.step_core.proofs.Spots.{mutator_at, accessed}
 use Rattle.step_core.proofs.Settling.{legal_answer, graph_answer}
 use Rattle.step_core.proofs.Stable.{points_stay}
 use Rattle.step_core.proofs.Ready.{leave_ready, word_ready, fresh_ready}
 use Rattle.step_core.proofs.RootStores.{roots_written}
 use Rattle.step_core.proofs.Apart.{far}
-use Rattle.step_core.proofs.Pieces.{with_piece, piece_at, object_reads}
+use Rattle.step_core.proofs.Pieces.{object_reads}
 use Rattle.step_core.proofs.NewObject.{new_object, names_stay, things_stay, hands_stay, old_hand, plotted_again, filled_again, objects_again, rooms_again, given_again, with_count, count_own}
 
 -- the name of a thread's next object
@@ -144,7 +145,7 @@ module _ (c : Config) (u : World) (seat made phase cset : ℕ) (command : Comman
     abbrev made_world : World
     made_world = record {
       memory = touched u.memory (touch_of c (at_spot (StoreFresh dst refs nums address)));
-      block = with_piece u.block address (thing name refs nums);
+      block = updated u.block address (Some (thing name refs nums));
       owner = u.owner;
       graph = with_root (with_fresh u.graph (seat + 1) (blank refs nums)) (seat + 1) dst (Some name);
     }
@@ -199,7 +200,7 @@ module _ (c : Config) (u : World) (seat made phase cset : ℕ) (command : Comman
       roots =
           roots_written made_world.block u.memory u.graph.root seat dst address (Some name)
           (λ i below. points_stay u.block made_world.block names (u.memory (Root seat i)) (u.graph.root (seat + 1) i) (mine.roots i below))
-          (ap name_at (piece_at u.block address (thing name refs nums)));
+          (ap name_at (updated_there u.block address (Some (thing name refs nums))));
       hands = λ a words is.
           let old = old_hand c top u.block address seat refs nums name room a seat words is in
           old.0 (mine.hands a words old.1).0;

@@ -1,6 +1,7 @@
 pub mod Stable
 pub mod Settling
 pub mod Pointing
+pub mod Updates
 pub mod Apart
 pub mod Objects
 pub mod Naming

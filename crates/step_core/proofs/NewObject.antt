@@ -12,9 +12,10 @@ use Rattle.shen_graph.specs.Graph.{Object, same_name, blank}
 use Rattle.shen_graph.proofs.PlainLemmas.{same_name-true, same_name-itself}
 use Rattle.mutator.specs.Rows.{fresh_word}
 use Rattle.step_core.specs.World.{Block, thing, hand, words_of, Plot, name_at, Points, IsInUse, IsPlotted, IsFilled, IsObject, IsGiven, AreObjects, AreRooms}
+use Rattle.step_core.proofs.Updates.{updated, updated_same, updated_there, updated_else}
 use Rattle.step_core.proofs.Pointing.{named_thing}
 use Rattle.step_core.proofs.Objects.{two_names, where_object}
-use Rattle.step_core.proofs.Pieces.{with_piece, piece_at, piece_else, piece_cases, object_reads}
+use Rattle.step_core.proofs.Pieces.{piece_cases, object_reads}
 
 -- the references of a new object are null, and its numbers 0
 pub all_alike : {A : Type 0} (n i : ℕ) (x y : A) → slice_get (replicate n x) i ≡ Some y → y ≡ x
@@ -53,15 +54,11 @@ module _ (c : Config) (top : ℕ → ℕ) (block : Plot) (address seat refs nums
   new_thing = thing name refs nums
 
   abbrev new_block : Plot
-  new_block = with_piece block address new_thing
-
-  -- a piece of the new plot is the new object or an old piece
-  either : (a : ℕ) (b : Block) → new_block a ≡ Some b → ((a ≡ address) × (new_thing ≡ b)) ⊎ ((a ≢ address) × (block a ≡ Some b))
-  either a b is = ⊎_elim (λ new. inl (new.0, same_Some new_thing b new.1)) (λ old. inr old) (piece_cases block address new_thing a b is)
+  new_block = updated block address (Some new_thing)
 
   -- an old piece, but the room, stands where it stood
   pub stays : (a : ℕ) (b : Block) → block a ≡ Some b → (hand seat (3 + refs + nums) ≡ b → ⊥) → new_block a ≡ Some b
-  stays a b is differs = piece_else block address new_thing a (λ same. differs (same_Some _ b (sym room ∙ ap block (sym same) ∙ is))) ∙ is
+  stays a b is differs = updated_else block address (Some new_thing) a (λ same. differs (same_Some _ b (sym room ∙ ap block same ∙ is))) ∙ is
 
   pub things_stay : (a more_refs more_nums : ℕ) (n : Name) → block a ≡ Some (thing n more_refs more_nums) → new_block a ≡ Some (thing n more_refs more_nums)
   things_stay a more_refs more_nums n is = stays a (thing n more_refs more_nums) is (λ same. cc)
@@ -77,19 +74,19 @@ module _ (c : Config) (top : ℕ → ℕ) (block : Plot) (address seat refs nums
   old_hand a other words is = ⊎_elim
       (λ (new : (a ≡ address) × (new_thing ≡ hand other words)). let differ = new.1 in absurd (cc))
       (λ (old : (a ≢ address) × (block a ≡ Some (hand other words))). old)
-      (either a (hand other words) is)
+      (piece_cases block address new_thing a (hand other words) is)
 
   -- where a piece stands, one of the same words stood, and the other way round
   old_piece : (a : ℕ) (b : Block) → new_block a ≡ Some b → (x : Block) × (block a ≡ Some x) × (words_of x ≡ words_of b)
   old_piece a b is = ⊎_elim
       (λ (new : (a ≡ address) × (new_thing ≡ b)). (hand seat (3 + refs + nums), ap block new.0 ∙ room, ap words_of new.1))
       (λ (old : (a ≢ address) × (block a ≡ Some b)). (b, old.1, refl))
-      (either a b is)
+      (piece_cases block address new_thing a b is)
 
   some_piece : (a : ℕ) → (b : Block) × (block a ≡ Some b) → (b : Block) × (new_block a ≡ Some b)
   some_piece a piece = ⊎_elim
-      (λ (same : a ≡ address). (new_thing, ap new_block same ∙ piece_at block address new_thing))
-      (λ (other : a ≢ address). (piece.0, piece_else block address new_thing a other ∙ piece.1))
+      (λ (same : a ≡ address). (new_thing, ap new_block same ∙ updated_there block address (Some new_thing)))
+      (λ (other : a ≢ address). (piece.0, updated_else block address (Some new_thing) a (λ e. other (sym e)) ∙ piece.1))
       (cases_eq a address)
 
   pub plotted_again : IsPlotted c top block → IsPlotted c top new_block
@@ -146,9 +143,9 @@ module _ (c : Config) (top : ℕ → ℕ) (block : Plot) (address seat refs nums
             other_object n (not_old a more_refs more_nums n old.1) ∙ was.1,
             object_reads heap heap block new_block a more_refs more_nums n was.0 (λ k below. refl) names_stay was.2,
           ))
-          (either a (thing n more_refs more_nums) is);
+          (piece_cases block address new_thing a (thing n more_refs more_nums) is);
       all = λ n p is. ⊎_elim
-          (λ (same : same_name n name ≡ true). (address, refs, nums, piece_at block address new_thing ∙ ap (λ m. Some (thing m refs nums)) (sym (same_name-true n name same))))
+          (λ (same : same_name n name ≡ true). (address, refs, nums, updated_there block address (Some new_thing) ∙ ap (λ m. Some (thing m refs nums)) (sym (same_name-true n name same))))
           (λ (differs : same_name n name ≡ false).
           let was = objects.all n p (sym (cond-false (same_name n name) _ _ differs) ∙ is) in
           (was.0, was.1, was.2, things_stay was.0 was.1 was.2 n was.3))
@@ -157,12 +154,12 @@ module _ (c : Config) (top : ℕ → ℕ) (block : Plot) (address seat refs nums
           (λ (new_a : (a ≡ address) × (new_thing ≡ thing n refs_a nums_a)). ⊎_elim
           (λ (new_b : (b ≡ address) × (new_thing ≡ thing n refs_b nums_b)). new_a.0 ∙ sym new_b.0)
           (λ (old_b : (b ≢ address) × (block b ≡ Some (thing n refs_b nums_b))). let same = new_a.1 in let names : name ≡ n = cc in absurd (not_old b refs_b nums_b n old_b.1 names))
-          (either b (thing n refs_b nums_b) is_b))
+          (piece_cases block address new_thing b (thing n refs_b nums_b) is_b))
           (λ (old_a : (a ≢ address) × (block a ≡ Some (thing n refs_a nums_a))). ⊎_elim
           (λ (new_b : (b ≡ address) × (new_thing ≡ thing n refs_b nums_b)). let same = new_b.1 in let names : name ≡ n = cc in absurd (not_old a refs_a nums_a n old_a.1 names))
           (λ (old_b : (b ≢ address) × (block b ≡ Some (thing n refs_b nums_b))). objects.once a b refs_a nums_a refs_b nums_b n old_a.1 old_b.1)
-          (either b (thing n refs_b nums_b) is_b))
-          (either a (thing n refs_a nums_a) is_a);
+          (piece_cases block address new_thing b (thing n refs_b nums_b) is_b))
+          (piece_cases block address new_thing a (thing n refs_a nums_a) is_a);
     }
 
   pub rooms_again : (current : ℕ → ℕ) → AreRooms c top current block → AreRooms c top current new_block

@@ -22,9 +22,10 @@ use Rattle.mutator.specs.Rows.{Mutating, touch_of, next_of, given_at}
 use Rattle.mutator.specs.Told.{told_of}
 use Rattle.step_core.specs.World.{World, hand, Points, Target, IsObject, Shared}
 use Rattle.step_core.specs.Stepped.{HasObject, Mine, Stepped, Row}
+use Rattle.step_core.proofs.Updates.{updated, updated_same, updated_there, updated_else}
 use Rattle.step_core.proofs.Ready.{leave_ready}
 use Rattle.step_core.proofs.Naming.{object_in, field_in, number_in, same_words, shown_is}
-use Rattle.step_core.proofs.Objects.{stored_word, field_stored, number_stored, stored, changed, shared_stored, rely_stored}
+use Rattle.step_core.proofs.Objects.{field_stored, number_stored, stored, changed, shared_stored, rely_stored}
 use Rattle.step_core.proofs.Settling.{legal_answer, graph_answer}
 use Rattle.step_core.proofs.Spots.{mutator_at}
 use Rattle.step_core.proofs.InHand.{shown_not_full, field_mine}
@@ -61,7 +62,7 @@ module _ (g : Graph) (t obj : ℕ) (name : Name) (o : Object) (root_is : g.root 
 module _ (c : Config) (u : World) (m : Mutating) (object refs nums at value : ℕ) (name : Name) (o : Object) (root : ℕ → ℕ → Reference) (command : Command) (fixed : Option Reply) (r : Reply) where
   store_settles : touched u.memory (touch_of c m) ≡ write u.memory (Heap at) value → told_of u.memory m ≡ Some r → given_at m.spot ≡ None → fixed ≡ None → is_full r ≡ false
       → Shared c u → Target u.block object name refs nums → object ≤ at → at < object + (3 + refs + nums)
-      → IsObject (stored_word (λ a. u.memory (Heap a)) at value) u.block object refs nums name o
+      → IsObject (updated (λ a. u.memory (Heap a)) at value) u.block object refs nums name o
       → outcome u.graph (m.seat + 1) command ≡ answers r (changed u.graph name o root)
       → ((seat i : ℕ) → seat ≢ m.seat → root (seat + 1) i ≡ u.graph.root (seat + 1) i)
       → Mine c (stored u at value (changed u.graph name o root)) (next_of c m Nothing (u.memory (touch_of c m).word)) command (Some r)
@@ -85,7 +86,7 @@ module _ (c : Config) (u : World) (m : Mutating) (object field value obj val : �
   abbrev world_then : World
   world_then = stored u (object + 3 + field) value (changed u.graph of.name object_then root)
 
-  object_stands : IsObject (stored_word (λ a. u.memory (Heap a)) (object + 3 + field) value) u.block object of.refs of.nums of.name object_then
+  object_stands : IsObject (updated (λ a. u.memory (Heap a)) (object + 3 + field) value) u.block object of.refs of.nums of.name object_then
   object_stands = field_stored (λ a. u.memory (Heap a)) u.block object of.refs of.nums of.name _ (object_in c u shared m.seat obj object of).2 field value (u.graph.root (m.seat + 1) val) below value_is
 
   shared_then : Shared c world_then
@@ -188,6 +189,6 @@ module _ (c : Config) (u : World) (seat made phase cset : ℕ) (command : Comman
       let answered = wr_outcome u.graph (seat + 1) is.obj is.of.name o.0 is.of.root_is o.1 index value _ (number_in c u shared seat is.obj object index is.of is.below) in
       store_settles c u (at_spot (StoreNumber object refs index value)) object is.of.refs is.of.nums at value is.of.name (with_value o.0 index value) u.graph.root command fixed reply.Ok
       refl refl refl mine.facts.0 refl shared is.of.target (omega arith) (omega (arith, is.below, is.refs_are))
-      (subst (λ (x : ℕ). IsObject (stored_word (λ a. u.memory (Heap a)) (object + 3 + x + index) value) u.block object is.of.refs is.of.nums is.of.name (with_value o.0 index value)) (sym is.refs_are) stands)
+      (subst (λ (x : ℕ). IsObject (updated (λ a. u.memory (Heap a)) (object + 3 + x + index) value) u.block object is.of.refs is.of.nums is.of.name (with_value o.0 index value)) (sym is.refs_are) stands)
       (ap (λ k. outcome u.graph (seat + 1) k) is.is ∙ answered) (λ j i d. refl)
       (leaving _ reply.Ok mine.seat mine.made mine.roots mine.hands)

@@ -27,34 +27,34 @@ use Rattle.mutator.specs.Rows.{Mutating, touch_of, after_take, take_next}
 use Rattle.mutator.specs.Fit.{is_ready}
 use Rattle.step_core.specs.World.{World, Plot, Block, thing, hand, name_at, AreCurrent, AreRooms, Shared}
 use Rattle.step_core.specs.Stepped.{IsMaking, IsRoomy, TakeFacts, Mine, Rely, Row, Stepped}
+use Rattle.step_core.proofs.Updates.{updated, updated_same, updated_there, updated_else}
 use Rattle.step_core.proofs.Spots.{mutator_at, accessed}
 use Rattle.step_core.proofs.Stable.{points_stay}
-use Rattle.step_core.proofs.Pieces.{with_piece, piece_at}
-use Rattle.step_core.proofs.NewPiece.{CanGrow, names_stay, stays, old_hand, own_hand, plotted_more, filled_more, objects_more, free_more, rooms_more, top_else}
-use Rattle.step_core.proofs.FreeRegions.{lowest_within, with_owner, owner_at, owner_else, owner_stays, free_without, currents_stay}
+use Rattle.step_core.proofs.NewPiece.{CanGrow, names_stay, stays, old_hand, own_hand, plotted_more, filled_more, objects_more, free_more, rooms_more}
+use Rattle.step_core.proofs.FreeRegions.{lowest_within, owner_stays, free_without, currents_stay}
 use Rattle.step_core.proofs.Ready.{taking_ready, word_ready}
 use Rattle.step_core.proofs.Loading.{looks}
 
 -- the seat's current region is another, which is its own
 currents_with : (c : Config) (current : ℕ → ℕ) (owner : ℕ → Option ℕ) (seat region : ℕ) → region < c.regions → owner region ≡ Some seat → AreCurrent c current owner
-    → AreCurrent c (λ s. if seat == s then region + 1 else current s) owner
+    → AreCurrent c (updated current seat (region + 1)) owner
 currents_with c current owner seat region within own currents = record {
   within = λ s r is. ⊎_elim
-      (λ (same : seat ≡ s). (let now : region + 1 ≡ r + 1 = sym (cond-true (seat == s) _ _ (eq-eqb seat s same)) ∙ is in omega (arith, now, within)))
-      (λ (other : seat ≢ s). currents.within s r (sym (cond-false (seat == s) _ _ (ne_eqb seat s other)) ∙ is))
+      (λ (same : seat ≡ s). (let now : region + 1 ≡ r + 1 = sym (updated_same current seat (region + 1) s same) ∙ is in omega (arith, now, within)))
+      (λ (other : seat ≢ s). currents.within s r (sym (updated_else current seat (region + 1) s other) ∙ is))
       (cases_eq seat s);
   own = λ s r is. ⊎_elim
       (λ (same : seat ≡ s).
-      let now : region + 1 ≡ r + 1 = sym (cond-true (seat == s) _ _ (eq-eqb seat s same)) ∙ is in
+      let now : region + 1 ≡ r + 1 = sym (updated_same current seat (region + 1) s same) ∙ is in
       let region_is : r ≡ region = omega (arith, now) in
       ap owner region_is ∙ own ∙ ap (λ k. Some k) same)
-      (λ (other : seat ≢ s). currents.own s r (sym (cond-false (seat == s) _ _ (ne_eqb seat s other)) ∙ is))
+      (λ (other : seat ≢ s). currents.own s r (sym (updated_else current seat (region + 1) s other) ∙ is))
       (cases_eq seat s);
 }
 
 -- a seat with no room in hand may change its current region
 rooms_with : (c : Config) (top current : ℕ → ℕ) (block : Plot) (seat region : ℕ) → ((a words : ℕ) → block a ≡ Some (hand seat words) → ⊥) → AreRooms c top current block
-    → AreRooms c top (λ s. if seat == s then region + 1 else current s) block
+    → AreRooms c top (updated current seat (region + 1)) block
 rooms_with c top current block seat region none rooms a s words is =
     let is_room = rooms a s words is in
     let other : seat ≢ s = λ same. none a words (subst (λ k. block a ≡ Some (hand k words)) (sym same) is) in
@@ -62,7 +62,7 @@ rooms_with c top current block seat region none rooms a s words is =
       mutator = is_room.mutator;
       some = is_room.some;
       region = is_room.region;
-      is_current = cond-false (seat == s) _ _ (ne_eqb seat s other) ∙ is_room.is_current;
+      is_current = updated_else current seat (region + 1) s other ∙ is_room.is_current;
       from_base = is_room.from_base;
       at_top = is_room.at_top;
     }
@@ -165,7 +165,7 @@ module _ (c : Config) (u : World) (seat made phase cset : ℕ) (command : Comman
     taken_world region = record {
       memory = touched u.memory (touch_of c (at_spot (Taking dst refs nums (TakeRegion region))));
       block = u.block;
-      owner = with_owner u.owner region seat;
+      owner = updated u.owner region (Some seat);
       graph = u.graph;
     }
 
@@ -190,7 +190,7 @@ module _ (c : Config) (u : World) (seat made phase cset : ℕ) (command : Comman
             objects = shared.objects;
             given = shared.given;
             calm = shared.calm;
-            free_word = free_without c (u.memory Free) region (λ r. u.memory (Top r)) u.owner (with_owner u.owner region seat) within (owner_else u.owner region seat) shared.free_word;
+            free_word = free_without c (u.memory Free) region (λ r. u.memory (Top r)) u.owner (updated u.owner region (Some seat)) within (λ r differs. updated_else u.owner region (Some seat) r (λ e. differs (sym e))) shared.free_word;
             currents = currents_stay c (λ s. u.memory (Current s)) u.owner region seat nobodys shared.currents;
             rooms = shared.rooms;
             unasked = shared.unasked;
@@ -200,7 +200,7 @@ module _ (c : Config) (u : World) (seat made phase cset : ℕ) (command : Comman
               (mine_at (TakeRegion region) (StoreCurrent region) (taken_world region) mine refl refl (λ i. refl)
               (taking_ready c seat made command fixed dst refs nums mine.facts.0 (StoreCurrent region)
               (and_from _ _ (lt-ltb seat (seat_count c.mutators c.helpers) (omega (arith, mutator))) (lt-ltb (region + 1) (2 ^ 64) (omega (arith, within, few)))) refl (lt-ltb _ _ within))
-              (record { within = within; own = owner_at u.owner region seat; empty = shared.free_word.empty region within bit }));
+              (record { within = within; own = updated_there u.owner region (Some seat); empty = shared.free_word.empty region within bit }));
           others = λ j d. record {
             names = λ a n is. is;
             things = λ a more_refs more_nums n is. is;
@@ -295,7 +295,7 @@ module _ (c : Config) (u : World) (seat made phase cset : ℕ) (command : Comman
       abbrev grown_world : World
       grown_world = record {
         memory = touched u.memory (touch_of c (at_spot (Taking dst refs nums (StoreTop region top))));
-        block = with_piece u.block address (hand seat words);
+        block = updated u.block address (Some (hand seat words));
         owner = u.owner;
         graph = u.graph;
       }
@@ -323,7 +323,7 @@ module _ (c : Config) (u : World) (seat made phase cset : ℕ) (command : Comman
       }
 
       there : grown_world.block address ≡ Some (hand seat words)
-      there = piece_at u.block address (hand seat words)
+      there = updated_there u.block address (Some (hand seat words))
 
       names : (a : ℕ) (n : Name) → name_at (u.block a) ≡ Some n → name_at (grown_world.block a) ≡ Some n
       names = names_stay c tops currents u.block region top words seat grows
@@ -350,7 +350,7 @@ module _ (c : Config) (u : World) (seat made phase cset : ℕ) (command : Comman
         hand_words = λ a more k is below. refl;
         current = refl;
         owners = λ r is. is;
-        tops = λ r is. top_else tops region (top + words) r (λ same. differs (same_Some j seat (sym is ∙ ap u.owner (sym same) ∙ own)));
+        tops = λ r is. updated_else tops region (top + words) r (λ same. differs (same_Some j seat (sym is ∙ ap u.owner (sym same) ∙ own)));
         root_words = λ i. refl;
         roots = λ i. refl;
         count = refl;
