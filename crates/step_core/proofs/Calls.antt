@@ -15,7 +15,7 @@ use Rattle.step_core.specs.World.{World}
 use Rattle.step_core.specs.Stepped.{Row}
 use Rattle.mutator.specs.Fit.{is_ready}
 use Rattle.step_core.proofs.Spots.{mutator_at, accessed}
-use Rattle.step_core.proofs.Ready.{leave_ready}
+use Rattle.step_core.proofs.Ready.{leaving}
 use Rattle.step_core.proofs.Settling.{legal_answer, graph_answer}
 
 module _ (c : Config) (u : World) (seat made phase cset : ℕ) (command : Command) (fixed : Option Reply) where
@@ -73,7 +73,7 @@ module _ (c : Config) (u : World) (seat made phase cset : ℕ) (command : Comman
         legal = legal_answer u.graph seat command reply.Ok refl gc;
         settles = λ r e. (mine.facts.0, refl);
         shared = shared;
-        mine = record { seat = mine.seat; ready = leave_ready c seat made reply.Ok mine.seat; made = mine.made; roots = mine.roots; hands = mine.hands; facts = refl };
+        mine = leaving c _ seat made phase cset command reply.Ok mine.seat mine.made mine.roots mine.hands;
         others = λ j d. search (arith, nat_tests);
       }
 

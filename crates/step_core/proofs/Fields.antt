@@ -20,7 +20,7 @@ use Rattle.mutator.specs.Told.{name_the_same}
 use Rattle.step_core.specs.World.{World}
 use Rattle.step_core.specs.Stepped.{Row}
 use Rattle.step_core.proofs.Spots.{mutator_at}
-use Rattle.step_core.proofs.Ready.{leave_ready, ready_of, number_small}
+use Rattle.step_core.proofs.Ready.{leaving, ready_of, number_small}
 use Rattle.step_core.proofs.Pointing.{points_small}
 use Rattle.step_core.proofs.Naming.{same_words, names_agree, name_there, name_read, shown_is, field_in, number_in, word_in}
 use Rattle.step_core.proofs.Loading.{looks, replies, replies_root, roots_then}
@@ -72,7 +72,7 @@ module _ (c : Config) (u : World) (seat made phase cset : ℕ) (command : Comman
       replies c u (at_spot (LoadExpected object field expect value)) (Heap (object + 3 + field)) command fixed reply.No refl (cond-false _ _ _ (agree ∙ differs)) refl mine.facts.0 refl
       (ap (λ k. outcome u.graph (seat + 1) k) cas.is ∙ rw here.1 (cond-false _ _ _ (sym words ∙ differs)))
       shared
-      (rw differs (record { seat = mine.seat; ready = leave_ready c seat made reply.No mine.seat; made = mine.made; roots = mine.roots; hands = mine.hands; facts = refl })))
+      (rw differs (leaving c _ seat made phase cset command reply.No mine.seat mine.made mine.roots mine.hands)))
       (cases_Bool (got == expect))
 
   pub at_load_number : (object refs index : ℕ) (order : Order) → Row c u (at_spot (LoadNumber object refs index)) command order fixed
@@ -84,7 +84,7 @@ module _ (c : Config) (u : World) (seat made phase cset : ℕ) (command : Comman
       replies c u (at_spot (LoadNumber object refs index)) (Heap (object + 3 + refs + index)) command fixed (reply.Number got) refl refl refl mine.facts.0 refl
       (ap (λ k. outcome u.graph (seat + 1) k) rd.is ∙ rw here (ap (λ n. answers (reply.Number (u.memory (Heap (object + 3 + n + index)))) u.graph) (sym rd.refs_are)))
       shared
-      (record { seat = mine.seat; ready = leave_ready c seat made (reply.Number got) mine.seat; made = mine.made; roots = mine.roots; hands = mine.hands; facts = refl })
+      (leaving c _ seat made phase cset command (reply.Number got) mine.seat mine.made mine.roots mine.hands)
 
   pub at_load_name : (value dst : ℕ) (order : Order) → Row c u (at_spot (LoadName value dst)) command order fixed
   at_load_name value dst (Begin l) shared mine takes = cc

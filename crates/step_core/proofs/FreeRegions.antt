@@ -6,19 +6,12 @@ use Rattle.std.proofs.Math.Nat.{div-eq_of_lt}
 use Rattle.std.proofs.lemmas.Bool.{cases_lt, cond-true, cond-false, eq-eqb, ne_eqb}
 use Rattle.std.proofs.lemmas.Option.{none-some}
 use Rattle.std.proofs.lemmas.Nat.{and_le_l}
-use Rattle.std.proofs.lemmas.Nat.Bits.{bit_at_clear_same, bit_at_clear_other}
+use Rattle.std.proofs.lemmas.Nat.Bits.{bit_at_above, bit_at_clear_same, bit_at_clear_other}
 use Rattle.heap_words.specs.declared.config.Config.{Config}
 use Rattle.regions.specs.Sets.{IsIn, members_below, lowest_in, all_but}
 use Rattle.regions.proofs.SetLemmas.{lowest_member, no_members}
 use Rattle.step_core.specs.World.{IsFreeWord, AreCurrent}
 use Rattle.step_core.proofs.Updates.{updated, updated_else}
-
--- a word has no bit past its size
-bit_past : (n k i : ℕ) → n < 2 ^ k → k ≤ i → bit_at n i ≡ 0
-bit_past n k i small past =
-    let most : 2 ^ k ≤ 2 ^ i = pow_mono past in
-    let none : n / 2 ^ i ≡ 0 = div-eq_of_lt (omega (arith, small, most)) in
-    ap (λ x. x % 2) none
 
 -- the lowest region of a free word that has members is one of the heap
 pub lowest_within : (c : Config) (free kept : ℕ) → free < 2 ^ c.regions → kept < members_below free 64 → lowest_in free < c.regions
@@ -28,7 +21,7 @@ lowest_within c free kept small some = ⊎_elim
     let bits : 2 ^ c.regions ≤ 2 ^ 64 = pow_mono c.in_range.most_regions in
     let members : free ≢ 0 = λ none. (let count : members_below free 64 ≡ 0 = ap (λ s. members_below s 64) none ∙ no_members in omega (arith, count, some)) in
     let lowest = lowest_member free (omega (arith, members)) (omega (arith, small, bits)) in
-    let bit = bit_past free c.regions (lowest_in free) small past in
+    let bit = bit_at_above free c.regions (lowest_in free) small past in
     absurd (omega (arith, bit, lowest.member)))
     (cases_lt (lowest_in free) c.regions)
 

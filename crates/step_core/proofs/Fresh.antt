@@ -22,7 +22,7 @@ use Rattle.step_core.proofs.Updates.{updated, updated_same, updated_there, updat
 use Rattle.step_core.proofs.Spots.{mutator_at, accessed}
 use Rattle.step_core.proofs.Settling.{legal_answer, graph_answer}
 use Rattle.step_core.proofs.Stable.{points_stay}
-use Rattle.step_core.proofs.Ready.{leave_ready, word_ready, fresh_ready}
+use Rattle.step_core.proofs.Ready.{leaving, word_ready, fresh_ready}
 use Rattle.step_core.proofs.RootStores.{roots_written}
 use Rattle.step_core.proofs.Apart.{far}
 use Rattle.step_core.proofs.Pieces.{object_reads}
@@ -193,19 +193,12 @@ module _ (c : Config) (u : World) (seat made phase cset : ℕ) (command : Comman
     }
 
     mine_made : Mine c made_world (mutator_at seat (made + 1) phase cset (Leave (reply.Ref (next_name (seat + 1) made)))) command (Some (reply.Ref (next_name (seat + 1) made)))
-    mine_made = record {
-      seat = mine.seat;
-      ready = leave_ready c seat (made + 1) (reply.Ref (next_name (seat + 1) made)) mine.seat;
-      made = count_own u.graph.count (seat + 1) ∙ ap (λ k. k + 1) mine.made;
-      roots =
-          roots_written made_world.block u.memory u.graph.root seat dst address (Some name)
-          (λ i below. points_stay u.block made_world.block names (u.memory (Root seat i)) (u.graph.root (seat + 1) i) (mine.roots i below))
-          (ap name_at (updated_there u.block address (Some (thing name refs nums))));
-      hands = λ a words is.
-          let old = old_hand c top u.block address seat refs nums name room a seat words is in
-          old.0 (mine.hands a words old.1).0;
-      facts = refl;
-    }
+    mine_made =
+        leaving c made_world seat (made + 1) phase cset command (reply.Ref (next_name (seat + 1) made)) mine.seat (count_own u.graph.count (seat + 1) ∙ ap (λ k. k + 1) mine.made)
+        (roots_written made_world.block u.memory u.graph.root seat dst address (Some name)
+        (λ i below. points_stay u.block made_world.block names (u.memory (Root seat i)) (u.graph.root (seat + 1) i) (mine.roots i below))
+        (ap name_at (updated_there u.block address (Some (thing name refs nums)))))
+        (λ a words is. let old = old_hand c top u.block address seat refs nums name room a seat words is in old.0 (mine.hands a words old.1).0)
 
     others_made : (j : ℕ) → j ≢ seat → Rely j u made_world
     others_made j differs = record {

@@ -1,5 +1,5 @@
 -- The steps by which a call loads its command's roots and the shape of its object.
-use Rattle.std.proofs.Common.{◌≡◌, ℕ, zero, suc, ◌+◌, ◌<◌, inl, inr, ⊎_elim, Bool, true, false, length, Option, Some, None, refl, sym, ap, ◌∙◌, arith}
+use Rattle.std.proofs.Common.{◌≡◌, ℕ, zero, suc, ◌+◌, ◌<◌, inl, inr, ⊎_elim, Bool, true, false, length, Option, Some, None, refl, sym, ap, ◌∙◌, subst, arith}
 use Rattle.std.specs.Prelude.{◌==◌}
 use Rattle.std.proofs.lemmas.Bool.{and_parts, cases_Bool, cond-true, cond-false, eq-eqb, eqb-true, ltb-true}
 use Rattle.std.proofs.lemmas.Bool.Decides.{nat_tests}
@@ -23,7 +23,7 @@ use Rattle.mutator.specs.Told.{name_the_same}
 use Rattle.step_core.specs.World.{World, Points, Shared}
 use Rattle.step_core.specs.Stepped.{HasRoot, HasObject, HasFirst, HasRoots, Mine, Stepped, Row}
 use Rattle.step_core.proofs.Spots.{mutator_at}
-use Rattle.step_core.proofs.Ready.{leave_ready, ready_of, number_small}
+use Rattle.step_core.proofs.Ready.{leaving, ready_of, number_small}
 use Rattle.step_core.proofs.Pointing.{named_thing, named_if_not_0, null_if_0, points_small}
 use Rattle.step_core.proofs.Naming.{same_words, names_agree, word_in, shape_in, bad_on_null, bad_on_shape}
 use Rattle.step_core.proofs.Loading.{looks, replies}
@@ -131,7 +131,7 @@ module _ (c : Config) (u : World) (seat made phase cset : ℕ) (command : Comman
 
   -- it leaves with the reply that is settled
   leave_mine : (k : Command) (r : Reply) → HasBegun cset k → HasSpot cset (Some r) (Leave r)
-  leave_mine k r mine = record { seat = mine.seat; ready = leave_ready c seat made r mine.seat; made = mine.made; roots = mine.roots; hands = mine.hands; facts = refl }
+  leave_mine k r mine = leaving c _ seat made phase cset command r mine.seat mine.made mine.roots mine.hands
 
   -- it can go on with the shape of the command's object
   shape_mine : (k : Command) (object second third : ℕ) → Shared c u → HasBegun cset k → is_on_object k ≡ true → HasRoots u seat k object second third → HasSpot cset fixed (LoadShape k object second third)
@@ -240,14 +240,7 @@ module _ (c : Config) (u : World) (seat made phase cset : ℕ) (command : Comman
       (full_no (name_the_same u.memory first got))
       (ap (λ x. outcome u.graph (seat + 1) x) mine.facts.is ∙ ap (λ x. answers (yes_or_no x) u.graph) (sym (agree ∙ same_words c u shared first got _ _ is_first is_second)))
       shared
-      (record {
-        seat = mine.seat;
-        ready = leave_ready c seat made (yes_or_no (first == got)) mine.seat;
-        made = mine.made;
-        roots = mine.roots;
-        hands = mine.hands;
-        facts = ap (λ x. Some (yes_or_no x)) agree;
-      })
+      (subst (λ f. HasSpot cset f (Leave (yes_or_no (first == got)))) (ap (λ x. Some (yes_or_no x)) (sym agree)) (leave_mine (Same a b) (yes_or_no (first == got)) mine))
   second_step _ first shared mine more has = absurd (omega arith)
 
   pub at_load_second : (k : Command) (first : ℕ) (order : Order) → Row c u (at_spot (LoadSecond k first)) command order fixed

@@ -5,6 +5,7 @@ use Rattle.std.proofs.lemmas.Bool.{and_from, lt-ltb, le-leb}
 use Rattle.std.proofs.lemmas.Bool.Decides.{nat_tests}
 use Rattle.std.proofs.Math.Nat.{mul-le-mul_right}
 use Rattle.heap_words.specs.declared.config.Config.{Config}
+use Rattle.heap_words.specs.Words.{Root}
 use Rattle.steps_base.specs.Fits.{touch_fits, is_number}
 use Rattle.shen_graph.specs.declared.command.Command.{Command}
 use Rattle.shen_graph.specs.declared.command.Reply.{Reply}
@@ -13,8 +14,9 @@ use Rattle.alloc_buffers.specs.Rows as takes
 use Rattle.mutator.specs.declared.spot.Spot.TheVariants.{Taking, StoreWord, StoreFresh, Leave}
 use Rattle.mutator.specs.Rows.{fresh_word}
 use Rattle.mutator.specs.Fit.{is_ready, is_next_object, is_going}
-use Rattle.step_core.specs.World.{hand, Plot, IsPlotted}
-use Rattle.step_core.specs.Stepped.{IsMaking}
+use Rattle.step_core.specs.World.{World, hand, Plot, Points, IsPlotted}
+use Rattle.step_core.specs.Stepped.{IsMaking, Mine}
+use Rattle.step_core.proofs.Spots.{mutator_at}
 use Rattle.step_core.proofs.Pointing.{piece_word, piece_small}
 
 -- an access can be made whose word is one of the table and whose number is a word
@@ -26,8 +28,14 @@ pub number_small : (n : ℕ) → n < 2097152 → is_number n ≡ true
 number_small n small = lt-ltb n (2 ^ 64) (omega arith)
 
 -- a mutator can always leave
-pub leave_ready : (c : Config) (seat made : ℕ) (reply : Reply) → seat < c.mutators → is_ready c seat made (Leave reply) ≡ true
+leave_ready : (c : Config) (seat made : ℕ) (reply : Reply) → seat < c.mutators → is_ready c seat made (Leave reply) ≡ true
 leave_ready c seat made reply below = grind (arith, nat_tests)
+
+-- with its reply settled, a mutator has only to leave
+pub leaving : (c : Config) (w : World) (seat made phase cset : ℕ) (command : Command) (r : Reply) → seat < c.mutators → w.graph.count (seat + 1) ≡ made
+    → ((i : ℕ) → i < 16 → Points w.block (w.memory (Root seat i)) (w.graph.root (seat + 1) i)) → ((a words : ℕ) → w.block a ≡ Some (hand seat words) → ⊥)
+    → Mine c w (mutator_at seat made phase cset (Leave r)) command (Some r)
+leaving c w seat made phase cset command r below count roots hands = record { seat = below; ready = leave_ready c seat made r below; made = count; roots = roots; hands = hands; facts = refl }
 
 -- the words of a new object are words of 64 bits
 pub fresh_small : (seat made refs nums k : ℕ) → seat < 8 → made < 4294967295 → refs ≤ 16 → nums ≤ 16 → fresh_word seat made refs nums k < 2 ^ 64

@@ -20,7 +20,7 @@ use Rattle.step_core.specs.World.{World, Plot, Points, Shared}
 use Rattle.step_core.specs.Stepped.{Mine, Stepped, Row}
 use Rattle.step_core.proofs.Spots.{mutator_at, accessed}
 use Rattle.step_core.proofs.Settling.{legal_answer, graph_answer}
-use Rattle.step_core.proofs.Ready.{leave_ready}
+use Rattle.step_core.proofs.Ready.{leaving}
 use Rattle.step_core.proofs.Loading.{roots_then}
 
 -- a mutator's roots, after a number was stored into one of them
@@ -50,14 +50,10 @@ module _ (c : Config) (u : World) (seat made phase cset : ℕ) (command : Comman
     legal = tt;
     settles = λ q e. cc;
     shared = shared;
-    mine = record {
-      seat = mine.seat;
-      ready = leave_ready c seat made r mine.seat;
-      made = mine.made;
-      roots = λ i below. subst (λ word. Points u.block word (u.graph.root (seat + 1) i)) (root_written u.memory seat dst value i) (mine.roots i below);
-      hands = mine.hands;
-      facts = mine.facts.0;
-    };
+    mine =
+        rw mine.facts.0
+        (leaving c _ seat made phase cset command r mine.seat mine.made
+        (λ i below. subst (λ word. Points u.block word (u.graph.root (seat + 1) i)) (root_written u.memory seat dst value i) (mine.roots i below)) mine.hands);
     others = λ j d. search (arith, nat_tests);
   }
 
@@ -72,14 +68,7 @@ module _ (c : Config) (u : World) (seat made phase cset : ℕ) (command : Comman
     legal = legal_answer u.graph seat command reply.Ok refl (ap (λ o. o.reply) is);
     settles = λ r e. (mine.facts.0, refl);
     shared = shared;
-    mine = record {
-      seat = mine.seat;
-      ready = leave_ready c seat made reply.Ok mine.seat;
-      made = mine.made;
-      roots = roots_written u.block u.memory u.graph.root seat dst value v mine.roots stands;
-      hands = mine.hands;
-      facts = refl;
-    };
+    mine = leaving c _ seat made phase cset command reply.Ok mine.seat mine.made (roots_written u.block u.memory u.graph.root seat dst value v mine.roots stands) mine.hands;
     others = λ j d. search (arith, nat_tests);
   }
 

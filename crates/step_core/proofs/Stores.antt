@@ -23,7 +23,7 @@ use Rattle.mutator.specs.Told.{told_of}
 use Rattle.step_core.specs.World.{World, hand, Points, Target, IsObject, Shared}
 use Rattle.step_core.specs.Stepped.{HasObject, Mine, Stepped, Row}
 use Rattle.step_core.proofs.Updates.{updated, updated_same, updated_there, updated_else}
-use Rattle.step_core.proofs.Ready.{leave_ready}
+use Rattle.step_core.proofs.Ready.{leaving}
 use Rattle.step_core.proofs.Naming.{object_in, field_in, number_in, same_words, shown_is}
 use Rattle.step_core.proofs.Objects.{field_stored, number_stored, stored, changed, shared_stored, rely_stored}
 use Rattle.step_core.proofs.Settling.{legal_answer, graph_answer}
@@ -105,12 +105,6 @@ module _ (c : Config) (u : World) (seat made phase cset : ℕ) (command : Comman
   abbrev at_spot : Spot → Mutating
   at_spot spot = mutator_at seat made phase cset spot
 
-  -- after its reply a mutator has only to leave
-  leaving : (w : World) (r : Reply) → seat < c.mutators → w.graph.count (seat + 1) ≡ made
-      → ((i : ℕ) → i < 16 → Points w.block (w.memory (Root seat i)) (w.graph.root (seat + 1) i)) → ((a words : ℕ) → w.block a ≡ Some (hand seat words) → ⊥)
-      → Mine c w (at_spot (Leave r)) command (Some r)
-  leaving w r below is_made roots hands = record { seat = below; ready = leave_ready c seat made r below; made = is_made; roots = roots; hands = hands; facts = refl }
-
   pub at_store_field : (object field value : ℕ) (order : Order) → Row c u (at_spot (StoreField object field value)) command order fixed
   at_store_field object field value (Begin l) shared mine takes = cc
   at_store_field object field value Nothing shared mine takes =
@@ -120,7 +114,7 @@ module _ (c : Config) (u : World) (seat made phase cset : ℕ) (command : Comman
       let answered = set_outcome u.graph (seat + 1) is.obj is.of.name o.0 is.of.root_is o.1 field is.val v.0 v.1 in
       field_settles c u (at_spot (StoreField object field value)) object field value is.obj is.val shared is.of is.below is.value_is u.graph.root command fixed reply.Ok
       refl refl refl mine.facts.0 refl (ap (λ k. outcome u.graph (seat + 1) k) is.is ∙ answered) (λ j i d. refl)
-      (leaving _ reply.Ok mine.seat mine.made mine.roots mine.hands)
+      (leaving c _ seat made phase cset command reply.Ok mine.seat mine.made mine.roots mine.hands)
 
   pub at_swap_field : (object field value dst : ℕ) (order : Order) → Row c u (at_spot (SwapField object field value dst)) command order fixed
   at_swap_field object field value dst (Begin l) shared mine takes = cc
@@ -150,7 +144,7 @@ module _ (c : Config) (u : World) (seat made phase cset : ℕ) (command : Comman
       let answered = cas_outcome u.graph (seat + 1) is.obj is.of.name o.0 is.of.root_is o.1 field is.expected is.val v.0 v.1 references in
       field_settles c u (at_spot (ExchangeField object field found expect value)) object field value is.obj is.val shared is.of is.below is.value_is u.graph.root command fixed reply.Yes
       (rw same refl) (rw same refl) refl mine.facts.0 refl (ap (λ k. outcome u.graph (seat + 1) k) is.is ∙ answered) (λ j i d. refl)
-      (rw same (leaving _ reply.Yes mine.seat mine.made mine.roots mine.hands))
+      (rw same (leaving c _ seat made phase cset command reply.Yes mine.seat mine.made mine.roots mine.hands))
 
   -- it has another: nothing changes, and the field is loaded again
   exchange_again : (object field found expect value : ℕ) → (u.memory (Heap (object + 3 + field)) == found) ≡ false → Row c u (at_spot (ExchangeField object field found expect value)) command Nothing fixed
@@ -191,4 +185,4 @@ module _ (c : Config) (u : World) (seat made phase cset : ℕ) (command : Comman
       refl refl refl mine.facts.0 refl shared is.of.target (omega arith) (omega (arith, is.below, is.refs_are))
       (subst (λ (x : ℕ). IsObject (updated (λ a. u.memory (Heap a)) (object + 3 + x + index) value) u.block object is.of.refs is.of.nums is.of.name (with_value o.0 index value)) (sym is.refs_are) stands)
       (ap (λ k. outcome u.graph (seat + 1) k) is.is ∙ answered) (λ j i d. refl)
-      (leaving _ reply.Ok mine.seat mine.made mine.roots mine.hands)
+      (leaving c _ seat made phase cset command reply.Ok mine.seat mine.made mine.roots mine.hands)
