@@ -22,6 +22,7 @@ module _ (c : Config) (u : World) (seat made phase cset : ℕ) (command : Comman
   abbrev at_spot : Spot → Mutating
   at_spot spot = mutator_at seat made phase cset spot
 
+  -- a call begins after the opening
   pub at_rest : (order : Order) → Row c u (at_spot Rest) command order fixed
   at_rest Nothing shared mine takes = cc
   at_rest (Begin k) shared mine takes = record {
@@ -42,6 +43,7 @@ module _ (c : Config) (u : World) (seat made phase cset : ℕ) (command : Comman
     others = λ j d. search (arith, nat_tests);
   }
 
+  -- a call begins after another
   pub at_ended : (r : Reply) (order : Order) → Row c u (at_spot (Ended r)) command order fixed
   at_ended r Nothing shared mine takes = cc
   at_ended r (Begin k) shared mine takes = record {
@@ -62,6 +64,7 @@ module _ (c : Config) (u : World) (seat made phase cset : ℕ) (command : Comman
     others = λ j d. search (arith, nat_tests);
   }
 
+  -- the step that asks for a cycle settles Ok
   pub at_ask : (order : Order) → Row c u (at_spot AskCycle) command order fixed
   at_ask (Begin k) shared mine takes = cc
   at_ask Nothing shared mine takes =
@@ -77,6 +80,7 @@ module _ (c : Config) (u : World) (seat made phase cset : ℕ) (command : Comman
         others = λ j d. search (arith, nat_tests);
       }
 
+  -- the last step of a call gives its reply
   pub at_leave : (r : Reply) (order : Order) → Row c u (at_spot (Leave r)) command order fixed
   at_leave r (Begin k) shared mine takes = cc
   at_leave r Nothing shared mine takes = record {

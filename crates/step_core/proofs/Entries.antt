@@ -11,11 +11,13 @@ use Rattle.shen_graph.specs.History.{Entry, after_entry, after, EachIsLegal, of_
 use Rattle.step_core.specs.Actor.{entry_of, entries_of}
 use Rattle.step_core.specs.Stepped.{graph_by, LegalBy}
 
+-- the graph after one entry more
 pub after-more : (g : Graph) (past : List Entry) (seat : ℕ) (k : Command) (r : Option Reply) → after g (past ++ entries_of seat k r) ≡ graph_by (after g past) seat k r
 after-more g [] seat k None = refl
 after-more g [] seat k (Some r) = refl
 after-more g (e ∷ past) seat k r = after-more (after_entry g e) past seat k r
 
+-- one legal entry more leaves a history legal
 pub legal-more : (g : Graph) (past : List Entry) (seat : ℕ) (k : Command) (r : Option Reply) → EachIsLegal g past → LegalBy (after g past) seat k r → EachIsLegal g (past ++ entries_of seat k r)
 legal-more g [] seat k None legal one = tt
 legal-more g [] seat k (Some r) legal one = (one, tt)

@@ -30,6 +30,7 @@ module _ (c : Config) (u : World) (seat made phase cset : ℕ) (command : Comman
   abbrev at_spot : Spot → Mutating
   at_spot spot = mutator_at seat made phase cset spot
 
+  -- the load of a field settles the reference that it stands for
   pub at_load_field : (object field dst : ℕ) (order : Order) → Row c u (at_spot (LoadField object field dst)) command order fixed
   at_load_field object field dst (Begin l) shared mine takes = cc
   at_load_field object field dst Nothing shared mine takes =
@@ -47,6 +48,7 @@ module _ (c : Config) (u : World) (seat made phase cset : ℕ) (command : Comman
       (roots_then u.block (λ i. u.memory (Root seat i)) u.graph.root (seat + 1) dst got here.0 mine.roots here.2)
       mine.hands here.2)
 
+  -- the load of a field that is to change only from an expected reference settles No where it has another
   pub at_load_expected : (object field expect value : ℕ) (order : Order) → Row c u (at_spot (LoadExpected object field expect value)) command order fixed
   at_load_expected object field expect value (Begin l) shared mine takes = cc
   at_load_expected object field expect value Nothing shared mine takes =
@@ -75,6 +77,7 @@ module _ (c : Config) (u : World) (seat made phase cset : ℕ) (command : Comman
       (rw differs (leaving c _ seat made phase cset command reply.No mine.seat mine.made mine.roots mine.hands)))
       (cases_Bool (got == expect))
 
+  -- the load of a number settles it
   pub at_load_number : (object refs index : ℕ) (order : Order) → Row c u (at_spot (LoadNumber object refs index)) command order fixed
   at_load_number object refs index (Begin l) shared mine takes = cc
   at_load_number object refs index Nothing shared mine takes =
@@ -86,6 +89,7 @@ module _ (c : Config) (u : World) (seat made phase cset : ℕ) (command : Comman
       shared
       (leaving c _ seat made phase cset command (reply.Number got) mine.seat mine.made mine.roots mine.hands)
 
+  -- the load of a name: it is the one that was settled
   pub at_load_name : (value dst : ℕ) (order : Order) → Row c u (at_spot (LoadName value dst)) command order fixed
   at_load_name value dst (Begin l) shared mine takes = cc
   at_load_name value dst Nothing shared mine takes =

@@ -30,6 +30,7 @@ use Rattle.step_core.proofs.OpeningStands.{rooted_memory, first_memory, view-ope
 abbrev pub first_block : Config → Plot
 first_block c a = if a == c.region_words then Some (thing hub 16 0) else None
 
+-- what the opening stands for
 abbrev pub first_world : Config → World
 first_world c = record { memory = first_memory c; block = first_block c; owner = λ _. None; graph = first_graph c }
 
@@ -46,39 +47,46 @@ rooted_root c (suc t) k below = ⊎_elim
     (λ (differs : t ≡ k → ⊥). let rest : rooted_memory c t (Root k 0) ≡ c.region_words = rooted_root c t k (omega arith) in grind (arith, nat_tests))
     (cases_eq t k)
 
+-- the words of the hub
 heap_first : (c : Config) → first_memory c (Heap c.region_words) ≡ 1
 heap_first c = grind (arith, nat_tests)
 
+-- its shape
 heap_second : (c : Config) → first_memory c (Heap (c.region_words + 1)) ≡ 69632
 heap_second c = grind (arith, nat_tests)
 
+-- its name
 heap_third : (c : Config) → first_memory c (Heap (c.region_words + 2)) ≡ 1
 heap_third c = grind (arith, nat_tests)
 
+-- its fields are null
 heap_later : (c : Config) (k : ℕ) → 3 ≤ k → first_memory c (Heap (c.region_words + k)) ≡ 0
 heap_later c k later = let rest = rooted_else c (Heap (c.region_words + k)) (λ i. refl) c.mutators in grind (arith, nat_tests)
 
-top_first : (c : Config) → first_memory c (Top 0) ≡ 19
-top_first c = refl
-
+-- only region 0 has a top
 top_other : (c : Config) (r : ℕ) → r ≢ 0 → first_memory c (Top r) ≡ 0
 top_other c r other = let rest = rooted_else c (Top r) (λ k. refl) c.mutators in grind (arith, nat_tests)
 
+-- the hub is the only piece
 block_only : (c : Config) (a : ℕ) (b : Block) → first_block c a ≡ Some b → (a ≡ c.region_words) × (thing hub 16 0 ≡ b)
 block_only c a b is = let parts = cond_some (a == c.region_words) (thing hub 16 0) b is in (eqb-true _ _ parts.0, parts.1)
 
+-- it is at the base of region 0
 block_hub : (c : Config) → first_block c c.region_words ≡ Some (thing hub 16 0)
 block_hub c = let same : (c.region_words == c.region_words) ≡ true = grind (arith, nat_tests) in rw same refl
 
+-- the hub is the only object
 object_only : (c : Config) (n : Name) (o : Object) → (first_graph c).object n ≡ Some o → (n ≡ hub) × (blank 16 0 ≡ o)
 object_only c n o is = let parts = cond_some (same_name n hub) (blank 16 0) o is in (same_name-true n hub parts.0, parts.1)
 
+-- no top is past its region
 top_within : (c : Config) (r : ℕ) → first_memory c (Top r) ≤ c.region_words
 top_within c r = ⊎_elim
     (λ (same : r ≡ 0). subst (λ k. first_memory c (Top k) ≤ c.region_words) (sym same) (let long = c.in_range.least_words in omega arith))
     (λ (other : r ≡ 0 → ⊥). let none = top_other c r other in omega arith)
     (cases_eq r 0)
 
+-- the hub lies in the part in use
 first_plotted : (c : Config) → IsPlotted c (λ r. first_memory c (Top r)) (first_block c)
 first_plotted c = record {
   tops = λ r within. top_within c r;
@@ -90,9 +98,11 @@ first_plotted c = record {
       let one = (block_only c a x is_x).0 in let two = (block_only c b y is_y).0 in omega arith;
 }
 
+-- the base of region 0
 first_base : (c : Config) → base_of c 0 ≡ c.region_words
 first_base c = omega arith
 
+-- the part in use is the hub
 first_filled : (c : Config) → IsFilled c (λ r. first_memory c (Top r)) (first_block c)
 first_filled c = record {
   first = λ r within used. ⊎_elim
@@ -111,6 +121,7 @@ first_filled c = record {
       (cases_eq r 0));
 }
 
+-- the words of the hub are those of a blank object
 hub_object : (c : Config) → IsObject (λ a. first_memory c (Heap a)) (first_block c) c.region_words 16 0 hub (blank 16 0)
 hub_object c = record {
   header = heap_first c;
@@ -126,6 +137,7 @@ hub_object c = record {
   numbers = λ i n is. cc;
 }
 
+-- the words are those of the graph's one object
 first_objects : (c : Config) → AreObjects (λ a. first_memory c (Heap a)) (first_block c) (first_graph c).object
 first_objects c = record {
   each = λ a refs nums name is.
@@ -146,6 +158,7 @@ first_objects c = record {
   once = λ a b refs nums more_refs more_nums name is_a is_b. (block_only c a _ is_a).0 ∙ sym (block_only c b _ is_b).0;
 }
 
+-- region 0 is not free
 first_free_even : (n : ℕ) → 1 ≤ n → bit_at (first_free n) 0 ≡ 0
 first_free_even zero some = absurd (omega arith)
 first_free_even (suc n) some =
@@ -153,6 +166,7 @@ first_free_even (suc n) some =
     let lowest = bit_at_lowest (first_free (suc n)) in
     omega (arith, double, lowest)
 
+-- no region past the last is free
 first_free_small : (n : ℕ) → first_free n < 2 ^ n
 first_free_small n = let some = pow_pos n in omega (arith, some)
 
@@ -170,6 +184,7 @@ first_free_word c = record {
   nobodys = λ r within bit. refl;
 }
 
+-- what machines share holds of the opening
 first_shared : (c : Config) → Shared c (first_world c)
 first_shared c = record {
   plotted = first_plotted c;
@@ -188,6 +203,7 @@ first_shared c = record {
   unasked = record { waits = λ t within. rooted_else c (Wait t) (λ k. refl) c.mutators; answers = λ t within. rooted_else c (Answer t) (λ k. refl) c.mutators };
 }
 
+-- the words of the roots stand for the graph's
 first_roots : (c : Config) (k i : ℕ) → k < c.mutators → Points (first_block c) (first_memory c (Root k i)) ((first_graph c).root (k + 1) i)
 first_roots c k i below = ⊎_elim
     (λ (same : i ≡ 0).
@@ -204,9 +220,11 @@ first_roots c k i below = ⊎_elim
         ap (λ a. name_at (first_block c a)) (rooted_root c c.mutators k below) ∙ ap name_at (block_hub c) in
         subst (λ r. Points (first_block c) (first_memory c (Root k 0)) r) (sym named) at_hub
 
+-- what a mutator knows holds of the opening
 first_mine : (c : Config) (k : ℕ) → k < c.mutators → Mine c (first_world c) (fresh_mutator k) Gc None
 first_mine c k below = record { seat = below; ready = refl; made = refl; roots = λ i small. first_roots c k i below; hands = λ a words is. (let no = (block_only c a (hand k words) is).1 in cc); facts = refl }
 
+-- each machine of the opening follows the empty history
 first_machine : (c : Config) (k : ℕ) → IsMachine c (first_world c) [] k (opening_actor c k) (opening_machine c k)
 first_machine c k = by_test (nat_lt k c.mutators) (nat_lt k (c.mutators + c.helpers)) refl
   where
@@ -215,6 +233,7 @@ first_machine c k = by_test (nat_lt k c.mutators) (nat_lt k (c.mutators + c.help
     by_test false true is = tt
     by_test false false is = tt
 
+-- the opening follows the empty history
 pub follows_first : (c : Config) → Follows c (opening c) []
 unfolding opening
 follows_first c = record {

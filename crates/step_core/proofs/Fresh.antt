@@ -37,6 +37,7 @@ module _ (c : Config) (u : World) (seat made phase cset : ℕ) (command : Comman
   at_spot spot = mutator_at seat made phase cset spot
 
   module _ (dst refs nums address done : ℕ) (shared : Shared c u) (mine : Mine c u (at_spot (StoreWord dst refs nums address done)) command fixed) where
+    -- the world with one word more stored
     abbrev stored_world : World
     stored_world = accessed c u (at_spot (StoreWord dst refs nums address done))
 
@@ -47,6 +48,7 @@ module _ (c : Config) (u : World) (seat made phase cset : ℕ) (command : Comman
         (ne_eqb (address + done) (a + k)
         (λ e. far c (λ r. u.memory (Top r)) u.block shared.plotted a address k done b (hand seat (3 + refs + nums)) is mine.facts.1.room other below mine.facts.2 (sym e)))
 
+    -- machines share what they shared
     shared_stored : Shared c stored_world
     shared_stored = record {
       plotted = shared.plotted;
@@ -83,6 +85,7 @@ module _ (c : Config) (u : World) (seat made phase cset : ℕ) (command : Comman
           (cases_eq k done);
     }
 
+    -- the mutator goes on with the next word, or with the root
     mine_stored : (b : Bool) → nat_lt (done + 1) (3 + refs + nums) ≡ b
         → Mine c stored_world (at_spot (if b then StoreWord dst refs nums address (done + 1) else StoreFresh dst refs nums address)) command fixed
     mine_stored true more = record {
@@ -105,6 +108,7 @@ module _ (c : Config) (u : World) (seat made phase cset : ℕ) (command : Comman
       );
     }
 
+    -- others can rely on what they knew
     others_stored : (j : ℕ) → j ≢ seat → Rely j u stored_world
     others_stored j differs = record {
       names = λ a n is. is;
@@ -122,6 +126,7 @@ module _ (c : Config) (u : World) (seat made phase cset : ℕ) (command : Comman
       count = refl;
     }
 
+  -- the step that stores a word of a new object
   pub at_store_word : (dst refs nums address done : ℕ) (order : Order) → Row c u (at_spot (StoreWord dst refs nums address done)) command order fixed
   at_store_word dst refs nums address done (Begin l) shared mine takes = cc
   at_store_word dst refs nums address done Nothing shared mine takes = record {
@@ -142,6 +147,7 @@ module _ (c : Config) (u : World) (seat made phase cset : ℕ) (command : Comman
     abbrev name : Name
     name = fresh u.graph (seat + 1)
 
+    -- the world with the new object
     abbrev made_world : World
     made_world = record {
       memory = touched u.memory (touch_of c (at_spot (StoreFresh dst refs nums address)));
@@ -150,6 +156,7 @@ module _ (c : Config) (u : World) (seat made phase cset : ℕ) (command : Comman
       graph = with_root (with_fresh u.graph (seat + 1) (blank refs nums)) (seat + 1) dst (Some name);
     }
 
+    -- the room in hand
     room : u.block address ≡ Some (hand seat (3 + refs + nums))
     room = mine.facts.1.room
 
@@ -165,12 +172,14 @@ module _ (c : Config) (u : World) (seat made phase cset : ℕ) (command : Comman
     not_given : (o : Object) → u.graph.object name ≡ Some o → ⊥
     not_given o is = let given = shared.given name o is in let most = given.by_thread (omega arith) in omega (arith, most)
 
+    -- its words are those of a blank object
     new_is : IsObject (λ a. u.memory (Heap a)) made_world.block address refs nums name (blank refs nums)
     new_is =
         let making = mine.facts.0 in
         subst (λ n. IsObject (λ a. u.memory (Heap a)) made_world.block address refs nums n (blank refs nums)) (sym name_is)
         (new_object (λ a. u.memory (Heap a)) made_world.block address seat made refs nums making.few_refs making.few_nums mine.facts.1.stored)
 
+    -- its name is given then
     is_given : IsGiven c (with_count u.graph.count (seat + 1)) name
     is_given =
         let own = count_own u.graph.count (seat + 1) in
@@ -179,6 +188,7 @@ module _ (c : Config) (u : World) (seat made phase cset : ℕ) (command : Comman
         let within = mine.seat in
         record { thread = omega (arith, within); made = omega (arith, own); by_thread = λ one. omega (arith, own); small = omega (arith, few, counted) }
 
+    -- machines share what they should
     shared_made : Shared c made_world
     shared_made = record {
       plotted = plotted_again c top u.block address seat refs nums name room shared.plotted;
@@ -192,6 +202,7 @@ module _ (c : Config) (u : World) (seat made phase cset : ℕ) (command : Comman
       unasked = shared.unasked;
     }
 
+    -- the mutator has only to leave
     mine_made : Mine c made_world (mutator_at seat (made + 1) phase cset (Leave (reply.Ref (next_name (seat + 1) made)))) command (Some (reply.Ref (next_name (seat + 1) made)))
     mine_made =
         leaving c made_world seat (made + 1) phase cset command (reply.Ref (next_name (seat + 1) made)) mine.seat (count_own u.graph.count (seat + 1) ∙ ap (λ k. k + 1) mine.made)
@@ -200,6 +211,7 @@ module _ (c : Config) (u : World) (seat made phase cset : ℕ) (command : Comman
         (ap name_at (updated_there u.block address (Some (thing name refs nums)))))
         (λ a words is. let old = old_hand c top u.block address seat refs nums name room a seat words is in old.0 (mine.hands a words old.1).0)
 
+    -- others can rely on what they knew
     others_made : (j : ℕ) → j ≢ seat → Rely j u made_world
     others_made j differs = record {
       names = names;
@@ -215,6 +227,7 @@ module _ (c : Config) (u : World) (seat made phase cset : ℕ) (command : Comman
       count = cond-false ((j + 1) == (seat + 1)) _ _ (ne_eqb (j + 1) (seat + 1) (λ e. differs (omega (arith, e))));
     }
 
+  -- the step that stores a new object into a root settles its name
   pub at_store_fresh : (dst refs nums address : ℕ) (order : Order) → Row c u (at_spot (StoreFresh dst refs nums address)) command order fixed
   at_store_fresh dst refs nums address (Begin l) shared mine takes = cc
   at_store_fresh dst refs nums address Nothing shared mine takes =

@@ -85,27 +85,34 @@ next_seat c m order got _ = refl
 
 -- The step of a mutator, as an event.
 module _ (c : Config) (s : Stage Actor) (past : List Entry) (number : ℕ) (order : Order) (m : Mutating) (command : Command) (calls : List Entry) where
+  -- the actor before the event
   abbrev the_actor : Actor
   the_actor = record { machine = mutating m; command = command; calls = calls }
 
+  -- the reply that the step settles
   abbrev the_told : Option Reply
   the_told = settled_by (settled c s) m
 
+  -- the history after it
   abbrev new_past : List Entry
   new_past = past ++ entries_of m.seat (command_by order command) the_told
 
+  -- the stage after it
   abbrev new_stage : Stage Actor
   new_stage = record {
     words = slice_set s.words (place_of (placed c (touch_of c m))) (made_of (placed c (touch_of c m)) (slice_index s.words (place_of (placed c (touch_of c m)))));
     machines = slice_set s.machines number (took_of c the_actor order (slice_index s.words (place_of (placed c (touch_of c m)))) (mutating m));
   }
 
+  -- the world before it
   abbrev old_world : Plot → (ℕ → Option ℕ) → World
   old_world block owner = world_of c s block owner (after (first_graph c) past)
 
+  -- the world after it
   abbrev new_world : Plot → (ℕ → Option ℕ) → World
   new_world block owner = world_of c new_stage block owner (after (first_graph c) new_past)
 
+  -- the world that the place tells is that of the stage after it
   worlds : (follows : Follows c s past) (fixed : Option Reply) → is_ready c m.seat m.made m.spot ≡ true → (step : Stepped c (old_world follows.block follows.owner) m command order fixed) → step.world ≡ new_world step.world.block step.world.owner
   worlds follows fixed ready step =
       same_world step.world (new_world step.world.block step.world.owner)
@@ -165,6 +172,7 @@ module _ (c : Config) (s : Stage Actor) (past : List Entry) (number : ℕ) (orde
       (follows.machines k a (sym (slice_get-set_other s.machines number k _ differs) ∙ there)))
       (cases_eq k number)
 
+  -- a step leads from a stage that follows its history to one that does
   pub follows_step : slice_get s.machines number ≡ Some the_actor → takes_at m.spot m.made order ≡ true → Follows c s past → Follows c (moved (kind c) s number the_actor order) new_past
   unfolding kind
   follows_step here takes follows =
@@ -189,6 +197,7 @@ follows_order c s past number order command calls helping here takes follows = c
 follows_order c s past number order command calls controlling here takes follows = cc
 follows_order c s past number order command calls (mutating m) here takes follows = follows_step c s past number order m command calls here takes follows
 
+-- so does an event, of a machine that is there or not
 pub follows_event : (c : Config) (s : Stage Actor) (past : List Entry) (e : Event Order) → Follows c s past → Follows c (act (kind c) s e) (past ++ told c s e)
 unfolding act told kind
 follows_event c s past e follows = by_machine (slice_get s.machines e.number) refl

@@ -157,6 +157,7 @@ module _ (c : Config) (u : World) (seat made phase cset : ℕ) (command : Comman
       let small = root_small made k 1 mine.facts.next more in
       record { seat = mine.seat; ready = grind (arith, nat_tests); made = mine.made; roots = mine.roots; hands = mine.hands; facts = (mine.facts, more, has) }
 
+  -- it can go on with the third root
   third_mine : (k : Command) (first second : ℕ) → HasBegun cset k → 2 < length (roots_of k) → HasFirst u seat k first → HasRoot u seat k 1 second → HasSpot cset fixed (LoadThird k first second)
   third_mine k first second mine more has has_second =
       let below = mine.seat in
@@ -190,6 +191,7 @@ module _ (c : Config) (u : World) (seat made phase cset : ℕ) (command : Comman
       }
   first_mine _ first shared mine has = let some = has.some in absurd (omega arith)
 
+  -- the load of the collection set
   pub at_load_set : (k : Command) (order : Order) → Row c u (at_spot (LoadSet k)) command order fixed
   at_load_set k (Begin l) shared mine takes = cc
   at_load_set k Nothing shared mine takes = looks c u (at_spot (LoadSet k)) Cset command fixed refl refl refl shared (set_mine k (u.memory Cset) mine)
@@ -214,6 +216,7 @@ module _ (c : Config) (u : World) (seat made phase cset : ℕ) (command : Comman
         not_null = λ on is. absurd (let both : lacks_object k (u.memory (Root seat (root_of k 0))) ≡ true = rw on (eq-eqb _ _ is) in cc);
       })))
 
+  -- the load of the first root
   pub at_load_root : (k : Command) (order : Order) → Row c u (at_spot (LoadRoot k)) command order fixed
   at_load_root k (Begin l) shared mine takes = cc
   at_load_root k Nothing shared mine takes =
@@ -243,6 +246,7 @@ module _ (c : Config) (u : World) (seat made phase cset : ℕ) (command : Comman
       (subst (λ f. HasSpot cset f (Leave (yes_or_no (first == got)))) (ap (λ x. Some (yes_or_no x)) (sym agree)) (leave_mine (Same a b) (yes_or_no (first == got)) mine))
   second_step _ first shared mine more has = absurd (omega arith)
 
+  -- the load of the second root
   pub at_load_second : (k : Command) (first : ℕ) (order : Order) → Row c u (at_spot (LoadSecond k first)) command order fixed
   at_load_second k first (Begin l) shared mine takes = cc
   at_load_second k first Nothing shared mine takes =
@@ -255,6 +259,7 @@ module _ (c : Config) (u : World) (seat made phase cset : ℕ) (command : Comman
       (shape_mine (Cas obj field expect val) first second (u.memory (Root seat val)) shared mine refl (record { first_is = has; second_is = has_second; third_is = root_has (Cas obj field expect val) 2 mine }))
   third_step _ first second shared mine more has has_second = absurd (omega arith)
 
+  -- the load of the third root
   pub at_load_third : (k : Command) (first second : ℕ) (order : Order) → Row c u (at_spot (LoadThird k first second)) command order fixed
   at_load_third k first second (Begin l) shared mine takes = cc
   at_load_third k first second Nothing shared mine takes =
@@ -334,6 +339,7 @@ module _ (c : Config) (u : World) (seat made phase cset : ℕ) (command : Comman
       }
   part_mine _ object second third shape shared mine has of refs nums on part = cc
 
+  -- the load of the shape settles Bad where the object has no such part
   pub at_load_shape : (k : Command) (object second third : ℕ) (order : Order) → Row c u (at_spot (LoadShape k object second third)) command order fixed
   at_load_shape k object second third (Begin l) shared mine takes = cc
   at_load_shape k object second third Nothing shared mine takes =

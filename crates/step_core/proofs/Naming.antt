@@ -37,6 +37,7 @@ name_read n small =
 pub refs_read : (refs nums : ℕ) → refs ≤ 16 → nums ≤ 16 → refs_in (shape_word refs nums) ≡ refs
 refs_read refs nums few_refs few_nums = omega arith
 
+-- and of its numbers
 pub nums_read : (refs nums : ℕ) → refs ≤ 16 → nums ≤ 16 → nums_in (shape_word refs nums) ≡ nums
 nums_read refs nums few_refs few_nums = omega arith
 
@@ -132,6 +133,7 @@ module _ (c : Config) (u : World) (shared : Shared c u) where
       let o = object_in seat root object has in
       ap (λ x. slice_get x.refs field) (named_object u.graph (seat + 1) root has.name o.0 has.root_is o.1) ∙ slice_get_past o.0.refs field (let long = o.2.refs_are in omega arith)
 
+  -- there is no number past the last
   pub no_number_in : (seat root object index : ℕ) (has : HasObject u seat root object) → has.nums ≤ index → number_at u.graph (seat + 1) root index ≡ None
   no_number_in seat root object index has past =
       let o = object_in seat root object has in

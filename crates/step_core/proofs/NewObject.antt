@@ -50,9 +50,11 @@ new_object heap block address seat made refs nums few_refs few_nums stored = rec
 }
 
 module _ (c : Config) (top : ℕ → ℕ) (block : Plot) (address seat refs nums : ℕ) (name : Name) (room : block address ≡ Some (hand seat (3 + refs + nums))) where
+  -- the new object
   abbrev new_thing : Block
   new_thing = thing name refs nums
 
+  -- the plot with it
   abbrev new_block : Plot
   new_block = updated block address (Some new_thing)
 
@@ -60,12 +62,15 @@ module _ (c : Config) (top : ℕ → ℕ) (block : Plot) (address seat refs nums
   pub stays : (a : ℕ) (b : Block) → block a ≡ Some b → (hand seat (3 + refs + nums) ≡ b → ⊥) → new_block a ≡ Some b
   stays a b is differs = updated_else block address (Some new_thing) a (λ same. differs (same_Some _ b (sym room ∙ ap block same ∙ is))) ∙ is
 
+  -- so does each object
   pub things_stay : (a more_refs more_nums : ℕ) (n : Name) → block a ≡ Some (thing n more_refs more_nums) → new_block a ≡ Some (thing n more_refs more_nums)
   things_stay a more_refs more_nums n is = stays a (thing n more_refs more_nums) is (λ same. cc)
 
+  -- what a word stands for it still stands for
   pub names_stay : (a : ℕ) (n : Name) → name_at (block a) ≡ Some n → name_at (new_block a) ≡ Some n
   names_stay a n is = let piece = named_thing (block a) n is in ap name_at (things_stay a piece.0 piece.1 n piece.2)
 
+  -- so does room in the hand of another seat
   pub hands_stay : (a other words : ℕ) → other ≢ seat → block a ≡ Some (hand other words) → new_block a ≡ Some (hand other words)
   hands_stay a other words differs is = stays a (hand other words) is (λ same. let seats : other ≡ seat = cc in differs seats)
 
@@ -83,12 +88,14 @@ module _ (c : Config) (top : ℕ → ℕ) (block : Plot) (address seat refs nums
       (λ (old : (a ≢ address) × (block a ≡ Some b)). (b, old.1, refl))
       (piece_cases block address new_thing a b is)
 
+  -- where a piece stood, one stands
   some_piece : (a : ℕ) → (b : Block) × (block a ≡ Some b) → (b : Block) × (new_block a ≡ Some b)
   some_piece a piece = ⊎_elim
       (λ (same : a ≡ address). (new_thing, ap new_block same ∙ updated_there block address (Some new_thing)))
       (λ (other : a ≢ address). (piece.0, updated_else block address (Some new_thing) a (λ e. other (sym e)) ∙ piece.1))
       (cases_eq a address)
 
+  -- pieces lie where they should
   pub plotted_again : IsPlotted c top block → IsPlotted c top new_block
   plotted_again plotted = record {
     tops = plotted.tops;
@@ -100,6 +107,7 @@ module _ (c : Config) (top : ℕ → ℕ) (block : Plot) (address seat refs nums
         omega (arith, far, old_x.2);
   }
 
+  -- they fill the part in use
   pub filled_again : IsFilled c top block → IsFilled c top new_block
   filled_again filled = record {
     first = λ r inside used. some_piece (base_of c r) (filled.first r inside used);
@@ -115,6 +123,7 @@ module _ (c : Config) (top : ℕ → ℕ) (block : Plot) (address seat refs nums
     other_object : (n : Name) → name ≢ n → where_object object name o n ≡ object n
     other_object n differs = cond-false (same_name n name) _ _ (two_names n name (λ same. differs (sym same)))
 
+    -- the new name has the new object
     own_object : where_object object name o name ≡ Some o
     own_object = cond-true (same_name name name) _ _ (same_name-itself name)
 
@@ -122,6 +131,7 @@ module _ (c : Config) (top : ℕ → ℕ) (block : Plot) (address seat refs nums
     not_old : (a more_refs more_nums : ℕ) (n : Name) → block a ≡ Some (thing n more_refs more_nums) → name ≢ n
     not_old a more_refs more_nums n is same = let old = objects.each a more_refs more_nums n is in fresh old.0 (ap object same ∙ old.1)
 
+    -- the words are those of the graph's objects
     pub objects_again : IsObject heap new_block address refs nums name o → AreObjects heap new_block (where_object object name o)
     objects_again new_is = record {
       each = λ a more_refs more_nums n is. ⊎_elim
@@ -162,6 +172,7 @@ module _ (c : Config) (top : ℕ → ℕ) (block : Plot) (address seat refs nums
           (piece_cases block address new_thing a (thing n refs_a nums_a) is_a);
     }
 
+  -- rooms in hand are as they should be
   pub rooms_again : (current : ℕ → ℕ) → AreRooms c top current block → AreRooms c top current new_block
   rooms_again current rooms a other words is = rooms a other words (old_hand a other words is).1
 
@@ -169,9 +180,11 @@ module _ (c : Config) (top : ℕ → ℕ) (block : Plot) (address seat refs nums
 abbrev pub with_count : (ℕ → ℕ) → ℕ → ℕ → ℕ
 with_count count thread t = if t == thread then count t + 1 else count t
 
+-- no count falls
 pub count_grows : (count : ℕ → ℕ) (thread t : ℕ) → count t ≤ with_count count thread t
 count_grows count thread t = grind (arith, nat_tests)
 
+-- its own grows by one
 pub count_own : (count : ℕ → ℕ) (thread : ℕ) → with_count count thread thread ≡ count thread + 1
 count_own count thread = cond-true (thread == thread) _ _ (eq-eqb thread thread refl)
 

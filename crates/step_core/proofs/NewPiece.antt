@@ -22,12 +22,15 @@ pub record CanGrow (c : Config) (top current : ℕ → ℕ) (block : Plot) (regi
   pub some : 3 ≤ words
 
 module _ (c : Config) (top current : ℕ → ℕ) (block : Plot) (region at words seat : ℕ) (grows : CanGrow c top current block region at words) where
+  -- where the new piece lies
   abbrev address : ℕ
   address = base_of c region + at
 
+  -- the tops with it
   abbrev new_top : ℕ → ℕ
   new_top = updated top region (at + words)
 
+  -- the plot with it
   abbrev new_block : Plot
   new_block = updated block address (Some (hand seat words))
 
@@ -42,33 +45,40 @@ module _ (c : Config) (top current : ℕ → ℕ) (block : Plot) (region at word
   pub stays : (a : ℕ) (b : Block) → block a ≡ Some b → new_block a ≡ Some b
   stays a b is = updated_else block address (Some (hand seat words)) a (λ same. none_there b (ap block same ∙ is)) ∙ is
 
+  -- what a word stands for it still stands for
   pub names_stay : (a : ℕ) (name : Name) → name_at (block a) ≡ Some name → name_at (new_block a) ≡ Some name
   names_stay a name is = let piece = named_thing (block a) name is in ap name_at (stays a (thing name piece.0 piece.1) piece.2)
 
+  -- no top falls
   tops_grow : (r : ℕ) → top r ≤ new_top r
   tops_grow r = ⊎_elim
       (λ (same : region ≡ r). let now : new_top r ≡ at + words = updated_same top region (at + words) r same in let was : top r ≡ at = ap top (sym same) ∙ grows.top_is in omega arith)
       (λ (other : region ≢ r). let now = updated_else top region (at + words) r other in omega (arith, now))
       (cases_eq region r)
 
+  -- old pieces lie in the part in use
   in_use_again : (a : ℕ) (b : Block) → block a ≡ Some b → IsInUse c new_top a (words_of b)
   in_use_again a b is =
       let used = grows.plotted.in_use a b is in
       let grown = tops_grow used.region in
       record { region = used.region; within = used.within; from_base = used.from_base; to_top = omega (arith, used.to_top, grown) }
 
+  -- so does the new one
   new_in_use : IsInUse c new_top address words
   new_in_use = let now = updated_there top region (at + words) in record { region = region; within = grows.within; from_base = omega arith; to_top = omega (arith, now) }
 
+  -- an old piece before it ends before it
   old_before : (a : ℕ) (b : Block) → block a ≡ Some b → a < address → a + words_of b ≤ address
   old_before a b is before = let where_is = beside c top block grows.plotted region a b is in omega (arith, where_is, grows.top_is)
 
+  -- it ends before an old piece behind it
   new_before : (a : ℕ) (b : Block) → block a ≡ Some b → address < a → address + words ≤ a
   new_before a b is after =
       let where_is = beside c top block grows.plotted region a b is in
       let long = three_words c top current block grows.rooms a b is in
       omega (arith, where_is, grows.top_is, long)
 
+  -- pieces lie where they should
   pub plotted_more : IsPlotted c new_top new_block
   plotted_more = record {
     tops = λ r inside. ⊎_elim
@@ -94,6 +104,7 @@ module _ (c : Config) (top current : ℕ → ℕ) (block : Plot) (region at word
         (piece_cases block address (hand seat words) a x is_x);
   }
 
+  -- where a piece stood, one stands
   some_piece : (a : ℕ) → (b : Block) × (block a ≡ Some b) → (b : Block) × (new_block a ≡ Some b)
   some_piece a piece = (piece.0, stays a piece.0 piece.1)
 
@@ -108,6 +119,7 @@ module _ (c : Config) (top current : ℕ → ℕ) (block : Plot) (region at word
       (hand seat words, ap new_block {x = a + words_of x} {y = address} (omega (arith, where_is, long, least, below, grows.top_is, grows.room, from)) ∙ updated_there block address (Some (hand seat words))))
       (cases_lt (a + words_of x) address)
 
+  -- they fill the part in use
   pub filled_more : IsFilled c top block → IsFilled c new_top new_block
   filled_more filled = record {
     first = λ r inside used. ⊎_elim
@@ -163,6 +175,7 @@ module _ (c : Config) (top current : ℕ → ℕ) (block : Plot) (region at word
       (λ (old : (a ≢ address) × (block a ≡ Some (hand seat more))). absurd (none a more old.1))
       (piece_cases block address (hand seat words) a (hand seat more) is)
 
+  -- the words are those of the graph's objects
   pub objects_more : (heap : ℕ → ℕ) (object : Name → Option Object) → AreObjects heap block object → AreObjects heap new_block object
   objects_more heap object objects = record {
     each = λ a refs nums name is.
@@ -182,6 +195,7 @@ module _ (c : Config) (top current : ℕ → ℕ) (block : Plot) (region at word
     nobodys = free_word.nobodys;
   }
 
+  -- rooms in hand are as they should be
   pub rooms_more : (owner : ℕ → Option ℕ) → seat < c.mutators → current seat ≡ region + 1 → AreCurrent c current owner → ((a more : ℕ) → block a ≡ Some (hand seat more) → ⊥) → AreRooms c new_top current new_block
   rooms_more owner mutator is_current currents none a other more is = ⊎_elim
       (λ (new : (a ≡ address) × (hand seat words ≡ hand other more)).

@@ -89,6 +89,7 @@ object_before object name before o was n x is = ⊎_elim
 
 -- One word of an object is another: the graph's object is the one that its words say, and all others are as before.
 module _ (c : Config) (top heap : ℕ → ℕ) (block : Plot) (object : Name → Option Object) (plotted : IsPlotted c top block) (are : AreObjects heap block object) where
+  -- the objects after a word of one of them changed
   pub objects_stored : (a refs nums at value : ℕ) (name : Name) (o : Object) → block a ≡ Some (thing name refs nums) → a ≤ at → at < a + (3 + refs + nums)
       → IsObject (updated heap at value) block a refs nums name o → AreObjects (updated heap at value) block (where_object object name o)
   objects_stored a refs nums at value name o piece from_start to_end is = record {

@@ -28,6 +28,7 @@ abbrev pub Beside : Config → (ℕ → ℕ) → ℕ → ℕ → Block → Type 
 Beside c top r a b =
     (a + words_of b ≤ base_of c r) ⊎ (((base_of c r ≤ a) × (a + words_of b ≤ base_of c r + top r)) ⊎ (base_of c r + c.region_words ≤ a))
 
+-- a piece lies beside a region so, or in it
 pub beside : (c : Config) (top : ℕ → ℕ) (block : Plot) → IsPlotted c top block → (r a : ℕ) (b : Block) → block a ≡ Some b → Beside c top r a b
 beside c top block plotted r a b is =
     let used = plotted.in_use a b is in

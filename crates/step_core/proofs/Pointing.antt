@@ -25,6 +25,7 @@ module _ (c : Config) (top : ℕ → ℕ) (block : Plot) (plotted : IsPlotted c 
       let high : (used.region + 1 + 1) * c.region_words ≤ (c.regions + 1) * c.region_words = mul-le-mul_right c.region_words (omega (arith, used.within)) in
       (omega (arith, low, used.from_base), omega (arith, high, most, used.to_top))
 
+  -- each word of a piece is a word of the heap
   pub piece_word : (a k : ℕ) (b : Block) → block a ≡ Some b → k < words_of b → is_word c (Heap (a + k)) ≡ true
   piece_word a k b is below =
       let inside = piece_inside a b is in
@@ -43,6 +44,7 @@ module _ (c : Config) (top : ℕ → ℕ) (block : Plot) (plotted : IsPlotted c 
       let piece = named_thing (block 0) n (ap (λ a. name_at (block a)) (sym is) ∙ points) in
       absurd (none_at_0 (thing n piece.0 piece.1) piece.2)
 
+  -- a word that is not 0 stands for a name
   pub named_if_not_0 : (word : ℕ) (r : Reference) → Points block word r → word ≢ 0 → (n : Name) × (r ≡ Some n) × (name_at (block word) ≡ Some n)
   named_if_not_0 word None points other = absurd (other points)
   named_if_not_0 word (Some n) points other = (n, refl, points)

@@ -46,11 +46,13 @@ module _ (c : Config) (seat made : ℕ) (command : Command) (fixed : Option Repl
   pub object_fits : is_next_object made refs nums ≡ true
   object_fits = and_from _ _ (lt-ltb _ _ making.few) (and_from _ _ (le-leb _ _ making.few_refs) (le-leb _ _ making.few_nums))
 
+  -- the accesses of a taking can be made
   pub taking_ready : (take : TakeSpot) → touch_fits c (takes.touch_at seat (3 + refs + nums) take) ≡ true → is_going take ≡ true → takes.numbers_fit c (3 + refs + nums) take ≡ true
       → is_ready c seat made (Taking dst refs nums take) ≡ true
   taking_ready take fits going numbers = and_from _ _ fits (and_from _ _ object_fits (and_from _ _ going numbers))
 
   module _ (top : ℕ → ℕ) (block : Plot) (plotted : IsPlotted c top block) (address : ℕ) (room : block address ≡ Some (hand seat (3 + refs + nums))) (mutator : seat < c.mutators) where
+    -- the words of the object can be stored
     pub word_ready : (k : ℕ) → k < 3 + refs + nums → is_ready c seat made (StoreWord dst refs nums address k) ≡ true
     word_ready k below =
         let few : seat < 8 = (let most = c.in_range.most_mutators in omega (arith, mutator, most)) in
@@ -60,6 +62,7 @@ module _ (c : Config) (seat made : ℕ) (command : Command) (fixed : Option Repl
         (lt-ltb _ _ (fresh_small seat made refs nums k few making.few making.few_refs making.few_nums)))
         (and_from _ _ object_fits (lt-ltb _ _ below))
 
+    -- its address can be stored into a root
     pub fresh_ready : is_ready c seat made (StoreFresh dst refs nums address) ≡ true
     fresh_ready =
         and_from _ _

@@ -41,6 +41,7 @@ module _ (c : Config) (u : World) (seat made phase cset : ℕ) (command : Comman
   abbrev at_spot : Spot → Mutating
   at_spot spot = mutator_at seat made phase cset spot
 
+  -- the store of a loaded reference, which is settled, into a root
   pub at_store_loaded : (dst value : ℕ) (r : Reply) (order : Order) → Row c u (at_spot (StoreLoaded dst value r)) command order fixed
   at_store_loaded dst value r (Begin l) shared mine takes = cc
   at_store_loaded dst value r Nothing shared mine takes = record {
@@ -72,6 +73,7 @@ module _ (c : Config) (u : World) (seat made phase cset : ℕ) (command : Comman
     others = λ j d. search (arith, nat_tests);
   }
 
+  -- the store of a reference into a root settles Ok
   pub at_store_root : (dst value : ℕ) (order : Order) → Row c u (at_spot (StoreRoot dst value)) command order fixed
   at_store_root dst value (Begin l) shared mine takes = cc
   at_store_root dst value Nothing shared mine takes = ⊎_elim

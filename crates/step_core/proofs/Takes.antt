@@ -72,6 +72,7 @@ module _ (c : Config) (u : World) (seat made phase cset : ℕ) (command : Comman
   at_spot spot = mutator_at seat made phase cset spot
 
   module _ (dst refs nums : ℕ) where
+    -- so many words
     abbrev words : ℕ
     words = 3 + refs + nums
 
@@ -103,9 +104,11 @@ module _ (c : Config) (u : World) (seat made phase cset : ℕ) (command : Comman
     current_ready : IsMaking made command fixed dst refs nums → seat < c.mutators → is_ready c seat made (Taking dst refs nums LoadCurrent) ≡ true
     current_ready making mutator = taking_ready c seat made command fixed dst refs nums making LoadCurrent (and_from _ _ (lt-ltb _ _ (omega arith)) refl) refl refl
 
+    -- it can look for free regions
     free_ready : IsMaking made command fixed dst refs nums → is_ready c seat made (Taking dst refs nums LoadFree) ≡ true
     free_ready making = taking_ready c seat made command fixed dst refs nums making LoadFree refl refl refl
 
+    -- the load of the current region
     at_load_current : Shared c u → Mine c u (at_spot (Taking dst refs nums LoadCurrent)) command fixed → Stepped c u (at_spot (Taking dst refs nums LoadCurrent)) command Nothing fixed
     at_load_current shared mine =
         let got : ℕ = u.memory (Current seat) in
@@ -123,6 +126,7 @@ module _ (c : Config) (u : World) (seat made phase cset : ℕ) (command : Comman
         is)
         (cases_eq got 0)
 
+    -- the load of its top: there is room, or it looks for free regions
     at_load_top : (region : ℕ) → Shared c u → Mine c u (at_spot (Taking dst refs nums (LoadTop region))) command fixed → Stepped c u (at_spot (Taking dst refs nums (LoadTop region))) command Nothing fixed
     at_load_top region shared mine =
         let got : ℕ = u.memory (Top region) in
@@ -143,6 +147,7 @@ module _ (c : Config) (u : World) (seat made phase cset : ℕ) (command : Comman
         (λ r is. (let is_now = mine.facts.1 in let same : region ≡ r = omega (arith, is, is_now) in subst (λ k. c.region_words < u.memory (Top k) + words) same most)))
         (cases_Bool (has_room c words got))
 
+    -- the load of the free word: there is a free region, or it tries again
     at_load_free : Shared c u → Mine c u (at_spot (Taking dst refs nums LoadFree)) command fixed → Stepped c u (at_spot (Taking dst refs nums LoadFree)) command Nothing fixed
     at_load_free shared mine =
         let got : ℕ = u.memory Free in
@@ -242,9 +247,11 @@ module _ (c : Config) (u : World) (seat made phase cset : ℕ) (command : Comman
       others = λ j d. search (arith, nat_tests);
     }
 
+    -- the step that takes a region
     at_take_region : (region : ℕ) → Shared c u → Mine c u (at_spot (Taking dst refs nums (TakeRegion region))) command fixed → Stepped c u (at_spot (Taking dst refs nums (TakeRegion region))) command Nothing fixed
     at_take_region region shared mine = ⊎_elim (takes_it region shared mine) (looks_again region shared mine) (cases_Bool (bit_at (u.memory Free) region == 1))
 
+    -- the store of the seat's current region
     at_store_current : (region : ℕ) → Shared c u → Mine c u (at_spot (Taking dst refs nums (StoreCurrent region))) command fixed → Stepped c u (at_spot (Taking dst refs nums (StoreCurrent region))) command Nothing fixed
     at_store_current region shared mine =
         let making = mine.facts.0 in
@@ -288,6 +295,7 @@ module _ (c : Config) (u : World) (seat made phase cset : ℕ) (command : Comman
       abbrev currents : ℕ → ℕ
       currents s = u.memory (Current s)
 
+      -- where the room lies
       abbrev address : ℕ
       address = base_of c region + top
 
@@ -300,15 +308,19 @@ module _ (c : Config) (u : World) (seat made phase cset : ℕ) (command : Comman
         graph = u.graph;
       }
 
+      -- there is room above the top
       abbrev roomy : IsRoomy c u seat words region top
       roomy = mine.facts.1
 
+      -- the region is the seat's
       own : u.owner region ≡ Some seat
       own = shared.currents.own seat region roomy.is_current
 
+      -- the region has room
       grows : CanGrow c tops currents u.block region top words
       grows = record { plotted = shared.plotted; rooms = shared.rooms; within = roomy.within; top_is = roomy.top_is; room = roomy.room; some = omega arith }
 
+      -- machines share what they should
       shared_grown : Shared c grown_world
       shared_grown = record {
         plotted = plotted_more c tops currents u.block region top words seat grows;
@@ -322,15 +334,19 @@ module _ (c : Config) (u : World) (seat made phase cset : ℕ) (command : Comman
         unasked = shared.unasked;
       }
 
+      -- the room is in hand
       there : grown_world.block address ≡ Some (hand seat words)
       there = updated_there u.block address (Some (hand seat words))
 
+      -- what a word stands for it still stands for
       names : (a : ℕ) (n : Name) → name_at (u.block a) ≡ Some n → name_at (grown_world.block a) ≡ Some n
       names = names_stay c tops currents u.block region top words seat grows
 
+      -- each piece stays
       stays_there : (a : ℕ) (b : Block) → u.block a ≡ Some b → grown_world.block a ≡ Some b
       stays_there = stays c tops currents u.block region top words seat grows
 
+      -- the mutator goes on with the first word
       mine_grown : Mine c grown_world (at_spot (StoreWord dst refs nums address 0)) command fixed
       mine_grown = record {
         seat = mine.seat;
@@ -341,6 +357,7 @@ module _ (c : Config) (u : World) (seat made phase cset : ℕ) (command : Comman
         facts = (mine.facts.0, record { room = there; within = omega arith; stored = λ k below. absurd (omega arith) }, omega arith);
       }
 
+      -- others can rely on what they knew
       others_grown : (j : ℕ) → j ≢ seat → Rely j u grown_world
       others_grown j differs = record {
         names = names;
@@ -356,6 +373,7 @@ module _ (c : Config) (u : World) (seat made phase cset : ℕ) (command : Comman
         count = refl;
       }
 
+      -- the store of the top puts the words into hand
       at_store_top : Stepped c u (at_spot (Taking dst refs nums (StoreTop region top))) command Nothing fixed
       at_store_top = record {
         world = grown_world;
@@ -368,6 +386,7 @@ module _ (c : Config) (u : World) (seat made phase cset : ℕ) (command : Comman
         others = others_grown;
       }
 
+  -- the steps of a taking of room
   pub at_taking : (dst refs nums : ℕ) (take : TakeSpot) (order : Order) → Row c u (at_spot (Taking dst refs nums take)) command order fixed
   at_taking dst refs nums take (Begin l) shared mine takes = cc
   at_taking dst refs nums LoadCurrent Nothing shared mine takes = at_load_current dst refs nums shared mine

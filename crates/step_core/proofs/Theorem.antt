@@ -36,10 +36,12 @@ pub thread_of : (c : Config) (s : Stage Actor) (h : List Entry) (follows : Follo
 thread_of c s h follows number a m here =
     subst (λ machine. IsMachine c (world_of c s follows.block follows.owner (after (first_graph c) h)) (of_thread h (number + 1)) number a machine) here.is (follows.machines number a here.here)
 
+-- the entries of a mutator are its calls, with a settled one or none
 calls_of : (number : ℕ) (a : Actor) (entries : List Entry) (fixed : Option Reply) → entries ≡ a.calls ++ entries_of number a.command fixed → AreCalls entries number a
 calls_of number a entries None is = inl (is ∙ append-nil a.calls)
 calls_of number a entries (Some reply) is = inr (reply, is)
 
+-- the word that a mutator finds is fit
 finds_fit : (c : Config) (s : Stage Actor) (h : List Entry) (follows : Follows c s h) (number : ℕ) (a : Actor) (m : Mutating) → IsMutator s number a m → FindsFit c s a m
 finds_fit c s h follows number a m here =
     let thread = thread_of c s h follows number a m here in
@@ -68,6 +70,7 @@ sound c s h follows = record {
   fit = λ number a m here. finds_fit c s h follows number a m here;
 }
 
+-- so is each list of events
 pub every_list : (c : Config) (events : List (Event Order)) → IsSound c (reached c events) (past c events)
 every_list c events = sound c (reached c events) (past c events) (follows_reached c events)
 
