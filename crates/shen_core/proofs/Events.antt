@@ -3,6 +3,7 @@ use Rattle.std.proofs.Common.{◌≡◌, ℕ, true, List, [], ◌∷◌, map, Op
 use Rattle.std.specs.Prelude.{slice_get, slice_set, slice_index}
 use Rattle.std.specs.Option.{option_map}
 use Rattle.std.proofs.lemmas.Option.{slice_get-map, same_Some}
+use Rattle.std.proofs.lemmas.List.{map-set}
 use Rattle.heap_words.specs.declared.config.Config.{Config}
 use Rattle.heap_words.specs.Access.{place_of, made_of}
 use Rattle.steps_base.specs.Touch.{placed}
@@ -16,11 +17,6 @@ use Rattle.mutator.specs.Orders.{takes_at}
 use Rattle.mutator.specs.Rows.{Mutating, touch_of, next_of}
 use Rattle.step_core.specs.Actor.{Machine, mutating, Actor, takes_of, kind}
 use Rattle.shen_core.specs.Runs.{Shows, event, IsOneEvent}
-
-pub map-set : {A B : Type 0} (f : A → B) (xs : List A) (k : ℕ) (x : A) → map f (slice_set xs k x) ≡ slice_set (map f xs) k (f x)
-map-set f [] k x = refl
-map-set f (y ∷ xs) zero x = refl
-map-set f (y ∷ xs) (suc k) x = ap (λ ys. f y ∷ ys) (map-set f xs k x)
 
 -- where a map of an option is a value, there is one before it
 pub from_map : {A B : Type 0} (f : A → B) (o : Option A) (y : B) → option_map f o ≡ Some y → (x : A) × (o ≡ Some x) × (f x ≡ y)

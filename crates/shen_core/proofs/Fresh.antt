@@ -22,7 +22,7 @@ use Rattle.shen_core.specs.declared.plain.Plain.{Plain}
 use Rattle.shen_core.specs.State.{config_of, orders_of, machines_of, Shows}
 use Rattle.shen_core.specs.Answer.{is_resting, made_of_machine}
 use Rattle.shen_core.specs.Progress.{CanRun, Tells, IsRunnable}
-use Rattle.shen_core.proofs.Opened.{map-map}
+use Rattle.std.proofs.lemmas.Simd.{map-map}
 
 progress_first : (scripts : Scripts) (t : ℕ) → t < length scripts → length scripts ≤ 8 → work.progress_of (work.opened scripts) t ≡ Some (work.begun (script_of scripts t))
 progress_first scripts t below few =

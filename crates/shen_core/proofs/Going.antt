@@ -76,9 +76,6 @@ module _ (c : Config) (scripts : Scripts) where
   steps_move s number zero some = absurd (omega arith)
   steps_move s number (suc k) some = ap (λ n. moves (turn scripts s number) (steps number n ∷ [])) (omega arith)
 
-  pub steps_none : (s : Stage Actor) (number : ℕ) → move_of c scripts s (steps number 0) ≡ None
-  steps_none s number = refl
-
   pub until_there : (s : Stage Actor) (number : ℕ) (place : Place) → stands_at s number place ≡ true → move_of c scripts s (until number place) ≡ None
   until_there s number place there = rw there refl
 

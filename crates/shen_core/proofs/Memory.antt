@@ -5,6 +5,7 @@ use Rattle.std.specs.Option.{option_map}
 use Rattle.std.proofs.lemmas.Option.{slice_get-map, slice_get_read, slice_get_within, get_or_from_slice_get}
 use Rattle.std.proofs.lemmas.List.{set-get_or}
 use Rattle.std.proofs.lemmas.List.Elements.{All-set}
+use Rattle.std.proofs.lemmas.List.{map-set}
 use Rattle.heap_words.specs.declared.config.Config.{Config}
 use Rattle.heap_words.specs.Access.{place_of}
 use Rattle.mutator.specs.declared.thread.Mutator.{Mutator}
@@ -20,7 +21,7 @@ use Rattle.shen_core.specs.declared.machine.Machine.TheVariants as machine
 use Rattle.shen_core.specs.Shown.{shown, order_of_machine, heap_of}
 use Rattle.steps_base.specs.Steps.{accessed}
 use Rattle.shen_core.specs.Runs.{access_of, event, IsShownBySome, IsOneEvent, next_by}
-use Rattle.shen_core.proofs.Events.{map-set, one_event}
+use Rattle.shen_core.proofs.Events.{one_event}
 
 -- a mutator of these machines has made its access, and has taken its word
 pub record IsMade (config : Config) (words new_words : List ℕ) (machines : List Machine) (number : ℕ) (m n : Mutator) : Type 0 where

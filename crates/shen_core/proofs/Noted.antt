@@ -34,19 +34,14 @@ use Rattle.shen_core.specs.Answer.{stepped_of, says, is_resting, reply_in, made_
 use Rattle.shen_core.specs.Progress.{Jobs, Tells, CanRun, IsTurn, Turned, IsMoved, HasTurned}
 use Rattle.shen_core.specs.State.{config_of, words_of, orders_of, machines_of, machine_at, order_at, has_turn, next_machine, IsStep}
 use Rattle.shen_graph.specs.Valid.{IsValid}
-use Rattle.std.proofs.lemmas.List.{append-nil}
+use Rattle.std.proofs.lemmas.List.{append-nil, set-set}
 use Rattle.shen_core.proofs.Events.{shown_actor}
 use Rattle.shen_core.proofs.Turns.{machine_within}
-
-pub set_set : {A : Type 0} (xs : List A) (k : ℕ) (x y : A) → slice_set (slice_set xs k x) k y ≡ slice_set xs k y
-set_set [] k x y = refl
-set_set (z ∷ xs) zero x y = refl
-set_set (z ∷ xs) (suc k) x y = ap (λ ys. z ∷ ys) (set_set xs k x y)
 
 -- no order is pending after the turn
 pub orders_after : (old mid new : List Order) (number : ℕ) (order : Order) → mid ≡ slice_set old number order → new ≡ slice_set mid number Nothing → All (λ o. o ≡ Nothing) old → All (λ o. o ≡ Nothing) new
 orders_after old mid new number order mid_is new_is none =
-    subst (λ xs. All (λ o. o ≡ Nothing) xs) (sym (new_is ∙ ap (λ xs. slice_set xs number Nothing) mid_is ∙ set_set old number order Nothing))
+    subst (λ xs. All (λ o. o ≡ Nothing) xs) (sym (new_is ∙ ap (λ xs. slice_set xs number Nothing) mid_is ∙ set-set old number order Nothing))
     (All-set (λ o. o ≡ Nothing) old number Nothing refl none)
 
 -- a script that is there lies in the work

@@ -3,6 +3,7 @@ use Rattle.std.proofs.Common.{◌≡◌, ℕ, ◌+◌, zero, suc, List, [], ◌�
 use Rattle.std.specs.List.{range_with_len}
 use Rattle.std.proofs.lemmas.List.FromFn.{map-range_with_len_more, length-map-range_with_len}
 use Rattle.std.proofs.lemmas.List.{map-append, length-map}
+use Rattle.std.proofs.lemmas.Simd.{map-map}
 use Rattle.heap_words.specs.declared.config.Config.{Config}
 use Rattle.heap_words.specs.Ranges.{seat_count}
 use Rattle.step_core.specs.Actor as actors
@@ -12,15 +13,6 @@ use Rattle.step_core.specs.Actor.{kind}
 use Rattle.shen_core.specs.declared.machine.Machine.{Machine}
 use Rattle.shen_core.specs.Shown.{shown}
 use Rattle.shen_core.specs.Runs.{Shows, IsShownBySome}
-
-pub map-map : {A B C : Type 0} (f : B → C) (g : A → B) (xs : List A) → map f (map g xs) ≡ map (λ x. f (g x)) xs
-map-map f g [] = refl
-map-map f g (x ∷ xs) = ap (λ ys. f (g x) ∷ ys) (map-map f g xs)
-
-pub All-map : {A B : Type 0} (f : A → B) (y : B) (xs : List A) → All (λ x. f x ≡ y) xs → All (λ z. z ≡ y) (map f xs)
-All-map f y [] all k d below = absurd (omega arith)
-All-map f y (x ∷ xs) all zero d below = all 0 x (omega arith)
-All-map f y (x ∷ xs) all (suc k) d below = All-map f y xs (λ j e inside. all (suc j) e (omega arith)) k d (omega arith)
 
 -- one machine more
 pub machines_more : (c : Config) (machines : List Machine) (new : Machine) (number : ℕ) → map shown machines ≡ map (opening_machine c) (range_with_len 0 number) → shown new ≡ opening_machine c number → map shown (machines ++ new ∷ []) ≡ map (opening_machine c) (range_with_len 0 (number + 1))

@@ -75,8 +75,5 @@ turn_by_next c words machines jobs number machine here rest below scripts s show
     ∙ ap (λ k. option_map (λ command. event number (Begin command)) (slice_get (work.script_of jobs number) k))
     (sym (ap length (tells.replies number a below found.1) ∙ length-map a.calls (λ e. e.reply)))
 
-pub element : {A : Type 0} (P : A → Type 0) (xs : List A) (k : ℕ) (x : A) → All P xs → slice_get xs k ≡ Some x → P x
-element P xs k x all here = subst P (get_or_from_slice_get xs k x x here) (all k x (slice_get_within xs k x here))
-
 pub machine_within : (machines : List Machine) (number : ℕ) → number < length machines → slice_get machines number ≡ Some (slice_index_or machines number controlling)
 machine_within machines number below = slice_get-get_or machines number controlling below

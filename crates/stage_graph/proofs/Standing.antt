@@ -21,7 +21,7 @@ use Rattle.step_core.specs.World as world
 use Rattle.step_core.specs.World.{World, Plot, Block, thing, hand, words_of, name_at, Points}
 use Rattle.step_core.specs.Stepped.{root_now}
 use Rattle.step_core.specs.Follows.{settled, world_of, StandsFor}
-use Rattle.step_core.proofs.Pointing.{named_thing}
+use Rattle.step_core.proofs.Pointing.{named_thing, piece_inside as words_inside}
 use Rattle.heap_graph.specs.Stands.{Refers, IsAt}
 use Rattle.heap_graph.specs.Rows.{root_word}
 use Rattle.heap_graph.specs.Shows.{WordsStand}
@@ -64,11 +64,9 @@ module _ (c : Config) (s : Stage Actor) (g : Graph) (long : length s.words ≡ t
   -- the words of a piece lie in the heap
   piece_inside : (a : ℕ) (b : Block) → stands.block a ≡ Some b → (first ≤ a) × (a + words_of b ≤ first + length heap)
   piece_inside a b is =
-      let used = stands.shared.plotted.in_use a b is in
-      let top : settled c s (Top used.region) ≤ c.region_words = stands.shared.plotted.tops used.region used.within in
-      let low : 1 * c.region_words ≤ (used.region + 1) * c.region_words = mul-le-mul_right c.region_words (omega arith) in
-      let high : (used.region + 1) * c.region_words ≤ c.regions * c.region_words = mul-le-mul_right c.region_words (omega (arith, used.within)) in
-      (omega (arith, low, used.from_base), omega (arith, high, top, used.to_top, length-heap))
+      let inside = words_inside c (λ r. settled c s (Top r)) stands.block stands.shared.plotted a b is in
+      let size : (c.regions + 1) * c.region_words ≡ c.regions * c.region_words + c.region_words = omega arith in
+      (inside.0, omega (arith, inside.1, size, length-heap))
 
   -- a word of the heap by its name
   heap_word : (a : ℕ) → first ≤ a → a < first + length heap → slice_index heap (a - first) ≡ settled c s (Heap a)

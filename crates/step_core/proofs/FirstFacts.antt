@@ -27,11 +27,11 @@ use Rattle.step_core.proofs.NewObject.{all_alike}
 use Rattle.step_core.proofs.OpeningStands.{rooted_memory, first_memory, view-opening, length-opening}
 
 -- the hub alone
-abbrev pub first_block : Config → Plot
+abbrev first_block : Config → Plot
 first_block c a = if a == c.region_words then Some (thing hub 16 0) else None
 
 -- what the opening stands for
-abbrev pub first_world : Config → World
+abbrev first_world : Config → World
 first_world c = record { memory = first_memory c; block = first_block c; owner = λ _. None; graph = first_graph c }
 
 -- the roots leave each other word as it was

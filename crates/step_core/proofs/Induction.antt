@@ -38,29 +38,29 @@ pub found-placed : (c : Config) (words : List ℕ) (t : Touch) → is_word c t.w
 found-placed c words t is = ap (λ k. slice_index words k) (place_of-access_at (word_at c t.word) t.form) ∙ sym (view_word c words t.word (is_word_true c t.word is))
 
 -- the table after an access, by the names of its words
-pub view-placed : (c : Config) (words : List ℕ) (t : Touch) → is_word c t.word ≡ true → length words ≡ table_words c → view c (slice_set words (place_of (placed c t)) (made_of (placed c t) (slice_index words (place_of (placed c t))))) ≡ touched (view c words) t
+view-placed : (c : Config) (words : List ℕ) (t : Touch) → is_word c t.word ≡ true → length words ≡ table_words c → view c (slice_set words (place_of (placed c t)) (made_of (placed c t) (slice_index words (place_of (placed c t))))) ≡ touched (view c words) t
 view-placed c words t is long =
     rw (made_of-access_at (word_at c t.word) t.form, found-placed c words t is, place_of-access_at (word_at c t.word) t.form)
     (view_set_all c words t.word (formed t.form (view c words t.word)) long (is_word_true c t.word is))
 
 -- a mutator that begins a call has no settled reply
-pub begins_unsettled : (c : Config) (w : World) (seat : ℕ) (command : Command) (fixed : Option Reply) (spot : Spot) (made : ℕ) (k : Command) → takes_at spot made (Begin k) ≡ true → SpotFacts c w seat made command fixed spot → fixed ≡ None
+begins_unsettled : (c : Config) (w : World) (seat : ℕ) (command : Command) (fixed : Option Reply) (spot : Spot) (made : ℕ) (k : Command) → takes_at spot made (Begin k) ≡ true → SpotFacts c w seat made command fixed spot → fixed ≡ None
 begins_unsettled c w seat command fixed Rest made k takes facts = facts
 begins_unsettled c w seat command fixed (Ended r) made k takes facts = facts
 begins_unsettled c w seat command fixed _ made k takes facts = cc
 
 -- a reply that is given is the settled one, of a call that goes on
-pub gives_settled : (c : Config) (w : World) (seat : ℕ) (command : Command) (fixed : Option Reply) (spot : Spot) (made : ℕ) (order : Order) (reply : Reply) → takes_at spot made order ≡ true → SpotFacts c w seat made command fixed spot → given_at spot ≡ Some reply → fixed ≡ Some reply
+gives_settled : (c : Config) (w : World) (seat : ℕ) (command : Command) (fixed : Option Reply) (spot : Spot) (made : ℕ) (order : Order) (reply : Reply) → takes_at spot made order ≡ true → SpotFacts c w seat made command fixed spot → given_at spot ≡ Some reply → fixed ≡ Some reply
 gives_settled c w seat command fixed (Leave r) made order reply takes facts is = facts ∙ is
 gives_settled c w seat command fixed _ made order reply takes facts is = cc
 
 -- the command stays, or no reply is settled
-pub command_stays : (c : Config) (w : World) (seat : ℕ) (command : Command) (fixed : Option Reply) (spot : Spot) (made : ℕ) (order : Order) → takes_at spot made order ≡ true → SpotFacts c w seat made command fixed spot → (fixed ≡ None) ⊎ (command_by order command ≡ command)
+command_stays : (c : Config) (w : World) (seat : ℕ) (command : Command) (fixed : Option Reply) (spot : Spot) (made : ℕ) (order : Order) → takes_at spot made order ≡ true → SpotFacts c w seat made command fixed spot → (fixed ≡ None) ⊎ (command_by order command ≡ command)
 command_stays c w seat command fixed spot made Nothing takes facts = inr refl
 command_stays c w seat command fixed spot made (Begin k) takes facts = inl (begins_unsettled c w seat command fixed spot made k takes facts)
 
 -- the entries of a mutator after a step that settles a reply, gives one, or does neither
-pub entries_step : (calls : List Entry) (seat : ℕ) (command after : Command) (fixed told given : Option Reply)
+entries_step : (calls : List Entry) (seat : ℕ) (command after : Command) (fixed told given : Option Reply)
     → ((reply : Reply) → given ≡ Some reply → fixed ≡ Some reply)
     → ((reply : Reply) → told ≡ Some reply → (fixed ≡ None) × (given ≡ None))
     → (fixed ≡ None) ⊎ (after ≡ command)
@@ -75,11 +75,11 @@ entries_step calls seat command after fixed None None gives settles stays =
     stays
 
 -- two worlds of equal parts are equal
-pub same_world : (a b : World) → a.memory ≡ b.memory → a.block ≡ b.block → a.owner ≡ b.owner → a.graph ≡ b.graph → a ≡ b
+same_world : (a b : World) → a.memory ≡ b.memory → a.block ≡ b.block → a.owner ≡ b.owner → a.graph ≡ b.graph → a ≡ b
 same_world a b memory block owner graph = λ i. record { memory = memory i; block = block i; owner = owner i; graph = graph i }
 
 -- a mutator keeps its seat
-pub next_seat : (c : Config) (m : Mutating) (order : Order) (got : ℕ) (spot : Spot) → (next_at c m order got spot).seat ≡ m.seat
+next_seat : (c : Config) (m : Mutating) (order : Order) (got : ℕ) (spot : Spot) → (next_at c m order got spot).seat ≡ m.seat
 next_seat c m order got Rest = refl
 next_seat c m order got _ = refl
 
@@ -173,7 +173,7 @@ module _ (c : Config) (s : Stage Actor) (past : List Entry) (number : ℕ) (orde
       (cases_eq k number)
 
   -- a step leads from a stage that follows its history to one that does
-  pub follows_step : slice_get s.machines number ≡ Some the_actor → takes_at m.spot m.made order ≡ true → Follows c s past → Follows c (moved (kind c) s number the_actor order) new_past
+  follows_step : slice_get s.machines number ≡ Some the_actor → takes_at m.spot m.made order ≡ true → Follows c s past → Follows c (moved (kind c) s number the_actor order) new_past
   unfolding kind
   follows_step here takes follows =
       let thread : IsThread c (old_world follows.block follows.owner) (of_thread past (number + 1)) number the_actor m = follows.machines number the_actor here in
@@ -188,7 +188,7 @@ module _ (c : Config) (s : Stage Actor) (past : List Entry) (number : ℕ) (orde
       }
 
 -- an event of a machine, or none
-pub follows_order : (c : Config) (s : Stage Actor) (past : List Entry) (number : ℕ) (order : Order) (command : Command) (calls : List Entry) (machine : Machine)
+follows_order : (c : Config) (s : Stage Actor) (past : List Entry) (number : ℕ) (order : Order) (command : Command) (calls : List Entry) (machine : Machine)
     → slice_get s.machines number ≡ Some (record { machine = machine; command = command; calls = calls })
     → takes_of machine order ≡ true → Follows c s past
     → Follows c (moved (kind c) s number (record { machine = machine; command = command; calls = calls }) order)

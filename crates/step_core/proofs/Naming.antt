@@ -21,7 +21,7 @@ use Rattle.step_core.specs.Stepped.{HasObject}
 use Rattle.step_core.proofs.Pointing.{named_thing, piece_word, null_if_0}
 
 -- name words are equal exactly where their names are
-pub same_codes : (m n : Name) → m.count < 2 ^ 32 → n.count < 2 ^ 32 → (name_code m.thread m.count == name_code n.thread n.count) ≡ same_name m n
+same_codes : (m n : Name) → m.count < 2 ^ 32 → n.count < 2 ^ 32 → (name_code m.thread m.count == name_code n.thread n.count) ≡ same_name m n
 same_codes m n small_m small_n = ⊎_elim
     (λ (same : m.thread ≡ n.thread). let codes : (name_code m.thread m.count == name_code n.thread n.count) ≡ (m.count == n.count) = rw same (grind (arith, nat_tests)) in rw (eq-eqb m.thread n.thread same) codes)
     (λ (differs : m.thread ≢ n.thread). rw (ne_eqb m.thread n.thread differs) (ne_eqb _ _ (λ e. differs (omega (arith, e, small_m, small_n)))))
@@ -34,15 +34,15 @@ name_read n small =
     same_name-true read n (and_from _ _ (eq-eqb read.thread n.thread (omega arith)) (eq-eqb read.count n.count (omega arith)))
 
 -- a shape word reads as its sizes
-pub refs_read : (refs nums : ℕ) → refs ≤ 16 → nums ≤ 16 → refs_in (shape_word refs nums) ≡ refs
+refs_read : (refs nums : ℕ) → refs ≤ 16 → nums ≤ 16 → refs_in (shape_word refs nums) ≡ refs
 refs_read refs nums few_refs few_nums = omega arith
 
 -- and of its numbers
-pub nums_read : (refs nums : ℕ) → refs ≤ 16 → nums ≤ 16 → nums_in (shape_word refs nums) ≡ nums
+nums_read : (refs nums : ℕ) → refs ≤ 16 → nums ≤ 16 → nums_in (shape_word refs nums) ≡ nums
 nums_read refs nums few_refs few_nums = omega arith
 
 -- the object that a root names, in a graph
-pub named_object : (g : Graph) (t root : ℕ) (n : Name) (o : Object) → g.root t root ≡ Some n → g.object n ≡ Some o → named g (g.root t root) ≡ o
+named_object : (g : Graph) (t root : ℕ) (n : Name) (o : Object) → g.root t root ≡ Some n → g.object n ≡ Some o → named g (g.root t root) ≡ o
 named_object g t root n o is there = rw (is, there) refl
 
 -- A command on an object is answered Bad where its root is null.
@@ -128,13 +128,13 @@ module _ (c : Config) (u : World) (shared : Shared c u) where
   word_in seat root object at k has below is = ap (λ a. is_word c (Heap a)) is ∙ piece_word c _ u.block shared.plotted object k (thing has.name has.refs has.nums) has.target below
 
   -- there is no field and no number past the last
-  pub no_field_in : (seat root object field : ℕ) (has : HasObject u seat root object) → has.refs ≤ field → field_at u.graph (seat + 1) root field ≡ None
+  no_field_in : (seat root object field : ℕ) (has : HasObject u seat root object) → has.refs ≤ field → field_at u.graph (seat + 1) root field ≡ None
   no_field_in seat root object field has past =
       let o = object_in seat root object has in
       ap (λ x. slice_get x.refs field) (named_object u.graph (seat + 1) root has.name o.0 has.root_is o.1) ∙ slice_get_past o.0.refs field (let long = o.2.refs_are in omega arith)
 
   -- there is no number past the last
-  pub no_number_in : (seat root object index : ℕ) (has : HasObject u seat root object) → has.nums ≤ index → number_at u.graph (seat + 1) root index ≡ None
+  no_number_in : (seat root object index : ℕ) (has : HasObject u seat root object) → has.nums ≤ index → number_at u.graph (seat + 1) root index ≡ None
   no_number_in seat root object index has past =
       let o = object_in seat root object has in
       ap (λ x. slice_get x.nums index) (named_object u.graph (seat + 1) root has.name o.0 has.root_is o.1) ∙ slice_get_past o.0.nums index (let long = o.2.nums_are in omega arith)

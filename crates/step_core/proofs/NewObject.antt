@@ -24,7 +24,7 @@ all_alike (suc n) zero x y is = sym (same_Some x y is)
 all_alike (suc n) (suc i) x y is = all_alike n i x y is
 
 -- the words of a new object past its name are 0
-pub zero_word : (seat made refs nums k : ℕ) → 3 ≤ k → fresh_word seat made refs nums k ≡ 0
+zero_word : (seat made refs nums k : ℕ) → 3 ≤ k → fresh_word seat made refs nums k ≡ 0
 zero_word seat made refs nums k past = grind (arith, nat_tests)
 
 -- words that were stored in room in hand are those of a new object
@@ -59,7 +59,7 @@ module _ (c : Config) (top : ℕ → ℕ) (block : Plot) (address seat refs nums
   new_block = updated block address (Some new_thing)
 
   -- an old piece, but the room, stands where it stood
-  pub stays : (a : ℕ) (b : Block) → block a ≡ Some b → (hand seat (3 + refs + nums) ≡ b → ⊥) → new_block a ≡ Some b
+  stays : (a : ℕ) (b : Block) → block a ≡ Some b → (hand seat (3 + refs + nums) ≡ b → ⊥) → new_block a ≡ Some b
   stays a b is differs = updated_else block address (Some new_thing) a (λ same. differs (same_Some _ b (sym room ∙ ap block same ∙ is))) ∙ is
 
   -- so does each object
@@ -181,7 +181,7 @@ abbrev pub with_count : (ℕ → ℕ) → ℕ → ℕ → ℕ
 with_count count thread t = if t == thread then count t + 1 else count t
 
 -- no count falls
-pub count_grows : (count : ℕ → ℕ) (thread t : ℕ) → count t ≤ with_count count thread t
+count_grows : (count : ℕ → ℕ) (thread t : ℕ) → count t ≤ with_count count thread t
 count_grows count thread t = grind (arith, nat_tests)
 
 -- its own grows by one

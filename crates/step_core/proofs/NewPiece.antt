@@ -35,7 +35,7 @@ module _ (c : Config) (top current : ℕ → ℕ) (block : Plot) (region at word
   new_block = updated block address (Some (hand seat words))
 
   -- nothing stood there
-  pub none_there : (b : Block) → block address ≡ Some b → ⊥
+  none_there : (b : Block) → block address ≡ Some b → ⊥
   none_there b is =
       let long = three_words c top current block grows.rooms address b is in
       let where_is = beside c top block grows.plotted region address b is in
@@ -155,7 +155,7 @@ module _ (c : Config) (top current : ℕ → ℕ) (block : Plot) (region at word
   }
 
   -- an object of the new plot is an old one
-  pub old_thing : (a refs nums : ℕ) (name : Name) → new_block a ≡ Some (thing name refs nums) → block a ≡ Some (thing name refs nums)
+  old_thing : (a refs nums : ℕ) (name : Name) → new_block a ≡ Some (thing name refs nums) → block a ≡ Some (thing name refs nums)
   old_thing a refs nums name is = ⊎_elim
       (λ (new : (a ≡ address) × (hand seat words ≡ thing name refs nums)). let differ = new.1 in cc)
       (λ (old : (a ≢ address) × (block a ≡ Some (thing name refs nums))). old.1)

@@ -80,7 +80,7 @@ abbrev pub where_object : (Name → Option Object) → Name → Object → Name 
 where_object object name o n = if same_name n name then Some o else object n
 
 -- there is an object of a name afterwards only if there was one before, for the one that changes is one of them
-pub object_before : (object : Name → Option Object) (name : Name) (before o : Object) → object name ≡ Some before → (n : Name) (x : Object) → where_object object name o n ≡ Some x
+object_before : (object : Name → Option Object) (name : Name) (before o : Object) → object name ≡ Some before → (n : Name) (x : Object) → where_object object name o n ≡ Some x
     → (y : Object) × (object n ≡ Some y)
 object_before object name before o was n x is = ⊎_elim
     (λ same. (before, ap object (same_name-true n name same) ∙ was))
@@ -90,7 +90,7 @@ object_before object name before o was n x is = ⊎_elim
 -- One word of an object is another: the graph's object is the one that its words say, and all others are as before.
 module _ (c : Config) (top heap : ℕ → ℕ) (block : Plot) (object : Name → Option Object) (plotted : IsPlotted c top block) (are : AreObjects heap block object) where
   -- the objects after a word of one of them changed
-  pub objects_stored : (a refs nums at value : ℕ) (name : Name) (o : Object) → block a ≡ Some (thing name refs nums) → a ≤ at → at < a + (3 + refs + nums)
+  objects_stored : (a refs nums at value : ℕ) (name : Name) (o : Object) → block a ≡ Some (thing name refs nums) → a ≤ at → at < a + (3 + refs + nums)
       → IsObject (updated heap at value) block a refs nums name o → AreObjects (updated heap at value) block (where_object object name o)
   objects_stored a refs nums at value name o piece from_start to_end is = record {
     each = λ b more_refs more_nums n there. ⊎_elim

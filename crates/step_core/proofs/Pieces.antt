@@ -24,7 +24,7 @@ three_words c top current block rooms a (thing name refs nums) is = omega arith
 three_words c top current block rooms a (hand seat words) is = (rooms a seat words is).some
 
 -- A piece ends before a region, or lies in its part in use, or begins behind it.
-abbrev pub Beside : Config → (ℕ → ℕ) → ℕ → ℕ → Block → Type 0
+abbrev Beside : Config → (ℕ → ℕ) → ℕ → ℕ → Block → Type 0
 Beside c top r a b =
     (a + words_of b ≤ base_of c r) ⊎ (((base_of c r ≤ a) × (a + words_of b ≤ base_of c r + top r)) ⊎ (base_of c r + c.region_words ≤ a))
 

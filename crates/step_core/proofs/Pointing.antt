@@ -34,7 +34,7 @@ module _ (c : Config) (top : ℕ → ℕ) (block : Plot) (plotted : IsPlotted c 
       grind (arith, nat_tests)
 
   -- no piece is at 0
-  pub none_at_0 : (b : Block) → block 0 ≡ Some b → ⊥
+  none_at_0 : (b : Block) → block 0 ≡ Some b → ⊥
   none_at_0 b is = let inside = piece_inside 0 b is in let long = c.in_range.least_words in omega (arith, inside.0, long)
 
   -- a word that stands for null is 0, and 0 stands for nothing else

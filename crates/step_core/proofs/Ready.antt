@@ -38,12 +38,12 @@ pub leaving : (c : Config) (w : World) (seat made phase cset : ℕ) (command : C
 leaving c w seat made phase cset command r below count roots hands = record { seat = below; ready = leave_ready c seat made r below; made = count; roots = roots; hands = hands; facts = refl }
 
 -- the words of a new object are words of 64 bits
-pub fresh_small : (seat made refs nums k : ℕ) → seat < 8 → made < 4294967295 → refs ≤ 16 → nums ≤ 16 → fresh_word seat made refs nums k < 2 ^ 64
+fresh_small : (seat made refs nums k : ℕ) → seat < 8 → made < 4294967295 → refs ≤ 16 → nums ≤ 16 → fresh_word seat made refs nums k < 2 ^ 64
 fresh_small seat made refs nums k few_seats few_made few_refs few_nums = grind (arith, nat_tests)
 
 module _ (c : Config) (seat made : ℕ) (command : Command) (fixed : Option Reply) (dst refs nums : ℕ) (making : IsMaking made command fixed dst refs nums) where
   -- the object can be made
-  pub object_fits : is_next_object made refs nums ≡ true
+  object_fits : is_next_object made refs nums ≡ true
   object_fits = and_from _ _ (lt-ltb _ _ making.few) (and_from _ _ (le-leb _ _ making.few_refs) (le-leb _ _ making.few_nums))
 
   -- the accesses of a taking can be made

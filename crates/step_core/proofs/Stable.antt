@@ -21,7 +21,7 @@ points_stay u w names word (Some name) is = names word name is
 
 module _ (c : Config) (u w : World) (seat : ℕ) (rely : Rely seat u w) where
   -- so it does for a root
-  pub root_stays : (word index : ℕ) → Points u.block word (u.graph.root (seat + 1) index) → Points w.block word (w.graph.root (seat + 1) index)
+  root_stays : (word index : ℕ) → Points u.block word (u.graph.root (seat + 1) index) → Points w.block word (w.graph.root (seat + 1) index)
   root_stays word index is = rw (rely.roots index) (points_stay u.block w.block rely.names word _ is)
 
   -- so does the word of a root that was loaded
@@ -33,7 +33,7 @@ module _ (c : Config) (u w : World) (seat : ℕ) (rely : Rely seat u w) where
   first_stays k first has = record { some = has.some; first_is = loaded_stays k 0 first has.first_is; not_null = has.not_null }
 
   -- an object in hand stays
-  abbrev pub object_stays : (root object : ℕ) → HasObject u seat root object → HasObject w seat root object
+  abbrev object_stays : (root object : ℕ) → HasObject u seat root object → HasObject w seat root object
   object_stays root object has = record {
     name = has.name;
     refs = has.refs;
@@ -128,7 +128,7 @@ module _ (c : Config) (u w : World) (seat : ℕ) (rely : Rely seat u w) where
   copy_stays command dst value is = record { src = is.src; is = is.is; value_is = root_stays value is.src is.value_is }
 
   -- what a mutator counts on at its spot stays
-  pub facts_stay : (made : ℕ) (command : Command) (fixed : Option Reply) → ((r : ℕ) → u.memory (Current seat) ≡ r + 1 → u.owner r ≡ Some seat) → (spot : Spot) → SpotFacts c u seat made command fixed spot → SpotFacts c w seat made command fixed spot
+  facts_stay : (made : ℕ) (command : Command) (fixed : Option Reply) → ((r : ℕ) → u.memory (Current seat) ≡ r + 1 → u.owner r ≡ Some seat) → (spot : Spot) → SpotFacts c u seat made command fixed spot → SpotFacts c w seat made command fixed spot
   facts_stay made command fixed own Rest facts = facts
   facts_stay made command fixed own (Ended reply) facts = facts
   facts_stay made command fixed own (LoadSet k) facts = facts

@@ -56,7 +56,7 @@ finds_fit c s h follows number a m here =
     }
 
 -- a stage that follows its history is sound
-pub sound : (c : Config) (s : Stage Actor) (h : List Entry) → Follows c s h → IsSound c s h
+sound : (c : Config) (s : Stage Actor) (h : List Entry) → Follows c s h → IsSound c s h
 sound c s h follows = record {
   stands = record {
     block = follows.block;
