@@ -182,10 +182,6 @@ ends_then p q r jobs later last todo rest limit left result same runs ends scrip
           (ended_more c scripts _ _ (length went.goes.done) _ left limit result stages went.goes.count end.ended);
     }
 
-pub none_of_some : {A : Type 0} (o : Option A) → is_some o ≡ false → o ≡ None
-none_of_some None is = refl
-none_of_some (Some x) is = cc
-
 -- the idle machines so far, and one more
 pub idle_more : (p q : Plain) (jobs later : Jobs) (number : ℕ) (result : Stepped) → IsUnchanged p q → later ≡ jobs → HasTurned p jobs number q later result → result ≡ Idle
     → ((scripts : Scripts) (s : Stage Actor) → Shows p s → Tells (config_of p) scripts jobs s → (k : ℕ) → k < number → turn scripts s k ≡ None)

@@ -1,4 +1,4 @@
-use Rattle.std.proofs.Common.{ap, ◌∙◌, length}
+use Rattle.std.proofs.Common.{◌≡◌, ap, ◌∙◌, length}
 use Rattle.mutator.specs.declared.spot.Order.TheVariants.{Nothing}
 use Rattle.step_core.proofs.OpeningStands.{length-opening}
 use Rattle.shen_core.specs.Shown.{order_of_machine}
