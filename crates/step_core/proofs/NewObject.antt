@@ -1,5 +1,5 @@
 -- Room in hand becomes an object: the piece keeps its words, and the graph has the object under a fresh name.
-use Rattle.std.proofs.Common.{◌≡◌, ◌≢◌, ℕ, zero, suc, ◌+◌, ◌<◌, ◌≤◌, ◌⊎◌, true, false, replicate, Option, Some, None, inl, inr, ⊎_elim, refl, sym, ap, ◌∙◌, subst, arith}
+use Rattle.std.proofs.Common.{◌≡◌, ◌≢◌, ℕ, zero, suc, ◌+◌, ◌<◌, ◌≤◌, true, false, replicate, Option, Some, None, ⊎_elim, refl, sym, ap, ◌∙◌, subst, arith}
 use Rattle.std.specs.Prelude.{◌==◌, if◌then◌else◌, slice_get}
 use Rattle.std.proofs.lemmas.Bool.{cases_eq, cases_Bool, cond-true, cond-false, eq-eqb}
 use Rattle.std.proofs.lemmas.Bool.Decides.{nat_tests}
@@ -12,7 +12,7 @@ use Rattle.shen_graph.specs.Graph.{Object, same_name, blank}
 use Rattle.shen_graph.proofs.PlainLemmas.{same_name-true, same_name-itself}
 use Rattle.mutator.specs.Rows.{fresh_word}
 use Rattle.step_core.specs.World.{Block, thing, hand, words_of, Plot, name_at, Points, IsInUse, IsPlotted, IsFilled, IsObject, IsGiven, AreObjects, AreRooms}
-use Rattle.step_core.proofs.Updates.{updated, updated_same, updated_there, updated_else}
+use Rattle.step_core.proofs.Updates.{updated, updated_there, updated_else}
 use Rattle.step_core.proofs.Pointing.{named_thing}
 use Rattle.step_core.proofs.Objects.{two_names, where_object}
 use Rattle.step_core.proofs.Pieces.{piece_cases, object_reads}

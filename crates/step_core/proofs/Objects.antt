@@ -1,7 +1,7 @@
 -- A word of an object changes, and the graph's object with it.
 use Rattle.std.proofs.Common.{◌≡◌, ◌≢◌, ℕ, ◌+◌, ◌<◌, ◌≤◌, false, List, length, Option, Some, ⊎_elim, refl, sym, ap, ◌∙◌, arith}
-use Rattle.std.specs.Prelude.{◌==◌, if◌then◌else◌, slice_get, slice_set}
-use Rattle.std.proofs.lemmas.Bool.{cases_Bool, cases_eq, cond-true, cond-false, eq-eqb, ne_eqb}
+use Rattle.std.specs.Prelude.{if◌then◌else◌, slice_get, slice_set}
+use Rattle.std.proofs.lemmas.Bool.{cases_Bool, cases_eq, cond-true, cond-false}
 use Rattle.std.proofs.lemmas.List.{length-set}
 use Rattle.std.proofs.lemmas.Option.{same_Some, slice_get_within, slice_get-get_or}
 use Rattle.heap_words.specs.declared.config.Config.{Config}
@@ -12,7 +12,7 @@ use Rattle.shen_graph.specs.Graph.{Reference, Object, Graph, same_name}
 use Rattle.shen_graph.proofs.PlainLemmas.{same_name-true, same_name-itself}
 use Rattle.step_core.specs.World.{World, thing, hand, Plot, Points, Target, IsPlotted, IsObject, AreObjects, Shared}
 use Rattle.step_core.specs.Stepped.{Rely}
-use Rattle.step_core.proofs.Updates.{updated, updated_same, updated_there, updated_else}
+use Rattle.step_core.proofs.Updates.{updated, updated_same, updated_else}
 use Rattle.step_core.proofs.Apart.{one_piece}
 use Rattle.step_core.proofs.Pieces.{object_reads}
 

@@ -1,7 +1,6 @@
 -- Where pieces lie, and the plot with one piece more or another.
-use Rattle.std.proofs.Common.{◌≡◌, ◌≢◌, ℕ, ◌+◌, ◌*◌, ◌<◌, ◌≤◌, ◌⊎◌, length, Some, inl, inr, ⊎_elim, refl, sym, ap, ◌∙◌, subst, arith}
-use Rattle.std.specs.Prelude.{◌==◌, if◌then◌else◌}
-use Rattle.std.proofs.lemmas.Bool.{cases_eq, cases_lt, cond-true, cond-false, eq-eqb, ne_eqb}
+use Rattle.std.proofs.Common.{◌≡◌, ◌≢◌, ℕ, ◌+◌, ◌*◌, ◌<◌, ◌≤◌, ◌⊎◌, length, Some, inl, inr, ⊎_elim, sym, ap, ◌∙◌, subst, arith}
+use Rattle.std.proofs.lemmas.Bool.{cases_eq, cases_lt}
 use Rattle.std.proofs.lemmas.Option.{same_Some, slice_get_within}
 use Rattle.std.proofs.Math.Nat.{mul-le-mul_right}
 use Rattle.heap_words.specs.declared.config.Config.{Config}
@@ -9,7 +8,7 @@ use Rattle.regions.specs.Place.{base_of}
 use Rattle.shen_graph.specs.declared.name.Name.{Name}
 use Rattle.shen_graph.specs.Graph.{Object}
 use Rattle.step_core.specs.World.{Block, thing, hand, words_of, Plot, name_at, Points, IsPlotted, IsObject, AreRooms}
-use Rattle.step_core.proofs.Updates.{updated, updated_same, updated_there, updated_else}
+use Rattle.step_core.proofs.Updates.{updated, updated_same, updated_else}
 use Rattle.step_core.proofs.Stable.{points_stay}
 
 -- one region lies behind another

@@ -15,14 +15,14 @@ use Rattle.shen_graph.specs.Graph.{Reference, Object, Graph, same_reference, fie
 use Rattle.shen_graph.specs.Step.{outcome, answers, shown}
 use Rattle.shen_graph.specs.History.{is_full}
 use Rattle.mutator.specs.declared.spot.Spot.{Spot}
-use Rattle.mutator.specs.declared.spot.Spot.TheVariants.{StoreField, SwapField, ExchangeField, StoreNumber, Leave}
+use Rattle.mutator.specs.declared.spot.Spot.TheVariants.{StoreField, SwapField, ExchangeField, StoreNumber}
 use Rattle.mutator.specs.declared.spot.Order.{Order}
 use Rattle.mutator.specs.declared.spot.Order.TheVariants.{Nothing, Begin}
 use Rattle.mutator.specs.Rows.{Mutating, touch_of, next_of, given_at}
 use Rattle.mutator.specs.Told.{told_of}
-use Rattle.step_core.specs.World.{World, hand, Points, Target, IsObject, Shared}
+use Rattle.step_core.specs.World.{World, Points, Target, IsObject, Shared}
 use Rattle.step_core.specs.Stepped.{HasObject, Mine, Stepped, Row}
-use Rattle.step_core.proofs.Updates.{updated, updated_same, updated_there, updated_else}
+use Rattle.step_core.proofs.Updates.{updated}
 use Rattle.step_core.proofs.Ready.{leaving}
 use Rattle.step_core.proofs.Naming.{object_in, field_in, number_in, same_words, shown_is}
 use Rattle.step_core.proofs.Objects.{field_stored, number_stored, stored, changed, shared_stored, rely_stored}

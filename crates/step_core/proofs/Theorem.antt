@@ -4,18 +4,14 @@ use Rattle.std.specs.Prelude.{slice_get, slice_index}
 use Rattle.std.proofs.lemmas.Bool.{and_parts}
 use Rattle.heap_words.specs.declared.config.Config.{Config}
 use Rattle.heap_words.specs.Access.{place_of}
-use Rattle.heap_words.specs.Words.{word_at, table_words}
-use Rattle.heap_words.proofs.Stores.{is_word_true}
-use Rattle.heap_words.proofs.Rows.{word_inside}
-use Rattle.steps_base.specs.Touch.{placed}
+use Rattle.heap_words.specs.Words.{table_words}
 use Rattle.steps_base.specs.Steps.{Stage, Event, HasReached, Finds}
-use Rattle.steps_base.proofs.Touches.{place_of-access_at}
 use Rattle.steps_base.proofs.Runs.{reached_has}
 use Rattle.shen_graph.specs.declared.command.Reply.{Reply}
 use Rattle.shen_graph.specs.History.{Entry, after, of_thread}
 use Rattle.mutator.specs.declared.spot.Order.{Order}
 use Rattle.mutator.specs.Rows.{Mutating, touch_of}
-use Rattle.mutator.specs.Fit.{IsReady, IsFit}
+use Rattle.mutator.specs.Fit.{IsFit}
 use Rattle.step_core.specs.Actor.{mutating, Actor, entries_of, plan_of, takes_of, kind}
 use Rattle.step_core.specs.Opening.{opening}
 use Rattle.step_core.specs.Follows.{first_graph, world_of, reached, past, IsMutator, IsThread, IsMachine, Follows, AreCalls, FindsFit, IsSound}
