@@ -20,6 +20,7 @@ machines_more c machines new number so_far is =
     map-append shown machines (new ∷ []) ∙ ap (λ xs. xs ++ shown new ∷ []) so_far ∙ ap (λ x. map (opening_machine c) (range_with_len 0 number) ++ x ∷ []) is
     ∙ sym (map-range_with_len_more (opening_machine c) 0 number number (omega arith))
 
+-- memory shows the opening
 pub shows_opening : (c : Config) (words : List ℕ) (machines : List Machine) → words ≡ opening_words c → map shown machines ≡ map (opening_machine c) (range_with_len 0 (seat_count c.mutators c.helpers)) → Shows words (map shown machines) (opening c)
 unfolding opening
 shows_opening c words machines words_are machines_are = record {
@@ -27,9 +28,11 @@ shows_opening c words machines words_are machines_are = record {
   machines_are = map-map (λ a. a.machine) (opening_actor c) (range_with_len 0 (seat_count c.mutators c.helpers)) ∙ sym machines_are;
 }
 
+-- so no event led to it
 pub shown_by_none : (c : Config) (words : List ℕ) (machines : List actors.Machine) → Shows words machines (opening c) → IsShownBySome c words machines
 shown_by_none c words machines shows = record { events = []; shows = subst (λ s. Shows words machines s) (sym (go-none (kind c) (opening c))) shows }
 
+-- there is a machine for each seat
 pub machines_count : (c : Config) (machines : List Machine) → map shown machines ≡ map (opening_machine c) (range_with_len 0 (seat_count c.mutators c.helpers)) → length machines ≡ seat_count c.mutators c.helpers
 machines_count c machines machines_are =
     sym (length-map machines shown) ∙ ap length machines_are ∙ length-map-range_with_len (opening_machine c) 0 (seat_count c.mutators c.helpers)

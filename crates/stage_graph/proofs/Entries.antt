@@ -41,11 +41,13 @@ command_valid : (spot : Spot) (made : ℕ) (order : Order) (command : Command) �
 command_valid spot made Nothing command takes valid = valid
 command_valid spot made (Begin k) command takes valid = begun_valid spot made k takes
 
+-- so is the command of an actor after its step
 took_valid : (c : Config) (a : Actor) (order : Order) (got : ℕ) (machine : Machine) → takes_of machine order ≡ true → is_valid a.command ≡ true → is_valid (took_of c a order got machine).command ≡ true
 took_valid c a order got (mutating m) takes valid = command_valid m.spot m.made order a.command takes valid
 took_valid c a order got helping takes valid = valid
 took_valid c a order got controlling takes valid = valid
 
+-- so are all commands after the step of a machine
 moved_valid : (c : Config) (s : Stage Actor) (number : ℕ) (order : Order) (a : Actor) → slice_get s.machines number ≡ Some a → takes_of a.machine order ≡ true → AreValid s → AreValid (moved (kind c) s number a order)
 unfolding kind
 moved_valid c s number order a here takes valid k b there = ⊎_elim
@@ -56,6 +58,7 @@ moved_valid c s number order a here takes valid k b there = ⊎_elim
     (λ (differs : k ≢ number). valid k b (sym (slice_get-set_other s.machines number k _ differs) ∙ there))
     (cases_eq k number)
 
+-- and after an event
 event_valid : (c : Config) (s : Stage Actor) (e : Event Order) → AreValid s → AreValid (act (kind c) s e)
 unfolding act kind
 event_valid c s e valid = by_machine (slice_get s.machines e.number) refl
@@ -74,6 +77,7 @@ entries_settled threads seat k None below valid = All-nil (IsSettled threads)
 entries_settled threads seat k (Some reply) below valid =
     All-cons (IsSettled threads) _ [] (record { least = omega arith; most = omega (arith, below); valid = valid }) (All-nil (IsSettled threads))
 
+-- the entries of an event are settled
 told_settled : (c : Config) (s : Stage Actor) (h : List Entry) (e : Event Order) → Follows c s h → AreValid s → All (IsSettled c.mutators) (told c s e)
 unfolding told
 told_settled c s h e follows valid = by_machine (slice_get s.machines e.number) refl
@@ -93,6 +97,7 @@ told_settled c s h e follows valid = by_machine (slice_get s.machines e.number) 
     by_machine None here = All-nil (IsSettled c.mutators)
     by_machine (Some a) here = by_order a (takes_of a.machine e.order) here refl
 
+-- so are those of a run
 history_settled : (c : Config) (s : Stage Actor) (h : List Entry) (es : List (Event Order)) → Follows c s h → AreValid s → All (IsSettled c.mutators) (history c s es)
 unfolding history
 history_settled c s h [] follows valid = All-nil (IsSettled c.mutators)
@@ -100,6 +105,7 @@ history_settled c s h (e ∷ es) follows valid =
     All-append (IsSettled c.mutators) (told c s e) (history c (act (kind c) s e) es) (told_settled c s h e follows valid)
     (history_settled c (act (kind c) s e) (h ++ told c s e) es (follows_event c s h e follows) (event_valid c s e valid))
 
+-- the commands of the opening are in range
 opening_valid : (c : Config) → AreValid (opening c)
 unfolding opening
 opening_valid c k a there =
@@ -110,5 +116,6 @@ opening_valid c k a there =
     ∙ get_or_from_slice_get (opening c).machines k a a there in
     ap (λ b. is_valid b.command) (sym is)
 
+-- the entries of each list of events are settled
 pub past_settled : (c : Config) (events : List (Event Order)) → All (IsSettled c.mutators) (past c events)
 past_settled c events = history_settled c (opening c) [] events (follows_first c) (opening_valid c)

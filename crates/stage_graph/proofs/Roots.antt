@@ -15,6 +15,7 @@ use Rattle.std.proofs.lemmas.Bool.{and_parts}
 use Rattle.stage_graph.specs.Parts.{HasNoMore}
 use Rattle.stage_graph.specs.Settled.{IsSettled}
 
+-- the opening has no roots but those of its threads
 pub no_more_opening : (threads : ℕ) → HasNoMore threads (graphs.opening threads)
 no_more_opening threads t i none = grind (arith, nat_tests)
 
@@ -29,21 +30,26 @@ named_keeps : (threads : ℕ) (g : Graph) (r : Reference) (o : Object) → HasNo
 named_keeps threads g None o few = few
 named_keeps threads g (Some n) o few = few
 
+-- a change on an object that may be missing
 on_keeps : {A : Type 0} (threads : ℕ) (v : Option A) (g : Graph) (f : A → Outcome) → HasNoMore threads g → ((x : A) → HasNoMore threads (f x).graph) → HasNoMore threads (on v g f).graph
 on_keeps threads None g f few more = few
 on_keeps threads (Some x) g f few more = more x
 
+-- one of two changes
 either_keeps : (threads : ℕ) (b : Bool) (x y : Outcome) → HasNoMore threads x.graph → HasNoMore threads y.graph → HasNoMore threads (if b then x else y).graph
 either_keeps threads true x y one other = one
 either_keeps threads false x y one other = other
 
+-- a change of a field
 field_keeps : (threads : ℕ) (g : Graph) (t obj field : ℕ) (v : Reference) → HasNoMore threads g → HasNoMore threads (with_field g t obj field v)
 field_keeps threads g t obj field v few = named_keeps threads g (g.root t obj) (record { refs = slice_set (named g (g.root t obj)).refs field v; nums = (named g (g.root t obj)).nums }) few
 
+-- a change of a number
 number_keeps : (threads : ℕ) (g : Graph) (t obj index value : ℕ) → HasNoMore threads g → HasNoMore threads (with_number g t obj index value)
 number_keeps threads g t obj index value few = named_keeps threads g (g.root t obj) (record { refs = (named g (g.root t obj)).refs; nums = slice_set (named g (g.root t obj)).nums index value }) few
 
 module _ (threads t : ℕ) (least : 1 ≤ t) (most : t ≤ threads) (g : Graph) (few : HasNoMore threads g) where
+  -- each command in range
   outcome_keeps : (k : Command) → is_valid k ≡ true → HasNoMore threads (outcome g t k).graph
   outcome_keeps (New dst refs nums) valid =
       with_root_keeps threads (with_fresh g t (blank refs nums)) t dst (Some (fresh g t)) least most (and_parts _ _ valid).0 few
@@ -72,6 +78,7 @@ module _ (threads t : ℕ) (least : 1 ≤ t) (most : t ≤ threads) (g : Graph) 
   outcome_keeps (Same a b) valid = few
   outcome_keeps Gc valid = few
 
+-- each settled entry
 entry_keeps : (threads : ℕ) (g : Graph) (e : Entry) → IsSettled threads e → HasNoMore threads g → HasNoMore threads (after_entry g e)
 entry_keeps threads g e settled few = by_full (is_full e.reply)
   where
