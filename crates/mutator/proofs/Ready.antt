@@ -10,9 +10,11 @@ use Rattle.steps_base.specs.Touch.{Touch, placed}
 use Rattle.steps_base.proofs.Touches.{place_of-access_at}
 use Rattle.steps_base.specs.Fits.{touch_fits}
 
+-- its word is one of the table
 pub word_of_ready : (c : Config) (t : Touch) → touch_fits c t ≡ true → is_word c t.word ≡ true
 word_of_ready c t ready = (and_parts _ _ ready).0
 
+-- its place lies in the table
 pub ready_inside : (c : Config) (t : Touch) → touch_fits c t ≡ true → place_of (placed c t) < table_words c
 ready_inside c t ready =
     subst (λ k. k < table_words c) (sym (place_of-access_at (word_at c t.word) t.form))

@@ -3,6 +3,7 @@ use Rattle.std.proofs.Common.{◌≡◌, ℕ, true, List, [], ◌∷◌, map, Op
 use Rattle.std.specs.Prelude.{slice_get, slice_set, slice_index}
 use Rattle.std.specs.Option.{option_map}
 use Rattle.std.proofs.lemmas.Option.{slice_get-map, same_Some}
+use Rattle.std.proofs.lemmas.List.{map-set}
 use Rattle.heap_words.specs.declared.config.Config.{Config}
 use Rattle.heap_words.specs.Access.{place_of, made_of}
 use Rattle.steps_base.specs.Touch.{placed}
@@ -17,11 +18,6 @@ use Rattle.mutator.specs.Rows.{Mutating, touch_of, next_of}
 use Rattle.step_core.specs.Actor.{Machine, mutating, Actor, takes_of, kind}
 use Rattle.shen_core.specs.Runs.{Shows, event, IsOneEvent}
 
-pub map-set : {A B : Type 0} (f : A → B) (xs : List A) (k : ℕ) (x : A) → map f (slice_set xs k x) ≡ slice_set (map f xs) k (f x)
-map-set f [] k x = refl
-map-set f (y ∷ xs) zero x = refl
-map-set f (y ∷ xs) (suc k) x = ap (λ ys. f y ∷ ys) (map-set f xs k x)
-
 -- where a map of an option is a value, there is one before it
 pub from_map : {A B : Type 0} (f : A → B) (o : Option A) (y : B) → option_map f o ≡ Some y → (x : A) × (o ≡ Some x) × (f x ≡ y)
 from_map f None y is = cc
@@ -34,9 +30,11 @@ shown_actor words machines s number machine shows here =
     (sym (slice_get-map (λ a. a.machine) s.machines number) ∙ ap (λ ms. slice_get ms number) shows.machines_are ∙ here)
 
 module _ (c : Config) (words : List ℕ) (machines : List Machine) (number : ℕ) (m : Mutating) (order : Order) where
+  -- the words after the step of a mutator
   abbrev pub stepped_words : List ℕ
   stepped_words = slice_set words (place_of (placed c (touch_of c m))) (made_of (placed c (touch_of c m)) (slice_index words (place_of (placed c (touch_of c m)))))
 
+  -- the machines after it
   abbrev pub stepped_machines : List Machine
   stepped_machines = slice_set machines number (mutating (next_of c m order (slice_index words (place_of (placed c (touch_of c m))))))
 
@@ -47,6 +45,7 @@ module _ (c : Config) (words : List ℕ) (machines : List Machine) (number : ℕ
       let found = shown_actor words machines s number (mutating m) shows here in
       (found.0, record { here = found.1; takes = ap (λ machine. takes_of machine order) found.2 ∙ takes }, found.2)
 
+  -- memory shows the stage after its step
   moved_shows : (s : Stage Actor) (command : Command) (calls : List Entry) → Shows words machines s → Shows stepped_words stepped_machines (moved (kind c) s number (record { machine = mutating m; command = command; calls = calls }) order)
   unfolding kind
   moved_shows s command calls shows = record {
@@ -56,6 +55,7 @@ module _ (c : Config) (words : List ℕ) (machines : List Machine) (number : ℕ
         ∙ ap (λ ws. slice_set machines number (mutating (next_of c m order (slice_index ws (place_of (placed c (touch_of c m))))))) shows.words_are;
   }
 
+  -- so it does after its event
   pub shows_step : (s : Stage Actor) → Shows words machines s → slice_get machines number ≡ Some (mutating m) → takes_at m.spot m.made order ≡ true → Shows stepped_words stepped_machines (act (kind c) s (event number order))
   unfolding kind
   shows_step s shows here takes =
@@ -64,6 +64,7 @@ module _ (c : Config) (words : List ℕ) (machines : List Machine) (number : ℕ
       (subst (λ machine. Shows stepped_words stepped_machines (moved (kind c) s number (record { machine = machine; command = found.0.command; calls = found.0.calls }) order)) (sym found.2)
       (moved_shows s found.0.command found.0.calls shows))
 
+  -- the step is one event
   pub one_event : slice_get machines number ≡ Some (mutating m) → takes_at m.spot m.made order ≡ true → IsOneEvent c words machines stepped_words stepped_machines number order
   one_event here takes = record {
     is_event = λ s shows. let found = shown_event s shows here takes in (found.0, found.1);

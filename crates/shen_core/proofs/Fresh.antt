@@ -22,25 +22,30 @@ use Rattle.shen_core.specs.declared.plain.Plain.{Plain}
 use Rattle.shen_core.specs.State.{config_of, orders_of, machines_of, Shows}
 use Rattle.shen_core.specs.Answer.{is_resting, made_of_machine}
 use Rattle.shen_core.specs.Progress.{CanRun, Tells, IsRunnable}
-use Rattle.shen_core.proofs.Opened.{map-map}
+use Rattle.std.proofs.lemmas.Simd.{map-map}
 
+-- nothing was done of a script
 progress_first : (scripts : Scripts) (t : ℕ) → t < length scripts → length scripts ≤ 8 → work.progress_of (work.opened scripts) t ≡ Some (work.begun (script_of scripts t))
 progress_first scripts t below few =
     get_or-map-range_with_len (λ m. option_map work.begun (slice_get scripts m)) 0 8 t t None (omega arith) (omega arith)
     ∙ ap (option_map work.begun) (slice_get-get_or scripts t [] below)
 
+-- the machines are those of the opening
 machines_first : (c : Config) (machines : List Machine) → map (λ a. a.machine) (opening c).machines ≡ machines → machines ≡ map (opening_machine c) (range_with_len 0 (seat_count c.mutators c.helpers))
 unfolding opening
 machines_first c machines is = sym is ∙ map-map (λ a. a.machine) (opening_actor c) (range_with_len 0 (seat_count c.mutators c.helpers))
 
+-- no machine of the opening has made an object
 made_none : (c : Config) (k : ℕ) (a b : Bool) → made_of_machine (if a then mutating (fresh_mutator k) else (if b then helping else controlling)) ≡ 0
 made_none c k true b = refl
 made_none c k false true = refl
 made_none c k false false = refl
 
+-- a machine is that of the opening
 machine_first : (c : Config) (machines : List Machine) (k : ℕ) → map (λ a. a.machine) (opening c).machines ≡ machines → k < seat_count c.mutators c.helpers → get_or machines k controlling ≡ opening_machine c k
 machine_first c machines k is below = ap (λ ms. get_or ms k controlling) (machines_first c machines is) ∙ get_or-map-range_with_len (opening_machine c) 0 (seat_count c.mutators c.helpers) k k controlling below (omega arith)
 
+-- it has made no object
 made_first : (c : Config) (machines : List Machine) (k : ℕ) → map (λ a. a.machine) (opening c).machines ≡ machines → made_of_machine (get_or machines k controlling) ≡ 0
 made_first c machines k is = ⊎_elim
     (λ (below : k < seat_count c.mutators c.helpers). ap made_of_machine (machine_first c machines k is below) ∙ made_none c k (nat_lt k c.mutators) (nat_lt k (c.mutators + c.helpers)))
@@ -49,6 +54,7 @@ made_first c machines k is = ⊎_elim
     ∙ ap made_of_machine (get_or_past _ k controlling (let count = length-map-range_with_len (opening_machine c) 0 (seat_count c.mutators c.helpers) in omega arith)))
     (cases_lt k (seat_count c.mutators c.helpers))
 
+-- a mutator rests
 rests_first : (c : Config) (machines : List Machine) (t : ℕ) → map (λ a. a.machine) (opening c).machines ≡ machines → t < c.mutators → is_resting (get_or machines t controlling) ≡ true
 rests_first c machines t is below =
     ap is_resting (machine_first c machines t is (omega arith))
@@ -86,8 +92,10 @@ tells_first c scripts count few = record {
 pub served_none : (scripts : Scripts) → scripts ≡ [] → All IsRunnable scripts
 served_none scripts none = subst (λ xs. All IsRunnable xs) (sym none) (λ k d below. absurd (omega arith))
 
+-- one script more
 pub served_push : (before after : Scripts) (script : List Command) → after ≡ before ++ script ∷ [] → All IsRunnable before → IsRunnable script → All IsRunnable after
 served_push before after script grown served one = subst (λ xs. All IsRunnable xs) (sym grown) (All-push IsRunnable before script served one)
 
+-- the number of scripts with one more
 pub length_pushed : (before after : Scripts) (script : List Command) → after ≡ before ++ script ∷ [] → length after ≡ length before + 1
 length_pushed before after script grown = ap length grown ∙ length-append before (script ∷ [])

@@ -21,9 +21,11 @@ use Rattle.shen_core.specs.declared.step.Stepped.{Stepped}
 use Rattle.shen_core.specs.declared.step.Stepped.TheVariants.{More, Again, Done, Idle}
 
 module _ (c : Config) (scripts : Scripts) where
+  -- with no event it stays
   pub goes_none : (s : Stage Actor) (todo : Agenda) (left : ℕ) → Goes c scripts s todo left s todo left
   goes_none s todo left = record { done = []; leads = go-none (kind c) s; events = refl; count = omega arith }
 
+  -- two parts follow each other
   pub goes_then : (s t u : Stage Actor) (todo rest more : Agenda) (left later last : ℕ) → Goes c scripts s todo left t rest later → Goes c scripts t rest later u more last → Goes c scripts s todo left u more last
   goes_then s t u todo rest more left later last one two = record {
     done = one.done ++ two.done;
@@ -76,18 +78,19 @@ module _ (c : Config) (scripts : Scripts) where
   steps_move s number zero some = absurd (omega arith)
   steps_move s number (suc k) some = ap (λ n. moves (turn scripts s number) (steps number n ∷ [])) (omega arith)
 
-  pub steps_none : (s : Stage Actor) (number : ℕ) → move_of c scripts s (steps number 0) ≡ None
-  steps_none s number = refl
-
+  -- a task ends where its machine has come to the place
   pub until_there : (s : Stage Actor) (number : ℕ) (place : Place) → stands_at s number place ≡ true → move_of c scripts s (until number place) ≡ None
   until_there s number place there = rw there refl
 
+  -- before that its machine has a turn
   pub until_move : (s : Stage Actor) (number : ℕ) (place : Place) → stands_at s number place ≡ false → move_of c scripts s (until number place) ≡ moves (turn scripts s number) (until number place ∷ [])
   until_move s number place away = rw away refl
 
+  -- a task ends where the replies were given
   pub replies_given : (s : Stage Actor) (number count : ℕ) → nat_le count (given s number) ≡ true → move_of c scripts s (replies number count) ≡ None
   replies_given s number count enough = rw enough refl
 
+  -- before that its machine has a turn
   pub replies_move : (s : Stage Actor) (number count : ℕ) → nat_le count (given s number) ≡ false → move_of c scripts s (replies number count) ≡ moves (turn scripts s number) (control_after (waits c s number) ++ replies number count ∷ [])
   replies_move s number count few = rw few refl
 
@@ -96,15 +99,18 @@ abbrev pub waiting_of : Stepped → Bool
 waiting_of Again = true
 waiting_of _ = false
 
+-- a turn that is not idle makes an event
 pub moved_of : (c : Config) (scripts : Scripts) (s : Stage Actor) (number : ℕ) (q : Plain) (later : Jobs) (result : Stepped) → (result ≡ Idle → ⊥) → Turned c scripts s number q later result → IsMoved c scripts s number q later (waiting_of result)
 moved_of c scripts s number q later More busy turned = turned
 moved_of c scripts s number q later Again busy turned = turned
 moved_of c scripts s number q later Done busy turned = turned
 moved_of c scripts s number q later Idle busy turned = absurd (busy refl)
 
+-- with no event memory stays
 pub runs_none : (p : Plain) (jobs : Jobs) (todo : Agenda) (left : ℕ) → Runs p jobs todo left p jobs todo left
 runs_none p jobs todo left scripts s shows tells = record { stage = s; goes = goes_none (config_of p) scripts s todo left; shows = shows; tells = tells }
 
+-- two parts of a run follow each other
 pub runs_then : (p q r : Plain) (jobs later last : Jobs) (todo rest more : Agenda) (left middle remaining : ℕ) → config_of q ≡ config_of p → Runs p jobs todo left q later rest middle → Runs q later rest middle r last more remaining → Runs p jobs todo left r last more remaining
 runs_then p q r jobs later last todo rest more left middle remaining same one two scripts s shows tells =
     let went = one scripts s shows tells in
@@ -151,6 +157,7 @@ task_moves p q jobs later number result task more left turned busy some move tas
       tells = moved.tells;
     }
 
+-- a machine keeps its place
 pub plain_within : (p q : Plain) (number : ℕ) → config_of q ≡ config_of p → number < seats_of p → number < length (machines_of q)
 plain_within p q number same below =
     let count : length (machines_of q) ≡ seats_of q = length-map q.machines.items shown ∙ q.all_machines in
@@ -169,6 +176,7 @@ given_told q jobs number scripts s within below shows tells =
     let found = shown_actor (words_of q) (machines_of q) s number (machine_at q number) shows (machine_within (machines_of q) number within) in
     ap given_of found.1 ∙ sym (ap length (tells.replies number found.0 below found.1) ∙ length-map found.0.calls (λ e. e.reply))
 
+-- a step that does not say Again does not wait
 pub waiting_not : (result : Stepped) → (result ≡ Again → ⊥) → waiting_of result ≡ false
 waiting_not More other = refl
 waiting_not Again other = absurd (other refl)

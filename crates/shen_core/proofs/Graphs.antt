@@ -24,6 +24,7 @@ use Rattle.shen_core.specs.Runs.{Shows, IsShownBySome}
 use Rattle.shen_core.specs.Answer.{is_resting}
 use Rattle.shen_core.proofs.Events.{shown_actor}
 
+-- a machine that rests is a mutator at rest
 rest_parts : (machine : Machine) → is_resting machine ≡ true → (m : Mutating) × (machine ≡ mutating m) × (is_at_rest m.spot ≡ true)
 rest_parts (mutating m) rest = (m, refl, rest)
 rest_parts helping rest = cc
@@ -32,6 +33,7 @@ rest_parts controlling rest = cc
 module _ (c : Config) (words : List ℕ) (machines : List Machine) (count : c.mutators < length machines)
     (rest : (number : ℕ) → number < c.mutators → is_resting (slice_index_or machines number controlling) ≡ true) (events : List (Event Order))
     (shows : Shows words machines (reached c events)) where
+  -- all mutators rest
   all_resting : AreResting c (reached c events)
   all_resting number below =
       let parts = rest_parts (slice_index_or machines number controlling) (rest number below) in
@@ -50,12 +52,14 @@ module _ (c : Config) (words : List ℕ) (machines : List Machine) (count : c.mu
   abbrev pub names : ℕ → Option Name
   names a = name_at ((every_list c events).stands.block a)
 
+  -- the words stand for the graph of the events
   pub words_stand : length words ≡ table_words c → WordsStand c.region_words (heap_in c words) (roots_in c words) names (after (first_graph c) (past c events))
   words_stand long =
       subst (λ ws. WordsStand c.region_words (heap_in c ws) (roots_in c ws) names (after (first_graph c) (past c events))) shows.words_are
       (stand c (reached c events) (after (first_graph c) (past c events)) (ap length shows.words_are ∙ long) (every_list c events).stands all_resting
       (no_more_after c.mutators (first_graph c) (past c events) (past_settled c events) (no_more_opening c.mutators)))
 
+-- so they do for those that led to the words
 pub some_stand : (c : Config) (words : List ℕ) (machines : List Machine) → c.mutators < length machines
     → ((number : ℕ) → number < c.mutators → is_resting (slice_index_or machines number controlling) ≡ true)
     → length words ≡ table_words c → ∥ IsShownBySome c words machines ∥₁ → StandForSome c.region_words (heap_in c words) (roots_in c words)

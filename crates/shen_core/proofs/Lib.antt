@@ -1,9 +1,9 @@
-pub mod Events
-pub mod Memory
-pub mod Opened
-pub mod Turns
-pub mod Noted
-pub mod Going
-pub mod Rounds
+mod Events
+mod Memory
+mod Opened
+mod Turns
+mod Noted
+mod Going
+mod Rounds
 pub mod Fresh
-pub mod Graphs
+mod Graphs

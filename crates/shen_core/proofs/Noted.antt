@@ -34,19 +34,14 @@ use Rattle.shen_core.specs.Answer.{stepped_of, says, is_resting, reply_in, made_
 use Rattle.shen_core.specs.Progress.{Jobs, Tells, CanRun, IsTurn, Turned, IsMoved, HasTurned}
 use Rattle.shen_core.specs.State.{config_of, words_of, orders_of, machines_of, machine_at, order_at, has_turn, next_machine, IsStep}
 use Rattle.shen_graph.specs.Valid.{IsValid}
-use Rattle.step_core.proofs.Entries.{append_none}
+use Rattle.std.proofs.lemmas.List.{append-nil, set-set}
 use Rattle.shen_core.proofs.Events.{shown_actor}
 use Rattle.shen_core.proofs.Turns.{machine_within}
-
-pub set_set : {A : Type 0} (xs : List A) (k : ℕ) (x y : A) → slice_set (slice_set xs k x) k y ≡ slice_set xs k y
-set_set [] k x y = refl
-set_set (z ∷ xs) zero x y = refl
-set_set (z ∷ xs) (suc k) x y = ap (λ ys. z ∷ ys) (set_set xs k x y)
 
 -- no order is pending after the turn
 pub orders_after : (old mid new : List Order) (number : ℕ) (order : Order) → mid ≡ slice_set old number order → new ≡ slice_set mid number Nothing → All (λ o. o ≡ Nothing) old → All (λ o. o ≡ Nothing) new
 orders_after old mid new number order mid_is new_is none =
-    subst (λ xs. All (λ o. o ≡ Nothing) xs) (sym (new_is ∙ ap (λ xs. slice_set xs number Nothing) mid_is ∙ set_set old number order Nothing))
+    subst (λ xs. All (λ o. o ≡ Nothing) xs) (sym (new_is ∙ ap (λ xs. slice_set xs number Nothing) mid_is ∙ set-set old number order Nothing))
     (All-set (λ o. o ≡ Nothing) old number Nothing refl none)
 
 -- a script that is there lies in the work
@@ -56,12 +51,15 @@ has_within jobs number has = ⊎_elim
     (λ (past : length jobs ≤ number). absurd (let none : work.progress_of jobs number ≡ None = get_or_past jobs number None past in false≢true (subst (λ o. IsSome o) none has)))
     (cases_lt number (length jobs))
 
+-- the progress of a script after a reply
 pub progress_same : (jobs : Jobs) (number : ℕ) (reply : Reply) → work.HasScript jobs number → work.progress_of (work.with_reply jobs number reply) number ≡ Some (work.answered (unwrap_or (work.progress_of jobs number) (work.begun [])) reply)
 progress_same jobs number reply has = get_or-set_same jobs number _ None (has_within jobs number has)
 
+-- that of another
 pub progress_other : (jobs : Jobs) (number : ℕ) (reply : Reply) (t : ℕ) → t ≢ number → work.progress_of (work.with_reply jobs number reply) t ≡ work.progress_of jobs t
 progress_other jobs number reply t other = get_or-set_other jobs number t _ None other
 
+-- scripts stay
 pub script_kept : (jobs : Jobs) (number : ℕ) (reply : Reply) (t : ℕ) → work.HasScript jobs number → work.script_of (work.with_reply jobs number reply) t ≡ work.script_of jobs t
 script_kept jobs number reply t has = ⊎_elim
     (λ (same : t ≡ number). subst (λ n. work.script_of (work.with_reply jobs number reply) n ≡ work.script_of jobs n) (sym same)
@@ -69,12 +67,15 @@ script_kept jobs number reply t has = ⊎_elim
     (λ (other : t ≡ number → ⊥). ap (λ o. (unwrap_or o (work.begun [])).script) (progress_other jobs number reply t other))
     (cases_eq t number)
 
+-- its replies are one more
 pub replies_same : (jobs : Jobs) (number : ℕ) (reply : Reply) → work.HasScript jobs number → work.replies_of (work.with_reply jobs number reply) number ≡ work.replies_of jobs number ++ reply ∷ []
 replies_same jobs number reply has = ap (λ o. (unwrap_or o (work.begun [])).replies) (progress_same jobs number reply has)
 
+-- those of another stay
 pub replies_other : (jobs : Jobs) (number : ℕ) (reply : Reply) (t : ℕ) → t ≢ number → work.replies_of (work.with_reply jobs number reply) t ≡ work.replies_of jobs t
 replies_other jobs number reply t other = ap (λ o. (unwrap_or o (work.begun [])).replies) (progress_other jobs number reply t other)
 
+-- no script is lost
 pub script_stays : (jobs : Jobs) (number : ℕ) (reply : Reply) (t : ℕ) → work.HasScript jobs number → work.HasScript jobs t → work.HasScript (work.with_reply jobs number reply) t
 script_stays jobs number reply t has here = ⊎_elim
     (λ (same : t ≡ number). subst (λ n. work.HasScript (work.with_reply jobs number reply) n) (sym same) (subst (λ o. IsSome o) (sym (progress_same jobs number reply has)) refl))
@@ -87,14 +88,17 @@ given_in (mutating m) = given_at m.spot
 given_in helping = None
 given_in controlling = None
 
+-- a reply as a list
 abbrev pub listed : Option Reply → List Reply
 listed None = []
 listed (Some r) = r ∷ []
 
+-- the reply of an entry
 replies_of_entries : (seat : ℕ) (command : Command) (given : Option Reply) → map (λ e. e.reply) (entries_of seat command given) ≡ listed given
 replies_of_entries seat command None = refl
 replies_of_entries seat command (Some r) = refl
 
+-- the replies of an actor after its step
 took_replies : (c : Config) (a : Actor) (order : Order) (got : ℕ) (machine : Machine) → takes_of machine order ≡ true → map (λ e. e.reply) (took_of c a order got machine).calls ≡ map (λ e. e.reply) a.calls ++ listed (given_in machine)
 took_replies c a order got helping takes = cc
 took_replies c a order got controlling takes = cc
@@ -127,7 +131,7 @@ tells_on c words machines jobs number machine order scripts s shows tells here t
       let there_now : slice_get (act (kind c) s (event number order)).machines number ≡ Some b = ap (λ n. slice_get (act (kind c) s (event number order)).machines n) (sym same) ∙ there in
       let before : slice_get s.machines t ≡ Some found.0 = ap (slice_get s.machines) same ∙ found.1 in
       tells.replies t found.0 below before
-      ∙ sym (acted_replies c s number order found.0 machine found.1 found.2 takes b there_now ∙ ap (λ g. map (λ e. e.reply) found.0.calls ++ listed g) none ∙ append_none _))
+      ∙ sym (acted_replies c s number order found.0 machine found.1 found.2 takes b there_now ∙ ap (λ g. map (λ e. e.reply) found.0.calls ++ listed g) none ∙ append-nil _))
       (λ (other : t ≡ number → ⊥). tells.replies t b below (sym (machines_other (kind c) s (event number order) t other) ∙ there))
       (cases_eq t number);
 }
@@ -193,6 +197,7 @@ done_gives c (Taking dst refs nums take) got is = absurd (not_done take (take_ne
     not_done (take_spot.Ended taken) next is = cc
 done_gives c _ got is = absurd (cc)
 
+-- a step that is not done gives no reply
 pub other_gives : (c : Config) (spot : Spot) (got : ℕ) → (stepped_of (answer_at c spot got) ≡ stepped.Done → ⊥) → given_at spot ≡ None
 other_gives c (Leave r) got is = absurd (is refl)
 other_gives c _ got is = refl
@@ -238,12 +243,15 @@ pub record IsAfter (p q : Plain) (jobs later : Jobs) (number : ℕ) (next : Mach
   pub busy : is_resting next ≡ false → length (work.replies_of later number) < length (work.script_of later number)
 
 module _ (p q : Plain) (jobs later : Jobs) (number : ℕ) (next : Machine) (after : IsAfter p q jobs later number next) where
+  -- the machine of the turn is the next one
   at_number : machine_at q number ≡ next
   at_number = ap (λ ms. get_or ms number controlling) after.machines ∙ get_or-set_same (machines_of p) number next controlling after.within
 
+  -- all others stay
   at_other : (t : ℕ) → t ≢ number → machine_at q t ≡ machine_at p t
   at_other t other = ap (λ ms. get_or ms t controlling) after.machines ∙ get_or-set_other (machines_of p) number t next controlling other
 
+  -- the heap can go on with the work
   pub can_run_after : CanRun p jobs → CanRun q later
   can_run_after before = record {
     orders = after.orders;
@@ -274,6 +282,7 @@ next_by_made c words order (mutating m) none = next_made c m order _ m.spot none
 next_by_made c words order helping none = (omega arith, refl)
 next_by_made c words order controlling none = (omega arith, refl)
 
+-- a step that gives a reply makes no object
 given_by_made : (c : Config) (words : List ℕ) (order : Order) (machine : Machine) (r : Reply) → given_in machine ≡ Some r → (made_of_machine (next_by c words order machine) ≡ made_of_machine machine) × (at_hand_of machine ≡ 1)
 given_by_made c words order (mutating m) r is = given_made c m order _ m.spot r is
 given_by_made c words order helping r is = absurd (cc)
@@ -297,12 +306,15 @@ pub record IsStepped (p mid q : Plain) (jobs : Jobs) (number : ℕ) (said : Step
   pub config : config_of q ≡ config_of mid
 
 module _ (p mid q : Plain) (jobs : Jobs) (number : ℕ) (said : Stepped) (facts : IsStepped p mid q jobs number said) where
+  -- the order changes nothing of the machine
   same_machine : machine_at mid number ≡ machine_at p number
   same_machine = ap (λ ms. get_or ms number controlling) facts.mid_machines
 
+  -- its number is one of a mutator
   pub below_now : number < (config_of p).mutators
   below_now = subst (λ c. number < c.mutators) facts.mid_config facts.below
 
+  -- the heap can go on with work in which others stay
   after_turn : (later : Jobs) → CanRun p jobs → ((t : ℕ) → work.HasScript jobs t → work.HasScript later t) → ((t : ℕ) → work.script_of later t ≡ work.script_of jobs t) → ((t : ℕ) → t ≢ number → work.replies_of later t ≡ work.replies_of jobs t)
       → (is_resting (next_machine mid number) ≡ false → length (work.replies_of later number) < length (work.script_of later number))
       → made_of_machine (next_machine mid number) + length (work.script_of later number) < 4294967295 + (length (work.replies_of later number) + at_hand_of (next_machine mid number)) → IsAfter p q jobs later number (next_machine mid number)
@@ -326,6 +338,7 @@ module _ (p mid q : Plain) (jobs : Jobs) (number : ℕ) (said : Stepped) (facts 
       can_run_after p q jobs jobs number (next_machine mid number)
       (after_turn jobs before (λ t h. h) (λ t. refl) (λ t other. refl) (λ busy. facts.more below_now) (omega (arith, step.0, step.1, now))) before
 
+  -- a mutator that gave a reply rests
   next_is_resting : (machine : Machine) (r : Reply) (c : Config) (words : List ℕ) (order : Order) → given_in machine ≡ Some r → is_resting (next_by c words order machine) ≡ true
   next_is_resting (mutating m) r c words order gives = next_rests c m order _ m.spot r gives
   next_is_resting helping r c words order gives = absurd (cc)
@@ -344,9 +357,11 @@ module _ (p mid q : Plain) (jobs : Jobs) (number : ℕ) (said : Stepped) (facts 
       (λ busy. absurd (false≢true (sym busy ∙ next_is_resting (machine_at mid number) r (config_of mid) (words_of mid) (order_at mid number) gives)))
       (omega (arith, step.0, step.1, now, script, replies))) before
 
+  -- the order changes nothing that is shown
   shows_mid : (s : Stage Actor) → Shows (words_of p) (machines_of p) s → Shows (words_of mid) (machines_of mid) s
   shows_mid s shows = record { words_are = shows.words_are ∙ sym facts.mid_words; machines_are = shows.machines_are ∙ sym facts.mid_machines }
 
+  -- the machine is there
   pub here_mid : slice_get (machines_of mid) number ≡ Some (machine_at mid number)
   here_mid = machine_within (machines_of mid) number (subst (λ ms. number < length ms) (sym facts.mid_machines) facts.within)
 
@@ -377,14 +392,17 @@ module _ (p mid q : Plain) (jobs : Jobs) (number : ℕ) (said : Stepped) (facts 
   turned_noted r gives has = has_turned (work.with_reply jobs number r) (λ scripts s shows tells.
       tells_noted (config_of p) (words_of mid) (machines_of mid) jobs number (machine_at mid number) (order_at mid number) r scripts s shows tells here_mid facts.has gives has)
 
+  -- a step that is not done gives no reply, by its machine
   given_by : (machine : Machine) → said ≡ says (config_of mid) machine (slice_index (words_of mid) (place_of (plan_of (config_of mid) machine))) → (said ≡ stepped.Done → ⊥) → given_in machine ≡ None
   given_by (mutating m) is other = other_gives (config_of mid) m.spot _ (λ e. other (is ∙ e))
   given_by helping is other = refl
   given_by controlling is other = refl
 
+  -- nor does the turn
   pub none_given : (said ≡ stepped.Done → ⊥) → given_in (machine_at mid number) ≡ None
   none_given other = given_by (machine_at mid number) facts.says other
 
+  -- a step that is done gives a reply, by its machine
   reply_by : (machine : Machine) → said ≡ says (config_of mid) machine (slice_index (words_of mid) (place_of (plan_of (config_of mid) machine))) → said ≡ stepped.Done → (r : Reply) × (given_in machine ≡ Some r) × (reply_in (next_by (config_of mid) (words_of mid) (order_at mid number) machine) ≡ Some r)
   reply_by (mutating m) is done =
       let gives = done_gives (config_of mid) m.spot _ (sym is ∙ done) in

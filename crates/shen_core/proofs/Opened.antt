@@ -3,6 +3,7 @@ use Rattle.std.proofs.Common.{◌≡◌, ℕ, ◌+◌, zero, suc, List, [], ◌�
 use Rattle.std.specs.List.{range_with_len}
 use Rattle.std.proofs.lemmas.List.FromFn.{map-range_with_len_more, length-map-range_with_len}
 use Rattle.std.proofs.lemmas.List.{map-append, length-map}
+use Rattle.std.proofs.lemmas.Simd.{map-map}
 use Rattle.heap_words.specs.declared.config.Config.{Config}
 use Rattle.heap_words.specs.Ranges.{seat_count}
 use Rattle.step_core.specs.Actor as actors
@@ -13,21 +14,13 @@ use Rattle.shen_core.specs.declared.machine.Machine.{Machine}
 use Rattle.shen_core.specs.Shown.{shown}
 use Rattle.shen_core.specs.Runs.{Shows, IsShownBySome}
 
-pub map-map : {A B C : Type 0} (f : B → C) (g : A → B) (xs : List A) → map f (map g xs) ≡ map (λ x. f (g x)) xs
-map-map f g [] = refl
-map-map f g (x ∷ xs) = ap (λ ys. f (g x) ∷ ys) (map-map f g xs)
-
-pub All-map : {A B : Type 0} (f : A → B) (y : B) (xs : List A) → All (λ x. f x ≡ y) xs → All (λ z. z ≡ y) (map f xs)
-All-map f y [] all k d below = absurd (omega arith)
-All-map f y (x ∷ xs) all zero d below = all 0 x (omega arith)
-All-map f y (x ∷ xs) all (suc k) d below = All-map f y xs (λ j e inside. all (suc j) e (omega arith)) k d (omega arith)
-
 -- one machine more
 pub machines_more : (c : Config) (machines : List Machine) (new : Machine) (number : ℕ) → map shown machines ≡ map (opening_machine c) (range_with_len 0 number) → shown new ≡ opening_machine c number → map shown (machines ++ new ∷ []) ≡ map (opening_machine c) (range_with_len 0 (number + 1))
 machines_more c machines new number so_far is =
     map-append shown machines (new ∷ []) ∙ ap (λ xs. xs ++ shown new ∷ []) so_far ∙ ap (λ x. map (opening_machine c) (range_with_len 0 number) ++ x ∷ []) is
     ∙ sym (map-range_with_len_more (opening_machine c) 0 number number (omega arith))
 
+-- memory shows the opening
 pub shows_opening : (c : Config) (words : List ℕ) (machines : List Machine) → words ≡ opening_words c → map shown machines ≡ map (opening_machine c) (range_with_len 0 (seat_count c.mutators c.helpers)) → Shows words (map shown machines) (opening c)
 unfolding opening
 shows_opening c words machines words_are machines_are = record {
@@ -35,9 +28,11 @@ shows_opening c words machines words_are machines_are = record {
   machines_are = map-map (λ a. a.machine) (opening_actor c) (range_with_len 0 (seat_count c.mutators c.helpers)) ∙ sym machines_are;
 }
 
+-- so no event led to it
 pub shown_by_none : (c : Config) (words : List ℕ) (machines : List actors.Machine) → Shows words machines (opening c) → IsShownBySome c words machines
 shown_by_none c words machines shows = record { events = []; shows = subst (λ s. Shows words machines s) (sym (go-none (kind c) (opening c))) shows }
 
+-- there is a machine for each seat
 pub machines_count : (c : Config) (machines : List Machine) → map shown machines ≡ map (opening_machine c) (range_with_len 0 (seat_count c.mutators c.helpers)) → length machines ≡ seat_count c.mutators c.helpers
 machines_count c machines machines_are =
     sym (length-map machines shown) ∙ ap length machines_are ∙ length-map-range_with_len (opening_machine c) 0 (seat_count c.mutators c.helpers)

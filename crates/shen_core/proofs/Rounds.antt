@@ -18,7 +18,7 @@ use Rattle.std.proofs.lemmas.List.{length-append}
 use Rattle.mutator.specs.declared.spot.Order.{Order}
 use Rattle.step_core.specs.Actor.{Actor, kind}
 use Rattle.step_core.specs.Schedule.{Scripts, turn, turn_of, order_on_turn, Agenda, next, numbers_from, first_turn, or_else, round_of, and_then, scheduled}
-use Rattle.step_core.proofs.Entries.{append_none}
+use Rattle.std.proofs.lemmas.List.{append-nil}
 use Rattle.shen_core.specs.declared.plain.Plain.{Plain}
 use Rattle.shen_core.specs.declared.run.Ran.{Ran}
 use Rattle.shen_core.specs.declared.run.Ran.TheVariants.{Finished, Unfinished}
@@ -30,10 +30,12 @@ use Rattle.shen_core.specs.Progress.{Jobs, Tells, Runs, agenda, Turned, HasTurne
 use Rattle.shen_core.specs.Ending.{HasEnded, HasRun, EndsRun}
 use Rattle.shen_core.proofs.Going.{goes_same, goes_next, moved_of}
 
+-- one number more, at the end
 range_more : (a n : ℕ) → range_with_len a (suc n) ≡ range_with_len a n ++ (a + n) ∷ []
 range_more a zero = ap (λ k. k ∷ []) (omega arith)
 range_more a (suc n) = ap (λ ks. a ∷ ks) (range_more (a + 1) n ∙ ap (λ k. range_with_len (a + 1) n ++ k ∷ []) (omega arith))
 
+-- the first turn of two lists of machines
 first_turn-append : (scripts : Scripts) (s : Stage Actor) (xs ys : List ℕ) → first_turn scripts s (xs ++ ys) ≡ or_else (first_turn scripts s xs) (first_turn scripts s ys)
 first_turn-append scripts s [] ys = refl
 first_turn-append scripts s (k ∷ xs) ys = ap (or_else (turn scripts s k)) (first_turn-append scripts s xs ys) ∙ assoc (turn scripts s k) (first_turn scripts s xs) (first_turn scripts s ys)
@@ -42,6 +44,7 @@ first_turn-append scripts s (k ∷ xs) ys = ap (or_else (turn scripts s k)) (fir
     assoc None b d = refl
     assoc (Some e) b d = refl
 
+-- a turn or none
 or_none : (a : Option (Event Order)) → or_else a None ≡ a
 or_none None = refl
 or_none (Some e) = refl
@@ -52,6 +55,7 @@ numbers_step c k below =
     let more : seat_count c.mutators c.helpers - k ≡ suc (seat_count c.mutators c.helpers - (k + 1)) = omega arith in
     ap (λ n. range_with_len k n ++ range_with_len 0 k) more
 
+-- the numbers from the next one on: it comes last
 numbers_after : (c : Config) (k : ℕ) → numbers_from c (k + 1) ≡ (range_with_len (k + 1) (seat_count c.mutators c.helpers - (k + 1)) ++ range_with_len 0 k) ++ k ∷ []
 numbers_after c k =
     let one : k + 1 ≡ suc k = omega arith in
@@ -80,6 +84,7 @@ turn_number scripts s k e is = by_actor (slice_get s.machines k) is
     by_actor None is = cc
     by_actor (Some a) is = by_order (order_on_turn scripts k a a.machine) is
 
+-- then the next machine has its turn
 pub round_move : (c : Config) (scripts : Scripts) (s : Stage Actor) (k : ℕ) (e : Event Order) → k < seat_count c.mutators c.helpers → turn scripts s k ≡ Some e → next c scripts s (agenda [] k) ≡ Some (record { event = e; agenda = agenda [] (k + 1) })
 round_move c scripts s k e below is =
     ap round_of (ap (first_turn scripts s) (numbers_step c k below) ∙ ap (λ t. or_else t (first_turn scripts s (range_with_len (k + 1) (seat_count c.mutators c.helpers - (k + 1)) ++ range_with_len 0 k))) is)
@@ -92,9 +97,10 @@ round_again c scripts s =
     let none : seats - seats ≡ 0 = omega arith in
     let all : seats - 0 ≡ seats = omega arith in
     let last : numbers_from c seats ≡ range_with_len 0 seats = ap (λ n. range_with_len seats n ++ range_with_len 0 seats) none in
-    let first : numbers_from c 0 ≡ range_with_len 0 seats = ap (λ n. range_with_len 0 n ++ []) all ∙ append_none (range_with_len 0 seats) in
+    let first : numbers_from c 0 ≡ range_with_len 0 seats = ap (λ n. range_with_len 0 n ++ []) all ∙ append-nil (range_with_len 0 seats) in
     ap (λ ks. round_of (first_turn scripts s ks)) (last ∙ sym first)
 
+-- among idle machines there is no turn
 none_turn : (scripts : Scripts) (s : Stage Actor) (a n : ℕ) → ((k : ℕ) → a ≤ k → k < a + n → turn scripts s k ≡ None) → first_turn scripts s (range_with_len a n) ≡ None
 none_turn scripts s a zero each = refl
 none_turn scripts s a (suc n) each = ap (λ t. or_else t (first_turn scripts s (range_with_len (a + 1) n))) (each a (omega arith) (omega arith)) ∙ none_turn scripts s (a + 1) n (λ k from below. each k (omega arith) (omega arith))
@@ -104,10 +110,11 @@ pub idle_round : (c : Config) (scripts : Scripts) (s : Stage Actor) → AreIdle 
 idle_round c scripts s idle =
     let seats = seat_count c.mutators c.helpers in
     let all : seats - 0 ≡ seats = omega arith in
-    let first : numbers_from c 0 ≡ range_with_len 0 seats = ap (λ n. range_with_len 0 n ++ []) all ∙ append_none (range_with_len 0 seats) in
+    let first : numbers_from c 0 ≡ range_with_len 0 seats = ap (λ n. range_with_len 0 n ++ []) all ∙ append-nil (range_with_len 0 seats) in
     ap (λ ks. round_of (first_turn scripts s ks)) first
     ∙ ap round_of (none_turn scripts s 0 seats (λ k from below. idle k (omega arith)))
 
+-- where there is no event, the schedule has none
 pub scheduled_none : (c : Config) (scripts : Scripts) (s : Stage Actor) (todo : Agenda) (left : ℕ) → next c scripts s todo ≡ None → scheduled c scripts left todo s ≡ []
 unfolding scheduled
 scheduled_none c scripts s todo zero none = refl
@@ -130,6 +137,7 @@ round_moves p q jobs later k result left below turned busy some scripts s shows 
       tells = moved.tells;
     }
 
+-- after the last machine the next round begins
 pub round_ends : (p : Plain) (jobs : Jobs) (left : ℕ) → Runs p jobs (agenda [] (seat_count (config_of p).mutators (config_of p).helpers)) left p jobs (agenda [] 0) left
 round_ends p jobs left scripts s shows tells = record {
   stage = s;
@@ -161,6 +169,7 @@ ends_out p jobs left out busy scripts s shows tells =
       ended = (λ idle. busy scripts s shows tells (subst (λ x. AreIdle (config_of p) scripts x) same idle), ap length none ∙ sym out);
     }
 
+-- an end after more events
 ended_more : (c : Config) (scripts : Scripts) (t u : Stage Actor) (done more left limit : ℕ) (result : Ran) → u ≡ t → done + left ≡ limit → HasEnded c scripts t more left result → HasEnded c scripts u (done + more) limit result
 ended_more c scripts t u done more left limit Finished same count ended = subst (λ x. AreIdle c scripts x) (sym same) ended
 ended_more c scripts t u done more left limit Unfinished same count ended = (λ idle. ended.0 (subst (λ x. AreIdle c scripts x) same idle), (let is = ended.1 in omega arith))
@@ -181,10 +190,6 @@ ends_then p q r jobs later last todo rest limit left result same runs ends scrip
       ended = subst (λ n. HasEnded c scripts (go (kind c) s (scheduled c scripts limit todo s)) n limit result) (sym lengths)
           (ended_more c scripts _ _ (length went.goes.done) _ left limit result stages went.goes.count end.ended);
     }
-
-pub none_of_some : {A : Type 0} (o : Option A) → is_some o ≡ false → o ≡ None
-none_of_some None is = refl
-none_of_some (Some x) is = cc
 
 -- the idle machines so far, and one more
 pub idle_more : (p q : Plain) (jobs later : Jobs) (number : ℕ) (result : Stepped) → IsUnchanged p q → later ≡ jobs → HasTurned p jobs number q later result → result ≡ Idle

@@ -32,6 +32,7 @@ seat_below c words machines number m some here =
     let thread = thread_of c (reached c some.events) (past c some.events) (follows_reached c some.events) number found.0 m (record { here = found.1; is = found.2 }) in
     subst (λ k. k < c.mutators) thread.number_is thread.mine.seat
 
+-- the same where it is only known that some events led there
 pub seat_below_some : (c : Config) (words : List ℕ) (machines : List Machine) (number : ℕ) (m : Mutating) → ∥ IsShownBySome c words machines ∥₁ → slice_get machines number ≡ Some (mutating m) → number < c.mutators
 seat_below_some c words machines number m some here =
     let test : nat_lt number c.mutators ≡ true = ∥∥₁_elim some (hlevel (Bool-set)) (λ shown. lt-ltb number c.mutators (seat_below c words machines number m shown here)) in
@@ -48,6 +49,7 @@ fit_shown c words machines number m order some here takes = ∥∥₁_elim some 
         subst (λ ws. IsFit c m order (slice_index ws (place_of (access_of c m)))) shown.shows.words_are
         (subst (λ machine. IsFit c m order (slice_index (reached c shown.events).words (place_of (plan_of c machine)))) found.2 fit)
 
+-- a map of a map of an option
 map_of_map : {A B C : Type 0} (f : B → C) (g : A → B) (o : Option A) → option_map f (option_map g o) ≡ option_map (λ x. f (g x)) o
 map_of_map f g None = refl
 map_of_map f g (Some x) = refl
@@ -57,6 +59,7 @@ pub actor_turn : (scripts : Scripts) (s : Stage Actor) (number : ℕ) (a : Actor
 actor_turn scripts s number a machine here is =
     ap (turn_of scripts number) here ∙ ap (λ x. option_map (λ order. event number order) (order_on_turn scripts number a x)) is
 
+-- a machine that rests begins its next command
 pub resting_order : (scripts : Scripts) (number : ℕ) (a : Actor) (machine : Machine) → is_resting machine ≡ true → order_on_turn scripts number a machine ≡ option_map (λ command. Begin command) (slice_get (script_of scripts number) (length a.calls))
 resting_order scripts number a (mutating m) rest = rw rest refl
 resting_order scripts number a helping rest = cc
@@ -75,8 +78,6 @@ turn_by_next c words machines jobs number machine here rest below scripts s show
     ∙ ap (λ k. option_map (λ command. event number (Begin command)) (slice_get (work.script_of jobs number) k))
     (sym (ap length (tells.replies number a below found.1) ∙ length-map a.calls (λ e. e.reply)))
 
-pub element : {A : Type 0} (P : A → Type 0) (xs : List A) (k : ℕ) (x : A) → All P xs → slice_get xs k ≡ Some x → P x
-element P xs k x all here = subst P (get_or_from_slice_get xs k x x here) (all k x (slice_get_within xs k x here))
-
+-- there is a machine at each number
 pub machine_within : (machines : List Machine) (number : ℕ) → number < length machines → slice_get machines number ≡ Some (slice_index_or machines number controlling)
 machine_within machines number below = slice_get-get_or machines number controlling below

@@ -4,7 +4,7 @@ use Rattle.std.specs.Prelude.{slice_get, if◌then◌else◌}
 use Rattle.std.proofs.lemmas.List.Elements.{All-nil, All-cons, All-append}
 use Rattle.std.proofs.lemmas.List.FromFn.{get_or-map-range_with_len, length-map-range_with_len}
 use Rattle.std.proofs.lemmas.Option.{same_Some, slice_get_within, get_or_from_slice_get}
-use Rattle.std.proofs.lemmas.Bool.{cases_eq}
+use Rattle.std.proofs.lemmas.Bool.{cases_eq, and_parts}
 use Rattle.heap_words.specs.declared.config.Config.{Config}
 use Rattle.heap_words.specs.Ranges.{seat_count}
 use Rattle.steps_base.specs.Steps.{Stage, Event, moved, act_of, act}
@@ -21,7 +21,7 @@ use Rattle.step_core.specs.Actor.{Machine, mutating, helping, controlling, Actor
 use Rattle.step_core.specs.Opening.{opening_actor, opening}
 use Rattle.step_core.specs.History.{told_by, told_of_machine, told, history}
 use Rattle.step_core.specs.Follows.{settled, past, Follows}
-use Rattle.step_core.proofs.Induction.{first_part, follows_event}
+use Rattle.step_core.proofs.Induction.{follows_event}
 use Rattle.step_core.proofs.FirstFacts.{follows_first}
 use Rattle.step_core.proofs.Theorem.{thread_of}
 use Rattle.stage_graph.specs.Settled.{IsSettled}
@@ -32,8 +32,8 @@ AreValid s = (number : ℕ) (a : Actor) → slice_get s.machines number ≡ Some
 
 -- a command that is begun is in range
 begun_valid : (spot : Spot) (made : ℕ) (k : Command) → takes_at spot made (Begin k) ≡ true → is_valid k ≡ true
-begun_valid Rest made k takes = first_part _ _ takes
-begun_valid (Ended reply) made k takes = first_part _ _ takes
+begun_valid Rest made k takes = (and_parts _ _ takes).0
+begun_valid (Ended reply) made k takes = (and_parts _ _ takes).0
 begun_valid _ made k takes = cc
 
 -- so is that of a call after any order that is taken
@@ -41,11 +41,13 @@ command_valid : (spot : Spot) (made : ℕ) (order : Order) (command : Command) �
 command_valid spot made Nothing command takes valid = valid
 command_valid spot made (Begin k) command takes valid = begun_valid spot made k takes
 
+-- so is the command of an actor after its step
 took_valid : (c : Config) (a : Actor) (order : Order) (got : ℕ) (machine : Machine) → takes_of machine order ≡ true → is_valid a.command ≡ true → is_valid (took_of c a order got machine).command ≡ true
 took_valid c a order got (mutating m) takes valid = command_valid m.spot m.made order a.command takes valid
 took_valid c a order got helping takes valid = valid
 took_valid c a order got controlling takes valid = valid
 
+-- so are all commands after the step of a machine
 moved_valid : (c : Config) (s : Stage Actor) (number : ℕ) (order : Order) (a : Actor) → slice_get s.machines number ≡ Some a → takes_of a.machine order ≡ true → AreValid s → AreValid (moved (kind c) s number a order)
 unfolding kind
 moved_valid c s number order a here takes valid k b there = ⊎_elim
@@ -56,6 +58,7 @@ moved_valid c s number order a here takes valid k b there = ⊎_elim
     (λ (differs : k ≢ number). valid k b (sym (slice_get-set_other s.machines number k _ differs) ∙ there))
     (cases_eq k number)
 
+-- and after an event
 event_valid : (c : Config) (s : Stage Actor) (e : Event Order) → AreValid s → AreValid (act (kind c) s e)
 unfolding act kind
 event_valid c s e valid = by_machine (slice_get s.machines e.number) refl
@@ -74,6 +77,7 @@ entries_settled threads seat k None below valid = All-nil (IsSettled threads)
 entries_settled threads seat k (Some reply) below valid =
     All-cons (IsSettled threads) _ [] (record { least = omega arith; most = omega (arith, below); valid = valid }) (All-nil (IsSettled threads))
 
+-- the entries of an event are settled
 told_settled : (c : Config) (s : Stage Actor) (h : List Entry) (e : Event Order) → Follows c s h → AreValid s → All (IsSettled c.mutators) (told c s e)
 unfolding told
 told_settled c s h e follows valid = by_machine (slice_get s.machines e.number) refl
@@ -93,6 +97,7 @@ told_settled c s h e follows valid = by_machine (slice_get s.machines e.number) 
     by_machine None here = All-nil (IsSettled c.mutators)
     by_machine (Some a) here = by_order a (takes_of a.machine e.order) here refl
 
+-- so are those of a run
 history_settled : (c : Config) (s : Stage Actor) (h : List Entry) (es : List (Event Order)) → Follows c s h → AreValid s → All (IsSettled c.mutators) (history c s es)
 unfolding history
 history_settled c s h [] follows valid = All-nil (IsSettled c.mutators)
@@ -100,6 +105,7 @@ history_settled c s h (e ∷ es) follows valid =
     All-append (IsSettled c.mutators) (told c s e) (history c (act (kind c) s e) es) (told_settled c s h e follows valid)
     (history_settled c (act (kind c) s e) (h ++ told c s e) es (follows_event c s h e follows) (event_valid c s e valid))
 
+-- the commands of the opening are in range
 opening_valid : (c : Config) → AreValid (opening c)
 unfolding opening
 opening_valid c k a there =
@@ -110,5 +116,6 @@ opening_valid c k a there =
     ∙ get_or_from_slice_get (opening c).machines k a a there in
     ap (λ b. is_valid b.command) (sym is)
 
+-- the entries of each list of events are settled
 pub past_settled : (c : Config) (events : List (Event Order)) → All (IsSettled c.mutators) (past c events)
 past_settled c events = history_settled c (opening c) [] events (follows_first c) (opening_valid c)

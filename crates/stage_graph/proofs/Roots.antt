@@ -11,10 +11,11 @@ use Rattle.shen_graph.specs.Step.{Outcome, answers, shown, on, outcome}
 use Rattle.shen_graph.specs.declared.command.Reply.TheVariants as reply
 use Rattle.shen_graph.specs.History.{Entry, is_full, after_entry, after}
 use Rattle.mutator.specs.Orders.{is_root, is_valid}
-use Rattle.step_core.proofs.Induction.{first_part}
+use Rattle.std.proofs.lemmas.Bool.{and_parts}
 use Rattle.stage_graph.specs.Parts.{HasNoMore}
 use Rattle.stage_graph.specs.Settled.{IsSettled}
 
+-- the opening has no roots but those of its threads
 pub no_more_opening : (threads : ℕ) → HasNoMore threads (graphs.opening threads)
 no_more_opening threads t i none = grind (arith, nat_tests)
 
@@ -29,27 +30,32 @@ named_keeps : (threads : ℕ) (g : Graph) (r : Reference) (o : Object) → HasNo
 named_keeps threads g None o few = few
 named_keeps threads g (Some n) o few = few
 
+-- a change on an object that may be missing
 on_keeps : {A : Type 0} (threads : ℕ) (v : Option A) (g : Graph) (f : A → Outcome) → HasNoMore threads g → ((x : A) → HasNoMore threads (f x).graph) → HasNoMore threads (on v g f).graph
 on_keeps threads None g f few more = few
 on_keeps threads (Some x) g f few more = more x
 
+-- one of two changes
 either_keeps : (threads : ℕ) (b : Bool) (x y : Outcome) → HasNoMore threads x.graph → HasNoMore threads y.graph → HasNoMore threads (if b then x else y).graph
 either_keeps threads true x y one other = one
 either_keeps threads false x y one other = other
 
+-- a change of a field
 field_keeps : (threads : ℕ) (g : Graph) (t obj field : ℕ) (v : Reference) → HasNoMore threads g → HasNoMore threads (with_field g t obj field v)
 field_keeps threads g t obj field v few = named_keeps threads g (g.root t obj) (record { refs = slice_set (named g (g.root t obj)).refs field v; nums = (named g (g.root t obj)).nums }) few
 
+-- a change of a number
 number_keeps : (threads : ℕ) (g : Graph) (t obj index value : ℕ) → HasNoMore threads g → HasNoMore threads (with_number g t obj index value)
 number_keeps threads g t obj index value few = named_keeps threads g (g.root t obj) (record { refs = (named g (g.root t obj)).refs; nums = slice_set (named g (g.root t obj)).nums index value }) few
 
 module _ (threads t : ℕ) (least : 1 ≤ t) (most : t ≤ threads) (g : Graph) (few : HasNoMore threads g) where
+  -- each command in range
   outcome_keeps : (k : Command) → is_valid k ≡ true → HasNoMore threads (outcome g t k).graph
   outcome_keeps (New dst refs nums) valid =
-      with_root_keeps threads (with_fresh g t (blank refs nums)) t dst (Some (fresh g t)) least most (first_part _ _ valid) few
+      with_root_keeps threads (with_fresh g t (blank refs nums)) t dst (Some (fresh g t)) least most (and_parts _ _ valid).0 few
   outcome_keeps (Get dst src field) valid =
       on_keeps threads (field_at g t src field) g (λ v. answers (shown v) (with_root g t dst v)) few
-      (λ v. with_root_keeps threads g t dst v least most (first_part _ _ valid) few)
+      (λ v. with_root_keeps threads g t dst v least most (and_parts _ _ valid).0 few)
   outcome_keeps (Set obj field val) valid =
       on_keeps threads (field_at g t obj field) g (λ v. answers reply.Ok (with_field g t obj field (g.root t val))) few
       (λ v. field_keeps threads g t obj field (g.root t val) few)
@@ -60,18 +66,19 @@ module _ (threads t : ℕ) (least : 1 ≤ t) (most : t ≤ threads) (g : Graph) 
       (λ v. either_keeps threads (same_reference v (g.root t expect)) one other (field_keeps threads g t obj field (g.root t val) few) few)
   outcome_keeps (Xchg dst obj field val) valid =
       on_keeps threads (field_at g t obj field) g (λ v. answers (shown v) (with_root (with_field g t obj field (g.root t val)) t dst v)) few
-      (λ v. with_root_keeps threads (with_field g t obj field (g.root t val)) t dst v least most (first_part _ _ valid)
+      (λ v. with_root_keeps threads (with_field g t obj field (g.root t val)) t dst v least most (and_parts _ _ valid).0
       (field_keeps threads g t obj field (g.root t val) few))
   outcome_keeps (Rd obj index) valid =
       on_keeps threads (number_at g t obj index) g (λ n. answers (reply.Number n) g) few (λ v. few)
   outcome_keeps (Wr obj index value) valid =
       on_keeps threads (number_at g t obj index) g (λ v. answers reply.Ok (with_number g t obj index value)) few
       (λ v. number_keeps threads g t obj index value few)
-  outcome_keeps (Copy dst src) valid = with_root_keeps threads g t dst (g.root t src) least most (first_part _ _ valid) few
+  outcome_keeps (Copy dst src) valid = with_root_keeps threads g t dst (g.root t src) least most (and_parts _ _ valid).0 few
   outcome_keeps (Drop dst) valid = with_root_keeps threads g t dst None least most valid few
   outcome_keeps (Same a b) valid = few
   outcome_keeps Gc valid = few
 
+-- each settled entry
 entry_keeps : (threads : ℕ) (g : Graph) (e : Entry) → IsSettled threads e → HasNoMore threads g → HasNoMore threads (after_entry g e)
 entry_keeps threads g e settled few = by_full (is_full e.reply)
   where

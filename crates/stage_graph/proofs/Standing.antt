@@ -21,7 +21,7 @@ use Rattle.step_core.specs.World as world
 use Rattle.step_core.specs.World.{World, Plot, Block, thing, hand, words_of, name_at, Points}
 use Rattle.step_core.specs.Stepped.{root_now}
 use Rattle.step_core.specs.Follows.{settled, world_of, StandsFor}
-use Rattle.step_core.proofs.Pointing.{named_thing}
+use Rattle.step_core.proofs.Pointing.{named_thing, piece_inside as words_inside}
 use Rattle.heap_graph.specs.Stands.{Refers, IsAt}
 use Rattle.heap_graph.specs.Rows.{root_word}
 use Rattle.heap_graph.specs.Shows.{WordsStand}
@@ -31,6 +31,7 @@ use Rattle.stage_graph.specs.Parts.{heap_in, roots_in, AreResting, is_root_of, H
 pub get_or-part : (xs : List ℕ) (a b i : ℕ) → i < b - a → get_or (slice_range xs a b) i 0 ≡ get_or xs (a + i) 0
 get_or-part xs a b i within = get_or-take (b - a) (drop a xs) i 0 within ∙ get_or-drop a xs i 0
 
+-- its length
 pub length-part : (xs : List ℕ) (a b : ℕ) → b ≤ length xs → length (slice_range xs a b) ≡ b - a
 length-part xs a b within = length-take-le (b - a) (drop a xs) (omega (arith, length-drop a xs))
 
@@ -58,17 +59,16 @@ module _ (c : Config) (s : Stage Actor) (g : Graph) (long : length s.words ≡ t
   abbrev at : ℕ → Option Name
   at a = name_at (stands.block a)
 
+  -- the length of the heap
   length-heap : length heap ≡ c.regions * c.region_words
   length-heap = let e : length heap ≡ table_words c - heap_start c = length-part s.words (heap_start c) (table_words c) (omega (arith, long)) in omega (arith, e)
 
   -- the words of a piece lie in the heap
   piece_inside : (a : ℕ) (b : Block) → stands.block a ≡ Some b → (first ≤ a) × (a + words_of b ≤ first + length heap)
   piece_inside a b is =
-      let used = stands.shared.plotted.in_use a b is in
-      let top : settled c s (Top used.region) ≤ c.region_words = stands.shared.plotted.tops used.region used.within in
-      let low : 1 * c.region_words ≤ (used.region + 1) * c.region_words = mul-le-mul_right c.region_words (omega arith) in
-      let high : (used.region + 1) * c.region_words ≤ c.regions * c.region_words = mul-le-mul_right c.region_words (omega (arith, used.within)) in
-      (omega (arith, low, used.from_base), omega (arith, high, top, used.to_top, length-heap))
+      let inside = words_inside c (λ r. settled c s (Top r)) stands.block stands.shared.plotted a b is in
+      let size : (c.regions + 1) * c.region_words ≡ c.regions * c.region_words + c.region_words = omega arith in
+      (inside.0, omega (arith, inside.1, size, length-heap))
 
   -- a word of the heap by its name
   heap_word : (a : ℕ) → first ≤ a → a < first + length heap → slice_index heap (a - first) ≡ settled c s (Heap a)
@@ -77,6 +77,7 @@ module _ (c : Config) (s : Stage Actor) (g : Graph) (long : length s.words ≡ t
       ∙ ap (λ k. get_or s.words k 0) (let e : heap_start c + (a - first) ≡ heap_start c + a - first = omega (arith, low) in e)
       ∙ sym (view_word c s.words (Heap a) (low, let e : (c.regions + 1) * c.region_words ≡ c.regions * c.region_words + c.region_words = omega arith in omega (arith, e, high, length-heap)))
 
+  -- an object has the words that its piece has
   object_stands : (a refs nums : ℕ) (n : Name) (o : Object) → stands.block a ≡ Some (thing n refs nums) → g.object n ≡ Some o
       → world.IsObject (λ k. settled c s (Heap k)) stands.block a refs nums n o → n.count < 2 ^ 32
       → IsAt first (first + length heap) (λ k. slice_index heap (k - first)) at g a n o
@@ -104,12 +105,14 @@ module _ (c : Config) (s : Stage Actor) (g : Graph) (long : length s.words ≡ t
         below = omega (arith, inside.1, facts.refs_are, facts.nums_are);
       }
 
+  -- so has each name that stands somewhere
   each : (a : ℕ) (n : Name) → at a ≡ Some n → (o : Object) × IsAt first (first + length heap) (λ k. slice_index heap (k - first)) at g a n o
   each a n is =
       let piece = named_thing (stands.block a) n is in
       let object = stands.shared.objects.each a piece.0 piece.1 n piece.2 in
       (object.0, object_stands a piece.0 piece.1 n object.0 piece.2 object.1 object.2 (stands.shared.given n object.0 object.1).small)
 
+  -- objects lie apart
   apart : (a b : ℕ) (n m : Name) (o : Object) → at a ≡ Some n → at b ≡ Some m → g.object n ≡ Some o → a < b → a + size o ≤ b
   apart a b n m o is_a is_b object before =
       let one = named_thing (stands.block a) n is_a in
@@ -121,12 +124,14 @@ module _ (c : Config) (s : Stage Actor) (g : Graph) (long : length s.words ≡ t
       let nums : length o.nums ≡ one.1 = ap (λ x. length x.nums) (sym same) ∙ found.2.nums_are in
       omega (arith, behind, refs, nums)
 
+  -- a name stands at one address
   once : (a b : ℕ) (n : Name) → at a ≡ Some n → at b ≡ Some n → a ≡ b
   once a b n is_a is_b =
       let one = named_thing (stands.block a) n is_a in
       let other = named_thing (stands.block b) n is_b in
       stands.shared.objects.once a b one.0 one.1 other.0 other.1 n one.2 other.2
 
+  -- there are 16 roots for each mutator
   length-roots : length roots ≡ 16 * c.mutators
   length-roots = let e : length roots ≡ roots_start c + 16 * c.mutators - roots_start c = length-part s.words (roots_start c) (roots_start c + 16 * c.mutators) (omega (arith, long)) in omega (arith, e)
 
@@ -153,6 +158,7 @@ module _ (c : Config) (s : Stage Actor) (g : Graph) (long : length s.words ≡ t
         (λ (is : (nat_le 1 t && nat_lt i 16) ≡ false). cond-false (nat_le 1 t && nat_lt i 16) _ _ is)
         (cases_Bool (nat_le 1 t && nat_lt i 16))
 
+    -- each root's word refers to it
     root_stands : (t i : ℕ) → Refers at (root_word roots t i) (g.root t i)
     root_stands t i = ⊎_elim
         (λ (yes : is_root_of c.mutators t i ≡ true).
@@ -168,6 +174,7 @@ module _ (c : Config) (s : Stage Actor) (g : Graph) (long : length s.words ≡ t
         subst (λ r. Refers at (root_word roots t i) r) (sym (no_more t i none)) (no_root t i none))
         (cases_Bool (is_root_of c.mutators t i))
 
+-- the words stand for the graph
 pub stand : (c : Config) (s : Stage Actor) (g : Graph) → length s.words ≡ table_words c → (stands : StandsFor c s g) → AreResting c s → HasNoMore c.mutators g
     → WordsStand c.region_words (heap_in c s.words) (roots_in c s.words) (λ a. name_at (stands.block a)) g
 stand c s g long stands resting no_more = record {

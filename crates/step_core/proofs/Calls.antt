@@ -1,5 +1,5 @@
 -- The steps of a call that asks for a cycle: they load the phase and the collection set, ask, and leave.
-use Rattle.std.proofs.Common.{◌≡◌, ℕ, ◌+◌, ◌<◌, true, Option, refl, sym, ap, ◌∙◌, arith}
+use Rattle.std.proofs.Common.{◌≡◌, ℕ, ◌+◌, Option, refl, sym, ap, ◌∙◌, arith}
 use Rattle.std.proofs.lemmas.Bool.Decides.{nat_tests}
 use Rattle.heap_words.specs.declared.config.Config.{Config}
 use Rattle.shen_graph.specs.declared.command.Command.{Command}
@@ -13,18 +13,15 @@ use Rattle.mutator.specs.declared.spot.Order.TheVariants.{Nothing, Begin}
 use Rattle.mutator.specs.Rows.{Mutating}
 use Rattle.step_core.specs.World.{World}
 use Rattle.step_core.specs.Stepped.{Row}
-use Rattle.mutator.specs.Fit.{is_ready}
 use Rattle.step_core.proofs.Spots.{mutator_at, accessed}
+use Rattle.step_core.proofs.Ready.{leaving}
 use Rattle.step_core.proofs.Settling.{legal_answer, graph_answer}
-
--- a mutator can always leave
-pub leave_ready : (c : Config) (seat made : ℕ) (reply : Reply) → seat < c.mutators → is_ready c seat made (Leave reply) ≡ true
-leave_ready c seat made reply below = grind (arith, nat_tests)
 
 module _ (c : Config) (u : World) (seat made phase cset : ℕ) (command : Command) (fixed : Option Reply) where
   abbrev at_spot : Spot → Mutating
   at_spot spot = mutator_at seat made phase cset spot
 
+  -- a call begins after the opening
   pub at_rest : (order : Order) → Row c u (at_spot Rest) command order fixed
   at_rest Nothing shared mine takes = cc
   at_rest (Begin k) shared mine takes = record {
@@ -45,6 +42,7 @@ module _ (c : Config) (u : World) (seat made phase cset : ℕ) (command : Comman
     others = λ j d. search (arith, nat_tests);
   }
 
+  -- a call begins after another
   pub at_ended : (r : Reply) (order : Order) → Row c u (at_spot (Ended r)) command order fixed
   at_ended r Nothing shared mine takes = cc
   at_ended r (Begin k) shared mine takes = record {
@@ -65,6 +63,7 @@ module _ (c : Config) (u : World) (seat made phase cset : ℕ) (command : Comman
     others = λ j d. search (arith, nat_tests);
   }
 
+  -- the step that asks for a cycle settles Ok
   pub at_ask : (order : Order) → Row c u (at_spot AskCycle) command order fixed
   at_ask (Begin k) shared mine takes = cc
   at_ask Nothing shared mine takes =
@@ -76,10 +75,11 @@ module _ (c : Config) (u : World) (seat made phase cset : ℕ) (command : Comman
         legal = legal_answer u.graph seat command reply.Ok refl gc;
         settles = λ r e. (mine.facts.0, refl);
         shared = shared;
-        mine = record { seat = mine.seat; ready = leave_ready c seat made reply.Ok mine.seat; made = mine.made; roots = mine.roots; hands = mine.hands; facts = refl };
+        mine = leaving c _ seat made phase cset command reply.Ok mine.seat mine.made mine.roots mine.hands;
         others = λ j d. search (arith, nat_tests);
       }
 
+  -- the last step of a call gives its reply
   pub at_leave : (r : Reply) (order : Order) → Row c u (at_spot (Leave r)) command order fixed
   at_leave r (Begin k) shared mine takes = cc
   at_leave r Nothing shared mine takes = record {

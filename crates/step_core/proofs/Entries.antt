@@ -3,6 +3,7 @@ use Rattle.std.proofs.Common.{◌≡◌, ◌≢◌, ℕ, ◌+◌, true, false, L
 use Rattle.std.specs.Prelude.{◌==◌, if◌then◌else◌}
 use Rattle.std.proofs.lemmas.Bool.Decides.{nat_tests}
 use Rattle.std.proofs.lemmas.List.Elements.{filter-append}
+use Rattle.std.proofs.lemmas.List.{append-nil}
 use Rattle.shen_graph.specs.declared.command.Command.{Command}
 use Rattle.shen_graph.specs.declared.command.Reply.{Reply}
 use Rattle.shen_graph.specs.Graph.{Graph}
@@ -10,15 +11,13 @@ use Rattle.shen_graph.specs.History.{Entry, after_entry, after, EachIsLegal, of_
 use Rattle.step_core.specs.Actor.{entry_of, entries_of}
 use Rattle.step_core.specs.Stepped.{graph_by, LegalBy}
 
-pub append_none : {A : Type 0} (xs : List A) → xs ++ [] ≡ xs
-append_none [] = refl
-append_none (x ∷ xs) = ap (λ ys. x ∷ ys) (append_none xs)
-
+-- the graph after one entry more
 pub after-more : (g : Graph) (past : List Entry) (seat : ℕ) (k : Command) (r : Option Reply) → after g (past ++ entries_of seat k r) ≡ graph_by (after g past) seat k r
 after-more g [] seat k None = refl
 after-more g [] seat k (Some r) = refl
 after-more g (e ∷ past) seat k r = after-more (after_entry g e) past seat k r
 
+-- one legal entry more leaves a history legal
 pub legal-more : (g : Graph) (past : List Entry) (seat : ℕ) (k : Command) (r : Option Reply) → EachIsLegal g past → LegalBy (after g past) seat k r → EachIsLegal g (past ++ entries_of seat k r)
 legal-more g [] seat k None legal one = tt
 legal-more g [] seat k (Some r) legal one = (one, tt)
@@ -34,8 +33,8 @@ own_more past seat k (Some r) = filter-append _ past _ ∙ ap (λ b. of_thread p
 
 -- those of another do not
 pub other_more : (past : List Entry) (seat : ℕ) (k : Command) (r : Option Reply) (number : ℕ) → number ≢ seat → of_thread (past ++ entries_of seat k r) (number + 1) ≡ of_thread past (number + 1)
-other_more past seat k None number other = ap (λ es. of_thread es (number + 1)) (append_none past)
-other_more past seat k (Some r) number other = filter-append _ past _ ∙ ap (λ b. of_thread past (number + 1) ++ (if b then entry_of seat k r ∷ [] else [])) differs ∙ append_none _
+other_more past seat k None number other = ap (λ es. of_thread es (number + 1)) (append-nil past)
+other_more past seat k (Some r) number other = filter-append _ past _ ∙ ap (λ b. of_thread past (number + 1) ++ (if b then entry_of seat k r ∷ [] else [])) differs ∙ append-nil _
   where
     differs : ((seat + 1) == (number + 1)) ≡ false
     differs = grind (arith, nat_tests)

@@ -20,16 +20,17 @@ use Rattle.mutator.specs.Told.{name_the_same}
 use Rattle.step_core.specs.World.{World}
 use Rattle.step_core.specs.Stepped.{Row}
 use Rattle.step_core.proofs.Spots.{mutator_at}
-use Rattle.step_core.proofs.Calls.{leave_ready}
+use Rattle.step_core.proofs.Ready.{leaving, ready_of, number_small}
 use Rattle.step_core.proofs.Pointing.{points_small}
 use Rattle.step_core.proofs.Naming.{same_words, names_agree, name_there, name_read, shown_is, field_in, number_in, word_in}
-use Rattle.step_core.proofs.Loading.{looks, replies, replies_root, roots_then, ready_of, number_small}
+use Rattle.step_core.proofs.Loading.{looks, replies, replies_root, roots_then}
 use Rattle.step_core.proofs.InHand.{shown_not_full, field_mine}
 
 module _ (c : Config) (u : World) (seat made phase cset : ℕ) (command : Command) (fixed : Option Reply) where
   abbrev at_spot : Spot → Mutating
   at_spot spot = mutator_at seat made phase cset spot
 
+  -- the load of a field settles the reference that it stands for
   pub at_load_field : (object field dst : ℕ) (order : Order) → Row c u (at_spot (LoadField object field dst)) command order fixed
   at_load_field object field dst (Begin l) shared mine takes = cc
   at_load_field object field dst Nothing shared mine takes =
@@ -47,6 +48,7 @@ module _ (c : Config) (u : World) (seat made phase cset : ℕ) (command : Comman
       (roots_then u.block (λ i. u.memory (Root seat i)) u.graph.root (seat + 1) dst got here.0 mine.roots here.2)
       mine.hands here.2)
 
+  -- the load of a field that is to change only from an expected reference settles No where it has another
   pub at_load_expected : (object field expect value : ℕ) (order : Order) → Row c u (at_spot (LoadExpected object field expect value)) command order fixed
   at_load_expected object field expect value (Begin l) shared mine takes = cc
   at_load_expected object field expect value Nothing shared mine takes =
@@ -72,9 +74,10 @@ module _ (c : Config) (u : World) (seat made phase cset : ℕ) (command : Comman
       replies c u (at_spot (LoadExpected object field expect value)) (Heap (object + 3 + field)) command fixed reply.No refl (cond-false _ _ _ (agree ∙ differs)) refl mine.facts.0 refl
       (ap (λ k. outcome u.graph (seat + 1) k) cas.is ∙ rw here.1 (cond-false _ _ _ (sym words ∙ differs)))
       shared
-      (rw differs (record { seat = mine.seat; ready = leave_ready c seat made reply.No mine.seat; made = mine.made; roots = mine.roots; hands = mine.hands; facts = refl })))
+      (rw differs (leaving c _ seat made phase cset command reply.No mine.seat mine.made mine.roots mine.hands)))
       (cases_Bool (got == expect))
 
+  -- the load of a number settles it
   pub at_load_number : (object refs index : ℕ) (order : Order) → Row c u (at_spot (LoadNumber object refs index)) command order fixed
   at_load_number object refs index (Begin l) shared mine takes = cc
   at_load_number object refs index Nothing shared mine takes =
@@ -84,8 +87,9 @@ module _ (c : Config) (u : World) (seat made phase cset : ℕ) (command : Comman
       replies c u (at_spot (LoadNumber object refs index)) (Heap (object + 3 + refs + index)) command fixed (reply.Number got) refl refl refl mine.facts.0 refl
       (ap (λ k. outcome u.graph (seat + 1) k) rd.is ∙ rw here (ap (λ n. answers (reply.Number (u.memory (Heap (object + 3 + n + index)))) u.graph) (sym rd.refs_are)))
       shared
-      (record { seat = mine.seat; ready = leave_ready c seat made (reply.Number got) mine.seat; made = mine.made; roots = mine.roots; hands = mine.hands; facts = refl })
+      (leaving c _ seat made phase cset command (reply.Number got) mine.seat mine.made mine.roots mine.hands)
 
+  -- the load of a name: it is the one that was settled
   pub at_load_name : (value dst : ℕ) (order : Order) → Row c u (at_spot (LoadName value dst)) command order fixed
   at_load_name value dst (Begin l) shared mine takes = cc
   at_load_name value dst Nothing shared mine takes =

@@ -1,68 +1,45 @@
 -- What holds of the opening: one object, the hub, at the base of region 0.
-use Rattle.std.proofs.Common.{◌≡◌, ◌≢◌, ℕ, zero, suc, ◌+◌, ◌<◌, ◌≤◌, ⊎_elim, Bool, true, false, [], length, Some, None, refl, sym, ap, ◌∙◌, subst, arith, replicate}
-use Rattle.std.specs.Prelude.{slice_get, nat_lt, ◌^◌, ◌*◌, ◌==◌, if◌then◌else◌}
+use Rattle.std.proofs.Common.{◌≡◌, ◌≢◌, ℕ, zero, suc, ◌+◌, ◌<◌, ◌≤◌, ⊎_elim, Bool, true, false, [], length, Some, None, refl, sym, ap, ◌∙◌, subst, arith}
+use Rattle.std.specs.Prelude.{nat_lt, ◌^◌, ◌*◌, ◌==◌, if◌then◌else◌}
 use Rattle.std.proofs.lemmas.List.FromFn.{get_or-map-range_with_len, length-map-range_with_len}
 use Rattle.std.proofs.lemmas.Option.{cond_some, slice_get_within, get_or_from_slice_get}
 use Rattle.std.specs.Int.{bit_at}
 use Rattle.std.proofs.lemmas.Nat.Bits.{bit_at_lowest}
 use Rattle.std.proofs.lemmas.Nat.{pow_pos}
 use Rattle.std.proofs.Math.Nat.{pow-succ'}
-use Rattle.std.proofs.lemmas.Bool.{cases_eq, and_parts, eqb-true, ltb-true}
+use Rattle.std.proofs.lemmas.Bool.{cases_eq, and_right, cond-false, ne_eqb, eqb-true, ltb-true}
 use Rattle.std.proofs.lemmas.Bool.Decides.{nat_tests}
 use Rattle.heap_words.specs.declared.config.Config.{Config}
 use Rattle.heap_words.specs.Ranges.{seat_count}
 use Rattle.regions.specs.Place.{base_of}
-use Rattle.heap_words.specs.Words.{Top, Root, Heap, Phase, Cset, Free, Evac, Current, Wait, Answer}
+use Rattle.heap_words.specs.Words.{Word, same_word, Top, Root, Heap, Phase, Cset, Free, Evac, Current, Wait, Answer}
 use Rattle.shen_graph.specs.declared.name.Name.{Name}
 use Rattle.shen_graph.specs.declared.command.Command.TheVariants.{Gc}
-use Rattle.shen_graph.specs.Graph.{Reference, Object, hub, same_name, blank}
+use Rattle.shen_graph.specs.Graph.{Object, hub, same_name, blank}
 use Rattle.mutator.specs.Rows.{fresh_mutator}
 use Rattle.step_core.specs.Actor.{mutating, helping, controlling}
 use Rattle.step_core.specs.Opening.{opening_machine, opening_actor, opening, first_free}
 use Rattle.step_core.specs.World.{World, Plot, Block, thing, hand, words_of, name_at, Points, IsInUse, IsPlotted, IsFilled, IsObject, IsGiven, AreObjects, IsFreeWord, Shared}
 use Rattle.step_core.specs.Stepped.{Mine}
 use Rattle.step_core.specs.Follows.{first_graph, IsMachine, Follows}
+use Rattle.shen_graph.proofs.PlainLemmas.{same_name-true}
+use Rattle.step_core.proofs.NewObject.{all_alike}
 use Rattle.step_core.proofs.OpeningStands.{rooted_memory, first_memory, view-opening, length-opening}
 
 -- the hub alone
-abbrev pub first_block : Config → Plot
+abbrev first_block : Config → Plot
 first_block c a = if a == c.region_words then Some (thing hub 16 0) else None
 
-abbrev pub first_world : Config → World
+-- what the opening stands for
+abbrev first_world : Config → World
 first_world c = record { memory = first_memory c; block = first_block c; owner = λ _. None; graph = first_graph c }
 
-rooted_heap : (c : Config) (t a : ℕ) → rooted_memory c t (Heap a) ≡ 0
-rooted_heap c zero a = refl
-rooted_heap c (suc t) a = rooted_heap c t a
+-- the roots leave each other word as it was
+rooted_else : (c : Config) (w : Word) → ((k : ℕ) → same_word (Root k 0) w ≡ false) → (t : ℕ) → rooted_memory c t w ≡ 0
+rooted_else c w other zero = refl
+rooted_else c w other (suc t) = cond-false (same_word (Root t 0) w) _ _ (other t) ∙ rooted_else c w other t
 
-rooted_top : (c : Config) (t r : ℕ) → rooted_memory c t (Top r) ≡ 0
-rooted_top c zero r = refl
-rooted_top c (suc t) r = rooted_top c t r
-
-rooted_phase : (c : Config) (t : ℕ) → rooted_memory c t Phase ≡ 0
-rooted_phase c zero = refl
-rooted_phase c (suc t) = rooted_phase c t
-
-rooted_cset : (c : Config) (t : ℕ) → rooted_memory c t Cset ≡ 0
-rooted_cset c zero = refl
-rooted_cset c (suc t) = rooted_cset c t
-
-rooted_evac : (c : Config) (t : ℕ) → rooted_memory c t Evac ≡ 0
-rooted_evac c zero = refl
-rooted_evac c (suc t) = rooted_evac c t
-
-rooted_current : (c : Config) (t s : ℕ) → rooted_memory c t (Current s) ≡ 0
-rooted_current c zero s = refl
-rooted_current c (suc t) s = rooted_current c t s
-
-rooted_wait : (c : Config) (t k : ℕ) → rooted_memory c t (Wait k) ≡ 0
-rooted_wait c zero k = refl
-rooted_wait c (suc t) k = rooted_wait c t k
-
-rooted_answer : (c : Config) (t k : ℕ) → rooted_memory c t (Answer k) ≡ 0
-rooted_answer c zero k = refl
-rooted_answer c (suc t) k = rooted_answer c t k
-
+-- the first root of each mutator is the hub
 rooted_root : (c : Config) (t k : ℕ) → k < t → rooted_memory c t (Root k 0) ≡ c.region_words
 rooted_root c zero k below = absurd (omega arith)
 rooted_root c (suc t) k below = ⊎_elim
@@ -70,55 +47,46 @@ rooted_root c (suc t) k below = ⊎_elim
     (λ (differs : t ≡ k → ⊥). let rest : rooted_memory c t (Root k 0) ≡ c.region_words = rooted_root c t k (omega arith) in grind (arith, nat_tests))
     (cases_eq t k)
 
-rooted_other : (c : Config) (t k i : ℕ) → i ≢ 0 → rooted_memory c t (Root k i) ≡ 0
-rooted_other c zero k i other = refl
-rooted_other c (suc t) k i other = let rest : rooted_memory c t (Root k i) ≡ 0 = rooted_other c t k i other in grind (arith, nat_tests)
-
+-- the words of the hub
 heap_first : (c : Config) → first_memory c (Heap c.region_words) ≡ 1
 heap_first c = grind (arith, nat_tests)
 
+-- its shape
 heap_second : (c : Config) → first_memory c (Heap (c.region_words + 1)) ≡ 69632
 heap_second c = grind (arith, nat_tests)
 
+-- its name
 heap_third : (c : Config) → first_memory c (Heap (c.region_words + 2)) ≡ 1
 heap_third c = grind (arith, nat_tests)
 
+-- its fields are null
 heap_later : (c : Config) (k : ℕ) → 3 ≤ k → first_memory c (Heap (c.region_words + k)) ≡ 0
-heap_later c k later = let rest = rooted_heap c c.mutators (c.region_words + k) in grind (arith, nat_tests)
+heap_later c k later = let rest = rooted_else c (Heap (c.region_words + k)) (λ i. refl) c.mutators in grind (arith, nat_tests)
 
-top_first : (c : Config) → first_memory c (Top 0) ≡ 19
-top_first c = refl
-
+-- only region 0 has a top
 top_other : (c : Config) (r : ℕ) → r ≢ 0 → first_memory c (Top r) ≡ 0
-top_other c r other = let rest = rooted_top c c.mutators r in grind (arith, nat_tests)
+top_other c r other = let rest = rooted_else c (Top r) (λ k. refl) c.mutators in grind (arith, nat_tests)
 
+-- the hub is the only piece
 block_only : (c : Config) (a : ℕ) (b : Block) → first_block c a ≡ Some b → (a ≡ c.region_words) × (thing hub 16 0 ≡ b)
 block_only c a b is = let parts = cond_some (a == c.region_words) (thing hub 16 0) b is in (eqb-true _ _ parts.0, parts.1)
 
+-- it is at the base of region 0
 block_hub : (c : Config) → first_block c c.region_words ≡ Some (thing hub 16 0)
 block_hub c = let same : (c.region_words == c.region_words) ≡ true = grind (arith, nat_tests) in rw same refl
 
-same_name_is : (a b : Name) → same_name a b ≡ true → a ≡ b
-same_name_is a b is =
-    let parts = and_parts _ _ is in
-    let threads : a.thread ≡ b.thread = eqb-true _ _ parts.0 in
-    let counts : a.count ≡ b.count = eqb-true _ _ parts.1 in
-    λ i. record { thread = threads i; count = counts i }
-
+-- the hub is the only object
 object_only : (c : Config) (n : Name) (o : Object) → (first_graph c).object n ≡ Some o → (n ≡ hub) × (blank 16 0 ≡ o)
-object_only c n o is = let parts = cond_some (same_name n hub) (blank 16 0) o is in (same_name_is n hub parts.0, parts.1)
+object_only c n o is = let parts = cond_some (same_name n hub) (blank 16 0) o is in (same_name-true n hub parts.0, parts.1)
 
-nulls : (n i : ℕ) (reference : Reference) → slice_get (replicate n None) i ≡ Some reference → reference ≡ None
-nulls zero i reference is = cc
-nulls (suc n) zero reference is = cc
-nulls (suc n) (suc i) reference is = nulls n i reference is
-
+-- no top is past its region
 top_within : (c : Config) (r : ℕ) → first_memory c (Top r) ≤ c.region_words
 top_within c r = ⊎_elim
     (λ (same : r ≡ 0). subst (λ k. first_memory c (Top k) ≤ c.region_words) (sym same) (let long = c.in_range.least_words in omega arith))
     (λ (other : r ≡ 0 → ⊥). let none = top_other c r other in omega arith)
     (cases_eq r 0)
 
+-- the hub lies in the part in use
 first_plotted : (c : Config) → IsPlotted c (λ r. first_memory c (Top r)) (first_block c)
 first_plotted c = record {
   tops = λ r within. top_within c r;
@@ -130,9 +98,11 @@ first_plotted c = record {
       let one = (block_only c a x is_x).0 in let two = (block_only c b y is_y).0 in omega arith;
 }
 
+-- the base of region 0
 first_base : (c : Config) → base_of c 0 ≡ c.region_words
 first_base c = omega arith
 
+-- the part in use is the hub
 first_filled : (c : Config) → IsFilled c (λ r. first_memory c (Top r)) (first_block c)
 first_filled c = record {
   first = λ r within used. ⊎_elim
@@ -151,6 +121,7 @@ first_filled c = record {
       (cases_eq r 0));
 }
 
+-- the words of the hub are those of a blank object
 hub_object : (c : Config) → IsObject (λ a. first_memory c (Heap a)) (first_block c) c.region_words 16 0 hub (blank 16 0)
 hub_object c = record {
   header = heap_first c;
@@ -161,11 +132,12 @@ hub_object c = record {
   refs_are = refl;
   nums_are = refl;
   references = λ i reference is.
-      subst (λ r. Points (first_block c) (first_memory c (Heap (c.region_words + 3 + i))) r) (sym (nulls 16 i reference is))
+      subst (λ r. Points (first_block c) (first_memory c (Heap (c.region_words + 3 + i))) r) (sym (all_alike 16 i None reference is))
       (ap (λ a. first_memory c (Heap a)) (omega arith) ∙ heap_later c (3 + i) (omega arith));
   numbers = λ i n is. cc;
 }
 
+-- the words are those of the graph's one object
 first_objects : (c : Config) → AreObjects (λ a. first_memory c (Heap a)) (first_block c) (first_graph c).object
 first_objects c = record {
   each = λ a refs nums name is.
@@ -186,6 +158,7 @@ first_objects c = record {
   once = λ a b refs nums more_refs more_nums name is_a is_b. (block_only c a _ is_a).0 ∙ sym (block_only c b _ is_b).0;
 }
 
+-- region 0 is not free
 first_free_even : (n : ℕ) → 1 ≤ n → bit_at (first_free n) 0 ≡ 0
 first_free_even zero some = absurd (omega arith)
 first_free_even (suc n) some =
@@ -193,6 +166,7 @@ first_free_even (suc n) some =
     let lowest = bit_at_lowest (first_free (suc n)) in
     omega (arith, double, lowest)
 
+-- no region past the last is free
 first_free_small : (n : ℕ) → first_free n < 2 ^ n
 first_free_small n = let some = pow_pos n in omega (arith, some)
 
@@ -210,6 +184,7 @@ first_free_word c = record {
   nobodys = λ r within bit. refl;
 }
 
+-- what machines share holds of the opening
 first_shared : (c : Config) → Shared c (first_world c)
 first_shared c = record {
   plotted = first_plotted c;
@@ -218,23 +193,24 @@ first_shared c = record {
   given = λ name o is.
       subst (λ n. IsGiven c (λ t. 0) n) (sym (object_only c name o is).0)
       (record { thread = omega arith; made = omega arith; by_thread = λ one. absurd (omega arith); small = omega arith });
-  calm = record { phase_is = rooted_phase c c.mutators; cset_is = rooted_cset c c.mutators; evac_is = rooted_evac c c.mutators };
+  calm = record { phase_is = rooted_else c Phase (λ k. refl) c.mutators; cset_is = rooted_else c Cset (λ k. refl) c.mutators; evac_is = rooted_else c Evac (λ k. refl) c.mutators };
   free_word = first_free_word c;
   currents = record {
-    within = λ seat r is. let none = rooted_current c c.mutators seat in absurd (omega (arith, none, is));
-    own = λ seat r is. let none = rooted_current c c.mutators seat in absurd (omega (arith, none, is));
+    within = λ seat r is. let none = rooted_else c (Current seat) (λ k. refl) c.mutators in absurd (omega (arith, none, is));
+    own = λ seat r is. let none = rooted_else c (Current seat) (λ k. refl) c.mutators in absurd (omega (arith, none, is));
   };
   rooms = λ a seat words is. absurd (let no = (block_only c a (hand seat words) is).1 in cc);
-  unasked = record { waits = λ t within. rooted_wait c c.mutators t; answers = λ t within. rooted_answer c c.mutators t };
+  unasked = record { waits = λ t within. rooted_else c (Wait t) (λ k. refl) c.mutators; answers = λ t within. rooted_else c (Answer t) (λ k. refl) c.mutators };
 }
 
+-- the words of the roots stand for the graph's
 first_roots : (c : Config) (k i : ℕ) → k < c.mutators → Points (first_block c) (first_memory c (Root k i)) ((first_graph c).root (k + 1) i)
 first_roots c k i below = ⊎_elim
     (λ (same : i ≡ 0).
     subst (λ j. Points (first_block c) (first_memory c (Root k j)) ((first_graph c).root (k + 1) j)) (sym same) zeroth)
     (λ (other : i ≡ 0 → ⊥).
     let none : (first_graph c).root (k + 1) i ≡ None = grind (arith, nat_tests) in
-    rw none (rooted_other c c.mutators k i other))
+    rw none (rooted_else c (Root k i) (λ t. and_right _ _ (ne_eqb 0 i (λ e. other (sym e)))) c.mutators))
     (cases_eq i 0)
   where
     zeroth : Points (first_block c) (first_memory c (Root k 0)) ((first_graph c).root (k + 1) 0)
@@ -244,9 +220,11 @@ first_roots c k i below = ⊎_elim
         ap (λ a. name_at (first_block c a)) (rooted_root c c.mutators k below) ∙ ap name_at (block_hub c) in
         subst (λ r. Points (first_block c) (first_memory c (Root k 0)) r) (sym named) at_hub
 
+-- what a mutator knows holds of the opening
 first_mine : (c : Config) (k : ℕ) → k < c.mutators → Mine c (first_world c) (fresh_mutator k) Gc None
 first_mine c k below = record { seat = below; ready = refl; made = refl; roots = λ i small. first_roots c k i below; hands = λ a words is. (let no = (block_only c a (hand k words) is).1 in cc); facts = refl }
 
+-- each machine of the opening follows the empty history
 first_machine : (c : Config) (k : ℕ) → IsMachine c (first_world c) [] k (opening_actor c k) (opening_machine c k)
 first_machine c k = by_test (nat_lt k c.mutators) (nat_lt k (c.mutators + c.helpers)) refl
   where
@@ -255,6 +233,7 @@ first_machine c k = by_test (nat_lt k c.mutators) (nat_lt k (c.mutators + c.help
     by_test false true is = tt
     by_test false false is = tt
 
+-- the opening follows the empty history
 pub follows_first : (c : Config) → Follows c (opening c) []
 unfolding opening
 follows_first c = record {

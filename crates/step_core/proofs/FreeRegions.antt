@@ -1,23 +1,16 @@
 -- The free word: its lowest region, and a region that is taken out of it.
-use Rattle.std.proofs.Common.{◌≡◌, ◌≢◌, ℕ, ◌/◌, ◌%◌, ◌^◌, ◌<◌, ◌≤◌, Option, Some, None, ⊎_elim, refl, sym, ap, ◌∙◌, subst, arith, w64, pow_mono}
-use Rattle.std.specs.Prelude.{◌==◌, if◌then◌else◌, bit_and}
+use Rattle.std.proofs.Common.{◌≡◌, ◌≢◌, ℕ, ◌^◌, ◌<◌, ◌≤◌, Option, Some, None, ⊎_elim, sym, ap, ◌∙◌, subst, arith, w64, pow_mono}
+use Rattle.std.specs.Prelude.{bit_and}
 use Rattle.std.specs.Int.{bit_at}
-use Rattle.std.proofs.Math.Nat.{div-eq_of_lt}
-use Rattle.std.proofs.lemmas.Bool.{cases_lt, cond-true, cond-false, eq-eqb, ne_eqb}
+use Rattle.std.proofs.lemmas.Bool.{cases_lt}
 use Rattle.std.proofs.lemmas.Option.{none-some}
 use Rattle.std.proofs.lemmas.Nat.{and_le_l}
-use Rattle.std.proofs.lemmas.Nat.Bits.{bit_at_clear_same, bit_at_clear_other}
+use Rattle.std.proofs.lemmas.Nat.Bits.{bit_at_above, bit_at_clear_same, bit_at_clear_other}
 use Rattle.heap_words.specs.declared.config.Config.{Config}
 use Rattle.regions.specs.Sets.{IsIn, members_below, lowest_in, all_but}
 use Rattle.regions.proofs.SetLemmas.{lowest_member, no_members}
 use Rattle.step_core.specs.World.{IsFreeWord, AreCurrent}
-
--- a word has no bit past its size
-bit_past : (n k i : ℕ) → n < 2 ^ k → k ≤ i → bit_at n i ≡ 0
-bit_past n k i small past =
-    let most : 2 ^ k ≤ 2 ^ i = pow_mono past in
-    let none : n / 2 ^ i ≡ 0 = div-eq_of_lt (omega (arith, small, most)) in
-    ap (λ x. x % 2) none
+use Rattle.step_core.proofs.Updates.{updated, updated_else}
 
 -- the lowest region of a free word that has members is one of the heap
 pub lowest_within : (c : Config) (free kept : ℕ) → free < 2 ^ c.regions → kept < members_below free 64 → lowest_in free < c.regions
@@ -27,24 +20,13 @@ lowest_within c free kept small some = ⊎_elim
     let bits : 2 ^ c.regions ≤ 2 ^ 64 = pow_mono c.in_range.most_regions in
     let members : free ≢ 0 = λ none. (let count : members_below free 64 ≡ 0 = ap (λ s. members_below s 64) none ∙ no_members in omega (arith, count, some)) in
     let lowest = lowest_member free (omega (arith, members)) (omega (arith, small, bits)) in
-    let bit = bit_past free c.regions (lowest_in free) small past in
+    let bit = bit_at_above free c.regions (lowest_in free) small past in
     absurd (omega (arith, bit, lowest.member)))
     (cases_lt (lowest_in free) c.regions)
 
--- the owners with one more region of a seat
-abbrev pub with_owner : (ℕ → Option ℕ) → ℕ → ℕ → ℕ → Option ℕ
-with_owner owner region seat r = if r == region then Some seat else owner r
-
-module _ (owner : ℕ → Option ℕ) (region seat : ℕ) where
-  pub owner_at : with_owner owner region seat region ≡ Some seat
-  owner_at = cond-true (region == region) _ _ (eq-eqb region region refl)
-
-  pub owner_else : (r : ℕ) → r ≢ region → with_owner owner region seat r ≡ owner r
-  owner_else r other = cond-false (r == region) _ _ (ne_eqb r region other)
-
-  -- where the region was nobody's, each one keeps its regions
-  pub owner_stays : owner region ≡ None → (r s : ℕ) → owner r ≡ Some s → with_owner owner region seat r ≡ Some s
-  owner_stays nobodys r s is = owner_else r (λ same. none-some s (sym nobodys ∙ ap owner (sym same) ∙ is)) ∙ is
+-- where a region was nobody's, each one keeps its regions
+pub owner_stays : (owner : ℕ → Option ℕ) (region seat : ℕ) → owner region ≡ None → (r s : ℕ) → owner r ≡ Some s → updated owner region (Some seat) r ≡ Some s
+owner_stays owner region seat nobodys r s is = updated_else owner region (Some seat) r (λ same. none-some s (sym nobodys ∙ ap owner same ∙ is)) ∙ is
 
 -- The free word without a region: the others stay free, and nobody's.
 pub free_without : (c : Config) (free region : ℕ) (top : ℕ → ℕ) (owner after : ℕ → Option ℕ) → region < c.regions
@@ -66,7 +48,7 @@ free_without c free region top owner after within others free_word =
     }
 
 -- the current regions stay their seats' own
-pub currents_stay : (c : Config) (current : ℕ → ℕ) (owner : ℕ → Option ℕ) (region seat : ℕ) → owner region ≡ None → AreCurrent c current owner → AreCurrent c current (with_owner owner region seat)
+pub currents_stay : (c : Config) (current : ℕ → ℕ) (owner : ℕ → Option ℕ) (region seat : ℕ) → owner region ≡ None → AreCurrent c current owner → AreCurrent c current (updated owner region (Some seat))
 currents_stay c current owner region seat nobodys currents = record {
   within = currents.within;
   own = λ s r is. owner_stays owner region seat nobodys r s (currents.own s r is);

@@ -1,14 +1,14 @@
 -- The steps that make a new object in room in hand.
-use Rattle.std.proofs.Common.{◌≡◌, ◌≢◌, ℕ, ◌+◌, ◌<◌, Bool, true, false, Option, Some, ⊎_elim, refl, sym, ap, ◌∙◌, subst, subst₂, arith}
+use Rattle.std.proofs.Common.{◌≡◌, ◌≢◌, ℕ, ◌+◌, ◌<◌, Bool, true, false, Option, Some, ⊎_elim, refl, sym, ap, ◌∙◌, subst, arith}
 use Rattle.std.specs.Prelude.{◌==◌, ◌&&◌, nat_lt, if◌then◌else◌}
-use Rattle.std.proofs.lemmas.Bool.{cases_eq, cond-true, cond-false, eq-eqb, ne_eqb, and_from, and_left, and_right, ltb-true, ltb-false}
+use Rattle.std.proofs.lemmas.Bool.{cases_eq, cond-true, cond-false, eq-eqb, ne_eqb, and_left, ltb-true, ltb-false}
 use Rattle.heap_words.specs.declared.config.Config.{Config}
-use Rattle.heap_words.specs.Words.{Word, Root, Top, Heap, Current, write}
+use Rattle.heap_words.specs.Words.{Root, Top, Heap, Current}
 use Rattle.shen_graph.specs.declared.name.Name.{Name}
 use Rattle.shen_graph.specs.declared.command.Command.{Command}
 use Rattle.shen_graph.specs.declared.command.Reply.{Reply}
 use Rattle.shen_graph.specs.declared.command.Reply.TheVariants as reply
-use Rattle.shen_graph.specs.Graph.{Graph, Object, blank, fresh, with_root, with_fresh}
+use Rattle.shen_graph.specs.Graph.{Object, blank, fresh, with_root, with_fresh}
 use Rattle.shen_graph.specs.Step.{outcome}
 use Rattle.mutator.specs.declared.spot.Spot.{Spot}
 use Rattle.mutator.specs.declared.spot.Spot.TheVariants.{StoreWord, StoreFresh, Leave}
@@ -16,42 +16,28 @@ use Rattle.mutator.specs.declared.spot.Order.{Order}
 use Rattle.mutator.specs.declared.spot.Order.TheVariants.{Nothing, Begin}
 use Rattle.mutator.specs.Rows.{Mutating, fresh_word, touch_of}
 use Rattle.steps_base.specs.Touch.{touched}
-use Rattle.step_core.specs.World.{World, Plot, Block, thing, hand, words_of, name_at, Points, IsObject, IsGiven, Shared}
+use Rattle.step_core.specs.World.{World, Block, thing, hand, words_of, name_at, IsObject, IsGiven, Shared}
 use Rattle.step_core.specs.Stepped.{IsFilling, Mine, Rely, Row}
+use Rattle.step_core.proofs.Updates.{updated, updated_there}
 use Rattle.step_core.proofs.Spots.{mutator_at, accessed}
 use Rattle.step_core.proofs.Settling.{legal_answer, graph_answer}
 use Rattle.step_core.proofs.Stable.{points_stay}
-use Rattle.step_core.proofs.Calls.{leave_ready}
+use Rattle.step_core.proofs.Ready.{leaving, word_ready, fresh_ready}
+use Rattle.step_core.proofs.RootStores.{roots_written}
 use Rattle.step_core.proofs.Apart.{far}
-use Rattle.step_core.proofs.Pieces.{with_piece, piece_at, object_reads}
+use Rattle.step_core.proofs.Pieces.{object_reads}
 use Rattle.step_core.proofs.NewObject.{new_object, names_stay, things_stay, hands_stay, old_hand, plotted_again, filled_again, objects_again, rooms_again, given_again, with_count, count_own}
-use Rattle.step_core.proofs.Ready.{word_ready, fresh_ready}
 
 -- the name of a thread's next object
 abbrev next_name : ℕ → ℕ → Name
 next_name thread made = record { thread = thread; count = made + 1 }
-
--- The word of a root that is written stands for the reference that the root is, and the words of other roots for theirs.
-pub roots_written : (block more : Plot) (memory : Word → ℕ) (g : Graph) (seat dst value : ℕ) (name : Name)
-    → ((a : ℕ) (n : Name) → name_at (block a) ≡ Some n → name_at (more a) ≡ Some n)
-    → name_at (more value) ≡ Some name → (i : ℕ) → Points block (memory (Root seat i)) (g.root (seat + 1) i)
-    → Points more (write memory (Root seat dst) value (Root seat i)) ((with_root g (seat + 1) dst (Some name)).root (seat + 1) i)
-roots_written block more memory g seat dst value name names new i old = ⊎_elim
-    (λ (same : i ≡ dst).
-    let word : write memory (Root seat dst) value (Root seat i) ≡ value = cond-true ((seat == seat) && (dst == i)) _ _ (and_from _ _ (eq-eqb seat seat refl) (eq-eqb dst i (sym same))) in
-    let root : (with_root g (seat + 1) dst (Some name)).root (seat + 1) i ≡ Some name = cond-true (((seat + 1) == (seat + 1)) && (i == dst)) _ _ (and_from _ _ (eq-eqb (seat + 1) (seat + 1) refl) (eq-eqb i dst same)) in
-    subst₂ (λ w r. Points more w r) (sym word) (sym root) new)
-    (λ (other : i ≢ dst).
-    let word : write memory (Root seat dst) value (Root seat i) ≡ memory (Root seat i) = cond-false ((seat == seat) && (dst == i)) _ _ (and_right _ _ (ne_eqb dst i (λ e. other (sym e)))) in
-    let root : (with_root g (seat + 1) dst (Some name)).root (seat + 1) i ≡ g.root (seat + 1) i = cond-false (((seat + 1) == (seat + 1)) && (i == dst)) _ _ (and_right _ _ (ne_eqb i dst other)) in
-    subst₂ (λ w r. Points more w r) (sym word) (sym root) (points_stay block more names (memory (Root seat i)) (g.root (seat + 1) i) old))
-    (cases_eq i dst)
 
 module _ (c : Config) (u : World) (seat made phase cset : ℕ) (command : Command) (fixed : Option Reply) where
   abbrev at_spot : Spot → Mutating
   at_spot spot = mutator_at seat made phase cset spot
 
   module _ (dst refs nums address done : ℕ) (shared : Shared c u) (mine : Mine c u (at_spot (StoreWord dst refs nums address done)) command fixed) where
+    -- the world with one word more stored
     abbrev stored_world : World
     stored_world = accessed c u (at_spot (StoreWord dst refs nums address done))
 
@@ -62,6 +48,7 @@ module _ (c : Config) (u : World) (seat made phase cset : ℕ) (command : Comman
         (ne_eqb (address + done) (a + k)
         (λ e. far c (λ r. u.memory (Top r)) u.block shared.plotted a address k done b (hand seat (3 + refs + nums)) is mine.facts.1.room other below mine.facts.2 (sym e)))
 
+    -- machines share what they shared
     shared_stored : Shared c stored_world
     shared_stored = record {
       plotted = shared.plotted;
@@ -98,6 +85,7 @@ module _ (c : Config) (u : World) (seat made phase cset : ℕ) (command : Comman
           (cases_eq k done);
     }
 
+    -- the mutator goes on with the next word, or with the root
     mine_stored : (b : Bool) → nat_lt (done + 1) (3 + refs + nums) ≡ b
         → Mine c stored_world (at_spot (if b then StoreWord dst refs nums address (done + 1) else StoreFresh dst refs nums address)) command fixed
     mine_stored true more = record {
@@ -120,6 +108,7 @@ module _ (c : Config) (u : World) (seat made phase cset : ℕ) (command : Comman
       );
     }
 
+    -- others can rely on what they knew
     others_stored : (j : ℕ) → j ≢ seat → Rely j u stored_world
     others_stored j differs = record {
       names = λ a n is. is;
@@ -137,6 +126,7 @@ module _ (c : Config) (u : World) (seat made phase cset : ℕ) (command : Comman
       count = refl;
     }
 
+  -- the step that stores a word of a new object
   pub at_store_word : (dst refs nums address done : ℕ) (order : Order) → Row c u (at_spot (StoreWord dst refs nums address done)) command order fixed
   at_store_word dst refs nums address done (Begin l) shared mine takes = cc
   at_store_word dst refs nums address done Nothing shared mine takes = record {
@@ -157,16 +147,22 @@ module _ (c : Config) (u : World) (seat made phase cset : ℕ) (command : Comman
     abbrev name : Name
     name = fresh u.graph (seat + 1)
 
+    -- the world with the new object
     abbrev made_world : World
     made_world = record {
       memory = touched u.memory (touch_of c (at_spot (StoreFresh dst refs nums address)));
-      block = with_piece u.block address (thing name refs nums);
+      block = updated u.block address (Some (thing name refs nums));
       owner = u.owner;
       graph = with_root (with_fresh u.graph (seat + 1) (blank refs nums)) (seat + 1) dst (Some name);
     }
 
+    -- the room in hand
     room : u.block address ≡ Some (hand seat (3 + refs + nums))
     room = mine.facts.1.room
+
+    -- what a word stands for it still stands for
+    names : (a : ℕ) (n : Name) → name_at (u.block a) ≡ Some n → name_at (made_world.block a) ≡ Some n
+    names = names_stay c top u.block address seat refs nums name room
 
     -- the thread's fresh name is the one that the mutator writes
     name_is : name ≡ next_name (seat + 1) made
@@ -176,12 +172,14 @@ module _ (c : Config) (u : World) (seat made phase cset : ℕ) (command : Comman
     not_given : (o : Object) → u.graph.object name ≡ Some o → ⊥
     not_given o is = let given = shared.given name o is in let most = given.by_thread (omega arith) in omega (arith, most)
 
+    -- its words are those of a blank object
     new_is : IsObject (λ a. u.memory (Heap a)) made_world.block address refs nums name (blank refs nums)
     new_is =
         let making = mine.facts.0 in
         subst (λ n. IsObject (λ a. u.memory (Heap a)) made_world.block address refs nums n (blank refs nums)) (sym name_is)
         (new_object (λ a. u.memory (Heap a)) made_world.block address seat made refs nums making.few_refs making.few_nums mine.facts.1.stored)
 
+    -- its name is given then
     is_given : IsGiven c (with_count u.graph.count (seat + 1)) name
     is_given =
         let own = count_own u.graph.count (seat + 1) in
@@ -190,6 +188,7 @@ module _ (c : Config) (u : World) (seat made phase cset : ℕ) (command : Comman
         let within = mine.seat in
         record { thread = omega (arith, within); made = omega (arith, own); by_thread = λ one. omega (arith, own); small = omega (arith, few, counted) }
 
+    -- machines share what they should
     shared_made : Shared c made_world
     shared_made = record {
       plotted = plotted_again c top u.block address seat refs nums name room shared.plotted;
@@ -203,23 +202,19 @@ module _ (c : Config) (u : World) (seat made phase cset : ℕ) (command : Comman
       unasked = shared.unasked;
     }
 
+    -- the mutator has only to leave
     mine_made : Mine c made_world (mutator_at seat (made + 1) phase cset (Leave (reply.Ref (next_name (seat + 1) made)))) command (Some (reply.Ref (next_name (seat + 1) made)))
-    mine_made = record {
-      seat = mine.seat;
-      ready = leave_ready c seat (made + 1) (reply.Ref (next_name (seat + 1) made)) mine.seat;
-      made = count_own u.graph.count (seat + 1) ∙ ap (λ k. k + 1) mine.made;
-      roots = λ i below.
-          roots_written u.block made_world.block u.memory (with_fresh u.graph (seat + 1) (blank refs nums)) seat dst address name
-          (names_stay c top u.block address seat refs nums name room) (ap name_at (piece_at u.block address (thing name refs nums))) i (mine.roots i below);
-      hands = λ a words is.
-          let old = old_hand c top u.block address seat refs nums name room a seat words is in
-          old.0 (mine.hands a words old.1).0;
-      facts = refl;
-    }
+    mine_made =
+        leaving c made_world seat (made + 1) phase cset command (reply.Ref (next_name (seat + 1) made)) mine.seat (count_own u.graph.count (seat + 1) ∙ ap (λ k. k + 1) mine.made)
+        (roots_written made_world.block u.memory u.graph.root seat dst address (Some name)
+        (λ i below. points_stay u.block made_world.block names (u.memory (Root seat i)) (u.graph.root (seat + 1) i) (mine.roots i below))
+        (ap name_at (updated_there u.block address (Some (thing name refs nums)))))
+        (λ a words is. let old = old_hand c top u.block address seat refs nums name room a seat words is in old.0 (mine.hands a words old.1).0)
 
+    -- others can rely on what they knew
     others_made : (j : ℕ) → j ≢ seat → Rely j u made_world
     others_made j differs = record {
-      names = names_stay c top u.block address seat refs nums name room;
+      names = names;
       things = λ a more_refs more_nums n is. things_stay c top u.block address seat refs nums name room a more_refs more_nums n is;
       hands = λ a words is. hands_stay c top u.block address seat refs nums name room a j words differs is;
       no_hands = λ a words is. (old_hand c top u.block address seat refs nums name room a j words is).1;
@@ -232,6 +227,7 @@ module _ (c : Config) (u : World) (seat made phase cset : ℕ) (command : Comman
       count = cond-false ((j + 1) == (seat + 1)) _ _ (ne_eqb (j + 1) (seat + 1) (λ e. differs (omega (arith, e))));
     }
 
+  -- the step that stores a new object into a root settles its name
   pub at_store_fresh : (dst refs nums address : ℕ) (order : Order) → Row c u (at_spot (StoreFresh dst refs nums address)) command order fixed
   at_store_fresh dst refs nums address (Begin l) shared mine takes = cc
   at_store_fresh dst refs nums address Nothing shared mine takes =

@@ -14,7 +14,7 @@ use Rattle.step_core.specs.World.{World, hand, thing, Points, Shared}
 use Rattle.step_core.specs.Stepped.{Mine}
 use Rattle.step_core.proofs.Spots.{mutator_at}
 use Rattle.step_core.proofs.Pointing.{named_thing, piece_word, null_if_0, named_if_not_0}
-use Rattle.step_core.proofs.Loading.{ready_of}
+use Rattle.step_core.proofs.Ready.{ready_of}
 
 -- a reply that shows a reference is not full
 pub shown_not_full : (r : Reference) → is_full (shown r) ≡ false

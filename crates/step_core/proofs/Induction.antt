@@ -1,9 +1,9 @@
 -- The induction over events: each event leads from a stage that follows its history to one that does.
 use Rattle.std.proofs.Common.{◌≡◌, ◌≢◌, ℕ, ◌+◌, ◌⊎◌, inl, inr, ⊎_elim, Bool, true, false, List, [], ◌∷◌, ◌++◌, length, Option, Some, None, refl, sym, ap, ◌∙◌, subst, append_assoc}
-use Rattle.std.specs.Prelude.{slice_get, slice_set, slice_index, ◌&&◌, if◌then◌else◌}
-use Rattle.std.proofs.lemmas.List.{length-set}
+use Rattle.std.specs.Prelude.{slice_get, slice_set, slice_index, if◌then◌else◌}
+use Rattle.std.proofs.lemmas.List.{append-nil, length-set}
 use Rattle.std.proofs.lemmas.Option.{same_Some}
-use Rattle.std.proofs.lemmas.Bool.{cases_eq}
+use Rattle.std.proofs.lemmas.Bool.{cases_eq, and_parts}
 use Rattle.heap_words.specs.declared.config.Config.{Config}
 use Rattle.heap_words.specs.Access.{place_of, made_of}
 use Rattle.heap_words.specs.Words.{is_word, word_at, view, table_words}
@@ -28,38 +28,39 @@ use Rattle.step_core.specs.History.{told_by, told_of_machine, told, history}
 use Rattle.step_core.specs.World.{World, Plot, Shared}
 use Rattle.step_core.specs.Stepped.{SpotFacts, Mine, Stepped, fixed_by}
 use Rattle.step_core.specs.Follows.{settled, first_graph, world_of, IsThread, IsMachine, Follows}
+use Rattle.mutator.proofs.Ready.{word_of_ready}
 use Rattle.step_core.proofs.Stable.{mine_stays}
 use Rattle.step_core.proofs.Places.{each_step}
-use Rattle.step_core.proofs.Entries.{append_none, after-more, legal-more, own_more, other_more}
+use Rattle.step_core.proofs.Entries.{after-more, legal-more, own_more, other_more}
 
 -- the word that an access finds, by its name
 pub found-placed : (c : Config) (words : List ℕ) (t : Touch) → is_word c t.word ≡ true → slice_index words (place_of (placed c t)) ≡ view c words t.word
 found-placed c words t is = ap (λ k. slice_index words k) (place_of-access_at (word_at c t.word) t.form) ∙ sym (view_word c words t.word (is_word_true c t.word is))
 
 -- the table after an access, by the names of its words
-pub view-placed : (c : Config) (words : List ℕ) (t : Touch) → is_word c t.word ≡ true → length words ≡ table_words c → view c (slice_set words (place_of (placed c t)) (made_of (placed c t) (slice_index words (place_of (placed c t))))) ≡ touched (view c words) t
+view-placed : (c : Config) (words : List ℕ) (t : Touch) → is_word c t.word ≡ true → length words ≡ table_words c → view c (slice_set words (place_of (placed c t)) (made_of (placed c t) (slice_index words (place_of (placed c t))))) ≡ touched (view c words) t
 view-placed c words t is long =
     rw (made_of-access_at (word_at c t.word) t.form, found-placed c words t is, place_of-access_at (word_at c t.word) t.form)
     (view_set_all c words t.word (formed t.form (view c words t.word)) long (is_word_true c t.word is))
 
 -- a mutator that begins a call has no settled reply
-pub begins_unsettled : (c : Config) (w : World) (seat : ℕ) (command : Command) (fixed : Option Reply) (spot : Spot) (made : ℕ) (k : Command) → takes_at spot made (Begin k) ≡ true → SpotFacts c w seat made command fixed spot → fixed ≡ None
+begins_unsettled : (c : Config) (w : World) (seat : ℕ) (command : Command) (fixed : Option Reply) (spot : Spot) (made : ℕ) (k : Command) → takes_at spot made (Begin k) ≡ true → SpotFacts c w seat made command fixed spot → fixed ≡ None
 begins_unsettled c w seat command fixed Rest made k takes facts = facts
 begins_unsettled c w seat command fixed (Ended r) made k takes facts = facts
 begins_unsettled c w seat command fixed _ made k takes facts = cc
 
 -- a reply that is given is the settled one, of a call that goes on
-pub gives_settled : (c : Config) (w : World) (seat : ℕ) (command : Command) (fixed : Option Reply) (spot : Spot) (made : ℕ) (order : Order) (reply : Reply) → takes_at spot made order ≡ true → SpotFacts c w seat made command fixed spot → given_at spot ≡ Some reply → fixed ≡ Some reply
+gives_settled : (c : Config) (w : World) (seat : ℕ) (command : Command) (fixed : Option Reply) (spot : Spot) (made : ℕ) (order : Order) (reply : Reply) → takes_at spot made order ≡ true → SpotFacts c w seat made command fixed spot → given_at spot ≡ Some reply → fixed ≡ Some reply
 gives_settled c w seat command fixed (Leave r) made order reply takes facts is = facts ∙ is
 gives_settled c w seat command fixed _ made order reply takes facts is = cc
 
 -- the command stays, or no reply is settled
-pub command_stays : (c : Config) (w : World) (seat : ℕ) (command : Command) (fixed : Option Reply) (spot : Spot) (made : ℕ) (order : Order) → takes_at spot made order ≡ true → SpotFacts c w seat made command fixed spot → (fixed ≡ None) ⊎ (command_by order command ≡ command)
+command_stays : (c : Config) (w : World) (seat : ℕ) (command : Command) (fixed : Option Reply) (spot : Spot) (made : ℕ) (order : Order) → takes_at spot made order ≡ true → SpotFacts c w seat made command fixed spot → (fixed ≡ None) ⊎ (command_by order command ≡ command)
 command_stays c w seat command fixed spot made Nothing takes facts = inr refl
 command_stays c w seat command fixed spot made (Begin k) takes facts = inl (begins_unsettled c w seat command fixed spot made k takes facts)
 
 -- the entries of a mutator after a step that settles a reply, gives one, or does neither
-pub entries_step : (calls : List Entry) (seat : ℕ) (command after : Command) (fixed told given : Option Reply)
+entries_step : (calls : List Entry) (seat : ℕ) (command after : Command) (fixed told given : Option Reply)
     → ((reply : Reply) → given ≡ Some reply → fixed ≡ Some reply)
     → ((reply : Reply) → told ≡ Some reply → (fixed ≡ None) × (given ≡ None))
     → (fixed ≡ None) ⊎ (after ≡ command)
@@ -68,52 +69,54 @@ pub entries_step : (calls : List Entry) (seat : ℕ) (command after : Command) (
 entries_step calls seat command after fixed (Some t) given gives settles stays = rw ((settles t refl).0, (settles t refl).1) refl
 entries_step calls seat command after fixed None (Some g) gives settles stays = rw (gives g refl) refl
 entries_step calls seat command after fixed None None gives settles stays =
-    append_none _ ∙ ⊎_elim
-    (λ (no : fixed ≡ None). rw no (sym (append_none _)))
-    (λ (same : after ≡ command). rw (same, append_none calls) refl)
+    append-nil _ ∙ ⊎_elim
+    (λ (no : fixed ≡ None). rw no (sym (append-nil _)))
+    (λ (same : after ≡ command). rw (same, append-nil calls) refl)
     stays
 
 -- two worlds of equal parts are equal
-pub same_world : (a b : World) → a.memory ≡ b.memory → a.block ≡ b.block → a.owner ≡ b.owner → a.graph ≡ b.graph → a ≡ b
+same_world : (a b : World) → a.memory ≡ b.memory → a.block ≡ b.block → a.owner ≡ b.owner → a.graph ≡ b.graph → a ≡ b
 same_world a b memory block owner graph = λ i. record { memory = memory i; block = block i; owner = owner i; graph = graph i }
 
 -- a mutator keeps its seat
-pub next_seat : (c : Config) (m : Mutating) (order : Order) (got : ℕ) (spot : Spot) → (next_at c m order got spot).seat ≡ m.seat
+next_seat : (c : Config) (m : Mutating) (order : Order) (got : ℕ) (spot : Spot) → (next_at c m order got spot).seat ≡ m.seat
 next_seat c m order got Rest = refl
 next_seat c m order got _ = refl
 
--- a test of two parts shows the first
-pub first_part : (a b : Bool) → (a && b) ≡ true → a ≡ true
-first_part true b is = refl
-first_part false b is = cc
-
 -- The step of a mutator, as an event.
 module _ (c : Config) (s : Stage Actor) (past : List Entry) (number : ℕ) (order : Order) (m : Mutating) (command : Command) (calls : List Entry) where
+  -- the actor before the event
   abbrev the_actor : Actor
   the_actor = record { machine = mutating m; command = command; calls = calls }
 
+  -- the reply that the step settles
   abbrev the_told : Option Reply
   the_told = settled_by (settled c s) m
 
+  -- the history after it
   abbrev new_past : List Entry
   new_past = past ++ entries_of m.seat (command_by order command) the_told
 
+  -- the stage after it
   abbrev new_stage : Stage Actor
   new_stage = record {
     words = slice_set s.words (place_of (placed c (touch_of c m))) (made_of (placed c (touch_of c m)) (slice_index s.words (place_of (placed c (touch_of c m)))));
     machines = slice_set s.machines number (took_of c the_actor order (slice_index s.words (place_of (placed c (touch_of c m)))) (mutating m));
   }
 
+  -- the world before it
   abbrev old_world : Plot → (ℕ → Option ℕ) → World
   old_world block owner = world_of c s block owner (after (first_graph c) past)
 
+  -- the world after it
   abbrev new_world : Plot → (ℕ → Option ℕ) → World
   new_world block owner = world_of c new_stage block owner (after (first_graph c) new_past)
 
+  -- the world that the place tells is that of the stage after it
   worlds : (follows : Follows c s past) (fixed : Option Reply) → is_ready c m.seat m.made m.spot ≡ true → (step : Stepped c (old_world follows.block follows.owner) m command order fixed) → step.world ≡ new_world step.world.block step.world.owner
   worlds follows fixed ready step =
       same_world step.world (new_world step.world.block step.world.owner)
-      (step.memory ∙ sym (view-placed c s.words (touch_of c m) (first_part _ _ (first_part _ _ ready)) follows.words))
+      (step.memory ∙ sym (view-placed c s.words (touch_of c m) (word_of_ready c (touch_of c m) (and_parts _ _ ready).0) follows.words))
       refl
       refl
       (step.graph ∙ sym (after-more (first_graph c) past m.seat (command_by order command) the_told))
@@ -122,7 +125,7 @@ module _ (c : Config) (s : Stage Actor) (past : List Entry) (number : ℕ) (orde
   own_machine : (follows : Follows c s past) (thread : IsThread c (old_world follows.block follows.owner) (of_thread past (number + 1)) number the_actor m) → (step : Stepped c (old_world follows.block follows.owner) m command order thread.fixed) → takes_at m.spot m.made order ≡ true
       → IsMachine c (new_world step.world.block step.world.owner) (of_thread new_past (number + 1)) number (took_of c the_actor order (slice_index s.words (place_of (placed c (touch_of c m)))) (mutating m)) (mutating (next_of c m order (slice_index s.words (place_of (placed c (touch_of c m))))))
   own_machine follows thread step takes =
-      let found : settled c s (touch_of c m).word ≡ slice_index s.words (place_of (placed c (touch_of c m))) = sym (found-placed c s.words (touch_of c m) (first_part _ _ (first_part _ _ thread.mine.ready))) in
+      let found : settled c s (touch_of c m).word ≡ slice_index s.words (place_of (placed c (touch_of c m))) = sym (found-placed c s.words (touch_of c m) (word_of_ready c (touch_of c m) (and_parts _ _ thread.mine.ready).0)) in
       record {
         fixed = fixed_by thread.fixed the_told (given_at m.spot);
         number_is = next_seat c m order _ m.spot ∙ thread.number_is;
@@ -169,7 +172,8 @@ module _ (c : Config) (s : Stage Actor) (past : List Entry) (number : ℕ) (orde
       (follows.machines k a (sym (slice_get-set_other s.machines number k _ differs) ∙ there)))
       (cases_eq k number)
 
-  pub follows_step : slice_get s.machines number ≡ Some the_actor → takes_at m.spot m.made order ≡ true → Follows c s past → Follows c (moved (kind c) s number the_actor order) new_past
+  -- a step leads from a stage that follows its history to one that does
+  follows_step : slice_get s.machines number ≡ Some the_actor → takes_at m.spot m.made order ≡ true → Follows c s past → Follows c (moved (kind c) s number the_actor order) new_past
   unfolding kind
   follows_step here takes follows =
       let thread : IsThread c (old_world follows.block follows.owner) (of_thread past (number + 1)) number the_actor m = follows.machines number the_actor here in
@@ -184,7 +188,7 @@ module _ (c : Config) (s : Stage Actor) (past : List Entry) (number : ℕ) (orde
       }
 
 -- an event of a machine, or none
-pub follows_order : (c : Config) (s : Stage Actor) (past : List Entry) (number : ℕ) (order : Order) (command : Command) (calls : List Entry) (machine : Machine)
+follows_order : (c : Config) (s : Stage Actor) (past : List Entry) (number : ℕ) (order : Order) (command : Command) (calls : List Entry) (machine : Machine)
     → slice_get s.machines number ≡ Some (record { machine = machine; command = command; calls = calls })
     → takes_of machine order ≡ true → Follows c s past
     → Follows c (moved (kind c) s number (record { machine = machine; command = command; calls = calls }) order)
@@ -193,12 +197,13 @@ follows_order c s past number order command calls helping here takes follows = c
 follows_order c s past number order command calls controlling here takes follows = cc
 follows_order c s past number order command calls (mutating m) here takes follows = follows_step c s past number order m command calls here takes follows
 
+-- so does an event, of a machine that is there or not
 pub follows_event : (c : Config) (s : Stage Actor) (past : List Entry) (e : Event Order) → Follows c s past → Follows c (act (kind c) s e) (past ++ told c s e)
 unfolding act told kind
 follows_event c s past e follows = by_machine (slice_get s.machines e.number) refl
   where
     same : Follows c s (past ++ [])
-    same = subst (λ es. Follows c s es) (sym (append_none past)) follows
+    same = subst (λ es. Follows c s es) (sym (append-nil past)) follows
 
     by_order : (a : Actor) (b : Bool) → slice_get s.machines e.number ≡ Some a → takes_of a.machine e.order ≡ b
         → Follows c (if b then moved (kind c) s e.number a e.order else s) (past ++ (if b then told_by (settled c s) a e.order a.machine else []))
@@ -212,7 +217,7 @@ follows_event c s past e follows = by_machine (slice_get s.machines e.number) re
 -- a run
 pub follows_run : (c : Config) (s : Stage Actor) (past : List Entry) (es : List (Event Order)) → Follows c s past → Follows c (go (kind c) s es) (past ++ history c s es)
 unfolding go history
-follows_run c s past [] follows = subst (λ h. Follows c s h) (sym (append_none past)) follows
+follows_run c s past [] follows = subst (λ h. Follows c s h) (sym (append-nil past)) follows
 follows_run c s past (e ∷ es) follows =
     subst (λ h. Follows c (go (kind c) (act (kind c) s e) es) h) (append_assoc past (told c s e) (history c (act (kind c) s e) es))
     (follows_run c (act (kind c) s e) (past ++ told c s e) es (follows_event c s past e follows))

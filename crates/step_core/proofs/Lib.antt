@@ -1,12 +1,13 @@
-pub mod Stable
-pub mod Settling
+mod Stable
+mod Settling
 pub mod Pointing
-pub mod Apart
-pub mod Objects
-pub mod Naming
-pub mod Loading
-pub mod InHand
-pub mod Spots
+mod Updates
+mod Apart
+mod Objects
+mod Naming
+mod Loading
+mod InHand
+mod Spots
 mod Calls
 mod Loads
 mod Fields
@@ -20,8 +21,8 @@ mod Ready
 mod FreeRegions
 mod Takes
 mod Fresh
-pub mod Places
-pub mod Entries
+mod Places
+mod Entries
 pub mod Induction
 pub mod OpeningStands
 pub mod FirstFacts

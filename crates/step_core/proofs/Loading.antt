@@ -1,14 +1,13 @@
 -- Steps that load a word: what they settle, and what they leave as it was.
-use Rattle.std.proofs.Common.{◌≡◌, ℕ, ◌+◌, ◌<◌, ⊎_elim, Bool, true, false, Option, Some, None, refl, sym, ap, ◌∙◌, arith}
-use Rattle.std.specs.Prelude.{◌==◌, ◌&&◌, ◌^◌, if◌then◌else◌}
+use Rattle.std.proofs.Common.{◌≡◌, ℕ, ◌+◌, ◌<◌, ⊎_elim, true, false, Option, Some, None, refl, sym, ap, ◌∙◌, arith}
+use Rattle.std.specs.Prelude.{◌==◌, ◌&&◌, if◌then◌else◌}
 use Rattle.std.proofs.Math.Path.{fun_ext}
-use Rattle.std.proofs.lemmas.Bool.{cases_Bool, eq-eqb, lt-ltb, cond-true, cond-false}
+use Rattle.std.proofs.lemmas.Bool.{cases_Bool, eq-eqb, cond-true, cond-false}
 use Rattle.std.proofs.lemmas.Bool.Decides.{nat_tests}
 use Rattle.heap_words.specs.declared.config.Config.{Config}
 use Rattle.heap_words.specs.Words.{Word, same_word, write}
 use Rattle.heap_words.proofs.Stores.{same_word_true}
 use Rattle.steps_base.specs.Touch.{touch, loads}
-use Rattle.steps_base.specs.Fits.{is_number}
 use Rattle.shen_graph.specs.declared.command.Command.{Command}
 use Rattle.shen_graph.specs.declared.command.Reply.{Reply}
 use Rattle.shen_graph.specs.Graph.{Reference, with_root}
@@ -100,11 +99,3 @@ pub roots_then : (block : Plot) (words : ℕ → ℕ) (root : ℕ → ℕ → Re
 roots_then block words root t dst value v roots is i below =
     rw (eq-eqb t t refl)
     (elim (i == dst) as (λ b. Points block (if b then value else words i) (if b then v else root t i)) [ true ↦ is | false ↦ roots i below ])
-
--- an access can be made whose word is one of the table and whose number is a word
-pub ready_of : (b d : Bool) → b ≡ true → d ≡ true → ((b && d) && true) ≡ true
-ready_of b d is_b is_d = rw (is_b, is_d) refl
-
--- a small number is one that a word holds
-pub number_small : (n : ℕ) → n < 2097152 → is_number n ≡ true
-number_small n small = lt-ltb n (2 ^ 64) (omega arith)

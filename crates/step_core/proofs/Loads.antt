@@ -1,5 +1,5 @@
 -- The steps by which a call loads its command's roots and the shape of its object.
-use Rattle.std.proofs.Common.{◌≡◌, ℕ, zero, suc, ◌+◌, ◌<◌, inl, inr, ⊎_elim, Bool, true, false, length, Option, Some, None, refl, sym, ap, ◌∙◌, arith}
+use Rattle.std.proofs.Common.{◌≡◌, ℕ, zero, suc, ◌+◌, ◌<◌, inl, inr, ⊎_elim, Bool, true, false, length, Option, Some, None, refl, sym, ap, ◌∙◌, subst, arith}
 use Rattle.std.specs.Prelude.{◌==◌}
 use Rattle.std.proofs.lemmas.Bool.{and_parts, cases_Bool, cond-true, cond-false, eq-eqb, eqb-true, ltb-true}
 use Rattle.std.proofs.lemmas.Bool.Decides.{nat_tests}
@@ -23,10 +23,10 @@ use Rattle.mutator.specs.Told.{name_the_same}
 use Rattle.step_core.specs.World.{World, Points, Shared}
 use Rattle.step_core.specs.Stepped.{HasRoot, HasObject, HasFirst, HasRoots, Mine, Stepped, Row}
 use Rattle.step_core.proofs.Spots.{mutator_at}
-use Rattle.step_core.proofs.Calls.{leave_ready}
+use Rattle.step_core.proofs.Ready.{leaving, ready_of, number_small}
 use Rattle.step_core.proofs.Pointing.{named_thing, named_if_not_0, null_if_0, points_small}
 use Rattle.step_core.proofs.Naming.{same_words, names_agree, word_in, shape_in, bad_on_null, bad_on_shape}
-use Rattle.step_core.proofs.Loading.{looks, replies, ready_of, number_small}
+use Rattle.step_core.proofs.Loading.{looks, replies}
 
 -- the roots that a command loads are below 16
 root_small : (made : ℕ) (k : Command) (i : ℕ) → is_next made k ≡ true → i < length (roots_of k) → root_of k i < 16
@@ -131,7 +131,7 @@ module _ (c : Config) (u : World) (seat made phase cset : ℕ) (command : Comman
 
   -- it leaves with the reply that is settled
   leave_mine : (k : Command) (r : Reply) → HasBegun cset k → HasSpot cset (Some r) (Leave r)
-  leave_mine k r mine = record { seat = mine.seat; ready = leave_ready c seat made r mine.seat; made = mine.made; roots = mine.roots; hands = mine.hands; facts = refl }
+  leave_mine k r mine = leaving c _ seat made phase cset command r mine.seat mine.made mine.roots mine.hands
 
   -- it can go on with the shape of the command's object
   shape_mine : (k : Command) (object second third : ℕ) → Shared c u → HasBegun cset k → is_on_object k ≡ true → HasRoots u seat k object second third → HasSpot cset fixed (LoadShape k object second third)
@@ -157,6 +157,7 @@ module _ (c : Config) (u : World) (seat made phase cset : ℕ) (command : Comman
       let small = root_small made k 1 mine.facts.next more in
       record { seat = mine.seat; ready = grind (arith, nat_tests); made = mine.made; roots = mine.roots; hands = mine.hands; facts = (mine.facts, more, has) }
 
+  -- it can go on with the third root
   third_mine : (k : Command) (first second : ℕ) → HasBegun cset k → 2 < length (roots_of k) → HasFirst u seat k first → HasRoot u seat k 1 second → HasSpot cset fixed (LoadThird k first second)
   third_mine k first second mine more has has_second =
       let below = mine.seat in
@@ -190,6 +191,7 @@ module _ (c : Config) (u : World) (seat made phase cset : ℕ) (command : Comman
       }
   first_mine _ first shared mine has = let some = has.some in absurd (omega arith)
 
+  -- the load of the collection set
   pub at_load_set : (k : Command) (order : Order) → Row c u (at_spot (LoadSet k)) command order fixed
   at_load_set k (Begin l) shared mine takes = cc
   at_load_set k Nothing shared mine takes = looks c u (at_spot (LoadSet k)) Cset command fixed refl refl refl shared (set_mine k (u.memory Cset) mine)
@@ -214,6 +216,7 @@ module _ (c : Config) (u : World) (seat made phase cset : ℕ) (command : Comman
         not_null = λ on is. absurd (let both : lacks_object k (u.memory (Root seat (root_of k 0))) ≡ true = rw on (eq-eqb _ _ is) in cc);
       })))
 
+  -- the load of the first root
   pub at_load_root : (k : Command) (order : Order) → Row c u (at_spot (LoadRoot k)) command order fixed
   at_load_root k (Begin l) shared mine takes = cc
   at_load_root k Nothing shared mine takes =
@@ -240,16 +243,10 @@ module _ (c : Config) (u : World) (seat made phase cset : ℕ) (command : Comman
       (full_no (name_the_same u.memory first got))
       (ap (λ x. outcome u.graph (seat + 1) x) mine.facts.is ∙ ap (λ x. answers (yes_or_no x) u.graph) (sym (agree ∙ same_words c u shared first got _ _ is_first is_second)))
       shared
-      (record {
-        seat = mine.seat;
-        ready = leave_ready c seat made (yes_or_no (first == got)) mine.seat;
-        made = mine.made;
-        roots = mine.roots;
-        hands = mine.hands;
-        facts = ap (λ x. Some (yes_or_no x)) agree;
-      })
+      (subst (λ f. HasSpot cset f (Leave (yes_or_no (first == got)))) (ap (λ x. Some (yes_or_no x)) (sym agree)) (leave_mine (Same a b) (yes_or_no (first == got)) mine))
   second_step _ first shared mine more has = absurd (omega arith)
 
+  -- the load of the second root
   pub at_load_second : (k : Command) (first : ℕ) (order : Order) → Row c u (at_spot (LoadSecond k first)) command order fixed
   at_load_second k first (Begin l) shared mine takes = cc
   at_load_second k first Nothing shared mine takes =
@@ -262,6 +259,7 @@ module _ (c : Config) (u : World) (seat made phase cset : ℕ) (command : Comman
       (shape_mine (Cas obj field expect val) first second (u.memory (Root seat val)) shared mine refl (record { first_is = has; second_is = has_second; third_is = root_has (Cas obj field expect val) 2 mine }))
   third_step _ first second shared mine more has has_second = absurd (omega arith)
 
+  -- the load of the third root
   pub at_load_third : (k : Command) (first second : ℕ) (order : Order) → Row c u (at_spot (LoadThird k first second)) command order fixed
   at_load_third k first second (Begin l) shared mine takes = cc
   at_load_third k first second Nothing shared mine takes =
@@ -341,6 +339,7 @@ module _ (c : Config) (u : World) (seat made phase cset : ℕ) (command : Comman
       }
   part_mine _ object second third shape shared mine has of refs nums on part = cc
 
+  -- the load of the shape settles Bad where the object has no such part
   pub at_load_shape : (k : Command) (object second third : ℕ) (order : Order) → Row c u (at_spot (LoadShape k object second third)) command order fixed
   at_load_shape k object second third (Begin l) shared mine takes = cc
   at_load_shape k object second third Nothing shared mine takes =

@@ -1,7 +1,7 @@
 -- Words that stand for references, and the names and numbers of the objects that they lead to.
 use Rattle.std.proofs.Common.{◌≡◌, ◌≢◌, ℕ, ◌+◌, ◌<◌, ◌≤◌, ⊎_elim, true, false, get_or, Some, None, refl, sym, ap, ◌∙◌, arith}
 use Rattle.std.specs.Prelude.{◌==◌, ◌||◌, ◌^◌, slice_get}
-use Rattle.std.proofs.lemmas.Bool.{cases_Bool, cases_eq, eq-eqb, ne_eqb, cond-true, cond-false, ltb-false}
+use Rattle.std.proofs.lemmas.Bool.{and_from, cases_Bool, cases_eq, eq-eqb, ne_eqb, cond-true, cond-false, ltb-false}
 use Rattle.std.proofs.lemmas.Bool.Decides.{nat_tests}
 use Rattle.std.proofs.lemmas.Option.{same_Some, none-some, slice_get-get_or, slice_get_past}
 use Rattle.heap_words.specs.declared.config.Config.{Config}
@@ -20,12 +20,8 @@ use Rattle.step_core.specs.World.{World, thing, name_at, Points, IsObject, Share
 use Rattle.step_core.specs.Stepped.{HasObject}
 use Rattle.step_core.proofs.Pointing.{named_thing, piece_word, null_if_0}
 
--- a name is its thread and its count
-pub same_parts : (m n : Name) → m.thread ≡ n.thread → m.count ≡ n.count → m ≡ n
-same_parts m n threads counts = λ i. record { thread = threads i; count = counts i }
-
 -- name words are equal exactly where their names are
-pub same_codes : (m n : Name) → m.count < 2 ^ 32 → n.count < 2 ^ 32 → (name_code m.thread m.count == name_code n.thread n.count) ≡ same_name m n
+same_codes : (m n : Name) → m.count < 2 ^ 32 → n.count < 2 ^ 32 → (name_code m.thread m.count == name_code n.thread n.count) ≡ same_name m n
 same_codes m n small_m small_n = ⊎_elim
     (λ (same : m.thread ≡ n.thread). let codes : (name_code m.thread m.count == name_code n.thread n.count) ≡ (m.count == n.count) = rw same (grind (arith, nat_tests)) in rw (eq-eqb m.thread n.thread same) codes)
     (λ (differs : m.thread ≢ n.thread). rw (ne_eqb m.thread n.thread differs) (ne_eqb _ _ (λ e. differs (omega (arith, e, small_m, small_n)))))
@@ -33,17 +29,20 @@ same_codes m n small_m small_n = ⊎_elim
 
 -- a name word reads as its name
 pub name_read : (n : Name) → n.count < 2 ^ 32 → name_in (name_code n.thread n.count) ≡ n
-name_read n small = same_parts _ n (omega arith) (omega arith)
+name_read n small =
+    let read = name_in (name_code n.thread n.count) in
+    same_name-true read n (and_from _ _ (eq-eqb read.thread n.thread (omega arith)) (eq-eqb read.count n.count (omega arith)))
 
 -- a shape word reads as its sizes
-pub refs_read : (refs nums : ℕ) → refs ≤ 16 → nums ≤ 16 → refs_in (shape_word refs nums) ≡ refs
+refs_read : (refs nums : ℕ) → refs ≤ 16 → nums ≤ 16 → refs_in (shape_word refs nums) ≡ refs
 refs_read refs nums few_refs few_nums = omega arith
 
-pub nums_read : (refs nums : ℕ) → refs ≤ 16 → nums ≤ 16 → nums_in (shape_word refs nums) ≡ nums
+-- and of its numbers
+nums_read : (refs nums : ℕ) → refs ≤ 16 → nums ≤ 16 → nums_in (shape_word refs nums) ≡ nums
 nums_read refs nums few_refs few_nums = omega arith
 
 -- the object that a root names, in a graph
-pub named_object : (g : Graph) (t root : ℕ) (n : Name) (o : Object) → g.root t root ≡ Some n → g.object n ≡ Some o → named g (g.root t root) ≡ o
+named_object : (g : Graph) (t root : ℕ) (n : Name) (o : Object) → g.root t root ≡ Some n → g.object n ≡ Some o → named g (g.root t root) ≡ o
 named_object g t root n o is there = rw (is, there) refl
 
 -- A command on an object is answered Bad where its root is null.
@@ -129,12 +128,13 @@ module _ (c : Config) (u : World) (shared : Shared c u) where
   word_in seat root object at k has below is = ap (λ a. is_word c (Heap a)) is ∙ piece_word c _ u.block shared.plotted object k (thing has.name has.refs has.nums) has.target below
 
   -- there is no field and no number past the last
-  pub no_field_in : (seat root object field : ℕ) (has : HasObject u seat root object) → has.refs ≤ field → field_at u.graph (seat + 1) root field ≡ None
+  no_field_in : (seat root object field : ℕ) (has : HasObject u seat root object) → has.refs ≤ field → field_at u.graph (seat + 1) root field ≡ None
   no_field_in seat root object field has past =
       let o = object_in seat root object has in
       ap (λ x. slice_get x.refs field) (named_object u.graph (seat + 1) root has.name o.0 has.root_is o.1) ∙ slice_get_past o.0.refs field (let long = o.2.refs_are in omega arith)
 
-  pub no_number_in : (seat root object index : ℕ) (has : HasObject u seat root object) → has.nums ≤ index → number_at u.graph (seat + 1) root index ≡ None
+  -- there is no number past the last
+  no_number_in : (seat root object index : ℕ) (has : HasObject u seat root object) → has.nums ≤ index → number_at u.graph (seat + 1) root index ≡ None
   no_number_in seat root object index has past =
       let o = object_in seat root object has in
       ap (λ x. slice_get x.nums index) (named_object u.graph (seat + 1) root has.name o.0 has.root_is o.1) ∙ slice_get_past o.0.nums index (let long = o.2.nums_are in omega arith)

@@ -1,5 +1,5 @@
 -- Room in hand becomes an object: the piece keeps its words, and the graph has the object under a fresh name.
-use Rattle.std.proofs.Common.{◌≡◌, ◌≢◌, ℕ, zero, suc, ◌+◌, ◌<◌, ◌≤◌, ◌⊎◌, true, false, replicate, Option, Some, None, inl, inr, ⊎_elim, refl, sym, ap, ◌∙◌, subst, arith}
+use Rattle.std.proofs.Common.{◌≡◌, ◌≢◌, ℕ, zero, suc, ◌+◌, ◌<◌, ◌≤◌, true, false, replicate, Option, Some, None, ⊎_elim, refl, sym, ap, ◌∙◌, subst, arith}
 use Rattle.std.specs.Prelude.{◌==◌, if◌then◌else◌, slice_get}
 use Rattle.std.proofs.lemmas.Bool.{cases_eq, cases_Bool, cond-true, cond-false, eq-eqb}
 use Rattle.std.proofs.lemmas.Bool.Decides.{nat_tests}
@@ -12,16 +12,10 @@ use Rattle.shen_graph.specs.Graph.{Object, same_name, blank}
 use Rattle.shen_graph.proofs.PlainLemmas.{same_name-true, same_name-itself}
 use Rattle.mutator.specs.Rows.{fresh_word}
 use Rattle.step_core.specs.World.{Block, thing, hand, words_of, Plot, name_at, Points, IsInUse, IsPlotted, IsFilled, IsObject, IsGiven, AreObjects, AreRooms}
+use Rattle.step_core.proofs.Updates.{updated, updated_there, updated_else}
 use Rattle.step_core.proofs.Pointing.{named_thing}
-use Rattle.step_core.proofs.Pieces.{with_piece, piece_at, piece_else, piece_cases, object_reads}
-
--- the objects of a graph with one of a name
-abbrev pub with_one : (Name → Option Object) → Name → Object → Name → Option Object
-with_one object name o n = if same_name n name then Some o else object n
-
--- names that are not equal, by the test
-pub two_names : (m n : Name) → m ≢ n → same_name m n ≡ false
-two_names m n differ = ⊎_elim (λ is. absurd (differ (same_name-true m n is))) (λ is. is) (cases_Bool (same_name m n))
+use Rattle.step_core.proofs.Objects.{two_names, where_object}
+use Rattle.step_core.proofs.Pieces.{piece_cases, object_reads}
 
 -- the references of a new object are null, and its numbers 0
 pub all_alike : {A : Type 0} (n i : ℕ) (x y : A) → slice_get (replicate n x) i ≡ Some y → y ≡ x
@@ -30,7 +24,7 @@ all_alike (suc n) zero x y is = sym (same_Some x y is)
 all_alike (suc n) (suc i) x y is = all_alike n i x y is
 
 -- the words of a new object past its name are 0
-pub zero_word : (seat made refs nums k : ℕ) → 3 ≤ k → fresh_word seat made refs nums k ≡ 0
+zero_word : (seat made refs nums k : ℕ) → 3 ≤ k → fresh_word seat made refs nums k ≡ 0
 zero_word seat made refs nums k past = grind (arith, nat_tests)
 
 -- words that were stored in room in hand are those of a new object
@@ -56,26 +50,27 @@ new_object heap block address seat made refs nums few_refs few_nums stored = rec
 }
 
 module _ (c : Config) (top : ℕ → ℕ) (block : Plot) (address seat refs nums : ℕ) (name : Name) (room : block address ≡ Some (hand seat (3 + refs + nums))) where
+  -- the new object
   abbrev new_thing : Block
   new_thing = thing name refs nums
 
+  -- the plot with it
   abbrev new_block : Plot
-  new_block = with_piece block address new_thing
-
-  -- a piece of the new plot is the new object or an old piece
-  either : (a : ℕ) (b : Block) → new_block a ≡ Some b → ((a ≡ address) × (new_thing ≡ b)) ⊎ ((a ≢ address) × (block a ≡ Some b))
-  either a b is = ⊎_elim (λ new. inl (new.0, same_Some new_thing b new.1)) (λ old. inr old) (piece_cases block address new_thing a b is)
+  new_block = updated block address (Some new_thing)
 
   -- an old piece, but the room, stands where it stood
-  pub stays : (a : ℕ) (b : Block) → block a ≡ Some b → (hand seat (3 + refs + nums) ≡ b → ⊥) → new_block a ≡ Some b
-  stays a b is differs = piece_else block address new_thing a (λ same. differs (same_Some _ b (sym room ∙ ap block (sym same) ∙ is))) ∙ is
+  stays : (a : ℕ) (b : Block) → block a ≡ Some b → (hand seat (3 + refs + nums) ≡ b → ⊥) → new_block a ≡ Some b
+  stays a b is differs = updated_else block address (Some new_thing) a (λ same. differs (same_Some _ b (sym room ∙ ap block same ∙ is))) ∙ is
 
+  -- so does each object
   pub things_stay : (a more_refs more_nums : ℕ) (n : Name) → block a ≡ Some (thing n more_refs more_nums) → new_block a ≡ Some (thing n more_refs more_nums)
   things_stay a more_refs more_nums n is = stays a (thing n more_refs more_nums) is (λ same. cc)
 
+  -- what a word stands for it still stands for
   pub names_stay : (a : ℕ) (n : Name) → name_at (block a) ≡ Some n → name_at (new_block a) ≡ Some n
   names_stay a n is = let piece = named_thing (block a) n is in ap name_at (things_stay a piece.0 piece.1 n piece.2)
 
+  -- so does room in the hand of another seat
   pub hands_stay : (a other words : ℕ) → other ≢ seat → block a ≡ Some (hand other words) → new_block a ≡ Some (hand other words)
   hands_stay a other words differs is = stays a (hand other words) is (λ same. let seats : other ≡ seat = cc in differs seats)
 
@@ -84,21 +79,23 @@ module _ (c : Config) (top : ℕ → ℕ) (block : Plot) (address seat refs nums
   old_hand a other words is = ⊎_elim
       (λ (new : (a ≡ address) × (new_thing ≡ hand other words)). let differ = new.1 in absurd (cc))
       (λ (old : (a ≢ address) × (block a ≡ Some (hand other words))). old)
-      (either a (hand other words) is)
+      (piece_cases block address new_thing a (hand other words) is)
 
   -- where a piece stands, one of the same words stood, and the other way round
   old_piece : (a : ℕ) (b : Block) → new_block a ≡ Some b → (x : Block) × (block a ≡ Some x) × (words_of x ≡ words_of b)
   old_piece a b is = ⊎_elim
       (λ (new : (a ≡ address) × (new_thing ≡ b)). (hand seat (3 + refs + nums), ap block new.0 ∙ room, ap words_of new.1))
       (λ (old : (a ≢ address) × (block a ≡ Some b)). (b, old.1, refl))
-      (either a b is)
+      (piece_cases block address new_thing a b is)
 
+  -- where a piece stood, one stands
   some_piece : (a : ℕ) → (b : Block) × (block a ≡ Some b) → (b : Block) × (new_block a ≡ Some b)
   some_piece a piece = ⊎_elim
-      (λ (same : a ≡ address). (new_thing, ap new_block same ∙ piece_at block address new_thing))
-      (λ (other : a ≢ address). (piece.0, piece_else block address new_thing a other ∙ piece.1))
+      (λ (same : a ≡ address). (new_thing, ap new_block same ∙ updated_there block address (Some new_thing)))
+      (λ (other : a ≢ address). (piece.0, updated_else block address (Some new_thing) a (λ e. other (sym e)) ∙ piece.1))
       (cases_eq a address)
 
+  -- pieces lie where they should
   pub plotted_again : IsPlotted c top block → IsPlotted c top new_block
   plotted_again plotted = record {
     tops = plotted.tops;
@@ -110,6 +107,7 @@ module _ (c : Config) (top : ℕ → ℕ) (block : Plot) (address seat refs nums
         omega (arith, far, old_x.2);
   }
 
+  -- they fill the part in use
   pub filled_again : IsFilled c top block → IsFilled c top new_block
   filled_again filled = record {
     first = λ r inside used. some_piece (base_of c r) (filled.first r inside used);
@@ -122,17 +120,19 @@ module _ (c : Config) (top : ℕ → ℕ) (block : Plot) (address seat refs nums
 
   module _ (heap : ℕ → ℕ) (object : Name → Option Object) (objects : AreObjects heap block object) (fresh : (o : Object) → object name ≡ Some o → ⊥) (o : Object) where
     -- the objects of other names are as before
-    other_object : (n : Name) → name ≢ n → with_one object name o n ≡ object n
+    other_object : (n : Name) → name ≢ n → where_object object name o n ≡ object n
     other_object n differs = cond-false (same_name n name) _ _ (two_names n name (λ same. differs (sym same)))
 
-    own_object : with_one object name o name ≡ Some o
+    -- the new name has the new object
+    own_object : where_object object name o name ≡ Some o
     own_object = cond-true (same_name name name) _ _ (same_name-itself name)
 
     -- no old object has the name
     not_old : (a more_refs more_nums : ℕ) (n : Name) → block a ≡ Some (thing n more_refs more_nums) → name ≢ n
     not_old a more_refs more_nums n is same = let old = objects.each a more_refs more_nums n is in fresh old.0 (ap object same ∙ old.1)
 
-    pub objects_again : IsObject heap new_block address refs nums name o → AreObjects heap new_block (with_one object name o)
+    -- the words are those of the graph's objects
+    pub objects_again : IsObject heap new_block address refs nums name o → AreObjects heap new_block (where_object object name o)
     objects_again new_is = record {
       each = λ a more_refs more_nums n is. ⊎_elim
           (λ (new : (a ≡ address) × (new_thing ≡ thing n more_refs more_nums)).
@@ -141,7 +141,7 @@ module _ (c : Config) (top : ℕ → ℕ) (block : Plot) (address seat refs nums
           let all_refs : refs ≡ more_refs = cc in
           let all_nums : nums ≡ more_nums = cc in (
             o,
-            ap (with_one object name o) (sym names) ∙ own_object,
+            ap (where_object object name o) (sym names) ∙ own_object,
             subst (λ b. IsObject heap new_block b more_refs more_nums n o) (sym new.0)
                 (subst (λ m. IsObject heap new_block address more_refs more_nums m o) names
                 (subst (λ k. IsObject heap new_block address k more_nums name o) all_refs
@@ -153,9 +153,9 @@ module _ (c : Config) (top : ℕ → ℕ) (block : Plot) (address seat refs nums
             other_object n (not_old a more_refs more_nums n old.1) ∙ was.1,
             object_reads heap heap block new_block a more_refs more_nums n was.0 (λ k below. refl) names_stay was.2,
           ))
-          (either a (thing n more_refs more_nums) is);
+          (piece_cases block address new_thing a (thing n more_refs more_nums) is);
       all = λ n p is. ⊎_elim
-          (λ (same : same_name n name ≡ true). (address, refs, nums, piece_at block address new_thing ∙ ap (λ m. Some (thing m refs nums)) (sym (same_name-true n name same))))
+          (λ (same : same_name n name ≡ true). (address, refs, nums, updated_there block address (Some new_thing) ∙ ap (λ m. Some (thing m refs nums)) (sym (same_name-true n name same))))
           (λ (differs : same_name n name ≡ false).
           let was = objects.all n p (sym (cond-false (same_name n name) _ _ differs) ∙ is) in
           (was.0, was.1, was.2, things_stay was.0 was.1 was.2 n was.3))
@@ -164,14 +164,15 @@ module _ (c : Config) (top : ℕ → ℕ) (block : Plot) (address seat refs nums
           (λ (new_a : (a ≡ address) × (new_thing ≡ thing n refs_a nums_a)). ⊎_elim
           (λ (new_b : (b ≡ address) × (new_thing ≡ thing n refs_b nums_b)). new_a.0 ∙ sym new_b.0)
           (λ (old_b : (b ≢ address) × (block b ≡ Some (thing n refs_b nums_b))). let same = new_a.1 in let names : name ≡ n = cc in absurd (not_old b refs_b nums_b n old_b.1 names))
-          (either b (thing n refs_b nums_b) is_b))
+          (piece_cases block address new_thing b (thing n refs_b nums_b) is_b))
           (λ (old_a : (a ≢ address) × (block a ≡ Some (thing n refs_a nums_a))). ⊎_elim
           (λ (new_b : (b ≡ address) × (new_thing ≡ thing n refs_b nums_b)). let same = new_b.1 in let names : name ≡ n = cc in absurd (not_old a refs_a nums_a n old_a.1 names))
           (λ (old_b : (b ≢ address) × (block b ≡ Some (thing n refs_b nums_b))). objects.once a b refs_a nums_a refs_b nums_b n old_a.1 old_b.1)
-          (either b (thing n refs_b nums_b) is_b))
-          (either a (thing n refs_a nums_a) is_a);
+          (piece_cases block address new_thing b (thing n refs_b nums_b) is_b))
+          (piece_cases block address new_thing a (thing n refs_a nums_a) is_a);
     }
 
+  -- rooms in hand are as they should be
   pub rooms_again : (current : ℕ → ℕ) → AreRooms c top current block → AreRooms c top current new_block
   rooms_again current rooms a other words is = rooms a other words (old_hand a other words is).1
 
@@ -179,9 +180,11 @@ module _ (c : Config) (top : ℕ → ℕ) (block : Plot) (address seat refs nums
 abbrev pub with_count : (ℕ → ℕ) → ℕ → ℕ → ℕ
 with_count count thread t = if t == thread then count t + 1 else count t
 
-pub count_grows : (count : ℕ → ℕ) (thread t : ℕ) → count t ≤ with_count count thread t
+-- no count falls
+count_grows : (count : ℕ → ℕ) (thread t : ℕ) → count t ≤ with_count count thread t
 count_grows count thread t = grind (arith, nat_tests)
 
+-- its own grows by one
 pub count_own : (count : ℕ → ℕ) (thread : ℕ) → with_count count thread thread ≡ count thread + 1
 count_own count thread = cond-true (thread == thread) _ _ (eq-eqb thread thread refl)
 
@@ -189,7 +192,7 @@ count_own count thread = cond-true (thread == thread) _ _ (eq-eqb thread thread 
 pub given_again : (c : Config) (count : ℕ → ℕ) (object : Name → Option Object) (name : Name) (o : Object)
     → ((n : Name) (p : Object) → object n ≡ Some p → IsGiven c count n)
     → IsGiven c (with_count count name.thread) name
-    → (n : Name) (p : Object) → with_one object name o n ≡ Some p → IsGiven c (with_count count name.thread) n
+    → (n : Name) (p : Object) → where_object object name o n ≡ Some p → IsGiven c (with_count count name.thread) n
 given_again c count object name o given new n p is = ⊎_elim
     (λ (same : same_name n name ≡ true). subst (λ m. IsGiven c (with_count count name.thread) m) (sym (same_name-true n name same)) new)
     (λ (differs : same_name n name ≡ false).

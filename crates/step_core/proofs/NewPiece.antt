@@ -1,26 +1,15 @@
 -- A new piece at the top of a region: the words between the old top and the new one, in a seat's hand.
-use Rattle.std.proofs.Common.{◌≡◌, ◌≢◌, ℕ, ◌+◌, ◌<◌, ◌≤◌, ◌⊎◌, Option, Some, inl, inr, ⊎_elim, refl, sym, ap, ◌∙◌, subst, arith}
-use Rattle.std.specs.Prelude.{◌==◌, if◌then◌else◌}
-use Rattle.std.proofs.lemmas.Bool.{cases_eq, cases_lt, cond-true, cond-false, eq-eqb, ne_eqb}
+use Rattle.std.proofs.Common.{◌≡◌, ◌≢◌, ℕ, ◌+◌, ◌<◌, ◌≤◌, Option, Some, ⊎_elim, refl, sym, ap, ◌∙◌, subst, arith}
+use Rattle.std.proofs.lemmas.Bool.{cases_eq, cases_lt}
 use Rattle.std.proofs.lemmas.Option.{none-some, same_Some}
 use Rattle.heap_words.specs.declared.config.Config.{Config}
 use Rattle.regions.specs.Place.{base_of}
 use Rattle.shen_graph.specs.declared.name.Name.{Name}
 use Rattle.shen_graph.specs.Graph.{Object}
 use Rattle.step_core.specs.World.{Block, thing, hand, words_of, Plot, name_at, IsInUse, IsPlotted, IsFilled, AreObjects, IsFreeWord, AreCurrent, IsRoom, AreRooms}
+use Rattle.step_core.proofs.Updates.{updated, updated_same, updated_there, updated_else}
 use Rattle.step_core.proofs.Pointing.{named_thing}
-use Rattle.step_core.proofs.Pieces.{behind, three_words, beside, with_piece, piece_at, piece_else, piece_cases, object_reads}
-
--- the tops with one of them at a number
-abbrev pub with_top : (ℕ → ℕ) → ℕ → ℕ → ℕ → ℕ
-with_top top region value r = if region == r then value else top r
-
-module _ (top : ℕ → ℕ) (region value : ℕ) where
-  pub top_at : with_top top region value region ≡ value
-  top_at = cond-true (region == region) _ _ (eq-eqb region region refl)
-
-  pub top_else : (r : ℕ) → region ≢ r → with_top top region value r ≡ top r
-  top_else r other = cond-false (region == r) _ _ (ne_eqb region r other)
+use Rattle.step_core.proofs.Pieces.{behind, three_words, beside, piece_cases, object_reads}
 
 -- A region has room for so many words above its top. The pieces are apart, and room in hand is as it should be.
 pub record CanGrow (c : Config) (top current : ℕ → ℕ) (block : Plot) (region at words : ℕ) : Type 0 where
@@ -32,17 +21,20 @@ pub record CanGrow (c : Config) (top current : ℕ → ℕ) (block : Plot) (regi
   pub some : 3 ≤ words
 
 module _ (c : Config) (top current : ℕ → ℕ) (block : Plot) (region at words seat : ℕ) (grows : CanGrow c top current block region at words) where
+  -- where the new piece lies
   abbrev address : ℕ
   address = base_of c region + at
 
+  -- the tops with it
   abbrev new_top : ℕ → ℕ
-  new_top = with_top top region (at + words)
+  new_top = updated top region (at + words)
 
+  -- the plot with it
   abbrev new_block : Plot
-  new_block = with_piece block address (hand seat words)
+  new_block = updated block address (Some (hand seat words))
 
   -- nothing stood there
-  pub none_there : (b : Block) → block address ≡ Some b → ⊥
+  none_there : (b : Block) → block address ≡ Some b → ⊥
   none_there b is =
       let long = three_words c top current block grows.rooms address b is in
       let where_is = beside c top block grows.plotted region address b is in
@@ -50,64 +42,68 @@ module _ (c : Config) (top current : ℕ → ℕ) (block : Plot) (region at word
 
   -- what stood somewhere stands there
   pub stays : (a : ℕ) (b : Block) → block a ≡ Some b → new_block a ≡ Some b
-  stays a b is = piece_else block address (hand seat words) a (λ same. none_there b (ap block (sym same) ∙ is)) ∙ is
+  stays a b is = updated_else block address (Some (hand seat words)) a (λ same. none_there b (ap block same ∙ is)) ∙ is
 
+  -- what a word stands for it still stands for
   pub names_stay : (a : ℕ) (name : Name) → name_at (block a) ≡ Some name → name_at (new_block a) ≡ Some name
   names_stay a name is = let piece = named_thing (block a) name is in ap name_at (stays a (thing name piece.0 piece.1) piece.2)
 
+  -- no top falls
   tops_grow : (r : ℕ) → top r ≤ new_top r
   tops_grow r = ⊎_elim
-      (λ (same : region ≡ r). let now : new_top r ≡ at + words = cond-true (region == r) _ _ (eq-eqb region r same) in let was : top r ≡ at = ap top (sym same) ∙ grows.top_is in omega arith)
-      (λ (other : region ≢ r). let now = top_else top region (at + words) r other in omega (arith, now))
+      (λ (same : region ≡ r). let now : new_top r ≡ at + words = updated_same top region (at + words) r same in let was : top r ≡ at = ap top (sym same) ∙ grows.top_is in omega arith)
+      (λ (other : region ≢ r). let now = updated_else top region (at + words) r other in omega (arith, now))
       (cases_eq region r)
 
+  -- old pieces lie in the part in use
   in_use_again : (a : ℕ) (b : Block) → block a ≡ Some b → IsInUse c new_top a (words_of b)
   in_use_again a b is =
       let used = grows.plotted.in_use a b is in
       let grown = tops_grow used.region in
       record { region = used.region; within = used.within; from_base = used.from_base; to_top = omega (arith, used.to_top, grown) }
 
+  -- so does the new one
   new_in_use : IsInUse c new_top address words
-  new_in_use = let now = top_at top region (at + words) in record { region = region; within = grows.within; from_base = omega arith; to_top = omega (arith, now) }
+  new_in_use = let now = updated_there top region (at + words) in record { region = region; within = grows.within; from_base = omega arith; to_top = omega (arith, now) }
 
-  -- a piece of the new plot is the new one or an old one
-  either : (a : ℕ) (b : Block) → new_block a ≡ Some b → ((a ≡ address) × (hand seat words ≡ b)) ⊎ ((a ≢ address) × (block a ≡ Some b))
-  either a b is = ⊎_elim (λ new. inl (new.0, same_Some (hand seat words) b new.1)) (λ old. inr old) (piece_cases block address (hand seat words) a b is)
-
+  -- an old piece before it ends before it
   old_before : (a : ℕ) (b : Block) → block a ≡ Some b → a < address → a + words_of b ≤ address
   old_before a b is before = let where_is = beside c top block grows.plotted region a b is in omega (arith, where_is, grows.top_is)
 
+  -- it ends before an old piece behind it
   new_before : (a : ℕ) (b : Block) → block a ≡ Some b → address < a → address + words ≤ a
   new_before a b is after =
       let where_is = beside c top block grows.plotted region a b is in
       let long = three_words c top current block grows.rooms a b is in
       omega (arith, where_is, grows.top_is, long)
 
+  -- pieces lie where they should
   pub plotted_more : IsPlotted c new_top new_block
   plotted_more = record {
     tops = λ r inside. ⊎_elim
-        (λ (same : region ≡ r). let now : new_top r ≡ at + words = cond-true (region == r) _ _ (eq-eqb region r same) in omega (arith, now))
-        (λ (other : region ≢ r). let now = top_else top region (at + words) r other in let was = grows.plotted.tops r inside in omega (arith, now, was))
+        (λ (same : region ≡ r). let now : new_top r ≡ at + words = updated_same top region (at + words) r same in omega (arith, now))
+        (λ (other : region ≢ r). let now = updated_else top region (at + words) r other in let was = grows.plotted.tops r inside in omega (arith, now, was))
         (cases_eq region r);
     in_use = λ a b is. ⊎_elim
         (λ (new : (a ≡ address) × (hand seat words ≡ b)).
         subst (λ x. IsInUse c new_top a (words_of x)) new.1 (subst (λ k. IsInUse c new_top k words) (sym new.0) new_in_use))
         (λ (old : (a ≢ address) × (block a ≡ Some b)). in_use_again a b old.1)
-        (either a b is);
+        (piece_cases block address (hand seat words) a b is);
     apart = λ a b x y is_x is_y before. ⊎_elim
         (λ (new_a : (a ≡ address) × (hand seat words ≡ x)).
         let long : words ≡ words_of x = ap words_of new_a.1 in
         ⊎_elim
         (λ (new_b : (b ≡ address) × (hand seat words ≡ y)). let one = new_a.0 in let two = new_b.0 in omega (arith, before, one, two))
         (λ (old_b : (b ≢ address) × (block b ≡ Some y)). let one = new_a.0 in let far = new_before b y old_b.1 (omega (arith, one, before)) in omega (arith, far, long, one))
-        (either b y is_y))
+        (piece_cases block address (hand seat words) b y is_y))
         (λ (old_a : (a ≢ address) × (block a ≡ Some x)). ⊎_elim
         (λ (new_b : (b ≡ address) × (hand seat words ≡ y)). let two = new_b.0 in let far = old_before a x old_a.1 (omega (arith, two, before)) in omega (arith, far, two))
         (λ (old_b : (b ≢ address) × (block b ≡ Some y)). grows.plotted.apart a b x y old_a.1 old_b.1 before)
-        (either b y is_y))
-        (either a x is_x);
+        (piece_cases block address (hand seat words) b y is_y))
+        (piece_cases block address (hand seat words) a x is_x);
   }
 
+  -- where a piece stood, one stands
   some_piece : (a : ℕ) → (b : Block) × (block a ≡ Some b) → (b : Block) × (new_block a ≡ Some b)
   some_piece a piece = (piece.0, stays a piece.0 piece.1)
 
@@ -119,30 +115,31 @@ module _ (c : Config) (top current : ℕ → ℕ) (block : Plot) (region at word
       ⊎_elim
       (λ (before : a + words_of x < address). some_piece (a + words_of x) (filled.next region a x grows.within from is (omega (arith, before, grows.top_is))))
       (λ (least : address ≤ a + words_of x).
-      (hand seat words, ap new_block {x = a + words_of x} {y = address} (omega (arith, where_is, long, least, below, grows.top_is, grows.room, from)) ∙ piece_at block address (hand seat words)))
+      (hand seat words, ap new_block {x = a + words_of x} {y = address} (omega (arith, where_is, long, least, below, grows.top_is, grows.room, from)) ∙ updated_there block address (Some (hand seat words))))
       (cases_lt (a + words_of x) address)
 
+  -- they fill the part in use
   pub filled_more : IsFilled c top block → IsFilled c new_top new_block
   filled_more filled = record {
     first = λ r inside used. ⊎_elim
         (λ (same : region ≡ r).
         subst (λ k. (b : Block) × (new_block (base_of c k) ≡ Some b)) same
         (⊎_elim
-        (λ (empty : at ≡ 0). (hand seat words, ap new_block {x = base_of c region} {y = address} (omega (arith, empty)) ∙ piece_at block address (hand seat words)))
+        (λ (empty : at ≡ 0). (hand seat words, ap new_block {x = base_of c region} {y = address} (omega (arith, empty)) ∙ updated_there block address (Some (hand seat words))))
         (λ (full : at ≢ 0). some_piece (base_of c region) (filled.first region grows.within (omega (arith, full, grows.top_is))))
         (cases_eq at 0)))
-        (λ (other : region ≢ r). let now = top_else top region (at + words) r other in some_piece (base_of c r) (filled.first r inside (omega (arith, now, used))))
+        (λ (other : region ≢ r). let now = updated_else top region (at + words) r other in some_piece (base_of c r) (filled.first r inside (omega (arith, now, used))))
         (cases_eq region r);
     next = λ r a x inside from is below. ⊎_elim
         (λ (same : region ≡ r).
-        let now : new_top r ≡ at + words = cond-true (region == r) _ _ (eq-eqb region r same) in
+        let now : new_top r ≡ at + words = updated_same top region (at + words) r same in
         let base : base_of c region ≡ base_of c r = ap (base_of c) same in
         ⊎_elim
         (λ (new : (a ≡ address) × (hand seat words ≡ x)). let one = new.0 in let long : words ≡ words_of x = ap words_of new.1 in absurd (omega (arith, below, now, base, one, long)))
         (λ (old : (a ≢ address) × (block a ≡ Some x)). next_here a x filled (omega (arith, from, base)) old.1 (omega (arith, below, now, base)))
-        (either a x is))
+        (piece_cases block address (hand seat words) a x is))
         (λ (other : region ≢ r).
-        let now = top_else top region (at + words) r other in
+        let now = updated_else top region (at + words) r other in
         ⊎_elim
         (λ (new : (a ≡ address) × (hand seat words ≡ x)).
         let one = new.0 in
@@ -152,31 +149,32 @@ module _ (c : Config) (top current : ℕ → ℕ) (block : Plot) (region at word
         (λ (least : region ≤ r). let far = behind c region r (omega (arith, least, other)) in omega (arith, from, one, far, grows.room, grows.some))
         (cases_lt r region)))
         (λ (old : (a ≢ address) × (block a ≡ Some x)). some_piece (a + words_of x) (filled.next r a x inside from old.1 (omega (arith, below, now))))
-        (either a x is))
+        (piece_cases block address (hand seat words) a x is))
         (cases_eq region r);
   }
 
   -- an object of the new plot is an old one
-  pub old_thing : (a refs nums : ℕ) (name : Name) → new_block a ≡ Some (thing name refs nums) → block a ≡ Some (thing name refs nums)
+  old_thing : (a refs nums : ℕ) (name : Name) → new_block a ≡ Some (thing name refs nums) → block a ≡ Some (thing name refs nums)
   old_thing a refs nums name is = ⊎_elim
       (λ (new : (a ≡ address) × (hand seat words ≡ thing name refs nums)). let differ = new.1 in cc)
       (λ (old : (a ≢ address) × (block a ≡ Some (thing name refs nums))). old.1)
-      (either a (thing name refs nums) is)
+      (piece_cases block address (hand seat words) a (thing name refs nums) is)
 
   -- room in the hand of another seat is old
   pub old_hand : (a other more : ℕ) → other ≢ seat → new_block a ≡ Some (hand other more) → block a ≡ Some (hand other more)
   old_hand a other more differs is = ⊎_elim
       (λ (new : (a ≡ address) × (hand seat words ≡ hand other more)). let same = new.1 in let seats : other ≡ seat = cc in absurd (differs seats))
       (λ (old : (a ≢ address) × (block a ≡ Some (hand other more))). old.1)
-      (either a (hand other more) is)
+      (piece_cases block address (hand seat words) a (hand other more) is)
 
   -- room in the seat's own hand is the new piece, where it had none
   pub own_hand : ((a more : ℕ) → block a ≡ Some (hand seat more) → ⊥) → (a more : ℕ) → new_block a ≡ Some (hand seat more) → (a ≡ address) × (more ≡ words)
   own_hand none a more is = ⊎_elim
       (λ (new : (a ≡ address) × (hand seat words ≡ hand seat more)). let same = new.1 in let sizes : more ≡ words = cc in (new.0, sizes))
       (λ (old : (a ≢ address) × (block a ≡ Some (hand seat more))). absurd (none a more old.1))
-      (either a (hand seat more) is)
+      (piece_cases block address (hand seat words) a (hand seat more) is)
 
+  -- the words are those of the graph's objects
   pub objects_more : (heap : ℕ → ℕ) (object : Name → Option Object) → AreObjects heap block object → AreObjects heap new_block object
   objects_more heap object objects = record {
     each = λ a refs nums name is.
@@ -192,10 +190,11 @@ module _ (c : Config) (top current : ℕ → ℕ) (block : Plot) (region at word
   free_more free owner own free_word = record {
     no_more = free_word.no_more;
     empty = λ r inside bit.
-        top_else top region (at + words) r (λ same. none-some seat (sym (free_word.nobodys r inside bit) ∙ ap owner (sym same) ∙ own)) ∙ free_word.empty r inside bit;
+        updated_else top region (at + words) r (λ same. none-some seat (sym (free_word.nobodys r inside bit) ∙ ap owner (sym same) ∙ own)) ∙ free_word.empty r inside bit;
     nobodys = free_word.nobodys;
   }
 
+  -- rooms in hand are as they should be
   pub rooms_more : (owner : ℕ → Option ℕ) → seat < c.mutators → current seat ≡ region + 1 → AreCurrent c current owner → ((a more : ℕ) → block a ≡ Some (hand seat more) → ⊥) → AreRooms c new_top current new_block
   rooms_more owner mutator is_current currents none a other more is = ⊎_elim
       (λ (new : (a ≡ address) × (hand seat words ≡ hand other more)).
@@ -204,7 +203,7 @@ module _ (c : Config) (top current : ℕ → ℕ) (block : Plot) (region at word
       let sizes : words ≡ more = cc in
       subst (λ s. IsRoom c new_top current a s more) seats
       (subst (λ w. IsRoom c new_top current a seat w) sizes
-      (record { mutator = mutator; some = grows.some; region = region; is_current = is_current; from_base = (let one = new.0 in omega (arith, one)); at_top = (let now = top_at top region (at + words) in let one = new.0 in omega (arith, now, one)) })))
+      (record { mutator = mutator; some = grows.some; region = region; is_current = is_current; from_base = (let one = new.0 in omega (arith, one)); at_top = (let now = updated_there top region (at + words) in let one = new.0 in omega (arith, now, one)) })))
       (λ (old : (a ≢ address) × (block a ≡ Some (hand other more))).
       let is_room = grows.rooms a other more old.1 in
       let differs : region ≢ is_room.region = λ same.
@@ -217,6 +216,6 @@ module _ (c : Config) (top current : ℕ → ℕ) (block : Plot) (region at word
         region = is_room.region;
         is_current = is_room.is_current;
         from_base = is_room.from_base;
-        at_top = is_room.at_top ∙ ap (λ t. base_of c is_room.region + t) (sym (top_else top region (at + words) is_room.region differs));
+        at_top = is_room.at_top ∙ ap (λ t. base_of c is_room.region + t) (sym (updated_else top region (at + words) is_room.region differs));
       })
-      (either a (hand other more) is)
+      (piece_cases block address (hand seat words) a (hand other more) is)

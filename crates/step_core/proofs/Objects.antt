@@ -1,7 +1,7 @@
 -- A word of an object changes, and the graph's object with it.
 use Rattle.std.proofs.Common.{◌≡◌, ◌≢◌, ℕ, ◌+◌, ◌<◌, ◌≤◌, false, List, length, Option, Some, ⊎_elim, refl, sym, ap, ◌∙◌, arith}
-use Rattle.std.specs.Prelude.{◌==◌, if◌then◌else◌, slice_get, slice_set}
-use Rattle.std.proofs.lemmas.Bool.{cases_Bool, cases_eq, cond-true, cond-false, eq-eqb, ne_eqb}
+use Rattle.std.specs.Prelude.{if◌then◌else◌, slice_get, slice_set}
+use Rattle.std.proofs.lemmas.Bool.{cases_Bool, cases_eq, cond-true, cond-false}
 use Rattle.std.proofs.lemmas.List.{length-set}
 use Rattle.std.proofs.lemmas.Option.{same_Some, slice_get_within, slice_get-get_or}
 use Rattle.heap_words.specs.declared.config.Config.{Config}
@@ -12,7 +12,9 @@ use Rattle.shen_graph.specs.Graph.{Reference, Object, Graph, same_name}
 use Rattle.shen_graph.proofs.PlainLemmas.{same_name-true, same_name-itself}
 use Rattle.step_core.specs.World.{World, thing, hand, Plot, Points, Target, IsPlotted, IsObject, AreObjects, Shared}
 use Rattle.step_core.specs.Stepped.{Rely}
+use Rattle.step_core.proofs.Updates.{updated, updated_same, updated_else}
 use Rattle.step_core.proofs.Apart.{one_piece}
+use Rattle.step_core.proofs.Pieces.{object_reads}
 
 -- an element that was set
 get_set_same : {X : Type 0} (xs : List X) (i : ℕ) (x : X) → i < length xs → slice_get (slice_set xs i x) i ≡ Some x
@@ -22,38 +24,12 @@ get_set_same xs i x below = slice_get-set_same xs i _ x (slice_get-get_or xs i x
 pub two_names : (a b : Name) → a ≢ b → same_name a b ≡ false
 two_names a b other = ⊎_elim (λ is. absurd (other (same_name-true a b is))) (λ is. is) (cases_Bool (same_name a b))
 
--- a heap in which one word is another
-abbrev pub stored_word : (ℕ → ℕ) → ℕ → ℕ → ℕ → ℕ
-stored_word heap at value a = if at == a then value else heap a
-
--- what it has at that word, and at another
-pub new_word : (heap : ℕ → ℕ) (at value a : ℕ) → a ≡ at → stored_word heap at value a ≡ value
-new_word heap at value a is = cond-true (at == a) value (heap a) (eq-eqb at a (sym is))
-
-pub old_word : (heap : ℕ → ℕ) (at value a : ℕ) → a ≢ at → stored_word heap at value a ≡ heap a
-old_word heap at value a other = cond-false (at == a) value (heap a) (ne_eqb at a (λ same. other (sym same)))
-
--- an object reads as before where its words are as before
-pub object_kept : (heap after : ℕ → ℕ) (block : Plot) (a refs nums : ℕ) (name : Name) (o : Object)
-    → ((at : ℕ) → a ≤ at → at < a + (3 + refs + nums) → after at ≡ heap at) → IsObject heap block a refs nums name o → IsObject after block a refs nums name o
-object_kept heap after block a refs nums name o kept is = record {
-  header = kept a (omega arith) (omega arith) ∙ is.header;
-  shape = kept (a + 1) (omega arith) (omega arith) ∙ is.shape;
-  name_word = kept (a + 2) (omega arith) (omega arith) ∙ is.name_word;
-  few_refs = is.few_refs;
-  few_nums = is.few_nums;
-  refs_are = is.refs_are;
-  nums_are = is.nums_are;
-  references = λ i r here. rw (kept (a + 3 + i) (omega arith) (omega (arith, is.refs_are, slice_get_within o.refs i r here))) (is.references i r here);
-  numbers = λ i n here. kept (a + 3 + refs + i) (omega arith) (omega (arith, is.nums_are, slice_get_within o.nums i n here)) ∙ is.numbers i n here;
-}
-
 module _ (heap : ℕ → ℕ) (block : Plot) (a refs nums : ℕ) (name : Name) (o : Object) (is : IsObject heap block a refs nums name o) where
   -- a reference field of an object is another
   pub field_stored : (field value : ℕ) (r : Reference) → field < refs → Points block value r
-      → IsObject (stored_word heap (a + 3 + field) value) block a refs nums name (record { refs = slice_set o.refs field r; nums = o.nums })
+      → IsObject (updated heap (a + 3 + field) value) block a refs nums name (record { refs = slice_set o.refs field r; nums = o.nums })
   field_stored field value r below points =
-      let old : (at : ℕ) → at ≢ a + 3 + field → stored_word heap (a + 3 + field) value at ≡ heap at = old_word heap (a + 3 + field) value in
+      let old : (at : ℕ) → a + 3 + field ≢ at → updated heap (a + 3 + field) value at ≡ heap at = updated_else heap (a + 3 + field) value in
       record {
         header = old a (omega arith) ∙ is.header;
         shape = old (a + 1) (omega arith) ∙ is.shape;
@@ -64,12 +40,12 @@ module _ (heap : ℕ → ℕ) (block : Plot) (a refs nums : ℕ) (name : Name) (
         nums_are = is.nums_are;
         references = λ i q here. ⊎_elim
             (λ same.
-            let word_is : stored_word heap (a + 3 + field) value (a + 3 + i) ≡ value = new_word heap (a + 3 + field) value (a + 3 + i) (omega (arith, same)) in
+            let word_is : updated heap (a + 3 + field) value (a + 3 + i) ≡ value = updated_same heap (a + 3 + field) value (a + 3 + i) (omega (arith, same)) in
             let is_here : slice_get (slice_set o.refs field r) i ≡ Some r = ap (λ j. slice_get (slice_set o.refs field r) j) same ∙ get_set_same o.refs field r (omega (arith, is.refs_are)) in
             let reference_is : q ≡ r = same_Some q r (sym here ∙ is_here) in
             rw (word_is, reference_is) points)
             (λ other.
-            let word_is : stored_word heap (a + 3 + field) value (a + 3 + i) ≡ heap (a + 3 + i) = old (a + 3 + i) (λ same. other (omega arith)) in
+            let word_is : updated heap (a + 3 + field) value (a + 3 + i) ≡ heap (a + 3 + i) = old (a + 3 + i) (λ same. other (omega arith)) in
             rw word_is (is.references i q (sym (slice_get-set_other o.refs field i r other) ∙ here)))
             (cases_eq i field);
         numbers = λ i n here. old (a + 3 + refs + i) (omega arith) ∙ is.numbers i n here;
@@ -77,9 +53,9 @@ module _ (heap : ℕ → ℕ) (block : Plot) (a refs nums : ℕ) (name : Name) (
 
   -- a number of an object is another
   pub number_stored : (index value : ℕ) → index < nums
-      → IsObject (stored_word heap (a + 3 + refs + index) value) block a refs nums name (record { refs = o.refs; nums = slice_set o.nums index value })
+      → IsObject (updated heap (a + 3 + refs + index) value) block a refs nums name (record { refs = o.refs; nums = slice_set o.nums index value })
   number_stored index value below =
-      let old : (at : ℕ) → at ≢ a + 3 + refs + index → stored_word heap (a + 3 + refs + index) value at ≡ heap at = old_word heap (a + 3 + refs + index) value in
+      let old : (at : ℕ) → a + 3 + refs + index ≢ at → updated heap (a + 3 + refs + index) value at ≡ heap at = updated_else heap (a + 3 + refs + index) value in
       record {
         header = old a (omega arith) ∙ is.header;
         shape = old (a + 1) (omega arith) ∙ is.shape;
@@ -89,12 +65,12 @@ module _ (heap : ℕ → ℕ) (block : Plot) (a refs nums : ℕ) (name : Name) (
         refs_are = is.refs_are;
         nums_are = length-set o.nums index value ∙ is.nums_are;
         references = λ i q here.
-            let word_is : stored_word heap (a + 3 + refs + index) value (a + 3 + i) ≡ heap (a + 3 + i) = old (a + 3 + i) (omega (arith, is.refs_are, slice_get_within o.refs i q here)) in
+            let word_is : updated heap (a + 3 + refs + index) value (a + 3 + i) ≡ heap (a + 3 + i) = old (a + 3 + i) (omega (arith, is.refs_are, slice_get_within o.refs i q here)) in
             rw word_is (is.references i q here);
         numbers = λ i n here. ⊎_elim
             (λ same.
             let is_here : slice_get (slice_set o.nums index value) i ≡ Some value = ap (λ j. slice_get (slice_set o.nums index value) j) same ∙ get_set_same o.nums index value (omega (arith, is.nums_are)) in
-            new_word heap (a + 3 + refs + index) value (a + 3 + refs + i) (omega (arith, same)) ∙ same_Some value n (sym is_here ∙ here))
+            updated_same heap (a + 3 + refs + index) value (a + 3 + refs + i) (omega (arith, same)) ∙ same_Some value n (sym is_here ∙ here))
             (λ other. old (a + 3 + refs + i) (λ same. other (omega arith)) ∙ is.numbers i n (sym (slice_get-set_other o.nums index i value other) ∙ here))
             (cases_eq i index);
       }
@@ -104,7 +80,7 @@ abbrev pub where_object : (Name → Option Object) → Name → Object → Name 
 where_object object name o n = if same_name n name then Some o else object n
 
 -- there is an object of a name afterwards only if there was one before, for the one that changes is one of them
-pub object_before : (object : Name → Option Object) (name : Name) (before o : Object) → object name ≡ Some before → (n : Name) (x : Object) → where_object object name o n ≡ Some x
+object_before : (object : Name → Option Object) (name : Name) (before o : Object) → object name ≡ Some before → (n : Name) (x : Object) → where_object object name o n ≡ Some x
     → (y : Object) × (object n ≡ Some y)
 object_before object name before o was n x is = ⊎_elim
     (λ same. (before, ap object (same_name-true n name same) ∙ was))
@@ -113,8 +89,9 @@ object_before object name before o was n x is = ⊎_elim
 
 -- One word of an object is another: the graph's object is the one that its words say, and all others are as before.
 module _ (c : Config) (top heap : ℕ → ℕ) (block : Plot) (object : Name → Option Object) (plotted : IsPlotted c top block) (are : AreObjects heap block object) where
-  pub objects_stored : (a refs nums at value : ℕ) (name : Name) (o : Object) → block a ≡ Some (thing name refs nums) → a ≤ at → at < a + (3 + refs + nums)
-      → IsObject (stored_word heap at value) block a refs nums name o → AreObjects (stored_word heap at value) block (where_object object name o)
+  -- the objects after a word of one of them changed
+  objects_stored : (a refs nums at value : ℕ) (name : Name) (o : Object) → block a ≡ Some (thing name refs nums) → a ≤ at → at < a + (3 + refs + nums)
+      → IsObject (updated heap at value) block a refs nums name o → AreObjects (updated heap at value) block (where_object object name o)
   objects_stored a refs nums at value name o piece from_start to_end is = record {
     each = λ b more_refs more_nums n there. ⊎_elim
         (λ same.
@@ -128,9 +105,9 @@ module _ (c : Config) (top heap : ℕ → ℕ) (block : Plot) (object : Name →
         let other_name : n ≢ name = λ same. other (are.once b a more_refs more_nums refs nums name (there ∙ ap (λ m. Some (thing m more_refs more_nums)) same) piece) in (
           before.0,
           cond-false (same_name n name) (Some o) (object n) (two_names n name other_name) ∙ before.1,
-          object_kept heap (stored_word heap at value) block b more_refs more_nums n before.0
-              (λ word low high. old_word heap at value word (λ same. other (one_piece c top block plotted b a word (thing n more_refs more_nums) (thing name refs nums) there piece low high (omega arith) (omega arith))))
-              before.2,
+          object_reads heap (updated heap at value) block block b more_refs more_nums n before.0
+              (λ k below. updated_else heap at value (b + k) (λ same. other (one_piece c top block plotted b a (b + k) (thing n more_refs more_nums) (thing name refs nums) there piece (omega arith) (omega arith) (omega arith) (omega arith))))
+              (λ x m e. e) before.2,
         ))
         (cases_eq b a);
     all = λ n x there. are.all n (object_before object name (are.each a refs nums name piece).0 o (are.each a refs nums name piece).1 n x there).0
@@ -148,7 +125,7 @@ changed g name o root = record { object = where_object g.object name o; root = r
 
 module _ (c : Config) (u : World) (a refs nums at value : ℕ) (name : Name) (o : Object) (root : ℕ → ℕ → Reference) (shared : Shared c u) (piece : Target u.block a name refs nums) where
   -- what machines share, after a word of an object and the graph's object have changed
-  pub shared_stored : a ≤ at → at < a + (3 + refs + nums) → IsObject (stored_word (λ b. u.memory (Heap b)) at value) u.block a refs nums name o
+  pub shared_stored : a ≤ at → at < a + (3 + refs + nums) → IsObject (updated (λ b. u.memory (Heap b)) at value) u.block a refs nums name o
       → Shared c (stored u at value (changed u.graph name o root))
   shared_stored from_start to_end is = record {
     plotted = shared.plotted;
@@ -173,7 +150,7 @@ module _ (c : Config) (u : World) (a refs nums at value : ℕ) (name : Name) (o 
     things = λ b more_refs more_nums n is. is;
     hands = λ b words is. is;
     no_hands = λ b words is. is;
-    hand_words = λ b words k is below. old_word (λ b. u.memory (Heap b)) at value (b + k) (λ same.
+    hand_words = λ b words k is below. updated_else (λ b. u.memory (Heap b)) at value (b + k) (λ same.
         let same_piece : b ≡ a = one_piece c (λ r. u.memory (Top r)) u.block shared.plotted b a (b + k) (hand seat words) (thing name refs nums) is piece (omega arith) (omega arith) (omega arith) (omega arith) in
         let both : Some (hand seat words) ≡ Some (thing name refs nums) = sym is ∙ ap u.block same_piece ∙ piece in
         cc);

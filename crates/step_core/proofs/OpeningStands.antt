@@ -12,10 +12,11 @@ use Rattle.std.proofs.Common.{add-zero}
 use Rattle.step_core.specs.Opening.{stored, rooted, first_free, opening_words}
 
 -- a number stored at a word, by names
-pub view-stored : (c : Config) (word : Word) (value : ℕ) (words : List ℕ) (m : Word → ℕ) → IsWord c word → length words ≡ table_words c → view c words ≡ m → view c (stored c word value words) ≡ write m word value
+view-stored : (c : Config) (word : Word) (value : ℕ) (words : List ℕ) (m : Word → ℕ) → IsWord c word → length words ≡ table_words c → view c words ≡ m → view c (stored c word value words) ≡ write m word value
 view-stored c word value words m is long before = view_set_all c words word value long is ∙ ap (λ f. write f word value) before
 
-pub length-stored : (c : Config) (word : Word) (value : ℕ) (words : List ℕ) → length words ≡ table_words c → length (stored c word value words) ≡ table_words c
+-- a store keeps the size of the table
+length-stored : (c : Config) (word : Word) (value : ℕ) (words : List ℕ) → length words ≡ table_words c → length (stored c word value words) ≡ table_words c
 length-stored c word value words long = length-set words _ _ ∙ long
 
 -- the memory after the roots of so many mutators
@@ -23,11 +24,13 @@ abbrev pub rooted_memory : Config → ℕ → Word → ℕ
 rooted_memory c zero = λ w. 0
 rooted_memory c (suc t) = write (rooted_memory c t) (Root t 0) c.region_words
 
-pub length-rooted : (c : Config) (t : ℕ) (words : List ℕ) → length words ≡ table_words c → length (rooted c t words) ≡ table_words c
+-- so do the stores into roots
+length-rooted : (c : Config) (t : ℕ) (words : List ℕ) → length words ≡ table_words c → length (rooted c t words) ≡ table_words c
 length-rooted c zero words long = long
 length-rooted c (suc t) words long = length-stored c (Root t 0) c.region_words (rooted c t words) (length-rooted c t words long)
 
-pub view-none : (c : Config) → view c (replicate (table_words c) 0) ≡ (λ w. 0)
+-- a table of zeros, by names
+view-none : (c : Config) → view c (replicate (table_words c) 0) ≡ (λ w. 0)
 view-none c = fun_ext (λ w. zero_word w)
   where
     zero_word : (w : Word) → view c (replicate (table_words c) 0) w ≡ 0
@@ -36,7 +39,8 @@ view-none c = fun_ext (λ w. zero_word w)
         (λ (no : is_word c w ≡ false). rw no refl)
         (cases_Bool (is_word c w))
 
-pub view-rooted : (c : Config) (t : ℕ) → t ≤ c.mutators → view c (rooted c t (replicate (table_words c) 0)) ≡ rooted_memory c t
+-- the table after the roots, by names
+view-rooted : (c : Config) (t : ℕ) → t ≤ c.mutators → view c (rooted c t (replicate (table_words c) 0)) ≡ rooted_memory c t
 view-rooted c zero within = view-none c
 view-rooted c (suc t) within =
     view-stored c (Root t 0) c.region_words (rooted c t (replicate (table_words c) 0)) (rooted_memory c t) (omega arith, omega arith)
@@ -49,10 +53,11 @@ first_memory c =
     (Heap (c.region_words + 1)) 69632) (Heap (c.region_words + 2)) 1
 
 -- an address of the hub is one of the heap
-pub in_heap : (c : Config) (k : ℕ) → k < 64 → IsWord c (Heap (c.region_words + k))
+in_heap : (c : Config) (k : ℕ) → k < 64 → IsWord c (Heap (c.region_words + k))
 in_heap c k small =
     (omega arith, (let two : 2 * c.region_words ≤ (c.regions + 1) * c.region_words = mul-le-mul_right c.region_words (omega (arith, c.in_range.least_regions)) in omega (arith, c.in_range.least_words)))
 
+-- the table of the opening, by names
 pub view-opening : (c : Config) → view c (opening_words c) ≡ first_memory c
 view-opening c =
     let n0 = length-rooted c c.mutators (replicate (table_words c) 0) (length-replicate (table_words c) 0) in
@@ -70,6 +75,7 @@ view-opening c =
     (view-stored c Left c.mutators _ _ tt n0
     (view-rooted c c.mutators (omega arith)))))))
 
+-- the size of the table of the opening
 pub length-opening : (c : Config) → length (opening_words c) ≡ table_words c
 length-opening c =
     length-stored c (Heap (c.region_words + 2)) 1 _ (length-stored c (Heap (c.region_words + 1)) 69632 _ (length-stored c (Heap c.region_words) 1 _

@@ -1,14 +1,14 @@
 -- Where pieces lie, and the plot with one piece more or another.
-use Rattle.std.proofs.Common.{◌≡◌, ◌≢◌, ℕ, ◌+◌, ◌*◌, ◌<◌, ◌≤◌, ◌⊎◌, length, Some, inl, inr, ⊎_elim, refl, sym, ap, ◌∙◌, subst, arith}
-use Rattle.std.specs.Prelude.{◌==◌, if◌then◌else◌}
-use Rattle.std.proofs.lemmas.Bool.{cases_eq, cases_lt, cond-true, cond-false, eq-eqb, ne_eqb}
-use Rattle.std.proofs.lemmas.Option.{slice_get_within}
+use Rattle.std.proofs.Common.{◌≡◌, ◌≢◌, ℕ, ◌+◌, ◌*◌, ◌<◌, ◌≤◌, ◌⊎◌, length, Some, inl, inr, ⊎_elim, sym, ap, ◌∙◌, subst, arith}
+use Rattle.std.proofs.lemmas.Bool.{cases_eq, cases_lt}
+use Rattle.std.proofs.lemmas.Option.{same_Some, slice_get_within}
 use Rattle.std.proofs.Math.Nat.{mul-le-mul_right}
 use Rattle.heap_words.specs.declared.config.Config.{Config}
 use Rattle.regions.specs.Place.{base_of}
 use Rattle.shen_graph.specs.declared.name.Name.{Name}
 use Rattle.shen_graph.specs.Graph.{Object}
 use Rattle.step_core.specs.World.{Block, thing, hand, words_of, Plot, name_at, Points, IsPlotted, IsObject, AreRooms}
+use Rattle.step_core.proofs.Updates.{updated, updated_same, updated_else}
 use Rattle.step_core.proofs.Stable.{points_stay}
 
 -- one region lies behind another
@@ -23,10 +23,11 @@ three_words c top current block rooms a (thing name refs nums) is = omega arith
 three_words c top current block rooms a (hand seat words) is = (rooms a seat words is).some
 
 -- A piece ends before a region, or lies in its part in use, or begins behind it.
-abbrev pub Beside : Config → (ℕ → ℕ) → ℕ → ℕ → Block → Type 0
+abbrev Beside : Config → (ℕ → ℕ) → ℕ → ℕ → Block → Type 0
 Beside c top r a b =
     (a + words_of b ≤ base_of c r) ⊎ (((base_of c r ≤ a) × (a + words_of b ≤ base_of c r + top r)) ⊎ (base_of c r + c.region_words ≤ a))
 
+-- a piece lies beside a region so, or in it
 pub beside : (c : Config) (top : ℕ → ℕ) (block : Plot) → IsPlotted c top block → (r a : ℕ) (b : Block) → block a ≡ Some b → Beside c top r a b
 beside c top block plotted r a b is =
     let used = plotted.in_use a b is in
@@ -39,23 +40,12 @@ beside c top block plotted r a b is =
     (cases_eq r used.region))
     (cases_lt used.region r)
 
--- the plot with a piece at an address
-abbrev pub with_piece : Plot → ℕ → Block → Plot
-with_piece block at new a = if a == at then Some new else block a
-
-module _ (block : Plot) (at : ℕ) (new : Block) where
-  pub piece_at : with_piece block at new at ≡ Some new
-  piece_at = cond-true (at == at) _ _ (eq-eqb at at refl)
-
-  pub piece_else : (a : ℕ) → a ≢ at → with_piece block at new a ≡ block a
-  piece_else a other = cond-false (a == at) _ _ (ne_eqb a at other)
-
-  -- a piece of it is the new one or an old one
-  pub piece_cases : (a : ℕ) (b : Block) → with_piece block at new a ≡ Some b → ((a ≡ at) × (Some new ≡ Some b)) ⊎ ((a ≢ at) × (block a ≡ Some b))
-  piece_cases a b is = ⊎_elim
-      (λ (same : a ≡ at). inl (same, sym piece_at ∙ ap (λ k. with_piece block at new k) (sym same) ∙ is))
-      (λ (other : a ≢ at). inr (other, sym (piece_else a other) ∙ is))
-      (cases_eq a at)
+-- with a new piece at an address, a piece is the new one or an old one
+pub piece_cases : (block : Plot) (at : ℕ) (new : Block) (a : ℕ) (b : Block) → updated block at (Some new) a ≡ Some b → ((a ≡ at) × (new ≡ b)) ⊎ ((a ≢ at) × (block a ≡ Some b))
+piece_cases block at new a b is = ⊎_elim
+    (λ (same : a ≡ at). inl (same, same_Some new b (sym (updated_same block at (Some new) a (sym same)) ∙ is)))
+    (λ (other : a ≢ at). inr (other, sym (updated_else block at (Some new) a (λ e. other (sym e))) ∙ is))
+    (cases_eq a at)
 
 -- an object reads as before where its words are as before and objects stand where they stood
 pub object_reads : (heap after : ℕ → ℕ) (block more : Plot) (a refs nums : ℕ) (name : Name) (o : Object)

@@ -17,7 +17,8 @@ use Rattle.step_core.proofs.Stores.{at_store_field, at_swap_field, at_exchange_f
 use Rattle.step_core.proofs.Takes.{at_taking}
 use Rattle.step_core.proofs.Fresh.{at_store_word, at_store_fresh}
 
-pub each_place : (c : Config) (u : World) (seat made phase cset : ℕ) (command : Command) (fixed : Option Reply) (order : Order) (spot : Spot) → Row c u (record { seat = seat; made = made; phase = phase; cset = cset; spot = spot }) command order fixed
+-- by the spot
+each_place : (c : Config) (u : World) (seat made phase cset : ℕ) (command : Command) (fixed : Option Reply) (order : Order) (spot : Spot) → Row c u (record { seat = seat; made = made; phase = phase; cset = cset; spot = spot }) command order fixed
 each_place c u seat made phase cset command fixed order Rest = at_rest c u seat made phase cset command fixed order
 each_place c u seat made phase cset command fixed order (Ended r) = at_ended c u seat made phase cset command fixed r order
 each_place c u seat made phase cset command fixed order (LoadSet k) = at_load_set c u seat made phase cset command fixed k order

@@ -25,6 +25,7 @@ module _ (c : Config) (top : ℕ → ℕ) (block : Plot) (plotted : IsPlotted c 
       let high : (used.region + 1 + 1) * c.region_words ≤ (c.regions + 1) * c.region_words = mul-le-mul_right c.region_words (omega (arith, used.within)) in
       (omega (arith, low, used.from_base), omega (arith, high, most, used.to_top))
 
+  -- each word of a piece is a word of the heap
   pub piece_word : (a k : ℕ) (b : Block) → block a ≡ Some b → k < words_of b → is_word c (Heap (a + k)) ≡ true
   piece_word a k b is below =
       let inside = piece_inside a b is in
@@ -33,7 +34,7 @@ module _ (c : Config) (top : ℕ → ℕ) (block : Plot) (plotted : IsPlotted c 
       grind (arith, nat_tests)
 
   -- no piece is at 0
-  pub none_at_0 : (b : Block) → block 0 ≡ Some b → ⊥
+  none_at_0 : (b : Block) → block 0 ≡ Some b → ⊥
   none_at_0 b is = let inside = piece_inside 0 b is in let long = c.in_range.least_words in omega (arith, inside.0, long)
 
   -- a word that stands for null is 0, and 0 stands for nothing else
@@ -43,16 +44,20 @@ module _ (c : Config) (top : ℕ → ℕ) (block : Plot) (plotted : IsPlotted c 
       let piece = named_thing (block 0) n (ap (λ a. name_at (block a)) (sym is) ∙ points) in
       absurd (none_at_0 (thing n piece.0 piece.1) piece.2)
 
+  -- a word that is not 0 stands for a name
   pub named_if_not_0 : (word : ℕ) (r : Reference) → Points block word r → word ≢ 0 → (n : Name) × (r ≡ Some n) × (name_at (block word) ≡ Some n)
   named_if_not_0 word None points other = absurd (other points)
   named_if_not_0 word (Some n) points other = (n, refl, points)
 
-  -- a word that stands for a reference is a word of 64 bits
-  pub points_small : (word : ℕ) (r : Reference) → Points block word r → word < 2097152
-  points_small word None points = omega (arith, points)
-  points_small word (Some n) points =
-      let piece = named_thing (block word) n points in
-      let inside = piece_inside word (thing n piece.0 piece.1) piece.2 in
+  -- the address of a piece is small
+  pub piece_small : (a : ℕ) (b : Block) → block a ≡ Some b → a < 2097152
+  piece_small a b is =
+      let inside = piece_inside a b is in
       let most : (c.regions + 1) * c.region_words ≤ (64 + 1) * c.region_words = mul-le-mul_right c.region_words (let few = c.in_range.most_regions in omega (arith, few)) in
       let long = c.in_range.most_words in
       omega (arith, inside.1, most, long)
+
+  -- and so is a word that stands for a reference
+  pub points_small : (word : ℕ) (r : Reference) → Points block word r → word < 2097152
+  points_small word None points = omega (arith, points)
+  points_small word (Some n) points = let piece = named_thing (block word) n points in piece_small word (thing n piece.0 piece.1) piece.2

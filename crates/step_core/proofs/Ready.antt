@@ -1,36 +1,57 @@
--- The accesses that make a new object can be made.
-use Rattle.std.proofs.Common.{◌≡◌, ℕ, ◌+◌, ◌*◌, ◌<◌, ◌≤◌, true, Option, Some, arith}
-use Rattle.std.specs.Prelude.{◌^◌}
+-- Accesses that can be made.
+use Rattle.std.proofs.Common.{◌≡◌, ℕ, ◌+◌, ◌<◌, ◌≤◌, Bool, true, Option, Some, refl, arith}
+use Rattle.std.specs.Prelude.{◌&&◌, ◌^◌}
 use Rattle.std.proofs.lemmas.Bool.{and_from, lt-ltb, le-leb}
 use Rattle.std.proofs.lemmas.Bool.Decides.{nat_tests}
-use Rattle.std.proofs.Math.Nat.{mul-le-mul_right}
 use Rattle.heap_words.specs.declared.config.Config.{Config}
-use Rattle.steps_base.specs.Fits.{touch_fits}
+use Rattle.heap_words.specs.Words.{Root}
+use Rattle.steps_base.specs.Fits.{touch_fits, is_number}
 use Rattle.shen_graph.specs.declared.command.Command.{Command}
 use Rattle.shen_graph.specs.declared.command.Reply.{Reply}
 use Rattle.alloc_buffers.specs.declared.spot.TakeSpot.{TakeSpot}
 use Rattle.alloc_buffers.specs.Rows as takes
-use Rattle.mutator.specs.declared.spot.Spot.TheVariants.{Taking, StoreWord, StoreFresh}
+use Rattle.mutator.specs.declared.spot.Spot.TheVariants.{Taking, StoreWord, StoreFresh, Leave}
 use Rattle.mutator.specs.Rows.{fresh_word}
 use Rattle.mutator.specs.Fit.{is_ready, is_next_object, is_going}
-use Rattle.step_core.specs.World.{hand, Plot, IsPlotted}
-use Rattle.step_core.specs.Stepped.{IsMaking}
-use Rattle.step_core.proofs.Pointing.{piece_inside, piece_word}
+use Rattle.step_core.specs.World.{World, hand, Plot, Points, IsPlotted}
+use Rattle.step_core.specs.Stepped.{IsMaking, Mine}
+use Rattle.step_core.proofs.Spots.{mutator_at}
+use Rattle.step_core.proofs.Pointing.{piece_word, piece_small}
+
+-- an access can be made whose word is one of the table and whose number is a word
+pub ready_of : (b d : Bool) → b ≡ true → d ≡ true → ((b && d) && true) ≡ true
+ready_of b d is_b is_d = rw (is_b, is_d) refl
+
+-- a small number is one that a word holds
+pub number_small : (n : ℕ) → n < 2097152 → is_number n ≡ true
+number_small n small = lt-ltb n (2 ^ 64) (omega arith)
+
+-- a mutator can always leave
+leave_ready : (c : Config) (seat made : ℕ) (reply : Reply) → seat < c.mutators → is_ready c seat made (Leave reply) ≡ true
+leave_ready c seat made reply below = grind (arith, nat_tests)
+
+-- with its reply settled, a mutator has only to leave
+pub leaving : (c : Config) (w : World) (seat made phase cset : ℕ) (command : Command) (r : Reply) → seat < c.mutators → w.graph.count (seat + 1) ≡ made
+    → ((i : ℕ) → i < 16 → Points w.block (w.memory (Root seat i)) (w.graph.root (seat + 1) i)) → ((a words : ℕ) → w.block a ≡ Some (hand seat words) → ⊥)
+    → Mine c w (mutator_at seat made phase cset (Leave r)) command (Some r)
+leaving c w seat made phase cset command r below count roots hands = record { seat = below; ready = leave_ready c seat made r below; made = count; roots = roots; hands = hands; facts = refl }
 
 -- the words of a new object are words of 64 bits
-pub fresh_small : (seat made refs nums k : ℕ) → seat < 8 → made < 4294967295 → refs ≤ 16 → nums ≤ 16 → fresh_word seat made refs nums k < 2 ^ 64
+fresh_small : (seat made refs nums k : ℕ) → seat < 8 → made < 4294967295 → refs ≤ 16 → nums ≤ 16 → fresh_word seat made refs nums k < 2 ^ 64
 fresh_small seat made refs nums k few_seats few_made few_refs few_nums = grind (arith, nat_tests)
 
 module _ (c : Config) (seat made : ℕ) (command : Command) (fixed : Option Reply) (dst refs nums : ℕ) (making : IsMaking made command fixed dst refs nums) where
   -- the object can be made
-  pub object_fits : is_next_object made refs nums ≡ true
+  object_fits : is_next_object made refs nums ≡ true
   object_fits = and_from _ _ (lt-ltb _ _ making.few) (and_from _ _ (le-leb _ _ making.few_refs) (le-leb _ _ making.few_nums))
 
+  -- the accesses of a taking can be made
   pub taking_ready : (take : TakeSpot) → touch_fits c (takes.touch_at seat (3 + refs + nums) take) ≡ true → is_going take ≡ true → takes.numbers_fit c (3 + refs + nums) take ≡ true
       → is_ready c seat made (Taking dst refs nums take) ≡ true
   taking_ready take fits going numbers = and_from _ _ fits (and_from _ _ object_fits (and_from _ _ going numbers))
 
   module _ (top : ℕ → ℕ) (block : Plot) (plotted : IsPlotted c top block) (address : ℕ) (room : block address ≡ Some (hand seat (3 + refs + nums))) (mutator : seat < c.mutators) where
+    -- the words of the object can be stored
     pub word_ready : (k : ℕ) → k < 3 + refs + nums → is_ready c seat made (StoreWord dst refs nums address k) ≡ true
     word_ready k below =
         let few : seat < 8 = (let most = c.in_range.most_mutators in omega (arith, mutator, most)) in
@@ -40,15 +61,9 @@ module _ (c : Config) (seat made : ℕ) (command : Command) (fixed : Option Repl
         (lt-ltb _ _ (fresh_small seat made refs nums k few making.few making.few_refs making.few_nums)))
         (and_from _ _ object_fits (lt-ltb _ _ below))
 
-    address_small : address < 2 ^ 64
-    address_small =
-        let inside = piece_inside c top block plotted address (hand seat (3 + refs + nums)) room in
-        let most : (c.regions + 1) * c.region_words ≤ (64 + 1) * c.region_words = mul-le-mul_right c.region_words (let few = c.in_range.most_regions in omega (arith, few)) in
-        let long = c.in_range.most_words in
-        omega (arith, inside.1, most, long)
-
+    -- its address can be stored into a root
     pub fresh_ready : is_ready c seat made (StoreFresh dst refs nums address) ≡ true
     fresh_ready =
         and_from _ _
-        (and_from _ _ (and_from _ _ (lt-ltb _ _ mutator) (lt-ltb _ _ making.small)) (lt-ltb _ _ address_small))
+        (and_from _ _ (and_from _ _ (lt-ltb _ _ mutator) (lt-ltb _ _ making.small)) (number_small address (piece_small c top block plotted address (hand seat (3 + refs + nums)) room)))
         object_fits

@@ -1,6 +1,6 @@
 -- The steps that store a reference into a root.
-use Rattle.std.proofs.Common.{◌≡◌, ℕ, ◌+◌, ⊎_elim, Option, None, refl, sym, ap, ◌∙◌, subst, arith}
-use Rattle.std.specs.Prelude.{◌==◌, if◌then◌else◌}
+use Rattle.std.proofs.Common.{◌≡◌, ℕ, ◌+◌, ◌<◌, ⊎_elim, Option, None, refl, sym, ap, ◌∙◌, subst, arith}
+use Rattle.std.specs.Prelude.{◌==◌, ◌&&◌, if◌then◌else◌}
 use Rattle.std.proofs.lemmas.Bool.{eq-eqb}
 use Rattle.std.proofs.lemmas.Bool.Decides.{nat_tests}
 use Rattle.heap_words.specs.declared.config.Config.{Config}
@@ -16,23 +16,32 @@ use Rattle.mutator.specs.declared.spot.Spot.TheVariants.{StoreLoaded, StoreRoot}
 use Rattle.mutator.specs.declared.spot.Order.{Order}
 use Rattle.mutator.specs.declared.spot.Order.TheVariants.{Nothing, Begin}
 use Rattle.mutator.specs.Rows.{Mutating, touch_of}
-use Rattle.step_core.specs.World.{World, Points, Shared}
+use Rattle.step_core.specs.World.{World, Plot, Points, Shared}
 use Rattle.step_core.specs.Stepped.{Mine, Stepped, Row}
 use Rattle.step_core.proofs.Spots.{mutator_at, accessed}
 use Rattle.step_core.proofs.Settling.{legal_answer, graph_answer}
-use Rattle.step_core.proofs.Calls.{leave_ready}
+use Rattle.step_core.proofs.Ready.{leaving}
 use Rattle.step_core.proofs.Loading.{roots_then}
 
 -- a mutator's roots, after a number was stored into one of them
-pub root_written : (memory : Word → ℕ) (seat dst value i : ℕ) → (if i == dst then value else memory (Root seat i)) ≡ write memory (Root seat dst) value (Root seat i)
+root_written : (memory : Word → ℕ) (seat dst value i : ℕ) → (if i == dst then value else memory (Root seat i)) ≡ write memory (Root seat dst) value (Root seat i)
 root_written memory seat dst value i =
     let turned : (dst == i) ≡ (i == dst) = grind (arith, nat_tests) in
     rw (eq-eqb seat seat refl, turned) refl
+
+-- Words that stand for a mutator's roots do so after a reference was stored into one of them.
+pub roots_written : (block : Plot) (memory : Word → ℕ) (root : ℕ → ℕ → Reference) (seat dst value : ℕ) (v : Reference)
+    → ((i : ℕ) → i < 16 → Points block (memory (Root seat i)) (root (seat + 1) i)) → Points block value v → (i : ℕ) → i < 16
+    → Points block (write memory (Root seat dst) value (Root seat i)) (if ((seat + 1) == (seat + 1)) && (i == dst) then v else root (seat + 1) i)
+roots_written block memory root seat dst value v roots stands i below =
+    subst (λ word. Points block word (if ((seat + 1) == (seat + 1)) && (i == dst) then v else root (seat + 1) i)) (root_written memory seat dst value i)
+    (roots_then block (λ k. memory (Root seat k)) root (seat + 1) dst value v roots stands i below)
 
 module _ (c : Config) (u : World) (seat made phase cset : ℕ) (command : Command) (fixed : Option Reply) where
   abbrev at_spot : Spot → Mutating
   at_spot spot = mutator_at seat made phase cset spot
 
+  -- the store of a loaded reference, which is settled, into a root
   pub at_store_loaded : (dst value : ℕ) (r : Reply) (order : Order) → Row c u (at_spot (StoreLoaded dst value r)) command order fixed
   at_store_loaded dst value r (Begin l) shared mine takes = cc
   at_store_loaded dst value r Nothing shared mine takes = record {
@@ -42,14 +51,10 @@ module _ (c : Config) (u : World) (seat made phase cset : ℕ) (command : Comman
     legal = tt;
     settles = λ q e. cc;
     shared = shared;
-    mine = record {
-      seat = mine.seat;
-      ready = leave_ready c seat made r mine.seat;
-      made = mine.made;
-      roots = λ i below. subst (λ word. Points u.block word (u.graph.root (seat + 1) i)) (root_written u.memory seat dst value i) (mine.roots i below);
-      hands = mine.hands;
-      facts = mine.facts.0;
-    };
+    mine =
+        rw mine.facts.0
+        (leaving c _ seat made phase cset command r mine.seat mine.made
+        (λ i below. subst (λ word. Points u.block word (u.graph.root (seat + 1) i)) (root_written u.memory seat dst value i) (mine.roots i below)) mine.hands);
     others = λ j d. search (arith, nat_tests);
   }
 
@@ -64,19 +69,11 @@ module _ (c : Config) (u : World) (seat made phase cset : ℕ) (command : Comman
     legal = legal_answer u.graph seat command reply.Ok refl (ap (λ o. o.reply) is);
     settles = λ r e. (mine.facts.0, refl);
     shared = shared;
-    mine = record {
-      seat = mine.seat;
-      ready = leave_ready c seat made reply.Ok mine.seat;
-      made = mine.made;
-      roots = λ i below.
-          subst (λ word. Points u.block word ((with_root u.graph (seat + 1) dst v).root (seat + 1) i)) (root_written u.memory seat dst value i)
-          (roots_then u.block (λ k. u.memory (Root seat k)) u.graph.root (seat + 1) dst value v mine.roots stands i below);
-      hands = mine.hands;
-      facts = refl;
-    };
+    mine = leaving c _ seat made phase cset command reply.Ok mine.seat mine.made (roots_written u.block u.memory u.graph.root seat dst value v mine.roots stands) mine.hands;
     others = λ j d. search (arith, nat_tests);
   }
 
+  -- the store of a reference into a root settles Ok
   pub at_store_root : (dst value : ℕ) (order : Order) → Row c u (at_spot (StoreRoot dst value)) command order fixed
   at_store_root dst value (Begin l) shared mine takes = cc
   at_store_root dst value Nothing shared mine takes = ⊎_elim

@@ -10,6 +10,7 @@ use Rattle.step_core.specs.Regions.{AreSharedOut}
 use Rattle.step_core.proofs.Pieces.{behind, three_words, beside}
 
 module _ (c : Config) (w : World) (shared : Shared c w) where
+  -- no two seats have one current region
   same_seat : (r seat other : ℕ) → w.memory (Current seat) ≡ r + 1 → w.memory (Current other) ≡ r + 1 → seat ≡ other
   same_seat r seat other one two = same_Some seat other (sym (shared.currents.own seat r one) ∙ shared.currents.own other r two)
 
@@ -50,6 +51,7 @@ module _ (c : Config) (w : World) (shared : Shared c w) where
       order)
       (cases_order a b)
 
+  -- a region has one room in hand
   once : (r a b seat other words more : ℕ) → IsOf c r a → IsOf c r b → w.block a ≡ Some (hand seat words) → w.block b ≡ Some (hand other more) → a ≡ b
   once r a b seat other words more of_a of_b is_a is_b = ⊎_elim
       (λ same. same)
@@ -62,6 +64,7 @@ module _ (c : Config) (w : World) (shared : Shared c w) where
       absurd (omega (arith, one, two, some, some_more)))
       (cases_order a b)
 
+  -- so are the regions shared out
   pub shared_out : AreSharedOut c w
   shared_out = record {
     one_seat = same_seat;

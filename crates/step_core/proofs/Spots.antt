@@ -6,8 +6,10 @@ use Rattle.mutator.specs.declared.spot.Spot.{Spot}
 use Rattle.mutator.specs.Rows.{Mutating, touch_of}
 use Rattle.step_core.specs.World.{World}
 
+-- a mutator at a spot
 abbrev pub mutator_at : ℕ → ℕ → ℕ → ℕ → Spot → Mutating
 mutator_at seat made phase cset spot = record { seat = seat; made = made; phase = phase; cset = cset; spot = spot }
 
+-- the world after its access
 abbrev pub accessed : Config → World → Mutating → World
 accessed c u m = record { memory = touched u.memory (touch_of c m); block = u.block; owner = u.owner; graph = u.graph }

@@ -14,21 +14,26 @@ use Rattle.mutator.specs.Rows.{Mutating, root_of}
 use Rattle.step_core.specs.World.{World, Plot, Points, name_at, Shared}
 use Rattle.step_core.specs.Stepped.{HasRoot, HasObject, HasFirst, IsGet, IsSet, IsCas, IsXchg, IsRd, IsWr, IsFound, IsCopy, HasLess, TakeFacts, IsFilling, SpotFacts, root_now, Mine, Rely}
 
+-- a word stands for what it stood for where names stay
 pub points_stay : (u w : Plot) → ((a : ℕ) (name : Name) → name_at (u a) ≡ Some name → name_at (w a) ≡ Some name) → (word : ℕ) (reference : Reference) → Points u word reference → Points w word reference
 points_stay u w names word None is = is
 points_stay u w names word (Some name) is = names word name is
 
 module _ (c : Config) (u w : World) (seat : ℕ) (rely : Rely seat u w) where
-  pub root_stays : (word index : ℕ) → Points u.block word (u.graph.root (seat + 1) index) → Points w.block word (w.graph.root (seat + 1) index)
+  -- so it does for a root
+  root_stays : (word index : ℕ) → Points u.block word (u.graph.root (seat + 1) index) → Points w.block word (w.graph.root (seat + 1) index)
   root_stays word index is = rw (rely.roots index) (points_stay u.block w.block rely.names word _ is)
 
+  -- so does the word of a root that was loaded
   loaded_stays : (k : Command) (i word : ℕ) → HasRoot u seat k i word → HasRoot w seat k i word
   loaded_stays k i word has below = root_stays word (root_of k i) (has below)
 
+  -- and that of the first one
   first_stays : (k : Command) (first : ℕ) → HasFirst u seat k first → HasFirst w seat k first
   first_stays k first has = record { some = has.some; first_is = loaded_stays k 0 first has.first_is; not_null = has.not_null }
 
-  abbrev pub object_stays : (root object : ℕ) → HasObject u seat root object → HasObject w seat root object
+  -- an object in hand stays
+  abbrev object_stays : (root object : ℕ) → HasObject u seat root object → HasObject w seat root object
   object_stays root object has = record {
     name = has.name;
     refs = has.refs;
@@ -37,11 +42,13 @@ module _ (c : Config) (u w : World) (seat : ℕ) (rely : Rely seat u w) where
     target = rely.things object has.refs has.nums has.name has.target;
   }
 
+  -- that there was less room stays
   less_stays : (words : ℕ) → ((r : ℕ) → u.memory (Current seat) ≡ r + 1 → u.owner r ≡ Some seat) → HasLess c u seat words → HasLess c w seat words
   less_stays words own less r is =
       let is_now : u.memory (Current seat) ≡ r + 1 = sym rely.current ∙ is in
       rw (rely.tops r (own r is_now)) (less r is_now)
 
+  -- what a taking of room counts on stays
   take_stays : (words : ℕ) → ((r : ℕ) → u.memory (Current seat) ≡ r + 1 → u.owner r ≡ Some seat) → (take : TakeSpot) → TakeFacts c u seat words take → TakeFacts c w seat words take
   take_stays words own take_spot.LoadCurrent facts = tt
   take_stays words own (take_spot.LoadTop region) facts = rely.current ∙ facts
@@ -56,6 +63,7 @@ module _ (c : Config) (u w : World) (seat : ℕ) (rely : Rely seat u w) where
   }
   take_stays words own (take_spot.Ended taken) facts = facts
 
+  -- the words of a new object stay
   filling_stays : (made refs nums address done : ℕ) → IsFilling u seat made refs nums address done → IsFilling w seat made refs nums address done
   filling_stays made refs nums address done facts = record {
     room = rely.hands address (3 + refs + nums) facts.room;
@@ -63,9 +71,11 @@ module _ (c : Config) (u w : World) (seat : ℕ) (rely : Rely seat u w) where
     stored = λ k below. rely.hand_words address (3 + refs + nums) k facts.room (let within = facts.within in omega arith) ∙ facts.stored k below;
   }
 
+  -- what a Get counts on stays
   get_stays : (command : Command) (object field dst : ℕ) → IsGet u seat command object field dst → IsGet w seat command object field dst
   get_stays command object field dst is = record { src = is.src; is = is.is; small = is.small; of = object_stays is.src object is.of; below = is.below }
 
+  -- what a Set counts on stays
   set_stays : (command : Command) (object field value : ℕ) → IsSet u seat command object field value → IsSet w seat command object field value
   set_stays command object field value is = record {
     obj = is.obj;
@@ -76,6 +86,7 @@ module _ (c : Config) (u w : World) (seat : ℕ) (rely : Rely seat u w) where
     value_is = root_stays value is.val is.value_is;
   }
 
+  -- what a Cas counts on stays
   cas_stays : (command : Command) (object field expect value : ℕ) → IsCas u seat command object field expect value → IsCas w seat command object field expect value
   cas_stays command object field expect value is = record {
     obj = is.obj;
@@ -88,6 +99,7 @@ module _ (c : Config) (u w : World) (seat : ℕ) (rely : Rely seat u w) where
     value_is = root_stays value is.val is.value_is;
   }
 
+  -- what an Xchg counts on stays
   xchg_stays : (command : Command) (object field value dst : ℕ) → IsXchg u seat command object field value dst → IsXchg w seat command object field value dst
   xchg_stays command object field value dst is = record {
     obj = is.obj;
@@ -99,19 +111,24 @@ module _ (c : Config) (u w : World) (seat : ℕ) (rely : Rely seat u w) where
     value_is = root_stays value is.val is.value_is;
   }
 
+  -- what an Rd counts on stays
   rd_stays : (command : Command) (object refs index : ℕ) → IsRd u seat command object refs index → IsRd w seat command object refs index
   rd_stays command object refs index is = record { obj = is.obj; is = is.is; of = object_stays is.obj object is.of; refs_are = is.refs_are; below = is.below }
 
+  -- what a Wr counts on stays
   wr_stays : (command : Command) (object refs index value : ℕ) → IsWr u seat command object refs index value → IsWr w seat command object refs index value
   wr_stays command object refs index value is = record { obj = is.obj; is = is.is; of = object_stays is.obj object is.of; refs_are = is.refs_are; below = is.below }
 
+  -- a reference that was found stays
   found_stays : (fixed : Option Reply) (value dst : ℕ) → IsFound u fixed value dst → IsFound w fixed value dst
   found_stays fixed value dst is = record { name = is.name; settled = is.settled; is = rely.names value is.name is.is; small = is.small }
 
+  -- what a Copy counts on stays
   copy_stays : (command : Command) (dst value : ℕ) → IsCopy u seat command dst value → IsCopy w seat command dst value
   copy_stays command dst value is = record { src = is.src; is = is.is; value_is = root_stays value is.src is.value_is }
 
-  pub facts_stay : (made : ℕ) (command : Command) (fixed : Option Reply) → ((r : ℕ) → u.memory (Current seat) ≡ r + 1 → u.owner r ≡ Some seat) → (spot : Spot) → SpotFacts c u seat made command fixed spot → SpotFacts c w seat made command fixed spot
+  -- what a mutator counts on at its spot stays
+  facts_stay : (made : ℕ) (command : Command) (fixed : Option Reply) → ((r : ℕ) → u.memory (Current seat) ≡ r + 1 → u.owner r ≡ Some seat) → (spot : Spot) → SpotFacts c u seat made command fixed spot → SpotFacts c w seat made command fixed spot
   facts_stay made command fixed own Rest facts = facts
   facts_stay made command fixed own (Ended reply) facts = facts
   facts_stay made command fixed own (LoadSet k) facts = facts
@@ -145,6 +162,7 @@ module _ (c : Config) (u w : World) (seat : ℕ) (rely : Rely seat u w) where
   now_stays (StoreLoaded dst value reply) index = rw (rely.root_words index) refl
   now_stays _ index = rely.root_words index
 
+-- all that it knows stays
 pub mine_stays : (c : Config) (u w : World) (m : Mutating) (command : Command) (fixed : Option Reply) → Shared c u → Rely m.seat u w → Mine c u m command fixed → Mine c w m command fixed
 mine_stays c u w m command fixed shared rely mine = record {
   seat = mine.seat;

@@ -15,16 +15,17 @@ use Rattle.shen_graph.specs.Graph.{Reference, Object, Graph, same_reference, fie
 use Rattle.shen_graph.specs.Step.{outcome, answers, shown}
 use Rattle.shen_graph.specs.History.{is_full}
 use Rattle.mutator.specs.declared.spot.Spot.{Spot}
-use Rattle.mutator.specs.declared.spot.Spot.TheVariants.{StoreField, SwapField, ExchangeField, StoreNumber, Leave}
+use Rattle.mutator.specs.declared.spot.Spot.TheVariants.{StoreField, SwapField, ExchangeField, StoreNumber}
 use Rattle.mutator.specs.declared.spot.Order.{Order}
 use Rattle.mutator.specs.declared.spot.Order.TheVariants.{Nothing, Begin}
 use Rattle.mutator.specs.Rows.{Mutating, touch_of, next_of, given_at}
 use Rattle.mutator.specs.Told.{told_of}
-use Rattle.step_core.specs.World.{World, hand, Points, Target, IsObject, Shared}
+use Rattle.step_core.specs.World.{World, Points, Target, IsObject, Shared}
 use Rattle.step_core.specs.Stepped.{HasObject, Mine, Stepped, Row}
-use Rattle.step_core.proofs.Calls.{leave_ready}
+use Rattle.step_core.proofs.Updates.{updated}
+use Rattle.step_core.proofs.Ready.{leaving}
 use Rattle.step_core.proofs.Naming.{object_in, field_in, number_in, same_words, shown_is}
-use Rattle.step_core.proofs.Objects.{stored_word, field_stored, number_stored, stored, changed, shared_stored, rely_stored}
+use Rattle.step_core.proofs.Objects.{field_stored, number_stored, stored, changed, shared_stored, rely_stored}
 use Rattle.step_core.proofs.Settling.{legal_answer, graph_answer}
 use Rattle.step_core.proofs.Spots.{mutator_at}
 use Rattle.step_core.proofs.InHand.{shown_not_full, field_mine}
@@ -34,24 +35,29 @@ use Rattle.step_core.proofs.Loading.{load_keeps, rely_same, roots_then}
 abbrev with_reference : Object → ℕ → Reference → Object
 with_reference o field r = record { refs = slice_set o.refs field r; nums = o.nums }
 
+-- and with another number
 abbrev with_value : Object → ℕ → ℕ → Object
 with_value o index n = record { refs = o.refs; nums = slice_set o.nums index n }
 
 -- what a command that stores into an object answers and makes of the graph, where its root names an object that has the
 -- field or the number
 module _ (g : Graph) (t obj : ℕ) (name : Name) (o : Object) (root_is : g.root t obj ≡ Some name) (object_is : g.object name ≡ Some o) where
+  -- of a Set
   set_outcome : (field val : ℕ) (v : Reference) → field_at g t obj field ≡ Some v
       → outcome g t (Set obj field val) ≡ answers reply.Ok (changed g name (with_reference o field (g.root t val)) g.root)
   set_outcome field val v is = rw (is, root_is, object_is) refl
 
+  -- of an Xchg
   xchg_outcome : (dst field val : ℕ) (v : Reference) → field_at g t obj field ≡ Some v
       → outcome g t (Xchg dst obj field val) ≡ answers (shown v) (with_root (changed g name (with_reference o field (g.root t val)) g.root) t dst v)
   xchg_outcome dst field val v is = rw (is, root_is, object_is) refl
 
+  -- of a Cas whose field has the expected reference
   cas_outcome : (field expect val : ℕ) (v : Reference) → field_at g t obj field ≡ Some v → same_reference v (g.root t expect) ≡ true
       → outcome g t (Cas obj field expect val) ≡ answers reply.Yes (changed g name (with_reference o field (g.root t val)) g.root)
   cas_outcome field expect val v is same = rw (is, same, root_is, object_is) refl
 
+  -- of a Wr
   wr_outcome : (index value n : ℕ) → number_at g t obj index ≡ Some n
       → outcome g t (Wr obj index value) ≡ answers reply.Ok (changed g name (with_value o index value) g.root)
   wr_outcome index value n is = rw (is, root_is, object_is) refl
@@ -59,9 +65,10 @@ module _ (g : Graph) (t obj : ℕ) (name : Name) (o : Object) (root_is : g.root 
 -- A step that stores into an object and settles a reply. The object of its name is another then, the one that its words
 -- say, and roots of the mutator may be others.
 module _ (c : Config) (u : World) (m : Mutating) (object refs nums at value : ℕ) (name : Name) (o : Object) (root : ℕ → ℕ → Reference) (command : Command) (fixed : Option Reply) (r : Reply) where
+  -- the step is as it should be
   store_settles : touched u.memory (touch_of c m) ≡ write u.memory (Heap at) value → told_of u.memory m ≡ Some r → given_at m.spot ≡ None → fixed ≡ None → is_full r ≡ false
       → Shared c u → Target u.block object name refs nums → object ≤ at → at < object + (3 + refs + nums)
-      → IsObject (stored_word (λ a. u.memory (Heap a)) at value) u.block object refs nums name o
+      → IsObject (updated (λ a. u.memory (Heap a)) at value) u.block object refs nums name o
       → outcome u.graph (m.seat + 1) command ≡ answers r (changed u.graph name o root)
       → ((seat i : ℕ) → seat ≢ m.seat → root (seat + 1) i ≡ u.graph.root (seat + 1) i)
       → Mine c (stored u at value (changed u.graph name o root)) (next_of c m Nothing (u.memory (touch_of c m).word)) command (Some r)
@@ -79,18 +86,23 @@ module _ (c : Config) (u : World) (m : Mutating) (object refs nums at value : �
 
 -- A step that makes a reference field of an object in hand that of a root of the mutator.
 module _ (c : Config) (u : World) (m : Mutating) (object field value obj val : ℕ) (shared : Shared c u) (of : HasObject u m.seat obj object) (below : field < of.refs) (value_is : Points u.block value (u.graph.root (m.seat + 1) val)) (root : ℕ → ℕ → Reference) where
+  -- the object after the store
   abbrev object_then : Object
   object_then = with_reference (object_in c u shared m.seat obj object of).0 field (u.graph.root (m.seat + 1) val)
 
+  -- the world after it
   abbrev world_then : World
   world_then = stored u (object + 3 + field) value (changed u.graph of.name object_then root)
 
-  object_stands : IsObject (stored_word (λ a. u.memory (Heap a)) (object + 3 + field) value) u.block object of.refs of.nums of.name object_then
+  -- the words are those of the object
+  object_stands : IsObject (updated (λ a. u.memory (Heap a)) (object + 3 + field) value) u.block object of.refs of.nums of.name object_then
   object_stands = field_stored (λ a. u.memory (Heap a)) u.block object of.refs of.nums of.name _ (object_in c u shared m.seat obj object of).2 field value (u.graph.root (m.seat + 1) val) below value_is
 
+  -- machines share what they should
   shared_then : Shared c world_then
   shared_then = shared_stored c u object of.refs of.nums (object + 3 + field) value of.name object_then root shared of.target (omega arith) (omega arith) object_stands
 
+  -- the step is as it should be
   field_settles : (command : Command) (fixed : Option Reply) (r : Reply)
       → touched u.memory (touch_of c m) ≡ write u.memory (Heap (object + 3 + field)) value → told_of u.memory m ≡ Some r → given_at m.spot ≡ None → fixed ≡ None → is_full r ≡ false
       → outcome u.graph (m.seat + 1) command ≡ answers r (changed u.graph of.name object_then root)
@@ -104,12 +116,7 @@ module _ (c : Config) (u : World) (seat made phase cset : ℕ) (command : Comman
   abbrev at_spot : Spot → Mutating
   at_spot spot = mutator_at seat made phase cset spot
 
-  -- after its reply a mutator has only to leave
-  leaving : (w : World) (r : Reply) → seat < c.mutators → w.graph.count (seat + 1) ≡ made
-      → ((i : ℕ) → i < 16 → Points w.block (w.memory (Root seat i)) (w.graph.root (seat + 1) i)) → ((a words : ℕ) → w.block a ≡ Some (hand seat words) → ⊥)
-      → Mine c w (at_spot (Leave r)) command (Some r)
-  leaving w r below is_made roots hands = record { seat = below; ready = leave_ready c seat made r below; made = is_made; roots = roots; hands = hands; facts = refl }
-
+  -- the store into a field settles Ok
   pub at_store_field : (object field value : ℕ) (order : Order) → Row c u (at_spot (StoreField object field value)) command order fixed
   at_store_field object field value (Begin l) shared mine takes = cc
   at_store_field object field value Nothing shared mine takes =
@@ -119,8 +126,9 @@ module _ (c : Config) (u : World) (seat made phase cset : ℕ) (command : Comman
       let answered = set_outcome u.graph (seat + 1) is.obj is.of.name o.0 is.of.root_is o.1 field is.val v.0 v.1 in
       field_settles c u (at_spot (StoreField object field value)) object field value is.obj is.val shared is.of is.below is.value_is u.graph.root command fixed reply.Ok
       refl refl refl mine.facts.0 refl (ap (λ k. outcome u.graph (seat + 1) k) is.is ∙ answered) (λ j i d. refl)
-      (leaving _ reply.Ok mine.seat mine.made mine.roots mine.hands)
+      (leaving c _ seat made phase cset command reply.Ok mine.seat mine.made mine.roots mine.hands)
 
+  -- the swap of a field settles the reference that it had
   pub at_swap_field : (object field value dst : ℕ) (order : Order) → Row c u (at_spot (SwapField object field value dst)) command order fixed
   at_swap_field object field value dst (Begin l) shared mine takes = cc
   at_swap_field object field value dst Nothing shared mine takes =
@@ -149,7 +157,7 @@ module _ (c : Config) (u : World) (seat made phase cset : ℕ) (command : Comman
       let answered = cas_outcome u.graph (seat + 1) is.obj is.of.name o.0 is.of.root_is o.1 field is.expected is.val v.0 v.1 references in
       field_settles c u (at_spot (ExchangeField object field found expect value)) object field value is.obj is.val shared is.of is.below is.value_is u.graph.root command fixed reply.Yes
       (rw same refl) (rw same refl) refl mine.facts.0 refl (ap (λ k. outcome u.graph (seat + 1) k) is.is ∙ answered) (λ j i d. refl)
-      (rw same (leaving _ reply.Yes mine.seat mine.made mine.roots mine.hands))
+      (rw same (leaving c _ seat made phase cset command reply.Yes mine.seat mine.made mine.roots mine.hands))
 
   -- it has another: nothing changes, and the field is loaded again
   exchange_again : (object field found expect value : ℕ) → (u.memory (Heap (object + 3 + field)) == found) ≡ false → Row c u (at_spot (ExchangeField object field found expect value)) command Nothing fixed
@@ -171,6 +179,7 @@ module _ (c : Config) (u : World) (seat made phase cset : ℕ) (command : Comman
     others = λ j d. rely_same j u;
   }
 
+  -- the exchange of a field settles Yes where it has the word that was found
   pub at_exchange_field : (object field found expect value : ℕ) (order : Order) → Row c u (at_spot (ExchangeField object field found expect value)) command order fixed
   at_exchange_field object field found expect value (Begin l) shared mine takes = cc
   at_exchange_field object field found expect value Nothing shared mine takes = ⊎_elim
@@ -178,6 +187,7 @@ module _ (c : Config) (u : World) (seat made phase cset : ℕ) (command : Comman
       (λ other. exchange_again object field found expect value other shared mine takes)
       (cases_Bool (u.memory (Heap (object + 3 + field)) == found))
 
+  -- the store of a number settles Ok
   pub at_store_number : (object refs index value : ℕ) (order : Order) → Row c u (at_spot (StoreNumber object refs index value)) command order fixed
   at_store_number object refs index value (Begin l) shared mine takes = cc
   at_store_number object refs index value Nothing shared mine takes =
@@ -188,6 +198,6 @@ module _ (c : Config) (u : World) (seat made phase cset : ℕ) (command : Comman
       let answered = wr_outcome u.graph (seat + 1) is.obj is.of.name o.0 is.of.root_is o.1 index value _ (number_in c u shared seat is.obj object index is.of is.below) in
       store_settles c u (at_spot (StoreNumber object refs index value)) object is.of.refs is.of.nums at value is.of.name (with_value o.0 index value) u.graph.root command fixed reply.Ok
       refl refl refl mine.facts.0 refl shared is.of.target (omega arith) (omega (arith, is.below, is.refs_are))
-      (subst (λ (x : ℕ). IsObject (stored_word (λ a. u.memory (Heap a)) (object + 3 + x + index) value) u.block object is.of.refs is.of.nums is.of.name (with_value o.0 index value)) (sym is.refs_are) stands)
+      (subst (λ (x : ℕ). IsObject (updated (λ a. u.memory (Heap a)) (object + 3 + x + index) value) u.block object is.of.refs is.of.nums is.of.name (with_value o.0 index value)) (sym is.refs_are) stands)
       (ap (λ k. outcome u.graph (seat + 1) k) is.is ∙ answered) (λ j i d. refl)
-      (leaving _ reply.Ok mine.seat mine.made mine.roots mine.hands)
+      (leaving c _ seat made phase cset command reply.Ok mine.seat mine.made mine.roots mine.hands)

@@ -1,6 +1,6 @@
 -- The steps that take room.
 use Rattle.std.proofs.Common.{◌≡◌, ◌≢◌, ℕ, ◌+◌, ◌-◌, ◌^◌, ◌<◌, ◌≤◌, true, false, Option, Some, None, ⊎_elim, refl, sym, ap, ◌∙◌, subst, arith}
-use Rattle.std.specs.Prelude.{◌==◌, if◌then◌else◌}
+use Rattle.std.specs.Prelude.{◌==◌}
 use Rattle.std.specs.Int.{bit_at}
 use Rattle.std.proofs.lemmas.Bool.{cases_eq, cases_Bool, cond-true, cond-false, eq-eqb, eqb-true, ne_eqb, and_from, lt-ltb, le-leb, leb-true, leb-false}
 use Rattle.std.proofs.lemmas.Bool.Decides.{nat_tests}
@@ -27,68 +27,34 @@ use Rattle.mutator.specs.Rows.{Mutating, touch_of, after_take, take_next}
 use Rattle.mutator.specs.Fit.{is_ready}
 use Rattle.step_core.specs.World.{World, Plot, Block, thing, hand, name_at, AreCurrent, AreRooms, Shared}
 use Rattle.step_core.specs.Stepped.{IsMaking, IsRoomy, TakeFacts, Mine, Rely, Row, Stepped}
+use Rattle.step_core.proofs.Updates.{updated, updated_same, updated_there, updated_else}
 use Rattle.step_core.proofs.Spots.{mutator_at, accessed}
 use Rattle.step_core.proofs.Stable.{points_stay}
-use Rattle.step_core.proofs.Pieces.{with_piece, piece_at}
-use Rattle.step_core.proofs.NewPiece.{CanGrow, names_stay, stays, old_hand, own_hand, plotted_more, filled_more, objects_more, free_more, rooms_more, top_else}
-use Rattle.step_core.proofs.FreeRegions.{lowest_within, with_owner, owner_at, owner_else, owner_stays, free_without, currents_stay}
+use Rattle.step_core.proofs.NewPiece.{CanGrow, names_stay, stays, old_hand, own_hand, plotted_more, filled_more, objects_more, free_more, rooms_more}
+use Rattle.step_core.proofs.FreeRegions.{lowest_within, owner_stays, free_without, currents_stay}
 use Rattle.step_core.proofs.Ready.{taking_ready, word_ready}
-
--- a load leaves the memory as it is
-loaded_current : (m : Word → ℕ) (s : ℕ) (q : Word) → m q ≡ touched m (touch (Current s) loads) q
-loaded_current m s (Current t) = ⊎_elim
-    (λ (same : s ≡ t). sym (cond-true (s == t) _ _ (eq-eqb s t same) ∙ ap (λ k. m (Current k)) same))
-    (λ (other : s ≢ t). sym (cond-false (s == t) _ _ (ne_eqb s t other)))
-    (cases_eq s t)
-loaded_current m s _ = refl
-
-loaded_top : (m : Word → ℕ) (r : ℕ) (q : Word) → m q ≡ touched m (touch (Top r) loads) q
-loaded_top m r (Top s) = ⊎_elim
-    (λ (same : r ≡ s). sym (cond-true (r == s) _ _ (eq-eqb r s same) ∙ ap (λ k. m (Top k)) same))
-    (λ (other : r ≢ s). sym (cond-false (r == s) _ _ (ne_eqb r s other)))
-    (cases_eq r s)
-loaded_top m r _ = refl
-
-loaded_free : (m : Word → ℕ) (q : Word) → m q ≡ touched m (touch Free loads) q
-loaded_free m Free = refl
-loaded_free m _ = refl
-
--- nothing changes
-rely_same : (j : ℕ) (u : World) → Rely j u u
-rely_same j u = record {
-  names = λ a n is. is;
-  things = λ a refs nums n is. is;
-  hands = λ a words is. is;
-  no_hands = λ a words is. is;
-  hand_words = λ a words k is below. refl;
-  current = refl;
-  owners = λ r is. is;
-  tops = λ r is. refl;
-  root_words = λ i. refl;
-  roots = λ i. refl;
-  count = refl;
-}
+use Rattle.step_core.proofs.Loading.{looks}
 
 -- the seat's current region is another, which is its own
 currents_with : (c : Config) (current : ℕ → ℕ) (owner : ℕ → Option ℕ) (seat region : ℕ) → region < c.regions → owner region ≡ Some seat → AreCurrent c current owner
-    → AreCurrent c (λ s. if seat == s then region + 1 else current s) owner
+    → AreCurrent c (updated current seat (region + 1)) owner
 currents_with c current owner seat region within own currents = record {
   within = λ s r is. ⊎_elim
-      (λ (same : seat ≡ s). (let now : region + 1 ≡ r + 1 = sym (cond-true (seat == s) _ _ (eq-eqb seat s same)) ∙ is in omega (arith, now, within)))
-      (λ (other : seat ≢ s). currents.within s r (sym (cond-false (seat == s) _ _ (ne_eqb seat s other)) ∙ is))
+      (λ (same : seat ≡ s). (let now : region + 1 ≡ r + 1 = sym (updated_same current seat (region + 1) s same) ∙ is in omega (arith, now, within)))
+      (λ (other : seat ≢ s). currents.within s r (sym (updated_else current seat (region + 1) s other) ∙ is))
       (cases_eq seat s);
   own = λ s r is. ⊎_elim
       (λ (same : seat ≡ s).
-      let now : region + 1 ≡ r + 1 = sym (cond-true (seat == s) _ _ (eq-eqb seat s same)) ∙ is in
+      let now : region + 1 ≡ r + 1 = sym (updated_same current seat (region + 1) s same) ∙ is in
       let region_is : r ≡ region = omega (arith, now) in
       ap owner region_is ∙ own ∙ ap (λ k. Some k) same)
-      (λ (other : seat ≢ s). currents.own s r (sym (cond-false (seat == s) _ _ (ne_eqb seat s other)) ∙ is))
+      (λ (other : seat ≢ s). currents.own s r (sym (updated_else current seat (region + 1) s other) ∙ is))
       (cases_eq seat s);
 }
 
 -- a seat with no room in hand may change its current region
 rooms_with : (c : Config) (top current : ℕ → ℕ) (block : Plot) (seat region : ℕ) → ((a words : ℕ) → block a ≡ Some (hand seat words) → ⊥) → AreRooms c top current block
-    → AreRooms c top (λ s. if seat == s then region + 1 else current s) block
+    → AreRooms c top (updated current seat (region + 1)) block
 rooms_with c top current block seat region none rooms a s words is =
     let is_room = rooms a s words is in
     let other : seat ≢ s = λ same. none a words (subst (λ k. block a ≡ Some (hand k words)) (sym same) is) in
@@ -96,7 +62,7 @@ rooms_with c top current block seat region none rooms a s words is =
       mutator = is_room.mutator;
       some = is_room.some;
       region = is_room.region;
-      is_current = cond-false (seat == s) _ _ (ne_eqb seat s other) ∙ is_room.is_current;
+      is_current = updated_else current seat (region + 1) s other ∙ is_room.is_current;
       from_base = is_room.from_base;
       at_top = is_room.at_top;
     }
@@ -106,6 +72,7 @@ module _ (c : Config) (u : World) (seat made phase cset : ℕ) (command : Comman
   at_spot spot = mutator_at seat made phase cset spot
 
   module _ (dst refs nums : ℕ) where
+    -- so many words
     abbrev words : ℕ
     words = 3 + refs + nums
 
@@ -124,46 +91,42 @@ module _ (c : Config) (u : World) (seat made phase cset : ℕ) (command : Comman
     }
 
     -- a load that leads to another spot of the taking
-    looked : (take next : TakeSpot) → Shared c u → Mine c u (at_spot (Taking dst refs nums take)) command fixed
-        → ((q : Word) → u.memory q ≡ touched u.memory (touch_of c (at_spot (Taking dst refs nums take))) q)
-        → after_take dst refs nums (take_next c refs nums take (u.memory (touch_of c (at_spot (Taking dst refs nums take))).word)) ≡ Taking dst refs nums next
+    looked : (take next : TakeSpot) (at : Word) → Shared c u → Mine c u (at_spot (Taking dst refs nums take)) command fixed
+        → touch_of c (at_spot (Taking dst refs nums take)) ≡ touch at loads
+        → after_take dst refs nums (take_next c refs nums take (u.memory at)) ≡ Taking dst refs nums next
         → is_ready c seat made (Taking dst refs nums next) ≡ true → TakeFacts c u seat words next
         → Stepped c u (at_spot (Taking dst refs nums take)) command Nothing fixed
-    looked take next shared mine kept leads ready facts = record {
-      world = u;
-      memory = λ i q. kept q i;
-      graph = refl;
-      legal = tt;
-      settles = λ r e. cc;
-      shared = shared;
-      mine = subst (λ s. Mine c u (at_spot s) command fixed) (sym leads) (mine_at take next u mine refl refl (λ i. refl) ready facts);
-      others = λ j d. rely_same j u;
-    }
+    looked take next at shared mine loaded leads ready facts =
+        looks c u (at_spot (Taking dst refs nums take)) at command fixed loaded refl refl shared
+        (subst (λ s. Mine c u (at_spot s) command fixed) (sym leads) (mine_at take next u mine refl refl (λ i. refl) ready facts))
 
     -- from anywhere it can look at its current region, and for free ones
     current_ready : IsMaking made command fixed dst refs nums → seat < c.mutators → is_ready c seat made (Taking dst refs nums LoadCurrent) ≡ true
     current_ready making mutator = taking_ready c seat made command fixed dst refs nums making LoadCurrent (and_from _ _ (lt-ltb _ _ (omega arith)) refl) refl refl
 
+    -- it can look for free regions
     free_ready : IsMaking made command fixed dst refs nums → is_ready c seat made (Taking dst refs nums LoadFree) ≡ true
     free_ready making = taking_ready c seat made command fixed dst refs nums making LoadFree refl refl refl
 
+    -- the load of the current region
     at_load_current : Shared c u → Mine c u (at_spot (Taking dst refs nums LoadCurrent)) command fixed → Stepped c u (at_spot (Taking dst refs nums LoadCurrent)) command Nothing fixed
     at_load_current shared mine =
         let got : ℕ = u.memory (Current seat) in
         ⊎_elim
         (λ (none : got ≡ 0).
-        looked LoadCurrent LoadFree shared mine (loaded_current u.memory seat)
+        looked LoadCurrent LoadFree (Current seat) shared mine refl
         (ap (after_take dst refs nums) (cond-true (got == 0) LoadFree (LoadTop (got - 1)) (eq-eqb got 0 none)))
         (free_ready mine.facts.0)
         (λ r is. absurd (omega (arith, none, is))))
         (λ (some : got ≢ 0).
         let is : got ≡ (got - 1) + 1 = omega (arith, some) in
-        looked LoadCurrent (LoadTop (got - 1)) shared mine (loaded_current u.memory seat)
+        looked LoadCurrent (LoadTop (got - 1)) (Current seat) shared mine refl
         (ap (after_take dst refs nums) (cond-false (got == 0) LoadFree (LoadTop (got - 1)) (ne_eqb got 0 some)))
         (taking_ready c seat made command fixed dst refs nums mine.facts.0 (LoadTop (got - 1)) (and_from _ _ (lt-ltb _ _ (shared.currents.within seat (got - 1) is)) refl) refl refl)
         is)
         (cases_eq got 0)
 
+    -- the load of its top: there is room, or it looks for free regions
     at_load_top : (region : ℕ) → Shared c u → Mine c u (at_spot (Taking dst refs nums (LoadTop region))) command fixed → Stepped c u (at_spot (Taking dst refs nums (LoadTop region))) command Nothing fixed
     at_load_top region shared mine =
         let got : ℕ = u.memory (Top region) in
@@ -171,31 +134,32 @@ module _ (c : Config) (u : World) (seat made phase cset : ℕ) (command : Comman
         ⊎_elim
         (λ (room : has_room c words got ≡ true).
         let most : got + words ≤ c.region_words = leb-true _ _ room in
-        looked (LoadTop region) (StoreTop region got) shared mine (loaded_top u.memory region)
+        looked (LoadTop region) (StoreTop region got) (Top region) shared mine refl
         (ap (after_take dst refs nums) (cond-true (has_room c words got) (StoreTop region got) LoadFree room))
         (taking_ready c seat made command fixed dst refs nums mine.facts.0 (StoreTop region got)
         (and_from _ _ (lt-ltb _ _ within) (lt-ltb _ _ (let long = c.in_range.most_words in omega (arith, most, long)))) refl room)
         (record { within = within; is_current = mine.facts.1; top_is = refl; room = most }))
         (λ (less : has_room c words got ≡ false).
         let most : c.region_words < got + words = leb-false _ _ less in
-        looked (LoadTop region) LoadFree shared mine (loaded_top u.memory region)
+        looked (LoadTop region) LoadFree (Top region) shared mine refl
         (ap (after_take dst refs nums) (cond-false (has_room c words got) (StoreTop region got) LoadFree less))
         (free_ready mine.facts.0)
         (λ r is. (let is_now = mine.facts.1 in let same : region ≡ r = omega (arith, is, is_now) in subst (λ k. c.region_words < u.memory (Top k) + words) same most)))
         (cases_Bool (has_room c words got))
 
+    -- the load of the free word: there is a free region, or it tries again
     at_load_free : Shared c u → Mine c u (at_spot (Taking dst refs nums LoadFree)) command fixed → Stepped c u (at_spot (Taking dst refs nums LoadFree)) command Nothing fixed
     at_load_free shared mine =
         let got : ℕ = u.memory Free in
         ⊎_elim
         (λ (none : has_none c Fresh got ≡ true).
-        looked LoadFree LoadCurrent shared mine (loaded_free u.memory)
+        looked LoadFree LoadCurrent Free shared mine refl
         (ap (after_take dst refs nums) (cond-true (has_none c Fresh got) (Ended NoRoom) (TakeRegion (lowest_in got)) none))
         (current_ready mine.facts.0 mine.seat)
         tt)
         (λ (some : has_none c Fresh got ≡ false).
         let within : lowest_in got < c.regions = lowest_within c got c.reserve shared.free_word.no_more (leb-false _ _ some) in
-        looked LoadFree (TakeRegion (lowest_in got)) shared mine (loaded_free u.memory)
+        looked LoadFree (TakeRegion (lowest_in got)) Free shared mine refl
         (ap (after_take dst refs nums) (cond-false (has_none c Fresh got) (Ended NoRoom) (TakeRegion (lowest_in got)) some))
         (taking_ready c seat made command fixed dst refs nums mine.facts.0 (TakeRegion (lowest_in got)) (lt-ltb _ _ (omega arith)) refl (lt-ltb _ _ within))
         (mine.facts.1, within))
@@ -206,7 +170,7 @@ module _ (c : Config) (u : World) (seat made phase cset : ℕ) (command : Comman
     taken_world region = record {
       memory = touched u.memory (touch_of c (at_spot (Taking dst refs nums (TakeRegion region))));
       block = u.block;
-      owner = with_owner u.owner region seat;
+      owner = updated u.owner region (Some seat);
       graph = u.graph;
     }
 
@@ -231,7 +195,7 @@ module _ (c : Config) (u : World) (seat made phase cset : ℕ) (command : Comman
             objects = shared.objects;
             given = shared.given;
             calm = shared.calm;
-            free_word = free_without c (u.memory Free) region (λ r. u.memory (Top r)) u.owner (with_owner u.owner region seat) within (owner_else u.owner region seat) shared.free_word;
+            free_word = free_without c (u.memory Free) region (λ r. u.memory (Top r)) u.owner (updated u.owner region (Some seat)) within (λ r differs. updated_else u.owner region (Some seat) r (λ e. differs (sym e))) shared.free_word;
             currents = currents_stay c (λ s. u.memory (Current s)) u.owner region seat nobodys shared.currents;
             rooms = shared.rooms;
             unasked = shared.unasked;
@@ -241,7 +205,7 @@ module _ (c : Config) (u : World) (seat made phase cset : ℕ) (command : Comman
               (mine_at (TakeRegion region) (StoreCurrent region) (taken_world region) mine refl refl (λ i. refl)
               (taking_ready c seat made command fixed dst refs nums mine.facts.0 (StoreCurrent region)
               (and_from _ _ (lt-ltb seat (seat_count c.mutators c.helpers) (omega (arith, mutator))) (lt-ltb (region + 1) (2 ^ 64) (omega (arith, within, few)))) refl (lt-ltb _ _ within))
-              (record { within = within; own = owner_at u.owner region seat; empty = shared.free_word.empty region within bit }));
+              (record { within = within; own = updated_there u.owner region (Some seat); empty = shared.free_word.empty region within bit }));
           others = λ j d. record {
             names = λ a n is. is;
             things = λ a more_refs more_nums n is. is;
@@ -283,9 +247,11 @@ module _ (c : Config) (u : World) (seat made phase cset : ℕ) (command : Comman
       others = λ j d. search (arith, nat_tests);
     }
 
+    -- the step that takes a region
     at_take_region : (region : ℕ) → Shared c u → Mine c u (at_spot (Taking dst refs nums (TakeRegion region))) command fixed → Stepped c u (at_spot (Taking dst refs nums (TakeRegion region))) command Nothing fixed
     at_take_region region shared mine = ⊎_elim (takes_it region shared mine) (looks_again region shared mine) (cases_Bool (bit_at (u.memory Free) region == 1))
 
+    -- the store of the seat's current region
     at_store_current : (region : ℕ) → Shared c u → Mine c u (at_spot (Taking dst refs nums (StoreCurrent region))) command fixed → Stepped c u (at_spot (Taking dst refs nums (StoreCurrent region))) command Nothing fixed
     at_store_current region shared mine =
         let making = mine.facts.0 in
@@ -329,6 +295,7 @@ module _ (c : Config) (u : World) (seat made phase cset : ℕ) (command : Comman
       abbrev currents : ℕ → ℕ
       currents s = u.memory (Current s)
 
+      -- where the room lies
       abbrev address : ℕ
       address = base_of c region + top
 
@@ -336,20 +303,24 @@ module _ (c : Config) (u : World) (seat made phase cset : ℕ) (command : Comman
       abbrev grown_world : World
       grown_world = record {
         memory = touched u.memory (touch_of c (at_spot (Taking dst refs nums (StoreTop region top))));
-        block = with_piece u.block address (hand seat words);
+        block = updated u.block address (Some (hand seat words));
         owner = u.owner;
         graph = u.graph;
       }
 
+      -- there is room above the top
       abbrev roomy : IsRoomy c u seat words region top
       roomy = mine.facts.1
 
+      -- the region is the seat's
       own : u.owner region ≡ Some seat
       own = shared.currents.own seat region roomy.is_current
 
+      -- the region has room
       grows : CanGrow c tops currents u.block region top words
       grows = record { plotted = shared.plotted; rooms = shared.rooms; within = roomy.within; top_is = roomy.top_is; room = roomy.room; some = omega arith }
 
+      -- machines share what they should
       shared_grown : Shared c grown_world
       shared_grown = record {
         plotted = plotted_more c tops currents u.block region top words seat grows;
@@ -363,15 +334,19 @@ module _ (c : Config) (u : World) (seat made phase cset : ℕ) (command : Comman
         unasked = shared.unasked;
       }
 
+      -- the room is in hand
       there : grown_world.block address ≡ Some (hand seat words)
-      there = piece_at u.block address (hand seat words)
+      there = updated_there u.block address (Some (hand seat words))
 
+      -- what a word stands for it still stands for
       names : (a : ℕ) (n : Name) → name_at (u.block a) ≡ Some n → name_at (grown_world.block a) ≡ Some n
       names = names_stay c tops currents u.block region top words seat grows
 
+      -- each piece stays
       stays_there : (a : ℕ) (b : Block) → u.block a ≡ Some b → grown_world.block a ≡ Some b
       stays_there = stays c tops currents u.block region top words seat grows
 
+      -- the mutator goes on with the first word
       mine_grown : Mine c grown_world (at_spot (StoreWord dst refs nums address 0)) command fixed
       mine_grown = record {
         seat = mine.seat;
@@ -382,6 +357,7 @@ module _ (c : Config) (u : World) (seat made phase cset : ℕ) (command : Comman
         facts = (mine.facts.0, record { room = there; within = omega arith; stored = λ k below. absurd (omega arith) }, omega arith);
       }
 
+      -- others can rely on what they knew
       others_grown : (j : ℕ) → j ≢ seat → Rely j u grown_world
       others_grown j differs = record {
         names = names;
@@ -391,12 +367,13 @@ module _ (c : Config) (u : World) (seat made phase cset : ℕ) (command : Comman
         hand_words = λ a more k is below. refl;
         current = refl;
         owners = λ r is. is;
-        tops = λ r is. top_else tops region (top + words) r (λ same. differs (same_Some j seat (sym is ∙ ap u.owner (sym same) ∙ own)));
+        tops = λ r is. updated_else tops region (top + words) r (λ same. differs (same_Some j seat (sym is ∙ ap u.owner (sym same) ∙ own)));
         root_words = λ i. refl;
         roots = λ i. refl;
         count = refl;
       }
 
+      -- the store of the top puts the words into hand
       at_store_top : Stepped c u (at_spot (Taking dst refs nums (StoreTop region top))) command Nothing fixed
       at_store_top = record {
         world = grown_world;
@@ -409,6 +386,7 @@ module _ (c : Config) (u : World) (seat made phase cset : ℕ) (command : Comman
         others = others_grown;
       }
 
+  -- the steps of a taking of room
   pub at_taking : (dst refs nums : ℕ) (take : TakeSpot) (order : Order) → Row c u (at_spot (Taking dst refs nums take)) command order fixed
   at_taking dst refs nums take (Begin l) shared mine takes = cc
   at_taking dst refs nums LoadCurrent Nothing shared mine takes = at_load_current dst refs nums shared mine

@@ -1,26 +1,24 @@
 -- The theorem over every list of events.
 use Rattle.std.proofs.Common.{◌≡◌, ℕ, ◌+◌, ◌<◌, inl, inr, List, [], ◌++◌, Option, Some, None, sym, ap, ◌∙◌, subst}
 use Rattle.std.specs.Prelude.{slice_get, slice_index}
+use Rattle.std.proofs.lemmas.Bool.{and_parts}
 use Rattle.heap_words.specs.declared.config.Config.{Config}
 use Rattle.heap_words.specs.Access.{place_of}
-use Rattle.heap_words.specs.Words.{word_at, table_words}
-use Rattle.heap_words.proofs.Stores.{is_word_true}
-use Rattle.heap_words.proofs.Rows.{word_inside}
-use Rattle.steps_base.specs.Touch.{placed}
+use Rattle.heap_words.specs.Words.{table_words}
 use Rattle.steps_base.specs.Steps.{Stage, Event, HasReached, Finds}
-use Rattle.steps_base.proofs.Touches.{place_of-access_at}
 use Rattle.steps_base.proofs.Runs.{reached_has}
 use Rattle.shen_graph.specs.declared.command.Reply.{Reply}
 use Rattle.shen_graph.specs.History.{Entry, after, of_thread}
 use Rattle.mutator.specs.declared.spot.Order.{Order}
 use Rattle.mutator.specs.Rows.{Mutating, touch_of}
-use Rattle.mutator.specs.Fit.{IsReady, IsFit}
+use Rattle.mutator.specs.Fit.{IsFit}
 use Rattle.step_core.specs.Actor.{mutating, Actor, entries_of, plan_of, takes_of, kind}
 use Rattle.step_core.specs.Opening.{opening}
 use Rattle.step_core.specs.Follows.{first_graph, world_of, reached, past, IsMutator, IsThread, IsMachine, Follows, AreCalls, FindsFit, IsSound}
 use Rattle.step_core.specs.Stepped.{Stepped}
-use Rattle.step_core.proofs.Induction.{first_part, follows_run, found-placed}
-use Rattle.step_core.proofs.Entries.{append_none}
+use Rattle.mutator.proofs.Ready.{word_of_ready, ready_inside}
+use Rattle.step_core.proofs.Induction.{follows_run, found-placed}
+use Rattle.std.proofs.lemmas.List.{append-nil}
 use Rattle.step_core.proofs.Places.{each_step}
 use Rattle.step_core.proofs.FirstFacts.{follows_first}
 
@@ -34,31 +32,27 @@ pub thread_of : (c : Config) (s : Stage Actor) (h : List Entry) (follows : Follo
 thread_of c s h follows number a m here =
     subst (λ machine. IsMachine c (world_of c s follows.block follows.owner (after (first_graph c) h)) (of_thread h (number + 1)) number a machine) here.is (follows.machines number a here.here)
 
--- the place of a ready mutator's access
-pub inside_ready : (c : Config) (m : Mutating) → IsReady c m → place_of (placed c (touch_of c m)) < table_words c
-inside_ready c m ready =
-    subst (λ k. k < table_words c) (sym (place_of-access_at (word_at c (touch_of c m).word) (touch_of c m).form))
-    (word_inside c (touch_of c m).word (is_word_true c (touch_of c m).word (first_part _ _ (first_part _ _ ready))))
-
+-- the entries of a mutator are its calls, with a settled one or none
 calls_of : (number : ℕ) (a : Actor) (entries : List Entry) (fixed : Option Reply) → entries ≡ a.calls ++ entries_of number a.command fixed → AreCalls entries number a
-calls_of number a entries None is = inl (is ∙ append_none a.calls)
+calls_of number a entries None is = inl (is ∙ append-nil a.calls)
 calls_of number a entries (Some reply) is = inr (reply, is)
 
+-- the word that a mutator finds is fit
 finds_fit : (c : Config) (s : Stage Actor) (h : List Entry) (follows : Follows c s h) (number : ℕ) (a : Actor) (m : Mutating) → IsMutator s number a m → FindsFit c s a m
 finds_fit c s h follows number a m here =
     let thread = thread_of c s h follows number a m here in
     record {
       ready = thread.mine.ready;
-      inside = subst (λ machine. place_of (plan_of c machine) < table_words c) (sym here.is) (inside_ready c m thread.mine.ready);
+      inside = subst (λ machine. place_of (plan_of c machine) < table_words c) (sym here.is) (ready_inside c (touch_of c m) (and_parts _ _ thread.mine.ready).0);
       fit = λ order takes.
           let step : Stepped c (world_of c s follows.block follows.owner (after (first_graph c) h)) m a.command order thread.fixed =
           each_step c (world_of c s follows.block follows.owner (after (first_graph c) h)) m a.command order thread.fixed follows.shared thread.mine takes in
           subst (λ machine. IsFit c m order (slice_index s.words (place_of (plan_of c machine)))) (sym here.is)
-          (subst (λ got. IsFit c m order got) (sym (found-placed c s.words (touch_of c m) (first_part _ _ (first_part _ _ thread.mine.ready)))) step.mine.ready);
+          (subst (λ got. IsFit c m order got) (sym (found-placed c s.words (touch_of c m) (word_of_ready c (touch_of c m) (and_parts _ _ thread.mine.ready).0))) step.mine.ready);
     }
 
 -- a stage that follows its history is sound
-pub sound : (c : Config) (s : Stage Actor) (h : List Entry) → Follows c s h → IsSound c s h
+sound : (c : Config) (s : Stage Actor) (h : List Entry) → Follows c s h → IsSound c s h
 sound c s h follows = record {
   stands = record {
     block = follows.block;
@@ -72,6 +66,7 @@ sound c s h follows = record {
   fit = λ number a m here. finds_fit c s h follows number a m here;
 }
 
+-- so is each list of events
 pub every_list : (c : Config) (events : List (Event Order)) → IsSound c (reached c events) (past c events)
 every_list c events = sound c (reached c events) (past c events) (follows_reached c events)
 
