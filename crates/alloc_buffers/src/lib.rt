@@ -7,8 +7,20 @@
 mod spot;
 mod take;
 
+ghost use Rattle.std.specs.Prelude.{ℕ, ◌≡◌, List};
+ghost use Rattle.heap_words.specs.declared.config.Config.{Config};
+ghost use Rattle.alloc_buffers.specs.declared.spot.Kind.{Kind as Purpose};
+ghost use Rattle.alloc_buffers.specs.Room.{HasNoRoom, IsLackOfRoom};
+
 pub use spot::{Kind, TakeSpot, Taken};
 pub use take::Take;
+
+/// A law: whatever words a machine that takes room finds one after the other, it ends without room only where its current
+/// region, by the words that it has found, has too little room or is none, and the free word that it finds last has no region
+/// that may be taken.
+pub fn no_room_has_its_cause()
+    ensures { (c : Config) (words : ℕ) (kind : Purpose) (found : List ℕ) (free : ℕ) → HasNoRoom c words kind found free → IsLackOfRoom c words kind found free }
+{}
 
 #[cfg(test)]
 mod tests;

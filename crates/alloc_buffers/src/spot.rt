@@ -21,9 +21,9 @@ pub enum Kind {
 /// What came of it.
 #[derive(Clone, Copy, Debug, PartialEq, Eq)]
 pub enum Taken {
-    /// The words from this address on are the machine's own.
+    /// The room begins at this address, in words. That nobody else has it is a theorem of the machines together.
     At(u64),
-    /// The current region has too little room, and no free region may be taken.
+    /// The current region, if there is one, has too little room, and no free region may be taken.
     NoRoom,
 }
 
@@ -91,6 +91,7 @@ impl TakeSpot {
         requires ready { rows.is_ready config seat words self ≡ true }
         requires busy { rows.is_ended self ≡ false }
         ensures row { result ≡ placed config (rows.touch_at seat words self) }
+        ensures inside { place_of result < table_words config }
     {
         match self {
             TakeSpot::LoadCurrent => Access::Load {

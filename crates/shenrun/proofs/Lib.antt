@@ -1,7 +1,6 @@
 pub mod Ends
 pub mod Words
 pub mod Calls
-pub mod NoFull
 pub mod Scripts
 pub mod Ran
 pub mod Whole

@@ -29,7 +29,7 @@ use Rattle.step_core.specs.World.{World}
 use Rattle.step_core.specs.Stepped.{SpotFacts}
 use Rattle.step_core.specs.Schedule.{Scripts, agenda_of}
 use Rattle.step_core.specs.Follows.{first_graph, reached, past, IsThread}
-use Rattle.step_core.proofs.Theorem.{follows_reached, thread_of, every_list}
+use Rattle.step_core.proofs.Theorem.{follows_reached, thread_of, unsettled_at_rest, every_list}
 use Rattle.stage_graph.specs.Settled.{IsSettled}
 use Rattle.stage_graph.proofs.Entries.{past_settled}
 use Rattle.heap_graph.specs.Shows as texts
@@ -44,19 +44,12 @@ use Rattle.trace_text.proofs.AnswerLemmas.{answer_text_same}
 use Rattle.shenrun.specs.Replayed.{events_of, history_of, end_of, IsWhole, IsReplayed}
 use Rattle.shenrun.specs.Running.{HasFinished}
 use Rattle.shenrun.proofs.Calls.{calls_script, HasCalled, idle_has_called}
-use Rattle.shenrun.proofs.NoFull.{past_without_full}
 
 -- ---- the entries of each thread
 
--- between two calls no reply is settled that is not given
-rest_unsettled : (c : Config) (w : World) (seat made : ℕ) (command : Command) (fixed : Option Reply) (spot : Spot) → is_at_rest spot ≡ true → SpotFacts c w seat made command fixed spot → fixed ≡ None
-rest_unsettled c w seat made command fixed Rest rest facts = facts
-rest_unsettled c w seat made command fixed (Ended reply) rest facts = facts
-rest_unsettled c w seat made command fixed _ rest facts = absurd cc
-
 entries_at_rest : (c : Config) (w : World) (entries : List Entry) (number : ℕ) (a : Actor) (m : Mutating) → IsThread c w entries number a m → is_at_rest m.spot ≡ true → entries ≡ a.calls
 entries_at_rest c w entries number a m thread rest =
-    thread.entries_are ∙ ap (λ (o : Option Reply). a.calls ++ entries_of number a.command o) (rest_unsettled c w m.seat m.made a.command thread.fixed m.spot rest thread.mine.facts) ∙ append-nil a.calls
+    thread.entries_are ∙ ap (λ (o : Option Reply). a.calls ++ entries_of number a.command o) (unsettled_at_rest c w m.seat m.made a.command thread.fixed m.spot rest thread.mine.facts) ∙ append-nil a.calls
 
 -- a mutator that has called its script, in the end
 called_at : (c : Config) (scripts : Scripts) (items : List Item) (limit t : ℕ) → AreIdle c scripts (end_of c scripts items limit) → t < c.mutators → HasCalled scripts (end_of c scripts items limit) t
@@ -78,7 +71,7 @@ none_of threads (e ∷ h) t all out = rw (other e.thread (All-head (IsSettled th
     other n least most (inr lt) = grind (arith, nat_tests)
 
 pub whole : (c : Config) (scripts : Scripts) (items : List Item) (limit : ℕ) → length scripts ≡ c.mutators → AreIdle c scripts (end_of c scripts items limit) → IsWhole c scripts items limit
-whole c scripts items limit count idle = record { idle = idle; follows = follows; legal = (every_list c (events_of c scripts items limit)).legal; without_full = past_without_full c (events_of c scripts items limit) }
+whole c scripts items limit count idle = record { idle = idle; follows = follows; legal = (every_list c (events_of c scripts items limit)).legal; without_full = (every_list c (events_of c scripts items limit)).without_full }
   where
     follows : (thread : ℕ) → commands_of (of_thread (history_of c scripts items limit) thread) ≡ history.script_of scripts thread
     follows zero = ap commands_of (none_of c.mutators (history_of c scripts items limit) 0 (past_settled c (events_of c scripts items limit)) (inl refl))

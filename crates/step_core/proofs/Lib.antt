@@ -26,4 +26,5 @@ mod Entries
 pub mod Induction
 pub mod OpeningStands
 pub mod FirstFacts
+pub mod NoFull
 pub mod Theorem

@@ -1,5 +1,5 @@
 -- The theorem over every list of events.
-use Rattle.std.proofs.Common.{◌≡◌, ℕ, ◌+◌, ◌<◌, inl, inr, List, [], ◌++◌, Option, Some, None, sym, ap, ◌∙◌, subst}
+use Rattle.std.proofs.Common.{◌≡◌, ℕ, ◌+◌, ◌<◌, true, List, [], Option, Some, None, sym, ap, ◌∙◌, subst}
 use Rattle.std.specs.Prelude.{slice_get, slice_index}
 use Rattle.std.proofs.lemmas.Bool.{and_parts}
 use Rattle.heap_words.specs.declared.config.Config.{Config}
@@ -8,17 +8,22 @@ use Rattle.heap_words.specs.Words.{table_words}
 use Rattle.steps_base.specs.Steps.{Stage, Event, HasReached, Finds}
 use Rattle.steps_base.proofs.Runs.{reached_has}
 use Rattle.shen_graph.specs.declared.command.Reply.{Reply}
-use Rattle.shen_graph.specs.History.{Entry, after, of_thread}
+use Rattle.shen_graph.specs.declared.command.Command.{Command}
+use Rattle.shen_graph.specs.History.{Entry, IsWithoutFull, after, of_thread}
 use Rattle.mutator.specs.declared.spot.Order.{Order}
+use Rattle.mutator.specs.declared.spot.Spot.{Spot}
+use Rattle.mutator.specs.declared.spot.Spot.TheVariants.{Rest, Ended}
+use Rattle.mutator.specs.Orders.{is_at_rest}
 use Rattle.mutator.specs.Rows.{Mutating, touch_of}
 use Rattle.mutator.specs.Fit.{IsFit}
-use Rattle.step_core.specs.Actor.{mutating, Actor, entries_of, plan_of, takes_of, kind}
+use Rattle.step_core.specs.Actor.{mutating, Actor, plan_of, takes_of, kind}
+use Rattle.step_core.specs.World.{World}
 use Rattle.step_core.specs.Opening.{opening}
-use Rattle.step_core.specs.Follows.{first_graph, world_of, reached, past, IsMutator, IsThread, IsMachine, Follows, AreCalls, FindsFit, IsSound}
-use Rattle.step_core.specs.Stepped.{Stepped}
+use Rattle.step_core.specs.Follows.{first_graph, world_of, reached, past, IsMutator, IsThread, IsMachine, Follows, FindsFit, IsSound}
+use Rattle.step_core.specs.Stepped.{SpotFacts, Stepped}
 use Rattle.mutator.proofs.Ready.{word_of_ready, ready_inside}
 use Rattle.step_core.proofs.Induction.{follows_run, found-placed}
-use Rattle.std.proofs.lemmas.List.{append-nil}
+use Rattle.step_core.proofs.NoFull.{past_without_full}
 use Rattle.step_core.proofs.Places.{each_step}
 use Rattle.step_core.proofs.FirstFacts.{follows_first}
 
@@ -32,10 +37,11 @@ pub thread_of : (c : Config) (s : Stage Actor) (h : List Entry) (follows : Follo
 thread_of c s h follows number a m here =
     subst (λ machine. IsMachine c (world_of c s follows.block follows.owner (after (first_graph c) h)) (of_thread h (number + 1)) number a machine) here.is (follows.machines number a here.here)
 
--- the entries of a mutator are its calls, with a settled one or none
-calls_of : (number : ℕ) (a : Actor) (entries : List Entry) (fixed : Option Reply) → entries ≡ a.calls ++ entries_of number a.command fixed → AreCalls entries number a
-calls_of number a entries None is = inl (is ∙ append-nil a.calls)
-calls_of number a entries (Some reply) is = inr (reply, is)
+-- between two calls no reply is settled that is not given
+pub unsettled_at_rest : (c : Config) (w : World) (seat made : ℕ) (command : Command) (fixed : Option Reply) (spot : Spot) → is_at_rest spot ≡ true → SpotFacts c w seat made command fixed spot → fixed ≡ None
+unsettled_at_rest c w seat made command fixed Rest rest facts = facts
+unsettled_at_rest c w seat made command fixed (Ended reply) rest facts = facts
+unsettled_at_rest c w seat made command fixed _ rest facts = absurd cc
 
 -- the word that a mutator finds is fit
 finds_fit : (c : Config) (s : Stage Actor) (h : List Entry) (follows : Follows c s h) (number : ℕ) (a : Actor) (m : Mutating) → IsMutator s number a m → FindsFit c s a m
@@ -52,8 +58,8 @@ finds_fit c s h follows number a m here =
     }
 
 -- a stage that follows its history is sound
-sound : (c : Config) (s : Stage Actor) (h : List Entry) → Follows c s h → IsSound c s h
-sound c s h follows = record {
+sound : (c : Config) (s : Stage Actor) (h : List Entry) → IsWithoutFull h → Follows c s h → IsSound c s h
+sound c s h without_full follows = record {
   stands = record {
     block = follows.block;
     owner = follows.owner;
@@ -61,14 +67,20 @@ sound c s h follows = record {
     mutators = λ number a m here. let thread = thread_of c s h follows number a m here in (thread.fixed, thread.mine);
   };
   legal = follows.legal;
+  without_full = without_full;
   numbers = λ number a m here. (thread_of c s h follows number a m here).number_is;
-  threads = λ number a m here. let thread = thread_of c s h follows number a m here in calls_of number a _ thread.fixed thread.entries_are;
+  threads = λ number a m here.
+      let thread = thread_of c s h follows number a m here in
+      record {
+        entries_are = thread.entries_are;
+        at_rest = λ rest. unsettled_at_rest c (world_of c s follows.block follows.owner (after (first_graph c) h)) m.seat m.made a.command thread.fixed m.spot rest thread.mine.facts;
+      };
   fit = λ number a m here. finds_fit c s h follows number a m here;
 }
 
 -- so is each list of events
 pub every_list : (c : Config) (events : List (Event Order)) → IsSound c (reached c events) (past c events)
-every_list c events = sound c (reached c events) (past c events) (follows_reached c events)
+every_list c events = sound c (reached c events) (past c events) (past_without_full c events) (follows_reached c events)
 
 -- a mutator that is reached makes an access of the table
 pub reached_inside : (c : Config) (number : ℕ) (a : Actor) (m : Mutating) → HasReached (kind c) (opening c) number a → a.machine ≡ mutating m → place_of (plan_of c a.machine) < table_words c

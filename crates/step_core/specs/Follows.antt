@@ -1,5 +1,5 @@
 -- The theorem over every list of events: what holds of each stage that events lead to, and of its history.
-use Rattle.std.specs.Prelude.{ℕ, ◌≡◌, ◌+◌, ◌<◌, ◌⊎◌, true, List, ◌++◌, length, Option, Some, slice_get, slice_index}
+use Rattle.std.specs.Prelude.{ℕ, ◌≡◌, ◌+◌, ◌<◌, true, List, ◌++◌, length, Option, Some, None, slice_get, slice_index}
 use Rattle.heap_words.specs.declared.config.Config.{Config}
 use Rattle.heap_words.specs.Access.{place_of}
 use Rattle.heap_words.specs.Words.{Word, view, table_words}
@@ -7,9 +7,9 @@ use Rattle.steps_base.specs.Steps.{Stage, Event, go}
 use Rattle.shen_graph.specs.declared.command.Reply.{Reply}
 use Rattle.shen_graph.specs.Graph as graphs
 use Rattle.shen_graph.specs.Graph.{Graph}
-use Rattle.shen_graph.specs.History.{Entry, after, EachIsLegal, of_thread}
+use Rattle.shen_graph.specs.History.{Entry, after, EachIsLegal, IsWithoutFull, of_thread}
 use Rattle.mutator.specs.declared.spot.Order.{Order}
-use Rattle.mutator.specs.Orders.{takes_at}
+use Rattle.mutator.specs.Orders.{is_at_rest, takes_at}
 use Rattle.mutator.specs.Rows.{Mutating}
 use Rattle.mutator.specs.Fit.{IsReady, IsFit}
 use Rattle.step_core.specs.Actor.{Machine, mutating, helping, controlling, Actor, entries_of, plan_of, kind}
@@ -75,9 +75,11 @@ pub record StandsFor (c : Config) (s : Stage Actor) (g : Graph) : Type 0 where
   pub mutators : (number : ℕ) (a : Actor) (m : Mutating) → IsMutator s number a m
       → (fixed : Option Reply) × Mine c (world_of c s block owner g) m a.command fixed
 
--- the entries of a mutator in the history are the calls that it has ended, or these and one more, of its call in progress
-abbrev pub AreCalls : List Entry → ℕ → Actor → Type 0
-AreCalls entries number a = (entries ≡ a.calls) ⊎ ((reply : Reply) × (entries ≡ a.calls ++ entries_of number a.command (Some reply)))
+-- The entries of a mutator in the history are the calls that it has ended and, where the reply of its call in progress is
+-- settled, one more, of that call. Between two calls there is no more.
+pub record AreCalls (entries : List Entry) (number : ℕ) (a : Actor) (m : Mutating) (fixed : Option Reply) : Type 0 where
+  pub entries_are : entries ≡ a.calls ++ entries_of number a.command fixed
+  pub at_rest : is_at_rest m.spot ≡ true → fixed ≡ None
 
 -- a mutator's next access is of a word of the table, and the word that it finds there is fit
 pub record FindsFit (c : Config) (s : Stage Actor) (a : Actor) (m : Mutating) : Type 0 where
@@ -89,10 +91,11 @@ pub record FindsFit (c : Config) (s : Stage Actor) (a : Actor) (m : Mutating) : 
 pub record IsSound (c : Config) (s : Stage Actor) (past : List Entry) : Type 0 where
   -- words and machines stand for the graph after the history
   pub stands : StandsFor c s (after (first_graph c) past)
-  -- the history is legal
+  -- the history is legal, and no allocation was refused
   pub legal : EachIsLegal (first_graph c) past
-  -- each mutator has its number, and its entries are its calls, or these and one more
+  pub without_full : IsWithoutFull past
+  -- each mutator has its number, and its entries are its calls, and one more where the call in progress is settled
   pub numbers : (number : ℕ) (a : Actor) (m : Mutating) → IsMutator s number a m → m.seat ≡ number
-  pub threads : (number : ℕ) (a : Actor) (m : Mutating) → IsMutator s number a m → AreCalls (of_thread past (number + 1)) number a
+  pub threads : (number : ℕ) (a : Actor) (m : Mutating) (here : IsMutator s number a m) → AreCalls (of_thread past (number + 1)) number a m (stands.mutators number a m here).0
   -- each mutator finds a fit word
   pub fit : (number : ℕ) (a : Actor) (m : Mutating) → IsMutator s number a m → FindsFit c s a m
