@@ -1,12 +1,12 @@
 -- The turn of a machine, in each stage that memory shows.
-use Rattle.std.proofs.Common.{◌≡◌, ◌<◌, ℕ, true, List, length, All, Option, Some, None, refl, sym, ap, ◌∙◌, subst}
+use Rattle.std.proofs.Common.{◌≡◌, ◌<◌, ℕ, true, List, length, Option, Some, None, refl, sym, ap, ◌∙◌, subst}
 use Rattle.std.specs.Prelude.{nat_lt, slice_get, slice_index, slice_index_or}
 use Rattle.heap_words.specs.Access.{place_of}
 use Rattle.std.specs.Option.{option_map}
 use Rattle.std.proofs.Math.Logic.{∥∥₁_elim}
 use Rattle.std.proofs.Math.Bool.{Bool-set}
 use Rattle.std.proofs.lemmas.List.{length-map}
-use Rattle.std.proofs.lemmas.Option.{slice_get-get_or, slice_get_within, get_or_from_slice_get}
+use Rattle.std.proofs.lemmas.Option.{slice_get-get_or}
 use Rattle.std.proofs.lemmas.Bool.{lt-ltb, ltb-true}
 use Rattle.heap_words.specs.declared.config.Config.{Config}
 use Rattle.steps_base.specs.Steps.{Stage}
