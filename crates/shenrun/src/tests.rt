@@ -43,6 +43,24 @@ const PLAIN: &[Row] = &[
         trace: "shen 1\nheap 4 64 0\nthreads 1 0\n1 new 1 0 1\n1 wr 1 0 18446744073709551615\n1 rd 1 0\n1 copy 2 1\n1 same 1 2\n1 same 3 4\n1 same 1 3\n1 cas 0 0 3 1\n1 cas 0 0 3 2\n",
         answer: "1 1.1\n1 ok\n1 18446744073709551615\n1 ok\n1 yes\n1 yes\n1 no\n1 yes\n1 no\ngraph\nobject 0.1 1.1 - - - - - - - - - - - - - - - /\nobject 1.1 / 18446744073709551615\nroots 1 0.1 1.1 1.1 - - - - - - - - - - - - -\n",
     },
+    // What is swapped in is the root as it was before, also where the same root gets what was there.
+    Row {
+        words: REPLAY,
+        trace: "shen 1\nheap 4 64 0\nthreads 1 0\n1 new 1 0 0\n1 new 2 0 0\n1 set 0 0 2\n1 xchg 1 0 0 1\n1 get 3 0 0\n",
+        answer: "1 1.1\n1 1.2\n1 ok\n1 1.2\n1 1.1\ngraph\nobject 0.1 1.1 - - - - - - - - - - - - - - - /\nobject 1.1 /\nobject 1.2 /\nroots 1 0.1 1.2 1.2 1.1 - - - - - - - - - - - -\n",
+    },
+    // The object of a swap is that of its root before, also where the same root gets what was there.
+    Row {
+        words: REPLAY,
+        trace: "shen 1\nheap 4 64 0\nthreads 1 0\n1 new 1 1 0\n1 new 2 0 0\n1 set 1 0 2\n1 set 0 0 1\n1 xchg 1 1 0 0\n",
+        answer: "1 1.1\n1 1.2\n1 ok\n1 ok\n1 1.2\ngraph\nobject 0.1 1.1 - - - - - - - - - - - - - - - /\nobject 1.1 0.1 /\nobject 1.2 /\nroots 1 0.1 1.2 1.2 - - - - - - - - - - - - -\n",
+    },
+    // Of three free regions two may be taken where one is kept back.
+    Row {
+        words: REPLAY,
+        trace: "shen 1\nheap 4 64 1\nthreads 1 0\n1 new 1 16 16\n1 new 2 16 16\n",
+        answer: "1 1.1\n1 1.2\ngraph\nobject 0.1 - - - - - - - - - - - - - - - - /\nobject 1.1 - - - - - - - - - - - - - - - - / 0 0 0 0 0 0 0 0 0 0 0 0 0 0 0 0\nobject 1.2 - - - - - - - - - - - - - - - - / 0 0 0 0 0 0 0 0 0 0 0 0 0 0 0 0\nroots 1 0.1 1.1 1.2 - - - - - - - - - - - - -\n",
+    },
 ];
 
 /// Traces of several threads with schedules. In a heap of three machines, 1 and 2 are the mutators and 3 is the control.
@@ -309,6 +327,12 @@ const SCHEDULED: &[Row] = &[
 
 /// Traces whose machines are not all idle after so many steps.
 const CUT: &[Row] = &[
+    // Of three free regions only one may be taken where two are kept back.
+    Row {
+        words: &["replay", "--steps", "1000"],
+        trace: "shen 1\nheap 4 64 2\nthreads 1 0\n1 new 1 16 16\n1 new 2 16 16\n",
+        answer: "unfinished after 1000 steps\n",
+    },
     // Ten steps end in the second command.
     Row {
         words: &["replay", "--steps", "10"],
