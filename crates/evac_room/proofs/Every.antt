@@ -3,12 +3,13 @@ use Rattle.std.proofs.Common.{◌≡◌, ◌≢◌, ℕ, ◌≤◌, ◌<◌, ◌
 use Rattle.std.specs.Prelude.{slice_get, slice_set, slice_index, nat_eq, if◌then◌else◌}
 use Rattle.std.proofs.lemmas.Bool.Decides.{nat_tests}
 use Rattle.std.proofs.lemmas.List.{length-set, length-replicate}
+use Rattle.std.proofs.lemmas.List.Elements.{All-head, All-tail}
 use Rattle.std.proofs.lemmas.List.Sums.{count_by-le-length}
 use Rattle.heap_words.specs.Access.{place_of}
 use Rattle.steps_base.specs.Touch.{access_at}
 use Rattle.steps_base.specs.Steps.{Stage, Event, act, go, moved}
-use Rattle.steps_base.proofs.Runs.{go-append, go-step, go-keeps}
-use Rattle.steps_base.proofs.Laws.{act_cases, act-event}
+use Rattle.steps_base.proofs.Runs.{go-none, go-first, go-append, go-keeps}
+use Rattle.steps_base.proofs.Laws.{act_cases, act-event, machines_other}
 use Rattle.steps_base.proofs.Places.{slice_get-set_same, slice_get-set_other}
 use Rattle.heap_words.specs.declared.access.Took.{Took}
 use Rattle.heap_words.specs.declared.access.Took.TheVariants.{Done}
@@ -18,7 +19,7 @@ use Rattle.evac_room.specs.declared.wish.Copying.TheVariants as copying
 use Rattle.evac_room.specs.Counter.{count_of, is_out_of_room, IsQuiet}
 use Rattle.evac_room.specs.Spot.{Spot, outside, inside, is_counted}
 use Rattle.evac_room.specs.Rows.{form_at, next_at, answer_at, IsFit}
-use Rattle.evac_room.specs.Core.{takes_at, begun, kind, opening, IsFew, reached, counter, counted, said, copying_at, answer_by, answer_to}
+use Rattle.evac_room.specs.Core.{takes_at, begun, kind, opening, IsFew, AreOfOthers, reached, counter, counted, said, copying_at, answer_by, answer_to}
 use Rattle.evac_room.proofs.Steps.{Mine, mine_stays, after, IsKept, Says, CanStep, each_keeps, each_says, each_fits}
 use Rattle.evac_room.proofs.Spots.{begun_goes, begun_weight, weight_one, begun_mine, counted_set, weight_counted, counted_outside, outside_here, accessed_one, found_one}
 
@@ -179,6 +180,15 @@ act_inside s step sound = by_machine (slice_get s.machines step.number) refl
     by_machine None here is = absurd (cc (is))
     by_machine (Some spot) here is = by_takes spot (takes_at spot step.order) here refl is
 
+-- steps of others leave a copier where it stands
+pub others_leave : (s : Stage Spot) (number : ℕ) (steps : List (Event Wish)) → AreOfOthers number steps → slice_get (go kind s steps).machines number ≡ slice_get s.machines number
+others_leave s number [] others = ap (λ x. slice_get x.machines number) (go-none kind s)
+others_leave s number (step ∷ steps) others =
+    let apart : step.number ≢ number = All-head (λ e. e.number ≢ number) step steps others in
+    ap (λ x. slice_get x.machines number) (go-first kind s step steps)
+    ∙ others_leave (act kind s step) number steps (All-tail (λ e. e.number ≢ number) step steps others)
+    ∙ machines_other kind s step number (λ same. apart (sym same))
+
 -- the laws over every list of steps
 pub word_counts : (copiers : ℕ) (steps : List (Event Wish)) → IsFew copiers → count_of (counter (reached copiers steps)) ≡ counted (reached copiers steps).machines
 word_counts copiers steps few = (reached_sound copiers steps few).holds.counts
@@ -194,9 +204,20 @@ words_fit copiers steps number spot wish few here takes =
 pub bit_stays : (copiers : ℕ) (steps more : List (Event Wish)) → IsFew copiers → is_out_of_room (counter (reached copiers steps)) ≡ true → is_out_of_room (counter (reached copiers (steps ++ more))) ≡ true
 bit_stays copiers steps more few = (later_reached copiers steps more few).bit_stays
 
-pub inside_is_counted : (copiers : ℕ) (steps : List (Event Wish)) (step : Event Wish) → IsFew copiers → answer_to (reached copiers steps) step ≡ Some copying.Inside → slice_get (reached copiers (steps ++ step ∷ [])).machines step.number ≡ Some inside
-inside_is_counted copiers steps step few answer =
-    ap (λ s. slice_get s.machines step.number) (go-step kind (opening copiers) steps step) ∙ act_inside (reached copiers steps) step (reached_sound copiers steps few) answer
+-- a copier that was told that it may copy stands inside, and the others leave it there
+pub inside_still : (copiers : ℕ) (steps more : List (Event Wish)) (step : Event Wish) → IsFew copiers → answer_to (reached copiers steps) step ≡ Some copying.Inside → AreOfOthers step.number more
+    → slice_get (reached copiers (steps ++ step ∷ more)).machines step.number ≡ Some inside
+inside_still copiers steps more step few answer others =
+    ap (λ s. slice_get s.machines step.number) (go-append kind (opening copiers) steps (step ∷ more) ∙ go-first kind (reached copiers steps) step more)
+    ∙ others_leave (act kind (reached copiers steps) step) step.number more others
+    ∙ act_inside (reached copiers steps) step (reached_sound copiers steps few) answer
+
+-- and the word counts it
+pub inside_until_its_step : (copiers : ℕ) (steps more : List (Event Wish)) (step : Event Wish) → IsFew copiers → answer_to (reached copiers steps) step ≡ Some copying.Inside → AreOfOthers step.number more
+    → (slice_get (reached copiers (steps ++ step ∷ more)).machines step.number ≡ Some inside) × (1 ≤ count_of (counter (reached copiers (steps ++ step ∷ more))))
+inside_until_its_step copiers steps more step few answer others =
+    let here = inside_still copiers steps more step few answer others in
+    (here, omega (arith, word_counts copiers (steps ++ step ∷ more) few, weight_counted (reached copiers (steps ++ step ∷ more)).machines step.number inside here))
 
 pub stopped_is_quiet : (copiers : ℕ) (steps : List (Event Wish)) (step : Event Wish) → IsFew copiers → answer_to (reached copiers steps) step ≡ Some copying.Stopped → IsQuiet (counter (reached copiers steps))
 stopped_is_quiet copiers steps step few answer = (answer_says (reached copiers steps) step copying.Stopped (reached_sound copiers steps few) answer).stopped_is_quiet refl

@@ -1,5 +1,5 @@
 -- The protocol by itself: one word, and copiers that enter, leave and find no room, in any order.
-use Rattle.std.specs.Prelude.{ℕ, ◌≤◌, Bool, true, false, List, [], ◌∷◌, Option, Some, None, replicate, count_by, slice_get, slice_index, if◌then◌else◌}
+use Rattle.std.specs.Prelude.{ℕ, ◌≢◌, ◌≤◌, Bool, true, false, List, [], ◌∷◌, Option, Some, None, All, replicate, count_by, slice_get, slice_index, if◌then◌else◌}
 use Rattle.heap_words.specs.declared.access.Took.{Took}
 use Rattle.heap_words.specs.declared.access.Took.TheVariants as took
 use Rattle.steps_base.specs.Steps.{Kind, Stage, Event, go}
@@ -50,6 +50,10 @@ pub record IsFew (copiers : ℕ) : Type 0 where
 -- what a list of steps leads to from the opening
 abbrev pub reached : ℕ → List (Event Wish) → Stage Spot
 reached copiers steps = go kind (opening copiers) steps
+
+-- none of these steps is one of the copier of this number
+abbrev pub AreOfOthers : ℕ → List (Event Wish) → Type 0
+AreOfOthers number steps = All (λ step. step.number ≢ number) steps
 
 -- the word that counts
 abbrev pub counter : Stage Spot → ℕ

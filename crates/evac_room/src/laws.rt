@@ -1,14 +1,14 @@
 //! The counter by itself: one word and up to 12 copiers, each of whose steps is one access. The laws are of every list
 //! of steps, so of every way in which threads may take turns.
 
-ghost use Rattle.std.specs.Prelude.{ℕ, ◌≡◌, ◌≢◌, ◌<◌, ◌+◌, ◌-◌, ◌*◌, ◌^◌, ◌↔◌, bit_or, true, List, [], ◌∷◌, ◌++◌, Some, slice_get};
+ghost use Rattle.std.specs.Prelude.{ℕ, ◌≡◌, ◌≢◌, ◌≤◌, ◌<◌, ◌+◌, ◌-◌, ◌*◌, ◌^◌, ◌↔◌, bit_or, true, List, [], ◌∷◌, ◌++◌, Some, slice_get};
 ghost use Rattle.steps_base.specs.Steps.{Event};
 ghost use Rattle.evac_room.specs.declared.wish.Wish.{Wish};
 ghost use Rattle.std.specs.Int.{bit_at};
 ghost use Rattle.evac_room.specs.Counter.{count_of, is_out_of_room, marked, IsQuiet};
 ghost use Rattle.evac_room.specs.Spot.{Spot, inside};
 ghost use Rattle.evac_room.specs.Rows.{IsFit};
-ghost use Rattle.evac_room.specs.Core.{IsFew, counted, takes_at, begun, word_after, spots_after, answer_after};
+ghost use Rattle.evac_room.specs.Core.{IsFew, AreOfOthers, counted, takes_at, begun, word_after, spots_after, answer_after};
 
 pub use crate::copiers::Copiers;
 pub use crate::wish::{Copying, Wish};
@@ -38,10 +38,11 @@ pub fn every_list_of_steps()
     ensures bit_stays { (copiers : ℕ) (steps more : List (Event Wish)) → IsFew copiers
         → is_out_of_room (word_after copiers steps) ≡ true
         → is_out_of_room (word_after copiers (steps ++ more)) ≡ true }
-    // a copier that was told that it may copy is inside, and so counted, until its own next step
-    ensures inside_is_counted { (copiers : ℕ) (steps : List (Event Wish)) (step : Event Wish) → IsFew copiers
-        → answer_after copiers steps step ≡ Some Copying.Inside
-        → slice_get (spots_after copiers (steps ++ step ∷ [])) step.number ≡ Some inside }
+    // a copier that was told that it may copy is inside, and counted, until its own next step: whatever the others do
+    ensures inside_until_its_step { (copiers : ℕ) (steps more : List (Event Wish)) (step : Event Wish) → IsFew copiers
+        → answer_after copiers steps step ≡ Some Copying.Inside → AreOfOthers step.number more
+        → (slice_get (spots_after copiers (steps ++ step ∷ more)) step.number ≡ Some inside)
+        × (1 ≤ count_of (word_after copiers (steps ++ step ∷ more))) }
     // a copier is stopped only by a quiet word: bit 63 is set, and nobody is counted
     ensures stopped_is_quiet { (copiers : ℕ) (steps : List (Event Wish)) (step : Event Wish) → IsFew copiers
         → answer_after copiers steps step ≡ Some Copying.Stopped → IsQuiet (word_after copiers steps) }

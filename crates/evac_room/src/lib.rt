@@ -1,5 +1,6 @@
 //! The protocol that stops all copying when a copier finds no room: one word counts the copiers, and its bit 63 is set
-//! once there was no room. It is the evacuation-out-of-memory handler of OpenJDK's Shenandoah, in this heap's profile.
+//! once there was no room. It follows the evacuation-out-of-memory handler of OpenJDK's Shenandoah, in this heap's
+//! profile.
 //!
 //! Without the count a copier that found no room could use an old object while another is still copying it, so that one
 //! of them would lose a write. Here whoever finds no room sets the bit, so that nobody enters any more, and waits until

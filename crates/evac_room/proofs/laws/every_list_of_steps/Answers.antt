@@ -1,4 +1,4 @@
-use Rattle.evac_room.proofs.Every.{word_counts, word_is_word, words_fit, bit_stays, inside_is_counted, stopped_is_quiet, quiet_stays, none_enters}
+use Rattle.evac_room.proofs.Every.{word_counts, word_is_word, words_fit, bit_stays, inside_until_its_step, stopped_is_quiet, quiet_stays, none_enters}
 use Rattle.evac_room.proofs.laws.every_list_of_steps.Goals as goal
 
 pub returns-clause-counts : goal.returns-clause-counts
@@ -13,8 +13,8 @@ returns-clause-fits c = words_fit
 pub returns-clause-bit_stays : goal.returns-clause-bit_stays
 returns-clause-bit_stays c = bit_stays
 
-pub returns-clause-inside_is_counted : goal.returns-clause-inside_is_counted
-returns-clause-inside_is_counted c = inside_is_counted
+pub returns-clause-inside_until_its_step : goal.returns-clause-inside_until_its_step
+returns-clause-inside_until_its_step c = inside_until_its_step
 
 pub returns-clause-stopped_is_quiet : goal.returns-clause-stopped_is_quiet
 returns-clause-stopped_is_quiet c = stopped_is_quiet
