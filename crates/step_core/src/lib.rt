@@ -21,8 +21,8 @@ ghost use Rattle.step_core.specs.Follows.{reached, past, IsSound};
 pub use opening::open_words;
 
 /// A law: whatever list of steps the machines of a heap make, the words and machines then stand for the graph after the
-/// history of the steps, the history is legal, the entries of each thread are its calls or these and one more, and each
-/// machine finds a fit word next.
+/// history of the steps, the history is legal and refuses no allocation, the entries of each thread are its calls and one
+/// more where its call in progress is settled, and each mutator finds a fit word next.
 pub fn every_schedule()
     ensures { (c : Config) (events : List (Event Order)) → IsSound c (reached c events) (past c events) }
 {}
