@@ -4,6 +4,8 @@ mod Opened
 mod Turns
 mod Noted
 mod Going
+mod Keeps
+pub mod Calls
 mod Rounds
 pub mod Fresh
 mod Graphs

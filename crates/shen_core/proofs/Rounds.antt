@@ -1,9 +1,6 @@
 -- Rounds: the machines take turns by their numbers.
 use Rattle.std.proofs.Common.{◌≡◌, ◌<◌, ◌≤◌, ⊎_elim, ℕ, zero, suc, ◌+◌, ◌-◌, List, [], ◌∷◌, ◌++◌, length, map, Option, Some, None, refl, sym, ap, ◌∙◌, subst, arith, append_assoc}
-use Rattle.std.specs.Prelude.{slice_get}
-use Rattle.std.specs.Option.{option_map}
 use Rattle.std.specs.List.{range_with_len}
-use Rattle.std.proofs.lemmas.Option.{same_Some}
 use Rattle.std.proofs.lemmas.Bool.{cases_eq}
 use Rattle.std.proofs.Common.{drop, get_or}
 use Rattle.std.proofs.lemmas.List.{drop_more}
@@ -17,7 +14,7 @@ use Rattle.steps_base.proofs.Runs.{go-none, go-append}
 use Rattle.std.proofs.lemmas.List.{length-append}
 use Rattle.mutator.specs.declared.spot.Order.{Order}
 use Rattle.step_core.specs.Actor.{Actor, kind}
-use Rattle.step_core.specs.Schedule.{Scripts, turn, turn_of, order_on_turn, Agenda, next, numbers_from, first_turn, or_else, round_of, and_then, scheduled}
+use Rattle.step_core.specs.Schedule.{Scripts, turn, Agenda, next, numbers_from, first_turn, or_else, round_of, and_then, scheduled}
 use Rattle.std.proofs.lemmas.List.{append-nil}
 use Rattle.shen_core.specs.declared.plain.Plain.{Plain}
 use Rattle.shen_core.specs.declared.run.Ran.{Ran}
@@ -25,10 +22,11 @@ use Rattle.shen_core.specs.declared.run.Ran.TheVariants.{Finished, Unfinished}
 use Rattle.shen_core.specs.declared.step.Stepped.{Stepped}
 use Rattle.shen_core.specs.declared.step.Stepped.TheVariants.{Idle}
 use Rattle.shen_core.specs.State.{config_of, Shows, IsUnchanged}
-use Rattle.shen_core.specs.Runs.{event}
 use Rattle.shen_core.specs.Progress.{Jobs, Tells, Runs, agenda, Turned, HasTurned, IsPassed, AreIdle, AllIdle, SomeBusy}
 use Rattle.shen_core.specs.Ending.{HasEnded, HasRun, EndsRun}
 use Rattle.shen_core.proofs.Going.{goes_same, goes_next, moved_of}
+use Rattle.shen_core.proofs.Turns.{turn_number}
+use Rattle.shen_core.proofs.Calls.{all_call, all_have_called}
 
 -- one number more, at the end
 range_more : (a n : ℕ) → range_with_len a (suc n) ≡ range_with_len a n ++ (a + n) ∷ []
@@ -72,19 +70,7 @@ round_pass c scripts s k below idle =
     ∙ sym (ap (first_turn scripts s) (numbers_after c k) ∙ first_turn-append scripts s rest (k ∷ [])
     ∙ ap (λ t. or_else (first_turn scripts s rest) (or_else t None)) idle ∙ or_none (first_turn scripts s rest)))
 
--- a machine that is not idle makes the next event
-turn_number : (scripts : Scripts) (s : Stage Actor) (k : ℕ) (e : Event Order) → turn scripts s k ≡ Some e → e.number ≡ k
-turn_number scripts s k e is = by_actor (slice_get s.machines k) is
-  where
-    by_order : (o : Option Order) → option_map (λ order. event k order) o ≡ Some e → e.number ≡ k
-    by_order None is = cc
-    by_order (Some order) is = sym (ap (λ x. x.number) (same_Some _ _ is))
-
-    by_actor : (a : Option Actor) → turn_of scripts k a ≡ Some e → e.number ≡ k
-    by_actor None is = cc
-    by_actor (Some a) is = by_order (order_on_turn scripts k a a.machine) is
-
--- then the next machine has its turn
+-- a machine that is not idle makes the next event, and then the next machine has its turn
 pub round_move : (c : Config) (scripts : Scripts) (s : Stage Actor) (k : ℕ) (e : Event Order) → k < seat_count c.mutators c.helpers → turn scripts s k ≡ Some e → next c scripts s (agenda [] k) ≡ Some (record { event = e; agenda = agenda [] (k + 1) })
 round_move c scripts s k e below is =
     ap round_of (ap (first_turn scripts s) (numbers_step c k below) ∙ ap (λ t. or_else t (first_turn scripts s (range_with_len (k + 1) (seat_count c.mutators c.helpers - (k + 1)) ++ range_with_len 0 k))) is)
@@ -146,16 +132,27 @@ round_ends p jobs left scripts s shows tells = record {
   tells = tells;
 }
 
+-- what a run that has ended says besides of the calls of its mutators
+has_run : (c : Config) (scripts : Scripts) (s : Stage Actor) (todo : Agenda) (limit : ℕ) (q : Plain) (later : Jobs) (result : Ran) → Shows q (go (kind c) s (scheduled c scripts limit todo s)) → Tells c scripts later (go (kind c) s (scheduled c scripts limit todo s))
+    → HasEnded c scripts (go (kind c) s (scheduled c scripts limit todo s)) (length (scheduled c scripts limit todo s)) limit result → HasRun c scripts s todo limit q later result
+has_run c scripts s todo limit q later result shows tells ended = record {
+  shows = shows;
+  tells = tells;
+  ended = ended;
+  calls = all_call c scripts limit todo s;
+  whole = λ finished calls.
+      all_have_called c scripts _ (subst (λ r. HasEnded c scripts (go (kind c) s (scheduled c scripts limit todo s)) (length (scheduled c scripts limit todo s)) limit r) finished ended) (all_call c scripts limit todo s calls);
+}
+
 -- the end of a run: all machines are idle
 pub ends_idle : (p : Plain) (jobs : Jobs) (left : ℕ) → AllIdle p jobs → EndsRun p jobs (agenda [] 0) left p jobs Finished
 ends_idle p jobs left idle scripts s shows tells =
     let none = scheduled_none (config_of p) scripts s (agenda [] 0) left (idle_round (config_of p) scripts s (idle scripts s shows tells)) in
     let same : go (kind (config_of p)) s (scheduled (config_of p) scripts left (agenda [] 0) s) ≡ s = ap (go (kind (config_of p)) s) none ∙ go-none (kind (config_of p)) s in
-    record {
-      shows = subst (λ x. Shows p x) (sym same) shows;
-      tells = subst (λ x. Tells (config_of p) scripts jobs x) (sym same) tells;
-      ended = subst (λ x. AreIdle (config_of p) scripts x) (sym same) (idle scripts s shows tells);
-    }
+    has_run (config_of p) scripts s (agenda [] 0) left p jobs Finished
+    (subst (λ x. Shows p x) (sym same) shows)
+    (subst (λ x. Tells (config_of p) scripts jobs x) (sym same) tells)
+    (subst (λ x. AreIdle (config_of p) scripts x) (sym same) (idle scripts s shows tells))
 
 -- or no more steps are allowed
 pub ends_out : (p : Plain) (jobs : Jobs) (left : ℕ) → left ≡ 0 → SomeBusy p jobs → EndsRun p jobs (agenda [] 0) left p jobs Unfinished
@@ -163,11 +160,10 @@ unfolding scheduled
 ends_out p jobs left out busy scripts s shows tells =
     let none : scheduled (config_of p) scripts left (agenda [] 0) s ≡ [] = ap (λ n. scheduled (config_of p) scripts n (agenda [] 0) s) out in
     let same : go (kind (config_of p)) s (scheduled (config_of p) scripts left (agenda [] 0) s) ≡ s = ap (go (kind (config_of p)) s) none ∙ go-none (kind (config_of p)) s in
-    record {
-      shows = subst (λ x. Shows p x) (sym same) shows;
-      tells = subst (λ x. Tells (config_of p) scripts jobs x) (sym same) tells;
-      ended = (λ idle. busy scripts s shows tells (subst (λ x. AreIdle (config_of p) scripts x) same idle), ap length none ∙ sym out);
-    }
+    has_run (config_of p) scripts s (agenda [] 0) left p jobs Unfinished
+    (subst (λ x. Shows p x) (sym same) shows)
+    (subst (λ x. Tells (config_of p) scripts jobs x) (sym same) tells)
+    (λ idle. busy scripts s shows tells (subst (λ x. AreIdle (config_of p) scripts x) same idle), ap length none ∙ sym out)
 
 -- an end after more events
 ended_more : (c : Config) (scripts : Scripts) (t u : Stage Actor) (done more left limit : ℕ) (result : Ran) → u ≡ t → done + left ≡ limit → HasEnded c scripts t more left result → HasEnded c scripts u (done + more) limit result
@@ -184,12 +180,11 @@ ends_then p q r jobs later last todo rest limit left result same runs ends scrip
     let stages : go (kind c) s (scheduled c scripts limit todo s) ≡ go (kind c) went.stage (scheduled c scripts left rest went.stage) =
     ap (go (kind c) s) went.goes.events ∙ go-append (kind c) s went.goes.done _ ∙ ap (λ x. go (kind c) x (scheduled c scripts left rest went.stage)) went.goes.leads in
     let lengths : length (scheduled c scripts limit todo s) ≡ length went.goes.done + length (scheduled c scripts left rest went.stage) = ap length went.goes.events ∙ length-append went.goes.done _ in
-    record {
-      shows = subst (λ x. Shows r x) (sym stages) end.shows;
-      tells = subst (λ x. Tells c scripts last x) (sym stages) end.tells;
-      ended = subst (λ n. HasEnded c scripts (go (kind c) s (scheduled c scripts limit todo s)) n limit result) (sym lengths)
-          (ended_more c scripts _ _ (length went.goes.done) _ left limit result stages went.goes.count end.ended);
-    }
+    has_run c scripts s todo limit r last result
+    (subst (λ x. Shows r x) (sym stages) end.shows)
+    (subst (λ x. Tells c scripts last x) (sym stages) end.tells)
+    (subst (λ n. HasEnded c scripts (go (kind c) s (scheduled c scripts limit todo s)) n limit result) (sym lengths)
+    (ended_more c scripts _ _ (length went.goes.done) _ left limit result stages went.goes.count end.ended))
 
 -- the idle machines so far, and one more
 pub idle_more : (p q : Plain) (jobs later : Jobs) (number : ℕ) (result : Stepped) → IsUnchanged p q → later ≡ jobs → HasTurned p jobs number q later result → result ≡ Idle

@@ -6,10 +6,10 @@ use Rattle.std.specs.Option.{option_map}
 use Rattle.std.proofs.Math.Logic.{∥∥₁_elim}
 use Rattle.std.proofs.Math.Bool.{Bool-set}
 use Rattle.std.proofs.lemmas.List.{length-map}
-use Rattle.std.proofs.lemmas.Option.{slice_get-get_or}
+use Rattle.std.proofs.lemmas.Option.{same_Some, slice_get-get_or}
 use Rattle.std.proofs.lemmas.Bool.{lt-ltb, ltb-true}
 use Rattle.heap_words.specs.declared.config.Config.{Config}
-use Rattle.steps_base.specs.Steps.{Stage}
+use Rattle.steps_base.specs.Steps.{Stage, Event}
 use Rattle.shen_graph.specs.Work as work
 use Rattle.mutator.specs.declared.spot.Order.TheVariants.{Begin}
 use Rattle.mutator.specs.declared.spot.Order.{Order}
@@ -58,6 +58,18 @@ map_of_map f g (Some x) = refl
 pub actor_turn : (scripts : Scripts) (s : Stage Actor) (number : ℕ) (a : Actor) (machine : Machine) → slice_get s.machines number ≡ Some a → a.machine ≡ machine → turn scripts s number ≡ option_map (λ order. event number order) (order_on_turn scripts number a machine)
 actor_turn scripts s number a machine here is =
     ap (turn_of scripts number) here ∙ ap (λ x. option_map (λ order. event number order) (order_on_turn scripts number a x)) is
+
+-- the event of a turn is of the machine whose turn it is
+pub turn_number : (scripts : Scripts) (s : Stage Actor) (k : ℕ) (e : Event Order) → turn scripts s k ≡ Some e → e.number ≡ k
+turn_number scripts s k e is = by_actor (slice_get s.machines k) is
+  where
+    by_order : (o : Option Order) → option_map (λ order. event k order) o ≡ Some e → e.number ≡ k
+    by_order None is = cc
+    by_order (Some order) is = sym (ap (λ x. x.number) (same_Some _ _ is))
+
+    by_actor : (a : Option Actor) → turn_of scripts k a ≡ Some e → e.number ≡ k
+    by_actor None is = cc
+    by_actor (Some a) is = by_order (order_on_turn scripts k a a.machine) is
 
 -- a machine that rests begins its next command
 pub resting_order : (scripts : Scripts) (number : ℕ) (a : Actor) (machine : Machine) → is_resting machine ≡ true → order_on_turn scripts number a machine ≡ option_map (λ command. Begin command) (slice_get (script_of scripts number) (length a.calls))

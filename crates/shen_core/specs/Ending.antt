@@ -10,17 +10,21 @@ use Rattle.shen_core.specs.declared.run.Ran.{Ran}
 use Rattle.shen_core.specs.declared.run.Ran.TheVariants.{Finished, Unfinished}
 use Rattle.shen_core.specs.State.{config_of, Shows}
 use Rattle.shen_core.specs.Progress.{Jobs, Tells, AreIdle}
+use Rattle.shen_core.specs.Calls.{AllCall, AllHaveCalled}
 
 -- all machines are idle; or some is not, and so many events were made as were allowed
 abbrev pub HasEnded : Config → Scripts → Stage Actor → ℕ → ℕ → Ran → Type 0
 HasEnded c scripts s events limit Finished = AreIdle c scripts s
 HasEnded c scripts s events limit Unfinished = (AreIdle c scripts s → ⊥) × (events ≡ limit)
 
--- memory shows the stage after the events of the agenda, and the work tells its replies
+-- Memory shows the stage after the events of the agenda, and the work tells its replies. If each mutator's calls were the
+-- first of its script before, they are so then, and where all machines have become idle they are the whole script.
 pub record HasRun (c : Config) (scripts : Scripts) (s : Stage Actor) (agenda : Agenda) (limit : ℕ) (q : Plain) (later : Jobs) (result : Ran) : Type 0 where
   pub shows : Shows q (go (kind c) s (scheduled c scripts limit agenda s))
   pub tells : Tells c scripts later (go (kind c) s (scheduled c scripts limit agenda s))
   pub ended : HasEnded c scripts (go (kind c) s (scheduled c scripts limit agenda s)) (length (scheduled c scripts limit agenda s)) limit result
+  pub calls : AllCall c scripts s → AllCall c scripts (go (kind c) s (scheduled c scripts limit agenda s))
+  pub whole : result ≡ Finished → AllCall c scripts s → AllHaveCalled c scripts (go (kind c) s (scheduled c scripts limit agenda s))
 
 -- whatever stage memory showed, the agenda was run from there
 abbrev pub EndsRun : Plain → Jobs → Agenda → ℕ → Plain → Jobs → Ran → Type 0

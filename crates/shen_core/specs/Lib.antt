@@ -3,4 +3,5 @@ pub mod Runs
 pub mod State
 pub mod Answer
 pub mod Progress
+pub mod Calls
 pub mod Ending

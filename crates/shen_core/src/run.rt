@@ -194,7 +194,8 @@ impl Plain {
         ensures idle { result ≡ limit → 0 < limit → AllIdle self.new work.new }
     {
         let mut left = limit;
-        for number in 0..self.seats() {
+        let seats = self.seats();
+        for number in 0..seats {
             if left == 0 {
                 return left;
             }

@@ -1,6 +1,5 @@
 pub mod Ends
 pub mod Words
-pub mod Calls
 pub mod Scripts
 pub mod Ran
 pub mod Whole

@@ -1,5 +1,5 @@
 -- A heap that was just opened runs a trace.
-use Rattle.std.proofs.Common.{◌≡◌, ℕ, ◌<◌, List, length, All, sym, ap, subst, ◌∙◌, arith}
+use Rattle.std.proofs.Common.{◌≡◌, ℕ, ◌<◌, List, length, All, refl, sym, ap, subst, ◌∙◌, arith}
 use Rattle.heap_words.specs.declared.config.Config.{Config}
 use Rattle.heap_words.specs.declared.schedule.Item.{Item}
 use Rattle.shen_graph.specs.Work as work
@@ -12,6 +12,7 @@ use Rattle.shen_core.specs.declared.run.Ran.TheVariants.{Finished, Unfinished}
 use Rattle.shen_core.specs.State.{config_of, orders_of, Shows}
 use Rattle.shen_core.specs.Progress.{Jobs, Tells, CanRun, IsRunnable}
 use Rattle.shen_core.specs.Ending.{HasRun, RunsSchedule}
+use Rattle.shen_core.proofs.Calls.{all_call_first}
 use Rattle.shen_core.proofs.Fresh.{can_run_first, tells_first}
 use Rattle.trace_text.specs.Grammar.{Reads}
 use Rattle.shenrun.specs.Replayed.{IsUnfinished}
@@ -37,6 +38,7 @@ finished p q c scripts items limit jobs later same shows count opened runs kept 
     record {
       config = kept ∙ same;
       idle = ran.ended;
+      called = ran.whole refl (all_call_first c scripts);
       shows = ran.shows;
       tells = ran.tells;
       jobs_are = λ t below. can.jobs_are t (subst (λ (d : Config). t < d.mutators) (sym (kept ∙ same)) below);

@@ -27,7 +27,7 @@ use Rattle.mutator.specs.Rows.{Mutating}
 use Rattle.step_core.specs.Actor.{Machine, controlling, Actor, entries_of}
 use Rattle.step_core.specs.World.{World}
 use Rattle.step_core.specs.Stepped.{SpotFacts}
-use Rattle.step_core.specs.Schedule.{Scripts, agenda_of}
+use Rattle.step_core.specs.Schedule.{Scripts}
 use Rattle.step_core.specs.Follows.{first_graph, reached, past, IsThread}
 use Rattle.step_core.proofs.Theorem.{follows_reached, thread_of, unsettled_at_rest, every_list}
 use Rattle.stage_graph.specs.Settled.{IsSettled}
@@ -38,12 +38,12 @@ use Rattle.shen_core.specs.declared.plain.Plain.{Plain}
 use Rattle.shen_core.specs.State.{machine_at, Shows}
 use Rattle.shen_core.specs.Answer.{is_resting}
 use Rattle.shen_core.specs.Progress.{Jobs, AreIdle, AllRest}
+use Rattle.shen_core.specs.Calls.{HasCalled, AllHaveCalled}
 use Rattle.trace_text.specs.Grammar.{Reads}
 use Rattle.trace_text.specs.Answer.{answer_text, row_in}
 use Rattle.trace_text.proofs.AnswerLemmas.{answer_text_same}
 use Rattle.shenrun.specs.Replayed.{events_of, history_of, end_of, IsWhole, IsReplayed}
 use Rattle.shenrun.specs.Running.{HasFinished}
-use Rattle.shenrun.proofs.Calls.{calls_script, HasCalled, idle_has_called}
 
 -- ---- the entries of each thread
 
@@ -51,15 +51,11 @@ entries_at_rest : (c : Config) (w : World) (entries : List Entry) (number : ℕ)
 entries_at_rest c w entries number a m thread rest =
     thread.entries_are ∙ ap (λ (o : Option Reply). a.calls ++ entries_of number a.command o) (unsettled_at_rest c w m.seat m.made a.command thread.fixed m.spot rest thread.mine.facts) ∙ append-nil a.calls
 
--- a mutator that has called its script, in the end
-called_at : (c : Config) (scripts : Scripts) (items : List Item) (limit t : ℕ) → AreIdle c scripts (end_of c scripts items limit) → t < c.mutators → HasCalled scripts (end_of c scripts items limit) t
-called_at c scripts items limit t idle below = idle_has_called scripts (end_of c scripts items limit) t (calls_script c scripts limit (agenda_of items) t below) (idle t (omega arith))
-
--- its entries are its calls
+-- the entries of a mutator that has called its script are its calls
 entries_called : (c : Config) (scripts : Scripts) (events : List (Event Order)) (t : ℕ) → (called : HasCalled scripts (reached c events) t) → of_thread (past c events) (t + 1) ≡ called.actor.calls
 entries_called c scripts events t called =
     entries_at_rest c _ (of_thread (past c events) (t + 1)) t called.actor called.mutator
-    (thread_of c (reached c events) (past c events) (follows_reached c events) t called.actor called.mutator (record { here = called.here; is = called.is })) called.rest
+    (thread_of c (reached c events) (past c events) (follows_reached c events) t called.actor called.mutator called.is) called.rest
 
 -- a thread that is none has no entry
 none_of : (threads : ℕ) (h : List Entry) (t : ℕ) → All (IsSettled threads) h → (t ≡ 0) ⊎ (threads < t) → of_thread h t ≡ []
@@ -70,8 +66,8 @@ none_of threads (e ∷ h) t all out = rw (other e.thread (All-head (IsSettled th
     other n least most (inl e) = grind (arith, nat_tests)
     other n least most (inr lt) = grind (arith, nat_tests)
 
-pub whole : (c : Config) (scripts : Scripts) (items : List Item) (limit : ℕ) → length scripts ≡ c.mutators → AreIdle c scripts (end_of c scripts items limit) → IsWhole c scripts items limit
-whole c scripts items limit count idle = record { idle = idle; follows = follows; legal = (every_list c (events_of c scripts items limit)).legal; without_full = (every_list c (events_of c scripts items limit)).without_full }
+pub whole : (c : Config) (scripts : Scripts) (items : List Item) (limit : ℕ) → length scripts ≡ c.mutators → AreIdle c scripts (end_of c scripts items limit) → AllHaveCalled c scripts (end_of c scripts items limit) → IsWhole c scripts items limit
+whole c scripts items limit count idle all_called = record { idle = idle; follows = follows; legal = (every_list c (events_of c scripts items limit)).legal; without_full = (every_list c (events_of c scripts items limit)).without_full }
   where
     follows : (thread : ℕ) → commands_of (of_thread (history_of c scripts items limit) thread) ≡ history.script_of scripts thread
     follows zero = ap commands_of (none_of c.mutators (history_of c scripts items limit) 0 (past_settled c (events_of c scripts items limit)) (inl refl))
@@ -79,7 +75,7 @@ whole c scripts items limit count idle = record { idle = idle; follows = follows
       where
         by_thread : (t < c.mutators) ⊎ (c.mutators ≤ t) → commands_of (of_thread (history_of c scripts items limit) (suc t)) ≡ slice_index_or scripts t []
         by_thread (inl below) =
-            let called = called_at c scripts items limit t idle below in
+            let called = all_called t below in
             let next : suc t ≡ t + 1 = omega arith in
             ap (λ (n : ℕ). commands_of (of_thread (history_of c scripts items limit) n)) next ∙ ap commands_of (entries_called c scripts (events_of c scripts items limit) t called) ∙ called.commands
         by_thread (inr past_all) =
@@ -94,17 +90,17 @@ machine_shown p s t a shows here =
 
 pub all_rest : (c : Config) (scripts : Scripts) (items : List Item) (limit : ℕ) (jobs : Jobs) (p : Plain) → HasFinished c scripts items limit jobs p → AllRest p
 all_rest c scripts items limit jobs p done t below =
-    let called = called_at c scripts items limit t done.idle (subst (λ (e : Config). t < e.mutators) done.config below) in
-    ap is_resting (machine_shown p (end_of c scripts items limit) t called.actor done.shows called.here ∙ called.is) ∙ called.rest
+    let called = done.called t (subst (λ (e : Config). t < e.mutators) done.config below) in
+    ap is_resting (machine_shown p (end_of c scripts items limit) t called.actor done.shows called.is.here ∙ called.is.is) ∙ called.rest
 
 -- the work has the replies of the history
 replies_shown : (c : Config) (scripts : Scripts) (items : List Item) (limit : ℕ) (jobs : Jobs) (p : Plain) → HasFinished c scripts items limit jobs p → (t : ℕ) → 1 ≤ t → t ≤ c.mutators
     → work.replies_of jobs (t - 1) ≡ history.replies_of (of_thread (history_of c scripts items limit) t)
 replies_shown c scripts items limit jobs p done t low high =
     let below : t - 1 < c.mutators = omega arith in
-    let called = called_at c scripts items limit (t - 1) done.idle below in
+    let called = done.called (t - 1) below in
     let same : t - 1 + 1 ≡ t = omega arith in
-    done.tells.replies (t - 1) called.actor below called.here
+    done.tells.replies (t - 1) called.actor below called.is.here
     ∙ sym (ap history.replies_of (ap (of_thread (history_of c scripts items limit)) (sym same) ∙ entries_called c scripts (events_of c scripts items limit) (t - 1) called))
 
 -- ---- the text
@@ -136,6 +132,6 @@ replayed bytes c scripts items limit jobs p text reads count done roots shows = 
   scripts = scripts;
   items = items;
   reads = reads;
-  whole = whole c scripts items limit count done.idle;
+  whole = whole c scripts items limit count done.idle done.called;
   text = record { names = names_of text; reach = shows.reach; text = text_shown c.mutators jobs (history_of c scripts items limit) text roots shows (replies_shown c scripts items limit jobs p done) };
 }

@@ -7,12 +7,15 @@ use Rattle.step_core.specs.Schedule.{Scripts}
 use Rattle.shen_core.specs.declared.plain.Plain.{Plain}
 use Rattle.shen_core.specs.State.{config_of, Shows}
 use Rattle.shen_core.specs.Progress.{Jobs, Tells, AreIdle}
+use Rattle.shen_core.specs.Calls.{AllHaveCalled}
 use Rattle.shenrun.specs.Replayed.{end_of}
 
--- All machines are idle after the events of the trace; memory shows the end, and the work has the replies.
+-- All machines are idle after the events of the trace, and each mutator has called its whole script; memory shows the end,
+-- and the work has the replies.
 pub record HasFinished (c : Config) (scripts : Scripts) (items : List Item) (limit : ℕ) (jobs : Jobs) (p : Plain) : Type 0 where
   pub config : config_of p ≡ c
   pub idle : AreIdle c scripts (end_of c scripts items limit)
+  pub called : AllHaveCalled c scripts (end_of c scripts items limit)
   pub shows : Shows p (end_of c scripts items limit)
   pub tells : Tells c scripts jobs (end_of c scripts items limit)
   pub jobs_are : (t : ℕ) → t < c.mutators → work.HasScript jobs t

@@ -24,7 +24,7 @@ returns-then-left-eq0-clause-round c =
 pub loop-number-preserved : goal.loop-number-preserved
 loop-number-preserved c =
     let seats : seat_count (config_of c.loop-number.self).mutators (config_of c.loop-number.self).helpers ≡ seats_of c.args.self.now = ap (λ k. seat_count k.mutators k.helpers) c.loop-number.invariant.config in
-    let below : c.loop-number.number < seat_count (config_of c.loop-number.self).mutators (config_of c.loop-number.self).helpers = omega (arith, c.seats-number-end.ensures, c.loop-number-test.true, seats) in
+    let below : c.loop-number.number < seat_count (config_of c.loop-number.self).mutators (config_of c.loop-number.self).helpers = omega (arith, c.seats-seats.ensures, c.loop-number-test.true, seats) in
     elim c.match-turn.branch [
       | in-Idle w ↦ record {
         run = c.turn.ensures.run;
@@ -50,6 +50,6 @@ loop-number-preserved c =
 pub returns-clause-round : goal.returns-clause-round
 returns-clause-round c =
     let seats : seat_count (config_of c.loop-number.self).mutators (config_of c.loop-number.self).helpers ≡ seats_of c.args.self.now = ap (λ k. seat_count k.mutators k.helpers) c.loop-number.invariant.config in
-    let at : c.loop-number.number ≡ seat_count (config_of c.loop-number.self).mutators (config_of c.loop-number.self).helpers = omega (arith, c.seats-number-end.ensures, c.loop-number-test.false, seats) in
+    let at : c.loop-number.number ≡ seat_count (config_of c.loop-number.self).mutators (config_of c.loop-number.self).helpers = omega (arith, c.seats-seats.ensures, c.loop-number-test.false, seats) in
     runs_then c.args.self.now c.loop-number.self c.loop-number.self c.args.work.now c.loop-number.work c.loop-number.work _ _ (agenda [] 0) _ c.loop-number.left _ c.loop-number.invariant.config c.loop-number.invariant.runs
     (subst (λ n. Runs c.loop-number.self c.loop-number.work (agenda [] n) c.loop-number.left c.loop-number.self c.loop-number.work (agenda [] 0) c.loop-number.left) (sym at) (round_ends c.loop-number.self c.loop-number.work c.loop-number.left))
