@@ -12,21 +12,17 @@ use Rattle.std.proofs.lemmas.Option.{slice_get-map, get_or_from_slice_get}
 use Rattle.heap_words.specs.declared.config.Config.{Config}
 use Rattle.heap_words.specs.declared.schedule.Item.{Item}
 use Rattle.steps_base.specs.Steps.{Stage, Event}
-use Rattle.shen_graph.specs.declared.command.Command.{Command}
 use Rattle.shen_graph.specs.declared.command.Reply.{Reply}
 use Rattle.shen_graph.specs.Graph.{Reference, Graph, opening as graph_opening}
 use Rattle.shen_graph.specs.GraphText.{Text, Row, names_of, root_of}
 use Rattle.shen_graph.specs.History.{Entry, after, of_thread, commands_of}
 use Rattle.shen_graph.specs.History as history
 use Rattle.shen_graph.specs.Work as work
-use Rattle.mutator.specs.declared.spot.Spot.{Spot}
-use Rattle.mutator.specs.declared.spot.Spot.TheVariants.{Rest, Ended}
 use Rattle.mutator.specs.declared.spot.Order.{Order}
 use Rattle.mutator.specs.Orders.{is_at_rest}
 use Rattle.mutator.specs.Rows.{Mutating}
 use Rattle.step_core.specs.Actor.{Machine, controlling, Actor, entries_of}
 use Rattle.step_core.specs.World.{World}
-use Rattle.step_core.specs.Stepped.{SpotFacts}
 use Rattle.step_core.specs.Schedule.{Scripts}
 use Rattle.step_core.specs.Follows.{first_graph, reached, past, IsThread}
 use Rattle.step_core.proofs.Theorem.{follows_reached, thread_of, unsettled_at_rest, every_list}
