@@ -29,31 +29,29 @@ def target():
     return 1 + below(15)
 
 
+# How often of forty, and the words behind the thread, of each command that makes no object.
+COMMANDS = [
+    (5, lambda: f"get {target()} {root()} {root()}"),
+    (4, lambda: f"set {root()} {root()} {root()}"),
+    (4, lambda: f"cas {root()} {root()} {root()} {root()}"),
+    (3, lambda: f"xchg {target()} {root()} {root()} {root()}"),
+    (3, lambda: f"rd {root()} {root()}"),
+    (3, lambda: f"wr {root()} {root()} {below(100)}"),
+    (3, lambda: f"copy {target()} {root()}"),
+    (2, lambda: f"same {root()} {root()}"),
+    (1, lambda: f"drop {8 + below(8)}"),
+    (11, lambda: "gc"),
+]
+WRITERS = [write for often, write in COMMANDS for _ in range(often)]
+
+
 def command(words):
     """The words of a command behind the thread, and the words of the object that it makes."""
     which = below(40)
     if which == 0 and words > 35:
         refs, nums = below(17), below(17)
         return f"new {target()} {refs} {nums}", 3 + refs + nums
-    if which < 6:
-        return f"get {target()} {root()} {root()}", 0
-    if which < 10:
-        return f"set {root()} {root()} {root()}", 0
-    if which < 14:
-        return f"cas {root()} {root()} {root()} {root()}", 0
-    if which < 17:
-        return f"xchg {target()} {root()} {root()} {root()}", 0
-    if which < 20:
-        return f"rd {root()} {root()}", 0
-    if which < 23:
-        return f"wr {root()} {root()} {below(100)}", 0
-    if which < 26:
-        return f"copy {target()} {root()}", 0
-    if which < 28:
-        return f"same {root()} {root()}", 0
-    if which < 29:
-        return f"drop {8 + below(8)}", 0
-    return "gc", 0
+    return WRITERS[max(which - 1, 0)](), 0
 
 
 def item():

@@ -1,9 +1,8 @@
 -- What the events see of the machines in memory.
-use Rattle.std.specs.Prelude.{Bool, true}
 use Rattle.heap_words.specs.declared.config.Config.{Config}
 use Rattle.mutator.specs.declared.spot.Order.{Order}
 use Rattle.mutator.specs.declared.spot.Order.TheVariants.{Nothing}
-use Rattle.mutator.specs.Seen.{seen, order_of, config_of, is_idle}
+use Rattle.mutator.specs.Seen.{seen, order_of, config_of}
 use Rattle.step_core.specs.Actor as actors
 use Rattle.shen_core.specs.declared.machine.Machine.{Machine}
 use Rattle.shen_core.specs.declared.machine.Machine.TheVariants.{Mutator, Helper, Control}
@@ -18,12 +17,6 @@ abbrev pub order_of_machine : Machine → Order
 order_of_machine (Mutator m) = order_of m
 order_of_machine Helper = Nothing
 order_of_machine Control = Nothing
-
--- whether the machine makes no step
-abbrev pub is_idle_machine : Machine → Bool
-is_idle_machine (Mutator m) = is_idle m
-is_idle_machine Helper = true
-is_idle_machine Control = true
 
 -- the heap that the machine works on, where a machine that rests works on any
 abbrev pub heap_of : Config → Machine → Config

@@ -1,5 +1,5 @@
 -- A trace whose machines are all idle in the end: the history, and the answer.
-use Rattle.std.proofs.Common.{◌≡◌, ◌⊎◌, inl, inr, ℕ, zero, suc, ◌+◌, ◌-◌, ◌<◌, ◌≤◌, true, false, eqb, List, [], ◌∷◌, ◌++◌, length, get_or, map, All, Option, Some, None, refl, sym, ap, ◌∙◌, subst, arith}
+use Rattle.std.proofs.Common.{◌≡◌, ◌⊎◌, inl, inr, ℕ, zero, suc, ◌+◌, ◌-◌, ◌<◌, ◌≤◌, false, eqb, List, [], ◌∷◌, ◌++◌, length, get_or, map, All, Option, Some, None, refl, sym, ap, ◌∙◌, subst, arith}
 use Rattle.std.specs.Prelude.{slice_get, slice_index_or}
 use Rattle.std.specs.Option.{option_map}
 use Rattle.std.specs.List.{range_with_len}
@@ -19,13 +19,10 @@ use Rattle.shen_graph.specs.History.{Entry, after, of_thread, commands_of}
 use Rattle.shen_graph.specs.History as history
 use Rattle.shen_graph.specs.Work as work
 use Rattle.mutator.specs.declared.spot.Order.{Order}
-use Rattle.mutator.specs.Orders.{is_at_rest}
-use Rattle.mutator.specs.Rows.{Mutating}
 use Rattle.step_core.specs.Actor.{Machine, controlling, Actor, entries_of}
-use Rattle.step_core.specs.World.{World}
 use Rattle.step_core.specs.Schedule.{Scripts}
-use Rattle.step_core.specs.Follows.{first_graph, reached, past, IsThread}
-use Rattle.step_core.proofs.Theorem.{follows_reached, thread_of, unsettled_at_rest, every_list}
+use Rattle.step_core.specs.Follows.{first_graph, reached, past}
+use Rattle.step_core.proofs.Theorem.{every_list}
 use Rattle.stage_graph.specs.Settled.{IsSettled}
 use Rattle.stage_graph.proofs.Entries.{past_settled}
 use Rattle.heap_graph.specs.Shows as texts
@@ -43,15 +40,11 @@ use Rattle.shenrun.specs.Running.{HasFinished}
 
 -- ---- the entries of each thread
 
-entries_at_rest : (c : Config) (w : World) (entries : List Entry) (number : ℕ) (a : Actor) (m : Mutating) → IsThread c w entries number a m → is_at_rest m.spot ≡ true → entries ≡ a.calls
-entries_at_rest c w entries number a m thread rest =
-    thread.entries_are ∙ ap (λ (o : Option Reply). a.calls ++ entries_of number a.command o) (unsettled_at_rest c w m.seat m.made a.command thread.fixed m.spot rest thread.mine.facts) ∙ append-nil a.calls
-
 -- the entries of a mutator that has called its script are its calls
 entries_called : (c : Config) (scripts : Scripts) (events : List (Event Order)) (t : ℕ) → (called : HasCalled scripts (reached c events) t) → of_thread (past c events) (t + 1) ≡ called.actor.calls
 entries_called c scripts events t called =
-    entries_at_rest c _ (of_thread (past c events) (t + 1)) t called.actor called.mutator
-    (thread_of c (reached c events) (past c events) (follows_reached c events) t called.actor called.mutator called.is) called.rest
+    let thread = (every_list c events).threads t called.actor called.mutator called.is in
+    thread.entries_are ∙ ap (λ (o : Option Reply). called.actor.calls ++ entries_of t called.actor.command o) (thread.at_rest called.rest) ∙ append-nil called.actor.calls
 
 -- a thread that is none has no entry
 none_of : (threads : ℕ) (h : List Entry) (t : ℕ) → All (IsSettled threads) h → (t ≡ 0) ⊎ (threads < t) → of_thread h t ≡ []

@@ -38,7 +38,7 @@ thread_of c s h follows number a m here =
     subst (λ machine. IsMachine c (world_of c s follows.block follows.owner (after (first_graph c) h)) (of_thread h (number + 1)) number a machine) here.is (follows.machines number a here.here)
 
 -- between two calls no reply is settled that is not given
-pub unsettled_at_rest : (c : Config) (w : World) (seat made : ℕ) (command : Command) (fixed : Option Reply) (spot : Spot) → is_at_rest spot ≡ true → SpotFacts c w seat made command fixed spot → fixed ≡ None
+unsettled_at_rest : (c : Config) (w : World) (seat made : ℕ) (command : Command) (fixed : Option Reply) (spot : Spot) → is_at_rest spot ≡ true → SpotFacts c w seat made command fixed spot → fixed ≡ None
 unsettled_at_rest c w seat made command fixed Rest rest facts = facts
 unsettled_at_rest c w seat made command fixed (Ended reply) rest facts = facts
 unsettled_at_rest c w seat made command fixed _ rest facts = absurd cc

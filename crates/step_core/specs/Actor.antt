@@ -13,7 +13,7 @@ use Rattle.mutator.specs.declared.spot.Order.TheVariants.{Nothing, Begin}
 use Rattle.mutator.specs.Orders.{takes_at}
 use Rattle.mutator.specs.Rows.{Mutating, touch_of, next_of, given_at}
 
--- what memory keeps of a machine. Helpers and the control rest for now
+-- what memory keeps of a machine. Helpers and the control have nothing to do in a heap that does not collect
 pub data Machine : Type 0 where
   mutating : Mutating → Machine
   helping : Machine

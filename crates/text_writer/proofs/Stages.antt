@@ -5,10 +5,6 @@ use Rattle.std.proofs.KnownBytes.{Appends-nil}
 use Rattle.shen_base.specs.Count.{Rose}
 use Rattle.text_writer.specs.Sending.{Held, Stage, stage, AppendsFront, AppendsUpTo, HasTaken, Puts, Writes}
 
--- nothing was put
-pub puts_none : (s : Stage) → Puts s s []
-puts_none s = record { behind = λ first before sofar h. subst (HasTaken s first before) (sym (append-nil sofar)) h }
-
 -- one text was put, and then another
 pub puts_both : {a b c : Stage} {x y : List ℕ} → Puts a b x → Puts b c y → Puts a c (x ++ y)
 puts_both {a} {b} {c} {x} {y} p q = record {

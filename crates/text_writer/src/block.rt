@@ -112,9 +112,10 @@ impl Block {
     /// Sends what the block holds, and tells whether all that was put was written. After `WriteFault` a front of it was
     /// written.
     pub fn finish<K: Sink>(self, sink: &mut K) -> Result<(), WriteFault>
-        ensures { (first : Option (List ℕ)) (before : ℕ) (text : List ℕ) →
+        ensures ended { (first : Option (List ℕ)) (before : ℕ) (text : List ℕ) →
             HasTaken (stage (K.written sink.old) (K.faults sink.old) self) first before text →
             Writes result first (K.written sink.new) before (K.faults sink.new) text }
+        ensures stopped { self.failed ≡ true → sink.new ≡ sink.old }
     {
         let mut block = self;
         block.send(sink);

@@ -1,5 +1,5 @@
 -- Pieces taken one after the other from the front of bytes, until a tail stands there.
-use Rattle.std.proofs.Common.{◌≡◌, ℕ, List, [], ◌∷◌, ◌++◌, refl, sym, ap, subst, ◌∙◌, append_assoc}
+use Rattle.std.proofs.Common.{◌≡◌, ℕ, List, [], ◌∷◌, ◌++◌, sym, ap, subst, ◌∙◌, append_assoc}
 use Rattle.std.specs.List.{flat_map, AllByRecursion}
 use Rattle.std.proofs.lemmas.List.{append-nil}
 use Rattle.std.proofs.lemmas.List.Concat.{flat_map-cons}
@@ -23,9 +23,6 @@ all_and P (y ∷ xs) x all one = (all.0, all_and P xs x all.1 one)
 
 pub first_piece : {A : Type 0} (spelling : A → List ℕ) (y : A) (ys : List A) (tail : List ℕ) → flat_map spelling (y ∷ ys) ++ tail ≡ spelling y ++ (flat_map spelling ys ++ tail)
 first_piece spelling y ys tail = ap (λ (bs : List ℕ). bs ++ tail) (flat_map-cons spelling y ys) ∙ append_assoc (spelling y) (flat_map spelling ys) tail
-
-pub none_taken : {A : Type 0} (spelling : A → List ℕ) (IsGood : A → Type 0) (IsTail : List ℕ → Type 0) (bytes : List ℕ) → HasBegun spelling IsGood IsTail bytes bytes []
-none_taken spelling IsGood IsTail bytes = record { good = tt; spelled = refl; only = λ ys tail all is_tail e. (ys, refl, all, e) }
 
 pub one_taken : {A : Type 0} (spelling : A → List ℕ) (IsGood : A → Type 0) (IsTail : List ℕ → Type 0) (bytes rest after : List ℕ) (pieces : List A) (x : A) → ArePieces spelling IsTail
     → HasBegun spelling IsGood IsTail bytes rest pieces → (IsTail rest → ⊥) → BeginsWith spelling IsGood rest x after → HasBegun spelling IsGood IsTail bytes after (pieces ++ x ∷ [])

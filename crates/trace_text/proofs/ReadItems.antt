@@ -69,11 +69,6 @@ no_steps c number bytes rest marked none (Steps m n) end good digit e = none n e
 no_steps c number bytes rest marked none (Until m p) end good digit e = absurd (omega (arith, one_mark 58 64 rest (code_of p ++ end) (sym marked ∙ e)))
 no_steps c number bytes rest marked none (Replies m n) end good digit e = absurd (omega (arith, one_mark 58 61 rest (decimal n ++ end) (sym marked ∙ e)))
 
-pub no_until : (c : Config) (number : ℕ) (bytes rest : List ℕ) → bytes ≡ 64 ∷ rest → BeginsWithNone code_of IsAny rest → BeginsWithNone aim (IsItemOf c number) bytes
-no_until c number bytes rest marked none (Steps m n) end good digit e = absurd (omega (arith, one_mark 64 58 rest (decimal n ++ end) (sym marked ∙ e)))
-no_until c number bytes rest marked none (Until m p) end good digit e = none p end tt digit (behind_mark 64 64 rest (code_of p ++ end) (sym marked ∙ e))
-no_until c number bytes rest marked none (Replies m n) end good digit e = absurd (omega (arith, one_mark 64 61 rest (decimal n ++ end) (sym marked ∙ e)))
-
 pub no_replies : (c : Config) (number : ℕ) (bytes rest : List ℕ) → bytes ≡ 61 ∷ rest → BeginsWithNone decimal (IsUpTo 4000000000) rest → BeginsWithNone aim (IsItemOf c number) bytes
 no_replies c number bytes rest marked none (Steps m n) end good digit e = absurd (omega (arith, one_mark 61 58 rest (decimal n ++ end) (sym marked ∙ e)))
 no_replies c number bytes rest marked none (Until m p) end good digit e = absurd (omega (arith, one_mark 61 64 rest (code_of p ++ end) (sym marked ∙ e)))

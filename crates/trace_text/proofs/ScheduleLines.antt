@@ -24,9 +24,6 @@ spaced c bytes word rest i marked read = record {
   only = λ y after good none e. read.only y after good none (behind_mark 32 32 word (item y ++ after) (sym marked ∙ e));
 }
 
-pub no_spaced : (c : Config) (bytes word : List ℕ) → bytes ≡ 32 ∷ word → BeginsWithNone item (IsItem c) word → BeginsWithNone spaced_item (IsItem c) bytes
-no_spaced c bytes word marked none y after good digit e = none y after good digit (behind_mark 32 32 word (item y ++ after) (sym marked ∙ e))
-
 -- ---- the items of a line
 
 pub items_are_pieces : ArePieces spaced_item IsLineEnd
@@ -66,16 +63,6 @@ no_items c bytes rest items begun more_left none ys tail good digit e =
 some_item : (items : List Item) (bytes after : List ℕ) → bytes ≡ items_and_end items ++ after → (IsLineEnd bytes → ⊥) → 1 ≤ length items
 some_item [] bytes after e more_left = absurd (more_left (subst IsLineEnd (sym e) refl))
 some_item (i ∷ items) bytes after e more_left = omega arith
-
-pub line_read : (c : Config) (bytes word rest : List ℕ) (items : List Item) → bytes ≡ 33 ∷ word → (IsLineEnd word → ⊥) → BeginsWith items_and_end (AllByRecursion (IsItem c)) word items rest → BeginsWith schedule_line (IsScheduleLine c) bytes items rest
-line_read c bytes word rest items marked more_left read = record {
-  good = record { some = some_item items word rest read.spelled more_left; in_range = read.good };
-  spelled = marked ∙ ap (λ (bs : List ℕ). 33 ∷ bs) read.spelled;
-  only = λ ys after good none e. read.only ys after good.in_range none (behind_mark 33 33 word (items_and_end ys ++ after) (sym marked ∙ e));
-}
-
-pub no_line_read : (c : Config) (bytes word : List ℕ) → bytes ≡ 33 ∷ word → BeginsWithNone items_and_end (AllByRecursion (IsItem c)) word → BeginsWithNone schedule_line (IsScheduleLine c) bytes
-no_line_read c bytes word marked none ys after good digit e = none ys after good.in_range digit (behind_mark 33 33 word (items_and_end ys ++ after) (sym marked ∙ e))
 
 -- a line without an item is none
 pub empty_line : (c : Config) (bytes word : List ℕ) → bytes ≡ 33 ∷ word → IsLineEnd word → BeginsWithNone schedule_line (IsScheduleLine c) bytes
