@@ -1,3 +1,4 @@
 pub mod Rows
 pub mod Room
 pub mod Seen
+pub mod Waits

@@ -11,8 +11,8 @@ use Rattle.std.proofs.lemmas.Bool.{lt-ltb, ltb-true}
 use Rattle.heap_words.specs.declared.config.Config.{Config}
 use Rattle.steps_base.specs.Steps.{Stage, Event}
 use Rattle.shen_graph.specs.Work as work
-use Rattle.mutator.specs.declared.spot.Order.TheVariants.{Begin}
-use Rattle.mutator.specs.declared.spot.Order.{Order}
+use Rattle.shen_graph.specs.declared.order.Order.TheVariants.{Begin}
+use Rattle.shen_graph.specs.declared.order.Order.{Order}
 use Rattle.mutator.specs.Orders.{takes_at}
 use Rattle.mutator.specs.Rows.{Mutating}
 use Rattle.mutator.specs.Fit.{IsFit}

@@ -10,7 +10,7 @@ ghost use Rattle.shen_graph.specs.Work.{HasScript};
 ghost use Rattle.shen_graph.specs.History.{after};
 ghost use Rattle.heap_graph.specs.Shows.{Shows};
 ghost use Rattle.steps_base.specs.Steps.{Event};
-ghost use Rattle.mutator.specs.declared.spot.Order.{Order};
+ghost use Rattle.shen_graph.specs.declared.order.Order.{Order};
 ghost use Rattle.step_core.specs.Follows.{first_graph, reached, past};
 ghost use Rattle.shen_core.specs.State as memory;
 ghost use Rattle.shen_core.specs.State.{config_of};

@@ -13,8 +13,8 @@ use Rattle.shen_graph.specs.Graph.{with_root, same_reference}
 use Rattle.shen_graph.specs.Step.{shown, answers, outcome}
 use Rattle.mutator.specs.declared.spot.Spot.{Spot}
 use Rattle.mutator.specs.declared.spot.Spot.TheVariants.{LoadField, LoadExpected, LoadNumber, LoadName}
-use Rattle.mutator.specs.declared.spot.Order.{Order}
-use Rattle.mutator.specs.declared.spot.Order.TheVariants.{Nothing, Begin}
+use Rattle.shen_graph.specs.declared.order.Order.{Order}
+use Rattle.shen_graph.specs.declared.order.Order.TheVariants.{Nothing, Begin}
 use Rattle.mutator.specs.Rows.{Mutating, name_in}
 use Rattle.mutator.specs.Told.{name_the_same}
 use Rattle.step_core.specs.World.{World}

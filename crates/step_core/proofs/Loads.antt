@@ -15,8 +15,8 @@ use Rattle.shen_graph.specs.Step.{yes_or_no, answers, outcome}
 use Rattle.shen_graph.specs.History.{is_full}
 use Rattle.mutator.specs.declared.spot.Spot.{Spot}
 use Rattle.mutator.specs.declared.spot.Spot.TheVariants.{LoadSet, LoadRoot, LoadSecond, LoadThird, LoadShape, Leave}
-use Rattle.mutator.specs.declared.spot.Order.{Order}
-use Rattle.mutator.specs.declared.spot.Order.TheVariants.{Nothing, Begin}
+use Rattle.shen_graph.specs.declared.order.Order.{Order}
+use Rattle.shen_graph.specs.declared.order.Order.TheVariants.{Nothing, Begin}
 use Rattle.mutator.specs.Orders.{is_next}
 use Rattle.mutator.specs.Rows.{Mutating, roots_of, root_of, is_on_object, lacks_object, has_part, first_spot, after_first, with_part}
 use Rattle.mutator.specs.Told.{name_the_same}

@@ -5,7 +5,7 @@ use Rattle.shen_graph.specs.declared.command.Reply.{Reply}
 use Rattle.std.proofs.Common.{ℕ, Option}
 use Rattle.mutator.specs.declared.spot.Spot.{Spot}
 use Rattle.mutator.specs.declared.spot.Spot.TheVariants.{Rest, Ended, LoadSet, LoadRoot, LoadSecond, LoadThird, LoadShape, LoadField, LoadExpected, StoreField, SwapField, ExchangeField, LoadNumber, StoreNumber, LoadName, StoreLoaded, StoreRoot, Taking, StoreWord, StoreFresh, AskCycle, Leave}
-use Rattle.mutator.specs.declared.spot.Order.{Order}
+use Rattle.shen_graph.specs.declared.order.Order.{Order}
 use Rattle.mutator.specs.Rows.{Mutating}
 use Rattle.step_core.specs.World.{World}
 use Rattle.step_core.specs.Stepped.{Row}

@@ -13,8 +13,8 @@ use Rattle.shen_graph.specs.Graph.{Reference, with_root}
 use Rattle.shen_graph.specs.Step.{answers, outcome}
 use Rattle.mutator.specs.declared.spot.Spot.{Spot}
 use Rattle.mutator.specs.declared.spot.Spot.TheVariants.{StoreLoaded, StoreRoot}
-use Rattle.mutator.specs.declared.spot.Order.{Order}
-use Rattle.mutator.specs.declared.spot.Order.TheVariants.{Nothing, Begin}
+use Rattle.shen_graph.specs.declared.order.Order.{Order}
+use Rattle.shen_graph.specs.declared.order.Order.TheVariants.{Nothing, Begin}
 use Rattle.mutator.specs.Rows.{Mutating, touch_of}
 use Rattle.step_core.specs.World.{World, Plot, Points, Shared}
 use Rattle.step_core.specs.Stepped.{Mine, Stepped, Row}

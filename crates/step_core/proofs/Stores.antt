@@ -16,8 +16,8 @@ use Rattle.shen_graph.specs.Step.{outcome, answers, shown}
 use Rattle.shen_graph.specs.History.{is_full}
 use Rattle.mutator.specs.declared.spot.Spot.{Spot}
 use Rattle.mutator.specs.declared.spot.Spot.TheVariants.{StoreField, SwapField, ExchangeField, StoreNumber}
-use Rattle.mutator.specs.declared.spot.Order.{Order}
-use Rattle.mutator.specs.declared.spot.Order.TheVariants.{Nothing, Begin}
+use Rattle.shen_graph.specs.declared.order.Order.{Order}
+use Rattle.shen_graph.specs.declared.order.Order.TheVariants.{Nothing, Begin}
 use Rattle.mutator.specs.Rows.{Mutating, touch_of, next_of, given_at}
 use Rattle.mutator.specs.Told.{told_of}
 use Rattle.step_core.specs.World.{World, Points, Target, IsObject, Shared}

@@ -21,8 +21,8 @@ use Rattle.alloc_buffers.specs.declared.spot.Kind.TheVariants.{Fresh}
 use Rattle.alloc_buffers.specs.Rows.{has_room, has_none}
 use Rattle.mutator.specs.declared.spot.Spot.{Spot}
 use Rattle.mutator.specs.declared.spot.Spot.TheVariants.{Taking, StoreWord}
-use Rattle.mutator.specs.declared.spot.Order.{Order}
-use Rattle.mutator.specs.declared.spot.Order.TheVariants.{Nothing, Begin}
+use Rattle.shen_graph.specs.declared.order.Order.{Order}
+use Rattle.shen_graph.specs.declared.order.Order.TheVariants.{Nothing, Begin}
 use Rattle.mutator.specs.Rows.{Mutating, touch_of, after_take, take_next}
 use Rattle.mutator.specs.Fit.{is_ready}
 use Rattle.step_core.specs.World.{World, Plot, Block, thing, hand, name_at, AreCurrent, AreRooms, Shared}

@@ -15,7 +15,7 @@ use Rattle.alloc_buffers.specs.declared.spot.TakeSpot.{TakeSpot}
 use Rattle.alloc_buffers.specs.declared.spot.TakeSpot.TheVariants as take_spot
 use Rattle.mutator.specs.declared.spot.Spot.{Spot}
 use Rattle.mutator.specs.declared.spot.Spot.TheVariants.{Rest, Ended, LoadSet, LoadRoot, LoadSecond, LoadThird, LoadShape, LoadField, LoadExpected, StoreField, SwapField, ExchangeField, LoadNumber, StoreNumber, LoadName, StoreLoaded, StoreRoot, Taking, StoreWord, StoreFresh, AskCycle, Leave}
-use Rattle.mutator.specs.declared.spot.Order.{Order}
+use Rattle.shen_graph.specs.declared.order.Order.{Order}
 use Rattle.mutator.specs.Orders.{takes_at, is_next}
 use Rattle.mutator.specs.Rows.{Mutating, touch_of, next_of, given_at, roots_of, root_of, is_on_object, fresh_word}
 use Rattle.mutator.specs.Told.{told_of}
