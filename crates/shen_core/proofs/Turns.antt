@@ -30,7 +30,7 @@ pub seat_below : (c : Config) (words : List ℕ) (machines : List Machine) (numb
 seat_below c words machines number m some here =
     let found = shown_actor words machines (reached c some.events) number (mutating m) some.shows here in
     let thread = thread_of c (reached c some.events) (past c some.events) (follows_reached c some.events) number found.0 m (record { here = found.1; is = found.2 }) in
-    subst (λ k. k < c.mutators) thread.number_is thread.mine.seat
+    subst (λ k. k < c.mutators) thread.number_is thread.mine.seated.below
 
 -- the same where it is only known that some events led there
 pub seat_below_some : (c : Config) (words : List ℕ) (machines : List Machine) (number : ℕ) (m : Mutating) → ∥ IsShownBySome c words machines ∥₁ → slice_get machines number ≡ Some (mutating m) → number < c.mutators

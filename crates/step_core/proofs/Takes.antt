@@ -21,8 +21,7 @@ use Rattle.alloc_buffers.specs.declared.spot.Kind.TheVariants.{Fresh}
 use Rattle.alloc_buffers.specs.Rows.{has_room, has_none}
 use Rattle.mutator.specs.declared.spot.Spot.{Spot}
 use Rattle.mutator.specs.declared.spot.Spot.TheVariants.{Taking, StoreWord}
-use Rattle.shen_graph.specs.declared.order.Order.{Order}
-use Rattle.shen_graph.specs.declared.order.Order.TheVariants.{Nothing, Begin}
+use Rattle.shen_graph.specs.declared.order.Order.TheVariants.{Nothing}
 use Rattle.mutator.specs.Rows.{Mutating, touch_of, after_take, take_next}
 use Rattle.mutator.specs.Fit.{is_ready}
 use Rattle.heap_world.specs.World.{World, Plot, Block, thing, hand, name_at, AreCurrent, AreRooms, Shared}
@@ -83,9 +82,8 @@ module _ (c : Config) (u : World) (seat made phase cset : ℕ) (command : Comman
         → is_ready c seat made (Taking dst refs nums next) ≡ true → TakeFacts c w seat words next
         → Mine c w (at_spot (Taking dst refs nums next)) command fixed
     mine_at take next w mine block graph roots ready facts = record {
-      seat = mine.seat;
+      seated = record { below = mine.seated.below; counted = rw graph mine.seated.counted };
       ready = ready;
-      made = rw graph mine.made;
       roots = λ i below. rw (graph, block, roots i) (mine.roots i below);
       hands = rw block mine.hands;
       facts = (mine.facts.0, facts);
@@ -156,7 +154,7 @@ module _ (c : Config) (u : World) (seat made phase cset : ℕ) (command : Comman
         (λ (none : has_none c Fresh got ≡ true).
         looked LoadFree LoadCurrent Free shared mine refl
         (ap (after_take dst refs nums) (cond-true (has_none c Fresh got) (Ended NoRoom) (TakeRegion (lowest_in got)) none))
-        (current_ready mine.facts.0 mine.seat)
+        (current_ready mine.facts.0 mine.seated.below)
         tt)
         (λ (some : has_none c Fresh got ≡ false).
         let within : lowest_in got < c.regions = lowest_within c got c.reserve shared.free_word.no_more (leb-false _ _ some) in
@@ -182,7 +180,7 @@ module _ (c : Config) (u : World) (seat made phase cset : ℕ) (command : Comman
         let within : region < c.regions = mine.facts.1.1 in
         let bit : bit_at (u.memory Free) region ≡ 1 = eqb-true _ _ won in
         let nobodys : u.owner region ≡ None = shared.free_word.nobodys region within bit in
-        let mutator = mine.seat in
+        let mutator = mine.seated.below in
         let few = c.in_range.most_regions in
         record {
           world = taken_world region;
@@ -334,7 +332,7 @@ module _ (c : Config) (u : World) (seat made phase cset : ℕ) (command : Comman
         calm = shared.calm;
         free_word = free_more c tops currents u.block region top words seat grows (u.memory Free) u.owner own shared.free_word;
         currents = shared.currents;
-        rooms = rooms_more c tops currents u.block region top words seat grows u.owner (let below = mine.seat in omega (arith, below)) roomy.is_current shared.currents mine.hands;
+        rooms = rooms_more c tops currents u.block region top words seat grows u.owner (let below = mine.seated.below in omega (arith, below)) roomy.is_current shared.currents mine.hands;
         unasked = shared.unasked;
       }
 
@@ -353,9 +351,8 @@ module _ (c : Config) (u : World) (seat made phase cset : ℕ) (command : Comman
       -- the mutator goes on with the first word
       mine_grown : Mine c grown_world (at_spot (StoreWord dst refs nums address 0)) command fixed
       mine_grown = record {
-        seat = mine.seat;
-        ready = word_ready c seat made command fixed dst refs nums mine.facts.0 (λ r. grown_world.memory (Top r)) grown_world.block shared_grown.plotted address there mine.seat 0 (omega arith);
-        made = mine.made;
+        seated = mine.seated;
+        ready = word_ready c seat made command fixed dst refs nums mine.facts.0 (λ r. grown_world.memory (Top r)) grown_world.block shared_grown.plotted address there mine.seated.below 0 (omega arith);
         roots = λ i below. points_stay u.block grown_world.block names (u.memory (Root seat i)) (u.graph.root (seat + 1) i) (mine.roots i below);
         hands = own_hand c tops currents u.block region top words seat grows mine.hands;
         facts = (mine.facts.0, record { room = there; within = omega arith; stored = λ k below. absurd (omega arith) }, omega arith);
@@ -394,12 +391,11 @@ module _ (c : Config) (u : World) (seat made phase cset : ℕ) (command : Comman
       }
 
   -- the steps of a taking of room
-  pub at_taking : (dst refs nums : ℕ) (take : TakeSpot) (order : Order) → Row c u (at_spot (Taking dst refs nums take)) command order fixed
-  at_taking dst refs nums take (Begin l) shared mine takes = cc
-  at_taking dst refs nums LoadCurrent Nothing shared mine takes = at_load_current dst refs nums shared mine
-  at_taking dst refs nums (LoadTop region) Nothing shared mine takes = at_load_top dst refs nums region shared mine
-  at_taking dst refs nums LoadFree Nothing shared mine takes = at_load_free dst refs nums shared mine
-  at_taking dst refs nums (TakeRegion region) Nothing shared mine takes = at_take_region dst refs nums region shared mine
-  at_taking dst refs nums (StoreCurrent region) Nothing shared mine takes = at_store_current dst refs nums region shared mine
-  at_taking dst refs nums (StoreTop region top) Nothing shared mine takes = at_store_top dst refs nums region top shared mine
-  at_taking dst refs nums (Ended taken) Nothing shared mine takes = absurd mine.facts.1
+  pub at_taking : (dst refs nums : ℕ) (take : TakeSpot) → Row c u (at_spot (Taking dst refs nums take)) command fixed
+  at_taking dst refs nums LoadCurrent shared mine = at_load_current dst refs nums shared mine
+  at_taking dst refs nums (LoadTop region) shared mine = at_load_top dst refs nums region shared mine
+  at_taking dst refs nums LoadFree shared mine = at_load_free dst refs nums shared mine
+  at_taking dst refs nums (TakeRegion region) shared mine = at_take_region dst refs nums region shared mine
+  at_taking dst refs nums (StoreCurrent region) shared mine = at_store_current dst refs nums region shared mine
+  at_taking dst refs nums (StoreTop region top) shared mine = at_store_top dst refs nums region top shared mine
+  at_taking dst refs nums (Ended taken) shared mine = absurd mine.facts.1
