@@ -125,6 +125,8 @@ fn codes_of_places(rt: HostRuntime) {
     }
     assert_eq!(rt; Place::of(*b"E1"), Some(Place::E1));
     assert_eq!(rt; Place::of(*b"e1"), None);
+    assert!(rt; Place::HX.is(Place::HX));
+    assert!(rt; !Place::HX.is(Place::HI));
 }
 
 #[test]
