@@ -17,7 +17,7 @@ pub use encoding::{
 };
 pub use place::Place;
 pub use schedule::{Item, NoMemory, Schedule};
-pub use words::words_apart;
+pub use words::{heap_in, roots_in, words_apart};
 
 #[cfg(test)]
 mod tests;

@@ -1,4 +1,5 @@
 use super::*;
+use std::test::Fail;
 
 // The smallest configuration, and one with a helper.
 #[test]
@@ -125,6 +126,8 @@ fn codes_of_places(rt: HostRuntime) {
     }
     assert_eq!(rt; Place::of(*b"E1"), Some(Place::E1));
     assert_eq!(rt; Place::of(*b"e1"), None);
+    assert!(rt; Place::HX.is(Place::HX));
+    assert!(rt; !Place::HX.is(Place::HI));
 }
 
 #[test]
@@ -143,5 +146,18 @@ fn schedules(rt: HostRuntime) -> Result<(), NoMemory> {
     schedule.push(alloc, steps)?;
     schedule.push(alloc, until)?;
     assert!(rt; schedule.list() == [steps, until].as_slice());
+    Ok(())
+}
+
+// The parts of a table by their lengths: 16 roots for the one mutator, and the words of all regions.
+#[test]
+fn parts_of_a_table(rt: HostRuntime) -> Result<(), Fail> {
+    let config = Config::new(4, 64, 1, 0, 0).expect(&rt, "in range");
+    assert_eq!(rt; config.heap_size(), 256);
+    assert_eq!(rt; config.roots_start(), 24);
+    assert_eq!(rt; config.heap_start(), 59);
+    let words = vec![in rt.alloc(); 7u64; config.table_words()]?;
+    assert_eq!(rt; roots_in(config, &words).len(), 16);
+    assert_eq!(rt; heap_in(config, &words).len(), 256);
     Ok(())
 }

@@ -1,11 +1,12 @@
-ghost use Rattle.std.specs.Prelude.{◌≡◌, ◌≤◌};
-ghost use Rattle.heap_words.specs.Words.{Pause, Left, End, State, Phase, Cset, Free, Evac, Claim, Ask, Top, Tams, Limit, Current, Root, Count, Buffer, Wait, Answer, Grey, Black, Heap, IsWord, word_at, table_words, heap_size, bit_words, image_start, roots_start, marks_start, heap_start, AreApart, IsStoreOfOne};
+ghost use Rattle.std.specs.Prelude.{◌≡◌, ◌≤◌, length};
+ghost use Rattle.heap_words.specs.Words.{Pause, Left, End, State, Phase, Cset, Free, Evac, Claim, Ask, Top, Tams, Limit, Current, Root, Count, Buffer, Wait, Answer, Grey, Black, Heap, IsWord, word_at, table_words, heap_size, bit_words, image_start, roots_start, marks_start, heap_start, heap_in, roots_in, AreApart, IsStoreOfOne};
 
 use super::config::Config;
 
 // Where the rows of words begin.
 impl Config {
-    fn heap_size(&self) -> usize
+    /// The words of the heap: those of all regions.
+    pub fn heap_size(&self) -> usize
         ensures value { result ≡ heap_size self.now }
         ensures bound { result ≤ 65536 }
     {
@@ -26,7 +27,8 @@ impl Config {
         3 + self.mutators + self.helpers
     }
 
-    fn roots_start(&self) -> usize
+    /// Where the words of the mutators begin in the table, their roots first.
+    pub fn roots_start(&self) -> usize
         ensures value { result ≡ roots_start self.now }
         ensures bound { result ≤ 224 }
     {
@@ -40,7 +42,8 @@ impl Config {
         self.roots_start() + 27 * self.mutators
     }
 
-    fn heap_start(&self) -> usize
+    /// Where the words of the heap begin in the table; they end it.
+    pub fn heap_start(&self) -> usize
         ensures value { result ≡ heap_start self.now }
         ensures bound { result ≤ 2488 }
     {
@@ -223,6 +226,23 @@ impl Config {
     {
         self.heap_start() + self.heap_size()
     }
+}
+
+/// The words of the heap in a table of this configuration, from the first address on.
+pub fn heap_in(config: Config, words: &[u64]) -> &[u64]
+    requires { length words.now ≡ table_words config }
+    ensures { result.now ≡ heap_in config words.now }
+{
+    &words[config.heap_start()..config.table_words()]
+}
+
+/// The words of the roots in a table of this configuration, 16 for each mutator.
+pub fn roots_in(config: Config, words: &[u64]) -> &[u64]
+    requires { length words.now ≡ table_words config }
+    ensures { result.now ≡ roots_in config words.now }
+{
+    let start = config.roots_start();
+    &words[start..start + 16 * config.mutators()]
 }
 
 /// A law: each word stands inside the table and apart from every other, and a store changes one.

@@ -8,8 +8,8 @@ use Rattle.heap_words.specs.Words.{table_words}
 use Rattle.steps_base.specs.Steps.{Event}
 use Rattle.shen_graph.specs.declared.name.Name.{Name}
 use Rattle.shen_graph.specs.History.{after}
-use Rattle.mutator.specs.declared.spot.Order.{Order}
-use Rattle.mutator.specs.Orders.{is_at_rest}
+use Rattle.shen_graph.specs.declared.order.Order.{Order}
+use Rattle.mutator.specs.Orders.{is_between_calls}
 use Rattle.mutator.specs.Rows.{Mutating}
 use Rattle.step_core.specs.Actor.{Machine, mutating, helping, controlling}
 use Rattle.heap_world.specs.World.{name_at}
@@ -25,7 +25,7 @@ use Rattle.shen_core.specs.Answer.{is_resting}
 use Rattle.shen_core.proofs.Events.{shown_actor}
 
 -- a machine that rests is a mutator at rest
-rest_parts : (machine : Machine) → is_resting machine ≡ true → (m : Mutating) × (machine ≡ mutating m) × (is_at_rest m.spot ≡ true)
+rest_parts : (machine : Machine) → is_resting machine ≡ true → (m : Mutating) × (machine ≡ mutating m) × (is_between_calls m.spot ≡ true)
 rest_parts (mutating m) rest = (m, refl, rest)
 rest_parts helping rest = cc
 rest_parts controlling rest = cc

@@ -9,8 +9,8 @@ use Rattle.std.proofs.lemmas.List.{map-set}
 use Rattle.heap_words.specs.declared.config.Config.{Config}
 use Rattle.heap_words.specs.Access.{place_of}
 use Rattle.mutator.specs.declared.thread.Mutator.{Mutator}
-use Rattle.mutator.specs.declared.spot.Order.{Order}
-use Rattle.mutator.specs.declared.spot.Order.TheVariants.{Nothing}
+use Rattle.shen_graph.specs.declared.order.Order.{Order}
+use Rattle.shen_graph.specs.declared.order.Order.TheVariants.{Nothing}
 use Rattle.mutator.specs.Orders.{takes_at}
 use Rattle.mutator.specs.Rows.{next_of}
 use Rattle.mutator.specs.Seen.{seen, order_of, config_of}

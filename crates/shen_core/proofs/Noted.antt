@@ -17,9 +17,9 @@ use Rattle.shen_graph.specs.declared.command.Reply.{Reply}
 use Rattle.shen_graph.specs.Work as work
 use Rattle.mutator.specs.declared.spot.Spot.{Spot}
 use Rattle.mutator.specs.declared.spot.Spot.TheVariants.{Rest, StoreFresh, Leave}
-use Rattle.mutator.specs.declared.spot.Order.{Order}
-use Rattle.mutator.specs.declared.spot.Order.TheVariants.{Nothing}
-use Rattle.mutator.specs.Orders.{is_at_rest}
+use Rattle.shen_graph.specs.declared.order.Order.{Order}
+use Rattle.shen_graph.specs.declared.order.Order.TheVariants.{Nothing}
+use Rattle.mutator.specs.Orders.{is_between_calls}
 use Rattle.mutator.specs.Rows.{Mutating, given_at, answer_at, reply_at, next_at}
 use Rattle.mutator.proofs.Done.{done_gives}
 use Rattle.step_core.specs.Actor.{Machine, mutating, helping, controlling, Actor, entries_of, takes_of, plan_of, took_of, kind}
@@ -189,7 +189,7 @@ next_reply c m order got (Leave q) r is = is
 next_reply c m order got _ r is = absurd (cc)
 
 -- and is between two calls
-pub next_rests : (c : Config) (m : Mutating) (order : Order) (got : ℕ) (spot : Spot) (r : Reply) → given_at spot ≡ Some r → is_at_rest (next_at c m order got spot).spot ≡ true
+pub next_rests : (c : Config) (m : Mutating) (order : Order) (got : ℕ) (spot : Spot) (r : Reply) → given_at spot ≡ Some r → is_between_calls (next_at c m order got spot).spot ≡ true
 next_rests c m order got (Leave q) r is = refl
 next_rests c m order got _ r is = absurd (cc)
 

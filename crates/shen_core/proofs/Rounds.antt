@@ -12,7 +12,7 @@ use Rattle.heap_words.specs.Ranges.{seat_count}
 use Rattle.steps_base.specs.Steps.{Stage, Event, act, go}
 use Rattle.steps_base.proofs.Runs.{go-none, go-append}
 use Rattle.std.proofs.lemmas.List.{length-append}
-use Rattle.mutator.specs.declared.spot.Order.{Order}
+use Rattle.shen_graph.specs.declared.order.Order.{Order}
 use Rattle.step_core.specs.Actor.{Actor, kind}
 use Rattle.step_core.specs.Schedule.{Scripts, turn, Agenda, next, numbers_from, first_turn, or_else, round_of, and_then, scheduled}
 use Rattle.std.proofs.lemmas.List.{append-nil}

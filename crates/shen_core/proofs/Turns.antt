@@ -11,8 +11,8 @@ use Rattle.std.proofs.lemmas.Bool.{lt-ltb, ltb-true}
 use Rattle.heap_words.specs.declared.config.Config.{Config}
 use Rattle.steps_base.specs.Steps.{Stage, Event}
 use Rattle.shen_graph.specs.Work as work
-use Rattle.mutator.specs.declared.spot.Order.TheVariants.{Begin}
-use Rattle.mutator.specs.declared.spot.Order.{Order}
+use Rattle.shen_graph.specs.declared.order.Order.TheVariants.{Begin}
+use Rattle.shen_graph.specs.declared.order.Order.{Order}
 use Rattle.mutator.specs.Orders.{takes_at}
 use Rattle.mutator.specs.Rows.{Mutating}
 use Rattle.mutator.specs.Fit.{IsFit}
@@ -30,7 +30,7 @@ pub seat_below : (c : Config) (words : List ℕ) (machines : List Machine) (numb
 seat_below c words machines number m some here =
     let found = shown_actor words machines (reached c some.events) number (mutating m) some.shows here in
     let thread = thread_of c (reached c some.events) (past c some.events) (follows_reached c some.events) number found.0 m (record { here = found.1; is = found.2 }) in
-    subst (λ k. k < c.mutators) thread.number_is thread.mine.seat
+    subst (λ k. k < c.mutators) thread.number_is thread.mine.seated.below
 
 -- the same where it is only known that some events led there
 pub seat_below_some : (c : Config) (words : List ℕ) (machines : List Machine) (number : ℕ) (m : Mutating) → ∥ IsShownBySome c words machines ∥₁ → slice_get machines number ≡ Some (mutating m) → number < c.mutators

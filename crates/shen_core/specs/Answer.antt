@@ -6,7 +6,7 @@ use Rattle.heap_words.specs.declared.place.Place.TheVariants as place
 use Rattle.shen_graph.specs.declared.command.Reply.{Reply}
 use Rattle.mutator.specs.declared.spot.Spot.{Spot}
 use Rattle.mutator.specs.declared.spot.Spot.TheVariants.{Leave}
-use Rattle.mutator.specs.Orders.{is_at_rest}
+use Rattle.mutator.specs.Orders.{is_between_calls}
 use Rattle.heap_words.specs.declared.access.Took.{Took}
 use Rattle.heap_words.specs.declared.access.Took.TheVariants.{More, Again, Done}
 use Rattle.mutator.specs.Rows.{answer_at, reply_at, place_at}
@@ -39,7 +39,7 @@ place_in controlling = place.I0
 
 -- whether the machine is a mutator between two calls
 abbrev pub is_resting : Machine → Bool
-is_resting (mutating m) = is_at_rest m.spot
+is_resting (mutating m) = is_between_calls m.spot
 is_resting helping = false
 is_resting controlling = false
 

@@ -6,7 +6,7 @@ use Rattle.steps_base.specs.Touch.{placed}
 use Rattle.mutator.specs.Rows.{Mutating, touch_of, next_of}
 use Rattle.heap_words.specs.declared.config.Config.{Config}
 use Rattle.steps_base.specs.Steps.{Stage, Event, act, go, IsEvent}
-use Rattle.mutator.specs.declared.spot.Order.{Order}
+use Rattle.shen_graph.specs.declared.order.Order.{Order}
 use Rattle.step_core.specs.Actor.{Machine, mutating, helping, controlling, Actor, kind}
 use Rattle.step_core.specs.Follows.{reached}
 

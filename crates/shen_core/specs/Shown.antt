@@ -1,7 +1,7 @@
 -- What the events see of the machines in memory.
 use Rattle.heap_words.specs.declared.config.Config.{Config}
-use Rattle.mutator.specs.declared.spot.Order.{Order}
-use Rattle.mutator.specs.declared.spot.Order.TheVariants.{Nothing}
+use Rattle.shen_graph.specs.declared.order.Order.{Order}
+use Rattle.shen_graph.specs.declared.order.Order.TheVariants.{Nothing}
 use Rattle.mutator.specs.Seen.{seen, order_of, config_of}
 use Rattle.step_core.specs.Actor as actors
 use Rattle.shen_core.specs.declared.machine.Machine.{Machine}

@@ -34,14 +34,14 @@ pub struct Plain {
 impl Plain {
     ghost use Rattle.std.specs.Prelude.{◌<◌, ◌↔◌, ◌≢◌, true, false, slice_set, slice_index, Some, None, IfOk, IfSome};
     ghost use Rattle.heap_words.specs.Access.{place_of};
-    ghost use Rattle.mutator.specs.declared.spot.Order.TheVariants.{Nothing, Begin};
+    ghost use Rattle.shen_graph.specs.declared.order.Order.TheVariants.{Nothing, Begin};
     ghost use Rattle.shen_graph.specs.Valid.{IsValid};
     ghost use Rattle.step_core.specs.Actor.{takes_of, plan_of};
     ghost use Rattle.step_core.specs.Schedule.{stands_in};
     ghost use Rattle.step_core.specs.Opening.{opening};
     ghost use Rattle.std.specs.Prelude.{List, ℕ};
     ghost use Rattle.shen_graph.specs.History.{after};
-    ghost use Rattle.mutator.specs.declared.spot.Order.{Order};
+    ghost use Rattle.shen_graph.specs.declared.order.Order.{Order};
     ghost use Rattle.steps_base.specs.Steps.{Event};
     ghost use Rattle.step_core.specs.Follows.{first_graph, reached, past};
     ghost use Rattle.heap_graph.specs.Shows as texts;

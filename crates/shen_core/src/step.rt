@@ -4,7 +4,7 @@ ghost use Rattle.heap_words.specs.Words.{table_words};
 ghost use Rattle.mutator.specs.Rows.{next_of, answer_at};
 ghost use Rattle.mutator.specs.Fit.{IsFit};
 ghost use Rattle.mutator.specs.Seen.{seen, config_of, order_of, is_idle};
-ghost use Rattle.mutator.specs.declared.spot.Order.TheVariants.{Nothing};
+ghost use Rattle.shen_graph.specs.declared.order.Order.TheVariants.{Nothing};
 ghost use Rattle.steps_base.specs.Steps.{accessed};
 ghost use Rattle.shen_core.specs.Runs.{access_of};
 ghost use Rattle.shen_core.specs.Answer.{stepped_of};

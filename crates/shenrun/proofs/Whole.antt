@@ -18,7 +18,7 @@ use Rattle.shen_graph.specs.GraphText.{Text, Row, names_of, root_of}
 use Rattle.shen_graph.specs.History.{Entry, after, of_thread, commands_of}
 use Rattle.shen_graph.specs.History as history
 use Rattle.shen_graph.specs.Work as work
-use Rattle.mutator.specs.declared.spot.Order.{Order}
+use Rattle.shen_graph.specs.declared.order.Order.{Order}
 use Rattle.step_core.specs.Actor.{Machine, controlling, Actor, entries_of}
 use Rattle.step_core.specs.Schedule.{Scripts}
 use Rattle.step_core.specs.Follows.{first_graph, reached, past}

@@ -14,8 +14,8 @@ use Rattle.shen_graph.specs.declared.command.Reply.{Reply}
 use Rattle.shen_graph.specs.History.{Entry}
 use Rattle.mutator.specs.declared.spot.Spot.{Spot}
 use Rattle.mutator.specs.declared.spot.Spot.TheVariants.{Rest, Ended}
-use Rattle.mutator.specs.declared.spot.Order.{Order}
-use Rattle.mutator.specs.declared.spot.Order.TheVariants.{Nothing, Begin}
+use Rattle.shen_graph.specs.declared.order.Order.{Order}
+use Rattle.shen_graph.specs.declared.order.Order.TheVariants.{Nothing, Begin}
 use Rattle.mutator.specs.Orders.{is_valid, takes_at}
 use Rattle.step_core.specs.Actor.{Machine, mutating, helping, controlling, Actor, entries_of, command_by, takes_of, took_of, kind}
 use Rattle.step_core.specs.Opening.{opening_actor, opening}
@@ -84,7 +84,7 @@ told_settled c s h e follows valid = by_machine (slice_get s.machines e.number) 
   where
     by_kind : (a : Actor) (machine : Machine) → slice_get s.machines e.number ≡ Some a → a.machine ≡ machine → takes_of machine e.order ≡ true → All (IsSettled c.mutators) (told_by (settled c s) a e.order machine)
     by_kind a (mutating m) here is takes =
-        entries_settled c.mutators m.seat (command_by e.order a.command) _ (thread_of c s h follows e.number a m (record { here = here; is = is })).mine.seat
+        entries_settled c.mutators m.seat (command_by e.order a.command) _ (thread_of c s h follows e.number a m (record { here = here; is = is })).mine.seated.below
         (command_valid m.spot m.made e.order a.command takes (valid e.number a here))
     by_kind a helping here is takes = All-nil (IsSettled c.mutators)
     by_kind a controlling here is takes = All-nil (IsSettled c.mutators)

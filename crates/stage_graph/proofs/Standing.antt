@@ -14,7 +14,7 @@ use Rattle.shen_graph.specs.Graph.{Graph, Object, Reference}
 use Rattle.shen_graph.specs.Reach.{size}
 use Rattle.mutator.specs.declared.spot.Spot.{Spot}
 use Rattle.mutator.specs.declared.spot.Spot.TheVariants.{Rest, Ended}
-use Rattle.mutator.specs.Orders.{is_at_rest}
+use Rattle.mutator.specs.Orders.{is_between_calls}
 use Rattle.step_core.specs.Actor.{Actor}
 use Rattle.heap_world.specs.World as world
 use Rattle.heap_world.specs.World.{World, Plot, Block, thing, hand, words_of, name_at, Points}
@@ -40,7 +40,7 @@ refers_from block word None is = is
 refers_from block word (Some n) is = is
 
 -- between two calls the root's word counts
-pub root_at_rest : (w : World) (seat index : ℕ) (spot : Spot) → is_at_rest spot ≡ true → root_now w seat spot index ≡ w.memory (Root seat index)
+pub root_at_rest : (w : World) (seat index : ℕ) (spot : Spot) → is_between_calls spot ≡ true → root_now w seat spot index ≡ w.memory (Root seat index)
 root_at_rest w seat index Rest rest = refl
 root_at_rest w seat index (Ended reply) rest = refl
 root_at_rest w seat index _ rest = cc

@@ -4,7 +4,7 @@ use Rattle.heap_words.specs.declared.config.Config.{Config}
 use Rattle.heap_words.specs.Words.{roots_start, heap_start, table_words}
 use Rattle.steps_base.specs.Steps.{Stage}
 use Rattle.shen_graph.specs.Graph.{Graph}
-use Rattle.mutator.specs.Orders.{is_at_rest}
+use Rattle.mutator.specs.Orders.{is_between_calls}
 use Rattle.mutator.specs.Rows.{Mutating}
 use Rattle.step_core.specs.Actor.{Actor}
 use Rattle.step_core.specs.Follows.{IsMutator}
@@ -23,7 +23,7 @@ pub record IsResting (s : Stage Actor) (number : ℕ) : Type 0 where
   pub mutator : Mutating
   pub here : IsMutator s number actor mutator
   pub seat : mutator.seat ≡ number
-  pub rest : is_at_rest mutator.spot ≡ true
+  pub rest : is_between_calls mutator.spot ≡ true
 
 -- no mutator has a call in progress
 abbrev pub AreResting : Config → Stage Actor → Type 0

@@ -9,7 +9,7 @@ ghost use Rattle.heap_words.specs.Words.{table_words};
 ghost use Rattle.steps_base.specs.Steps.{Stage, Event};
 ghost use Rattle.shen_graph.specs.Graph.{Graph};
 ghost use Rattle.shen_graph.specs.History.{after};
-ghost use Rattle.mutator.specs.declared.spot.Order.{Order};
+ghost use Rattle.shen_graph.specs.declared.order.Order.{Order};
 ghost use Rattle.step_core.specs.Actor.{Actor};
 ghost use Rattle.heap_world.specs.World.{name_at};
 ghost use Rattle.step_core.specs.Follows.{StandsFor, past, first_graph};

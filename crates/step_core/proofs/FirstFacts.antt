@@ -220,7 +220,7 @@ first_roots c k i below = ⊎_elim
 
 -- what a mutator knows holds of the opening
 first_mine : (c : Config) (k : ℕ) → k < c.mutators → Mine c (first_world c) (fresh_mutator k) Gc None
-first_mine c k below = record { seat = below; ready = refl; made = refl; roots = λ i small. first_roots c k i below; hands = λ a words is. (let no = (block_only c a (hand k words) is).1 in cc); facts = refl }
+first_mine c k below = record { seated = record { below = below; counted = refl }; ready = refl; roots = λ i small. first_roots c k i below; hands = λ a words is. (let no = (block_only c a (hand k words) is).1 in cc); facts = refl }
 
 -- each machine of the opening follows the empty history
 first_machine : (c : Config) (k : ℕ) → IsMachine c (first_world c) [] k (opening_actor c k) (opening_machine c k)

@@ -17,8 +17,8 @@ use Rattle.shen_graph.specs.declared.command.Reply.{Reply}
 use Rattle.shen_graph.specs.History.{Entry, after, of_thread}
 use Rattle.mutator.specs.declared.spot.Spot.{Spot}
 use Rattle.mutator.specs.declared.spot.Spot.TheVariants.{Rest, Ended, Leave}
-use Rattle.mutator.specs.declared.spot.Order.{Order}
-use Rattle.mutator.specs.declared.spot.Order.TheVariants.{Nothing, Begin}
+use Rattle.shen_graph.specs.declared.order.Order.{Order}
+use Rattle.shen_graph.specs.declared.order.Order.TheVariants.{Nothing, Begin}
 use Rattle.mutator.specs.Orders.{takes_at}
 use Rattle.mutator.specs.Rows.{Mutating, touch_of, next_at, next_of, given_at}
 use Rattle.mutator.specs.Told.{told_of as settled_by}

@@ -12,7 +12,7 @@ use Rattle.shen_graph.specs.declared.command.Reply.TheVariants.{Ref, Null, Yes, 
 use Rattle.shen_graph.specs.declared.command.Command.TheVariants.{Same}
 use Rattle.shen_graph.specs.Step.{yes_or_no}
 use Rattle.shen_graph.specs.History.{Entry, IsWithoutFull}
-use Rattle.mutator.specs.declared.spot.Order.{Order}
+use Rattle.shen_graph.specs.declared.order.Order.{Order}
 use Rattle.mutator.specs.declared.spot.Spot.{Spot}
 use Rattle.mutator.specs.declared.spot.Spot.TheVariants.{LoadRoot, LoadSecond, LoadShape, LoadField, LoadExpected, StoreField, SwapField, ExchangeField, LoadNumber, StoreNumber, StoreRoot, StoreFresh, AskCycle}
 use Rattle.mutator.specs.Rows.{root_of, lacks_object, has_part, name_in}

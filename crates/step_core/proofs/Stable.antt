@@ -139,9 +139,8 @@ module _ (c : Config) (u w : World) (seat : ℕ) (keeps : Keeps seat u w) where
 -- all that it knows stays
 pub mine_stays : (c : Config) (u w : World) (m : Mutating) (command : Command) (fixed : Option Reply) → Shared c u → Rely m.seat u w → Mine c u m command fixed → Mine c w m command fixed
 mine_stays c u w m command fixed shared rely mine = let keeps : Keeps m.seat u w = keeps_of m.seat u w rely in record {
-  seat = mine.seat;
+  seated = record { below = mine.seated.below; counted = rely.count ∙ mine.seated.counted };
   ready = mine.ready;
-  made = rely.count ∙ mine.made;
   roots = λ i below. rw (now_stays c u w m.seat keeps m.spot i) (root_stays c u w m.seat keeps _ i (mine.roots i below));
   hands = λ a words is. mine.hands a words (rely.no_hands a words is);
   facts = facts_stay c u w m.seat keeps m.made command fixed (take_stays c u w m.seat rely (λ r is. shared.currents.own m.seat r is)) m.spot mine.facts;

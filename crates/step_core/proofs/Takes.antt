@@ -19,8 +19,7 @@ use Rattle.alloc_buffers.proofs.Takes.{TakeStep}
 use Rattle.alloc_buffers.proofs.TakePart.{take_part}
 use Rattle.mutator.specs.declared.spot.Spot.{Spot}
 use Rattle.mutator.specs.declared.spot.Spot.TheVariants.{Taking}
-use Rattle.mutator.specs.declared.spot.Order.{Order}
-use Rattle.mutator.specs.declared.spot.Order.TheVariants.{Nothing, Begin}
+use Rattle.shen_graph.specs.declared.order.Order.TheVariants.{Nothing}
 use Rattle.mutator.specs.Rows.{Mutating, after_take}
 use Rattle.mutator.specs.Fit.{is_next_object, is_going}
 use Rattle.step_core.specs.Stepped.{Mine, Row, Stepped}
@@ -55,7 +54,7 @@ module _ (c : Config) (u : World) (seat made phase cset : ℕ) (command : Comman
     -- a mutator that takes room for an object can take it
     can_take : CanTake c u seat words take
     can_take = record {
-      seated = (let within = mine.seat in omega (arith, within));
+      seated = (let within = mine.seated.below in omega (arith, within));
       least = omega arith;
       most = (let few_refs = mine.facts.0.few_refs in let few_nums = mine.facts.0.few_nums in omega (arith, few_refs, few_nums));
       ready = and_from _ _ ready_parts.0 ready_parts.2;
@@ -67,9 +66,8 @@ module _ (c : Config) (u : World) (seat made phase cset : ℕ) (command : Comman
     mine_at : (next : TakeSpot) (w : World) → is_going next ≡ true → Keeps seat u w → CanTake c w seat words next → ((a more : ℕ) → w.block a ≡ Some (hand seat more) → ⊥)
         → Mine c w (at_spot (Taking dst refs nums next)) command fixed
     mine_at next w going keeps can none = record {
-      seat = mine.seat;
+      seated = record { below = mine.seated.below; counted = keeps.count ∙ mine.seated.counted };
       ready = (let both = and_parts _ _ can.ready in taking_ready c seat made command fixed dst refs nums mine.facts.0 next both.0 going both.1);
-      made = keeps.count ∙ mine.made;
       roots = λ i below. rw (keeps.root_words i) (root_stays c u w seat keeps _ i (mine.roots i below));
       hands = none;
       facts = (mine.facts.0, can.facts);
@@ -83,9 +81,8 @@ module _ (c : Config) (u : World) (seat made phase cset : ℕ) (command : Comman
         (record { seated = can.seated; least = can.least; most = can.most; ready = and_from _ _ (and_from _ _ (lt-ltb _ _ can.seated) refl) refl; facts = tt; hands = can.hands })
         can.hands
     mine_then (Ended (At address)) w shared keeps can = record {
-      seat = mine.seat;
-      ready = word_ready c seat made command fixed dst refs nums mine.facts.0 (λ r. w.memory (Top r)) w.block shared.plotted address can.facts mine.seat 0 (omega arith);
-      made = keeps.count ∙ mine.made;
+      seated = record { below = mine.seated.below; counted = keeps.count ∙ mine.seated.counted };
+      ready = word_ready c seat made command fixed dst refs nums mine.facts.0 (λ r. w.memory (Top r)) w.block shared.plotted address can.facts mine.seated.below 0 (omega arith);
       roots = λ i below. rw (keeps.root_words i) (root_stays c u w seat keeps _ i (mine.roots i below));
       hands = can.hands;
       facts = (mine.facts.0, record { room = can.facts; within = omega arith; stored = λ k below. absurd (omega arith) }, omega arith);
@@ -106,8 +103,7 @@ module _ (c : Config) (u : World) (seat made phase cset : ℕ) (command : Comman
     }
 
   -- the steps of a taking of room
-  pub at_taking : (dst refs nums : ℕ) (take : TakeSpot) (order : Order) → Row c u (at_spot (Taking dst refs nums take)) command order fixed
-  at_taking dst refs nums take (Begin l) shared mine goes = cc
-  at_taking dst refs nums take Nothing shared mine goes =
+  pub at_taking : (dst refs nums : ℕ) (take : TakeSpot) → Row c u (at_spot (Taking dst refs nums take)) command fixed
+  at_taking dst refs nums take shared mine =
       lifted dst refs nums take mine
       (take_part.step c u seat (record { words = 3 + refs + nums; kind = Fresh }) take (going_now dst refs nums take mine) shared (can_take dst refs nums take mine))

@@ -10,10 +10,10 @@ use Rattle.steps_base.proofs.Runs.{reached_has}
 use Rattle.shen_graph.specs.declared.command.Reply.{Reply}
 use Rattle.shen_graph.specs.declared.command.Command.{Command}
 use Rattle.shen_graph.specs.History.{Entry, IsWithoutFull, after, of_thread}
-use Rattle.mutator.specs.declared.spot.Order.{Order}
+use Rattle.shen_graph.specs.declared.order.Order.{Order}
 use Rattle.mutator.specs.declared.spot.Spot.{Spot}
 use Rattle.mutator.specs.declared.spot.Spot.TheVariants.{Rest, Ended}
-use Rattle.mutator.specs.Orders.{is_at_rest}
+use Rattle.mutator.specs.Orders.{is_between_calls}
 use Rattle.mutator.specs.Rows.{Mutating, touch_of}
 use Rattle.mutator.specs.Fit.{IsFit}
 use Rattle.step_core.specs.Actor.{mutating, Actor, plan_of, takes_of, kind}
@@ -38,7 +38,7 @@ thread_of c s h follows number a m here =
     subst (λ machine. IsMachine c (world_of c s follows.block follows.owner (after (first_graph c) h)) (of_thread h (number + 1)) number a machine) here.is (follows.machines number a here.here)
 
 -- between two calls no reply is settled that is not given
-unsettled_at_rest : (c : Config) (w : World) (seat made : ℕ) (command : Command) (fixed : Option Reply) (spot : Spot) → is_at_rest spot ≡ true → SpotFacts c w seat made command fixed spot → fixed ≡ None
+unsettled_at_rest : (c : Config) (w : World) (seat made : ℕ) (command : Command) (fixed : Option Reply) (spot : Spot) → is_between_calls spot ≡ true → SpotFacts c w seat made command fixed spot → fixed ≡ None
 unsettled_at_rest c w seat made command fixed Rest rest facts = facts
 unsettled_at_rest c w seat made command fixed (Ended reply) rest facts = facts
 unsettled_at_rest c w seat made command fixed _ rest facts = absurd cc

@@ -8,8 +8,8 @@ use Rattle.shen_graph.specs.declared.command.Reply.{Reply}
 use Rattle.shen_graph.specs.Graph as graphs
 use Rattle.shen_graph.specs.Graph.{Graph}
 use Rattle.shen_graph.specs.History.{Entry, after, EachIsLegal, IsWithoutFull, of_thread}
-use Rattle.mutator.specs.declared.spot.Order.{Order}
-use Rattle.mutator.specs.Orders.{is_at_rest, takes_at}
+use Rattle.shen_graph.specs.declared.order.Order.{Order}
+use Rattle.mutator.specs.Orders.{is_between_calls, takes_at}
 use Rattle.mutator.specs.Rows.{Mutating}
 use Rattle.mutator.specs.Fit.{IsReady, IsFit}
 use Rattle.step_core.specs.Actor.{Machine, mutating, helping, controlling, Actor, entries_of, plan_of, kind}
@@ -79,7 +79,7 @@ pub record StandsFor (c : Config) (s : Stage Actor) (g : Graph) : Type 0 where
 -- settled, one more, of that call. Between two calls there is no more.
 pub record AreCalls (entries : List Entry) (number : ℕ) (a : Actor) (m : Mutating) (fixed : Option Reply) : Type 0 where
   pub entries_are : entries ≡ a.calls ++ entries_of number a.command fixed
-  pub at_rest : is_at_rest m.spot ≡ true → fixed ≡ None
+  pub at_rest : is_between_calls m.spot ≡ true → fixed ≡ None
 
 -- a mutator's next access is of a word of the table, and the word that it finds there is fit
 pub record FindsFit (c : Config) (s : Stage Actor) (a : Actor) (m : Mutating) : Type 0 where

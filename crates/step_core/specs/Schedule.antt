@@ -14,9 +14,9 @@ use Rattle.heap_words.specs.Ranges.{seat_count}
 use Rattle.heap_words.specs.Place.{code_of}
 use Rattle.steps_base.specs.Steps.{Stage, Event, act}
 use Rattle.shen_graph.specs.declared.command.Command.{Command}
-use Rattle.mutator.specs.declared.spot.Order.{Order}
-use Rattle.mutator.specs.declared.spot.Order.TheVariants.{Nothing, Begin}
-use Rattle.mutator.specs.Orders.{is_at_rest}
+use Rattle.shen_graph.specs.declared.order.Order.{Order}
+use Rattle.shen_graph.specs.declared.order.Order.TheVariants.{Nothing, Begin}
+use Rattle.mutator.specs.Orders.{is_between_calls}
 use Rattle.mutator.specs.Rows.{place_at, answer_at}
 use Rattle.step_core.specs.Actor.{Machine, mutating, helping, controlling, Actor, plan_of, kind}
 
@@ -31,7 +31,7 @@ script_of scripts number = slice_index_or scripts number []
 -- follows those of its calls. It is idle where there is none.
 abbrev pub order_on_turn : Scripts → ℕ → Actor → Machine → Option Order
 order_on_turn scripts number a (mutating m) =
-    if is_at_rest m.spot then option_map (λ command. Begin command) (slice_get (script_of scripts number) (length a.calls)) else Some Nothing
+    if is_between_calls m.spot then option_map (λ command. Begin command) (slice_get (script_of scripts number) (length a.calls)) else Some Nothing
 order_on_turn scripts number a helping = None
 order_on_turn scripts number a controlling = None
 

@@ -14,7 +14,8 @@ use Rattle.shen_graph.specs.History.{after_entry}
 use Rattle.alloc_buffers.specs.Facts.{TakeFacts}
 use Rattle.mutator.specs.declared.spot.Spot.{Spot}
 use Rattle.mutator.specs.declared.spot.Spot.TheVariants.{Rest, Ended, LoadSet, LoadRoot, LoadSecond, LoadThird, LoadShape, LoadField, LoadExpected, StoreField, SwapField, ExchangeField, LoadNumber, StoreNumber, LoadName, StoreLoaded, StoreRoot, Taking, StoreWord, StoreFresh, AskCycle, Leave}
-use Rattle.mutator.specs.declared.spot.Order.{Order}
+use Rattle.shen_graph.specs.declared.order.Order.{Order}
+use Rattle.shen_graph.specs.declared.order.Order.TheVariants.{Nothing}
 use Rattle.mutator.specs.Orders.{takes_at, is_next}
 use Rattle.mutator.specs.Rows.{Mutating, touch_of, next_of, given_at, roots_of, root_of, is_on_object, fresh_word}
 use Rattle.mutator.specs.Told.{told_of}
@@ -173,11 +174,19 @@ IsInHand (StoreWord dst refs nums address done) a words = (a ≡ address) × (wo
 IsInHand (StoreFresh dst refs nums address) a words = (a ≡ address) × (words ≡ 3 + refs + nums)
 IsInHand _ a words = ⊥
 
+-- The facts of a seat that all places share, over the words and numbers that they read: it is a mutator's, and it has made
+-- as many objects as the graph says.
+pub record IsSeated (mutators seat count made : ℕ) : Type 0 where
+  pub below : seat < mutators
+  pub counted : count ≡ made
+
+abbrev pub Seated : Config → World → Mutating → Type 0
+Seated c w m = IsSeated c.mutators m.seat (w.graph.count (m.seat + 1)) m.made
+
 -- what a mutator counts on
 pub record Mine (c : Config) (w : World) (m : Mutating) (command : Command) (fixed : Option Reply) : Type 0 where
-  pub seat : m.seat < c.mutators
+  pub seated : Seated c w m
   pub ready : IsReady c m
-  pub made : w.graph.count (m.seat + 1) ≡ m.made
   pub roots : (i : ℕ) → i < 16 → Points w.block (root_now w m.seat m.spot i) (w.graph.root (m.seat + 1) i)
   pub hands : (a words : ℕ) → w.block a ≡ Some (hand m.seat words) → IsInHand m.spot a words
   pub facts : SpotFacts c w m.seat m.made command fixed m.spot
@@ -211,7 +220,12 @@ pub record Stepped (c : Config) (u : World) (m : Mutating) (command : Command) (
   pub mine : Mine c world (next_of c m order (u.memory (touch_of c m).word)) (command_by order command) (fixed_by fixed (told_of u.memory m) (given_at m.spot))
   pub others : (seat : ℕ) → seat ≢ m.seat → Rely seat u world
 
--- what is proved of each spot: from the shared facts and the mutator's own its step is as it should be
-abbrev pub Row : Config → World → Mutating → Command → Order → Option Reply → Type 0
-Row c u m command order fixed =
+-- What is proved of each spot: from the shared facts and the mutator's own its step is as it should be, under each order
+-- that it takes.
+abbrev pub OrderedRow : Config → World → Mutating → Command → Order → Option Reply → Type 0
+OrderedRow c u m command order fixed =
     Shared c u → Mine c u m command fixed → takes_at m.spot m.made order ≡ true → Stepped c u m command order fixed
+
+-- in a call there is no order
+abbrev pub Row : Config → World → Mutating → Command → Option Reply → Type 0
+Row c u m command fixed = Shared c u → Mine c u m command fixed → Stepped c u m command Nothing fixed

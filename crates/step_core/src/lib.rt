@@ -9,7 +9,7 @@ ghost use Rattle.heap_words.specs.declared.config.Config.{Config};
 ghost use Rattle.heap_words.specs.Access.{place_of};
 ghost use Rattle.heap_words.specs.Words.{table_words};
 ghost use Rattle.steps_base.specs.Steps.{Event, HasReached, Finds};
-ghost use Rattle.mutator.specs.declared.spot.Order.{Order};
+ghost use Rattle.shen_graph.specs.declared.order.Order.{Order};
 ghost use Rattle.mutator.specs.Rows.{Mutating};
 ghost use Rattle.mutator.specs.Fit.{IsFit};
 ghost use Rattle.step_core.specs.Actor.{Actor, mutating, plan_of, kind};

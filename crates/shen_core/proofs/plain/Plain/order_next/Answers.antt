@@ -1,6 +1,6 @@
 use Rattle.std.proofs.Common.{◌≡◌, sym, ap, ◌∙◌, get_or, arith}
 use Rattle.std.proofs.lemmas.List.{length-map, get_or-set_same}
-use Rattle.mutator.specs.declared.spot.Order.TheVariants.{Nothing, Begin}
+use Rattle.shen_graph.specs.declared.order.Order.TheVariants.{Nothing, Begin}
 use Rattle.std.specs.Option.{option_map}
 use Rattle.std.proofs.Common.{Some}
 use Rattle.shen_core.specs.Shown.{shown, order_of_machine}
