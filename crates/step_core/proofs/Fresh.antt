@@ -14,7 +14,7 @@ use Rattle.mutator.specs.declared.spot.Spot.{Spot}
 use Rattle.mutator.specs.declared.spot.Spot.TheVariants.{StoreWord, StoreFresh, Leave}
 use Rattle.mutator.specs.Rows.{Mutating, fresh_word, touch_of}
 use Rattle.steps_base.specs.Touch.{touched}
-use Rattle.heap_world.specs.World.{World, Block, thing, hand, words_of, name_at, IsObject, IsGiven, Shared}
+use Rattle.heap_world.specs.World.{World, Block, thing, hand, words_of, name_at, IsThing, IsGiven, Shared}
 use Rattle.step_core.specs.Stepped.{IsFilling, Mine, Row}
 use Rattle.heap_world.specs.Rely.{Rely}
 use Rattle.heap_world.proofs.Updates.{updated, updated_there}
@@ -171,10 +171,10 @@ module _ (c : Config) (u : World) (seat made phase cset : ℕ) (command : Comman
     not_given o is = let given = shared.given name o is in let most = given.by_thread (omega arith) in omega (arith, most)
 
     -- its words are those of a blank object
-    new_is : IsObject (λ a. u.memory (Heap a)) made_world.block address refs nums name (blank refs nums)
+    new_is : IsThing (λ a. u.memory (Heap a)) made_world.block address refs nums name (blank refs nums)
     new_is =
         let making = mine.facts.0 in
-        subst (λ n. IsObject (λ a. u.memory (Heap a)) made_world.block address refs nums n (blank refs nums)) (sym name_is)
+        subst (λ n. IsThing (λ a. u.memory (Heap a)) made_world.block address refs nums n (blank refs nums)) (sym name_is)
         (new_object (λ a. u.memory (Heap a)) made_world.block address seat made refs nums making.few_refs making.few_nums mine.facts.1.stored)
 
     -- its name is given then

@@ -8,7 +8,8 @@ use Rattle.mutator.specs.declared.spot.Spot.{Spot}
 use Rattle.mutator.specs.declared.spot.Spot.TheVariants.{Rest, Ended, LoadSet, LoadRoot, AskCycle, Leave, LoadSecond, LoadThird, LoadShape, LoadField, LoadExpected, StoreField, SwapField, ExchangeField, LoadNumber, StoreNumber, LoadName, StoreLoaded, StoreRoot, Taking, StoreWord, StoreFresh}
 use Rattle.mutator.specs.Rows.{Mutating, root_of}
 use Rattle.heap_world.specs.World.{World, Points, Shared}
-use Rattle.step_core.specs.Stepped.{HasRoot, HasObject, HasFirst, IsGet, IsSet, IsCas, IsXchg, IsRd, IsWr, IsFound, IsCopy, IsFilling, SpotFacts, root_now, Mine}
+use Rattle.step_core.specs.Stepped.{HasRoot, HasObject, HasFirst, IsGet, IsSet, IsCas, IsXchg, IsRd, IsWr, IsFound, IsCopy, IsFilling, SpotFacts, Mine}
+use Rattle.step_core.specs.Own.{root_now}
 use Rattle.heap_world.specs.Rely.{Keeps, Rely}
 use Rattle.alloc_buffers.specs.Facts.{TakeFacts}
 use Rattle.alloc_buffers.proofs.TakeStays.{take_stays}

@@ -19,7 +19,7 @@ use Rattle.mutator.specs.declared.spot.Spot.TheVariants.{StoreField, SwapField, 
 use Rattle.shen_graph.specs.declared.order.Order.TheVariants.{Nothing}
 use Rattle.mutator.specs.Rows.{Mutating, touch_of, next_of, given_at}
 use Rattle.mutator.specs.Told.{told_of}
-use Rattle.heap_world.specs.World.{World, Points, Target, IsObject, Shared}
+use Rattle.heap_world.specs.World.{World, Points, Target, IsThing, Shared}
 use Rattle.step_core.specs.Stepped.{HasObject, Mine, Stepped, Row}
 use Rattle.heap_world.proofs.Updates.{updated}
 use Rattle.step_core.proofs.Ready.{leaving}
@@ -68,7 +68,7 @@ module _ (c : Config) (u : World) (m : Mutating) (object refs nums at value : �
   -- the step is as it should be
   store_settles : touched u.memory (touch_of c m) ≡ write u.memory (Heap at) value → told_of u.memory m ≡ Some r → given_at m.spot ≡ None → fixed ≡ None → is_full r ≡ false
       → Shared c u → Target u object refs nums name → object ≤ at → at < object + (3 + refs + nums)
-      → IsObject (updated (λ a. u.memory (Heap a)) at value) u.block object refs nums name o
+      → IsThing (updated (λ a. u.memory (Heap a)) at value) u.block object refs nums name o
       → outcome u.graph (m.seat + 1) command ≡ answers r (changed u.graph name o root)
       → ((seat i : ℕ) → seat ≢ m.seat → root (seat + 1) i ≡ u.graph.root (seat + 1) i)
       → Mine c (stored u at value (changed u.graph name o root)) (next_of c m Nothing (u.memory (touch_of c m).word)) command (Some r)
@@ -95,7 +95,7 @@ module _ (c : Config) (u : World) (m : Mutating) (object field value obj val : �
   world_then = stored u (object + 3 + field) value (changed u.graph of.name object_then root)
 
   -- the words are those of the object
-  object_stands : IsObject (updated (λ a. u.memory (Heap a)) (object + 3 + field) value) u.block object of.refs of.nums of.name object_then
+  object_stands : IsThing (updated (λ a. u.memory (Heap a)) (object + 3 + field) value) u.block object of.refs of.nums of.name object_then
   object_stands = field_stored (λ a. u.memory (Heap a)) u.block object of.refs of.nums of.name _ (object_in c u shared m.seat obj object of).2 field value (u.graph.root (m.seat + 1) val) below value_is
 
   -- machines share what they should
@@ -193,6 +193,6 @@ module _ (c : Config) (u : World) (seat made phase cset : ℕ) (command : Comman
       let answered = wr_outcome u.graph (seat + 1) is.obj is.of.name o.0 is.of.root_is o.1 index value _ (number_in c u shared seat is.obj object index is.of is.below) in
       store_settles c u (at_spot (StoreNumber object refs index value)) object is.of.refs is.of.nums at value is.of.name (with_value o.0 index value) u.graph.root command fixed reply.Ok
       refl refl refl mine.facts.0 refl shared is.of.target (omega arith) (omega (arith, is.below, is.refs_are))
-      (subst (λ (x : ℕ). IsObject (updated (λ a. u.memory (Heap a)) (object + 3 + x + index) value) u.block object is.of.refs is.of.nums is.of.name (with_value o.0 index value)) (sym is.refs_are) stands)
+      (subst (λ (x : ℕ). IsThing (updated (λ a. u.memory (Heap a)) (object + 3 + x + index) value) u.block object is.of.refs is.of.nums is.of.name (with_value o.0 index value)) (sym is.refs_are) stands)
       (ap (λ k. outcome u.graph (seat + 1) k) is.is ∙ answered) (λ j i d. refl)
       (leaving c _ seat made phase cset command reply.Ok mine.seated mine.roots mine.hands)

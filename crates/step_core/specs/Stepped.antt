@@ -1,7 +1,7 @@
 -- What one machine knows of a world, and what each step of a place owes.
-use Rattle.std.specs.Prelude.{ℕ, ◌≡◌, ◌≢◌, ◌⊎◌, ◌+◌, ◌<◌, ◌≤◌, ◌==◌, true, length, Option, Some, None, if◌then◌else◌}
+use Rattle.std.specs.Prelude.{ℕ, ◌≡◌, ◌≢◌, ◌⊎◌, ◌+◌, ◌<◌, ◌≤◌, true, length, Option, Some, None}
 use Rattle.heap_words.specs.declared.config.Config.{Config}
-use Rattle.heap_words.specs.Words.{Root, Heap}
+use Rattle.heap_words.specs.Words.{Heap}
 use Rattle.steps_base.specs.Touch.{touched}
 use Rattle.shen_graph.specs.declared.name.Name.{Name}
 use Rattle.shen_graph.specs.declared.command.Command.{Command}
@@ -21,6 +21,7 @@ use Rattle.mutator.specs.Rows.{Mutating, touch_of, next_of, given_at, roots_of, 
 use Rattle.mutator.specs.Told.{told_of}
 use Rattle.mutator.specs.Fit.{IsReady}
 use Rattle.step_core.specs.Actor.{entry_of, command_by}
+use Rattle.step_core.specs.Own.{root_now, IsInHand}
 use Rattle.heap_world.specs.World.{World, hand, name_at, Points, Target, Shared}
 use Rattle.heap_world.specs.Rely.{Rely}
 
@@ -161,18 +162,6 @@ SpotFacts c w seat made command fixed (StoreWord dst refs nums address done) = I
 SpotFacts c w seat made command fixed (StoreFresh dst refs nums address) = IsMaking made command fixed dst refs nums × IsFilling w seat made refs nums address (3 + refs + nums)
 SpotFacts c w seat made command fixed AskCycle = (fixed ≡ None) × (command ≡ Gc)
 SpotFacts c w seat made command fixed (Leave reply) = fixed ≡ Some reply
-
--- the word that counts as a root of the mutator: while a call has the root's new value in hand, that value
-abbrev pub root_now : World → ℕ → Spot → ℕ → ℕ
-root_now w seat (LoadName value dst) index = if index == dst then value else w.memory (Root seat index)
-root_now w seat (StoreLoaded dst value reply) index = if index == dst then value else w.memory (Root seat index)
-root_now w seat _ index = w.memory (Root seat index)
-
--- room is in hand at a spot: these words from this address on
-abbrev pub IsInHand : Spot → ℕ → ℕ → Type 0
-IsInHand (StoreWord dst refs nums address done) a words = (a ≡ address) × (words ≡ 3 + refs + nums)
-IsInHand (StoreFresh dst refs nums address) a words = (a ≡ address) × (words ≡ 3 + refs + nums)
-IsInHand _ a words = ⊥
 
 -- The facts of a seat that all places share, over the words and numbers that they read: it is a mutator's, and it has made
 -- as many objects as the graph says.

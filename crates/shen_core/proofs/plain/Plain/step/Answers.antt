@@ -5,7 +5,7 @@ use Rattle.heap_words.specs.Access.{place_of}
 use Rattle.mutator.specs.Orders.{takes_at}
 use Rattle.mutator.specs.Fit.{IsFit}
 use Rattle.mutator.specs.Seen.{seen, order_of}
-use Rattle.step_core.specs.Actor.{takes_of}
+use Rattle.step_core.specs.Machines.{takes_of}
 use Rattle.shen_core.specs.Runs.{access_of}
 use Rattle.shen_core.specs.State.{has_turn, order_at}
 use Rattle.std.proofs.lemmas.List.{length-set}

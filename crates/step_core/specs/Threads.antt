@@ -1,4 +1,4 @@
--- Entries that a heap's mutators settle.
+-- Entries of a heap's threads.
 use Rattle.std.specs.Prelude.{ℕ, ◌≡◌, ◌≤◌, true}
 use Rattle.shen_graph.specs.History.{Entry}
 use Rattle.mutator.specs.Orders.{is_valid}

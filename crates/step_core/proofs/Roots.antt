@@ -12,8 +12,8 @@ use Rattle.shen_graph.specs.declared.command.Reply.TheVariants as reply
 use Rattle.shen_graph.specs.History.{Entry, is_full, after_entry, after}
 use Rattle.mutator.specs.Orders.{is_root, is_valid}
 use Rattle.std.proofs.lemmas.Bool.{and_parts}
-use Rattle.stage_graph.specs.Parts.{HasNoMore}
-use Rattle.stage_graph.specs.Settled.{IsSettled}
+use Rattle.step_core.specs.Threads.{IsSettled}
+use Rattle.heap_world.specs.Roots.{HasNoMore}
 
 -- the opening has no roots but those of its threads
 pub no_more_opening : (threads : ℕ) → HasNoMore threads (graphs.opening threads)
