@@ -6,13 +6,15 @@ use Rattle.std.proofs.lemmas.Option.{slice_get-get_or, slice_get_within}
 use Rattle.std.proofs.lemmas.Bool.{eq-eqb, ne_eqb, cond-true, cond-false, cases_lt, cases_Bool}
 use Rattle.std.proofs.lemmas.Map.Views.{Contains-from_any, exact_unsigned_eq}
 use Rattle.heap_words.specs.Encoding.{refs_in, nums_in, shape_word, thread_in, count_in, name_code}
+use Rattle.heap_words.proofs.Shapes.{refs_in-shape_word, nums_in-shape_word}
 use Rattle.shen_graph.specs.declared.name.Name.{Name}
 use Rattle.shen_graph.specs.Graph.{Graph, Object, Reference, named}
 use Rattle.shen_graph.specs.Reach.{IsReachable, from_root as reach_root, from_field as reach_field, size}
 use Rattle.heap_world.specs.Objects.{Refers}
+use Rattle.shen_graph.specs.GraphText.{row_in}
 use Rattle.heap_graph.specs.Walk.{has, shape_at, refs_at, nums_at, words_at, Leads, from_root, from_field, IsSound}
 use Rattle.heap_graph.specs.Rows.{name_at, reference_in, row_at, root_word}
-use Rattle.heap_graph.specs.Shows.{row_in, WordsStand}
+use Rattle.heap_graph.specs.Shows.{WordsStand}
 use Rattle.heap_graph.proofs.Objects.{length-refs_at, length-nums_at, get_or-refs_at, get_or-nums_at}
 use Rattle.heap_graph.proofs.RootRows.{root_word-at}
 
@@ -24,12 +26,6 @@ pub record Facts (first : ℕ) (heap : List ℕ) (g : Graph) (a : ℕ) (n : Name
   pub within : a - first + words_at heap (a - first) ≤ length heap
   pub name : name_at heap (a - first) ≡ n
   pub object : named g (Some n) ≡ o
-
-shape_refs : (r m : ℕ) → r ≤ 16 → m ≤ 16 → refs_in (shape_word r m) ≡ r
-shape_refs r m few_r few_m = omega arith
-
-shape_nums : (r m : ℕ) → r ≤ 16 → m ≤ 16 → nums_in (shape_word r m) ≡ m
-shape_nums r m few_r few_m = omega arith
 
 code_thread : (t k : ℕ) → k < 2 ^ 32 → thread_in (name_code t k) ≡ t
 code_thread t k h = omega arith
@@ -91,9 +87,9 @@ module _ (first : ℕ) (heap roots : List ℕ) (at : ℕ → Option Name) (g : G
       let next = sym (shift first a 1 above) in
       let shape : shape_at heap (a - first) ≡ shape_word (length o.refs) (length o.nums) = ap (λ k. get_or heap k 0) next ∙ w.shape in
       let refs : refs_in (shape_at heap (a - first)) ≡ length o.refs =
-      ap refs_in shape ∙ shape_refs (length o.refs) (length o.nums) w.few_refs w.few_nums in
+      ap refs_in shape ∙ refs_in-shape_word (length o.refs) (length o.nums) w.few_refs w.few_nums in
       let nums : nums_in (shape_at heap (a - first)) ≡ length o.nums =
-      ap nums_in shape ∙ shape_nums (length o.refs) (length o.nums) w.few_refs w.few_nums in
+      ap nums_in shape ∙ nums_in-shape_word (length o.refs) (length o.nums) w.few_refs w.few_nums in
       let words : words_at heap (a - first) ≡ size o = omega (arith, refs, nums) in
       let second = sym (shift first a 2 above) in
       record {
