@@ -97,6 +97,14 @@ module _ (config : Config) (words new_words : List ℕ) (machines : List Machine
 pub machine_here : (machines : List Machine) (number : ℕ) (m : Mutator) → slice_get machines number ≡ Some (machine.Mutator m) → slice_index_or (map shown machines) number actors.controlling ≡ actors.mutating (seen m)
 machine_here machines number m here = get_or_from_slice_get (map shown machines) number (actors.mutating (seen m)) actors.controlling (shown_here machines number m here)
 
+-- it has a turn
+pub turn_here : (machines : List Machine) (number : ℕ) (m : Mutator) → slice_get machines number ≡ Some (machine.Mutator m) → takes_at (seen m).spot (seen m).made (order_of m) ≡ true
+    → actors.takes_of (slice_index_or (map shown machines) number actors.controlling) (slice_index_or (map order_of_machine machines) number Nothing) ≡ true
+turn_here machines number m here takes =
+    ap (λ x. actors.takes_of x (slice_index_or (map order_of_machine machines) number Nothing)) (machine_here machines number m here)
+    ∙ ap (λ order. takes_at (seen m).spot (seen m).made order) (order_here machines number m here)
+    ∙ takes
+
 -- all that holds of the machines after the step
 pub made_machines : (config : Config) (words new_words : List ℕ) (machines : List Machine) (number : ℕ) (m n : Mutator) → IsMade config words new_words machines number m n
     → map shown (slice_set machines number (machine.Mutator n)) ≡ slice_set (map shown machines) number (next_by config words (slice_index_or (map order_of_machine machines) number Nothing) (slice_index_or (map shown machines) number actors.controlling))

@@ -10,6 +10,7 @@ use Rattle.mutator.specs.Orders.{is_between_calls}
 use Rattle.heap_words.specs.declared.access.Took.{Took}
 use Rattle.heap_words.specs.declared.access.Took.TheVariants.{More, Again, Done}
 use Rattle.mutator.specs.Rows.{answer_at, reply_at, place_at}
+use Rattle.mutator.specs.Waits.{WaitsAt}
 use Rattle.step_core.specs.Actor.{Machine, mutating, helping, controlling}
 use Rattle.shen_core.specs.declared.step.Stepped.{Stepped}
 use Rattle.shen_core.specs.declared.step.Stepped.TheVariants as stepped
@@ -42,6 +43,16 @@ abbrev pub is_resting : Machine → Bool
 is_resting (mutating m) = is_between_calls m.spot
 is_resting helping = false
 is_resting controlling = false
+
+-- whether the machine may be given a command: in a heap that does not collect, any mutator between two calls
+abbrev pub may_begin : Machine → Bool
+may_begin machine = is_resting machine
+
+-- where the step of a machine that finds this word says that it waits
+abbrev pub WaitsIn : Config → Machine → ℕ → Type 0
+WaitsIn c (mutating m) got = WaitsAt c m.spot got
+WaitsIn c helping got = ⊥
+WaitsIn c controlling got = ⊥
 
 -- how many objects the machine has made
 abbrev pub made_of_machine : Machine → ℕ
