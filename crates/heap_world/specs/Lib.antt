@@ -1,3 +1,4 @@
 pub mod World
 pub mod Rely
+pub mod Part
 pub mod Regions

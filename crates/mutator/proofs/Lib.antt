@@ -1,3 +1,4 @@
 pub mod Ready
 pub mod Orders
 pub mod Waits
+pub mod Done

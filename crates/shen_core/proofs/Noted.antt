@@ -1,6 +1,6 @@
 -- After a turn: the machines, the orders and the work.
 use Rattle.std.proofs.Common.{◌≡◌, ◌≢◌, ◌<◌, ◌≤◌, ⊎_elim, ℕ, true, false, List, [], ◌∷◌, ◌++◌, length, get_or, map, All, Option, Some, None, refl, sym, ap, ◌∙◌, subst, arith}
-use Rattle.std.specs.Prelude.{◌+◌, ◌==◌, Bool, if◌then◌else◌, slice_get, slice_set, slice_index, IsSome, unwrap_or}
+use Rattle.std.specs.Prelude.{◌+◌, slice_get, slice_set, slice_index, IsSome, unwrap_or}
 use Rattle.std.proofs.lemmas.List.{length-append, map-append, get_or-set_same, get_or-set_other, get_or_past}
 use Rattle.std.proofs.lemmas.List.Elements.{All-set}
 use Rattle.std.proofs.lemmas.Option.{same_Some}
@@ -16,14 +16,12 @@ use Rattle.shen_graph.specs.declared.command.Command.{Command}
 use Rattle.shen_graph.specs.declared.command.Reply.{Reply}
 use Rattle.shen_graph.specs.Work as work
 use Rattle.mutator.specs.declared.spot.Spot.{Spot}
-use Rattle.alloc_buffers.specs.declared.spot.Taken.TheVariants.{At, NoRoom}
-use Rattle.alloc_buffers.specs.declared.spot.TakeSpot.{TakeSpot}
-use Rattle.alloc_buffers.specs.declared.spot.TakeSpot.TheVariants as take_spot
-use Rattle.mutator.specs.declared.spot.Spot.TheVariants.{Rest, ExchangeField, Taking, StoreFresh, Leave}
+use Rattle.mutator.specs.declared.spot.Spot.TheVariants.{Rest, StoreFresh, Leave}
 use Rattle.shen_graph.specs.declared.order.Order.{Order}
 use Rattle.shen_graph.specs.declared.order.Order.TheVariants.{Nothing}
 use Rattle.mutator.specs.Orders.{is_between_calls}
-use Rattle.mutator.specs.Rows.{Mutating, given_at, take_next, take_says, answer_at, reply_at, next_at}
+use Rattle.mutator.specs.Rows.{Mutating, given_at, answer_at, reply_at, next_at}
+use Rattle.mutator.proofs.Done.{done_gives}
 use Rattle.step_core.specs.Actor.{Machine, mutating, helping, controlling, Actor, entries_of, takes_of, plan_of, took_of, kind}
 use Rattle.step_core.specs.Schedule.{Scripts, waits, waits_of, waits_in, is_again}
 use Rattle.shen_core.specs.declared.step.Stepped.{Stepped}
@@ -174,28 +172,11 @@ never_idle took.More is = cc
 never_idle took.Again is = cc
 never_idle took.Done is = cc
 
--- a step that ends a call gives its reply, and no other step does
-pub done_gives : (c : Config) (spot : Spot) (got : ℕ) → stepped_of (answer_at c spot got) ≡ stepped.Done → (r : Reply) × (given_at spot ≡ Some r)
-done_gives c (Leave r) got is = (r, refl)
-done_gives c (ExchangeField object field found expect value) got is = absurd (not_done (got == found) is)
-  where
-    not_done : (b : Bool) → stepped_of (if b then took.More else took.Again) ≡ stepped.Done → ⊥
-    not_done true is = cc
-    not_done false is = cc
-done_gives c (Taking dst refs nums take) got is = absurd (not_done take (take_next c refs nums take got) is)
-  where
-    not_done : (take next : TakeSpot) → stepped_of (take_says take next) ≡ stepped.Done → ⊥
-    not_done take (take_spot.Ended (At address)) is = cc
-    not_done take (take_spot.Ended NoRoom) is = cc
-    not_done (take_spot.TakeRegion region) take_spot.LoadFree is = cc
-    not_done (take_spot.TakeRegion region) next is = cc
-    not_done take_spot.LoadCurrent next is = cc
-    not_done (take_spot.LoadTop region) next is = cc
-    not_done take_spot.LoadFree next is = cc
-    not_done (take_spot.StoreCurrent region) next is = cc
-    not_done (take_spot.StoreTop region top) next is = cc
-    not_done (take_spot.Ended taken) next is = cc
-done_gives c _ got is = absurd (cc)
+-- a step that ends a call says so
+done_of : (t : Took) → stepped_of t ≡ stepped.Done → t ≡ took.Done
+done_of took.More is = cc
+done_of took.Again is = cc
+done_of took.Done is = refl
 
 -- a step that is not done gives no reply
 pub other_gives : (c : Config) (spot : Spot) (got : ℕ) → (stepped_of (answer_at c spot got) ≡ stepped.Done → ⊥) → given_at spot ≡ None
@@ -405,7 +386,7 @@ module _ (p mid q : Plain) (jobs : Jobs) (number : ℕ) (said : Stepped) (facts 
   -- a step that is done gives a reply, by its machine
   reply_by : (machine : Machine) → said ≡ says (config_of mid) machine (slice_index (words_of mid) (place_of (plan_of (config_of mid) machine))) → said ≡ stepped.Done → (r : Reply) × (given_in machine ≡ Some r) × (reply_in (next_by (config_of mid) (words_of mid) (order_at mid number) machine) ≡ Some r)
   reply_by (mutating m) is done =
-      let gives = done_gives (config_of mid) m.spot _ (sym is ∙ done) in
+      let gives = done_gives (config_of mid) m.spot _ (done_of _ (sym is ∙ done)) in
       (gives.0, gives.1, next_reply (config_of mid) m (order_at mid number) _ m.spot gives.0 gives.1)
   reply_by helping is done = absurd (cc)
   reply_by controlling is done = absurd (cc)

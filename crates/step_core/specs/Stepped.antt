@@ -1,7 +1,7 @@
 -- What one machine knows of a world, and what each step of a place owes.
 use Rattle.std.specs.Prelude.{ℕ, ◌≡◌, ◌≢◌, ◌⊎◌, ◌+◌, ◌<◌, ◌≤◌, ◌==◌, true, length, Option, Some, None, if◌then◌else◌}
 use Rattle.heap_words.specs.declared.config.Config.{Config}
-use Rattle.heap_words.specs.Words.{Root, Top, Current, Heap}
+use Rattle.heap_words.specs.Words.{Root, Heap}
 use Rattle.steps_base.specs.Touch.{touched}
 use Rattle.shen_graph.specs.declared.name.Name.{Name}
 use Rattle.shen_graph.specs.declared.command.Command.{Command}
@@ -11,8 +11,7 @@ use Rattle.shen_graph.specs.declared.command.Reply.TheVariants as reply
 use Rattle.shen_graph.specs.Graph.{Graph}
 use Rattle.shen_graph.specs.Step.{IsLegal}
 use Rattle.shen_graph.specs.History.{after_entry}
-use Rattle.alloc_buffers.specs.declared.spot.TakeSpot.{TakeSpot}
-use Rattle.alloc_buffers.specs.declared.spot.TakeSpot.TheVariants as take_spot
+use Rattle.alloc_buffers.specs.Facts.{TakeFacts}
 use Rattle.mutator.specs.declared.spot.Spot.{Spot}
 use Rattle.mutator.specs.declared.spot.Spot.TheVariants.{Rest, Ended, LoadSet, LoadRoot, LoadSecond, LoadThird, LoadShape, LoadField, LoadExpected, StoreField, SwapField, ExchangeField, LoadNumber, StoreNumber, LoadName, StoreLoaded, StoreRoot, Taking, StoreWord, StoreFresh, AskCycle, Leave}
 use Rattle.shen_graph.specs.declared.order.Order.{Order}
@@ -130,33 +129,6 @@ pub record IsMaking (made : ℕ) (command : Command) (fixed : Option Reply) (dst
   pub few_refs : refs ≤ 16
   pub few_nums : nums ≤ 16
   pub few : made < 4294967295
-
--- the current region of a seat, if it has one, has less room than so many words
-abbrev pub HasLess : Config → World → ℕ → ℕ → Type 0
-HasLess c w seat words = (r : ℕ) → w.memory (Current seat) ≡ r + 1 → c.region_words < w.memory (Top r) + words
-
--- a region that a seat has taken and not made its current one yet
-pub record IsTaken (c : Config) (w : World) (seat region : ℕ) : Type 0 where
-  pub within : region < c.regions
-  pub own : w.owner region ≡ Some seat
-  pub empty : w.memory (Top region) ≡ 0
-
--- a top of the current region that has room for so many words
-pub record IsRoomy (c : Config) (w : World) (seat words region top : ℕ) : Type 0 where
-  pub within : region < c.regions
-  pub is_current : w.memory (Current seat) ≡ region + 1
-  pub top_is : w.memory (Top region) ≡ top
-  pub room : top + words ≤ c.region_words
-
--- what holds while a seat takes room for so many words
-abbrev pub TakeFacts : Config → World → ℕ → ℕ → TakeSpot → Type 0
-TakeFacts c w seat words take_spot.LoadCurrent = Unit {0}
-TakeFacts c w seat words (take_spot.LoadTop region) = w.memory (Current seat) ≡ region + 1
-TakeFacts c w seat words take_spot.LoadFree = HasLess c w seat words
-TakeFacts c w seat words (take_spot.TakeRegion region) = HasLess c w seat words × (region < c.regions)
-TakeFacts c w seat words (take_spot.StoreCurrent region) = IsTaken c w seat region
-TakeFacts c w seat words (take_spot.StoreTop region top) = IsRoomy c w seat words region top
-TakeFacts c w seat words (take_spot.Ended taken) = ⊥
 
 -- room in hand, in which so many words of the new object stand
 pub record IsFilling (w : World) (seat made refs nums address done : ℕ) : Type 0 where
