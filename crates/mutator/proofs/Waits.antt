@@ -1,36 +1,32 @@
 -- What a step says, by its place and the word that it finds.
-use Rattle.std.proofs.Common.{◌≡◌, ◌≢◌, ◌≤◌, ◌+◌, ◌-◌, ℕ, Bool, true, false, Option, None, refl, sym, ◌∙◌, arith}
+use Rattle.std.proofs.Common.{◌≡◌, ◌≢◌, ◌≤◌, ◌+◌, ◌-◌, ℕ, Bool, true, false, refl, sym, ◌∙◌, arith}
 use Rattle.std.specs.Prelude.{◌↔◌, ◌==◌, if◌then◌else◌}
 use Rattle.std.specs.Int.{bit_at}
 use Rattle.std.proofs.lemmas.Bool.{eq-eqb, eqb-true, false≢true}
 use Rattle.std.proofs.lemmas.Bool.Decides.{nat_tests}
 use Rattle.heap_words.specs.declared.config.Config.{Config}
 use Rattle.heap_words.specs.declared.access.Took.{Took}
-use Rattle.heap_words.specs.declared.access.Took.TheVariants.{More, Again, Done}
-use Rattle.heap_words.specs.declared.place.Place.TheVariants as place
+use Rattle.heap_words.specs.declared.access.Took.TheVariants.{More, Again}
 use Rattle.regions.specs.Sets.{IsIn, members_below, lowest_in}
-use Rattle.shen_graph.specs.declared.order.Order.{Order}
 use Rattle.alloc_buffers.specs.declared.spot.Kind.TheVariants.{Fresh}
 use Rattle.alloc_buffers.specs.declared.spot.Taken.TheVariants.{NoRoom}
 use Rattle.alloc_buffers.specs.declared.spot.TakeSpot.{TakeSpot}
 use Rattle.alloc_buffers.specs.declared.spot.TakeSpot.TheVariants.{LoadCurrent, LoadTop, LoadFree, TakeRegion, StoreCurrent, StoreTop, Ended}
-use Rattle.alloc_buffers.specs.Rows as takes
 use Rattle.alloc_buffers.specs.Rows.{has_room, has_none, is_ended}
 use Rattle.mutator.specs.declared.spot.Spot.{Spot}
-use Rattle.mutator.specs.declared.spot.Spot.TheVariants.{ExchangeField, Taking, Leave}
-use Rattle.mutator.specs.Rows.{Mutating, place_at, take_next, take_says, answer_at, reply_at, next_at}
+use Rattle.mutator.specs.declared.spot.Spot.TheVariants.{ExchangeField, Taking}
+use Rattle.mutator.specs.Rows.{take_next, take_says, answer_at}
 use Rattle.mutator.specs.Fit.{is_ready}
 use Rattle.mutator.specs.Waits.{WaitsAt}
 
--- a step of a call that goes on waits exactly where a fact holds
+-- a step waits exactly where a fact holds
 record IsAgain (says : Took) (waits : Type 0) : Type 0 where
   there : waits → says ≡ Again
   only : says ≡ Again → waits
-  goes_on : says ≢ Done
 
 -- a step that says More does not wait
 more_goes : IsAgain More ⊥
-more_goes = record { there = λ w. absurd w; only = λ is. absurd (cc (is)); goes_on = λ is. absurd (cc (is)) }
+more_goes = record { there = λ w. absurd w; only = λ is. absurd (cc (is)) }
 
 -- a step of a taking of room
 take_again : (c : Config) (dst refs nums : ℕ) (take : TakeSpot) (got : ℕ) → is_ended take ≡ false
@@ -48,36 +44,26 @@ take_again c dst refs nums (LoadTop region) got going = by_room (has_room c (3 +
 take_again c dst refs nums LoadFree got going = by_none (has_none c Fresh got) refl
   where
     by_none : (b : Bool) → has_none c Fresh got ≡ b → IsAgain (take_says LoadFree (if b then Ended NoRoom else TakeRegion (lowest_in got))) (members_below got 64 ≤ c.reserve)
-    by_none true none = record { there = λ w. refl; only = λ is. grind (arith, nat_tests); goes_on = λ is. absurd (cc (is)) }
-    by_none false some = record { there = λ w. absurd (grind (arith, nat_tests)); only = λ is. absurd (cc (is)); goes_on = λ is. absurd (cc (is)) }
+    by_none true none = record { there = λ w. refl; only = λ is. grind (arith, nat_tests) }
+    by_none false some = record { there = λ w. absurd (grind (arith, nat_tests)); only = λ is. absurd (cc (is)) }
 take_again c dst refs nums (TakeRegion region) got going = by_bit (bit_at got region == 1) refl
   where
     by_bit : (b : Bool) → (bit_at got region == 1) ≡ b → IsAgain (take_says (TakeRegion region) (if b then StoreCurrent region else LoadFree)) (IsIn got region → ⊥)
-    by_bit true is_in = record { there = λ w. absurd (w (eqb-true _ _ is_in)); only = λ is. absurd (cc (is)); goes_on = λ is. absurd (cc (is)) }
-    by_bit false out = record { there = λ w. refl; only = λ is is_in. false≢true (sym out ∙ eq-eqb _ _ is_in); goes_on = λ is. absurd (cc (is)) }
+    by_bit true is_in = record { there = λ w. absurd (w (eqb-true _ _ is_in)); only = λ is. absurd (cc (is)) }
+    by_bit false out = record { there = λ w. refl; only = λ is is_in. false≢true (sym out ∙ eq-eqb _ _ is_in) }
 take_again c dst refs nums (StoreCurrent region) got going = more_goes
 take_again c dst refs nums (StoreTop region top) got going = more_goes
 take_again c dst refs nums (Ended taken) got going = absurd (cc (going))
 
 -- a step of the exchange of a field
 exchange_again : (got found : ℕ) (b : Bool) → (got == found) ≡ b → IsAgain (if b then More else Again) (got ≢ found)
-exchange_again got found true is = record { there = λ w. absurd (w (eqb-true _ _ is)); only = λ is_again. absurd (cc (is_again)); goes_on = λ is_done. absurd (cc (is_done)) }
-exchange_again got found false other = record { there = λ w. refl; only = λ is same. false≢true (sym other ∙ eq-eqb _ _ same); goes_on = λ is. absurd (cc (is)) }
+exchange_again got found true is = record { there = λ w. absurd (w (eqb-true _ _ is)); only = λ is_again. absurd (cc (is_again)) }
+exchange_again got found false other = record { there = λ w. refl; only = λ is same. false≢true (sym other ∙ eq-eqb _ _ same) }
 
 -- a taking of room that is ready has not ended
 going_on : (c : Config) (seat made dst refs nums : ℕ) (take : TakeSpot) → is_ready c seat made (Taking dst refs nums take) ≡ true → is_ended take ≡ false
 going_on c seat made dst refs nums (Ended taken) ready = absurd (grind (arith, nat_tests))
 going_on c seat made dst refs nums _ ready = refl
-
--- no step of it leaves
-never_leaves : (take : TakeSpot) → takes.place_at take ≢ place.LV
-never_leaves LoadCurrent is = cc
-never_leaves (LoadTop region) is = cc
-never_leaves LoadFree is = cc
-never_leaves (TakeRegion region) is = cc
-never_leaves (StoreCurrent region) is = cc
-never_leaves (StoreTop region top) is = cc
-never_leaves (Ended taken) is = cc
 
 -- what a step says of waiting
 pub waits_exactly : (c : Config) (seat made : ℕ) (spot : Spot) (got : ℕ) → is_ready c seat made spot ≡ true → (answer_at c spot got ≡ Again) ↔ WaitsAt c spot got
@@ -85,23 +71,4 @@ waits_exactly c seat made (ExchangeField object field found expect value) got re
     let is = exchange_again got found (got == found) refl in (is.only, is.there)
 waits_exactly c seat made (Taking dst refs nums take) got ready =
     let is = take_again c dst refs nums take got (going_on c seat made dst refs nums take ready) in (is.only, is.there)
-waits_exactly c seat made (Leave reply) got ready = (λ is. absurd (cc (is)), λ w. absurd w)
 waits_exactly c seat made _ got ready = (λ is. absurd (cc (is)), λ w. absurd w)
-
--- and of the end of the call
-pub done_exactly : (c : Config) (seat made : ℕ) (spot : Spot) (got : ℕ) → is_ready c seat made spot ≡ true → (answer_at c spot got ≡ Done) ↔ (place_at spot ≡ place.LV)
-done_exactly c seat made (Leave reply) got ready = (λ is. refl, λ at. refl)
-done_exactly c seat made (ExchangeField object field found expect value) got ready =
-    (λ is. absurd ((exchange_again got found (got == found) refl).goes_on is), λ at. absurd (cc (at)))
-done_exactly c seat made (Taking dst refs nums take) got ready =
-    (λ is. absurd ((take_again c dst refs nums take got (going_on c seat made dst refs nums take ready)).goes_on is), λ at. absurd (never_leaves take at))
-done_exactly c seat made _ got ready = (λ is. absurd (cc (is)), λ at. absurd (cc (at)))
-
--- the reply of a call is there once it has ended
-pub done_replies : (c : Config) (m : Mutating) (order : Order) (got : ℕ) (spot : Spot) → answer_at c spot got ≡ Done → is_ready c m.seat m.made spot ≡ true → reply_at (next_at c m order got spot).spot ≢ None
-done_replies c m order got (Leave reply) done ready = λ none. cc
-done_replies c m order got (ExchangeField object field found expect value) done ready =
-    absurd ((exchange_again got found (got == found) refl).goes_on done)
-done_replies c m order got (Taking dst refs nums take) done ready =
-    absurd ((take_again c dst refs nums take got (going_on c m.seat m.made dst refs nums take ready)).goes_on done)
-done_replies c m order got _ done ready = absurd (cc (done))

@@ -46,7 +46,7 @@ machine_first : (c : Config) (machines : List Machine) (k : ℕ) → map (λ a. 
 machine_first c machines k is below = ap (λ ms. get_or ms k fresh_control) (machines_first c machines is) ∙ get_or-map-range_with_len (opening_machine c) 0 (seat_count c.mutators c.helpers) k k fresh_control below (omega arith)
 
 -- it has made no object
-made_first : (c : Config) (machines : List Machine) (k : ℕ) → map (λ a. a.machine) (opening c).machines ≡ machines → made_of_machine (get_or machines k fresh_control) ≡ 0
+pub made_first : (c : Config) (machines : List Machine) (k : ℕ) → map (λ a. a.machine) (opening c).machines ≡ machines → made_of_machine (get_or machines k fresh_control) ≡ 0
 made_first c machines k is = ⊎_elim
     (λ (below : k < seat_count c.mutators c.helpers). ap made_of_machine (machine_first c machines k is below) ∙ made_none c k (nat_lt k c.mutators) (nat_lt k (c.mutators + c.helpers)))
     (λ (past : seat_count c.mutators c.helpers ≤ k).
@@ -55,7 +55,7 @@ made_first c machines k is = ⊎_elim
     (cases_lt k (seat_count c.mutators c.helpers))
 
 -- a mutator rests
-rests_first : (c : Config) (machines : List Machine) (t : ℕ) → map (λ a. a.machine) (opening c).machines ≡ machines → t < c.mutators → is_resting (get_or machines t fresh_control) ≡ true
+pub rests_first : (c : Config) (machines : List Machine) (t : ℕ) → map (λ a. a.machine) (opening c).machines ≡ machines → t < c.mutators → is_resting (get_or machines t fresh_control) ≡ true
 rests_first c machines t is below =
     ap is_resting (machine_first c machines t is (omega arith))
     ∙ ap (λ b. is_resting (if b then mutating (fresh_mutator t) else (if nat_lt t (c.mutators + c.helpers) then fresh_helper else fresh_control))) (lt-ltb t c.mutators below)

@@ -14,6 +14,7 @@ use Rattle.mutator.specs.Orders.{takes_at}
 use Rattle.mutator.specs.Rows.{next_of}
 use Rattle.mutator.specs.Seen.{seen, order_of, config_of}
 use Rattle.step_core.specs.Actor as actors
+use Rattle.step_core.specs.Machines.{takes_of}
 use Rattle.step_core.specs.Opening.{opening}
 use Rattle.shen_core.specs.declared.machine.Machine.{Machine}
 use Rattle.shen_core.specs.declared.machine.Machine.TheVariants as machine
@@ -95,6 +96,14 @@ module _ (config : Config) (words new_words : List ℕ) (machines : List Machine
 -- the machine of a number, in memory
 pub machine_here : (machines : List Machine) (number : ℕ) (m : Mutator) → slice_get machines number ≡ Some (machine.Mutator m) → slice_index_or (map shown machines) number actors.fresh_control ≡ actors.mutating (seen m)
 machine_here machines number m here = get_or_from_slice_get (map shown machines) number (actors.mutating (seen m)) actors.fresh_control (shown_here machines number m here)
+
+-- it has a turn
+pub turn_here : (machines : List Machine) (number : ℕ) (m : Mutator) → slice_get machines number ≡ Some (machine.Mutator m) → takes_at (seen m).spot (seen m).made (order_of m) ≡ true
+    → takes_of (slice_index_or (map shown machines) number actors.fresh_control) (slice_index_or (map order_of_machine machines) number Nothing) ≡ true
+turn_here machines number m here takes =
+    ap (λ x. takes_of x (slice_index_or (map order_of_machine machines) number Nothing)) (machine_here machines number m here)
+    ∙ ap (λ order. takes_at (seen m).spot (seen m).made order) (order_here machines number m here)
+    ∙ takes
 
 -- all that holds of the machines after the step
 pub made_machines : (config : Config) (words new_words : List ℕ) (machines : List Machine) (number : ℕ) (m n : Mutator) → IsMade config words new_words machines number m n

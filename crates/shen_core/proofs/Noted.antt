@@ -273,8 +273,8 @@ pub record IsStepped (p mid q : Plain) (jobs : Jobs) (number : ℕ) (said : Step
   pub mid_orders : orders_of mid ≡ slice_set (orders_of p) number (order_at mid number)
   pub turn : IsTurn p jobs number true (order_at mid number)
   pub has : has_turn mid number ≡ true
-  pub more : number < (config_of p).mutators → length (work.replies_of jobs number) < length (work.script_of jobs number)
-  pub below : number < (config_of mid).mutators
+  pub more : length (work.replies_of jobs number) < length (work.script_of jobs number)
+  pub below : number < (config_of p).mutators
   pub event : IsStep mid q number
   pub says : said ≡ says (config_of mid) (machine_at mid number) (slice_index (words_of mid) (place_of (plan_of (config_of mid) (machine_at mid number))))
   pub machines : machines_of q ≡ slice_set (machines_of mid) number (next_machine mid number)
@@ -288,7 +288,7 @@ module _ (p mid q : Plain) (jobs : Jobs) (number : ℕ) (said : Stepped) (facts 
 
   -- its number is one of a mutator
   pub below_now : number < (config_of p).mutators
-  below_now = subst (λ c. number < c.mutators) facts.mid_config facts.below
+  below_now = facts.below
 
   -- the heap can go on with work in which others stay
   after_turn : (later : Jobs) → CanRun p jobs → ((t : ℕ) → work.HasScript jobs t → work.HasScript later t) → ((t : ℕ) → work.script_of later t ≡ work.script_of jobs t) → ((t : ℕ) → t ≢ number → work.replies_of later t ≡ work.replies_of jobs t)
@@ -312,7 +312,7 @@ module _ (p mid q : Plain) (jobs : Jobs) (number : ℕ) (said : Stepped) (facts 
       let step = next_by_made (config_of mid) (words_of mid) (order_at mid number) (machine_at mid number) none in
       let now = subst (λ machine. made_of_machine machine + length (work.script_of jobs number) < 4294967295 + (length (work.replies_of jobs number) + at_hand_of machine)) (sym same_machine) (before.made number below_now) in
       can_run_after p q jobs jobs number (next_machine mid number)
-      (after_turn jobs before (λ t h. h) (λ t. refl) (λ t other. refl) (λ busy. facts.more below_now) (omega (arith, step.0, step.1, now))) before
+      (after_turn jobs before (λ t h. h) (λ t. refl) (λ t other. refl) (λ busy. facts.more) (omega (arith, step.0, step.1, now))) before
 
   -- a mutator that gave a reply rests
   next_is_resting : (machine : Machine) (r : Reply) (c : Config) (words : List ℕ) (order : Order) → given_in machine ≡ Some r → is_resting (next_by c words order machine) ≡ true

@@ -23,6 +23,7 @@ use Rattle.mutator.specs.declared.spot.Spot.TheVariants.{Leave}
 use Rattle.mutator.specs.Orders.{is_between_calls, takes_at}
 use Rattle.mutator.specs.Rows.{touch_of, next_of, given_at, answer_at, reply_at, place_at}
 use Rattle.mutator.specs.Told.{told_of}
+use Rattle.mutator.specs.Waits.{WaitsAt}
 use Rattle.step_core.specs.Actor.{Machine, mutating, helping, controlling, Actor, entries_of, command_by}
 use Rattle.step_core.specs.Settled.{settled}
 
@@ -95,6 +96,16 @@ abbrev pub is_resting : Machine → Bool
 is_resting (mutating m) = is_between_calls m.spot
 is_resting (helping h) = false
 is_resting (controlling k) = false
+
+-- whether it may be given a command: in a heap that does not collect, any mutator between two calls
+abbrev pub may_begin : Machine → Bool
+may_begin machine = is_resting machine
+
+-- where its step that finds this word says that it waits
+abbrev pub WaitsIn : Config → Machine → ℕ → Type 0
+WaitsIn c (mutating m) got = WaitsAt c m.spot got
+WaitsIn c (helping h) got = ⊥
+WaitsIn c (controlling k) got = ⊥
 
 -- how many objects it has made
 abbrev pub made_of_machine : Machine → ℕ
