@@ -2,7 +2,7 @@
 use Rattle.std.proofs.Common.{drop, arith}
 use Rattle.std.proofs.lemmas.Grind.{common_steps}
 use Rattle.shen_base.proofs.Lists.{put_and_rest}
-use Rattle.shen_base.proofs.memory.PlainSource.give.Goals as goal
+use Rattle.shen_base.proofs.memory.Unread.give.Goals as goal
 
 pub returns-clause-next_bytes : goal.returns-clause-next_bytes
 returns-clause-next_bytes c =
