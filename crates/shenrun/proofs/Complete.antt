@@ -6,7 +6,7 @@ use Rattle.shen_base.specs.Count.{Rose}
 use Rattle.shen_graph.specs.declared.command.Command.{Command}
 use Rattle.heap_words.specs.declared.config.Config.{Config}
 use Rattle.heap_words.specs.declared.schedule.Item.{Item}
-use Rattle.trace_text.specs.Grammar.{Came, Reads}
+use Rattle.trace_grammar.specs.Grammar.{Came, Reads}
 use Rattle.shenrun.specs.declared.status.Status.{Status}
 use Rattle.shenrun.specs.declared.status.Status.TheVariants.{Ok, BadWords, BadTrace, Unfinished, ReadFault, WriteFault, NoMemory}
 use Rattle.shenrun.specs.Words.{AskReplay}

@@ -6,9 +6,9 @@ use Rattle.shen_graph.specs.declared.command.Command.{Command}
 use Rattle.heap_words.specs.declared.config.Config.{Config}
 use Rattle.heap_words.specs.declared.schedule.Item.{Item}
 use Rattle.text_writer.specs.Sending.{AppendsFront}
-use Rattle.trace_text.specs.Grammar.{most_bytes, Came, Reads}
-use Rattle.trace_text.specs.Message.{line_text}
-use Rattle.trace_text.specs.declared.message.Line.TheVariants as line
+use Rattle.trace_grammar.specs.Grammar.{most_bytes, Came, Reads}
+use Rattle.trace_writing.specs.Message.{line_text}
+use Rattle.trace_writing.specs.declared.message.Line.TheVariants as line
 use Rattle.shenrun.specs.declared.status.Status.{Status}
 use Rattle.shenrun.specs.declared.status.Status.TheVariants.{Ok, BadWords, BadTrace, Unfinished, ReadFault, WriteFault, NoMemory}
 use Rattle.shenrun.specs.Words.{IsReplay, AskReplay}

@@ -1,7 +1,7 @@
 use Rattle.std.proofs.Common.{ℕ, List, map, refl}
 use Rattle.std.specs.String.{string_bytes}
-use Rattle.trace_text.specs.Message.{line_text}
-use Rattle.trace_text.specs.declared.message.Line.TheVariants as line
+use Rattle.trace_writing.specs.Message.{line_text}
+use Rattle.trace_writing.specs.declared.message.Line.TheVariants as line
 use Rattle.shenrun.specs.declared.status.Status.TheVariants.{BadWords}
 use Rattle.shenrun.proofs.Ends.{said, row_of_ok}
 use Rattle.shenrun.proofs.Complete.{complete}
