@@ -3,4 +3,4 @@
 
 pub use trace_grammar::{Scripts, Trace, Why, traces_are_read_once};
 pub use trace_reading::{TraceFault, number_in, read_trace};
-pub use trace_writing::{Answer, Line, WriteFault, write_answer, write_line};
+pub use trace_writing::{Answer, Line, WriteFault, write_answer, write_line, write_trace};

@@ -18,7 +18,7 @@ use Rattle.trace_writing.specs.Answer.{line_of, name_word, reference_word, reply
 -- Loops over a list.
 
 -- the texts of one element more
-flat_map-take_more : {X : Type 0} (f : X → List ℕ) (xs : List X) (i : ℕ) (d : X) → i < length xs
+pub flat_map-take_more : {X : Type 0} (f : X → List ℕ) (xs : List X) (i : ℕ) (d : X) → i < length xs
     → flat_map f (take i xs) ++ f (get_or xs i d) ≡ flat_map f (take (i + 1) xs)
 flat_map-take_more f xs i d h =
     let x = get_or xs i d in

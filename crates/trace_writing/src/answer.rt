@@ -3,7 +3,7 @@ ghost use Rattle.std.specs.List.{flat_map};
 ghost use Rattle.std.specs.Fmt.{decimal};
 ghost use Rattle.shen_graph.specs.Work.{HasScript, replies_of};
 ghost use Rattle.shen_graph.specs.GraphText.{row_of, root_of};
-ghost use Rattle.text_writer.specs.Sending.{Puts, Writes, stage};
+ghost use Rattle.text_writer.specs.Sending.{Puts, Writes, outlet, stage};
 ghost use Rattle.trace_grammar.specs.Spelling.{space};
 ghost use Rattle.trace_writing.specs.Answer.{name_word, reference_word, reply_word, reply_line, object_line, roots_line, root_words, threads_of, text_of};
 
@@ -28,8 +28,8 @@ pub struct Answer {
 /// of the answer was written.
 pub fn write_answer<K: Sink>(sink: &mut K, answer: &Answer) -> Result<(), WriteFault>
     requires { (mutator : ℕ) → mutator < length answer.now.graph.roots → HasScript answer.now.replies mutator }
-    ensures { Writes result (K.written sink.old) (K.written sink.new) (K.faults sink.old) (K.faults sink.new)
-        (text_of answer.now) }
+    ensures { Writes result (outlet (K.written sink.old) (K.faults sink.old) (K.calls sink.old))
+        (outlet (K.written sink.new) (K.faults sink.new) (K.calls sink.new)) (text_of answer.now) }
 {
     let mut block = Block::new();
     put_replies(&mut block, sink, &answer.replies, answer.graph.mutators());
@@ -42,8 +42,8 @@ pub fn write_answer<K: Sink>(sink: &mut K, answer: &Answer) -> Result<(), WriteF
 // Puts the replies of threads 1 to `mutators`, which are at most 8.
 fn put_replies<K: Sink>(block: &mut Block, sink: &mut K, work: &Work, mutators: usize)
     requires { (mutator : ℕ) → mutator < mutators → HasScript work.now mutator }
-    ensures put { Puts (stage (K.written sink.old) (K.faults sink.old) block.old)
-        (stage (K.written sink.new) (K.faults sink.new) block.new)
+    ensures put { Puts (stage (K.written sink.old) (K.faults sink.old) (K.calls sink.old) block.old)
+        (stage (K.written sink.new) (K.faults sink.new) (K.calls sink.new) block.new)
         (flat_map (λ t. flat_map (reply_line t) (replies_of work.now (t - 1))) (threads_of mutators)) }
     ensures few { mutators ≤ 8 }
 {
@@ -59,8 +59,8 @@ fn put_replies<K: Sink>(block: &mut Block, sink: &mut K, work: &Work, mutators: 
 
 // Puts the replies of a thread.
 fn put_replies_of<K: Sink>(block: &mut Block, sink: &mut K, thread: u64, replies: &[Reply])
-    ensures { Puts (stage (K.written sink.old) (K.faults sink.old) block.old)
-        (stage (K.written sink.new) (K.faults sink.new) block.new)
+    ensures { Puts (stage (K.written sink.old) (K.faults sink.old) (K.calls sink.old) block.old)
+        (stage (K.written sink.new) (K.faults sink.new) (K.calls sink.new) block.new)
         (flat_map (reply_line thread) replies.now) }
 {
     for reply in replies {
@@ -70,8 +70,8 @@ fn put_replies_of<K: Sink>(block: &mut Block, sink: &mut K, thread: u64, replies
 
 // Puts the line of a reply.
 fn put_reply<K: Sink>(block: &mut Block, sink: &mut K, thread: u64, reply: Reply)
-    ensures { Puts (stage (K.written sink.old) (K.faults sink.old) block.old)
-        (stage (K.written sink.new) (K.faults sink.new) block.new)
+    ensures { Puts (stage (K.written sink.old) (K.faults sink.old) (K.calls sink.old) block.old)
+        (stage (K.written sink.new) (K.faults sink.new) (K.calls sink.new) block.new)
         (reply_line thread reply) }
 {
     block.put_number(sink, thread);
@@ -81,8 +81,8 @@ fn put_reply<K: Sink>(block: &mut Block, sink: &mut K, thread: u64, reply: Reply
 }
 
 fn put_reply_word<K: Sink>(block: &mut Block, sink: &mut K, reply: Reply)
-    ensures { Puts (stage (K.written sink.old) (K.faults sink.old) block.old)
-        (stage (K.written sink.new) (K.faults sink.new) block.new)
+    ensures { Puts (stage (K.written sink.old) (K.faults sink.old) (K.calls sink.old) block.old)
+        (stage (K.written sink.new) (K.faults sink.new) (K.calls sink.new) block.new)
         (reply_word reply) }
 {
     match reply {
@@ -98,8 +98,8 @@ fn put_reply_word<K: Sink>(block: &mut Block, sink: &mut K, reply: Reply)
 }
 
 fn put_name<K: Sink>(block: &mut Block, sink: &mut K, name: Name)
-    ensures { Puts (stage (K.written sink.old) (K.faults sink.old) block.old)
-        (stage (K.written sink.new) (K.faults sink.new) block.new)
+    ensures { Puts (stage (K.written sink.old) (K.faults sink.old) (K.calls sink.old) block.old)
+        (stage (K.written sink.new) (K.faults sink.new) (K.calls sink.new) block.new)
         (name_word name) }
 {
     block.put_number(sink, name.thread as u64);
@@ -109,8 +109,8 @@ fn put_name<K: Sink>(block: &mut Block, sink: &mut K, name: Name)
 
 // Puts a reference after a space.
 fn put_reference<K: Sink>(block: &mut Block, sink: &mut K, reference: Option<Name>)
-    ensures { Puts (stage (K.written sink.old) (K.faults sink.old) block.old)
-        (stage (K.written sink.new) (K.faults sink.new) block.new)
+    ensures { Puts (stage (K.written sink.old) (K.faults sink.old) (K.calls sink.old) block.old)
+        (stage (K.written sink.new) (K.faults sink.new) (K.calls sink.new) block.new)
         (space ∷ reference_word reference) }
 {
     match reference {
@@ -123,8 +123,8 @@ fn put_reference<K: Sink>(block: &mut Block, sink: &mut K, reference: Option<Nam
 }
 
 fn put_objects<K: Sink>(block: &mut Block, sink: &mut K, graph: &GraphText)
-    ensures { Puts (stage (K.written sink.old) (K.faults sink.old) block.old)
-        (stage (K.written sink.new) (K.faults sink.new) block.new)
+    ensures { Puts (stage (K.written sink.old) (K.faults sink.old) (K.calls sink.old) block.old)
+        (stage (K.written sink.new) (K.faults sink.new) (K.calls sink.new) block.new)
         (flat_map object_line graph.now.rows) }
 {
     for row in 0..graph.rows() {
@@ -135,8 +135,8 @@ fn put_objects<K: Sink>(block: &mut Block, sink: &mut K, graph: &GraphText)
 // Puts the line of the object in a row.
 fn put_object<K: Sink>(block: &mut Block, sink: &mut K, graph: &GraphText, row: usize)
     requires { row < length graph.now.rows }
-    ensures { Puts (stage (K.written sink.old) (K.faults sink.old) block.old)
-        (stage (K.written sink.new) (K.faults sink.new) block.new)
+    ensures { Puts (stage (K.written sink.old) (K.faults sink.old) (K.calls sink.old) block.old)
+        (stage (K.written sink.new) (K.faults sink.new) (K.calls sink.new) block.new)
         (object_line (row_of graph.now row)) }
 {
     block.put(sink, b"object ");
@@ -150,8 +150,8 @@ fn put_object<K: Sink>(block: &mut Block, sink: &mut K, graph: &GraphText, row: 
 // Puts the references of the object in a row, each after a space.
 fn put_references<K: Sink>(block: &mut Block, sink: &mut K, graph: &GraphText, row: usize)
     requires { row < length graph.now.rows }
-    ensures { Puts (stage (K.written sink.old) (K.faults sink.old) block.old)
-        (stage (K.written sink.new) (K.faults sink.new) block.new)
+    ensures { Puts (stage (K.written sink.old) (K.faults sink.old) (K.calls sink.old) block.old)
+        (stage (K.written sink.new) (K.faults sink.new) (K.calls sink.new) block.new)
         (flat_map (λ r. space ∷ reference_word r) (row_of graph.now row).refs) }
 {
     for index in 0..graph.refs_at(row) {
@@ -162,8 +162,8 @@ fn put_references<K: Sink>(block: &mut Block, sink: &mut K, graph: &GraphText, r
 // Puts the numbers of the object in a row, each after a space.
 fn put_numbers<K: Sink>(block: &mut Block, sink: &mut K, graph: &GraphText, row: usize)
     requires { row < length graph.now.rows }
-    ensures { Puts (stage (K.written sink.old) (K.faults sink.old) block.old)
-        (stage (K.written sink.new) (K.faults sink.new) block.new)
+    ensures { Puts (stage (K.written sink.old) (K.faults sink.old) (K.calls sink.old) block.old)
+        (stage (K.written sink.new) (K.faults sink.new) (K.calls sink.new) block.new)
         (flat_map (λ n. space ∷ decimal n) (row_of graph.now row).nums) }
 {
     for index in 0..graph.nums_at(row) {
@@ -175,8 +175,8 @@ fn put_numbers<K: Sink>(block: &mut Block, sink: &mut K, graph: &GraphText, row:
 // Puts the lines of the roots of each thread.
 fn put_roots<K: Sink>(block: &mut Block, sink: &mut K, graph: &GraphText)
     requires { length graph.now.roots ≤ 8 }
-    ensures { Puts (stage (K.written sink.old) (K.faults sink.old) block.old)
-        (stage (K.written sink.new) (K.faults sink.new) block.new)
+    ensures { Puts (stage (K.written sink.old) (K.faults sink.old) (K.calls sink.old) block.old)
+        (stage (K.written sink.new) (K.faults sink.new) (K.calls sink.new) block.new)
         (flat_map (λ t. roots_line t (root_of graph.now t)) (threads_of (length graph.now.roots))) }
 {
     for mutator in 0..graph.mutators() {
@@ -187,8 +187,8 @@ fn put_roots<K: Sink>(block: &mut Block, sink: &mut K, graph: &GraphText)
 // Puts the line of the roots of a thread.
 fn put_roots_of<K: Sink>(block: &mut Block, sink: &mut K, graph: &GraphText, thread: u32)
     requires thread { (1 ≤ thread) × (thread ≤ length graph.now.roots) }
-    ensures { Puts (stage (K.written sink.old) (K.faults sink.old) block.old)
-        (stage (K.written sink.new) (K.faults sink.new) block.new)
+    ensures { Puts (stage (K.written sink.old) (K.faults sink.old) (K.calls sink.old) block.old)
+        (stage (K.written sink.new) (K.faults sink.new) (K.calls sink.new) block.new)
         (roots_line thread (root_of graph.now thread)) }
 {
     block.put(sink, b"roots ");
@@ -200,8 +200,8 @@ fn put_roots_of<K: Sink>(block: &mut Block, sink: &mut K, graph: &GraphText, thr
 // Puts the roots of a thread, each after a space.
 fn put_root_words<K: Sink>(block: &mut Block, sink: &mut K, graph: &GraphText, thread: u32)
     requires thread { (1 ≤ thread) × (thread ≤ length graph.now.roots) }
-    ensures { Puts (stage (K.written sink.old) (K.faults sink.old) block.old)
-        (stage (K.written sink.new) (K.faults sink.new) block.new)
+    ensures { Puts (stage (K.written sink.old) (K.faults sink.old) (K.calls sink.old) block.old)
+        (stage (K.written sink.new) (K.faults sink.new) (K.calls sink.new) block.new)
         (flat_map (λ w. space ∷ w) (root_words (root_of graph.now thread))) }
 {
     for index in 0..ROOTS {

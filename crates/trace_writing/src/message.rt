@@ -1,6 +1,6 @@
 ghost use Rattle.std.specs.Prelude.{[], ◌∷◌, ◌++◌, codes};
 ghost use Rattle.std.specs.Fmt.{decimal};
-ghost use Rattle.text_writer.specs.Sending.{Writes};
+ghost use Rattle.text_writer.specs.Sending.{Writes, outlet};
 ghost use Rattle.trace_grammar.specs.Spelling.{newline};
 ghost use Rattle.trace_grammar.specs.Why.{text_of as why_text};
 ghost use Rattle.trace_writing.specs.Message.{line_text};
@@ -31,8 +31,8 @@ pub enum Line {
 /// Writes the line to the sink. It takes no memory, and calls the sink at most once per byte. After `WriteFault` a front
 /// of the line was written.
 pub fn write_line<K: Sink>(sink: &mut K, line: &Line) -> Result<(), WriteFault>
-    ensures { Writes result (K.written sink.old) (K.written sink.new) (K.faults sink.old) (K.faults sink.new)
-        (line_text line.now) }
+    ensures { Writes result (outlet (K.written sink.old) (K.faults sink.old) (K.calls sink.old))
+        (outlet (K.written sink.new) (K.faults sink.new) (K.calls sink.new)) (line_text line.now) }
 {
     match line {
         Line::BadWords => write_all(sink, b"bad words\n"),
@@ -47,8 +47,8 @@ pub fn write_line<K: Sink>(sink: &mut K, line: &Line) -> Result<(), WriteFault>
 
 // Writes the line that names a line of the trace.
 fn write_bad_line<K: Sink>(sink: &mut K, line: u64, why: Why) -> Result<(), WriteFault>
-    ensures { Writes result (K.written sink.old) (K.written sink.new) (K.faults sink.old) (K.faults sink.new)
-        (codes "bad line " ++ (decimal line ++ (codes ": " ++ (why_text why ++ newline ∷ [])))) }
+    ensures { Writes result (outlet (K.written sink.old) (K.faults sink.old) (K.calls sink.old))
+        (outlet (K.written sink.new) (K.faults sink.new) (K.calls sink.new)) (codes "bad line " ++ (decimal line ++ (codes ": " ++ (why_text why ++ newline ∷ [])))) }
 {
     let mut block = Block::new();
     block.put(sink, b"bad line ");
@@ -61,8 +61,8 @@ fn write_bad_line<K: Sink>(sink: &mut K, line: u64, why: Why) -> Result<(), Writ
 
 // Writes the line that names the steps.
 fn write_unfinished<K: Sink>(sink: &mut K, steps: u64) -> Result<(), WriteFault>
-    ensures { Writes result (K.written sink.old) (K.written sink.new) (K.faults sink.old) (K.faults sink.new)
-        (codes "unfinished after " ++ (decimal steps ++ codes " steps\n")) }
+    ensures { Writes result (outlet (K.written sink.old) (K.faults sink.old) (K.calls sink.old))
+        (outlet (K.written sink.new) (K.faults sink.new) (K.calls sink.new)) (codes "unfinished after " ++ (decimal steps ++ codes " steps\n")) }
 {
     let mut block = Block::new();
     block.put(sink, b"unfinished after ");

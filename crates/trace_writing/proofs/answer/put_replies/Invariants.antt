@@ -7,6 +7,6 @@ use Rattle.trace_writing.proofs.answer.put_replies.Given as goal
 
 abbrev pub invariant-loop-mutator : goal.invariant-loop-mutator
 invariant-loop-mutator g l = record {
-  put : Puts (stage (g.K.Sink.written l.initial.sink) (g.K.Sink.faults l.initial.sink) l.initial.block) (stage (g.K.Sink.written l.sink) (g.K.Sink.faults l.sink) l.block) (flat_map (λ t. flat_map (reply_line t) (replies_of l.work (t - 1))) (threads_of l.mutator));
+  put : Puts (stage (g.K.Sink.written l.initial.sink) (g.K.Sink.faults l.initial.sink) (g.K.Sink.calls l.initial.sink) l.initial.block) (stage (g.K.Sink.written l.sink) (g.K.Sink.faults l.sink) (g.K.Sink.calls l.sink) l.block) (flat_map (λ t. flat_map (reply_line t) (replies_of l.work (t - 1))) (threads_of l.mutator));
   few : l.mutator ≤ 8;
 }

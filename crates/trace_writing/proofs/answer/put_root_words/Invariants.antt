@@ -7,4 +7,4 @@ use Rattle.text_writer.specs.Sending.{Puts, stage}
 use Rattle.trace_writing.proofs.answer.put_root_words.Given as goal
 
 abbrev pub invariant-loop-index : goal.invariant-loop-index
-invariant-loop-index g l = Puts (stage (g.K.Sink.written l.initial.sink) (g.K.Sink.faults l.initial.sink) l.initial.block) (stage (g.K.Sink.written l.sink) (g.K.Sink.faults l.sink) l.block) (flat_map (λ i. space ∷ reference_word (root_of l.graph l.thread i)) (range_with_len 0 l.index))
+invariant-loop-index g l = Puts (stage (g.K.Sink.written l.initial.sink) (g.K.Sink.faults l.initial.sink) (g.K.Sink.calls l.initial.sink) l.initial.block) (stage (g.K.Sink.written l.sink) (g.K.Sink.faults l.sink) (g.K.Sink.calls l.sink) l.block) (flat_map (λ i. space ∷ reference_word (root_of l.graph l.thread i)) (range_with_len 0 l.index))

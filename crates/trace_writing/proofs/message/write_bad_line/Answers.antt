@@ -4,4 +4,4 @@ use Rattle.trace_writing.proofs.message.write_bad_line.Goals as goal
 pub returns : goal.returns
 returns g c =
     rw (← c.text.ensures)
-    (c.finish.ensures.ended _ _ _ (taken_by_new c.new-block.ensures (puts_both c.put.ensures.put (puts_both c.put_number.ensures.put (puts_both c.put-2.ensures.put (puts_both c.put-3.ensures.put c.put-4.ensures.put))))))
+    (c.finish.ensures.ended _ _ (taken_by_new c.new-block.ensures (puts_both c.put.ensures.put (puts_both c.put_number.ensures.put (puts_both c.put-2.ensures.put (puts_both c.put-3.ensures.put c.put-4.ensures.put))))))
