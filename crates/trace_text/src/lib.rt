@@ -3,4 +3,9 @@
 
 pub use trace_grammar::{Scripts, Trace, Why, traces_are_read_once};
 pub use trace_reading::{TraceFault, number_in, read_trace};
-pub use trace_writing::{Answer, Line, WriteFault, write_answer, write_line, write_trace};
+pub use trace_writing::{
+    Answer, Line, WriteFault, read_traces_can_be_written, write_answer, write_line, write_trace,
+};
+
+#[cfg(test)]
+mod tests;

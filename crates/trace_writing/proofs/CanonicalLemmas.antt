@@ -17,10 +17,10 @@ use Rattle.trace_writing.specs.Canonical.{lines_of, lines_from, turns_of, spelli
 
 -- ---- each thread has its script
 
-is_own : (t : ℕ) → eqb t t ≡ true
+pub is_own : (t : ℕ) → eqb t t ≡ true
 is_own t = grind (arith, nat_tests)
 
-is_other : (a b : ℕ) → a ≢ b → eqb a b ≡ false
+pub is_other : (a b : ℕ) → a ≢ b → eqb a b ≡ false
 is_other a b h = grind (arith, nat_tests)
 
 script_of-append : (xs ys : List Line) (t : ℕ) → script_of (xs ++ ys) t ≡ script_of xs t ++ script_of ys t
@@ -45,7 +45,7 @@ no_lines first t (script ∷ scripts) lt =
     ∙ ap (λ (cs : List Command). cs ++ script_of (lines_from (first + 1) scripts) t) (other_lines first t script ne)
     ∙ no_lines (first + 1) t scripts (omega arith)
 
-map-range_same : {X : Type 0} (f h : ℕ → X) (from n : ℕ) → ((k : ℕ) → from ≤ k → f k ≡ h k) → map f (range_with_len from n) ≡ map h (range_with_len from n)
+pub map-range_same : {X : Type 0} (f h : ℕ → X) (from n : ℕ) → ((k : ℕ) → from ≤ k → f k ≡ h k) → map f (range_with_len from n) ≡ map h (range_with_len from n)
 map-range_same f h from zero same = refl
 map-range_same {X} f h from (suc n) same =
     let first : f from ≡ h from = same from (omega arith) in

@@ -8,4 +8,4 @@ mod trace;
 pub use answer::{Answer, write_answer};
 pub use message::{Line, write_line};
 pub use text_writer::WriteFault;
-pub use trace::write_trace;
+pub use trace::{read_traces_can_be_written, write_trace};

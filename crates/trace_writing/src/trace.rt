@@ -1,6 +1,9 @@
 //! Traces as text.
-ghost use Rattle.std.specs.Prelude.{ℕ, ◌≡◌, ◌+◌, ◌<◌, ◌≤◌, ◌∷◌, ◌++◌, length};
+ghost use Rattle.std.specs.Prelude.{ℕ, List, ◌≡◌, ◌+◌, ◌<◌, ◌≤◌, ◌∷◌, ◌++◌, length};
 ghost use Rattle.std.specs.List.{flat_map, AllByRecursion};
+ghost use Rattle.shen_graph.specs.declared.command.Command.{Command as Asked};
+ghost use Rattle.heap_words.specs.declared.config.Config.{Config as Sizes};
+ghost use Rattle.heap_words.specs.declared.schedule.Item.{Item as Turn};
 ghost use Rattle.text_writer.specs.Sending.{Puts, Writes, outlet, stage};
 ghost use Rattle.trace_grammar.specs.Spelling.{numbers, word_of, numbers_of, line, titled, header, number_of, aim, spaced_item, schedule_line, IsItem};
 ghost use Rattle.trace_grammar.specs.Grammar.{Reads};
@@ -29,6 +32,11 @@ pub fn write_trace<K: Sink>(sink: &mut K, trace: &Trace) -> Result<(), WriteFaul
     put_schedule(&mut block, sink, &trace.config, trace.schedule.list());
     block.finish(sink)
 }
+
+/// A law: a trace that was read can be written.
+pub fn read_traces_can_be_written()
+    ensures { (bytes : List ℕ) (c : Sizes) (scripts : List (List Asked)) (items : List Turn) → Reads bytes c scripts items → IsWritable c scripts items }
+{}
 
 // Puts the three lines at the head of a trace.
 fn put_header<K: Sink>(block: &mut Block, sink: &mut K, config: &Config)
