@@ -1,3 +1,1 @@
-pub mod CountLemmas
 mod Lists
-pub mod Runs

@@ -11,6 +11,10 @@ reader_of source = source.reader
 abbrev pub read_faults : {R : Type 0} → InSource R → ℕ
 read_faults source = source.faults
 
+-- the calls that a source over a reader counted
+abbrev pub read_calls : {R : Type 0} → InSource R → ℕ
+read_calls source = source.calls
+
 -- the writer behind a sink
 abbrev pub writer_of : {W : Type 0} → OutSink W → W
 writer_of sink = sink.writer
@@ -18,3 +22,7 @@ writer_of sink = sink.writer
 -- the faults that a sink over a writer counted
 abbrev pub write_faults : {W : Type 0} → OutSink W → ℕ
 write_faults sink = sink.faults
+
+-- the calls that a sink over a writer counted
+abbrev pub write_calls : {W : Type 0} → OutSink W → ℕ
+write_calls sink = sink.calls

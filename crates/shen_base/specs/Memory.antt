@@ -2,6 +2,11 @@
 use Rattle.std.specs.Prelude.{◌≡◌, ℕ, ◌<◌, List, length, Contains}
 use Rattle.shen_base.specs.Count.{raised}
 
+-- a source in memory that never fails: the bytes left, and how many calls there were
+pub record Stock : Type 0 where
+  pub unread : List ℕ
+  pub calls : ℕ
+
 -- a source in memory: the bytes left, how many it gives in a call at most, the numbers of its calls that fail,
 -- and how many calls and faults there were
 pub record Supply : Type 0 where

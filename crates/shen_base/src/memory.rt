@@ -11,15 +11,15 @@ use crate::{Failed, NoMemory};
 use std::alloc::Global;
 use std::marker::Model;
 
-/// A source over bytes in memory that never fails. Contracts see it as the list of the bytes left.
+// Bytes in memory of which some were given. Contracts see them as the list of the bytes left.
 #[derive(Debug, Drop)]
-pub struct PlainSource {
+struct Unread {
     bytes: Vec<u8>,
     // How many of the bytes were given.
     position: usize,
 }
 
-impl Model for PlainSource {
+impl Model for Unread {
     ghost use Rattle.std.specs.Prelude.{ℕ, ◌≤◌, List, length, drop};
 
     ghost Value = { List ℕ };
@@ -29,12 +29,11 @@ impl Model for PlainSource {
     ghost invariant = { λ s. s.position ≤ length s.bytes.items };
 }
 
-impl PlainSource {
-    /// A source that gives `bytes`, as many in a call as there is room for.
-    pub fn new(bytes: Vec<u8>) -> PlainSource
+impl Unread {
+    fn new(bytes: Vec<u8>) -> Unread
         ensures { result ≡ bytes.items }
     {
-        PlainSource { bytes, position: 0 }
+        Unread { bytes, position: 0 }
     }
 
     // Puts the next bytes at the front of `buf`, at most `most`, and returns how many.
@@ -52,23 +51,56 @@ impl PlainSource {
     }
 }
 
+/// A source over bytes in memory that never fails. Contracts see it as a `Stock`.
+#[derive(Debug, Drop)]
+pub struct PlainSource {
+    unread: Unread,
+    calls: u64,
+}
+
+impl Model for PlainSource {
+    ghost use Rattle.shen_base.specs.Memory.{Stock};
+
+    ghost Value = { Stock };
+
+    ghost view = { λ s. record { unread = s.unread; calls = s.calls } };
+}
+
+impl PlainSource {
+    /// A source that gives `bytes`, as many in a call as there is room for.
+    pub fn new(bytes: Vec<u8>) -> PlainSource
+        ensures { result ≡ record { unread = bytes.items; calls = 0 } }
+    {
+        PlainSource {
+            unread: Unread::new(bytes),
+            calls: 0,
+        }
+    }
+}
+
 impl Source for PlainSource {
-    ghost left = { λ source. Some source };
+    ghost left = { λ source. Some source.unread };
 
     ghost faults = { λ _. 0 };
 
+    ghost calls = { λ source. source.calls };
+
     fn read(&mut self, buf: &mut [u8]) -> Result<usize, Failed>
         ensures within { IfOk result (λ n. n ≤ length buf.new) }
-        ensures next_bytes { IfOk result (λ n. Consumes (Some self.old) (Some self.new) (take n buf.new)) }
-        ensures none_only_at_end { IfOk result (λ n. n ≡ 0 → 0 < length buf.new → IsAtEnd (Some self.new)) }
+        ensures next_bytes { IfOk result (λ n.
+            Consumes (Some self.old.unread) (Some self.new.unread) (take n buf.new)) }
+        ensures none_only_at_end { IfOk result (λ n. n ≡ 0 → 0 < length buf.new →
+            IsAtEnd (Some self.new.unread)) }
+        ensures one_call { self.new.calls ≡ raised self.old.calls }
 
         // It never fails, and gives all that there is room for.
         ensures never_fails { IsOk result }
-        ensures count { IfOk result (λ n. n ≡ min (length buf.old) (length self.old)) }
-        ensures buffer { IfOk result (λ n. buf.new ≡ take n self.old ++ drop n buf.old) }
-        ensures rest { IfOk result (λ n. self.new ≡ drop n self.old) }
+        ensures count { IfOk result (λ n. n ≡ min (length buf.old) (length self.old.unread)) }
+        ensures buffer { IfOk result (λ n. buf.new ≡ take n self.old.unread ++ drop n buf.old) }
+        ensures rest { IfOk result (λ n. self.new.unread ≡ drop n self.old.unread) }
     {
-        Ok(self.give(buf.len(), buf))
+        raise(&mut self.calls);
+        Ok(self.unread.give(buf.len(), buf))
     }
 }
 
@@ -76,7 +108,7 @@ impl Source for PlainSource {
 /// see it as a `Supply`.
 #[derive(Debug, Drop)]
 pub struct MemorySource {
-    source: PlainSource,
+    unread: Unread,
     piece: usize,
     failing: Vec<u64>,
     calls: u64,
@@ -90,7 +122,7 @@ impl Model for MemorySource {
     ghost Value = { Supply };
 
     ghost view = { λ s. record
-        { unread = s.source; piece = s.piece; failing = s.failing.items; calls = s.calls; faults = s.faults } };
+        { unread = s.unread; piece = s.piece; failing = s.failing.items; calls = s.calls; faults = s.faults } };
 
     ghost invariant = { λ s. 1 ≤ s.piece };
 }
@@ -104,7 +136,7 @@ impl MemorySource {
             { unread = bytes.items; piece = piece; failing = failing.items; calls = 0; faults = 0 } }
     {
         MemorySource {
-            source: PlainSource::new(bytes),
+            unread: Unread::new(bytes),
             piece,
             failing,
             calls: 0,
@@ -118,6 +150,8 @@ impl Source for MemorySource {
 
     ghost faults = { λ source. source.faults };
 
+    ghost calls = { λ source. source.calls };
+
     fn read(&mut self, buf: &mut [u8]) -> Result<usize, Failed>
         ensures within { IfOk result (λ n. n ≤ length buf.new) }
         ensures next_bytes { IfOk result (λ n.
@@ -127,6 +161,7 @@ impl Source for MemorySource {
         ensures failed_takes_none { OnErr result (Keeps (Some self.old.unread) (Some self.new.unread)) }
         ensures failed_only_by_fault { OnErr result (Rose self.old.faults self.new.faults) }
         ensures faults_never_fall { self.old.faults ≤ self.new.faults }
+        ensures one_call { self.new.calls ≡ raised self.old.calls }
 
         // It fails exactly at the calls that were named.
         ensures fails { IsErr result ↔ IsNextFailing self.old.failing self.old.calls }
@@ -145,7 +180,7 @@ impl Source for MemorySource {
         if self.failing.contains(&self.calls) {
             return Err(count_fault(&mut self.faults));
         }
-        Ok(self.source.give(self.piece, buf))
+        Ok(self.unread.give(self.piece, buf))
     }
 }
 
@@ -221,6 +256,8 @@ impl Sink for MemorySink {
 
     ghost faults = { λ sink. sink.faults };
 
+    ghost calls = { λ sink. sink.calls };
+
     fn write(&mut self, piece: &[u8]) -> Result<usize, Failed>
         ensures within { IfOk result (λ n. n ≤ length piece.now) }
         ensures appended { IfOk result (λ n.
@@ -229,6 +266,7 @@ impl Sink for MemorySink {
         ensures failed_writes_none { OnErr result (Keeps (Some self.old.stored) (Some self.new.stored)) }
         ensures failed_only_by_fault { OnErr result (Rose self.old.faults self.new.faults) }
         ensures faults_never_fall { self.old.faults ≤ self.new.faults }
+        ensures one_call { self.new.calls ≡ raised self.old.calls }
 
         // It fails exactly at the calls that were named, and where it is full.
         ensures fails { IsErr result ↔

@@ -1,17 +1,20 @@
 //! Where bytes come from.
 ghost use Rattle.std.specs.Prelude.{◌≡◌, ℕ, ◌<◌, ◌≤◌, List, Option, length, take, IfOk, OnErr};
 ghost use Rattle.std.specs.Io.KnownBytes.{Consumes, IsAtEnd, Keeps};
-ghost use Rattle.shen_base.specs.Count.{Rose};
+ghost use Rattle.shen_base.specs.Count.{Rose, raised};
 
 use crate::Failed;
 
-/// Where bytes come from, in order, with a count of the faults so far.
+/// Where bytes come from, in order, with a count of the faults and one of the calls so far.
 pub trait Source {
     // The bytes that reads will give from here on, where they are told.
     ghost left: { Self → Option (List ℕ) };
 
     // The faults so far, a count that stands still at its last value.
     ghost faults: { Self → ℕ };
+
+    // The calls so far, a count that stands still at its last value.
+    ghost calls: { Self → ℕ };
 
     /// Puts the next bytes at the front of `buf`, and returns how many. It may give fewer than there is room for;
     /// none at room for some is the end of the input. What stands in `buf` behind them, or after `Failed`, is not told.
@@ -25,5 +28,6 @@ pub trait Source {
         ensures failed_takes_none { OnErr result (Keeps (left self.old) (left self.new)) }
         ensures failed_only_by_fault { OnErr result (Rose (faults self.old) (faults self.new)) }
 
-        ensures faults_never_fall { faults self.old ≤ faults self.new };
+        ensures faults_never_fall { faults self.old ≤ faults self.new }
+        ensures one_call { calls self.new ≡ raised (calls self.old) };
 }

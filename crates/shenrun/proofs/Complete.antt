@@ -6,7 +6,7 @@ use Rattle.shen_base.specs.Count.{Rose}
 use Rattle.shen_graph.specs.declared.command.Command.{Command}
 use Rattle.heap_words.specs.declared.config.Config.{Config}
 use Rattle.heap_words.specs.declared.schedule.Item.{Item}
-use Rattle.trace_text.specs.Grammar.{Came, Reads}
+use Rattle.trace_grammar.specs.Grammar.{Came, Reads}
 use Rattle.shenrun.specs.declared.status.Status.{Status}
 use Rattle.shenrun.specs.declared.status.Status.TheVariants.{Ok, BadWords, BadTrace, Unfinished, ReadFault, WriteFault, NoMemory}
 use Rattle.shenrun.specs.Words.{AskReplay}
@@ -41,7 +41,7 @@ either_row (inr x) = inr x.0
 
 pub complete : (words : List (List ℕ)) (input : Input) (output : Output) (status : Status) → IsAnswered words input output status
     → (bytes : List ℕ) (config : Config) (scripts : List (List Command)) (items : List Item) → AskReplay words → input.before ≡ Some bytes → Reads bytes config scripts items
-    → (Rose input.faults_before input.faults_after → ⊥) → (Rose output.faults_before output.faults_after → ⊥) → IsAnswer status
+    → (Rose input.faults_before input.faults_after → ⊥) → (Rose output.before.faults output.after.faults → ⊥) → IsAnswer status
 complete words input output Ok answered bytes config scripts items asked told reads read_fine written_fine = tt
 complete words input output BadWords answered bytes config scripts items asked told reads read_fine written_fine = answered.1.0 asked
 complete words input output BadTrace answered bytes config scripts items asked told reads read_fine written_fine = no_bad_trace input bytes config scripts items told reads (either_row answered.1.1)

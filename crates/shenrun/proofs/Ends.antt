@@ -1,5 +1,8 @@
 -- From the end of a writing call to what the program answers.
-use Rattle.std.proofs.Common.{◌≡◌, ℕ, List, sym, subst, inl, inr}
+use Rattle.std.proofs.Common.{◌≡◌, ◌⊎◌, ℕ, List, sym, subst, inl, inr}
+use Rattle.std.specs.Io.KnownBytes.{Appends}
+use Rattle.shen_base.specs.Count.{Rose}
+use Rattle.text_writer.specs.Sending.{AppendsFront}
 use Rattle.shenrun.specs.declared.status.Status.{Status}
 use Rattle.shenrun.specs.declared.status.Status.TheVariants.{Ok, BadWords, BadTrace, Unfinished, ReadFault, WriteFault, NoMemory}
 use Rattle.shenrun.specs.Answered.{Allows, Input, Output, IsWritten, IsAnswered}
@@ -16,11 +19,13 @@ written_is_answer words input output NoMemory w = w
 
 -- a text that goes with a status was written, or the sink failed
 pub said : (words : List (List ℕ)) (input : Input) (output : Output) (text : List ℕ) (status result : Status) → Allows words input status text
-    → EndsWith text status result output.before output.after output.faults_before output.faults_after → IsAnswered words input output result
-said words input output text status result allows (inl whole) =
-    subst (IsAnswered words input output) (sym whole.0) (written_is_answer words input output status (text, allows, whole.1))
-said words input output text status result allows (inr front) =
-    subst (IsAnswered words input output) (sym front.0) (front.1, (status, text, allows, front.2))
+    → EndsWith text status result output.before output.after → IsAnswered words input output result
+said words input output text status result allows ends = by_end ends.written
+  where
+    by_end : ((result ≡ status) × Appends output.before.written output.after.written text) ⊎ ((result ≡ WriteFault) × Rose output.before.faults output.after.faults × AppendsFront output.before.written output.after.written text)
+        → IsAnswered words input output result
+    by_end (inl whole) = subst (IsAnswered words input output) (sym whole.0) (written_is_answer words input output status (text, allows, whole.1, ends.few_calls))
+    by_end (inr front) = subst (IsAnswered words input output) (sym front.0) (front.1, (status, text, allows, front.2, ends.few_calls))
 
 -- the row of Ok
 pub row_of_ok : (words : List (List ℕ)) (input : Input) (output : Output) (result : Status) → IsAnswered words input output result → result ≡ Ok → IsWritten words input output Ok

@@ -14,7 +14,7 @@ use Rattle.shen_core.specs.Progress.{Jobs, Tells, CanRun, IsRunnable}
 use Rattle.shen_core.specs.Ending.{HasRun, RunsSchedule}
 use Rattle.shen_core.proofs.Calls.{all_call_first}
 use Rattle.shen_core.proofs.Fresh.{can_run_first, tells_first}
-use Rattle.trace_text.specs.Grammar.{Reads}
+use Rattle.trace_grammar.specs.Grammar.{Reads}
 use Rattle.shenrun.specs.Replayed.{IsUnfinished}
 use Rattle.shenrun.specs.Running.{HasFinished}
 

@@ -12,9 +12,9 @@ use Rattle.heap_words.specs.declared.config.Config.{Config}
 use Rattle.heap_words.specs.declared.schedule.Item.{Item}
 use Rattle.heap_words.specs.declared.schedule.Item.TheVariants.{Steps, Until, Replies}
 use Rattle.shen_core.specs.Progress.{IsInSeats, IsRunnable}
-use Rattle.trace_text.specs.Spelling.{Line, IsLine, line, space, newline, word_of, numbers, numbers_of, header, IsItem, IsScheduleLine, schedule_line}
-use Rattle.trace_text.specs.Grammar.{Reads, scripts_of, items_of}
-use Rattle.trace_text.specs.Grammar as grammar
+use Rattle.trace_grammar.specs.Spelling.{Line, IsLine, line, space, newline, word_of, numbers, numbers_of, header, IsItem, IsScheduleLine, schedule_line}
+use Rattle.trace_grammar.specs.Grammar.{Reads, scripts_of, items_of}
+use Rattle.trace_grammar.specs.Grammar as grammar
 
 -- the commands of lines in range are valid
 valid_lines : (threads : ℕ) (lines : List Line) (t : ℕ) → AllByRecursion (IsLine threads) lines → AllByRecursion IsValid (grammar.script_of lines t)

@@ -31,9 +31,9 @@ use Rattle.shen_core.specs.State.{machine_at, Shows}
 use Rattle.step_core.specs.Machines.{is_resting}
 use Rattle.shen_core.specs.Progress.{Jobs, AreIdle, AllRest}
 use Rattle.shen_core.specs.Calls.{HasCalled, AllHaveCalled}
-use Rattle.trace_text.specs.Grammar.{Reads}
-use Rattle.trace_text.specs.Answer.{answer_text, row_in}
-use Rattle.trace_text.proofs.AnswerLemmas.{answer_text_same}
+use Rattle.trace_grammar.specs.Grammar.{Reads}
+use Rattle.trace_writing.specs.Answer.{answer_text, row_in}
+use Rattle.trace_writing.proofs.AnswerLemmas.{answer_text_same}
 use Rattle.shenrun.specs.Replayed.{events_of, history_of, end_of, IsWhole, IsReplayed}
 use Rattle.shenrun.specs.Running.{HasFinished}
 

@@ -4,7 +4,7 @@ use Rattle.std.specs.Prelude.{codes, Option, Some, None, MatchOption}
 use Rattle.std.specs.Fmt.{decimal}
 use Rattle.std.specs.Cmp.Lexicographic.{pointwise}
 use Rattle.std.proofs.lemmas.Bool.{eqb-true}
-use Rattle.trace_text.specs.Spelling.{IsUpTo}
+use Rattle.trace_grammar.specs.Spelling.{IsUpTo}
 use Rattle.shenrun.specs.Words.{IsReplay, AskReplay}
 use Rattle.std.proofs.lemmas.Bool.Decides.{nat_tests}
 

@@ -1,14 +1,14 @@
 -- What each status of the program means: what was asked for, what came in, and what may be written.
 use Rattle.std.specs.Prelude.{ℕ, ◌≡◌, ◌+◌, ◌≤◌, ◌⊎◌, List, length, Option}
 use Rattle.std.specs.Io.KnownBytes.{Appends, Consumes}
-use Rattle.shen_base.specs.Count.{Rose}
+use Rattle.shen_base.specs.Count.{Rose, CalledAtMost}
 use Rattle.shen_graph.specs.declared.command.Command.{Command}
 use Rattle.heap_words.specs.declared.config.Config.{Config}
 use Rattle.heap_words.specs.declared.schedule.Item.{Item}
-use Rattle.text_writer.specs.Sending.{AppendsFront}
-use Rattle.trace_text.specs.Grammar.{most_bytes, Came, Reads}
-use Rattle.trace_text.specs.Message.{line_text}
-use Rattle.trace_text.specs.declared.message.Line.TheVariants as line
+use Rattle.text_writer.specs.Sending.{Outlet, AppendsFront}
+use Rattle.trace_grammar.specs.Grammar.{most_bytes, Came, Reads}
+use Rattle.trace_writing.specs.Message.{line_text}
+use Rattle.trace_writing.specs.declared.message.Line.TheVariants as line
 use Rattle.shenrun.specs.declared.status.Status.{Status}
 use Rattle.shenrun.specs.declared.status.Status.TheVariants.{Ok, BadWords, BadTrace, Unfinished, ReadFault, WriteFault, NoMemory}
 use Rattle.shenrun.specs.Words.{IsReplay, AskReplay}
@@ -43,23 +43,22 @@ Allows words input ReadFault out = AskReplay words × Rose input.faults_before i
 Allows words input WriteFault out = ⊥
 Allows words input NoMemory out = AskReplay words × (out ≡ line_text line.NoMemory)
 
--- What was written where it is told, before the call and after it, and the sink's faults.
+-- The sink before the call and after it.
 pub record Output : Type 0 where
-  pub before : Option (List ℕ)
-  pub after : Option (List ℕ)
-  pub faults_before : ℕ
-  pub faults_after : ℕ
+  pub before : Outlet
+  pub after : Outlet
 
--- a text that goes with the status was written, whole
+-- a text that goes with the status was written, whole, and by at most one writing call for each of its bytes
 abbrev pub IsWritten : List (List ℕ) → Input → Output → Status → Type 0
-IsWritten words input output status = (out : List ℕ) × Allows words input status out × Appends output.before output.after out
+IsWritten words input output status =
+    (out : List ℕ) × Allows words input status out × Appends output.before.written output.after.written out × CalledAtMost (length out) output.before.calls output.after.calls
 
 -- The status fits the words, what came and what was written. After a write fault a front of a text was written that
--- goes with another status.
+-- goes with another status, and by at most one call for each byte of that text.
 abbrev pub IsAnswered : List (List ℕ) → Input → Output → Status → Type 0
 IsAnswered words input output WriteFault =
-    Rose output.faults_before output.faults_after
-    × ((status : Status) × (out : List ℕ) × Allows words input status out × AppendsFront output.before output.after out)
+    Rose output.before.faults output.after.faults
+    × ((status : Status) × (out : List ℕ) × Allows words input status out × AppendsFront output.before.written output.after.written out × CalledAtMost (length out) output.before.calls output.after.calls)
 IsAnswered words input output Ok = IsWritten words input output Ok
 IsAnswered words input output BadWords = IsWritten words input output BadWords
 IsAnswered words input output BadTrace = IsWritten words input output BadTrace

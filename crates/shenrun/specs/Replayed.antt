@@ -11,8 +11,8 @@ use Rattle.step_core.specs.Opening.{opening}
 use Rattle.step_core.specs.Schedule.{Scripts, schedule_events}
 use Rattle.step_core.specs.Begins.{reached, past}
 use Rattle.shen_core.specs.Progress.{AreIdle}
-use Rattle.trace_text.specs.Grammar.{Reads}
-use Rattle.trace_text.specs.Answer.{IsAnswerText}
+use Rattle.trace_grammar.specs.Grammar.{Reads}
+use Rattle.trace_writing.specs.Answer.{IsAnswerText}
 
 -- the events of a trace: those of its schedule and of the rounds after it, from the opening on, cut after so many
 abbrev pub events_of : Config → Scripts → List Item → ℕ → List (Event Order)

@@ -1,7 +1,7 @@
 -- The words of the command line.
 use Rattle.std.specs.Prelude.{ℕ, ◌≡◌, ◌⊎◌, List, [], ◌∷◌, codes}
 use Rattle.std.specs.Fmt.{decimal}
-use Rattle.trace_text.specs.Spelling.{IsUpTo}
+use Rattle.trace_grammar.specs.Spelling.{IsUpTo}
 
 -- the steps that a replay may make where the words name no number
 abbrev pub usual_steps : ℕ

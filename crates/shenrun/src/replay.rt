@@ -15,9 +15,10 @@ ghost use Rattle.step_core.specs.Begins.{first_graph, reached, past};
 ghost use Rattle.shen_core.specs.State as memory;
 ghost use Rattle.shen_core.specs.State.{config_of};
 ghost use Rattle.shen_core.specs.Progress.{AllRest};
-ghost use Rattle.trace_text.specs.Grammar.{Came, Reads};
-ghost use Rattle.trace_text.specs.Message.{line_text};
-ghost use Rattle.trace_text.specs.Answer.{text_of};
+ghost use Rattle.text_writer.specs.Sending.{outlet};
+ghost use Rattle.trace_grammar.specs.Grammar.{Came, Reads};
+ghost use Rattle.trace_writing.specs.Message.{line_text};
+ghost use Rattle.trace_writing.specs.Answer.{text_of};
 ghost use Rattle.shenrun.specs.Ends.{EndsWith};
 ghost use Rattle.shenrun.specs.Words.{IsReplay, AskReplay};
 ghost use Rattle.shenrun.specs.Replayed.{IsReplayed, IsUnfinished};
@@ -108,7 +109,8 @@ fn answer_to(alloc: Global, trace: &Trace, steps: u64) -> Result<Answer, Refusal
 
 /// Writes the one line of a status.
 fn say<K: Sink>(sink: &mut K, line: Line, status: Status) -> Status
-    ensures { EndsWith (line_text line) status result (K.written sink.old) (K.written sink.new) (K.faults sink.old) (K.faults sink.new) }
+    ensures { EndsWith (line_text line) status result (outlet (K.written sink.old) (K.faults sink.old) (K.calls sink.old))
+        (outlet (K.written sink.new) (K.faults sink.new) (K.calls sink.new)) }
 {
     match write_line(sink, &line) {
         Ok(()) => status,
@@ -119,7 +121,8 @@ fn say<K: Sink>(sink: &mut K, line: Line, status: Status) -> Status
 /// Writes an answer.
 fn give<K: Sink>(sink: &mut K, answer: &Answer) -> Status
     requires { (mutator : ℕ) → mutator < length answer.now.graph.roots → HasScript answer.now.replies mutator }
-    ensures { EndsWith (text_of answer.now) Status.Ok result (K.written sink.old) (K.written sink.new) (K.faults sink.old) (K.faults sink.new) }
+    ensures { EndsWith (text_of answer.now) Status.Ok result (outlet (K.written sink.old) (K.faults sink.old) (K.calls sink.old))
+        (outlet (K.written sink.new) (K.faults sink.new) (K.calls sink.new)) }
 {
     match write_answer(sink, answer) {
         Ok(()) => Status::Ok,
@@ -131,7 +134,7 @@ fn give<K: Sink>(sink: &mut K, answer: &Answer) -> Status
 fn replay<S: Source, K: Sink>(alloc: Global, steps: u64, source: &mut S, sink: &mut K) -> Status
     ensures { (words : List (List ℕ)) → IsReplay words steps → IsAnswered words
         (record { before = S.left source.old; after = S.left source.new; faults_before = S.faults source.old; faults_after = S.faults source.new })
-        (record { before = K.written sink.old; after = K.written sink.new; faults_before = K.faults sink.old; faults_after = K.faults sink.new }) result }
+        (record { before = outlet (K.written sink.old) (K.faults sink.old) (K.calls sink.old); after = outlet (K.written sink.new) (K.faults sink.new) (K.calls sink.new) }) result }
 {
     let trace = match read_trace(alloc, source) {
         Ok(trace) => trace,
@@ -165,10 +168,11 @@ pub fn shenrun<S: Source, K: Sink>(
     ensures headline { result ≡ Status.Ok → (steps : ℕ) × IsReplay (map string_bytes words.now) steps × ((bytes : List ℕ) × ((out : List ℕ)
         × Came (S.left source.old) (S.left source.new) bytes × IsReplayed bytes steps out × Appends (K.written sink.old) (K.written sink.new) out)) }
 
-    // What each status says of the words, of what came and of what was written.
+    // What each status says of the words, of what came and of what was written; and that the sink was called at most once for
+    // each byte of the text.
     ensures answered { IsAnswered (map string_bytes words.now)
         (record { before = S.left source.old; after = S.left source.new; faults_before = S.faults source.old; faults_after = S.faults source.new })
-        (record { before = K.written sink.old; after = K.written sink.new; faults_before = K.faults sink.old; faults_after = K.faults sink.new }) result }
+        (record { before = outlet (K.written sink.old) (K.faults sink.old) (K.calls sink.old); after = outlet (K.written sink.new) (K.faults sink.new) (K.calls sink.new) }) result }
 
     // Where the source has the bytes of a trace, and nothing fails, there is an answer, or the steps are used up, or memory
     // is refused.

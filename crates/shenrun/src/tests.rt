@@ -552,7 +552,9 @@ fn each_fault_is_told(rt: HostRuntime) -> Result<(), Fail> {
 
 /// A source without an end.
 #[derive(Drop)]
-struct Endless;
+struct Endless {
+    calls: u64,
+}
 
 impl Source for Endless {
     ghost use Rattle.std.specs.Prelude.{None};
@@ -561,7 +563,10 @@ impl Source for Endless {
 
     ghost faults = { λ _. 0 };
 
+    ghost calls = { λ source. source.calls };
+
     fn read(&mut self, buf: &mut [u8]) -> Result<usize, Failed> {
+        self.calls = self.calls.saturating_add(1);
         Ok(buf.len())
     }
 }
@@ -571,7 +576,7 @@ fn too_many_bytes_are_refused(rt: HostRuntime) -> Result<(), Fail> {
     let mut words = Vec::new(rt.alloc());
     words.push(String::from_str(rt.alloc(), "replay")?)?;
     let mut sink = MemorySink::with_room(rt.alloc(), 100, 100, Vec::new(rt.alloc()))?;
-    let status = shenrun(rt.alloc(), &words, &mut Endless, &mut sink);
+    let status = shenrun(rt.alloc(), &words, &mut Endless { calls: 0 }, &mut sink);
     assert_eq!(rt; status, Status::BadTrace);
     assert_eq!(rt;
         sink.bytes(),

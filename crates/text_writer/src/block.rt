@@ -1,6 +1,6 @@
-ghost use Rattle.std.specs.Prelude.{◌≡◌, ℕ, ◌<◌, ◌≤◌, Bool, true, false, List, [], ◌++◌, Option, length, take};
+ghost use Rattle.std.specs.Prelude.{◌≡◌, ℕ, ◌<◌, ◌≤◌, Bool, true, false, List, [], ◌++◌, length, take};
 ghost use Rattle.std.specs.Fmt.{decimal};
-ghost use Rattle.text_writer.specs.Sending.{HasTaken, Puts, Writes, stage};
+ghost use Rattle.text_writer.specs.Sending.{HasTaken, Outlet, Puts, Writes, outlet, stage};
 
 use crate::number::spell;
 use crate::send::{WriteFault, write_all};
@@ -47,22 +47,23 @@ impl Block {
 
     // Sends what the block holds.
     fn send<K: Sink>(&mut self, sink: &mut K)
-        ensures sent { Puts (stage (K.written sink.old) (K.faults sink.old) self.old)
-            (stage (K.written sink.new) (K.faults sink.new) self.new) [] }
+        ensures sent { Puts (stage (K.written sink.old) (K.faults sink.old) (K.calls sink.old) self.old)
+            (stage (K.written sink.new) (K.faults sink.new) (K.calls sink.new) self.new) [] }
         ensures emptied { self.new.unsent ≡ [] }
         ensures faults_never_fall { K.faults sink.old ≤ K.faults sink.new }
         ensures stopped { self.old.failed ≡ true → (self.new.failed ≡ true) × (sink.new ≡ sink.old) }
     {
-        if !self.failed && write_all(sink, &self.bytes[..self.used]).is_err() {
-            self.failed = true;
+        if !self.failed {
+            let sent = write_all(sink, &self.bytes[..self.used]);
+            self.failed = sent.is_err();
         }
         self.used = 0;
     }
 
     // Sends what the block holds if there is no room for a byte more.
     fn make_room<K: Sink>(&mut self, sink: &mut K)
-        ensures sent { Puts (stage (K.written sink.old) (K.faults sink.old) self.old)
-            (stage (K.written sink.new) (K.faults sink.new) self.new) [] }
+        ensures sent { Puts (stage (K.written sink.old) (K.faults sink.old) (K.calls sink.old) self.old)
+            (stage (K.written sink.new) (K.faults sink.new) (K.calls sink.new) self.new) [] }
         ensures room { length self.new.unsent < 4096 }
     {
         if self.used == ROOM {
@@ -86,8 +87,8 @@ impl Block {
 
     /// Puts a piece of text behind all that was put before.
     pub fn put<K: Sink>(&mut self, sink: &mut K, piece: &[u8])
-        ensures put { Puts (stage (K.written sink.old) (K.faults sink.old) self.old)
-            (stage (K.written sink.new) (K.faults sink.new) self.new) piece.now }
+        ensures put { Puts (stage (K.written sink.old) (K.faults sink.old) (K.calls sink.old) self.old)
+            (stage (K.written sink.new) (K.faults sink.new) (K.calls sink.new) self.new) piece.now }
         ensures stopped { self.old.failed ≡ true → (self.new ≡ self.old) × (sink.new ≡ sink.old) }
     {
         let mut rest = piece;
@@ -100,8 +101,8 @@ impl Block {
 
     /// Puts the decimal digits of a number behind all that was put before.
     pub fn put_number<K: Sink>(&mut self, sink: &mut K, number: u64)
-        ensures put { Puts (stage (K.written sink.old) (K.faults sink.old) self.old)
-            (stage (K.written sink.new) (K.faults sink.new) self.new) (decimal number) }
+        ensures put { Puts (stage (K.written sink.old) (K.faults sink.old) (K.calls sink.old) self.old)
+            (stage (K.written sink.new) (K.faults sink.new) (K.calls sink.new) self.new) (decimal number) }
         ensures stopped { self.old.failed ≡ true → (self.new ≡ self.old) × (sink.new ≡ sink.old) }
     {
         let mut digits = [0; 20];
@@ -112,9 +113,9 @@ impl Block {
     /// Sends what the block holds, and tells whether all that was put was written. After `WriteFault` a front of it was
     /// written.
     pub fn finish<K: Sink>(self, sink: &mut K) -> Result<(), WriteFault>
-        ensures ended { (first : Option (List ℕ)) (before : ℕ) (text : List ℕ) →
-            HasTaken (stage (K.written sink.old) (K.faults sink.old) self) first before text →
-            Writes result first (K.written sink.new) before (K.faults sink.new) text }
+        ensures ended { (first : Outlet) (text : List ℕ) →
+            HasTaken (stage (K.written sink.old) (K.faults sink.old) (K.calls sink.old) self) first text →
+            Writes result first (outlet (K.written sink.new) (K.faults sink.new) (K.calls sink.new)) text }
         ensures stopped { self.failed ≡ true → sink.new ≡ sink.old }
     {
         let mut block = self;

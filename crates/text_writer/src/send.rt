@@ -1,4 +1,4 @@
-ghost use Rattle.text_writer.specs.Sending.{Writes};
+ghost use Rattle.text_writer.specs.Sending.{Writes, outlet};
 
 use shen_base::Sink;
 
@@ -9,7 +9,8 @@ pub struct WriteFault;
 /// Writes `text` to the sink, in as many pieces as the sink makes of it: at most one call per byte, since each call takes
 /// a byte or is the last. After `WriteFault` a front of the text was written.
 pub fn write_all<K: Sink>(sink: &mut K, text: &[u8]) -> Result<(), WriteFault>
-    ensures { Writes result (K.written sink.old) (K.written sink.new) (K.faults sink.old) (K.faults sink.new) text.now }
+    ensures { Writes result (outlet (K.written sink.old) (K.faults sink.old) (K.calls sink.old))
+        (outlet (K.written sink.new) (K.faults sink.new) (K.calls sink.new)) text.now }
 {
     let mut rest = text;
     while !rest.is_empty() {

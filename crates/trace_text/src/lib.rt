@@ -1,20 +1,11 @@
 //! Traces and answers as text.
 #![tactic(auto)]
 
-mod answer;
-mod items;
-mod kind;
-mod line;
-mod message;
-mod read;
-mod scan;
-mod schedule_lines;
-mod source_bytes;
-mod trace;
+pub use trace_grammar::{Scripts, Trace, Why, traces_are_read_once};
+pub use trace_reading::{TraceFault, number_in, read_trace};
+pub use trace_writing::{
+    Answer, Line, WriteFault, read_traces_can_be_written, write_answer, write_line, write_trace,
+};
 
-pub use answer::{Answer, write_answer};
-pub use message::{Line, write_line};
-pub use read::{read_trace, traces_are_read_once};
-pub use scan::number_in;
-pub use text_writer::WriteFault;
-pub use trace::{Scripts, Trace, TraceFault};
+#[cfg(test)]
+mod tests;

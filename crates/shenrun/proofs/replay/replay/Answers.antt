@@ -1,7 +1,7 @@
 use Rattle.std.proofs.Common.{inl, inr, refl}
-use Rattle.trace_text.specs.Message.{line_text}
-use Rattle.trace_text.specs.declared.message.Line.TheVariants as line
-use Rattle.trace_text.specs.Answer.{text_of}
+use Rattle.trace_writing.specs.Message.{line_text}
+use Rattle.trace_writing.specs.declared.message.Line.TheVariants as line
+use Rattle.trace_writing.specs.Answer.{text_of}
 use Rattle.shenrun.specs.declared.status.Status.TheVariants.{Ok, BadTrace, Unfinished, ReadFault, NoMemory}
 use Rattle.shenrun.proofs.Ends.{said}
 use Rattle.shenrun.proofs.replay.replay.Goals as goal

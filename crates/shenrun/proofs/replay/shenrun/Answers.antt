@@ -1,8 +1,10 @@
 use Rattle.std.proofs.Common.{ℕ, List, map, refl}
 use Rattle.std.specs.String.{string_bytes}
-use Rattle.trace_text.specs.Message.{line_text}
-use Rattle.trace_text.specs.declared.message.Line.TheVariants as line
+use Rattle.trace_writing.specs.Message.{line_text}
+use Rattle.trace_writing.specs.declared.message.Line.TheVariants as line
+use Rattle.text_writer.specs.Sending.{outlet}
 use Rattle.shenrun.specs.declared.status.Status.TheVariants.{BadWords}
+use Rattle.shenrun.specs.Answered.{Input, Output}
 use Rattle.shenrun.proofs.Ends.{said, row_of_ok}
 use Rattle.shenrun.proofs.Complete.{complete}
 use Rattle.shenrun.proofs.replay.shenrun.Goals as goal
@@ -10,7 +12,12 @@ use Rattle.shenrun.proofs.replay.shenrun.Goals as goal
 pub returns-in-Some-clause-headline : goal.returns-in-Some-clause-headline
 returns-in-Some-clause-headline g c = λ e.
     let words : List (List ℕ) = map string_bytes c.args.words.now in
-    let written = row_of_ok words _ _ c.replay.result (c.replay.ensures words c.in-Some.ensures) e in
+    let input : Input = record { before = g.S.Source.left c.args.source.now; after = g.S.Source.left c.replay.new.source; faults_before = g.S.Source.faults c.args.source.now; faults_after = g.S.Source.faults c.replay.new.source } in
+    let output : Output = record {
+      before = outlet (g.K.Sink.written c.args.sink.now) (g.K.Sink.faults c.args.sink.now) (g.K.Sink.calls c.args.sink.now);
+      after = outlet (g.K.Sink.written c.replay.new.sink) (g.K.Sink.faults c.replay.new.sink) (g.K.Sink.calls c.replay.new.sink);
+    } in
+    let written = row_of_ok words input output c.replay.result (c.replay.ensures words c.in-Some.ensures) e in
     let row = written.1 in
     (row.0, row.1, (row.2.0, (written.0, row.2.1, row.2.2, written.2)))
 

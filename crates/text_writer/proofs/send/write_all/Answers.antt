@@ -1,5 +1,6 @@
 use Rattle.std.proofs.Common.{◌++◌, take, arith}
 use Rattle.std.proofs.KnownBytes.{Appends-trans}
+use Rattle.std.proofs.lemmas.Grind.{common_steps}
 use Rattle.text_writer.proofs.Fronts.{front_moves}
 use Rattle.text_writer.proofs.send.write_all.Goals as goal
 
@@ -11,4 +12,5 @@ loop-rest-preserved g c =
     record {
       done = (done ++ take n rest, Appends-trans _ _ _ _ _ appended c.in-Ok.ensures.appended, front_moves _ done rest n split);
       never_fell = omega (arith, c.write.ensures.faults_never_fall, c.loop-rest.invariant.never_fell);
+      few_calls = grind (arith, common_steps, c.write.ensures.one_call, c.loop-rest.invariant.few_calls, c.in-Ok.ensures.none_only_of_empty, c.in-Ok.ensures.within);
     }

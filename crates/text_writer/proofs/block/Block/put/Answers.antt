@@ -12,7 +12,7 @@ loop-rest-preserved g c =
     record {
       done = (
         done ++ take n rest,
-        puts_turn _ _ _ _ _ _ _ _ done (take n rest) put c.make_room.ensures.sent c.keep-count.ensures.kept,
+        puts_turn _ _ _ _ _ _ _ _ _ _ done (take n rest) put c.make_room.ensures.sent c.keep-count.ensures.kept,
         front_moves _ done rest n split,
       );
       stopped = λ f.

@@ -1,0 +1,12 @@
+use Rattle.std.proofs.Common.{◌≡◌, List, ◌++◌, length}
+use Rattle.heap_words.specs.declared.schedule.Item.{Item}
+use Rattle.trace_grammar.specs.Spelling.{IsItem, spaced_item}
+use Rattle.trace_grammar.specs.Front.{IsLineEnd}
+use Rattle.trace_grammar.proofs.Pieces.{HasBegun}
+use Rattle.trace_reading.proofs.schedule_lines.take_items.Given as goal
+
+abbrev pub invariant-items : goal.invariant-items
+invariant-items l = (items : List Item) × HasBegun spaced_item (IsItem l.config) IsLineEnd l.bytes l.rest items × (l.schedule ≡ l.fn.schedule ++ items)
+
+abbrev pub decreases-items : goal.decreases-items
+decreases-items l = length l.rest

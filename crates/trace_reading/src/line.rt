@@ -1,0 +1,31 @@
+//! A command's line.
+ghost use Rattle.std.specs.Prelude.{◌≡◌, ℕ, Option};
+ghost use Rattle.std.specs.Option.{option_map};
+ghost use Rattle.trace_grammar.specs.Spelling.{Line};
+ghost use Rattle.trace_grammar.specs.Scanning.{command_at, line_at};
+
+use crate::kind::kind_at;
+use crate::scan::{numbers_at, positive_at, text_at};
+use shen_graph::Command;
+
+/// The command at the front, and what is behind its numbers.
+#[tactic(auto, unfolding(trace_grammar::specs::Scanning::command_at))]
+fn command_at(bytes: &[u8]) -> Option<(Command, &[u8])>
+    ensures { option_map (λ x. (x.0, x.1.now)) result ≡ command_at bytes.now }
+{
+    let (kind, rest) = kind_at(bytes)?;
+    let (numbers, rest) = numbers_at(kind.limits(), rest)?;
+    Some((kind.command(numbers), rest))
+}
+
+/// The line of a command at the front: the thread, the command, and the bytes behind the line.
+#[tactic(auto, unfolding(trace_grammar::specs::Scanning::line_at))]
+pub(crate) fn line_at(threads: u32, bytes: &[u8]) -> Option<(u64, Command, &[u8])>
+    ensures { option_map (λ x. (record { thread = x.0; command = x.1 }, x.2.now)) result ≡ line_at threads bytes.now }
+{
+    let (thread, rest) = positive_at(u64::from(threads), bytes)?;
+    let rest = text_at(b" ", rest)?;
+    let (command, rest) = command_at(rest)?;
+    let rest = text_at(b"\n", rest)?;
+    Some((thread, command, rest))
+}

@@ -1,0 +1,168 @@
+//! Reading a trace.
+ghost use Rattle.std.specs.Prelude.{◌≡◌, ◌≢◌, ◌↔◌, ℕ, ◌+◌, ◌<◌, ◌≤◌, List, [], ◌++◌, Err, length, take, IfSome, IfNone, IfOk, OnOk, IfErr, IsTrue};
+ghost use Rattle.std.specs.List.{flat_map, AllByRecursion};
+ghost use Rattle.std.specs.Option.{option_map};
+ghost use Rattle.std.specs.Io.KnownBytes.{Consumes};
+ghost use Rattle.shen_base.specs.Count.{Rose};
+ghost use Rattle.shen_graph.specs.declared.command.Command.{Command};
+ghost use Rattle.heap_words.specs.declared.config.Config.{Config as Sizes};
+ghost use Rattle.trace_grammar.specs.Spelling.{Line, IsLine, line, header};
+ghost use Rattle.heap_words.specs.declared.schedule.Item.{Item};
+ghost use Rattle.trace_grammar.specs.Scanning.{sizes_at};
+ghost use Rattle.trace_grammar.specs.Front.{IsBehindCommands};
+ghost use Rattle.trace_grammar.specs.Grammar.{most_bytes, with_line, scripts_of, HasTaken, Reads, Came};
+ghost use Rattle.trace_reading.specs.Faults.{IsTextFault};
+
+use crate::fault::TraceFault;
+use crate::line::line_at;
+use crate::scan::{numbers_at, text_at};
+use crate::schedule_lines::take_schedule;
+use crate::source_bytes::all_bytes;
+use heap_words::{Config, Schedule};
+use shen_base::Source;
+use shen_graph::Script;
+use std::alloc::Global;
+use trace_grammar::{Scripts, Trace};
+
+/// The numbers at the head of a trace, and the bytes behind its three lines.
+#[tactic(auto, unfolding(trace_grammar::specs::Scanning::sizes_at))]
+fn sizes_at(bytes: &[u8]) -> Option<([u64; 4], [u64; 4], &[u8])>
+    ensures { option_map (λ x. ((take 3 x.0, take 2 x.1), x.2.now)) result ≡ sizes_at bytes.now }
+{
+    let rest = text_at(b"shen 1\nheap", bytes)?;
+    let (heap, rest) = numbers_at(&[64, 1024, 63], rest)?;
+    let rest = text_at(b"\nthreads", rest)?;
+    let (threads, rest) = numbers_at(&[8, 3], rest)?;
+    let rest = text_at(b"\n", rest)?;
+    Some((heap, threads, rest))
+}
+
+/// The configuration at the head of a trace, and the bytes behind its three lines.
+fn config_at(bytes: &[u8]) -> Option<(Config, &[u8])>
+    ensures found { IfSome result (λ x. bytes.now ≡ header x.0 ++ x.1.now) }
+    ensures none { IfNone result ((config : Sizes) (rest : List ℕ) → bytes.now ≢ header config ++ rest) }
+{
+    let (heap, threads, rest) = sizes_at(bytes)?;
+    let [regions, region_words, reserve, _] = heap;
+    let [mutators, helpers, _, _] = threads;
+    match Config::new(
+        regions as usize,
+        region_words as usize,
+        mutators as usize,
+        helpers as usize,
+        reserve as usize,
+    ) {
+        Ok(config) => Some((config, rest)),
+        Err(_) => None,
+    }
+}
+
+/// Takes one line, and adds its command to the script of its thread.
+fn take_line<'a>(
+    alloc: Global,
+    threads: u32,
+    bytes: &'a [u8],
+    scripts: &mut Vec<Script>,
+) -> Result<&'a [u8], TraceFault>
+    requires { length scripts.old.items ≡ threads }
+    ensures ok { IfOk result (λ rest. (l : Line) × IsLine threads l × (bytes.now ≡ line l ++ rest.now) × (scripts.new.items ≡ with_line scripts.old.items l)) }
+    ensures fault { IfErr result IsTextFault }
+    ensures not_read { result ≡ Err TraceFault.NotRead → (l : Line) (rest : List ℕ) → IsLine threads l → bytes.now ≢ line l ++ rest }
+{
+    let Some((thread, command, rest)) = line_at(threads, bytes) else {
+        return Err(TraceFault::NotRead);
+    };
+    match scripts[thread as usize - 1].push(alloc, command) {
+        Ok(()) => Ok(rest),
+        Err(_) => Err(TraceFault::NoMemory),
+    }
+}
+
+/// Whether no line of a command begins here: the bytes end, or a line of the schedule follows.
+fn is_behind_commands(bytes: &[u8]) -> bool
+    ensures { IsTrue result ↔ IsBehindCommands bytes.now }
+{
+    match bytes {
+        [first, ..] => *first == b'!',
+        [] => true,
+    }
+}
+
+/// Takes all lines of commands, and returns the bytes behind them.
+fn take_lines<'a>(
+    alloc: Global,
+    threads: u32,
+    bytes: &'a [u8],
+    scripts: &mut Vec<Script>,
+) -> Result<&'a [u8], TraceFault>
+    requires { scripts.old.items ≡ scripts_of threads [] }
+    ensures ok { IfOk result (λ rest. HasTaken threads bytes.now rest.now scripts.new.items) }
+    ensures only { IfOk result (λ rest. (lines : List Line) (after : List ℕ) → AllByRecursion (IsLine threads) lines → IsBehindCommands after → bytes.now ≡ flat_map line lines ++ after → rest.now ≡ after) }
+    ensures fault { IfErr result IsTextFault }
+    ensures not_read { result ≡ Err TraceFault.NotRead → (lines : List Line) (after : List ℕ) → AllByRecursion (IsLine threads) lines → IsBehindCommands after → bytes.now ≢ flat_map line lines ++ after }
+{
+    let mut rest = bytes;
+    'lines: while !is_behind_commands(rest) {
+        rest = take_line(alloc, threads, rest, scripts)?;
+    }
+    Ok(rest)
+}
+
+/// A script without a command for each of so many threads.
+fn empty_scripts(alloc: Global, threads: u32) -> Result<Vec<Script>, TraceFault>
+    ensures ok { IfOk result (λ scripts. scripts.items ≡ scripts_of threads []) }
+    ensures fault { IfErr result (λ e. e ≡ TraceFault.NoMemory) }
+{
+    let mut scripts = Vec::new(alloc);
+    for _ in 0..threads {
+        let Ok(script) = Script::open(alloc) else {
+            return Err(TraceFault::NoMemory);
+        };
+        if scripts.push(script).is_err() {
+            return Err(TraceFault::NoMemory);
+        }
+    }
+    Ok(scripts)
+}
+
+/// The trace that these bytes spell.
+fn trace_of(alloc: Global, bytes: &[u8]) -> Result<Trace, TraceFault>
+    requires { length bytes.now ≤ most_bytes }
+    ensures ok { IfOk result (λ trace. Reads bytes.now trace.config trace.scripts trace.schedule) }
+    ensures fault { IfErr result IsTextFault }
+    ensures not_read { result ≡ Err TraceFault.NotRead → (config : Sizes) (scripts : List (List Command)) (items : List Item) → Reads bytes.now config scripts items → ⊥ }
+{
+    let Some((config, rest)) = config_at(bytes) else {
+        return Err(TraceFault::NotRead);
+    };
+    let threads = config.mutators() as u32;
+    let mut scripts = empty_scripts(alloc, threads)?;
+    let Ok(mut schedule) = Schedule::open(alloc) else {
+        return Err(TraceFault::NoMemory);
+    };
+    let turns = take_lines(alloc, threads, rest, &mut scripts)?;
+    take_schedule(alloc, &config, turns, &mut schedule)?;
+    Ok(Trace {
+        config,
+        scripts: Scripts::from_vec(scripts),
+        schedule,
+    })
+}
+
+/// Reads a trace. It reads to the end of the source, or until one byte more came than a trace may have, and then looks at
+/// the lines.
+pub fn read_trace<S: Source>(alloc: Global, source: &mut S) -> Result<Trace, TraceFault>
+    ensures ok { IfOk result (λ trace. (bytes : List ℕ) × Came (S.left source.old) (S.left source.new) bytes × Reads bytes trace.config trace.scripts trace.schedule) }
+
+    // The bytes came whole, and are outside the grammar.
+    ensures not_read { result ≡ Err TraceFault.NotRead → (bytes : List ℕ) × Came (S.left source.old) (S.left source.new) bytes × (length bytes ≤ most_bytes)
+        × ((config : Sizes) (scripts : List (List Command)) (items : List Item) → Reads bytes config scripts items → ⊥) }
+
+    ensures too_long { (n : ℕ) → result ≡ Err (TraceFault.TooLong n) → (n ≡ most_bytes + 1)
+        × ((bytes : List ℕ) × Consumes (S.left source.old) (S.left source.new) bytes × (length bytes ≡ most_bytes + 1)) }
+    ensures read_fault { result ≡ Err TraceFault.ReadFault → Rose (S.faults source.old) (S.faults source.new) }
+    ensures faults_never_fall { S.faults source.old ≤ S.faults source.new }
+{
+    let bytes = all_bytes(alloc, source)?;
+    trace_of(alloc, &bytes)
+}

@@ -1,4 +1,0 @@
-use Rattle.trace_text.proofs.message.write_line.Goals as goal
-
-pub returns-in-TooLong : goal.returns-in-TooLong
-returns-in-TooLong g c = rw c.in-TooLong.is c.write_all-in-TooLong.ensures

@@ -1,6 +1,0 @@
-use Rattle.text_writer.proofs.Stages.{puts_both, taken_by_new}
-use Rattle.trace_text.proofs.message.write_unfinished.Goals as goal
-
-pub returns : goal.returns
-returns g c =
-    c.finish.ensures.ended _ _ _ (taken_by_new c.new-block.ensures (puts_both c.put.ensures.put (puts_both c.put_number.ensures.put c.put-2.ensures.put)))

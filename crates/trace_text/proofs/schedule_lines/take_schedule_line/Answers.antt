@@ -1,8 +1,0 @@
-use Rattle.std.proofs.Common.{◌∷◌, [], refl, sym}
-use Rattle.trace_text.proofs.Numbers.{behind_takes}
-use Rattle.trace_text.proofs.ScheduleLines.{empty_line}
-use Rattle.trace_text.proofs.schedule_lines.take_schedule_line.Goals as goal
-
-pub returns-then-is_line_end-clause-not_read : goal.returns-then-is_line_end-clause-not_read
-returns-then-is_line_end-clause-not_read c = λ h.
-    empty_line c.args.config.now c.args.bytes.now c.in-Some.items.now (behind_takes (33 ∷ []) c.args.bytes.now c.in-Some.items.now (sym c.in-Some.ensures)) (c.if-is_line_end.ensures.0 refl)

@@ -1,8 +1,0 @@
-pub mod Spelling
-pub mod Kinds
-pub mod Scanning
-pub mod Front
-pub mod Grammar
-pub mod Faults
-pub mod Message
-pub mod Answer

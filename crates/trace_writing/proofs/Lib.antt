@@ -1,0 +1,3 @@
+pub mod AnswerLemmas
+mod CanonicalLemmas
+pub mod Rewritten

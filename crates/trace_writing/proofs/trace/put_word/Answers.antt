@@ -1,0 +1,19 @@
+use Rattle.std.proofs.Common.{◌∷◌, ◌++◌, ◌∙◌, ap, sym, append-nil, append_assoc, arith, take}
+use Rattle.std.specs.Fmt.{decimal}
+use Rattle.text_writer.proofs.Stages.{puts_both, puts_same}
+use Rattle.trace_grammar.specs.Spelling.{space, numbers}
+use Rattle.trace_writing.proofs.AnswerLemmas.{flat_map-take_more}
+use Rattle.trace_writing.proofs.trace.put_word.Goals as goal
+
+pub loop-value-init : goal.loop-value-init
+loop-value-init g c = puts_same (sym (append-nil c.args.word.now)) c.put.ensures.put
+
+pub loop-value-preserved : goal.loop-value-preserved
+loop-value-preserved g c =
+    let values = c.args.values.now in
+    let word = c.args.word.now in
+    let i = c.loop-value.value-index in
+    puts_same
+    (append_assoc word (numbers (take i values)) _
+    ∙ ap (λ t. word ++ t) (flat_map-take_more (λ n. space ∷ decimal n) values i _ (omega arith)))
+    (puts_both c.loop-value.invariant (puts_both c.put-in-loop-value.ensures.put c.put_number.ensures.put))

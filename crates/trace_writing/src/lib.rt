@@ -1,0 +1,11 @@
+//! Writing answers, the line that stands where there is none, and traces.
+#![tactic(auto)]
+
+mod answer;
+mod message;
+mod trace;
+
+pub use answer::{Answer, write_answer};
+pub use message::{Line, write_line};
+pub use text_writer::WriteFault;
+pub use trace::{read_traces_can_be_written, write_trace};

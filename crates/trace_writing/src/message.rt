@@ -1,0 +1,75 @@
+ghost use Rattle.std.specs.Prelude.{[], ◌∷◌, ◌++◌, codes};
+ghost use Rattle.std.specs.Fmt.{decimal};
+ghost use Rattle.text_writer.specs.Sending.{Writes, outlet};
+ghost use Rattle.trace_grammar.specs.Spelling.{newline};
+ghost use Rattle.trace_grammar.specs.Why.{text_of as why_text};
+ghost use Rattle.trace_writing.specs.Message.{line_text};
+
+use shen_base::Sink;
+use text_writer::{Block, WriteFault, write_all};
+use trace_grammar::Why;
+
+/// The one line that stands in the place of an answer.
+#[derive(Clone, Copy, Debug, PartialEq, Eq)]
+pub enum Line {
+    /// The words of the command line are outside their grammar: `bad words`.
+    BadWords,
+    /// The bytes that were read are no trace: `bad trace`.
+    BadTrace,
+    /// This line of the trace, counted from 1, is the first that is refused, and why: `bad line N: why`.
+    BadLine { line: u64, why: Why },
+    /// More bytes came than a trace may have: `too long: more than 16777216 bytes`.
+    TooLong,
+    /// A machine still had work after so many steps: `unfinished after N steps`.
+    Unfinished { steps: u64 },
+    /// The source failed: `read fault`.
+    ReadFault,
+    /// Memory was refused: `out of memory`.
+    NoMemory,
+}
+
+/// Writes the line to the sink. It takes no memory, and calls the sink at most once per byte. After `WriteFault` a front
+/// of the line was written.
+pub fn write_line<K: Sink>(sink: &mut K, line: &Line) -> Result<(), WriteFault>
+    ensures { Writes result (outlet (K.written sink.old) (K.faults sink.old) (K.calls sink.old))
+        (outlet (K.written sink.new) (K.faults sink.new) (K.calls sink.new)) (line_text line.now) }
+{
+    match line {
+        Line::BadWords => write_all(sink, b"bad words\n"),
+        Line::BadTrace => write_all(sink, b"bad trace\n"),
+        Line::BadLine { line, why } => write_bad_line(sink, *line, *why),
+        Line::TooLong => write_all(sink, b"too long: more than 16777216 bytes\n"),
+        Line::Unfinished { steps } => write_unfinished(sink, *steps),
+        Line::ReadFault => write_all(sink, b"read fault\n"),
+        Line::NoMemory => write_all(sink, b"out of memory\n"),
+    }
+}
+
+// Writes the line that names a line of the trace.
+fn write_bad_line<K: Sink>(sink: &mut K, line: u64, why: Why) -> Result<(), WriteFault>
+    ensures { Writes result (outlet (K.written sink.old) (K.faults sink.old) (K.calls sink.old))
+        (outlet (K.written sink.new) (K.faults sink.new) (K.calls sink.new)) (codes "bad line " ++ (decimal line ++ (codes ": " ++ (why_text why ++ newline ∷ [])))) }
+{
+    let mut block = Block::new();
+    block.put(sink, b"bad line ");
+    block.put_number(sink, line);
+    block.put(sink, b": ");
+    block.put(sink, why.text());
+    block.put(sink, b"\n");
+    block.finish(sink)
+}
+
+// Writes the line that names the steps.
+fn write_unfinished<K: Sink>(sink: &mut K, steps: u64) -> Result<(), WriteFault>
+    ensures { Writes result (outlet (K.written sink.old) (K.faults sink.old) (K.calls sink.old))
+        (outlet (K.written sink.new) (K.faults sink.new) (K.calls sink.new)) (codes "unfinished after " ++ (decimal steps ++ codes " steps\n")) }
+{
+    let mut block = Block::new();
+    block.put(sink, b"unfinished after ");
+    block.put_number(sink, steps);
+    block.put(sink, b" steps\n");
+    block.finish(sink)
+}
+
+#[cfg(test)]
+mod tests;
