@@ -1,0 +1,5 @@
+pub mod Shown
+pub mod Dealt
+pub mod Closing
+pub mod Rules
+pub mod Dealing

@@ -1,0 +1,11 @@
+//! A table of words that threads share, changed by the steps of machines. What holds of it is proved here for every kind
+//! of machine.
+#![tactic(auto)]
+
+mod bundles;
+mod machines;
+mod steps;
+
+pub use bundles::{close_table, deal_bundle, join_bundle, open_table};
+pub use machines::{Cut, Machines, Parts, SharedWords, StepsOnly, StepsTable, Turn, Turns, Union, View, ViewSeat};
+pub use steps::make_step;
