@@ -3,6 +3,7 @@ use Rattle.std.proofs.Common.{◌≡◌, ◌≢◌, ℕ, zero, suc, Bool, true, 
 use Rattle.std.specs.Prelude.{◌==◌, if◌then◌else◌}
 use Rattle.std.proofs.lemmas.Bool.Decides.{nat_tests}
 use Rattle.shared_steps.specs.Views.{View, machine_of, picked, left_over, merged, is_dealt_to, is_dealt_below, dealt_to, dealt_below, one_of}
+use Rattle.shared_steps.specs.Laws.{DealingLaws}
 use Rattle.shared_steps.proofs.Shown.{machine_of-picked, machine_of-merged}
 
 module _ {R : Type 0} where
@@ -89,3 +90,14 @@ module _ {R : Type 0} where
 
     pub gathers_one : merged (dealt_below bundles bundle view) (dealt_to bundles bundle view) ≡ dealt_below bundles (bundle + 1) view
     gathers_one = merged_picked (is_dealt_below bundles bundle) (is_dealt_to bundles bundle) (is_dealt_below bundles (bundle + 1)) view (λ k. grind (arith, nat_tests))
+
+  pub dealing : (bundles : ℕ) (view : View R) → DealingLaws R bundles view
+  dealing bundles view = record {
+    has = λ bundle number. machine_of-picked (is_dealt_to bundles bundle) view number;
+    all = deals_all bundles 0 view;
+    first = deals_first bundles 0 view;
+    cut_off = λ bundle. deals_one bundles bundle view;
+    left = λ bundle. deals_rest bundles bundle view;
+    joined = λ bundle. gathers_one bundles bundle view;
+    cut_and_joined = λ test. merged_rest test view;
+  }

@@ -7,12 +7,18 @@ use Rattle.heap_words.specs.declared.access.Access.{Access}
 use Rattle.heap_words.specs.Access.{place_of, made_of, told_of}
 use Rattle.atomic_table.specs.Table.{State, Me, keeps, Allows, Splits, Joins, Final, Seen, opening}
 use Rattle.steps_base.specs.Steps.{Kind, Stage, Event, go, act, moved, IsEvent, IsReached, HasReached, Finds}
-use Rattle.steps_base.proofs.Runs.{go-none, go-step}
+use Rattle.steps_base.proofs.Runs.{go-none, go-step, has_start}
 use Rattle.steps_base.proofs.Laws.{act-event, has_next}
 use Rattle.shared_steps.specs.Views.{View, machine_of, whole, machines_of, picked, left_over, merged, IsWhole}
 use Rattle.shared_steps.specs.Rule.{IsDealt, IsKept, Rule, Took, TookAs}
+use Rattle.shared_steps.specs.Laws.{TableLaws}
+use Rattle.shared_steps.proofs.Shown.{machine_of-whole}
 use Rattle.shared_steps.proofs.Dealt.{dealt_first, machine-is, dealt_step, dealt_split, dealt_join}
 use Rattle.shared_steps.proofs.Closing.{length-go, whole_has_all}
+
+module _ {R O : Type 0} (kind : Kind R O) (start : Stage R) where
+  pub begins : (number : ℕ) (r : R) → machine_of (whole start.machines) number ≡ Some r → HasReached kind start number r
+  begins number r here = has_start kind start number r (sym (machine_of-whole start.machines number) ∙ here)
 
 module _ {R O : Type 0} (kind : Kind R O) (start : Stage R) {S : Type 0} where
   pub opens : (slots : List S) → Rule kind start (opening start.words slots (whole start.machines))
@@ -135,3 +141,14 @@ module _ {R O : Type 0} (kind : Kind R O) (start : Stage R) {S : Type 0} where
       let same : took.machine ≡ r = cc (took.here, here) in
       let finds : Finds kind start number r order told = subst (λ (m : R). Finds kind start number m order told) same took.finds in
       (finds, has_next kind start number r order told finds, took.view ∙ ap (λ m. slice_set before.0 number (Some (kind.took m order told))) same)
+
+  pub laws : TableLaws S kind start
+  laws = record {
+    opens = opens;
+    moves = moves;
+    splits = splits;
+    joins = joins;
+    closes = closes;
+    tells = tells;
+    begins = begins kind start;
+  }

@@ -1,0 +1,15 @@
+ghost use Rattle.std.specs.Prelude.{ℕ};
+ghost use Rattle.steps_base.specs.Steps.{Kind, Stage};
+ghost use Rattle.shared_steps.specs.Views as views;
+ghost use Rattle.shared_steps.specs.Laws.{TableLaws, DealingLaws};
+
+/// A law: the rule holds at the opening, each step keeps it, and who has all machines knows one run. `S` is what slots
+/// hold.
+pub fn steps_keep_the_rule<R, O, S>()
+    ensures { (kind : Kind R O) (start : Stage R) → TableLaws S kind start }
+{}
+
+/// A law: machines dealt in turn to some bundles are all there once the bundles are joined.
+pub fn bundles_are_all<R>()
+    ensures { (bundles : ℕ) (view : views.View R) → DealingLaws R bundles view }
+{}
