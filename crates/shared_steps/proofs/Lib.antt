@@ -3,3 +3,4 @@ pub mod Dealt
 pub mod Closing
 pub mod Rules
 pub mod Dealing
+pub mod ChangeHands

@@ -67,3 +67,13 @@ dealt_to bundles bundle view = picked (is_dealt_to bundles bundle) view
 -- the machines of the bundles below
 abbrev pub dealt_below : {R : Type 0} → ℕ → ℕ → View R → View R
 dealt_below bundles bundle view = picked (is_dealt_below bundles bundle) view
+
+-- what is kept in memory of a machine, where there is one
+abbrev pub kept_one : {R T : Type 0} → (R → T) → Option R → Option T
+kept_one kept None = None
+kept_one kept (Some r) = Some (kept r)
+
+-- what is kept in memory of the machines of a view
+abbrev pub kept_of : {R T : Type 0} → (R → T) → View R → View T
+kept_of kept [] = []
+kept_of kept (x ∷ xs) = kept_one kept x ∷ kept_of kept xs
