@@ -4,3 +4,4 @@ pub mod Closing
 pub mod Rules
 pub mod Dealing
 pub mod ChangeHands
+pub mod Kept

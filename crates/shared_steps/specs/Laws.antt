@@ -1,11 +1,11 @@
 -- What the rule gives, of every kind of machine: it holds at the opening, each step of a machine keeps it and says what it
 -- did, views may be cut and joined, and who has all machines knows one run.
-use Rattle.std.specs.Prelude.{ℕ, ◌≡◌, ◌+◌, ◌<◌, Bool, true, List, [], ◌∷◌, length, Option, Some, None, slice_set, if◌then◌else◌, ◌==◌, ◌%◌}
+use Rattle.std.specs.Prelude.{ℕ, ◌≡◌, ◌+◌, ◌<◌, Bool, true, List, [], ◌∷◌, map, length, Option, Some, None, slice_set, if◌then◌else◌, ◌==◌, ◌%◌}
 use Rattle.heap_words.specs.declared.access.Access.{Access}
 use Rattle.heap_words.specs.Access.{place_of, made_of}
 use Rattle.atomic_table.specs.Table.{State, Me, Allows, Splits, Joins, Final, Seen, opening}
 use Rattle.steps_base.specs.Steps.{Kind, Stage, IsReached, HasReached, Finds}
-use Rattle.shared_steps.specs.Views.{View, machine_of, whole, machines_of, IsWhole, picked, left_over, merged, is_dealt_to, dealt_to, dealt_below}
+use Rattle.shared_steps.specs.Views.{View, machine_of, whole, machines_of, IsWhole, picked, left_over, merged, is_dealt_to, dealt_to, dealt_below, kept_one, kept_of}
 use Rattle.shared_steps.specs.Rule.{Rule, Took}
 
 -- `S` is what slots of the table hold; no step touches one
@@ -41,3 +41,13 @@ pub record DealingLaws (R : Type 0) (bundles : ℕ) (view : View R) : Type 0 whe
   pub joined : (bundle : ℕ) → merged (dealt_below bundles bundle view) (dealt_to bundles bundle view) ≡ dealt_below bundles (bundle + 1) view
   -- the opening's view has all machines, and so has one that is cut and joined again
   pub cut_and_joined : (test : ℕ → Bool) → merged (left_over test view) (picked test view) ≡ view
+
+-- Memory keeps of a view what `kept` gives of each of its machines. That changes as the view does
+pub record KeptLaws {R T : Type 0} (kept : R → T) : Type 0 where
+  pub machine : (view : View R) (number : ℕ) → machine_of (kept_of kept view) number ≡ kept_one kept (machine_of view number)
+  pub count : (view : View R) → length (kept_of kept view) ≡ length view
+  pub all : (machines : List R) → kept_of kept (whole machines) ≡ whole (map kept machines)
+  pub set : (view : View R) (number : ℕ) (x : Option R) → kept_of kept (slice_set view number x) ≡ slice_set (kept_of kept view) number (kept_one kept x)
+  pub picked : (test : ℕ → Bool) (view : View R) → kept_of kept (picked test view) ≡ picked test (kept_of kept view)
+  pub merged : (v w : View R) → kept_of kept (merged v w) ≡ merged (kept_of kept v) (kept_of kept w)
+  pub here : (view : View R) (number : ℕ) (t : T) → machine_of (kept_of kept view) number ≡ Some t → (r : R) × (machine_of view number ≡ Some r) × (kept r ≡ t)

@@ -1,7 +1,7 @@
 ghost use Rattle.std.specs.Prelude.{ℕ};
 ghost use Rattle.steps_base.specs.Steps.{Kind, Stage};
 ghost use Rattle.shared_steps.specs.Views as views;
-ghost use Rattle.shared_steps.specs.Laws.{TableLaws, DealingLaws};
+ghost use Rattle.shared_steps.specs.Laws.{TableLaws, DealingLaws, KeptLaws};
 
 /// A law: the rule holds at the opening, each step keeps it, and who has all machines knows one run. `S` is what slots
 /// hold.
@@ -12,4 +12,9 @@ pub fn steps_keep_the_rule<R, O, S>()
 /// A law: machines dealt in turn to some bundles are all there once the bundles are joined.
 pub fn bundles_are_all<R>()
     ensures { (bundles : ℕ) (view : views.View R) → DealingLaws R bundles view }
+{}
+
+/// A law: what memory keeps of the machines of a view changes as the view does.
+pub fn memory_follows_views<R, T>()
+    ensures { (kept : R → T) → KeptLaws kept }
 {}
