@@ -5,3 +5,4 @@ pub mod Rules
 pub mod Dealing
 pub mod ChangeHands
 pub mod Kept
+pub mod Numbers

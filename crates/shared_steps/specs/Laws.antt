@@ -5,7 +5,7 @@ use Rattle.heap_words.specs.declared.access.Access.{Access}
 use Rattle.heap_words.specs.Access.{place_of, made_of}
 use Rattle.atomic_table.specs.Table.{State, Me, Allows, Splits, Joins, Final, Seen, opening}
 use Rattle.steps_base.specs.Steps.{Kind, Stage, IsReached, HasReached, Finds}
-use Rattle.shared_steps.specs.Views.{View, machine_of, whole, machines_of, IsWhole, picked, left_over, merged, is_dealt_to, dealt_to, dealt_below, kept_one, kept_of}
+use Rattle.shared_steps.specs.Views.{View, machine_of, whole, machines_of, IsWhole, picked, left_over, merged, is_dealt_to, dealt_to, dealt_below, kept_one, kept_of, SameNumbers}
 use Rattle.shared_steps.specs.Rule.{Rule, Took}
 
 -- `S` is what slots of the table hold; no step touches one
@@ -51,3 +51,11 @@ pub record KeptLaws {R T : Type 0} (kept : R → T) : Type 0 where
   pub picked : (test : ℕ → Bool) (view : View R) → kept_of kept (picked test view) ≡ picked test (kept_of kept view)
   pub merged : (v w : View R) → kept_of kept (merged v w) ≡ merged (kept_of kept v) (kept_of kept w)
   pub here : (view : View R) (number : ℕ) (t : T) → machine_of (kept_of kept view) number ≡ Some t → (r : R) × (machine_of view number ≡ Some r) × (kept r ≡ t)
+
+-- A bundle keeps its numbers. Steps change none, and who has all numbers of the opening has all machines
+pub record NumberLaws (R : Type 0) : Type 0 where
+  pub none : (v : View R) → SameNumbers v v
+  pub more : (v w x : View R) → SameNumbers v w → SameNumbers w x → SameNumbers v x
+  pub step : (v : View R) (number : ℕ) (r next : R) → machine_of v number ≡ Some r → SameNumbers v (slice_set v number (Some next))
+  pub joined : (v w x y : View R) → length v ≡ length x → SameNumbers v w → SameNumbers x y → SameNumbers (merged v x) (merged w y)
+  pub whole : (machines : List R) (v : View R) → SameNumbers (whole machines) v → IsWhole (length machines) v

@@ -1,6 +1,7 @@
 -- What a bundle of machines is to the others: a list with a machine under each number that is its own, and none under
 -- the numbers of machines of other bundles.
 use Rattle.std.specs.Prelude.{ℕ, zero, suc, ◌≡◌, ◌%◌, ◌==◌, Bool, true, false, not, nat_lt, List, [], ◌∷◌, map, length, Option, Some, None, if◌then◌else◌}
+use Rattle.std.specs.Option.{is_some}
 
 abbrev pub View : Type 0 → Type 0
 View R = List (Option R)
@@ -77,3 +78,8 @@ kept_one kept (Some r) = Some (kept r)
 abbrev pub kept_of : {R T : Type 0} → (R → T) → View R → View T
 kept_of kept [] = []
 kept_of kept (x ∷ xs) = kept_one kept x ∷ kept_of kept xs
+
+-- two views have machines under the same numbers
+pub record SameNumbers {R : Type 0} (v w : View R) : Type 0 where
+  pub long : length w ≡ length v
+  pub here : (number : ℕ) → is_some (machine_of w number) ≡ is_some (machine_of v number)

@@ -1,7 +1,7 @@
 ghost use Rattle.std.specs.Prelude.{ℕ};
 ghost use Rattle.steps_base.specs.Steps.{Kind, Stage};
 ghost use Rattle.shared_steps.specs.Views as views;
-ghost use Rattle.shared_steps.specs.Laws.{TableLaws, DealingLaws, KeptLaws};
+ghost use Rattle.shared_steps.specs.Laws.{TableLaws, DealingLaws, KeptLaws, NumberLaws};
 
 /// A law: the rule holds at the opening, each step keeps it, and who has all machines knows one run. `S` is what slots
 /// hold.
@@ -17,4 +17,9 @@ pub fn bundles_are_all<R>()
 /// A law: what memory keeps of the machines of a view changes as the view does.
 pub fn memory_follows_views<R, T>()
     ensures { (kept : R → T) → KeptLaws kept }
+{}
+
+/// A law: a bundle keeps its numbers, and who has all those of the opening has all machines.
+pub fn numbers_stay<R>()
+    ensures { NumberLaws R }
 {}
