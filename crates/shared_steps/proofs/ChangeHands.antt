@@ -191,3 +191,8 @@ module _ {T : Type 0} where
   pub none_there : (x : Option T) → is_some x ≡ false → x ≡ None
   none_there None is = refl
   none_there (Some r) is = cc
+
+  pub here_within : (v : View T) (k : ℕ) → is_some (machine_of v k) ≡ true → k < length v
+  here_within [] k here = cc
+  here_within (y ∷ ys) zero here = omega arith
+  here_within (y ∷ ys) (suc k) here = let a = here_within ys k here in omega arith

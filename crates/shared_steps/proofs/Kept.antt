@@ -2,7 +2,12 @@
 use Rattle.std.proofs.Common.{◌≡◌, ◌≢◌, ℕ, zero, suc, Bool, true, false, not, List, [], ◌∷◌, map, length, Option, Some, None, refl, sym, ap, ◌∙◌}
 use Rattle.std.specs.Prelude.{slice_set, if◌then◌else◌}
 use Rattle.shared_steps.specs.Views.{View, machine_of, whole, picked, left_over, merged, one_of, kept_one, kept_of}
-use Rattle.shared_steps.specs.Laws.{KeptLaws}
+use Rattle.std.specs.Option.{is_some}
+use Rattle.atomic_table.specs.Table.{Me}
+use Rattle.heap_words.specs.declared.access.Access.{Access}
+use Rattle.steps_base.specs.Steps.{Kind, Stage}
+use Rattle.shared_steps.specs.Rule.{Took}
+use Rattle.shared_steps.specs.Laws.{KeptLaws, StepLaws}
 
 module _ {R T : Type 0} (kept : R → T) where
   pub machine_of-kept : (view : View R) (number : ℕ) → machine_of (kept_of kept view) number ≡ kept_one kept (machine_of view number)
@@ -54,6 +59,14 @@ module _ {R T : Type 0} (kept : R → T) where
       by_machine None is = absurd (let a = machine_of-kept view number in let b : kept_one kept (machine_of view number) ≡ None = ap (kept_one kept) is in cc)
       by_machine (Some r) is = (r, is, (let a = machine_of-kept view number in let b : kept_one kept (machine_of view number) ≡ Some (kept r) = ap (kept_one kept) is in cc))
 
+  -- there is one in memory where there is one in the view
+  pub kept_some : (view : View R) (number : ℕ) → is_some (machine_of (kept_of kept view) number) ≡ is_some (machine_of view number)
+  kept_some view number = ap is_some (machine_of-kept view number) ∙ by_machine (machine_of view number)
+    where
+      by_machine : (m : Option R) → is_some (kept_one kept m) ≡ is_some m
+      by_machine None = refl
+      by_machine (Some r) = refl
+
   pub kept_laws : KeptLaws kept
   kept_laws = record {
     machine = machine_of-kept;
@@ -63,4 +76,28 @@ module _ {R T : Type 0} (kept : R → T) where
     picked = kept-picked;
     merged = kept-merged;
     here = kept_here;
+    some = kept_some;
   }
+
+module _ {R O T : Type 0} (kind : Kind R O) (start : Stage R) (kept : R → T) where
+  -- what a step asks, where memory has the machine
+  pub kept_can : (view : View R) (number : ℕ) (order : O) (t : T) (access : Access) → machine_of (kept_of kept view) number ≡ Some t
+      → ((r : R) → kept r ≡ t → (kind.takes r order ≡ true) × (kind.plan r order ≡ access))
+      → (r : R) × (machine_of view number ≡ Some r) × (kind.takes r order ≡ true) × (kind.plan r order ≡ access)
+  kept_can view number order t access here can =
+      let m = kept_here kept view number t here in
+      let a = can m.0 m.2 in
+      (m.0, m.1, a.0, a.1)
+
+  -- what memory keeps after a step
+  pub kept_step : {S : Type 0} (number : ℕ) (order : O) (before after : Me S (View R)) (told : ℕ) (t next : T) → Took kind start number order before told after
+      → machine_of (kept_of kept before.0) number ≡ Some t → ((r : R) → kept r ≡ t → kept (kind.took r order told) ≡ next)
+      → kept_of kept after.0 ≡ slice_set (kept_of kept before.0) number (Some next)
+  kept_step number order before after told t next took here goes =
+      let m = kept_here kept before.0 number t here in
+      let same : took.machine ≡ m.0 = cc (took.here, m.1) in
+      let is : kept took.machine ≡ t = ap kept same ∙ m.2 in
+      ap (kept_of kept) took.view ∙ kept-set kept before.0 number (Some (kind.took took.machine order told)) ∙ ap (λ (x : T). slice_set (kept_of kept before.0) number (Some x)) (goes took.machine is)
+
+  pub step_laws : {S : Type 0} → StepLaws S kind start kept
+  step_laws = record { can = kept_can; goes = kept_step }

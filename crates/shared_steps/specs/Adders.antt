@@ -7,8 +7,8 @@ use Rattle.shared_steps.specs.declared.adders.Adder.TheVariants.{Idle, Asks, Loo
 use Rattle.shared_steps.specs.declared.adders.Wish.{Wish}
 use Rattle.shared_steps.specs.declared.adders.Wish.TheVariants.{Begin, GoOn}
 use Rattle.shared_steps.specs.declared.adders.Worker.{Worker}
-use Rattle.steps_base.specs.Steps.{Kind, Stage}
-use Rattle.shared_steps.specs.Views.{View, kept_of}
+use Rattle.steps_base.specs.Steps.{Kind, Stage, IsReached}
+use Rattle.shared_steps.specs.Views.{View, whole, kept_of}
 
 -- an adder that is idle begins, and one that is not goes on
 abbrev pub takes_at : Adder → Wish → Bool
@@ -65,3 +65,9 @@ adders = record {
 -- so many adders, all idle, and nothing added
 unfoldable pub opening : ℕ → Stage Worker
 opening count = record { words = 0 ∷ 0 ∷ []; machines = replicate count (worker Idle 0) }
+
+-- some list of steps of so many adders ends in this lock, this total and these adders
+pub record IsEnd (count lock total : ℕ) (left : View Adder) : Type 0 where
+  pub workers : List Worker
+  pub reached : IsReached adders (opening count) (record { words = lock ∷ total ∷ []; machines = workers })
+  pub adders_are : kept_of adder_of (whole workers) ≡ left

@@ -1,6 +1,7 @@
 -- What the rule gives, of every kind of machine: it holds at the opening, each step of a machine keeps it and says what it
 -- did, views may be cut and joined, and who has all machines knows one run.
 use Rattle.std.specs.Prelude.{ℕ, ◌≡◌, ◌+◌, ◌<◌, Bool, true, List, [], ◌∷◌, map, length, Option, Some, None, slice_set, if◌then◌else◌, ◌==◌, ◌%◌}
+use Rattle.std.specs.Option.{is_some}
 use Rattle.heap_words.specs.declared.access.Access.{Access}
 use Rattle.heap_words.specs.Access.{place_of, made_of}
 use Rattle.atomic_table.specs.Table.{State, Me, Allows, Splits, Joins, Final, Seen, opening}
@@ -51,6 +52,16 @@ pub record KeptLaws {R T : Type 0} (kept : R → T) : Type 0 where
   pub picked : (test : ℕ → Bool) (view : View R) → kept_of kept (picked test view) ≡ picked test (kept_of kept view)
   pub merged : (v w : View R) → kept_of kept (merged v w) ≡ merged (kept_of kept v) (kept_of kept w)
   pub here : (view : View R) (number : ℕ) (t : T) → machine_of (kept_of kept view) number ≡ Some t → (r : R) × (machine_of view number ≡ Some r) × (kept r ≡ t)
+  pub some : (view : View R) (number : ℕ) → is_some (machine_of (kept_of kept view) number) ≡ is_some (machine_of view number)
+
+-- A step of a machine that memory has: what it asks, and what memory keeps afterwards
+pub record StepLaws {R O T : Type 0} (S : Type 0) (kind : Kind R O) (start : Stage R) (kept : R → T) : Type 0 where
+  pub can : (view : View R) (number : ℕ) (order : O) (t : T) (access : Access) → machine_of (kept_of kept view) number ≡ Some t
+      → ((r : R) → kept r ≡ t → (kind.takes r order ≡ true) × (kind.plan r order ≡ access))
+      → (r : R) × (machine_of view number ≡ Some r) × (kind.takes r order ≡ true) × (kind.plan r order ≡ access)
+  pub goes : (number : ℕ) (order : O) (before after : Me S (View R)) (told : ℕ) (t next : T) → Took kind start number order before told after
+      → machine_of (kept_of kept before.0) number ≡ Some t → ((r : R) → kept r ≡ t → kept (kind.took r order told) ≡ next)
+      → kept_of kept after.0 ≡ slice_set (kept_of kept before.0) number (Some next)
 
 -- A bundle keeps its numbers. Steps change none, and who has all numbers of the opening has all machines
 pub record NumberLaws (R : Type 0) : Type 0 where

@@ -3,7 +3,11 @@
 ghost use Rattle.std.specs.Prelude.{◌≡◌, ℕ, true, false};
 ghost use Rattle.shared_steps.specs.Adders.{takes_at, plan_at, next_at};
 
+mod bundle;
+
 use heap_words::Access;
+
+pub use bundle::{Bundle, Ended, OfAdders, Tally, add_in_two, open};
 
 /// Where an adder stands. Each step is one access of the lock, word 0, or of the total, word 1.
 #[derive(Clone, Copy, Debug, PartialEq, Eq)]

@@ -1,7 +1,7 @@
 ghost use Rattle.std.specs.Prelude.{ℕ};
 ghost use Rattle.steps_base.specs.Steps.{Kind, Stage};
 ghost use Rattle.shared_steps.specs.Views as views;
-ghost use Rattle.shared_steps.specs.Laws.{TableLaws, DealingLaws, KeptLaws, NumberLaws};
+ghost use Rattle.shared_steps.specs.Laws.{TableLaws, DealingLaws, KeptLaws, StepLaws, NumberLaws};
 
 /// A law: the rule holds at the opening, each step keeps it, and who has all machines knows one run. `S` is what slots
 /// hold.
@@ -22,4 +22,9 @@ pub fn memory_follows_views<R, T>()
 /// A law: a bundle keeps its numbers, and who has all those of the opening has all machines.
 pub fn numbers_stay<R>()
     ensures { NumberLaws R }
+{}
+
+/// A law: where memory has a machine of a view, its step is one of the view, and memory keeps what it then is.
+pub fn steps_reach_memory<R, O, T, S>()
+    ensures { (kind : Kind R O) (start : Stage R) (kept : R → T) → StepLaws S kind start kept }
 {}
