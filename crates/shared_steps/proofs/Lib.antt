@@ -6,3 +6,4 @@ pub mod Dealing
 pub mod ChangeHands
 pub mod Kept
 pub mod Numbers
+pub mod Reached

@@ -7,7 +7,7 @@ use Rattle.heap_words.specs.Access.{place_of, made_of}
 use Rattle.atomic_table.specs.Table.{State, Me, Allows, Splits, Joins, Final, Seen, opening}
 use Rattle.steps_base.specs.Steps.{Kind, Stage, IsReached, HasReached, Finds}
 use Rattle.shared_steps.specs.Views.{View, machine_of, whole, machines_of, IsWhole, picked, left_over, merged, is_dealt_to, dealt_to, dealt_below, kept_one, kept_of, SameNumbers}
-use Rattle.shared_steps.specs.Rule.{Rule, Took}
+use Rattle.shared_steps.specs.Rule.{Rule, Took, AreReached}
 
 -- `S` is what slots of the table hold; no step touches one
 pub record TableLaws {R O : Type 0} (S : Type 0) (kind : Kind R O) (start : Stage R) : Type 0 where
@@ -29,6 +29,13 @@ pub record TableLaws {R O : Type 0} (S : Type 0) (kind : Kind R O) (start : Stag
       → Finds kind start number r order told × HasReached kind start number (kind.took r order told) × (after.0 ≡ slice_set before.0 number (Some (kind.took r order told)))
   -- the machines of the opening are reached
   pub begins : (number : ℕ) (r : R) → machine_of (whole start.machines) number ≡ Some r → HasReached kind start number r
+
+-- That each machine of a bundle is reached: it is so at the opening, and stays so
+pub record ReachLaws {R O : Type 0} (S : Type 0) (kind : Kind R O) (start : Stage R) : Type 0 where
+  pub opens : AreReached kind start (whole start.machines)
+  pub picked : (test : ℕ → Bool) (view : View R) → AreReached kind start view → AreReached kind start (picked test view)
+  pub merged : (v w : View R) → AreReached kind start v → AreReached kind start w → AreReached kind start (merged v w)
+  pub steps : (number : ℕ) (order : O) (before after : Me S (View R)) (told : ℕ) → Took kind start number order before told after → AreReached kind start before.0 → AreReached kind start after.0
 
 -- Machines are dealt to so many bundles in turn. Bundles are cut off from the last to the first, and joined from the first
 -- to the last

@@ -2,7 +2,7 @@
 -- nothing of the machines but that they are of one kind.
 use Rattle.std.specs.Prelude.{ℕ, ◌≡◌, ◌==◌, Bool, true, List, [], Option, Some, None, slice_get, slice_set, if◌then◌else◌}
 use Rattle.atomic_table.specs.Table.{State, Me}
-use Rattle.steps_base.specs.Steps.{Kind, Stage, Event, go, Finds}
+use Rattle.steps_base.specs.Steps.{Kind, Stage, Event, go, HasReached, Finds}
 use Rattle.shared_steps.specs.Views.{View, machine_of, shown}
 
 -- each machine is in one view, that of its owner, and in no other. No view has a machine that there is not
@@ -28,6 +28,10 @@ module _ {R O : Type 0} (kind : Kind R O) (start : Stage R) where
     pub finds : Finds kind start number machine order told
     pub view : after.0 ≡ slice_set before.0 number (Some (kind.took machine order told))
     pub slots : after.1 ≡ before.1
+
+  -- each machine of the view stands as it does in some run
+  abbrev pub AreReached : View R → Type 0
+  AreReached view = (number : ℕ) (r : R) → machine_of view number ≡ Some r → ∥ HasReached kind start number r ∥₁
 
 -- the same, of the order that is named
 abbrev pub TookAs : {R O S : Type 0} → Kind R O → Stage R → ℕ → Option O → Me S (View R) → ℕ → Me S (View R) → Type 0

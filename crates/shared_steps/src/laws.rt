@@ -1,12 +1,17 @@
 ghost use Rattle.std.specs.Prelude.{ℕ};
 ghost use Rattle.steps_base.specs.Steps.{Kind, Stage};
 ghost use Rattle.shared_steps.specs.Views as views;
-ghost use Rattle.shared_steps.specs.Laws.{TableLaws, DealingLaws, KeptLaws, StepLaws, NumberLaws};
+ghost use Rattle.shared_steps.specs.Laws.{TableLaws, ReachLaws, DealingLaws, KeptLaws, StepLaws, NumberLaws};
 
 /// A law: the rule holds at the opening, each step keeps it, and who has all machines knows one run. `S` is what slots
 /// hold.
 pub fn steps_keep_the_rule<R, O, S>()
     ensures { (kind : Kind R O) (start : Stage R) → TableLaws S kind start }
+{}
+
+/// A law: each machine of a bundle stands as it does in some run.
+pub fn bundles_are_reached<R, O, S>()
+    ensures { (kind : Kind R O) (start : Stage R) → ReachLaws S kind start }
 {}
 
 /// A law: machines dealt in turn to some bundles are all there once the bundles are joined.

@@ -12,10 +12,10 @@ use std::marker::{Brand, PhantomData};
 pub type View<R> = LinkedList<Option<R>>;
 
 /// A table of words for such machines, with the memory that it lies in.
-pub type StepsTable<R, O, K, M> = Table<(), View<R>, K, StepsOnly<R, O, M>, Global>;
+pub type StepsTable<R, O, K, M> = Table<(), View<R>, K, StepsRule<R, O, M>, Global>;
 
 /// The table as threads see it.
-pub type SharedWords<R, O, K, M> = Shared<(), View<R>, K, StepsOnly<R, O, M>>;
+pub type SharedWords<R, O, K, M> = Shared<(), View<R>, K, StepsRule<R, O, M>>;
 
 /// The right to make the steps of the machines of its view. It has no bytes.
 pub type ViewSeat<R> = Seat<(), View<R>>;
@@ -28,11 +28,11 @@ pub trait Machines<R, O, K> {
 
 /// The rule of a table of such machines: some events lead from its opening to its words, and to the machines of all
 /// seats, each of which is in one view.
-pub struct StepsOnly<R, O, M> {
+pub struct StepsRule<R, O, M> {
     marker: PhantomData<(R, O, M)>,
 }
 
-impl<R, O, K, M: Machines<R, O, K>> TableRule<(), View<R>, K> for StepsOnly<R, O, M> {
+impl<R, O, K, M: Machines<R, O, K>> TableRule<(), View<R>, K> for StepsRule<R, O, M> {
     ghost holds = { λ key. Rule M.kind (M.opening key) };
 
     ghost first = { λ key. whole (M.opening key).machines };
