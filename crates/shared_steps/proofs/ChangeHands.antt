@@ -1,12 +1,12 @@
 -- Machines that change hands one by one.
-use Rattle.std.proofs.Common.{◌≡◌, ◌≢◌, ℕ, zero, suc, Bool, true, false, not, nat_lt, List, [], ◌∷◌, length, get_or, replicate, Option, Some, None, refl, sym, ap, ◌∙◌, ◌<◌, ◌≤◌, ◌+◌, subst, arith}
+use Rattle.std.proofs.Common.{◌≡◌, ℕ, zero, suc, Bool, true, false, not, nat_lt, [], ◌∷◌, length, get_or, replicate, Option, Some, None, refl, sym, ap, ◌∙◌, ◌<◌, ◌≤◌, ◌+◌, subst, arith}
 use Rattle.std.specs.Option.{is_some}
 use Rattle.std.specs.Prelude.{slice_set, ◌==◌, if◌then◌else◌}
 use Rattle.std.proofs.lemmas.List.{length-set, length-replicate}
 
 use Rattle.std.proofs.lemmas.Bool.Decides.{nat_tests}
 use Rattle.shared_steps.specs.Views.{View, machine_of, picked, left_over, merged, one_of}
-use Rattle.shared_steps.proofs.Shown.{machine_of-picked, machine_of-merged, one_of-none}
+use Rattle.shared_steps.proofs.Shown.{machine_of-picked, machine_of-merged}
 use Rattle.shared_steps.proofs.Dealing.{same_view, length-picked, length-merged}
 
 module _ {T : Type 0} where

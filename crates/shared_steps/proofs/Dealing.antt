@@ -1,6 +1,6 @@
 -- Machines are dealt to bundles in turn, and each bundle joined to those below gives the next.
-use Rattle.std.proofs.Common.{◌≡◌, ◌≢◌, ℕ, zero, suc, Bool, true, false, not, List, [], ◌∷◌, length, Option, Some, None, refl, sym, ap, ◌∙◌, ◌<◌, ◌+◌, ◌%◌, arith, nat_lt}
-use Rattle.std.specs.Prelude.{◌==◌, if◌then◌else◌}
+use Rattle.std.proofs.Common.{◌≡◌, ℕ, zero, suc, Bool, true, false, not, [], ◌∷◌, length, Option, Some, None, refl, sym, ap, ◌∙◌, ◌<◌, ◌+◌, arith}
+use Rattle.std.specs.Prelude.{if◌then◌else◌}
 use Rattle.std.proofs.lemmas.Bool.Decides.{nat_tests}
 use Rattle.shared_steps.specs.Views.{View, machine_of, picked, left_over, merged, is_dealt_to, is_dealt_below, dealt_to, dealt_below, one_of}
 use Rattle.shared_steps.specs.Laws.{DealingLaws}

@@ -1,5 +1,5 @@
 -- That each machine is in one view stays so: where a machine steps, where a view is cut in two, and where two are joined.
-use Rattle.std.proofs.Common.{◌≡◌, ◌≢◌, ℕ, zero, suc, Bool, true, false, List, [], ◌∷◌, ◌++◌, length, Option, Some, None, refl, sym, ap, ◌∙◌, ◌<◌, ◌≤◌, not, arith}
+use Rattle.std.proofs.Common.{◌≡◌, ◌≢◌, ℕ, zero, suc, Bool, true, false, List, [], ◌∷◌, ◌++◌, length, Option, Some, None, sym, ◌∙◌, not, arith}
 use Rattle.std.specs.Prelude.{slice_get, slice_set, ◌==◌, if◌then◌else◌}
 use Rattle.std.proofs.lemmas.List.{length-set}
 use Rattle.std.proofs.lemmas.Bool.Decides.{nat_tests}
@@ -8,7 +8,7 @@ use lib.ListN.{get_elem?}
 use Rattle.atomic_table.proofs.Lists.{set_else}
 use Rattle.shared_steps.specs.Views.{View, machine_of, shown, whole, picked, left_over, one_of, merged}
 use Rattle.shared_steps.specs.Rule.{IsDealt}
-use Rattle.shared_steps.proofs.Shown.{shown-at, seat_below, shown-past, shown-set, shown-last, machine_of-whole, machine_of-picked, machine_of-merged, machine_of-set, slice_get-set, one_of-none}
+use Rattle.shared_steps.proofs.Shown.{shown-at, seat_below, shown-past, shown-set, shown-last, machine_of-whole, machine_of-picked, machine_of-merged, machine_of-set, slice_get-set}
 
 module _ {R : Type 0} (machines : List R) where
   -- one view has all

@@ -1,7 +1,7 @@
 -- What memory keeps of a view changes as the view does.
-use Rattle.std.proofs.Common.{◌≡◌, ◌≢◌, ℕ, zero, suc, Bool, true, false, not, List, [], ◌∷◌, map, length, Option, Some, None, refl, sym, ap, ◌∙◌}
+use Rattle.std.proofs.Common.{◌≡◌, ℕ, zero, suc, Bool, true, false, List, [], ◌∷◌, map, length, Option, Some, None, refl, ap, ◌∙◌}
 use Rattle.std.specs.Prelude.{slice_set, if◌then◌else◌}
-use Rattle.shared_steps.specs.Views.{View, machine_of, whole, picked, left_over, merged, one_of, kept_one, kept_of}
+use Rattle.shared_steps.specs.Views.{View, machine_of, whole, picked, merged, one_of, kept_one, kept_of}
 use Rattle.std.specs.Option.{is_some}
 use Rattle.atomic_table.specs.Table.{Me}
 use Rattle.heap_words.specs.declared.access.Access.{Access}

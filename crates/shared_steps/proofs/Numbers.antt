@@ -1,12 +1,12 @@
 -- The numbers under which a view has machines.
-use Rattle.std.proofs.Common.{◌≡◌, ◌≢◌, ℕ, zero, suc, Bool, true, false, List, [], ◌∷◌, map, length, Option, Some, None, refl, sym, ap, ◌∙◌, subst, ◌<◌, ◌||◌, arith}
-use Rattle.std.specs.Prelude.{slice_set, slice_get, ◌==◌, if◌then◌else◌}
+use Rattle.std.proofs.Common.{◌≡◌, ℕ, zero, suc, Bool, true, false, List, [], ◌∷◌, length, Option, Some, None, refl, sym, ap, ◌∙◌, ◌<◌, ◌||◌, arith}
+use Rattle.std.specs.Prelude.{slice_set, ◌==◌, if◌then◌else◌}
 use Rattle.std.specs.Option.{is_some}
 use Rattle.std.proofs.lemmas.List.{length-set}
 use Rattle.std.proofs.lemmas.Bool.Decides.{nat_tests}
 use Rattle.shared_steps.specs.Views.{View, machine_of, whole, machines_of, IsWhole, merged, one_of, SameNumbers}
 use Rattle.shared_steps.specs.Laws.{NumberLaws}
-use Rattle.shared_steps.proofs.Shown.{machine_of-whole, machine_of-set, machine_of-merged}
+use Rattle.shared_steps.proofs.Shown.{machine_of-set, machine_of-merged}
 use Rattle.shared_steps.proofs.Closing.{length-whole}
 use Rattle.shared_steps.proofs.Dealing.{length-merged}
 

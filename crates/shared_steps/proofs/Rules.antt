@@ -1,12 +1,12 @@
 -- The rule holds at the opening, and each move keeps it.
-use Rattle.std.proofs.Common.{◌≡◌, ◌≢◌, ℕ, Bool, true, List, [], ◌∷◌, ◌++◌, length, Option, Some, None, refl, sym, ap, ◌∙◌, subst, ◌<◌, ◌^◌}
+use Rattle.std.proofs.Common.{◌≡◌, ℕ, Bool, true, List, [], ◌∷◌, ◌++◌, length, Option, Some, refl, sym, ap, ◌∙◌, subst, ◌<◌}
 use Rattle.std.specs.Prelude.{slice_get, slice_set, slice_index}
 use mathlib.Core.Option.{some}
 use lib.ListN.{get_elem?}
 use Rattle.heap_words.specs.declared.access.Access.{Access}
-use Rattle.heap_words.specs.Access.{place_of, made_of, told_of}
+use Rattle.heap_words.specs.Access.{place_of, made_of}
 use Rattle.atomic_table.specs.Table.{State, Me, keeps, Allows, Splits, Joins, Final, Seen, opening}
-use Rattle.steps_base.specs.Steps.{Kind, Stage, Event, go, act, moved, IsEvent, IsReached, HasReached, Finds}
+use Rattle.steps_base.specs.Steps.{Kind, Stage, Event, go, moved, IsEvent, IsReached, HasReached, Finds}
 use Rattle.steps_base.proofs.Runs.{go-none, go-step, has_start}
 use Rattle.steps_base.proofs.Laws.{act-event, has_next}
 use Rattle.shared_steps.specs.Views.{View, machine_of, whole, machines_of, picked, left_over, merged, IsWhole}

@@ -1,10 +1,10 @@
 -- What a view has under a number, and what a seat shows, after views change.
-use Rattle.std.proofs.Common.{◌≡◌, ◌≢◌, ℕ, zero, suc, Bool, true, false, List, [], ◌∷◌, ◌++◌, map, length, Option, Some, None, refl, sym, ap, ◌∙◌, ◌<◌, ◌≤◌, arith}
+use Rattle.std.proofs.Common.{◌≡◌, ℕ, zero, suc, Bool, true, false, List, [], ◌∷◌, ◌++◌, length, Option, Some, None, refl, sym, ◌<◌, ◌≤◌, arith}
 use Rattle.std.specs.Prelude.{slice_get, slice_set, ◌==◌, if◌then◌else◌}
 use Rattle.std.proofs.lemmas.Bool.Decides.{nat_tests}
 use mathlib.Core.Option.{some}
 use lib.ListN.{get_elem?}
-use Rattle.shared_steps.specs.Views.{View, machine_of, shown, whole, machines_of, picked, one_of, merged}
+use Rattle.shared_steps.specs.Views.{View, machine_of, shown, whole, picked, one_of, merged}
 
 module _ {R : Type 0} where
   pub shown-at : (views : List (View R)) (id number : ℕ) (v : View R) → get_elem? views id ≡ some v → shown views id number ≡ machine_of v number

@@ -1,5 +1,5 @@
 -- Machines that add to a total under a lock: word 0 is the lock, 1 while one has it, and word 1 the total.
-use Rattle.std.specs.Prelude.{ℕ, ◌≡◌, ◌+◌, ◌%◌, ◌^◌, ◌==◌, Bool, true, false, List, [], ◌∷◌, map, replicate, if◌then◌else◌}
+use Rattle.std.specs.Prelude.{ℕ, ◌≡◌, ◌+◌, ◌%◌, ◌^◌, ◌==◌, Bool, true, false, List, [], ◌∷◌, replicate, if◌then◌else◌}
 use Rattle.heap_words.specs.declared.access.Access.{Access}
 use Rattle.heap_words.specs.declared.access.Access.TheVariants.{Load, Store, Sub, Exchange}
 use Rattle.shared_steps.specs.declared.adders.Adder.{Adder}
@@ -55,8 +55,8 @@ abbrev pub adder_of : Worker → Adder
 adder_of w = w.adder
 
 -- the kind of machine
-unfoldable pub adders : Kind Worker Wish
-adders = record {
+unfoldable pub adders_kind : Kind Worker Wish
+adders_kind = record {
   takes = λ w wish. takes_at w.adder wish;
   plan = λ w wish. plan_at w.adder;
   took = λ w wish told. worker (next_at w.adder told) (w.calls + ended_at w.adder);
@@ -69,5 +69,5 @@ opening count = record { words = 0 ∷ 0 ∷ []; machines = replicate count (wor
 -- some list of steps of so many adders ends in this lock, this total and these adders
 pub record IsEnd (count lock total : ℕ) (left : View Adder) : Type 0 where
   pub workers : List Worker
-  pub reached : IsReached adders (opening count) (record { words = lock ∷ total ∷ []; machines = workers })
+  pub reached : IsReached adders_kind (opening count) (record { words = lock ∷ total ∷ []; machines = workers })
   pub adders_are : kept_of adder_of (whole workers) ≡ left

@@ -1,10 +1,10 @@
 -- What the rule gives, of every kind of machine: it holds at the opening, each step of a machine keeps it and says what it
 -- did, views may be cut and joined, and who has all machines knows one run.
-use Rattle.std.specs.Prelude.{ℕ, ◌≡◌, ◌+◌, ◌<◌, Bool, true, List, [], ◌∷◌, map, length, Option, Some, None, slice_set, if◌then◌else◌, ◌==◌, ◌%◌}
+use Rattle.std.specs.Prelude.{ℕ, ◌≡◌, ◌+◌, ◌<◌, Bool, true, List, [], map, length, Option, Some, None, slice_set, if◌then◌else◌, ◌==◌, ◌%◌}
 use Rattle.std.specs.Option.{is_some}
 use Rattle.heap_words.specs.declared.access.Access.{Access}
 use Rattle.heap_words.specs.Access.{place_of, made_of}
-use Rattle.atomic_table.specs.Table.{State, Me, Allows, Splits, Joins, Final, Seen, opening}
+use Rattle.atomic_table.specs.Table.{Me, Allows, Splits, Joins, Final, Seen, opening}
 use Rattle.steps_base.specs.Steps.{Kind, Stage, IsReached, HasReached, Finds}
 use Rattle.shared_steps.specs.Views.{View, machine_of, whole, machines_of, IsWhole, picked, left_over, merged, is_dealt_to, dealt_to, dealt_below, kept_one, kept_of, SameNumbers}
 use Rattle.shared_steps.specs.Rule.{Rule, Took, AreReached}

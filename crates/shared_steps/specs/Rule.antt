@@ -1,6 +1,6 @@
 -- The rule of a table whose words threads change by the steps of machines, each thread those of its own bundle. It knows
 -- nothing of the machines but that they are of one kind.
-use Rattle.std.specs.Prelude.{ℕ, ◌≡◌, ◌==◌, Bool, true, List, [], Option, Some, None, slice_get, slice_set, if◌then◌else◌}
+use Rattle.std.specs.Prelude.{ℕ, ◌≡◌, ◌==◌, List, Option, Some, None, slice_get, slice_set, if◌then◌else◌}
 use Rattle.atomic_table.specs.Table.{State, Me}
 use Rattle.steps_base.specs.Steps.{Kind, Stage, Event, go, HasReached, Finds}
 use Rattle.shared_steps.specs.Views.{View, machine_of, shown}

@@ -1,6 +1,6 @@
 -- What a bundle of machines is to the others: a list with a machine under each number that is its own, and none under
 -- the numbers of machines of other bundles.
-use Rattle.std.specs.Prelude.{ℕ, zero, suc, ◌≡◌, ◌%◌, ◌==◌, Bool, true, false, not, nat_lt, List, [], ◌∷◌, map, length, Option, Some, None, if◌then◌else◌}
+use Rattle.std.specs.Prelude.{ℕ, zero, suc, ◌≡◌, ◌%◌, ◌==◌, Bool, not, nat_lt, List, [], ◌∷◌, map, length, Option, Some, None, if◌then◌else◌}
 use Rattle.std.specs.Option.{is_some}
 
 abbrev pub View : Type 0 → Type 0

@@ -1,4 +1,4 @@
-use Rattle.std.proofs.Common.{arith, ◌≡◌, ◌<◌, ◌∙◌, length, sym, subst, ap, not, ℕ, List, Option, ◌+◌}
+use Rattle.std.proofs.Common.{arith, ◌<◌, ◌∙◌, length, sym, subst, ap, not, Option, ◌+◌}
 use Rattle.std.specs.Prelude.{slice_set}
 use Rattle.shared_steps.specs.Views.{View}
 use Rattle.shared_steps.proofs.ChangeHands.{Joining, machine_of-index, joining_swap, joining_skip, joining_ends, some_there, none_there}

@@ -1,7 +1,8 @@
-use Rattle.std.proofs.Common.{◌≡◌, ◌∙◌, ap, sym, length, subst, ℕ, not, arith, rules}
+use Rattle.std.proofs.Common.{◌≡◌, ◌∙◌, ap, sym, length, subst, ℕ, not, rules}
 use Rattle.shared_steps.specs.declared.adders.Worker.{Worker}
-use Rattle.shared_steps.specs.Views.{View, SameNumbers, whole, merged, IsWhole, is_dealt_to, dealt_to, picked, left_over}
+use Rattle.shared_steps.specs.Views.{View, SameNumbers, whole, merged, IsWhole, is_dealt_to, dealt_to, left_over}
 use Rattle.shared_steps.specs.Adders.{opening}
+use Rattle.shared_steps.proofs.AdderViews.{whole_by}
 use Rattle.shared_steps.proofs.Numbers.{same_merged, same_whole}
 use Rattle.shared_steps.proofs.Dealing.{merged_rest, length-picked}
 use Rattle.shared_steps.proofs.adders.bundle.add_in_two.Goals as goal
@@ -17,19 +18,12 @@ joined_all count evens odds evens' odds' all evens-are odds-are evens-stay odds-
     same_whole (opening count).machines all
       (subst (λ (v : View Worker). SameNumbers v all) is (subst (λ (v : View Worker). SameNumbers (merged evens odds) v) (sym all-are) (same_merged evens evens' odds odds' long evens-stay odds-stay)))
 
-pub join-requires-clause-long : goal.join-requires-clause-long
-join-requires-clause-long g c =
-    let evens-stay : SameNumbers c.deal.new.self.seat.me.0 c.join-evens.result.0.seat.me.0 = search rules in
-    let odds-stay : SameNumbers c.in_ok-odds.odds.seat.me.0 c.join-evens.result.1.seat.me.0 = search rules in
-    let view = c.in_ok-tally.evens.seat.me.0 in
-    evens-stay.long ∙ ap length c.in_ok-odds.ensures.left.1 ∙ length-picked (λ n. not (is_dealt_to 2 1 n)) view
-    ∙ sym (odds-stay.long ∙ ap length c.in_ok-odds.ensures.dealt.1 ∙ length-picked (is_dealt_to 2 1) view)
-
 pub close-requires-clause-all : goal.close-requires-clause-all
 close-requires-clause-all g c =
     let evens-stay : SameNumbers c.deal.new.self.seat.me.0 c.join-evens.result.0.seat.me.0 = search rules in
     let odds-stay : SameNumbers c.in_ok-odds.odds.seat.me.0 c.join-evens.result.1.seat.me.0 = search rules in
     let opened = c.in_ok-tally.ensures in
-    subst (λ (n : ℕ). IsWhole (length (opening n).machines) c.join.new.self.seat.me.0) (sym opened.0)
-      (joined_all c.args.count c.deal.new.self.seat.me.0 c.in_ok-odds.odds.seat.me.0 c.join-evens.result.0.seat.me.0 c.join-evens.result.1.seat.me.0 c.join.new.self.seat.me.0
-        (c.in_ok-odds.ensures.left.1 ∙ ap (left_over (is_dealt_to 2 1)) opened.2) (c.in_ok-odds.ensures.dealt.1 ∙ ap (λ (v : View Worker). dealt_to 2 1 v) opened.2) evens-stay odds-stay c.join.ensures.1)
+    subst (λ (n : ℕ). IsWhole n c.join.new.self.seat.me.0) (sym opened.0)
+      (whole_by c.args.count c.join.new.self.seat.me.0
+        (joined_all c.args.count c.deal.new.self.seat.me.0 c.in_ok-odds.odds.seat.me.0 c.join-evens.result.0.seat.me.0 c.join-evens.result.1.seat.me.0 c.join.new.self.seat.me.0
+          (c.in_ok-odds.ensures.left.2 ∙ ap (λ (v : View Worker). left_over (is_dealt_to 2 1) v) opened.3) (c.in_ok-odds.ensures.dealt.2 ∙ ap (λ (v : View Worker). dealt_to 2 1 v) opened.3) evens-stay odds-stay c.join.ensures.view))

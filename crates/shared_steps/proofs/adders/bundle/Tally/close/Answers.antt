@@ -1,11 +1,12 @@
-use Rattle.std.proofs.Common.{◌≡◌, ◌∙◌, ap, sym, length, subst, ℕ, List, [], ◌∷◌, zero, suc, refl, arith}
+use Rattle.std.proofs.Common.{◌≡◌, ◌∙◌, ap, sym, length, subst, ℕ, List, [], ◌∷◌, arith}
 use Rattle.std.specs.Slots.{slots_items}
 use mathlib.Core.Option.{some}
 use lib.ListN.{get_elem?}
 use Rattle.steps_base.specs.Steps.{IsReached}
 use Rattle.shared_steps.specs.declared.adders.Worker.{Worker}
-use Rattle.shared_steps.specs.Views.{View, machines_of, kept_of}
-use Rattle.shared_steps.specs.Adders.{adders, opening, adder_of}
+use Rattle.shared_steps.specs.Views.{machines_of, kept_of}
+use Rattle.shared_steps.specs.Adders.{adders_kind, opening, adder_of}
+use Rattle.shared_steps.proofs.AdderViews.{whole_of}
 use Rattle.shared_steps.proofs.Closing.{length-go_words}
 use Rattle.shared_steps.proofs.adders.bundle.Tally.close.Goals as goal
 
@@ -15,9 +16,12 @@ two_words (x ∷ []) lock total long a b = absurd (omega arith)
 two_words (x ∷ y ∷ []) lock total long a b = cc
 two_words (x ∷ y ∷ z ∷ zs) lock total long a b = absurd (omega arith)
 
-length_reached : (count : ℕ) (ws : List ℕ) (rs : List Worker) → IsReached adders (opening count) (record { words = ws; machines = rs }) → length ws ≡ 2
+length_reached : (count : ℕ) (ws : List ℕ) (rs : List Worker) → IsReached adders_kind (opening count) (record { words = ws; machines = rs }) → length ws ≡ 2
 unfolding opening
-length_reached count ws rs reached = sym (ap (λ x. length x.words) reached.ends) ∙ length-go_words adders (opening count) reached.events
+length_reached count ws rs reached = sym (ap (λ x. length x.words) reached.ends) ∙ length-go_words adders_kind (opening count) reached.events
+
+pub close_table-closed-requires-clause-all : goal.close_table-closed-requires-clause-all
+close_table-closed-requires-clause-all c = whole_of c.args.self.table.shared.key c.args.bundle.seat.me.0 c.requires.all
 
 pub returns : goal.returns
 returns c =
@@ -28,6 +32,6 @@ returns c =
     let same : ws ≡ c.word-lock.result ∷ c.word-total.result ∷ [] = two_words ws c.word-lock.result c.word-total.result (length_reached key ws rs reached) c.word-lock.ensures c.word-total.ensures in
     record {
       workers = rs;
-      reached = subst (λ (xs : List ℕ). IsReached adders (opening key) (record { words = xs; machines = rs })) same reached;
+      reached = subst (λ (xs : List ℕ). IsReached adders_kind (opening key) (record { words = xs; machines = rs })) same reached;
       adders_are = ap (kept_of adder_of) (sym c.requires.all.all) ∙ c.args.bundle.kept;
     }
