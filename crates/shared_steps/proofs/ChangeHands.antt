@@ -3,7 +3,6 @@ use Rattle.std.proofs.Common.{◌≡◌, ℕ, zero, suc, Bool, true, false, not,
 use Rattle.std.specs.Option.{is_some}
 use Rattle.std.specs.Prelude.{slice_set, ◌==◌, if◌then◌else◌}
 use Rattle.std.proofs.lemmas.List.{length-set, length-replicate}
-
 use Rattle.std.proofs.lemmas.Bool.Decides.{nat_tests}
 use Rattle.shared_steps.specs.Views.{View, machine_of, picked, left_over, merged, one_of}
 use Rattle.shared_steps.proofs.Shown.{machine_of-picked, machine_of-merged}
@@ -75,7 +74,7 @@ module _ {T : Type 0} where
   joining_skip m0 o0 number m o r j some = record {
     long = j.long;
     other_long = j.other_long;
-    here = λ k. 
+    here = λ k.
         let old : machine_of m0 number ≡ Some r = sym (here_at m0 o0 number m o j) ∙ some in
         let new : one_of (machine_of m0 number) (machine_of o0 number) ≡ machine_of m number = rw old (sym some) in
         taken k number (machine_of m k) (machine_of m number) (machine_of m k) (λ n. one_of (machine_of m0 n) (machine_of o0 n)) (λ n. machine_of m0 n) (same k) (j.here k) new;
@@ -121,11 +120,11 @@ module _ {T : Type 0} where
     left = λ k.
         let here : machine_of out number ≡ None = let a = j.taken_out number in grind (arith, nat_tests) in
         taken k number (machine_of (slice_set m number (machine_of out number)) k) (machine_of out number) (machine_of m k) (λ n. if test n then None else machine_of m0 n) (λ n. machine_of m0 n)
-          (machine_of-put m number (machine_of out number) within k) (j.left k) (rw is (sym here));
+        (machine_of-put m number (machine_of out number) within k) (j.left k) (rw is (sym here));
     taken_out = λ k.
         let here : machine_of m number ≡ machine_of m0 number = let a = j.left number in grind (arith, nat_tests) in
         taken k number (machine_of (slice_set out number (machine_of m number)) k) (machine_of m number) (machine_of out k) (λ n. if test n then machine_of m0 n else None) (λ n. None)
-          (machine_of-put out number (machine_of m number) out_within k) (j.taken_out k) (rw is (sym here));
+        (machine_of-put out number (machine_of m number) out_within k) (j.taken_out k) (rw is (sym here));
   }
 
   pub taking_none : (test : ℕ → Bool) (m0 : View T) (number : ℕ) (m out : View T) → TakingOut test m0 number m out → test number ≡ false → TakingOut test m0 (number + 1) m out
@@ -135,11 +134,11 @@ module _ {T : Type 0} where
     left = λ k.
         let here : machine_of m number ≡ machine_of m0 number = let a = j.left number in grind (arith, nat_tests) in
         taken k number (machine_of m k) (machine_of m number) (machine_of m k) (λ n. if test n then None else machine_of m0 n) (λ n. machine_of m0 n)
-          (itself k number (λ n. machine_of m n)) (j.left k) (rw is (sym here));
+        (itself k number (λ n. machine_of m n)) (j.left k) (rw is (sym here));
     taken_out = λ k.
         let here : machine_of out number ≡ None = let a = j.taken_out number in grind (arith, nat_tests) in
         taken k number (machine_of out k) (machine_of out number) (machine_of out k) (λ n. if test n then machine_of m0 n else None) (λ n. None)
-          (itself k number (λ n. machine_of out n)) (j.taken_out k) (rw is (sym here));
+        (itself k number (λ n. machine_of out n)) (j.taken_out k) (rw is (sym here));
   }
 
   pub taking_ends : (test : ℕ → Bool) (m0 : View T) (end : ℕ) (m out : View T) → TakingOut test m0 end m out → length m0 ≤ end → (m ≡ left_over test m0) × (out ≡ picked test m0)
@@ -181,7 +180,7 @@ module _ {T : Type 0} where
       let c : slice_set m number (machine_of out number) ≡ m' = ap (λ z. slice_set m number z) b ∙ sym m'-is in
       let d : slice_set out number (machine_of m number) ≡ out' = ap (λ z. slice_set out number z) a ∙ sym out'-is in
       subst (λ (v : View T). TakingOut test m0 (number + 1) v out') c
-        (subst (λ (v : View T). TakingOut test m0 (number + 1) (slice_set m number (machine_of out number)) v) d (taking_one test m0 number m out j within out_within is))
+      (subst (λ (v : View T). TakingOut test m0 (number + 1) (slice_set m number (machine_of out number)) v) d (taking_one test m0 number m out j within out_within is))
 
   -- a machine that is there
   pub some_there : (x : Option T) → is_some x ≡ true → (r : T) × (x ≡ Some r)

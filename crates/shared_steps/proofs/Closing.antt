@@ -32,5 +32,5 @@ module _ {R : Type 0} where
   pub whole_has_all : (machines : List R) (views : List (View R)) → IsDealt machines views → (id : ℕ) (v : View R) → get_elem? views id ≡ some v → IsWhole (length machines) v → machines_of v ≡ machines
   whole_has_all machines views dealt id v at all =
       sym (same_elements machines (machines_of v)
-        (sym all.counts ∙ ap length all.all ∙ length-whole (machines_of v))
-        (λ k r here. machine-is machines views dealt id v at k r (ap (λ x. machine_of x k) all.all ∙ machine_of-whole (machines_of v) k ∙ here)))
+      (sym all.counts ∙ ap length all.all ∙ length-whole (machines_of v))
+      (λ k r here. machine-is machines views dealt id v at k r (ap (λ x. machine_of x k) all.all ∙ machine_of-whole (machines_of v) k ∙ here)))

@@ -35,10 +35,10 @@ module _ {R : Type 0} where
   pub picked_twice : (p q r : ℕ → Bool) (view : View R) → ((k : ℕ) → (if p k then q k else false) ≡ r k) → picked p (picked q view) ≡ picked r view
   picked_twice p q r view both = same_view _ _ (length-picked p (picked q view) ∙ length-picked q view ∙ sym (length-picked r view))
       (λ k.
-          let a = machine_of-picked p (picked q view) k in
-          let b = machine_of-picked q view k in
-          let c = machine_of-picked r view k in
-          rw (a, b, c, ← both k) (by_tests (p k) (q k) (machine_of view k)))
+      let a = machine_of-picked p (picked q view) k in
+      let b = machine_of-picked q view k in
+      let c = machine_of-picked r view k in
+      rw (a, b, c, ← both k) (by_tests (p k) (q k) (machine_of view k)))
     where
       by_tests : (a b : Bool) (x : Option R) → (if a then (if b then x else None) else None) ≡ (if (if a then b else false) then x else None)
       by_tests true b x = refl
@@ -48,11 +48,11 @@ module _ {R : Type 0} where
   pub merged_picked : (p q r : ℕ → Bool) (view : View R) → ((k : ℕ) → (if p k then true else q k) ≡ r k) → merged (picked p view) (picked q view) ≡ picked r view
   merged_picked p q r view one = same_view _ _ (length-merged _ _ (length-picked p view ∙ sym (length-picked q view)) ∙ length-picked p view ∙ sym (length-picked r view))
       (λ k.
-          let a = machine_of-merged (picked p view) (picked q view) k in
-          let b = machine_of-picked p view k in
-          let c = machine_of-picked q view k in
-          let d = machine_of-picked r view k in
-          rw (a, b, c, d, ← one k) (by_tests (p k) (q k) (machine_of view k)))
+      let a = machine_of-merged (picked p view) (picked q view) k in
+      let b = machine_of-picked p view k in
+      let c = machine_of-picked q view k in
+      let d = machine_of-picked r view k in
+      rw (a, b, c, d, ← one k) (by_tests (p k) (q k) (machine_of view k)))
     where
       by_tests : (a b : Bool) (x : Option R) → one_of (if a then x else None) (if b then x else None) ≡ (if (if a then true else b) then x else None)
       by_tests true b None = by_b b

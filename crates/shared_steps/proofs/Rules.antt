@@ -40,9 +40,9 @@ module _ {R O : Type 0} (kind : Kind R O) (start : Stage R) {S : Type 0} where
     -- the words and views after the step are those after one more event
     planned_move : (s : State S (View R)) (kept : Rule kind start s) → get_elem? s.views id ≡ some me.0
         → let found : ℕ = slice_index s.words (place_of (kind.plan r order)) in
-          let view : View R = slice_set me.0 number (Some (kind.took r order found)) in
-          IsKept kind start (slice_set s.words (place_of (kind.plan r order)) (made_of (kind.plan r order) found)) (slice_set s.views id view)
-          × Took kind start number order me found (view, me.1)
+        let view : View R = slice_set me.0 number (Some (kind.took r order found)) in
+        IsKept kind start (slice_set s.words (place_of (kind.plan r order)) (made_of (kind.plan r order) found)) (slice_set s.views id view)
+        × Took kind start number order me found (view, me.1)
     planned_move s kept at =
         let x : Stage R = go kind start kept.events in
         let e : Event O = record { number = number; order = order } in
@@ -50,8 +50,7 @@ module _ {R O : Type 0} (kind : Kind R O) (start : Stage R) {S : Type 0} where
         let is : IsEvent kind x e r = record { here = there; takes = takes } in
         let same : slice_index s.words (place_of (kind.plan r order)) ≡ slice_index x.words (place_of (kind.plan r order)) = ap (λ ws. slice_index ws (place_of (kind.plan r order))) kept.words_are in
         let after : go kind start (kept.events ++ e ∷ []) ≡ moved kind x number r order = go-step kind start kept.events e ∙ act-event kind x e r is in
-        let next : R = kind.took r order (slice_index s.words (place_of (kind.plan r order))) in
-        (
+        let next : R = kind.took r order (slice_index s.words (place_of (kind.plan r order))) in (
           record {
             events = kept.events ++ e ∷ [];
             words_are =
@@ -59,8 +58,8 @@ module _ {R O : Type 0} (kind : Kind R O) (start : Stage R) {S : Type 0} where
                 ∙ ap (λ y. y.words) (sym after);
             dealt =
                 subst (λ (rs : List R). IsDealt rs (slice_set s.views id (slice_set me.0 number (Some next))))
-                  (ap (λ n. slice_set x.machines number (kind.took r order n)) same ∙ ap (λ y. y.machines) (sym after))
-                  (dealt_step x.machines s.views kept.dealt id me.0 at number r here next);
+                (ap (λ n. slice_set x.machines number (kind.took r order n)) same ∙ ap (λ y. y.machines) (sym after))
+                (dealt_step x.machines s.views kept.dealt id me.0 at number r here next);
           },
           record {
             machine = r;

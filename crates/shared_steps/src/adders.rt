@@ -5,9 +5,8 @@ ghost use Rattle.shared_steps.specs.Adders.{takes_at, plan_at, next_at};
 
 mod bundle;
 
-use heap_words::Access;
-
 pub use bundle::{Bundle, Ended, OfAdders, Tally, add_in_two, open};
+use heap_words::Access;
 
 /// Where an adder stands. Each step is one access of the lock, word 0, or of the total, word 1.
 #[derive(Clone, Copy, Debug, PartialEq, Eq)]
@@ -79,13 +78,7 @@ impl Adder {
         ensures { result ≡ next_at self told }
     {
         match self {
-            Adder::Idle | Adder::Asks => {
-                if told == 0 {
-                    Adder::Looks
-                } else {
-                    Adder::Asks
-                }
-            }
+            Adder::Idle | Adder::Asks => { if told == 0 { Adder::Looks } else { Adder::Asks } }
             Adder::Looks => Adder::Writes { found: told },
             Adder::Writes { .. } => Adder::Leaves,
             Adder::Leaves => Adder::Idle,

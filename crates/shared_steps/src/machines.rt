@@ -23,6 +23,7 @@ pub type ViewSeat<R> = Seat<(), View<R>>;
 /// A kind of machine, by its records `R`, its orders `O`, and what a table of them begins with, by a key.
 pub trait Machines<R, O, K> {
     ghost kind: { Kind R O };
+
     ghost opening: { K → Stage R };
 }
 
@@ -41,7 +42,9 @@ impl<R, O, K, M: Machines<R, O, K>> TableRule<(), View<R>, K> for StepsRule<R, O
 /// Whose turn it is at a step: of a table with this opening, the machine with this number, under this order.
 pub trait Turn<R, O> {
     ghost start: { Stage R };
+
     ghost number: { ℕ };
+
     ghost order: { Option O };
 }
 
@@ -65,6 +68,7 @@ impl<R, O, K, M: Machines<R, O, K>, G: Turn<R, O>> Play<(), View<R>> for Turns<R
 /// How a bundle is dealt from others: of so many bundles, which one.
 pub trait Cut {
     ghost bundles: { ℕ };
+
     ghost bundle: { ℕ };
 }
 

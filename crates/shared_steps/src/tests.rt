@@ -34,7 +34,11 @@ fn one_waits_for_the_lock(rt: HostRuntime) -> Result<(), Fail> {
     let ended = tally.close(evens);
     assert!(rt; ended.lock == 1 && ended.total == 2 && ended.adders.len() == 4);
     for (number, adder) in ended.adders.iter().enumerate() {
-        let stands = if number == 1 { Adder::Leaves } else { Adder::Idle };
+        let stands = if number == 1 {
+            Adder::Leaves
+        } else {
+            Adder::Idle
+        };
         assert!(rt; *adder == Some(stands));
     }
     Ok(())
@@ -47,7 +51,10 @@ fn two_threads_add(rt: HostRuntime) -> Result<(), Fail> {
         let ended = add_in_two(&rt, rt.alloc(), 5, 40)?;
         let mut held: u64 = 0;
         for adder in ended.adders.iter() {
-            if matches!(adder, Some(Adder::Looks | Adder::Writes { .. } | Adder::Leaves)) {
+            if matches!(
+                adder,
+                Some(Adder::Looks | Adder::Writes { .. } | Adder::Leaves)
+            ) {
                 held = held.wrapping_add(1);
             }
         }

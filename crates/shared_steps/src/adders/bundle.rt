@@ -203,11 +203,7 @@ pub fn add_in_two<R: Threads + Sync>(
 {
     let (tally, mut evens) = open(alloc, count)?;
     let odds = evens.deal(alloc, &tally, 2, 1)?;
-    let (mut evens, odds) = join(
-        rt,
-        || evens.run(&tally, turns),
-        || odds.run(&tally, turns),
-    );
+    let (mut evens, odds) = join(rt, || evens.run(&tally, turns), || odds.run(&tally, turns));
     evens.join(&tally, odds);
     Ok(tally.close(evens))
 }

@@ -11,19 +11,19 @@ loop-number-preserved g c =
     let within : l.number < length l.machines.items = omega (arith, c.len-number-end.ensures) in
     let other_within : l.number < length l.others.items = omega (arith, c.len-number-end.ensures, c.requires) in
     elim c.if-is_none.branch [
-      then-is_none w ↦
-        joining_swap c.args.machines.now.items c.args.others.items l.number l.machines.items l.others.items c.if-is_none.machines.items c.if-is_none.others.items w.index_mut.result.now w.index_mut-then-is_none.result.now
+      | then-is_none w ↦
+          joining_swap c.args.machines.now.items c.args.others.items l.number l.machines.items l.others.items c.if-is_none.machines.items c.if-is_none.others.items w.index_mut.result.now w.index_mut-then-is_none.result.now
           l.invariant within other_within w.index_mut.ensures.value w.index_mut-then-is_none.ensures.value
           (w.index_mut.ensures.value ∙ sym (machine_of-index l.machines.items l.number w.index_mut.result.now within) ∙ machine_of-index l.machines.items l.number c.index.result.now within
-            ∙ sym c.index.ensures ∙ none_there c.index.result.now w.if-is_none.ensures)
+          ∙ sym c.index.ensures ∙ none_there c.index.result.now w.if-is_none.ensures)
           (ap (λ v. v.items) w.machines-is ∙ ap (λ (x : Option g.row.T.Denot). slice_set l.machines.items l.number x) w.swap.ensures.x_after)
           (ap (λ v. v.items) w.others-is ∙ ap (λ (x : Option g.row.T.Denot). slice_set l.others.items l.number x) w.swap.ensures.y_after)
-    | else-is_none w ↦
-        let there = some_there c.index.result.now (c.is_none.ensures ∙ ap not w.if-is_none.false) in
-        subst (λ (v : View g.row.T.Denot). Joining c.args.machines.now.items c.args.others.items (l.number + 1) v c.if-is_none.others.items) (ap (λ v. v.items) (sym w.machines-is))
+      | else-is_none w ↦
+          let there = some_there c.index.result.now (c.is_none.ensures ∙ ap not w.if-is_none.false) in
+          subst (λ (v : View g.row.T.Denot). Joining c.args.machines.now.items c.args.others.items (l.number + 1) v c.if-is_none.others.items) (ap (λ v. v.items) (sym w.machines-is))
           (subst (λ (v : View g.row.T.Denot). Joining c.args.machines.now.items c.args.others.items (l.number + 1) l.machines.items v) (ap (λ v. v.items) (sym w.others-is))
-            (joining_skip c.args.machines.now.items c.args.others.items l.number l.machines.items l.others.items there.0 l.invariant
-              (machine_of-index l.machines.items l.number c.index.result.now within ∙ sym c.index.ensures ∙ there.1)))
+          (joining_skip c.args.machines.now.items c.args.others.items l.number l.machines.items l.others.items there.0 l.invariant
+          (machine_of-index l.machines.items l.number c.index.result.now within ∙ sym c.index.ensures ∙ there.1)))
     ]
 
 pub returns : goal.returns

@@ -24,5 +24,5 @@ invariant_of-result-2 c =
       slots = ap (λ me. me.1) c.in_ok-table.ensures.4;
       reached =
           same_reached c.args.count (length c.loop.adders.items) (whole (opening c.args.count).machines) c.in_ok-table.seat.me.0 (sym (length-replicate c.args.count (Some Idle)) ∙ ap length items)
-            (sym (ap (λ me. me.0) c.in_ok-table.ensures.4)) (reached_opens adders_kind (opening c.args.count));
+          (sym (ap (λ me. me.0) c.in_ok-table.ensures.4)) (reached_opens adders_kind (opening c.args.count));
     }

@@ -18,9 +18,9 @@ invariant_of-self-2 c = record {
   slots = ap (λ me. me.1) c.deal_bundle-seat.ensures.kept.1 ∙ c.args.self.now.slots;
   reached =
       same_reached (length c.args.self.now.adders.items) (length c.deal_machines.new.machines.items) (left_over (is_dealt_to c.args.bundles c.args.bundle) c.args.self.now.seat.me.0) c.deal_bundle-seat.new.seat.me.0
-        (sym (length-picked (λ number. not (is_dealt_to c.args.bundles c.args.bundle number)) c.args.self.now.adders.items) ∙ sym (ap length c.in_ok-adders.ensures.left))
-        (sym (ap (λ me. me.0) c.deal_bundle-seat.ensures.kept.1))
-        (reached_picked adders_kind (opening (length c.args.self.now.adders.items)) (λ number. not (is_dealt_to c.args.bundles c.args.bundle number)) c.args.self.now.seat.me.0 c.args.self.now.reached);
+      (sym (length-picked (λ number. not (is_dealt_to c.args.bundles c.args.bundle number)) c.args.self.now.adders.items) ∙ sym (ap length c.in_ok-adders.ensures.left))
+      (sym (ap (λ me. me.0) c.deal_bundle-seat.ensures.kept.1))
+      (reached_picked adders_kind (opening (length c.args.self.now.adders.items)) (λ number. not (is_dealt_to c.args.bundles c.args.bundle number)) c.args.self.now.seat.me.0 c.args.self.now.reached);
 }
 
 pub invariant_of-result : goal.invariant_of-result
@@ -33,9 +33,9 @@ invariant_of-result c = record {
   slots = ap (λ me. me.1) c.deal_bundle-seat.ensures.dealt.1;
   reached =
       same_reached (length c.args.self.now.adders.items) (length c.in_ok-adders.adders.items) (dealt_to c.args.bundles c.args.bundle c.args.self.now.seat.me.0) c.deal_bundle-seat.result.me.0
-        (sym (length-picked (is_dealt_to c.args.bundles c.args.bundle) c.args.self.now.adders.items) ∙ sym (ap length c.in_ok-adders.ensures.dealt))
-        (sym (ap (λ me. me.0) c.deal_bundle-seat.ensures.dealt.1))
-        (reached_picked adders_kind (opening (length c.args.self.now.adders.items)) (is_dealt_to c.args.bundles c.args.bundle) c.args.self.now.seat.me.0 c.args.self.now.reached);
+      (sym (length-picked (is_dealt_to c.args.bundles c.args.bundle) c.args.self.now.adders.items) ∙ sym (ap length c.in_ok-adders.ensures.dealt))
+      (sym (ap (λ me. me.0) c.deal_bundle-seat.ensures.dealt.1))
+      (reached_picked adders_kind (opening (length c.args.self.now.adders.items)) (is_dealt_to c.args.bundles c.args.bundle) c.args.self.now.seat.me.0 c.args.self.now.reached);
 }
 
 pub returns-clause-dealt : goal.returns-clause-dealt

@@ -25,10 +25,10 @@ invariant_of-self c =
       slots = ap (λ me. me.1) c.join_bundle.ensures.1 ∙ mine.slots;
       reached =
           same_reached (length mine.adders.items) (length c.join_machines.new.machines.items) (merged mine.seat.me.0 other.seat.me.0) c.join_bundle.new.seat.me.0
-            (sym (length-merged mine.adders.items other.adders.items (c.requires.tally.1 ∙ sym c.requires.other.1)) ∙ sym (ap length c.join_machines.ensures))
-            (sym (ap (λ me. me.0) c.join_bundle.ensures.1))
-            (reached_merged adders_kind (opening (length mine.adders.items)) mine.seat.me.0 other.seat.me.0 mine.reached
-              (same_reached (length other.adders.items) (length mine.adders.items) other.seat.me.0 other.seat.me.0 (c.requires.other.1 ∙ sym c.requires.tally.1) refl other.reached));
+          (sym (length-merged mine.adders.items other.adders.items (c.requires.tally.1 ∙ sym c.requires.other.1)) ∙ sym (ap length c.join_machines.ensures))
+          (sym (ap (λ me. me.0) c.join_bundle.ensures.1))
+          (reached_merged adders_kind (opening (length mine.adders.items)) mine.seat.me.0 other.seat.me.0 mine.reached
+          (same_reached (length other.adders.items) (length mine.adders.items) other.seat.me.0 other.seat.me.0 (c.requires.other.1 ∙ sym c.requires.tally.1) refl other.reached));
     }
 
 pub returns-clause-tally : goal.returns-clause-tally

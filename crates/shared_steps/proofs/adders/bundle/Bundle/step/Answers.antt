@@ -42,8 +42,8 @@ make_step-told-requires-clause-machine c =
     let items = c.args.self.now.adders.items in
     let a = within c.args.self.now.seat.me.0 items c.args.number c.args.self.now.kept c.requires.here in
     kept_can adders_kind (opening c.args.tally.now.table.shared.key) adder_of c.args.self.now.seat.me.0 c.args.number c.wish.result c.in-Some.adder c.plan.result
-      (ap (λ v. machine_of v c.args.number) c.args.self.now.kept ∙ machine_of-index items c.args.number c.index.result.now a ∙ sym c.index.ensures ∙ c.in-Some.is)
-      (λ r is. (ap (λ x. takes_at x c.wish.result) is ∙ c.wish.ensures, ap plan_at is ∙ sym c.plan.ensures))
+    (ap (λ v. machine_of v c.args.number) c.args.self.now.kept ∙ machine_of-index items c.args.number c.index.result.now a ∙ sym c.index.ensures ∙ c.in-Some.is)
+    (λ r is. (ap (λ x. takes_at x c.wish.result) is ∙ c.wish.ensures, ap plan_at is ∙ sym c.plan.ensures))
 
 pub invariant_of-self : goal.invariant_of-self
 unfolding adders_kind
@@ -53,20 +53,20 @@ invariant_of-self c =
     record {
       kept =
           kept_step adders_kind (opening c.args.tally.now.table.shared.key) adder_of c.args.number c.wish.result c.args.self.now.seat.me c.make_step-told.new.seat.me c.make_step-told.result c.in-Some.adder c.took.result
-            c.make_step-told.ensures.took
-            (ap (λ v. machine_of v c.args.number) c.args.self.now.kept ∙ machine_of-index items c.args.number c.index.result.now a ∙ sym c.index.ensures ∙ c.in-Some.is)
-            (λ r is. ap (λ x. next_at x c.make_step-told.result) is ∙ sym c.took.ensures)
+          c.make_step-told.ensures.took
+          (ap (λ v. machine_of v c.args.number) c.args.self.now.kept ∙ machine_of-index items c.args.number c.index.result.now a ∙ sym c.index.ensures ∙ c.in-Some.is)
+          (λ r is. ap (λ x. next_at x c.make_step-told.result) is ∙ sym c.took.ensures)
           ∙ ap (λ (v : View Adder). slice_set v c.args.number (Some c.took.result)) c.args.self.now.kept;
       slots = c.make_step-told.ensures.took.slots ∙ c.args.self.now.slots;
       reached =
           same_reached (length items) (length (slice_set items c.args.number (Some c.took.result))) c.make_step-told.new.seat.me.0 c.make_step-told.new.seat.me.0 (sym (length-set items c.args.number (Some c.took.result))) refl
-            (reached_step adders_kind (opening (length items)) c.args.number c.wish.result c.args.self.now.seat.me c.make_step-told.new.seat.me c.make_step-told.result
-              (subst (λ (n : ℕ). Took adders_kind (opening n) c.args.number c.wish.result c.args.self.now.seat.me c.make_step-told.result c.make_step-told.new.seat.me) (sym c.requires.tally.1) c.make_step-told.ensures.took)
-              c.args.self.now.reached);
+          (reached_step adders_kind (opening (length items)) c.args.number c.wish.result c.args.self.now.seat.me c.make_step-told.new.seat.me c.make_step-told.result
+          (subst (λ (n : ℕ). Took adders_kind (opening n) c.args.number c.wish.result c.args.self.now.seat.me c.make_step-told.result c.make_step-told.new.seat.me) (sym c.requires.tally.1) c.make_step-told.ensures.took)
+          c.args.self.now.reached);
     }
 
 pub returns-clause-numbers : goal.returns-clause-numbers
 returns-clause-numbers c =
     let took = c.make_step-told.ensures.took in
     subst (λ (v : View Worker). SameNumbers c.args.self.now.seat.me.0 v) (sym took.view)
-      (same_step c.args.self.now.seat.me.0 c.args.number took.machine (adders_kind.took took.machine c.wish.result c.make_step-told.result) took.here)
+    (same_step c.args.self.now.seat.me.0 c.args.number took.machine (adders_kind.took took.machine c.wish.result c.make_step-told.result) took.here)

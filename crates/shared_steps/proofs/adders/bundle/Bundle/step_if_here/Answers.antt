@@ -9,4 +9,4 @@ pub returns-then-has-clause-numbers : goal.returns-then-has-clause-numbers
 returns-then-has-clause-numbers c =
     let s = c.step.ensures.step in
     subst (λ (v : View Worker). SameNumbers c.args.self.now.seat.me.0 v) (sym s.2.view)
-      (same_step c.args.self.now.seat.me.0 c.args.number s.2.machine (adders_kind.took s.2.machine s.0 s.1) s.2.here)
+    (same_step c.args.self.now.seat.me.0 c.args.number s.2.machine (adders_kind.took s.2.machine s.0 s.1) s.2.here)
