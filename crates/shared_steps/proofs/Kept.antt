@@ -5,7 +5,7 @@ use Rattle.shared_steps.specs.Views.{View, machine_of, whole, picked, merged, on
 use Rattle.std.specs.Option.{is_some}
 use Rattle.atomic_table.specs.Table.{Me}
 use Rattle.heap_words.specs.declared.access.Access.{Access}
-use Rattle.steps_base.specs.Steps.{Kind, Stage}
+use Rattle.steps_base.specs.Steps.{Kind, Stage, Finds}
 use Rattle.shared_steps.specs.Rule.{Took}
 use Rattle.shared_steps.specs.Laws.{KeptLaws, StepLaws}
 
@@ -99,5 +99,13 @@ module _ {R O T : Type 0} (kind : Kind R O) (start : Stage R) (kept : R → T) w
       let is : kept took.machine ≡ t = ap kept same ∙ m.2 in
       ap (kept_of kept) took.view ∙ kept-set kept before.0 number (Some (kind.took took.machine order told)) ∙ ap (λ (x : T). slice_set (kept_of kept before.0) number (Some x)) (goes took.machine is)
 
+  -- what a step tells of the machine that memory has
+  pub kept_finds : {S : Type 0} (number : ℕ) (order : O) (before after : Me S (View R)) (told : ℕ) (t : T) → Took kind start number order before told after → machine_of (kept_of kept before.0) number ≡ Some t
+      → (r : R) × (kept r ≡ t) × Finds kind start number r order told
+  kept_finds number order before after told t took here =
+      let m = kept_here kept before.0 number t here in
+      let same : took.machine ≡ m.0 = cc (took.here, m.1) in
+      (took.machine, ap kept same ∙ m.2, took.finds)
+
   pub step_laws : {S : Type 0} → StepLaws S kind start kept
-  step_laws = record { can = kept_can; goes = kept_step }
+  step_laws = record { can = kept_can; finds = kept_finds; goes = kept_step }

@@ -8,3 +8,4 @@ pub mod Kept
 pub mod Numbers
 pub mod Reached
 pub mod AdderViews
+pub mod Locked

@@ -39,6 +39,14 @@ next_at Looks told = Writes told
 next_at (Writes found) told = Leaves
 next_at Leaves told = Idle
 
+-- what an adder may find: at its leave the lock is its own
+abbrev pub IsFit : Adder → ℕ → Type 0
+IsFit Idle told = Unit {0}
+IsFit Asks told = Unit {0}
+IsFit Looks told = Unit {0}
+IsFit (Writes found) told = Unit {0}
+IsFit Leaves told = told ≡ 1
+
 -- how many calls end with the step
 abbrev pub ended_at : Adder → ℕ
 ended_at Idle = 0

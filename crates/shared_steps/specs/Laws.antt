@@ -66,6 +66,8 @@ pub record StepLaws {R O T : Type 0} (S : Type 0) (kind : Kind R O) (start : Sta
   pub can : (view : View R) (number : ℕ) (order : O) (t : T) (access : Access) → machine_of (kept_of kept view) number ≡ Some t
       → ((r : R) → kept r ≡ t → (kind.takes r order ≡ true) × (kind.plan r order ≡ access))
       → (r : R) × (machine_of view number ≡ Some r) × (kind.takes r order ≡ true) × (kind.plan r order ≡ access)
+  pub finds : (number : ℕ) (order : O) (before after : Me S (View R)) (told : ℕ) (t : T) → Took kind start number order before told after → machine_of (kept_of kept before.0) number ≡ Some t
+      → (r : R) × (kept r ≡ t) × Finds kind start number r order told
   pub goes : (number : ℕ) (order : O) (before after : Me S (View R)) (told : ℕ) (t next : T) → Took kind start number order before told after
       → machine_of (kept_of kept before.0) number ≡ Some t → ((r : R) → kept r ≡ t → kept (kind.took r order told) ≡ next)
       → kept_of kept after.0 ≡ slice_set (kept_of kept before.0) number (Some next)

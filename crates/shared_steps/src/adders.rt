@@ -1,7 +1,7 @@
 //! An example of a kind of machine: adders, each of which adds 1 to a total under a lock, as often as it is asked. It shows
 //! what a crate whose threads share a table gives to the functions of this one, and what it gets from them.
 ghost use Rattle.std.specs.Prelude.{◌≡◌, ℕ, true, false};
-ghost use Rattle.shared_steps.specs.Adders.{takes_at, plan_at, next_at};
+ghost use Rattle.shared_steps.specs.Adders.{takes_at, plan_at, next_at, IsFit};
 
 mod bundle;
 
@@ -73,8 +73,9 @@ impl Adder {
         }
     }
 
-    /// Where it stands after its access found this word.
+    /// Where it stands after its access found this word. At a leave the word is 1, its own lock.
     pub fn took(self, told: u64) -> Adder
+        requires { IsFit self told }
         ensures { result ≡ next_at self told }
     {
         match self {

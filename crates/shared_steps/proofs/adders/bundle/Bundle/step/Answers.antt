@@ -9,9 +9,10 @@ use Rattle.std.specs.Prelude.{slice_set}
 use Rattle.std.specs.Option.{is_some}
 use Rattle.shared_steps.specs.declared.adders.Adder.{Adder}
 use Rattle.shared_steps.specs.declared.adders.Worker.{Worker}
-use Rattle.shared_steps.specs.Adders.{adders_kind, opening, adder_of, next_at, plan_at, takes_at}
+use Rattle.shared_steps.specs.Adders.{adders_kind, opening, adder_of, next_at, plan_at, takes_at, IsFit}
 use Rattle.shared_steps.specs.Views.{View, machine_of, kept_of}
-use Rattle.shared_steps.proofs.Kept.{kept_some, kept_can, kept_step}
+use Rattle.shared_steps.proofs.Kept.{kept_some, kept_can, kept_finds, kept_step}
+use Rattle.shared_steps.proofs.Locked.{finds_fit}
 use Rattle.shared_steps.proofs.ChangeHands.{machine_of-index, here_within}
 use Rattle.shared_steps.proofs.adders.bundle.Bundle.step.Goals as goal
 
@@ -44,6 +45,17 @@ make_step-told-requires-clause-machine c =
     kept_can adders_kind (opening c.args.tally.now.table.shared.key) adder_of c.args.self.now.seat.me.0 c.args.number c.wish.result c.in-Some.adder c.plan.result
     (ap (λ v. machine_of v c.args.number) c.args.self.now.kept ∙ machine_of-index items c.args.number c.index.result.now a ∙ sym c.index.ensures ∙ c.in-Some.is)
     (λ r is. (ap (λ x. takes_at x c.wish.result) is ∙ c.wish.ensures, ap plan_at is ∙ sym c.plan.ensures))
+
+-- the word that the step found is fit, by the theorem on all runs
+pub took-requires : goal.took-requires
+took-requires c =
+    let items = c.args.self.now.adders.items in
+    let a = within c.args.self.now.seat.me.0 items c.args.number c.args.self.now.kept c.requires.here in
+    let key = c.args.tally.now.table.shared.key in
+    let f =
+    kept_finds adders_kind (opening key) adder_of c.args.number c.wish.result c.args.self.now.seat.me c.make_step-told.new.seat.me c.make_step-told.result c.in-Some.adder c.make_step-told.ensures.took
+    (ap (λ v. machine_of v c.args.number) c.args.self.now.kept ∙ machine_of-index items c.args.number c.index.result.now a ∙ sym c.index.ensures ∙ c.in-Some.is) in
+    subst (λ (x : Adder). IsFit x c.make_step-told.result) f.1 (finds_fit key c.args.number f.0 c.wish.result c.make_step-told.result f.2)
 
 pub invariant_of-self : goal.invariant_of-self
 unfolding adders_kind
