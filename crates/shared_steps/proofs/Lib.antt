@@ -1,0 +1,11 @@
+pub mod Shown
+pub mod Dealt
+pub mod Closing
+pub mod Rules
+pub mod Dealing
+pub mod ChangeHands
+pub mod Kept
+pub mod Numbers
+pub mod Reached
+pub mod AdderViews
+pub mod Locked

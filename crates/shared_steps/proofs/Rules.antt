@@ -1,0 +1,153 @@
+-- The rule holds at the opening, and each move keeps it.
+use Rattle.std.proofs.Common.{◌≡◌, ℕ, Bool, true, List, [], ◌∷◌, ◌++◌, length, Option, Some, refl, sym, ap, ◌∙◌, subst, ◌<◌}
+use Rattle.std.specs.Prelude.{slice_get, slice_set, slice_index}
+use mathlib.Core.Option.{some}
+use lib.ListN.{get_elem?}
+use Rattle.heap_words.specs.declared.access.Access.{Access}
+use Rattle.heap_words.specs.Access.{place_of, made_of}
+use Rattle.atomic_table.specs.Table.{State, Me, keeps, Allows, Splits, Joins, Final, Seen, opening}
+use Rattle.steps_base.specs.Steps.{Kind, Stage, Event, go, moved, IsEvent, IsReached, HasReached, Finds}
+use Rattle.steps_base.proofs.Runs.{go-none, go-step, has_start}
+use Rattle.steps_base.proofs.Laws.{act-event, has_next}
+use Rattle.shared_steps.specs.Views.{View, machine_of, whole, machines_of, picked, left_over, merged, IsWhole}
+use Rattle.shared_steps.specs.Rule.{IsDealt, IsKept, Rule, Took, TookAs}
+use Rattle.shared_steps.specs.Laws.{TableLaws}
+use Rattle.shared_steps.proofs.Shown.{machine_of-whole}
+use Rattle.shared_steps.proofs.Dealt.{dealt_first, machine-is, dealt_step, dealt_split, dealt_join}
+use Rattle.shared_steps.proofs.Closing.{length-go, whole_has_all}
+
+module _ {R O : Type 0} (kind : Kind R O) (start : Stage R) where
+  pub begins : (number : ℕ) (r : R) → machine_of (whole start.machines) number ≡ Some r → HasReached kind start number r
+  begins number r here = has_start kind start number r (sym (machine_of-whole start.machines number) ∙ here)
+
+module _ {R O : Type 0} (kind : Kind R O) (start : Stage R) {S : Type 0} where
+  pub opens : (slots : List S) → Rule kind start (opening start.words slots (whole start.machines))
+  opens slots = record {
+    events = [];
+    words_are = ap (λ x. x.words) (sym (go-none kind start));
+    dealt = subst (λ (x : Stage R). IsDealt x.machines (whole start.machines ∷ [])) (sym (go-none kind start)) (dealt_first start.machines);
+  }
+
+  names : (from : Stage R) (named : ℕ) (given : Option O) (number : ℕ) (order : O) (before : Me S (View R)) (told : ℕ) (after : Me S (View R))
+      → from ≡ start → named ≡ number → given ≡ Some order → Took kind start number order before told after → TookAs kind from named given before told after
+  names from named given number order before told after same_start same_number same_order took o is =
+      let same : order ≡ o = cc (same_order, is) in
+      let a : Took kind start number o before told after = subst (λ (p : O). Took kind start number p before told after) same took in
+      let b : Took kind start named o before told after = subst (λ (n : ℕ). Took kind start n o before told after) (sym same_number) a in
+      subst (λ (x : Stage R). Took kind x named o before told after) (sym same_start) b
+
+  module _ (id number : ℕ) (me : Me S (View R)) (r : R) (order : O) (here : machine_of me.0 number ≡ Some r) (takes : kind.takes r order ≡ true) where
+    -- the words and views after the step are those after one more event
+    planned_move : (s : State S (View R)) (kept : Rule kind start s) → get_elem? s.views id ≡ some me.0
+        → let found : ℕ = slice_index s.words (place_of (kind.plan r order)) in
+        let view : View R = slice_set me.0 number (Some (kind.took r order found)) in
+        IsKept kind start (slice_set s.words (place_of (kind.plan r order)) (made_of (kind.plan r order) found)) (slice_set s.views id view)
+        × Took kind start number order me found (view, me.1)
+    planned_move s kept at =
+        let x : Stage R = go kind start kept.events in
+        let e : Event O = record { number = number; order = order } in
+        let there : slice_get x.machines number ≡ Some r = machine-is x.machines s.views kept.dealt id me.0 at number r here in
+        let is : IsEvent kind x e r = record { here = there; takes = takes } in
+        let same : slice_index s.words (place_of (kind.plan r order)) ≡ slice_index x.words (place_of (kind.plan r order)) = ap (λ ws. slice_index ws (place_of (kind.plan r order))) kept.words_are in
+        let after : go kind start (kept.events ++ e ∷ []) ≡ moved kind x number r order = go-step kind start kept.events e ∙ act-event kind x e r is in
+        let next : R = kind.took r order (slice_index s.words (place_of (kind.plan r order))) in (
+          record {
+            events = kept.events ++ e ∷ [];
+            words_are =
+                ap (λ ws. slice_set ws (place_of (kind.plan r order)) (made_of (kind.plan r order) (slice_index ws (place_of (kind.plan r order))))) kept.words_are
+                ∙ ap (λ y. y.words) (sym after);
+            dealt =
+                subst (λ (rs : List R). IsDealt rs (slice_set s.views id (slice_set me.0 number (Some next))))
+                (ap (λ n. slice_set x.machines number (kind.took r order n)) same ∙ ap (λ y. y.machines) (sym after))
+                (dealt_step x.machines s.views kept.dealt id me.0 at number r here next);
+          },
+          record {
+            machine = r;
+            here = here;
+            finds = record {
+              stage = x;
+              reached = record { events = kept.events; ends = refl };
+              here = there;
+              takes = takes;
+              found = same;
+            };
+            view = refl;
+            slots = refl;
+          },
+        )
+
+    -- the step of a machine of the seat, whose access is this one
+    pub moves : (slots : ℕ) (access : Access) → kind.plan r order ≡ access
+        → Allows (Rule kind start) slots id me (place_of access) (made_of access) (λ found. Took kind start number order me found)
+    moves slots access planned =
+        subst (λ (a : Access). Allows (Rule kind start) slots id me (place_of a) (made_of a) (λ found. Took kind start number order me found)) planned
+        (λ s kept homes at small. let m = planned_move s kept at in (_, keeps, tt, m.0, m.1))
+
+    -- the same with the machine and the order as a step of the table names them
+    pub asks : (slots : ℕ) (from : Stage R) (named : ℕ) (given : Option O) → from ≡ start → named ≡ number → given ≡ Some order
+        → (access : Access) → kind.plan r order ≡ access
+        → Allows (Rule kind start) slots id me (place_of access) (made_of access) (TookAs kind from named given me)
+    asks slots from named given same_start same_number same_order access planned s kept homes at small =
+        let m = moves slots access planned s kept homes at small in
+        (m.0, m.1, m.2, m.3, names from named given number order me _ _ same_start same_number same_order m.4)
+
+  -- what a step of the table asks, where the access has this form
+  pub can_step : (id number : ℕ) (me : Me S (View R)) (order : O) (slots words : ℕ) (from : Stage R) (named : ℕ) (given : Option O) (access form : Access)
+      → (from ≡ start) × (named ≡ number) × (given ≡ Some order)
+      → (r : R) × (machine_of me.0 number ≡ Some r) × (kind.takes r order ≡ true) × (kind.plan r order ≡ access)
+      → place_of access < words → access ≡ form
+      → (place_of form < words) × Allows (Rule kind start) slots id me (place_of form) (made_of form) (TookAs kind from named given me)
+  can_step id number me order slots words from named given access form turn m inside is = (
+    subst (λ (a : Access). place_of a < words) is inside,
+    asks id number me m.0 order m.1 m.2 slots from named given turn.0 turn.1 turn.2 form (m.3 ∙ is),
+  )
+
+  -- what a step of the table tells
+  pub step_told : (number : ℕ) (before : Me S (View R)) (order : O) (from : Stage R) (named : ℕ) (given : Option O) (told : ℕ) (after : Me S (View R))
+      → (from ≡ start) × (named ≡ number) × (given ≡ Some order) → TookAs kind from named given before told after → Took kind start number order before told after
+  step_told number before order from named given told after turn told_as =
+      let a : Took kind from named order before told after = told_as order turn.2 in
+      let b : Took kind from number order before told after = subst (λ (n : ℕ). Took kind from n order before told after) turn.1 a in
+      subst (λ (x : Stage R). Took kind x number order before told after) turn.0 b
+
+  pub splits : (id : ℕ) (view : View R) (test : ℕ → Bool) → Splits (Rule kind start {S = S}) id view (left_over test view) (picked test view)
+  splits id view test s kept at = record {
+    events = kept.events;
+    words_are = kept.words_are;
+    dealt = dealt_split (go kind start kept.events).machines s.views kept.dealt id view at test;
+  }
+
+  pub joins : (id other : ℕ) (view more : View R) → Joins (Rule kind start {S = S}) id view other more (merged view more) []
+  joins id other view more s kept at apart there = record {
+    events = kept.events;
+    words_are = kept.words_are;
+    dealt = dealt_join (go kind start kept.events).machines s.views kept.dealt id view at other more apart there;
+  }
+
+  pub closes : (id : ℕ) (view : View R) (words : List ℕ) (slots : List S) → IsWhole (length start.machines) view
+      → Final (Seen (Rule kind start) id view) words slots → IsReached kind start (record { words = words; machines = machines_of view })
+  closes id view words slots all final =
+      let kept : Rule kind start final.0 = final.1.0 in
+      let x : Stage R = go kind start kept.events in
+      let long : length x.machines ≡ length start.machines = length-go kind start kept.events in
+      let same : machines_of view ≡ x.machines = whole_has_all x.machines final.0.views kept.dealt id view final.1.1 (subst (λ (n : ℕ). IsWhole n view) (sym long) all) in
+      record { events = kept.events; ends = λ i. record { words = (sym kept.words_are ∙ final.2) i; machines = sym same i } }
+
+  -- what a step tells of a machine that one knows
+  pub tells : (number : ℕ) (order : O) (before after : Me S (View R)) (told : ℕ) (r : R) → Took kind start number order before told after → machine_of before.0 number ≡ Some r
+      → Finds kind start number r order told × HasReached kind start number (kind.took r order told) × (after.0 ≡ slice_set before.0 number (Some (kind.took r order told)))
+  tells number order before after told r took here =
+      let same : took.machine ≡ r = cc (took.here, here) in
+      let finds : Finds kind start number r order told = subst (λ (m : R). Finds kind start number m order told) same took.finds in
+      (finds, has_next kind start number r order told finds, took.view ∙ ap (λ m. slice_set before.0 number (Some (kind.took m order told))) same)
+
+  pub laws : TableLaws S kind start
+  laws = record {
+    opens = opens;
+    moves = moves;
+    splits = splits;
+    joins = joins;
+    closes = closes;
+    tells = tells;
+    begins = begins kind start;
+  }

@@ -1,0 +1,18 @@
+use Rattle.std.proofs.Common.{◌≡◌, ◌∙◌, ◌<◌, ap, sym, subst, length, ℕ}
+use Rattle.std.specs.Option.{is_some}
+use Rattle.shared_steps.specs.Views.{machine_of}
+use Rattle.shared_steps.specs.Adders.{adder_of}
+use Rattle.shared_steps.proofs.Kept.{kept_some, length-kept}
+use Rattle.shared_steps.proofs.Numbers.{all_here}
+use Rattle.shared_steps.proofs.adders.bundle.Bundle.has_all.Goals as goal
+
+pub returns : goal.returns
+returns c = λ yes.
+    let view = c.args.self.now.seat.me.0 in
+    let items = c.args.self.now.adders.items in
+    let long : length view ≡ length items = sym (length-kept adder_of view) ∙ ap length c.args.self.now.kept in
+    record {
+      all = all_here view (λ k within.
+          sym (kept_some adder_of view k) ∙ ap (λ v. is_some (machine_of v k)) c.args.self.now.kept ∙ c.all_there.ensures.all yes k (subst (λ (n : ℕ). k < n) long within));
+      counts = long;
+    }

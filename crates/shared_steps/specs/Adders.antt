@@ -1,0 +1,81 @@
+-- Machines that add to a total under a lock: word 0 is the lock, 1 while one has it, and word 1 the total.
+use Rattle.std.specs.Prelude.{ℕ, ◌≡◌, ◌+◌, ◌%◌, ◌^◌, ◌==◌, Bool, true, false, List, [], ◌∷◌, replicate, if◌then◌else◌}
+use Rattle.heap_words.specs.declared.access.Access.{Access}
+use Rattle.heap_words.specs.declared.access.Access.TheVariants.{Load, Store, Sub, Exchange}
+use Rattle.shared_steps.specs.declared.adders.Adder.{Adder}
+use Rattle.shared_steps.specs.declared.adders.Adder.TheVariants.{Idle, Asks, Looks, Writes, Leaves}
+use Rattle.shared_steps.specs.declared.adders.Wish.{Wish}
+use Rattle.shared_steps.specs.declared.adders.Wish.TheVariants.{Begin, GoOn}
+use Rattle.shared_steps.specs.declared.adders.Worker.{Worker}
+use Rattle.steps_base.specs.Steps.{Kind, Stage, IsReached}
+use Rattle.shared_steps.specs.Views.{View, whole, kept_of}
+
+-- an adder that is idle begins, and one that is not goes on
+abbrev pub takes_at : Adder → Wish → Bool
+takes_at Idle Begin = true
+takes_at Idle GoOn = false
+takes_at Asks Begin = false
+takes_at Looks Begin = false
+takes_at (Writes found) Begin = false
+takes_at Leaves Begin = false
+takes_at Asks GoOn = true
+takes_at Looks GoOn = true
+takes_at (Writes found) GoOn = true
+takes_at Leaves GoOn = true
+
+-- the access of its next step
+abbrev pub plan_at : Adder → Access
+plan_at Idle = Exchange 0 0 1
+plan_at Asks = Exchange 0 0 1
+plan_at Looks = Load 1
+plan_at (Writes found) = Store 1 ((found + 1) % 2 ^ 64)
+plan_at Leaves = Sub 0 1
+
+-- where it stands after it was told a word
+abbrev pub next_at : Adder → ℕ → Adder
+next_at Idle told = if told == 0 then Looks else Asks
+next_at Asks told = if told == 0 then Looks else Asks
+next_at Looks told = Writes told
+next_at (Writes found) told = Leaves
+next_at Leaves told = Idle
+
+-- what an adder may find: at its leave the lock is its own
+abbrev pub IsFit : Adder → ℕ → Type 0
+IsFit Idle told = Unit {0}
+IsFit Asks told = Unit {0}
+IsFit Looks told = Unit {0}
+IsFit (Writes found) told = Unit {0}
+IsFit Leaves told = told ≡ 1
+
+-- how many calls end with the step
+abbrev pub ended_at : Adder → ℕ
+ended_at Idle = 0
+ended_at Asks = 0
+ended_at Looks = 0
+ended_at (Writes found) = 0
+ended_at Leaves = 1
+
+-- the adder, with the calls that it has ended
+abbrev pub worker : Adder → ℕ → Worker
+worker adder calls = record { adder = adder; calls = calls }
+
+abbrev pub adder_of : Worker → Adder
+adder_of w = w.adder
+
+-- the kind of machine
+unfoldable pub adders_kind : Kind Worker Wish
+adders_kind = record {
+  takes = λ w wish. takes_at w.adder wish;
+  plan = λ w wish. plan_at w.adder;
+  took = λ w wish told. worker (next_at w.adder told) (w.calls + ended_at w.adder);
+}
+
+-- so many adders, all idle, and nothing added
+unfoldable pub opening : ℕ → Stage Worker
+opening count = record { words = 0 ∷ 0 ∷ []; machines = replicate count (worker Idle 0) }
+
+-- some list of steps of so many adders ends in this lock, this total and these adders
+pub record IsEnd (count lock total : ℕ) (left : View Adder) : Type 0 where
+  pub workers : List Worker
+  pub reached : IsReached adders_kind (opening count) (record { words = lock ∷ total ∷ []; machines = workers })
+  pub adders_are : kept_of adder_of (whole workers) ≡ left

@@ -1,0 +1,36 @@
+ghost use Rattle.std.specs.Prelude.{◌≡◌, ◌<◌, true, Some};
+ghost use Rattle.heap_words.specs.Access.{place_of};
+ghost use Rattle.shared_steps.specs.Views.{machine_of};
+ghost use Rattle.shared_steps.specs.Rule.{Took};
+
+use crate::machines::{Machines, SharedWords, Turn, Turns, ViewSeat};
+use heap_words::Access;
+
+/// Makes the access of a machine's next step, and returns the word that it found.
+pub fn make_step<R, O, K, M: Machines<R, O, K>, G: Turn<R, O>>(
+    table: &SharedWords<R, O, K, M>,
+    seat: &mut ViewSeat<R>,
+    number: usize,
+    order: &O,
+    access: Access,
+) -> u64
+    requires table { seat.old.table_id ≡ table.now.table_id }
+    requires inside { place_of access < table.now.table_id.words }
+    requires turn { (G.start ≡ M.opening table.now.key) × (G.number ≡ number) × (G.order ≡ Some order.now) }
+    requires machine { (machine : R) × (machine_of seat.old.me.0 number ≡ Some machine) × (M.kind.takes machine order.now ≡ true) × (M.kind.plan machine order.now ≡ access) }
+    ensures table { (seat.new.table_id ≡ seat.old.table_id) × (seat.new.id ≡ seat.old.id) }
+    ensures took { Took M.kind (M.opening table.now.key) number order.now seat.old.me result seat.new.me }
+{
+    match access {
+        Access::Load { at } => table.load::<Turns<R, O, K, M, G>>(seat, at),
+        Access::Store { at, value } => table.swap::<Turns<R, O, K, M, G>>(seat, at, value),
+        Access::Swap { at, value } => table.swap::<Turns<R, O, K, M, G>>(seat, at, value),
+        Access::Add { at, value } => table.fetch_add::<Turns<R, O, K, M, G>>(seat, at, value),
+        Access::Sub { at, value } => table.fetch_sub::<Turns<R, O, K, M, G>>(seat, at, value),
+        Access::And { at, value } => table.fetch_and::<Turns<R, O, K, M, G>>(seat, at, value),
+        Access::Or { at, value } => table.fetch_or::<Turns<R, O, K, M, G>>(seat, at, value),
+        Access::Exchange { at, expect, value } => {
+            table.compare_exchange::<Turns<R, O, K, M, G>>(seat, at, expect, value)
+        }
+    }
+}
