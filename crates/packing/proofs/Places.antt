@@ -139,3 +139,13 @@ module _ (w : ℕ) (kept : ℕ → ℕ) (lie : LieApart w kept) where
     within = λ a some. stays_within a;
     apart = λ a b some below. stays_apart a b below;
   }
+
+-- where nothing is kept nothing is placed
+pub end_of_none : (w : ℕ) (kept : ℕ → ℕ) (e : ℕ) → 0 < w → ((a : ℕ) → a < e → kept a ≡ 0) → end_before w kept e ≡ w
+unfolding end_before
+end_of_none w kept zero some none = refl
+end_of_none w kept (suc a) some none =
+    let before = end_of_none w kept a some (λ b below. none b (omega (arith, below))) in
+    let here = none a (omega arith) in
+    let same = end_same w kept a some here in
+    omega (arith, end_next w kept a, same, before, here)

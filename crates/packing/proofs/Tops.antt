@@ -225,3 +225,7 @@ module _ (w : ℕ) (kept : ℕ → ℕ) (lie : LieApart w kept) where
     within = top_within;
     sum = tops_are_words regions inside;
   }
+
+-- where nothing is kept each top is 0
+pub top_of_none : (w : ℕ) (kept : ℕ → ℕ) (r e : ℕ) → ((a : ℕ) → a < e → kept a ≡ 0) → top_before w kept r e ≡ 0
+top_of_none w kept r e none = sum_of_none (words_in w kept r) e (λ a below. added_none w kept r a (none a below))

@@ -1,0 +1,4 @@
+pub mod Flags
+pub mod Assigned
+pub mod Slid
+pub mod Moved
