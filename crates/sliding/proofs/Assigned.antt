@@ -1,12 +1,12 @@
 -- One address more of the sweep that assigns the places.
-use Rattle.std.proofs.Common.{◌≡◌, ◌≢◌, ℕ, ◌+◌, ◌-◌, ◌*◌, ◌/◌, ◌^◌, ◌<◌, ◌≤◌, Bool, true, false, List, length, get_or, set, suc, refl, sym, ap, ◌∙◌, subst, ⊎_elim, arith}
+use Rattle.std.proofs.Common.{◌≡◌, ◌≢◌, ℕ, ◌+◌, ◌-◌, ◌*◌, ◌/◌, ◌^◌, ◌<◌, ◌≤◌, Bool, true, false, List, length, get_or, set, suc, sym, ap, ◌∙◌, ⊎_elim, arith}
 use Rattle.std.proofs.lemmas.Bool.{cases_eq}
 use Rattle.std.proofs.lemmas.List.{get_or-set_same, get_or-set_other, length-set}
 use Rattle.std.proofs.Math.Nat.{div-le_self}
 use Rattle.heap_words.specs.Encoding.{object_words}
 use Rattle.packing.specs.Places.{place_behind, end_before, new_place}
 use Rattle.packing.specs.Tops.{words_in, top_before}
-use Rattle.packing.proofs.Places.{end_next, end_same, end_at_object, kept_short, moves_down, stays_above, stays_within}
+use Rattle.packing.proofs.Places.{end_next, end_same, end_at_object, moves_down, stays_above, stays_within}
 use Rattle.packing.proofs.Sums.{sum_next}
 use Rattle.packing.proofs.Tops.{in_region, top_is_offset, place_in_range, added_here, added_elsewhere, added_none}
 use Rattle.sliding.specs.Table.{kept_of, word_of, IsMarkedHeap}

@@ -2,3 +2,4 @@ pub mod Flags
 pub mod Assigned
 pub mod Slid
 pub mod Moved
+pub mod Checked

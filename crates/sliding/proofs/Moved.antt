@@ -1,9 +1,9 @@
 -- The sweep over slices that slides the objects: one address more.
-use Rattle.std.proofs.Common.{◌≡◌, ◌≢◌, ℕ, ◌+◌, ◌-◌, ◌<◌, ◌≤◌, ◌⊎◌, Bool, true, false, List, length, get_or, suc, refl, sym, ap, ◌∙◌, subst, ⊎_elim, arith}
+use Rattle.std.proofs.Common.{◌≡◌, ℕ, ◌+◌, ◌-◌, ◌<◌, ◌≤◌, Bool, true, false, List, length, get_or, suc, sym, ap, ◌∙◌, subst, ⊎_elim, arith}
 use Rattle.heap_words.specs.Encoding.{refs_in, object_words}
 use Rattle.packing.specs.Places.{new_place}
 use Rattle.packing.proofs.Places.{moves_down, stays_above}
-use Rattle.sliding.specs.Slide.{slid_word, IsSlidTo}
+use Rattle.sliding.specs.Slide.{IsSlidTo}
 use Rattle.sliding.specs.Table.{kept_of, word_of, from_table, IsMarkedHeap, HavePlaces, IsInTable, AreInTable, IsMovedTo}
 use Rattle.sliding.proofs.Flags.{kept_marked, kept_unmarked}
 use Rattle.sliding.proofs.Slid.{slid_word-same, intact, slid_more, slid_same}

@@ -1,6 +1,6 @@
 -- The heap after sliding: what one object more changes, and that there is exactly one such heap.
 use Rattle.std.proofs.Common.{◌≡◌, ◌≢◌, ℕ, ◌+◌, ◌-◌, ◌<◌, ◌≤◌, ◌⊎◌, ◌&&◌, ◌==◌, inl, inr, nat_le, nat_lt, true, false, zero, suc, cond, ⊎_elim, refl, sym, ap, ◌∙◌, subst, arith}
-use Rattle.std.proofs.lemmas.Bool.{cond-true, cond-false, cases_eq, cases_lt, cases_Bool, and_from, and_parts, and_cases, le-leb, lt-leb, lt-ltb, le-ltb, leb-true, ltb-true, leb-false, ltb-false}
+use Rattle.std.proofs.lemmas.Bool.{cond-true, cond-false, cases_eq, cases_Bool, and_from, and_parts, and_cases, le-leb, lt-ltb, leb-true, ltb-true, leb-false, ltb-false}
 use Rattle.heap_words.specs.Encoding.{refs_in, plain_header}
 use Rattle.packing.specs.Places.{new_place, LieApart}
 use Rattle.packing.proofs.Places.{moves_down, stays_apart, stays_above}
@@ -29,10 +29,13 @@ covered_here w kept a x = ⊎_elim
     (λ (yes : is_covered w kept a x ≡ true).
     let parts = and_parts (nat_le (new_place w kept a) x) (nat_lt x (new_place w kept a + kept a)) yes in
     inl (yes, leb-true (new_place w kept a) x parts.0, ltb-true x (new_place w kept a + kept a) parts.1))
-    (λ (no : is_covered w kept a x ≡ false). inr (no, ⊎_elim
-    (λ (low : nat_le (new_place w kept a) x ≡ false). inl (leb-false (new_place w kept a) x low))
-    (λ (high : nat_lt x (new_place w kept a + kept a) ≡ false). inr (ltb-false x (new_place w kept a + kept a) high))
-    (and_cases (nat_le (new_place w kept a) x) (nat_lt x (new_place w kept a + kept a)) no)))
+    (λ (no : is_covered w kept a x ≡ false). inr (
+      no,
+      ⊎_elim
+          (λ (low : nat_le (new_place w kept a) x ≡ false). inl (leb-false (new_place w kept a) x low))
+          (λ (high : nat_lt x (new_place w kept a + kept a) ≡ false). inr (ltb-false x (new_place w kept a + kept a) high))
+          (and_cases (nat_le (new_place w kept a) x) (nat_lt x (new_place w kept a + kept a)) no),
+    ))
     (cases_Bool (is_covered w kept a x))
 
 -- An address is a word of a new place of an object that begins below an end, or of none.
@@ -141,18 +144,18 @@ module _ (w : ℕ) (kept renew before : ℕ → ℕ) (lie : LieApart w kept) whe
     moved = λ a i below inside. slid_to.moved a i below inside ∙ same_word a i (omega (arith, inside));
     others = slid_to.others;
   }
-      where
-        same_word : (a i : ℕ) → 0 < kept a → slid_word renew before a i ≡ slid_word other before a i
-        same_word a i some = ap (λ word. cond (i == 0) plain_header word) (⊎_elim
-            (λ (yes : (nat_le 3 i && nat_lt i (3 + refs_in (before (a + 1)))) ≡ true).
-            let parts = and_parts (nat_le 3 i) (nat_lt i (3 + refs_in (before (a + 1)))) yes in
-            let three = leb-true 3 i parts.0 in
-            let few = ltb-true i (3 + refs_in (before (a + 1))) parts.1 in
-            let index : a + (3 + (i - 3)) ≡ a + i = omega (arith, three) in
-            cond-true (nat_le 3 i && nat_lt i (3 + refs_in (before (a + 1)))) (renew (before (a + i))) (before (a + i)) yes
-            ∙ subst (λ k. renew (before k) ≡ other (before k)) index (alike a (i - 3) some (omega (arith, three, few)))
-            ∙ sym (cond-true (nat_le 3 i && nat_lt i (3 + refs_in (before (a + 1)))) (other (before (a + i))) (before (a + i)) yes))
-            (λ (no : (nat_le 3 i && nat_lt i (3 + refs_in (before (a + 1)))) ≡ false).
-            cond-false (nat_le 3 i && nat_lt i (3 + refs_in (before (a + 1)))) (renew (before (a + i))) (before (a + i)) no
-            ∙ sym (cond-false (nat_le 3 i && nat_lt i (3 + refs_in (before (a + 1)))) (other (before (a + i))) (before (a + i)) no))
-            (cases_Bool (nat_le 3 i && nat_lt i (3 + refs_in (before (a + 1))))))
+    where
+      same_word : (a i : ℕ) → 0 < kept a → slid_word renew before a i ≡ slid_word other before a i
+      same_word a i some = ap (λ word. cond (i == 0) plain_header word) (⊎_elim
+          (λ (yes : (nat_le 3 i && nat_lt i (3 + refs_in (before (a + 1)))) ≡ true).
+          let parts = and_parts (nat_le 3 i) (nat_lt i (3 + refs_in (before (a + 1)))) yes in
+          let three = leb-true 3 i parts.0 in
+          let few = ltb-true i (3 + refs_in (before (a + 1))) parts.1 in
+          let index : a + (3 + (i - 3)) ≡ a + i = omega (arith, three) in
+          cond-true (nat_le 3 i && nat_lt i (3 + refs_in (before (a + 1)))) (renew (before (a + i))) (before (a + i)) yes
+          ∙ subst (λ k. renew (before k) ≡ other (before k)) index (alike a (i - 3) some (omega (arith, three, few)))
+          ∙ sym (cond-true (nat_le 3 i && nat_lt i (3 + refs_in (before (a + 1)))) (other (before (a + i))) (before (a + i)) yes))
+          (λ (no : (nat_le 3 i && nat_lt i (3 + refs_in (before (a + 1)))) ≡ false).
+          cond-false (nat_le 3 i && nat_lt i (3 + refs_in (before (a + 1)))) (renew (before (a + i))) (before (a + i)) no
+          ∙ sym (cond-false (nat_le 3 i && nat_lt i (3 + refs_in (before (a + 1)))) (other (before (a + i))) (before (a + i)) no))
+          (cases_Bool (nat_le 3 i && nat_lt i (3 + refs_in (before (a + 1))))))

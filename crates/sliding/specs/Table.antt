@@ -1,5 +1,5 @@
 -- Slices as a heap: a word, a flag and a new place for each address from `first` on, which is the words of a region too.
-use Rattle.std.specs.Prelude.{ℕ, ◌≡◌, ◌≢◌, ◌+◌, ◌-◌, ◌*◌, ◌^◌, ◌<◌, ◌≤◌, ◌==◌, ◌&&◌, nat_le, nat_lt, if◌then◌else◌, Bool, false, List, length, slice_index, slice_index_or}
+use Rattle.std.specs.Prelude.{ℕ, ◌≡◌, ◌≢◌, ◌+◌, ◌-◌, ◌^◌, ◌<◌, ◌≤◌, ◌==◌, ◌&&◌, nat_le, nat_lt, if◌then◌else◌, Bool, false, List, length, slice_index, slice_index_or}
 use Rattle.heap_words.specs.Encoding.{refs_in, object_words, is_forwarded, forwardee_in}
 use Rattle.packing.specs.Places.{LieApart, new_place}
 use Rattle.sliding.specs.Slide.{slid_word}
@@ -46,7 +46,7 @@ pub record IsMovedTo (renew : ℕ → ℕ) (from to : ℕ) (before after : List 
 abbrev pub current_index : (first : ℕ) (heap : List ℕ) → ℕ → ℕ
 current_index first heap k =
     if is_forwarded (slice_index heap k) && (nat_le first (forwardee_in (slice_index heap k)) && nat_lt (forwardee_in (slice_index heap k)) (first + length heap))
-        then forwardee_in (slice_index heap k) - first else k
+    then forwardee_in (slice_index heap k) - first else k
 
 -- what begins at an index is its own current copy
 abbrev pub IsCurrent : (first : ℕ) (heap : List ℕ) → ℕ → Type 0

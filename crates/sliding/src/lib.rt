@@ -12,9 +12,9 @@ mod copies;
 mod moves;
 mod places;
 
-pub use places::{assign, place_behind};
 pub use copies::follow;
 pub use moves::{renew, slide, slides_to_one_heap};
+pub use places::{assign, place_behind};
 
 #[cfg(test)]
 mod tests;

@@ -1,8 +1,6 @@
-use Rattle.std.proofs.Common.{arith, ◌≡◌, ℕ, ◌+◌, ◌<◌, length, get_or, sym, ap, ◌∙◌, subst, refl}
+use Rattle.std.proofs.Common.{◌+◌, length, sym, ap, ◌∙◌, subst}
 use Rattle.sliding.specs.Slide.{IsSlidTo}
 use Rattle.sliding.specs.Table.{kept_of, word_of, from_table}
-use Rattle.sliding.proofs.Flags.{kept_below}
-use Rattle.sliding.proofs.Slid.{slid_start}
 use Rattle.sliding.proofs.Moved.{entry_low, entry_down, entry_inside, entry_table, slid_at, slid_past}
 use Rattle.sliding.proofs.moves.slide.Goals as goal
 use Rattle.sliding.proofs.moves.slide.Goals.{then-marked, else-marked}

@@ -1,4 +1,4 @@
-use Rattle.std.proofs.Common.{rules, arith, ◌≡◌, ◌≢◌, ℕ, ◌+◌, ◌-◌, ◌/◌, ◌<◌, length, get_or, set, sym, ap, ◌∙◌, subst, refl}
+use Rattle.std.proofs.Common.{rules, arith, ◌≡◌, ℕ, ◌+◌, ◌-◌, ◌/◌, ◌<◌, length, get_or, sym, ap, ◌∙◌, subst, refl}
 use Rattle.std.proofs.lemmas.List.{length-set, get_or-replicate}
 use Rattle.packing.specs.Places.{new_place}
 use Rattle.packing.specs.Tops.{top_before}
@@ -77,7 +77,7 @@ loop-index-preserved c =
     elim c.if-marked.branch [
       | then-marked w ↦
           (let is = is_placed c.args.region_words c.args.heap.now c.args.marks.now (length c.args.tops.now) c.requires.marked c.requires.regions c.loop-index.index c.loop-index.end
-    w.words_of-words.result w.place_behind-place.result w.if-marked.true c.loop-index.invariant.end w.words_of-words.ensures w.place_behind-place.ensures in
+          w.words_of-words.result w.place_behind-place.result w.if-marked.true c.loop-index.invariant.end w.words_of-words.ensures w.place_behind-place.ensures in
           let place = w.place_behind-place.result in
           let size = w.words_of-words.result in
           record {
