@@ -9,8 +9,8 @@ use Rattle.std.proofs.lemmas.Nat.Bits.{bit_at_above, bit_at_clear_same, bit_at_c
 use Rattle.heap_words.specs.declared.config.Config.{Config}
 use Rattle.regions.specs.Sets.{IsIn, members_below, lowest_in, all_but}
 use Rattle.regions.proofs.SetLemmas.{lowest_member, no_members}
-use Rattle.step_core.specs.World.{IsFreeWord, AreCurrent}
-use Rattle.step_core.proofs.Updates.{updated, updated_else}
+use Rattle.heap_world.specs.World.{IsFreeWord, AreCurrent}
+use Rattle.heap_world.proofs.Updates.{updated, updated_else}
 
 -- the lowest region of a free word that has members is one of the heap
 pub lowest_within : (c : Config) (free kept : ℕ) → free < 2 ^ c.regions → kept < members_below free 64 → lowest_in free < c.regions

@@ -5,9 +5,9 @@ use Rattle.std.proofs.lemmas.Option.{same_Some}
 use Rattle.heap_words.specs.declared.config.Config.{Config}
 use Rattle.heap_words.specs.Words.{Top, Current}
 use Rattle.regions.specs.Place.{base_of, IsOf}
-use Rattle.step_core.specs.World.{World, Block, hand, words_of, Shared}
-use Rattle.step_core.specs.Regions.{AreSharedOut}
-use Rattle.step_core.proofs.Pieces.{behind, three_words, beside}
+use Rattle.heap_world.specs.World.{World, Block, hand, words_of, Shared}
+use Rattle.heap_world.specs.Regions.{AreSharedOut}
+use Rattle.heap_world.proofs.Pieces.{behind, three_words, beside}
 
 module _ (c : Config) (w : World) (shared : Shared c w) where
   -- no two seats have one current region

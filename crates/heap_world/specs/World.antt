@@ -2,6 +2,7 @@
 use Rattle.std.specs.Prelude.{ℕ, ◌≡◌, ◌+◌, ◌<◌, ◌≤◌, ◌^◌, length, Option, Some, None, slice_get}
 use Rattle.heap_words.specs.declared.config.Config.{Config}
 use Rattle.heap_words.specs.Words.{Word, Phase, Cset, Free, Evac, Top, Current, Wait, Answer, Heap}
+use Rattle.heap_words.specs.Ranges.{seat_count}
 use Rattle.heap_words.specs.Encoding.{plain_header, shape_word, name_code}
 use Rattle.regions.specs.Place.{base_of}
 use Rattle.regions.specs.Sets.{IsIn}
@@ -40,9 +41,9 @@ abbrev pub Points : Plot → ℕ → Reference → Type 0
 Points block word None = word ≡ 0
 Points block word (Some name) = name_at (block word) ≡ Some name
 
--- the object's current copy is at the address
-abbrev pub Target : Plot → ℕ → Name → ℕ → ℕ → Type 0
-Target block address name refs nums = block address ≡ Some (thing name refs nums)
+-- the object's current copy, with so many references and numbers, is at the address
+pub record Target (w : World) (address refs nums : ℕ) (name : Name) : Type 0 where
+  pub piece : w.block address ≡ Some (thing name refs nums)
 
 -- so many words from an address on lie in the part of a region that is in use
 pub record IsInUse (c : Config) (top : ℕ → ℕ) (address words : ℕ) : Type 0 where
@@ -82,12 +83,10 @@ pub record IsGiven (c : Config) (count : ℕ → ℕ) (name : Name) : Type 0 whe
   pub by_thread : 1 ≤ name.thread → name.count ≤ count name.thread
   pub small : name.count < 2 ^ 32
 
--- each piece that is an object is one of the graph, each object of the graph is one piece, and no two have one name
+-- each piece that is an object is one of the graph, and no two have one name
 pub record AreObjects (heap : ℕ → ℕ) (block : Plot) (object : Name → Option Object) : Type 0 where
   pub each : (a refs nums : ℕ) (name : Name) → block a ≡ Some (thing name refs nums)
       → (o : Object) × (object name ≡ Some o) × IsObject heap block a refs nums name o
-  pub all : (name : Name) (o : Object) → object name ≡ Some o
-      → (a : ℕ) × (refs : ℕ) × (nums : ℕ) × (block a ≡ Some (thing name refs nums))
   pub once : (a b refs nums more_refs more_nums : ℕ) (name : Name) → block a ≡ Some (thing name refs nums)
       → block b ≡ Some (thing name more_refs more_nums) → a ≡ b
 
@@ -108,9 +107,9 @@ pub record AreCurrent (c : Config) (current : ℕ → ℕ) (owner : ℕ → Opti
   pub within : (seat r : ℕ) → current seat ≡ r + 1 → r < c.regions
   pub own : (seat r : ℕ) → current seat ≡ r + 1 → owner r ≡ Some seat
 
--- room in hand is a mutator's, in its current region, and ends at the top
+-- room in hand is a seat's, in its current region, and ends at the top
 pub record IsRoom (c : Config) (top current : ℕ → ℕ) (address seat words : ℕ) : Type 0 where
-  pub mutator : seat < c.mutators
+  pub seated : seat < seat_count c.mutators c.helpers
   pub some : 3 ≤ words
   pub region : ℕ
   pub is_current : current seat ≡ region + 1

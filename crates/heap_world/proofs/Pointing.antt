@@ -7,7 +7,7 @@ use Rattle.heap_words.specs.declared.config.Config.{Config}
 use Rattle.heap_words.specs.Words.{Heap, is_word}
 use Rattle.shen_graph.specs.declared.name.Name.{Name}
 use Rattle.shen_graph.specs.Graph.{Reference}
-use Rattle.step_core.specs.World.{Block, thing, hand, words_of, Plot, name_at, Points, IsPlotted}
+use Rattle.heap_world.specs.World.{Block, thing, hand, words_of, Plot, name_at, Points, IsPlotted}
 
 -- the piece at an address that stands for an object is the object
 pub named_thing : (o : Option Block) (n : Name) → name_at o ≡ Some n → (refs : ℕ) × (nums : ℕ) × (o ≡ Some (thing n refs nums))

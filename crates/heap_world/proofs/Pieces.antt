@@ -7,9 +7,9 @@ use Rattle.heap_words.specs.declared.config.Config.{Config}
 use Rattle.regions.specs.Place.{base_of}
 use Rattle.shen_graph.specs.declared.name.Name.{Name}
 use Rattle.shen_graph.specs.Graph.{Object}
-use Rattle.step_core.specs.World.{Block, thing, hand, words_of, Plot, name_at, Points, IsPlotted, IsObject, AreRooms}
-use Rattle.step_core.proofs.Updates.{updated, updated_same, updated_else}
-use Rattle.step_core.proofs.Stable.{points_stay}
+use Rattle.heap_world.specs.World.{Block, thing, hand, words_of, Plot, name_at, Points, IsPlotted, IsObject, AreRooms}
+use Rattle.heap_world.proofs.Updates.{updated, updated_same, updated_else}
+use Rattle.heap_world.proofs.Keeping.{points_stay}
 
 -- one region lies behind another
 pub behind : (c : Config) (r s : ℕ) → r < s → base_of c r + c.region_words ≤ base_of c s

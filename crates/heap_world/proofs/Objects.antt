@@ -10,11 +10,11 @@ use Rattle.steps_base.proofs.Places.{slice_get-set_same, slice_get-set_other}
 use Rattle.shen_graph.specs.declared.name.Name.{Name}
 use Rattle.shen_graph.specs.Graph.{Reference, Object, Graph, same_name}
 use Rattle.shen_graph.proofs.PlainLemmas.{same_name-true, same_name-itself}
-use Rattle.step_core.specs.World.{World, thing, hand, Plot, Points, Target, IsPlotted, IsObject, AreObjects, Shared}
-use Rattle.step_core.specs.Stepped.{Rely}
-use Rattle.step_core.proofs.Updates.{updated, updated_same, updated_else}
-use Rattle.step_core.proofs.Apart.{one_piece}
-use Rattle.step_core.proofs.Pieces.{object_reads}
+use Rattle.heap_world.specs.World.{World, thing, hand, Plot, Points, Target, IsPlotted, IsObject, AreObjects, Shared}
+use Rattle.heap_world.specs.Rely.{Rely}
+use Rattle.heap_world.proofs.Updates.{updated, updated_same, updated_else}
+use Rattle.heap_world.proofs.Apart.{one_piece}
+use Rattle.heap_world.proofs.Pieces.{object_reads}
 
 -- an element that was set
 get_set_same : {X : Type 0} (xs : List X) (i : ℕ) (x : X) → i < length xs → slice_get (slice_set xs i x) i ≡ Some x
@@ -110,8 +110,6 @@ module _ (c : Config) (top heap : ℕ → ℕ) (block : Plot) (object : Name →
               (λ x m e. e) before.2,
         ))
         (cases_eq b a);
-    all = λ n x there. are.all n (object_before object name (are.each a refs nums name piece).0 o (are.each a refs nums name piece).1 n x there).0
-        (object_before object name (are.each a refs nums name piece).0 o (are.each a refs nums name piece).1 n x there).1;
     once = are.once;
   }
 
@@ -123,16 +121,16 @@ stored u at value g = record { memory = write u.memory (Heap at) value; block = 
 abbrev pub changed : Graph → Name → Object → (ℕ → ℕ → Reference) → Graph
 changed g name o root = record { object = where_object g.object name o; root = root; count = g.count }
 
-module _ (c : Config) (u : World) (a refs nums at value : ℕ) (name : Name) (o : Object) (root : ℕ → ℕ → Reference) (shared : Shared c u) (piece : Target u.block a name refs nums) where
+module _ (c : Config) (u : World) (a refs nums at value : ℕ) (name : Name) (o : Object) (root : ℕ → ℕ → Reference) (shared : Shared c u) (target : Target u a refs nums name) where
   -- what machines share, after a word of an object and the graph's object have changed
   pub shared_stored : a ≤ at → at < a + (3 + refs + nums) → IsObject (updated (λ b. u.memory (Heap b)) at value) u.block a refs nums name o
       → Shared c (stored u at value (changed u.graph name o root))
   shared_stored from_start to_end is = record {
     plotted = shared.plotted;
     filled = shared.filled;
-    objects = objects_stored c (λ r. u.memory (Top r)) (λ b. u.memory (Heap b)) u.block u.graph.object shared.plotted shared.objects a refs nums at value name o piece from_start to_end is;
+    objects = objects_stored c (λ r. u.memory (Top r)) (λ b. u.memory (Heap b)) u.block u.graph.object shared.plotted shared.objects a refs nums at value name o target.piece from_start to_end is;
     given = λ n x there.
-        let was = shared.objects.each a refs nums name piece in
+        let was = shared.objects.each a refs nums name target.piece in
         let before = object_before u.graph.object name was.0 o was.1 n x there in
         shared.given n before.0 before.1;
     calm = shared.calm;
@@ -147,12 +145,12 @@ module _ (c : Config) (u : World) (a refs nums at value : ℕ) (name : Name) (o 
       → Rely seat u (stored u at value (changed u.graph name o root))
   rely_stored from_start to_end seat roots = record {
     names = λ b n is. is;
-    things = λ b more_refs more_nums n is. is;
+    targets = λ b more_refs more_nums n has. record { piece = has.piece };
     hands = λ b words is. is;
     no_hands = λ b words is. is;
     hand_words = λ b words k is below. updated_else (λ b. u.memory (Heap b)) at value (b + k) (λ same.
-        let same_piece : b ≡ a = one_piece c (λ r. u.memory (Top r)) u.block shared.plotted b a (b + k) (hand seat words) (thing name refs nums) is piece (omega arith) (omega arith) (omega arith) (omega arith) in
-        let both : Some (hand seat words) ≡ Some (thing name refs nums) = sym is ∙ ap u.block same_piece ∙ piece in
+        let same_piece : b ≡ a = one_piece c (λ r. u.memory (Top r)) u.block shared.plotted b a (b + k) (hand seat words) (thing name refs nums) is target.piece (omega arith) (omega arith) (omega arith) (omega arith) in
+        let both : Some (hand seat words) ≡ Some (thing name refs nums) = sym is ∙ ap u.block same_piece ∙ target.piece in
         cc);
     current = refl;
     owners = λ r is. is;
@@ -160,4 +158,7 @@ module _ (c : Config) (u : World) (a refs nums at value : ℕ) (name : Name) (o 
     root_words = λ i. refl;
     roots = roots;
     count = refl;
+    state = refl;
+    phase = refl;
+    cset = refl;
   }

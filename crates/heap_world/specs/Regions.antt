@@ -4,7 +4,7 @@ use Rattle.heap_words.specs.declared.config.Config.{Config}
 use Rattle.heap_words.specs.Words.{Free, Current}
 use Rattle.regions.specs.Place.{IsOf}
 use Rattle.regions.specs.Sets.{IsIn}
-use Rattle.step_core.specs.World.{World, Block, hand, words_of}
+use Rattle.heap_world.specs.World.{World, Block, hand, words_of}
 
 -- No two seats have one region, and a free region is nobody's. In a region there is room in hand once at most, and it
 -- lies behind all other pieces.

@@ -2,7 +2,7 @@
 use Rattle.std.proofs.Common.{◌≡◌, ◌≢◌, ℕ, ◌+◌, ◌<◌, ◌≤◌, Some, ⊎_elim, arith}
 use Rattle.std.proofs.lemmas.Bool.{cases_order}
 use Rattle.heap_words.specs.declared.config.Config.{Config}
-use Rattle.step_core.specs.World.{Block, words_of, Plot, IsPlotted}
+use Rattle.heap_world.specs.World.{Block, words_of, Plot, IsPlotted}
 
 module _ (c : Config) (top : ℕ → ℕ) (block : Plot) (plotted : IsPlotted c top block) where
   -- an address lies in one piece only

@@ -3,13 +3,14 @@ use Rattle.std.proofs.Common.{◌≡◌, ◌≢◌, ℕ, ◌+◌, ◌<◌, ◌�
 use Rattle.std.proofs.lemmas.Bool.{cases_eq, cases_lt}
 use Rattle.std.proofs.lemmas.Option.{none-some, same_Some}
 use Rattle.heap_words.specs.declared.config.Config.{Config}
+use Rattle.heap_words.specs.Ranges.{seat_count}
 use Rattle.regions.specs.Place.{base_of}
 use Rattle.shen_graph.specs.declared.name.Name.{Name}
 use Rattle.shen_graph.specs.Graph.{Object}
-use Rattle.step_core.specs.World.{Block, thing, hand, words_of, Plot, name_at, IsInUse, IsPlotted, IsFilled, AreObjects, IsFreeWord, AreCurrent, IsRoom, AreRooms}
-use Rattle.step_core.proofs.Updates.{updated, updated_same, updated_there, updated_else}
-use Rattle.step_core.proofs.Pointing.{named_thing}
-use Rattle.step_core.proofs.Pieces.{behind, three_words, beside, piece_cases, object_reads}
+use Rattle.heap_world.specs.World.{Block, thing, hand, words_of, Plot, name_at, IsInUse, IsPlotted, IsFilled, AreObjects, IsFreeWord, AreCurrent, IsRoom, AreRooms}
+use Rattle.heap_world.proofs.Updates.{updated, updated_same, updated_there, updated_else}
+use Rattle.heap_world.proofs.Pointing.{named_thing}
+use Rattle.heap_world.proofs.Pieces.{behind, three_words, beside, piece_cases, object_reads}
 
 -- A region has room for so many words above its top. The pieces are apart, and room in hand is as it should be.
 pub record CanGrow (c : Config) (top current : ℕ → ℕ) (block : Plot) (region at words : ℕ) : Type 0 where
@@ -180,7 +181,6 @@ module _ (c : Config) (top current : ℕ → ℕ) (block : Plot) (region at word
     each = λ a refs nums name is.
         let o = objects.each a refs nums name (old_thing a refs nums name is) in
         (o.0, o.1, object_reads heap heap block new_block a refs nums name o.0 (λ k below. refl) names_stay o.2);
-    all = λ name o is. let piece = objects.all name o is in (piece.0, piece.1, piece.2, stays piece.0 (thing name piece.1 piece.2) piece.3);
     once = λ a b refs nums more_refs more_nums name is_a is_b.
         objects.once a b refs nums more_refs more_nums name (old_thing a refs nums name is_a) (old_thing b more_refs more_nums name is_b);
   }
@@ -195,15 +195,15 @@ module _ (c : Config) (top current : ℕ → ℕ) (block : Plot) (region at word
   }
 
   -- rooms in hand are as they should be
-  pub rooms_more : (owner : ℕ → Option ℕ) → seat < c.mutators → current seat ≡ region + 1 → AreCurrent c current owner → ((a more : ℕ) → block a ≡ Some (hand seat more) → ⊥) → AreRooms c new_top current new_block
-  rooms_more owner mutator is_current currents none a other more is = ⊎_elim
+  pub rooms_more : (owner : ℕ → Option ℕ) → seat < seat_count c.mutators c.helpers → current seat ≡ region + 1 → AreCurrent c current owner → ((a more : ℕ) → block a ≡ Some (hand seat more) → ⊥) → AreRooms c new_top current new_block
+  rooms_more owner seated is_current currents none a other more is = ⊎_elim
       (λ (new : (a ≡ address) × (hand seat words ≡ hand other more)).
       let same = new.1 in
       let seats : seat ≡ other = cc in
       let sizes : words ≡ more = cc in
       subst (λ s. IsRoom c new_top current a s more) seats
       (subst (λ w. IsRoom c new_top current a seat w) sizes
-      (record { mutator = mutator; some = grows.some; region = region; is_current = is_current; from_base = (let one = new.0 in omega (arith, one)); at_top = (let now = updated_there top region (at + words) in let one = new.0 in omega (arith, now, one)) })))
+      (record { seated = seated; some = grows.some; region = region; is_current = is_current; from_base = (let one = new.0 in omega (arith, one)); at_top = (let now = updated_there top region (at + words) in let one = new.0 in omega (arith, now, one)) })))
       (λ (old : (a ≢ address) × (block a ≡ Some (hand other more))).
       let is_room = grows.rooms a other more old.1 in
       let differs : region ≢ is_room.region = λ same.
@@ -211,7 +211,7 @@ module _ (c : Config) (top current : ℕ → ℕ) (block : Plot) (region at word
       none a more (subst (λ s. block a ≡ Some (hand s more)) (sym (same_Some seat other own)) old.1)
       in
       record {
-        mutator = is_room.mutator;
+        seated = is_room.seated;
         some = is_room.some;
         region = is_room.region;
         is_current = is_room.is_current;
