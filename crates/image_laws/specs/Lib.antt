@@ -1,0 +1,4 @@
+pub mod Held
+pub mod Plot
+pub mod Pack
+pub mod Laws

@@ -1,0 +1,10 @@
+//! What a full collection does to the graph: laws about the image of a heap, as theorems and no code.
+#![tactic(auto)]
+
+ghost use Rattle.image_laws.specs.Laws.{ReachableAreHeld};
+
+/// A law: what root words lead to, by current copies, are exactly the current copies of the objects that the graph
+/// reaches.
+pub fn reachable_are_held()
+    ensures { ReachableAreHeld }
+{}
