@@ -1,1 +1,4 @@
 pub mod Reached
+pub mod Origin
+pub mod Packed
+pub mod Things
