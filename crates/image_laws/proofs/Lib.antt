@@ -2,3 +2,5 @@ pub mod Reached
 pub mod Origin
 pub mod Packed
 pub mod Things
+pub mod FreeWord
+pub mod Image

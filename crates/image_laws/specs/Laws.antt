@@ -1,11 +1,16 @@
 -- That packing keeps exactly what the graph reaches, and keeps the graph.
-use Rattle.std.specs.Prelude.{ℕ, ◌≡◌, ◌+◌, ◌<◌, Some, List}
+use Rattle.std.specs.Prelude.{ℕ, ◌≡◌, ◌+◌, ◌<◌, Some, None, List}
 use Rattle.heap_words.specs.declared.config.Config.{Config}
+use Rattle.heap_words.specs.Words.{Word, Top, Heap, Wait, Answer}
+use Rattle.packing.specs.Tops.{sum_below}
+use Rattle.sliding.specs.Slide.{renewed}
 use Rattle.shen_graph.specs.declared.name.Name.{Name}
-use Rattle.shen_graph.specs.Graph.{Graph}
+use Rattle.shen_graph.specs.Graph.{Graph, Object, Reference}
 use Rattle.shen_graph.specs.Reach.{IsReachable}
-use Rattle.heap_world.specs.World.{Plot, thing}
-use Rattle.image_laws.specs.Held.{IsHeld, IsAmong, HoldsGraph}
+use Rattle.heap_world.specs.World.{World, Plot, thing, hand, Points, IsGiven, AreUnasked, Shared}
+use Rattle.image_laws.specs.Held.{IsHeld, IsAmong, AreKept, HoldsGraph}
+use Rattle.image_laws.specs.Plot.{heap_end, packed_block}
+use Rattle.image_laws.specs.Full.{packed}
 
 -- Exactly the reachable objects are held: what is held is the current copy of a reachable object, and each reachable
 -- object has a copy that is held.
@@ -17,3 +22,32 @@ pub record HeldAreReachable (c : Config) (top heap : ℕ → ℕ) (block : Plot)
 abbrev pub ReachableAreHeld : Type 0
 ReachableAreHeld = (c : Config) (top heap : ℕ → ℕ) (block : Plot) (now : ℕ → ℕ) (roots : List ℕ) (g : Graph)
     → HoldsGraph c top heap block now (IsAmong roots) g → HeldAreReachable c top heap block now (IsAmong roots) g
+
+-- the world after packing: the same graph, and regions that are nobody's
+abbrev pub packed_world : Config → (now kept : ℕ → ℕ) → (Word → ℕ) → Plot → Graph → World
+packed_world c now kept memory block g = record {
+  memory = packed c now kept memory;
+  block = packed_block c kept block;
+  owner = λ r. None;
+  graph = g;
+}
+
+-- the words before packing stand for a graph whose names were given, exactly what the root words lead to is kept, and nobody
+-- waits for an object
+pub record IsBeforePacking (c : Config) (memory : Word → ℕ) (block : Plot) (g : Graph) (now kept : ℕ → ℕ) (roots : List ℕ) : Type 0 where
+  pub holds : HoldsGraph c (λ r. memory (Top r)) (λ a. memory (Heap a)) block now (IsAmong roots) g
+  pub kept_are : AreKept (λ a. memory (Heap a)) (IsHeld now (λ a. memory (Heap a)) (IsAmong roots)) kept
+  pub given : (name : Name) (o : Object) → g.object name ≡ Some o → IsGiven c g.count name
+  pub unasked : AreUnasked c (λ t. memory (Wait t)) (λ t. memory (Answer t))
+
+-- After packing the words stand for the same graph: what all machines share holds, what a root word stood for it stands for
+-- once renewed, and nobody has room in hand.
+pub record KeepsGraph (c : Config) (memory : Word → ℕ) (block : Plot) (g : Graph) (now kept : ℕ → ℕ) (roots : List ℕ) : Type 0 where
+  pub shared : Shared c (packed_world c now kept memory block g)
+  pub root_words : (word : ℕ) (r : Reference) → IsAmong roots word → Points block word r → Points (packed_block c kept block) (renewed c.region_words now kept word) r
+  pub no_hands : (a seat words : ℕ) → packed_block c kept block a ≡ Some (hand seat words) → ⊥
+  pub tops_sum : sum_below (λ r. packed c now kept memory (Top r)) c.regions ≡ sum_below kept (heap_end c)
+
+abbrev pub PackingKeepsGraph : Type 0
+PackingKeepsGraph = (c : Config) (memory : Word → ℕ) (block : Plot) (g : Graph) (now kept : ℕ → ℕ) (roots : List ℕ)
+    → IsBeforePacking c memory block g now kept roots → KeepsGraph c memory block g now kept roots

@@ -1,4 +1,5 @@
 pub mod Held
 pub mod Plot
 pub mod Pack
+pub mod Full
 pub mod Laws

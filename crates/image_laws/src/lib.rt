@@ -1,10 +1,16 @@
 //! What a full collection does to the graph: laws about the image of a heap, as theorems and no code.
 #![tactic(auto)]
 
-ghost use Rattle.image_laws.specs.Laws.{ReachableAreHeld};
+ghost use Rattle.image_laws.specs.Laws.{ReachableAreHeld, PackingKeepsGraph};
 
 /// A law: what root words lead to, by current copies, are exactly the current copies of the objects that the graph
 /// reaches.
 pub fn reachable_are_held()
     ensures { ReachableAreHeld }
+{}
+
+/// A law: packing what root words lead to, by current copies, keeps the graph that the words stand for. The tops are then
+/// together the words of the kept objects.
+pub fn packing_keeps_graph()
+    ensures { PackingKeepsGraph }
 {}

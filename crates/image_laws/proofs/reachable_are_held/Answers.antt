@@ -1,7 +1,5 @@
 use Rattle.image_laws.specs.Held.{IsAmong}
 use Rattle.image_laws.proofs.Reached.{held_are_reachable}
-use Rattle.image_laws.proofs.Things.{slid_are_objects}
-use Rattle.image_laws.proofs.Packed.{slid_is_filled}
 use Rattle.image_laws.proofs.reachable_are_held.Goals as goal
 
 pub returns : goal.returns
