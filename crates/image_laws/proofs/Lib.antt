@@ -4,3 +4,5 @@ pub mod Packed
 pub mod Things
 pub mod FreeWord
 pub mod Image
+pub mod Found
+pub mod Walked

@@ -10,7 +10,7 @@ use Rattle.shen_graph.specs.Reach.{IsReachable}
 use Rattle.heap_world.specs.World.{World, Plot, thing, hand, Points, IsGiven, AreUnasked, Shared}
 use Rattle.image_laws.specs.Held.{IsHeld, IsAmong, AreKept, HoldsGraph}
 use Rattle.image_laws.specs.Plot.{heap_end, packed_block}
-use Rattle.image_laws.specs.Full.{packed}
+use Rattle.image_laws.specs.Full.{packed, now_in, root_words, kept_in}
 
 -- Exactly the reachable objects are held: what is held is the current copy of a reachable object, and each reachable
 -- object has a copy that is held.
@@ -51,3 +51,9 @@ pub record KeepsGraph (c : Config) (memory : Word → ℕ) (block : Plot) (g : G
 abbrev pub PackingKeepsGraph : Type 0
 PackingKeepsGraph = (c : Config) (memory : Word → ℕ) (block : Plot) (g : Graph) (now kept : ℕ → ℕ) (roots : List ℕ)
     → IsBeforePacking c memory block g now kept roots → KeepsGraph c memory block g now kept roots
+
+-- the objects that one computes as kept are exactly those that the root words lead to, wherever words stand for a graph
+abbrev pub KeptAreHeld : Type 0
+KeptAreHeld = (c : Config) (memory : Word → ℕ) (block : Plot) (g : Graph)
+    → HoldsGraph c (λ r. memory (Top r)) (λ a. memory (Heap a)) block (now_in memory) (IsAmong (root_words c memory)) g
+    → AreKept (λ a. memory (Heap a)) (IsHeld (now_in memory) (λ a. memory (Heap a)) (IsAmong (root_words c memory))) (kept_in c memory)

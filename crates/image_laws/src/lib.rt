@@ -1,7 +1,7 @@
 //! What a full collection does to the graph: laws about the image of a heap, as theorems and no code.
 #![tactic(auto)]
 
-ghost use Rattle.image_laws.specs.Laws.{ReachableAreHeld, PackingKeepsGraph};
+ghost use Rattle.image_laws.specs.Laws.{ReachableAreHeld, PackingKeepsGraph, KeptAreHeld};
 
 /// A law: what root words lead to, by current copies, are exactly the current copies of the objects that the graph
 /// reaches.
@@ -13,4 +13,9 @@ pub fn reachable_are_held()
 /// together the words of the kept objects.
 pub fn packing_keeps_graph()
     ensures { PackingKeepsGraph }
+{}
+
+/// A law: the walk over the words of an image finds exactly the objects that its root words lead to, by current copies.
+pub fn kept_are_held()
+    ensures { KeptAreHeld }
 {}
