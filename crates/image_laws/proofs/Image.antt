@@ -7,8 +7,9 @@ use Rattle.packing.specs.Places.{new_place}
 use Rattle.packing.proofs.Tops.{tops_are_words}
 use Rattle.sliding.specs.Slide.{renewed, slid}
 use Rattle.sliding.proofs.Slid.{slid_is}
-use Rattle.shen_graph.specs.Graph.{Graph, Reference}
-use Rattle.heap_world.specs.World.{World, Plot, thing, hand, Points, AreUnasked, Shared}
+use Rattle.shen_graph.specs.declared.name.Name.{Name}
+use Rattle.shen_graph.specs.Graph.{Graph, Object}
+use Rattle.heap_world.specs.World.{World, Plot, thing, hand, AreObjects, IsGiven, AreUnasked, Shared}
 use Rattle.image_laws.specs.Held.{IsHeld, from_root, IsAmong}
 use Rattle.image_laws.specs.Plot.{heap_end, packed_block, packed_top}
 use Rattle.image_laws.specs.Pack.{CanPack}
@@ -39,37 +40,48 @@ module _ (c : Config) (memory : Word → ℕ) (block : Plot) (g : Graph) (now ke
       cc
 
   -- who had no answer has none
-  unasked : AreUnasked c (λ t. packed c now kept memory (Wait t)) (λ t. packed c now kept memory (Answer t))
+  unasked : AreUnasked c (λ t. memory (Wait t)) (λ t. memory (Answer t)) → AreUnasked c (λ t. packed c now kept memory (Wait t)) (λ t. packed c now kept memory (Answer t))
   unfolding packed
-  unasked = record {
-    waits = before.unasked.waits;
+  unasked none = record {
+    waits = none.waits;
     answers = λ t inside.
-        let none = before.unasked.answers t inside in
-        cond-true (nat_le (memory (Answer t)) 1) (memory (Answer t)) (new_place c.region_words kept (now (memory (Answer t)))) (le-leb (memory (Answer t)) 1 (omega (arith, none))) ∙ none;
+        let zero' = none.answers t inside in
+        cond-true (nat_le (memory (Answer t)) 1) (memory (Answer t)) (new_place c.region_words kept (now (memory (Answer t)))) (le-leb (memory (Answer t)) 1 (omega (arith, zero'))) ∙ zero';
   }
 
-  packed_shared : Shared c (packed_world c now kept memory block g)
+  -- the pieces are the graph's objects
+  objects_again : AreObjects (λ a. packed c now kept memory (Heap a)) (packed_block c kept block) g.object
   unfolding packed
-  packed_shared = record {
+  objects_again =
+      slid_are_objects c top heap block g.object now kept can (slid c.region_words kept (renewed c.region_words now kept) heap (heap_end c))
+      (slid_is c.region_words kept (renewed c.region_words now kept) heap (lie_apart c top heap block g.object now kept can) (heap_end c))
+
+  packed_shared : ((name : Name) (o : Object) → g.object name ≡ Some o → IsGiven c g.count name) → AreUnasked c (λ t. memory (Wait t)) (λ t. memory (Answer t))
+      → Shared c (packed_world c now kept memory block g)
+  unfolding packed
+  packed_shared given none = record {
     plotted = slid_is_plotted c top heap block g.object now kept can;
     filled = slid_is_filled c top heap block g.object now kept can;
-    objects = slid_are_objects c top heap block g.object now kept can (slid c.region_words kept (renewed c.region_words now kept) heap (heap_end c))
-        (slid_is c.region_words kept (renewed c.region_words now kept) heap (lie_apart c top heap block g.object now kept can) (heap_end c));
-    given = before.given;
+    objects = objects_again;
+    given = given;
     calm = record { phase_is = refl; cset_is = refl; evac_is = refl };
     free_word = free_again c (packed_top c kept);
     currents = record { within = λ seat r is. absurd (omega (arith, is)); own = λ seat r is. absurd (omega (arith, is)) };
     rooms = λ a seat words is. absurd (no_hands a seat words is);
-    unasked = unasked;
+    unasked = unasked none;
   }
 
   pub keeps_graph : KeepsGraph c memory block g now kept roots
   unfolding packed
   keeps_graph = record {
-    shared = packed_shared;
+    plotted = slid_is_plotted c top heap block g.object now kept can;
+    filled = slid_is_filled c top heap block g.object now kept can;
+    objects = objects_again;
     root_words = λ word r is points. renewed_points c top heap block g.object now kept can word r points (λ other.
         let size = before.kept_are.words (now word) (from_root word is other) in omega (arith, size));
+    free_word = free_again c (packed_top c kept);
     no_hands = no_hands;
     tops_sum = tops_are_words c.region_words kept (lie_apart c top heap block g.object now kept can) c.regions
         (λ a some. (let inside = kept_inside c top heap block g.object now kept can a some in omega (arith, inside.1, some))) (heap_end c);
+    shared = packed_shared;
   }

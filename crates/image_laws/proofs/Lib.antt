@@ -6,3 +6,4 @@ pub mod FreeWord
 pub mod Image
 pub mod Found
 pub mod Walked
+pub mod Served

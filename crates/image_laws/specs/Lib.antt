@@ -3,3 +3,4 @@ pub mod Plot
 pub mod Pack
 pub mod Full
 pub mod Laws
+pub mod Served

@@ -2,6 +2,7 @@
 #![tactic(auto)]
 
 ghost use Rattle.image_laws.specs.Laws.{ReachableAreHeld, PackingKeepsGraph, KeptAreHeld};
+ghost use Rattle.image_laws.specs.Served.{ServingAnswers};
 
 /// A law: what root words lead to, by current copies, are exactly the current copies of the objects that the graph
 /// reaches.
@@ -18,4 +19,10 @@ pub fn packing_keeps_graph()
 /// A law: the walk over the words of an image finds exactly the objects that its root words lead to, by current copies.
 pub fn kept_are_held()
     ensures { KeptAreHeld }
+{}
+
+/// A law: each waiting request is answered, by an address where a region has room for it at its turn, and by 1 exactly
+/// where no region has.
+pub fn serving_answers()
+    ensures { ServingAnswers }
 {}
