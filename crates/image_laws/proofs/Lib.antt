@@ -7,3 +7,4 @@ pub mod Image
 pub mod Found
 pub mod Walked
 pub mod Served
+pub mod Live
