@@ -8,3 +8,4 @@ pub mod Found
 pub mod Walked
 pub mod Served
 pub mod Live
+pub mod Promised

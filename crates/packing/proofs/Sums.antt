@@ -1,7 +1,7 @@
 -- Sums over the numbers below a number.
-use Rattle.std.proofs.Common.{◌≡◌, ◌≢◌, ℕ, ◌+◌, ◌*◌, ◌<◌, ◌≤◌, ◌==◌, zero, suc, List, [], ◌∷◌, length, get_or, sum_by, ⊎_elim, refl, sym, ap, ◌∙◌, subst, arith}
-use Rattle.std.specs.Prelude.{if◌then◌else◌}
-use Rattle.std.proofs.lemmas.Bool.{cases_eq, cond-true, cond-false, eq-eqb, ne_eqb}
+use Rattle.std.proofs.Common.{◌≡◌, ◌≢◌, ℕ, ◌+◌, ◌-◌, ◌*◌, ◌<◌, ◌≤◌, ◌==◌, zero, suc, List, [], ◌∷◌, length, get_or, sum_by, ⊎_elim, refl, sym, ap, ◌∙◌, subst, arith}
+use Rattle.std.specs.Prelude.{if◌then◌else◌, nat_lt}
+use Rattle.std.proofs.lemmas.Bool.{cases_eq, cond-true, cond-false, eq-eqb, ne_eqb, lt-ltb, le-ltb}
 use Rattle.std.proofs.lemmas.List.Sums.{sum_by-cons}
 use Rattle.packing.specs.Tops.{sum_below}
 
@@ -106,3 +106,18 @@ pub sum_by_index : {X : Type 0} (size : X → ℕ) (xs : List X) (d : X) → sum
 sum_by_index size [] d = sym (sum_none (λ k. size (get_or [] k d)))
 sum_by_index size (x ∷ xs) d =
     sum_by-cons size x xs ∙ ap (λ rest. size x + rest) (sum_by_index size xs d) ∙ sym (sum_front (λ k. size (get_or (x ∷ xs) k d)) (length xs))
+
+-- the sum over two rows of numbers, one behind the other
+pub sum_of_two_rows : (f g : ℕ → ℕ) (n m : ℕ) → sum_below (λ k. if nat_lt k n then f k else g (k - n)) (n + m) ≡ sum_below f n + sum_below g m
+sum_of_two_rows f g n zero =
+    let both : ℕ → ℕ = λ k. if nat_lt k n then f k else g (k - n) in
+    let same = sum_same both f n (λ k below. cond-true (nat_lt k n) (f k) (g (k - n)) (lt-ltb k n below)) in
+    let plain : sum_below both (n + 0) ≡ sum_below both n = (let e : n + 0 ≡ n = omega arith in ap (sum_below both) e) in
+    omega (arith, same, plain, sum_none g)
+sum_of_two_rows f g n (suc m) =
+    let both : ℕ → ℕ = λ k. if nat_lt k n then f k else g (k - n) in
+    let next : suc (n + m) ≡ n + suc m = omega arith in
+    let step : sum_below both (n + suc m) ≡ sum_below both (n + m) + both (n + m) = ap (sum_below both) (sym next) ∙ sum_next both (n + m) in
+    let back : n + m - n ≡ m = omega arith in
+    let last : both (n + m) ≡ g m = cond-false (nat_lt (n + m) n) (f (n + m)) (g (n + m - n)) (le-ltb (n + m) n (omega arith)) ∙ ap g back in
+    omega (arith, sum_of_two_rows f g n m, step, last, sum_next g m)
