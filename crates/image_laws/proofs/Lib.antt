@@ -9,3 +9,4 @@ pub mod Walked
 pub mod Served
 pub mod Live
 pub mod Promised
+pub mod Roots
