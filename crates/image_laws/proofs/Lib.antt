@@ -10,3 +10,4 @@ pub mod Served
 pub mod Live
 pub mod Promised
 pub mod Roots
+pub mod Standing

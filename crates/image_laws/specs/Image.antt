@@ -5,6 +5,9 @@ use Rattle.heap_words.specs.Words.{Word, Free, Top, Root, Answer, Heap}
 use Rattle.shen_graph.specs.declared.name.Name.{Name}
 use Rattle.shen_graph.specs.Graph.{Graph, Reference}
 use Rattle.heap_world.specs.World.{Block, thing, hand, Plot, name_at, Points, IsPlotted, IsFilled, AreObjects, IsFreeWord}
+use Rattle.image_laws.specs.Held.{IsAmong, HoldsGraph}
+use Rattle.image_laws.specs.Plot.{packed_block}
+use Rattle.image_laws.specs.Full.{now_in, root_words, kept_in, packed}
 use Rattle.image_laws.specs.Promised.{Promises, with_promised}
 
 -- an answer stands for what a thread is promised: 0 and 1 for nothing, and else the object's address
@@ -27,3 +30,15 @@ pub record ImageStands (c : Config) (memory : Word → ℕ) (block : Plot) (g : 
   pub no_hands : (a seat words : ℕ) → block a ≡ Some (hand seat words) → ⊥
   pub free_word : IsFreeWord c (memory Free) (λ r. memory (Top r)) (λ r. None)
   pub rooted : RootsStand c memory block g p
+
+-- An image whose words stand for a graph holds it, by current copies; ..
+abbrev pub StandingHolds : Type 0
+StandingHolds = (c : Config) (memory : Word → ℕ) (block : Plot) (g : Graph) (p : Promises) → ImageStands c memory block g p
+    → HoldsGraph c (λ r. memory (Top r)) (λ a. memory (Heap a)) block (now_in memory) (IsAmong (root_words c memory)) (with_promised g p)
+
+-- .. and where the words hold a graph, they stand for it once what is held was packed.
+abbrev pub PackedStands : Type 0
+PackedStands = (c : Config) (memory : Word → ℕ) (block : Plot) (g : Graph) (p : Promises)
+    → HoldsGraph c (λ r. memory (Top r)) (λ a. memory (Heap a)) block (now_in memory) (IsAmong (root_words c memory)) (with_promised g p)
+    → RootsStand c memory block g p
+    → ImageStands c (packed c (now_in memory) (kept_in c memory) memory) (packed_block c (kept_in c memory) block) g p

@@ -1,6 +1,7 @@
 //! What a full collection does to the graph: laws about the image of a heap, as theorems and no code.
 #![tactic(auto)]
 
+ghost use Rattle.image_laws.specs.Image.{StandingHolds, PackedStands};
 ghost use Rattle.image_laws.specs.Laws.{ReachableAreHeld, PackingKeepsGraph, KeptAreHeld};
 ghost use Rattle.image_laws.specs.Promised.{KeptAreLive, KeptAreLiveOrPromised};
 ghost use Rattle.image_laws.specs.Served.{ServingAnswers};
@@ -37,4 +38,14 @@ pub fn kept_are_live()
 /// reaches and those objects.
 pub fn kept_are_live_or_promised()
     ensures { KeptAreLiveOrPromised }
+{}
+
+/// A law: words that stand for a graph, with no old copies, hold it by current copies.
+pub fn standing_holds()
+    ensures { StandingHolds }
+{}
+
+/// A law: words that hold a graph by current copies stand for the same graph once what is held was packed.
+pub fn packed_stands()
+    ensures { PackedStands }
 {}
