@@ -33,12 +33,12 @@ turn_waits c m t word some = turn c m t word ∙ cond-false (served c m t (Wait 
 wait_of_other : (c : Config) (m : Word → ℕ) (t u : ℕ) (o : Option ℕ) → u ≢ t → served_in c m t o (Wait u) ≡ m (Wait u)
 unfolding made_in
 wait_of_other c m t u None other = refl
-wait_of_other c m t u (Some r) other = cond-false (u == t) 0 (m (Wait u)) (ne_eqb u t other)
+wait_of_other c m t u (Some r) other = cond-false (t == u) 0 (m (Wait u)) (ne_eqb t u (λ e. other (sym e)))
 
 answer_of_other : (c : Config) (m : Word → ℕ) (t u : ℕ) (o : Option ℕ) → u ≢ t → served_in c m t o (Answer u) ≡ m (Answer u)
 unfolding made_in
 answer_of_other c m t u None other = refl
-answer_of_other c m t u (Some r) other = cond-false (u == t) (base_of c r + m (Top r)) (m (Answer u)) (ne_eqb u t other)
+answer_of_other c m t u (Some r) other = cond-false (t == u) (base_of c r + m (Top r)) (m (Answer u)) (ne_eqb t u (λ e. other (sym e)))
 
 -- and to its own, where room is found
 own_wait : (c : Config) (m : Word → ℕ) (t r : ℕ) → served_in c m t (Some r) (Wait t) ≡ 0
@@ -88,9 +88,9 @@ after_turn c m (suc n) u earlier = ⊎_elim
 taken_none : (top : ℕ → ℕ) (o : Option ℕ) (q : ℕ) → taken_in top 0 o q ≡ top q
 taken_none top None q = refl
 taken_none top (Some r) q = ⊎_elim
-    (λ (here : q ≡ r). let one = cond-true (q == r) (top q + 0) (top q) (eq-eqb q r here) in omega (arith, one))
-    (λ (other : q ≢ r). cond-false (q == r) (top q + 0) (top q) (ne_eqb q r other))
-    (cases_eq q r)
+    (λ (here : r ≡ q). let one = cond-true (r == q) (top r + 0) (top q) (eq-eqb r q here) in let same : top r ≡ top q = ap top here in omega (arith, one, same))
+    (λ (other : r ≢ q). cond-false (r == q) (top r + 0) (top q) (ne_eqb r q other))
+    (cases_eq r q)
 
 module _ (c : Config) (m : Word → ℕ) where
   abbrev asked : ℕ → ℕ
@@ -126,14 +126,14 @@ module _ (c : Config) (m : Word → ℕ) where
       turn_waits c m t (Top q) (λ zero'. some (sym wait ∙ zero'))
       ∙ turn_top c (served c m t) t q (room_for c (served c m t) t)
       ∙ ap (λ n. taken_in (λ r. served c m t (Top r)) n (room_for c (served c m t) t) q) (sym (asks t some))
-      ∙ taken_same (λ r. served c m t (Top r)) (tops t) (asked t) (room_for c (served c m t) t) q (tops_are_served t q)
+      ∙ taken_same (λ r. served c m t (Top r)) (tops t) (asked t) (room_for c (served c m t) t) q (λ r. tops_are_served t r)
       ∙ ap (λ o. taken_in (tops t) (asked t) o q) (found t some (λ r. tops_are_served t r))
       ∙ sym (served_next c.region_words c.regions asked top t q))
       (cases_eq (m (Wait t)) 0)
       where
-        taken_same : (one other : ℕ → ℕ) (n : ℕ) (o : Option ℕ) (k : ℕ) → one k ≡ other k → taken_in one n o k ≡ taken_in other n o k
-        taken_same one other n None k same = same
-        taken_same one other n (Some r) k same = ap (λ j. cond (k == r) (j + n) j) same
+        taken_same : (one other : ℕ → ℕ) (n : ℕ) (o : Option ℕ) (k : ℕ) → ((r : ℕ) → one r ≡ other r) → taken_in one n o k ≡ taken_in other n o k
+        taken_same one other n None k same = same k
+        taken_same one other n (Some r) k same = ap (λ j. cond (r == k) (j + n) (one k)) (same r) ∙ ap (λ j. cond (r == k) (other r + n) j) (same k)
 
         found : (u : ℕ) → m (Wait u) ≢ 0 → ((r : ℕ) → served c m u (Top r) ≡ tops u r) → room_for c (served c m u) u ≡ room_at_turn c.region_words c.regions asked top u
         found u some same =
