@@ -11,3 +11,4 @@ pub mod Live
 pub mod Promised
 pub mod Roots
 pub mod Standing
+pub mod Made

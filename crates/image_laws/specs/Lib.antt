@@ -6,3 +6,4 @@ pub mod Laws
 pub mod Served
 pub mod Promised
 pub mod Image
+pub mod Serving
