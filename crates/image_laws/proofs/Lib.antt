@@ -1,0 +1,14 @@
+pub mod Reached
+pub mod Origin
+pub mod Packed
+pub mod Things
+pub mod FreeWord
+pub mod Image
+pub mod Found
+pub mod Walked
+pub mod Served
+pub mod Live
+pub mod Promised
+pub mod Roots
+pub mod Standing
+pub mod Made

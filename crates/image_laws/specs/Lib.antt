@@ -1,0 +1,9 @@
+pub mod Held
+pub mod Plot
+pub mod Pack
+pub mod Full
+pub mod Laws
+pub mod Served
+pub mod Promised
+pub mod Image
+pub mod Serving
