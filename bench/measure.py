@@ -37,14 +37,18 @@ def least(trace, *words):
 
 def memory(trace, *words):
     """The most memory of a run in bytes. What the system says of a child that has ended counts the fork of Python too, so
-    the program is asked while it runs."""
+    the program is asked while it runs, for the first time when it has read all and waits for the end of its input."""
     most = 0
     with open(trace, "rb") as source:
-        child = subprocess.Popen(words, stdin=source, stdout=subprocess.DEVNULL)
-        while child.poll() is None:
-            with open(f"/proc/{child.pid}/status") as status:
-                found = re.search(r"^VmHWM:\s+(\d+) kB", status.read(), re.M)
-            most = max(most, int(found[1]) * 1024 if found else 0)
+        given = source.read()
+    child = subprocess.Popen(words, stdin=subprocess.PIPE, stdout=subprocess.DEVNULL)
+    child.stdin.write(given)
+    child.stdin.flush()
+    while child.poll() is None:
+        with open(f"/proc/{child.pid}/status") as status:
+            found = re.search(r"^VmHWM:\s+(\d+) kB", status.read(), re.M)
+        most = max(most, int(found[1]) * 1024 if found else 0)
+        child.stdin.close()
     return most
 
 

@@ -3,7 +3,8 @@
 contracts that cite it.
 
 usage: index.py            writes docs/INDEX.md
-       index.py --check    says whether docs/INDEX.md is up to date, and ends with 1 where it is not
+       index.py --check    says whether docs/INDEX.md is up to date, and whether each definition that docs/DEFINITIONS.md
+                           names is there, in the file named; it ends with 1 where not
 
 A public contract is what stands in `requires` and `ensures` of a function that another crate can call, in the ghost members
 of a public trait, and in the ghost fields of a public struct whose fields are public.
@@ -14,6 +15,7 @@ import sys
 
 TOP = os.path.dirname(os.path.dirname(os.path.abspath(__file__)))
 INDEX = os.path.join(TOP, "docs", "INDEX.md")
+DEFINITIONS = os.path.join(TOP, "docs", "DEFINITIONS.md")
 DEFINITION = re.compile(r"^(?=(?:\w+ )*pub )(?:(?:abbrev|unfoldable|opaque|pub|data|record) )+([^\s:(){}]+)")
 IMPORT = re.compile(r"ghost use Rattle\.(\w+)\.specs\.([\w.]+?)(?:\.\{([^}]*)\}|\s+as\s+(\w+))?;")
 HEAD = """# Index of definitions
@@ -165,6 +167,22 @@ def index():
     return "".join(out)
 
 
+def lost():
+    """What docs/DEFINITIONS.md names in its tables and no crate of that section defines in such a file."""
+    there = {(crate, module, name) for crate in crates() for module, name, _ in definitions(crate)}
+    inside = []
+    for line in text_of(DEFINITIONS).splitlines():
+        if line.startswith("## "):
+            inside = re.findall(r"`(\w+)`", line)
+        cells = line.split(" | ")
+        if not line.startswith("| `") or len(cells) < 3:
+            continue
+        modules = re.findall(r"`([^`]+)`", cells[1])
+        for name in re.findall(r"`([^`]+)`", cells[0]):
+            if not any((crate, module, name) in there for crate in inside for module in modules):
+                yield f"{name} ({', '.join(modules)})"
+
+
 def main():
     if sys.argv[1:] not in ([], ["--check"]):
         print("usage: index.py [--check]", file=sys.stderr)
@@ -172,8 +190,14 @@ def main():
     made = index()
     if sys.argv[1:]:
         is_same = os.path.exists(INDEX) and text_of(INDEX) == made
-        print("docs/INDEX.md is up to date" if is_same else "docs/INDEX.md is not up to date: run docs/index.py")
-        return 0 if is_same else 1
+        gone = list(lost())
+        if not is_same:
+            print("docs/INDEX.md is not up to date: run docs/index.py")
+        if gone:
+            print(f"docs/DEFINITIONS.md names what is not there: {'; '.join(gone)}")
+        if is_same and not gone:
+            print("docs/INDEX.md and docs/DEFINITIONS.md are up to date")
+        return 0 if is_same and not gone else 1
     with open(INDEX, "w", encoding="utf-8") as file:
         file.write(made)
     return 0
