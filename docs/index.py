@@ -98,24 +98,27 @@ def blocks(text):
 
 
 def exported(crate):
-    """The names that a library hands out and the modules that it shows, or none of both for a program."""
-    path = os.path.join(TOP, "crates", crate, "src", "lib.rt")
-    if not os.path.exists(path):
-        return None, None
-    text = blanked(text_of(path))
-    uses = " ".join(re.findall(r"pub use ([^;]*);", text))
-    return {*re.findall(r"\w+", uses), *re.findall(r"pub fn (\w+)", text)}, {*re.findall(r"pub mod (\w+)", text)}
+    """The names that a library hands out, itself or in a module that it shows; nothing for a program."""
+    source = os.path.join(TOP, "crates", crate, "src")
+    if not os.path.exists(os.path.join(source, "lib.rt")):
+        return None
+    names, todo = set(), ["lib"]
+    for module in todo:
+        text = blanked(text_of(os.path.join(source, module + ".rt")))
+        names.update(re.findall(r"\w+", " ".join(re.findall(r"pub use ([^;]*);", text))))
+        names.update(re.findall(r"pub (?:fn|struct|enum|trait) (\w+)", text))
+        todo += re.findall(r"pub mod (\w+);", text)
+    return names
 
 
 def contracts(crate):
     """The public contracts of a crate: their name and their text, with the file's imports."""
-    names, modules = exported(crate)
+    names = exported(crate)
     for path in files_in(crate, "src", ".rt"):
-        stem = os.path.splitext(os.path.basename(path))[0]
-        if stem == "tests":
+        if os.path.basename(path) == "tests.rt":
             continue
         text = blanked(text_of(path))
-        shown = lambda name: names is None or name in names or stem in modules
+        shown = lambda name: names is None or name in names
         imports = [it.groups() for it in IMPORT.finditer(text)]
         inside = list(blocks(text))
         for kind, owner, start, end in inside:
