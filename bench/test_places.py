@@ -1,5 +1,5 @@
 #!/usr/bin/env python3
-"""Holds the table "The places of each command" of docs/STEP_TABLE.md to the program.
+"""Holds the table "The places of each command" of docs/STEP_TABLE.md to the proved program.
 
 usage: test_places.py
 
@@ -11,6 +11,8 @@ import subprocess
 import sys
 
 TOP = os.path.dirname(os.path.dirname(os.path.abspath(__file__)))
+PLACES = [os.path.join(TOP, "crates", "shenrun", "out", "shenrun"), os.path.join(TOP, "out", "shenrun")]
+PROGRAM = next((it for it in PLACES if os.access(it, os.X_OK)), None)
 
 # For each row of the table: the commands before the one that it is of, and the command.
 RUNS = {
@@ -55,11 +57,14 @@ def stands_at(before, command, number, code, steps):
     items = [f"1={len(before)}"] * bool(before) + [f"1:{number - 1}"] * (number > 1)
     items += [f"1@{code}", f"1:{steps - number + 6}", "2=1"]
     trace = "\n".join(["shen 1", "heap 8 64 0", "threads 2 0", *lines, "! " + " ".join(items), ""])
-    ran = subprocess.run([os.path.join(TOP, "shenrun"), "replay"], input=trace.encode(), stdout=subprocess.PIPE)
+    ran = subprocess.run([PROGRAM, "replay"], input=trace.encode(), stdout=subprocess.PIPE)
     return ran.returncode == 0 and b"\n2 -\n" in ran.stdout
 
 
 def main():
+    if not PROGRAM:
+        print("test_places.py: there is no proved program yet: rt ci makes it", file=sys.stderr)
+        return 2
     failed, seen = 0, set()
     for command, where, places, steps in rows():
         seen.add((command, where))
