@@ -36,6 +36,9 @@ def churn(commands):
     return [f"{t} {command}" for row in zip(*scripts) for t, command in enumerate(row, 1)]
 
 
-number = int(sys.argv[1]) if len(sys.argv) > 1 else 200_000
+words = sys.argv[1:]
+if len(words) > 1 or not all(word.isdecimal() for word in words):
+    sys.exit("churn_trace.py: it wants the number of commands, if not 200000")
+number = int(words[0]) if words else 200_000
 sys.stdout.write("shen 1\nheap 64 1024 0\nthreads 3 0\n")
 sys.stdout.writelines(line + "\n" for line in churn(number))

@@ -8,8 +8,11 @@ schedule, and few enough objects for its heap. The trace has at most BYTES bytes
 """
 import sys
 
-kind = sys.argv[1] if len(sys.argv) > 1 else "mixed"
-limit = int(sys.argv[2]) if len(sys.argv) > 2 else 16_777_216
+words = sys.argv[1:]
+if len(words) not in (1, 2) or words[0] not in ("short", "mixed") or not all(word.isdecimal() for word in words[1:]):
+    sys.exit("large_trace.py: it wants short or mixed, and then the most bytes, if not 16777216")
+kind = words[0]
+limit = int(words[1]) if len(words) > 1 else 16_777_216
 state = 12345
 
 

@@ -1,0 +1,95 @@
+#!/usr/bin/env python3
+"""Holds the table "The places of each command" of docs/STEP_TABLE.md to the proved program.
+
+usage: test_places.py
+
+Each command of the table is run, and stopped before each of its steps: it must stand at the place that the table names there.
+"""
+import os
+import re
+import subprocess
+import sys
+
+TOP = os.path.dirname(os.path.dirname(os.path.abspath(__file__)))
+PLACES = [os.path.join(TOP, "crates", "shenrun", "out", "shenrun"), os.path.join(TOP, "out", "shenrun")]
+PROGRAM = next((it for it in PLACES if os.access(it, os.X_OK)), None)
+
+# For each row of the table: the commands before the one that it is of, and the command.
+RUNS = {
+    ("`new`", "the thread has no current region yet"): ([], "new 1 1 2"),
+    ("`new`", "its current region has room"): (["new 1 0 0"], "new 2 2 1"),
+    ("`new`", "its current region has too little room"): (["new 1 16 16"], "new 2 16 16"),
+    ("`get`", "the field has an object"): (["set 0 0 0"], "get 1 0 0"),
+    ("`get`", "the field is null"): ([], "get 1 0 0"),
+    ("`set`", ""): ([], "set 0 0 1"),
+    ("`cas`", "`yes`"): ([], "cas 0 0 1 0"),
+    ("`cas`", "`no`"): ([], "cas 0 0 0 0"),
+    ("`xchg`", "the field has an object"): (["set 0 0 0"], "xchg 1 0 0 0"),
+    ("`xchg`", "the field is null"): ([], "xchg 1 0 0 0"),
+    ("`rd`", ""): (["new 1 0 1"], "rd 1 0"),
+    ("`wr`", ""): (["new 1 0 1"], "wr 1 0 7"),
+    ("`copy`", ""): ([], "copy 1 0"),
+    ("`drop`", ""): ([], "drop 1"),
+    ("`same`", ""): ([], "same 0 1"),
+    ("`gc`", ""): ([], "gc"),
+    ("`bad` of any", "the object's root is null"): ([], "cas 1 0 0 0"),
+    ("`bad` of `get`, `rd`, `wr`", "no such field or number"): ([], "rd 0 0"),
+    ("`bad` of `set`, `xchg`", "the same"): ([], "set 0 16 0"),
+    ("`bad` of `cas`", "the same"): ([], "cas 0 16 0 0"),
+}
+
+
+def rows():
+    """The rows of the table: command, where, places and steps, as they are written."""
+    with open(os.path.join(TOP, "docs", "STEP_TABLE.md"), encoding="utf-8") as file:
+        text = file.read()
+    part = text[text.index("## The places of each command") :].split("\n## ")[0]
+    for line in part.splitlines():
+        cells = [cell.strip() for cell in line.strip("|").split("|")]
+        if line.startswith("| `"):
+            yield cells
+
+
+def stands_at(before, command, number, code, steps):
+    """Whether the command, before its step of that number, stands at the place: then `n@code` makes no step. The steps that
+    are made after it leave a `set` one step before its store, and a second thread looks whether it was made."""
+    lines = [f"1 {it}" for it in [*before, command, "set 0 15 0"]] + ["2 get 1 0 15"]
+    items = [f"1={len(before)}"] * bool(before) + [f"1:{number - 1}"] * (number > 1)
+    items += [f"1@{code}", f"1:{steps - number + 6}", "2=1"]
+    trace = "\n".join(["shen 1", "heap 8 64 0", "threads 2 0", *lines, "! " + " ".join(items), ""])
+    ran = subprocess.run([PROGRAM, "replay"], input=trace.encode(), stdout=subprocess.PIPE)
+    return ran.returncode == 0 and b"\n2 -\n" in ran.stdout
+
+
+def main():
+    if not PROGRAM:
+        print("test_places.py: there is no proved program yet: rt ci makes it", file=sys.stderr)
+        return 2
+    failed, seen = 0, set()
+    for command, where, places, steps in rows():
+        seen.add((command, where))
+        if (command, where) not in RUNS:
+            print(f"no run for the row {command}, {where}")
+            failed += 1
+            continue
+        before, line = RUNS[command, where]
+        numbers = line.split()[2:]
+        words = 3 + sum(map(int, numbers)) if line.startswith("new") else 0
+        codes = places.replace(", IW for each word,", " IW" * words).split()
+        wanted = sum(int(it) if it.isdigit() else int(numbers[it == "nums"]) for it in re.findall(r"\w+", steps))
+        if len(codes) != wanted:
+            print(f"{line}: {len(codes)} places, and {wanted} steps")
+            failed += 1
+        for number, code in enumerate(codes, 1):
+            if not stands_at(before, line, number, code, len(codes)):
+                print(f"{line}: step {number} is not at {code}")
+                failed += 1
+    for row in RUNS.keys() - seen:
+        print(f"no row for {', '.join(row)}")
+        failed += 1
+    if not failed:
+        print(f"{len(seen)} rows of places are as the program has them")
+    return 1 if failed else 0
+
+
+sys.exit(main())
