@@ -7,10 +7,13 @@ use Rattle.shen_graph.specs.declared.command.Command.{Command}
 use Rattle.heap_words.specs.declared.config.Config.{Config}
 use Rattle.heap_words.specs.declared.schedule.Item.{Item}
 use Rattle.trace_grammar.specs.Grammar.{Came, Reads}
+use Rattle.trace_refusals.proofs.Exact.{never_both}
+use Rattle.trace_writing.specs.Message.{line_text}
+use Rattle.trace_writing.specs.declared.message.Line.TheVariants.{TooLong}
 use Rattle.shenrun.specs.declared.status.Status.{Status}
 use Rattle.shenrun.specs.declared.status.Status.TheVariants.{Ok, BadWords, BadTrace, Unfinished, ReadFault, WriteFault, NoMemory}
 use Rattle.shenrun.specs.Words.{AskReplay}
-use Rattle.shenrun.specs.Answered.{Input, Output, IsNoTrace, IsTooLong, IsAnswered, IsAnswer}
+use Rattle.shenrun.specs.Answered.{Input, Output, IsRefused, IsTooLong, IsAnswered, IsAnswer}
 
 -- what came from known bytes to their end is these bytes
 came_all : (bytes other : List ℕ) (before after : Option (List ℕ)) → before ≡ Some bytes → Came before after other → other ≡ bytes
@@ -28,23 +31,19 @@ came_short bytes other before after told taken = by_after after (subst (λ (b : 
     by_after None taken = absurd taken
     by_after (Some rest) taken = omega (arith, ap length taken, length-append other rest)
 
-no_bad_trace : (input : Input) (bytes : List ℕ) (config : Config) (scripts : List (List Command)) (items : List Item) → input.before ≡ Some bytes → Reads bytes config scripts items
-    → IsNoTrace input.before input.after ⊎ IsTooLong input.before input.after → ⊥
-no_bad_trace input bytes config scripts items told reads (inl none) =
-    none.3 config scripts items (subst (λ (bs : List ℕ). Reads bs config scripts items) (sym (came_all bytes none.0 input.before input.after told none.1)) reads)
-no_bad_trace input bytes config scripts items told reads (inr long) =
-    absurd (omega (arith, came_short bytes long.0 input.before input.after told long.1, long.2, reads.short))
-
-either_row : {A B C D : Type 0} → (A × C) ⊎ (B × D) → A ⊎ B
-either_row (inl x) = inl x.0
-either_row (inr x) = inr x.0
+no_bad_trace : (input : Input) (out bytes : List ℕ) (config : Config) (scripts : List (List Command)) (items : List Item) → input.before ≡ Some bytes → Reads bytes config scripts items
+    → IsRefused input.before input.after out ⊎ (IsTooLong input.before input.after × (out ≡ line_text TooLong)) → ⊥
+no_bad_trace input out bytes config scripts items told reads (inl refused) =
+    never_both refused.0 config scripts items refused.1 refused.2 (subst (λ (bs : List ℕ). Reads bs config scripts items) (sym (came_all bytes refused.0 input.before input.after told refused.3)) reads) refused.4.0
+no_bad_trace input out bytes config scripts items told reads (inr long) =
+    absurd (omega (arith, came_short bytes long.0.0 input.before input.after told long.0.1, long.0.2, reads.short))
 
 pub complete : (words : List (List ℕ)) (input : Input) (output : Output) (status : Status) → IsAnswered words input output status
     → (bytes : List ℕ) (config : Config) (scripts : List (List Command)) (items : List Item) → AskReplay words → input.before ≡ Some bytes → Reads bytes config scripts items
     → (Rose input.faults_before input.faults_after → ⊥) → (Rose output.before.faults output.after.faults → ⊥) → IsAnswer status
 complete words input output Ok answered bytes config scripts items asked told reads read_fine written_fine = tt
 complete words input output BadWords answered bytes config scripts items asked told reads read_fine written_fine = answered.1.0 asked
-complete words input output BadTrace answered bytes config scripts items asked told reads read_fine written_fine = no_bad_trace input bytes config scripts items told reads (either_row answered.1.1)
+complete words input output BadTrace answered bytes config scripts items asked told reads read_fine written_fine = no_bad_trace input answered.0 bytes config scripts items told reads answered.1.1
 complete words input output Unfinished answered bytes config scripts items asked told reads read_fine written_fine = tt
 complete words input output ReadFault answered bytes config scripts items asked told reads read_fine written_fine = read_fine answered.1.1
 complete words input output WriteFault answered bytes config scripts items asked told reads read_fine written_fine = written_fine answered.0

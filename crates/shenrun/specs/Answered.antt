@@ -1,12 +1,11 @@
 -- What each status of the program means: what was asked for, what came in, and what may be written.
-use Rattle.std.specs.Prelude.{ℕ, ◌≡◌, ◌+◌, ◌≤◌, ◌⊎◌, List, length, Option}
+use Rattle.std.specs.Prelude.{ℕ, ◌≡◌, ◌+◌, ◌⊎◌, List, length, Option}
 use Rattle.std.specs.Io.KnownBytes.{Appends, Consumes}
 use Rattle.shen_base.specs.Count.{Rose, CalledAtMost}
-use Rattle.shen_graph.specs.declared.command.Command.{Command}
-use Rattle.heap_words.specs.declared.config.Config.{Config}
-use Rattle.heap_words.specs.declared.schedule.Item.{Item}
 use Rattle.text_writer.specs.Sending.{Outlet, AppendsFront}
-use Rattle.trace_grammar.specs.Grammar.{most_bytes, Came, Reads}
+use Rattle.trace_grammar.specs.Grammar.{most_bytes, Came}
+use Rattle.trace_grammar.specs.declared.why.Why.{Why}
+use Rattle.trace_refusals.specs.Refused.{Refused}
 use Rattle.trace_writing.specs.Message.{line_text}
 use Rattle.trace_writing.specs.declared.message.Line.TheVariants as line
 use Rattle.shenrun.specs.declared.status.Status.{Status}
@@ -14,10 +13,9 @@ use Rattle.shenrun.specs.declared.status.Status.TheVariants.{Ok, BadWords, BadTr
 use Rattle.shenrun.specs.Words.{IsReplay, AskReplay}
 use Rattle.shenrun.specs.Replayed.{IsReplayed, IsUnfinished}
 
--- all that the source had came, and it is no trace
-abbrev pub IsNoTrace : (before after : Option (List ℕ)) → Type 0
-IsNoTrace before after = (bytes : List ℕ) × Came before after bytes × (length bytes ≤ most_bytes)
-    × ((config : Config) (scripts : List (List Command)) (items : List Item) → Reads bytes config scripts items → ⊥)
+-- all that the source had came, it is refused, and the line that is written says where and why
+abbrev pub IsRefused : (before after : Option (List ℕ)) → List ℕ → Type 0
+IsRefused before after out = (bytes : List ℕ) × (n : ℕ) × (why : Why) × Came before after bytes × Refused bytes n why × (out ≡ line_text (line.BadLine n why))
 
 -- more bytes came than a trace may have
 abbrev pub IsTooLong : (before after : Option (List ℕ)) → Type 0
@@ -35,7 +33,7 @@ abbrev pub Allows : List (List ℕ) → Input → Status → List ℕ → Type 0
 Allows words input Ok out = (steps : ℕ) × IsReplay words steps × ((bytes : List ℕ) × Came input.before input.after bytes × IsReplayed bytes steps out)
 Allows words input BadWords out = (AskReplay words → ⊥) × (out ≡ line_text line.BadWords)
 Allows words input BadTrace out = AskReplay words
-    × ((IsNoTrace input.before input.after × (out ≡ line_text line.BadTrace))
+    × (IsRefused input.before input.after out
     ⊎ (IsTooLong input.before input.after × (out ≡ line_text line.TooLong)))
 Allows words input Unfinished out = (steps : ℕ) × IsReplay words steps × ((bytes : List ℕ) × Came input.before input.after bytes × IsUnfinished bytes steps)
     × (out ≡ line_text (line.Unfinished steps))

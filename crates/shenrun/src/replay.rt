@@ -138,7 +138,9 @@ fn replay<S: Source, K: Sink>(alloc: Global, steps: u64, source: &mut S, sink: &
 {
     let trace = match read_trace(alloc, source) {
         Ok(trace) => trace,
-        Err(TraceFault::NotRead) => return say(sink, Line::BadTrace, Status::BadTrace),
+        Err(TraceFault::BadLine { line, why }) => {
+            return say(sink, Line::BadLine { line, why }, Status::BadTrace);
+        }
         Err(TraceFault::TooLong { .. }) => return say(sink, Line::TooLong, Status::BadTrace),
         Err(TraceFault::ReadFault) => return say(sink, Line::ReadFault, Status::ReadFault),
         Err(TraceFault::NoMemory) => return say(sink, Line::NoMemory, Status::NoMemory),

@@ -364,48 +364,102 @@ const STORED: &str = "shen 1\nheap 4 64 0\nthreads 1 0\n1 new 1 1 1\n1 set 0 3 1
 const STORED_ANSWER: &str =
     "1 1.1\n1 ok\n1 1.1\ngraph\nobject 0.1 - - - 1.1 - - - - - - - - - - - - /\nobject 1.1 - / 0\nroots 1 0.1 1.1 1.1 - - - - - - - - - - - - -\n";
 
-/// What is no trace, behind the head of one.
-const REFUSED: &[&str] = &[
+/// Traces whose head is refused, and what is said of them.
+const BAD_HEADS: &[(&str, &str)] = &[
+    ("", "bad line 1: end of line wanted\n"),
+    ("shen 1", "bad line 1: end of line wanted\n"),
+    ("shen 2\nheap 3\n", "bad line 1: out of range\n"),
+    ("shen 01\n", "bad line 1: number wanted\n"),
+    ("shen 1 \n", "bad line 1: header wanted\n"),
+    ("\n", "bad line 1: header wanted\n"),
+    ("shen 1\r\n", "bad line 1: number wanted\n"),
+    ("shen 1\n", "bad line 2: end of line wanted\n"),
+    ("shen 1\nheap 3 64 0\n", "bad line 2: out of range\n"),
+    ("shen 1\nheap 4 064 0\n", "bad line 2: number wanted\n"),
+    ("shen 1\nheap 65 x 0\n", "bad line 2: out of range\n"),
+    ("shen 1\nheap 4 1025 x\n", "bad line 2: out of range\n"),
+    ("shen 1\nheap 4 64 4\n", "bad line 2: out of range\n"),
+    ("shen 1\nheap 4 64\n", "bad line 2: header wanted\n"),
+    ("shen 1\nheap  4 64 0\n", "bad line 2: header wanted\n"),
+    ("shen 1\nheap 4 64 0\n", "bad line 3: end of line wanted\n"),
+    (
+        "shen 1\nheap 4 64 0\nthreads 1\n",
+        "bad line 3: header wanted\n",
+    ),
+    (
+        "shen 1\nheap 4 64 0\nthread 9 0\n",
+        "bad line 3: header wanted\n",
+    ),
+    (
+        "shen 1\nheap 4 64 0\nthreads 9 x\n",
+        "bad line 3: out of range\n",
+    ),
+];
+
+/// What is refused behind the head of a trace, and what is said of it.
+const REFUSED: &[(&str, &str)] = &[
     // More references than an object may have.
-    "1 new 1 17 0\n",
-    // The last line has no end.
-    "1 set 0 3 1",
-    // Two spaces.
-    "1 set 0 3  1\n",
+    ("1 new 1 17 0\n", "bad line 4: out of range\n"),
+    // The last line has no end, whatever else is wrong with it.
+    ("1 set 0 3 1", "bad line 4: end of line wanted\n"),
+    ("! 1=1\n1 gc", "bad line 5: end of line wanted\n"),
+    // Two spaces have an empty word between, and so has a space at the end.
+    ("1 set 0 3  1\n", "bad line 4: command wanted\n"),
+    ("1 gc\n1 gc \n", "bad line 5: command wanted\n"),
+    ("\n", "bad line 4: command wanted\n"),
     // A needless zero.
-    "1 set 0 03 1\n",
-    // A word that is no command.
-    "1 move 1\n",
-    // A thread that is not there.
-    "2 gc\n",
-    // A command behind the schedule.
-    "! 1=1\n1 gc\n",
+    ("1 set 0 03 1\n", "bad line 4: number wanted\n"),
+    // A word that is no command, and too few numbers, before the thread is looked at.
+    ("1 move 1\n", "bad line 4: command wanted\n"),
+    ("x move 1\n", "bad line 4: command wanted\n"),
+    ("9 gc 1\n", "bad line 4: command wanted\n"),
+    ("1\n", "bad line 4: command wanted\n"),
+    // A thread that is not there, and one that is no number.
+    ("2 gc\n", "bad line 4: out of range\n"),
+    ("0 drop x\n", "bad line 4: out of range\n"),
+    ("x gc\n", "bad line 4: number wanted\n"),
+    ("!x gc\n", "bad line 4: number wanted\n"),
+    // A value of 64 bits, and the first that is larger.
+    (
+        "1 wr 1 0 18446744073709551615\n1 wr 1 0 18446744073709551616\n",
+        "bad line 5: out of range\n",
+    ),
+    // A byte 13 is part of a word.
+    ("1 gc\r\n", "bad line 4: command wanted\n"),
+    // What is no line of the schedule, behind one.
+    ("! 1=1\n1 gc\n", "bad line 5: schedule is last\n"),
+    ("! 1=1\n\n", "bad line 5: schedule is last\n"),
+    ("! 1=1\n!1=1\n", "bad line 5: schedule is last\n"),
+    ("! 1=1\n! 1=0\n", "bad line 5: out of range\n"),
     // A schedule without an item.
-    "!\n",
+    ("!\n", "bad line 4: item wanted\n"),
     // No space before the item.
-    "!1=1\n",
-    // A space behind the item.
-    "! 1=1 \n",
-    // Two spaces before the item.
-    "!  1=1\n",
-    // No steps.
-    "! 1:0\n",
-    // Too many steps.
-    "! 1:4000000001\n",
+    ("!1=1\n", "bad line 4: command wanted\n"),
+    // A space behind the item, and two before it.
+    ("! 1=1 \n", "bad line 4: item wanted\n"),
+    ("!  1=1\n", "bad line 4: item wanted\n"),
+    // No steps, too many, and more than any number holds.
+    ("! 1:0\n", "bad line 4: out of range\n"),
+    ("! 1:4000000001\n", "bad line 4: out of range\n"),
+    ("! 1:18446744073709551617\n", "bad line 4: out of range\n"),
     // A needless zero in an item.
-    "! 1:01\n",
-    // Machines are counted from 1.
-    "! 0:1\n",
+    ("! 1:01\n", "bad line 4: item wanted\n"),
+    // Machines are counted from 1. The form of an item comes before the ranges of the same, and these before the next.
+    ("! 0:1 xx\n", "bad line 4: out of range\n"),
+    ("! xx 0:1\n", "bad line 4: item wanted\n"),
+    ("! 0:x\n", "bad line 4: item wanted\n"),
     // There are two machines.
-    "! 3:1\n",
+    ("! 3:1\n", "bad line 4: out of range\n"),
+    ("! 3@PH\n", "bad line 4: out of range\n"),
     // The control gives no replies.
-    "! 2=1\n",
+    ("! 2=1\n", "bad line 4: out of range\n"),
     // A place that is not in the list.
-    "! 1@ZZ\n",
+    ("! 1@ZZ\n", "bad line 4: item wanted\n"),
+    ("! 3@PHX\n", "bad line 4: item wanted\n"),
     // A mark that is none.
-    "! 1;1\n",
+    ("! 1;1\n", "bad line 4: item wanted\n"),
     // The schedule has no end of line.
-    "! 1=1",
+    ("! 1=1", "bad line 4: end of line wanted\n"),
 ];
 
 const HEAD: &str = "shen 1\nheap 4 64 0\nthreads 1 0\n";
@@ -481,12 +535,61 @@ fn steps_are_counted(rt: HostRuntime) -> Result<(), Fail> {
 
 #[test]
 fn other_traces_are_refused(rt: HostRuntime) -> Result<(), Fail> {
-    for (row, lines) in REFUSED.iter().enumerate() {
+    for (row, (trace, line)) in BAD_HEADS.iter().enumerate() {
+        let (status, written) = outcome(rt.alloc(), REPLAY, trace.as_bytes(), 8, &[], &[])?;
+        assert_eq!(rt; status, Status::BadTrace, "head {row}");
+        assert_eq!(rt; written.as_slice(), line.as_bytes(), "head {row}");
+    }
+    for (row, (lines, line)) in REFUSED.iter().enumerate() {
         let mut bytes = Vec::from_slice(rt.alloc(), HEAD.as_bytes())?;
         bytes.extend_from_slice(lines.as_bytes())?;
         let (status, written) = outcome(rt.alloc(), REPLAY, &bytes, 8, &[], &[])?;
         assert_eq!(rt; status, Status::BadTrace, "row {row}");
-        assert_eq!(rt; written.as_slice(), b"bad trace\n".as_slice(), "row {row}");
+        assert_eq!(rt; written.as_slice(), line.as_bytes(), "row {row}");
+    }
+    Ok(())
+}
+
+/// A trace that is cut is read where the cut is behind a line, from the third on. Else the line that is cut is named, or
+/// that of the head which is to come.
+#[test]
+fn cut_traces_are_refused(rt: HostRuntime) -> Result<(), Fail> {
+    let bytes = STORED.as_bytes();
+    let ends = [7, 19, 31, 43, 55, 67];
+    for length in 0..bytes.len() + 1 {
+        let (status, written) = outcome(rt.alloc(), REPLAY, &bytes[..length], 8, &[], &[])?;
+        if length >= 31 && ends.contains(&length) {
+            assert_eq!(rt; status, Status::Ok, "length {length}");
+        } else {
+            let line = ends.iter().filter(|end| **end <= length).count() + 1;
+            let said = format!(in rt.alloc(); "bad line {line}: end of line wanted\n")?;
+            assert_eq!(rt; status, Status::BadTrace, "length {length}");
+            assert_eq!(rt; written.as_slice(), said.as_bytes(), "length {length}");
+        }
+    }
+    Ok(())
+}
+
+/// A sink with too little room gets what it has room for.
+#[test]
+fn a_full_sink_has_a_front(rt: HostRuntime) -> Result<(), Fail> {
+    let alloc = rt.alloc();
+    let answer = STORED_ANSWER.as_bytes();
+    for room in 0..answer.len() + 1 {
+        let mut words = Vec::new(alloc);
+        words.push(String::from_str(alloc, "replay")?)?;
+        let bytes = Vec::from_slice(alloc, STORED.as_bytes())?;
+        let mut source = MemorySource::new(bytes, 8, Vec::new(alloc));
+        let mut sink = MemorySink::with_room(alloc, room, 5, Vec::new(alloc))?;
+        let status = shenrun(alloc, &words, &mut source, &mut sink);
+        let whole = room == answer.len();
+        let wanted = if whole {
+            Status::Ok
+        } else {
+            Status::WriteFault
+        };
+        assert_eq!(rt; status, wanted, "room {room}");
+        assert_eq!(rt; sink.bytes(), &answer[..room], "room {room}");
     }
     Ok(())
 }
@@ -569,6 +672,51 @@ impl Source for Endless {
         self.calls = self.calls.saturating_add(1);
         Ok(buf.len())
     }
+}
+
+/// A source of one line without an end: so many bytes are left of it.
+#[derive(Drop)]
+struct OneLine {
+    left: usize,
+}
+
+impl Source for OneLine {
+    ghost use Rattle.std.specs.Prelude.{None};
+
+    ghost left = { λ _. None };
+
+    ghost faults = { λ _. 0 };
+
+    fn read(&mut self, buf: &mut [u8]) -> Result<usize, Failed> {
+        let count = buf.len().min(self.left);
+        buf[..count].fill(b'x');
+        self.left -= count;
+        Ok(count)
+    }
+}
+
+/// What is said of one line of so many bytes.
+fn said_of_one_line(alloc: Global, bytes: usize) -> Result<Vec<u8>, Fail> {
+    let mut words = Vec::new(alloc);
+    words.push(String::from_str(alloc, "replay")?)?;
+    let mut sink = MemorySink::with_room(alloc, 100, 100, Vec::new(alloc))?;
+    shenrun(alloc, &words, &mut OneLine { left: bytes }, &mut sink);
+    Ok(Vec::from_slice(alloc, sink.bytes())?)
+}
+
+#[test]
+fn one_long_line_is_refused(rt: HostRuntime) -> Result<(), Fail> {
+    let most = said_of_one_line(rt.alloc(), 16_777_216)?;
+    assert_eq!(rt;
+        most.as_slice(),
+        b"bad line 1: end of line wanted\n".as_slice()
+    );
+    let more = said_of_one_line(rt.alloc(), 16_777_217)?;
+    assert_eq!(rt;
+        more.as_slice(),
+        b"too long: more than 16777216 bytes\n".as_slice()
+    );
+    Ok(())
 }
 
 #[test]

@@ -118,7 +118,7 @@ four_listed : (ns : List ℕ) → length ns ≡ 4 → get_or ns 0 0 ∷ get_or n
 four_listed [] e = absurd (omega arith)
 four_listed (a ∷ ns) e = ap (λ (xs : List ℕ). a ∷ xs) (three_listed ns (omega arith))
 
-made_numbers : (k : Kind) (ns : List ℕ) → AreWithin (limits k) ns → numbers_of (command_from k ns) ≡ ns
+pub made_numbers : (k : Kind) (ns : List ℕ) → AreWithin (limits k) ns → numbers_of (command_from k ns) ≡ ns
 made_numbers New ns h = three_listed ns (within_length (limits New) ns h)
 made_numbers Get ns h = three_listed ns (within_length (limits Get) ns h)
 made_numbers Set ns h = three_listed ns (within_length (limits Set) ns h)
@@ -131,7 +131,7 @@ made_numbers Drop ns h = one_listed ns (within_length (limits Drop) ns h)
 made_numbers Same ns h = two_listed ns (within_length (limits Same) ns h)
 made_numbers Gc ns h = none_listed ns (within_length (limits Gc) ns h)
 
-made_word : (k : Kind) (ns : List ℕ) → word_of (command_from k ns) ≡ word k
+pub made_word : (k : Kind) (ns : List ℕ) → word_of (command_from k ns) ≡ word k
 made_word New ns = refl
 made_word Get ns = refl
 made_word Set ns = refl
@@ -147,7 +147,7 @@ made_word Gc ns = refl
 at_most : (bounds ns : List ℕ) → AreWithin bounds ns → (i : ℕ) → i < length bounds → get_or ns i 0 ≤ get_or bounds i 0
 at_most bounds ns h i lt = within_at bounds ns i h lt
 
-made_valid : (k : Kind) (ns : List ℕ) → AreWithin (limits k) ns → IsValid (command_from k ns) × FitsValue (command_from k ns)
+pub made_valid : (k : Kind) (ns : List ℕ) → AreWithin (limits k) ns → IsValid (command_from k ns) × FitsValue (command_from k ns)
 made_valid New ns h = let at = at_most (limits New) ns h in let a = at 0 (lit< tt) in let b = at 1 (lit< tt) in let c = at 2 (lit< tt) in ((omega arith, omega arith, omega arith), tt)
 made_valid Get ns h = let at = at_most (limits Get) ns h in let a = at 0 (lit< tt) in let b = at 1 (lit< tt) in let c = at 2 (lit< tt) in ((omega arith, omega arith, omega arith), tt)
 made_valid Set ns h = let at = at_most (limits Set) ns h in let a = at 0 (lit< tt) in let b = at 1 (lit< tt) in let c = at 2 (lit< tt) in ((omega arith, omega arith, omega arith), tt)
@@ -160,7 +160,7 @@ made_valid Drop ns h = let at = at_most (limits Drop) ns h in let a = at 0 (lit<
 made_valid Same ns h = let at = at_most (limits Same) ns h in let a = at 0 (lit< tt) in let b = at 1 (lit< tt) in ((omega arith, omega arith), tt)
 made_valid Gc ns h = (tt, tt)
 
-command_again : (c : Command) → command_from (kind_of c) (numbers_of c) ≡ c
+pub command_again : (c : Command) → command_from (kind_of c) (numbers_of c) ≡ c
 command_again (command.New dst refs nums) = refl
 command_again (command.Get dst src field) = refl
 command_again (command.Set obj field val) = refl
@@ -173,7 +173,7 @@ command_again (command.Drop dst) = refl
 command_again (command.Same a b) = refl
 command_again command.Gc = refl
 
-word_again : (c : Command) → word (kind_of c) ≡ word_of c
+pub word_again : (c : Command) → word (kind_of c) ≡ word_of c
 word_again (command.New dst refs nums) = refl
 word_again (command.Get dst src field) = refl
 word_again (command.Set obj field val) = refl
@@ -186,7 +186,7 @@ word_again (command.Drop dst) = refl
 word_again (command.Same a b) = refl
 word_again command.Gc = refl
 
-valid_within : (c : Command) → IsValid c → FitsValue c → AreWithin (limits (kind_of c)) (numbers_of c)
+pub valid_within : (c : Command) → IsValid c → FitsValue c → AreWithin (limits (kind_of c)) (numbers_of c)
 valid_within (command.New dst refs nums) v f = (omega arith, (omega arith, (omega arith, tt)))
 valid_within (command.Get dst src field) v f = (omega arith, (omega arith, (omega arith, tt)))
 valid_within (command.Set obj field val) v f = (omega arith, (omega arith, (omega arith, tt)))

@@ -46,7 +46,7 @@ behind_takes (t ∷ text) (b ∷ bytes) rest e =
     let same : b ≡ t = eqb-true b t p.0 in
     rw same (ap (λ (bs : List ℕ). t ∷ bs) (behind_takes text bytes rest p.1))
 
-same_test : (n : ℕ) → eqb n n ≡ true
+pub same_test : (n : ℕ) → eqb n n ≡ true
 same_test n = grind (arith, nat_tests)
 
 pub behind_again : (text rest : List ℕ) → behind text (text ++ rest) ≡ Some rest
@@ -55,7 +55,7 @@ behind_again (t ∷ text) rest = rw (same_test t) (behind_again text rest)
 
 -- ---- one number
 
-own : IsNumeralModel (AllDigits 10) (digits_value 10)
+pub own : IsNumeralModel (AllDigits 10) (digits_value 10)
 own = numerals_by_value (AllDigits 10) tells_digits
 
 digit_passes : (c : ℕ) → digit_value c < 10 → is_ascii_digit c ≡ true
@@ -66,13 +66,13 @@ digit_count-append [] [] all none = refl
 digit_count-append [] (b ∷ rest) all none = rw none refl
 digit_count-append (d ∷ digits) rest all none = rw (digit_passes d all.0, digit_count-append digits rest all.1 none) (omega arith)
 
-numeral_parts : (digits : List ℕ) → is_numeral digits ≡ true → (0 < length digits) × (get_or digits 0 0 ≡ 48 → length digits ≡ 1)
+pub numeral_parts : (digits : List ℕ) → is_numeral digits ≡ true → (0 < length digits) × (get_or digits 0 0 ≡ 48 → length digits ≡ 1)
 numeral_parts digits e = (grind (arith, nat_tests), λ zero. grind (arith, nat_tests))
 
-numeral_made : (digits : List ℕ) → 0 < length digits → (get_or digits 0 0 ≡ 48 → length digits ≡ 1) → is_numeral digits ≡ true
+pub numeral_made : (digits : List ℕ) → 0 < length digits → (get_or digits 0 0 ≡ 48 → length digits ≡ 1) → is_numeral digits ≡ true
 numeral_made digits some lone = grind (arith, nat_tests)
 
-lone_zero : (n : ℕ) → n < 2 ^ 64 → get_or (decimal n) 0 0 ≡ 48 → length (decimal n) ≡ 1
+pub lone_zero : (n : ℕ) → n < 2 ^ 64 → get_or (decimal n) 0 0 ≡ 48 → length (decimal n) ≡ 1
 lone_zero zero small e = ap length (decimal_digit 0 (omega arith))
 lone_zero (suc n) small e = absurd (omega (arith, first_decimal (suc n) (omega arith) small))
 

@@ -101,7 +101,7 @@ one_proof : (r w m h e : ℕ) → IsProp (IsInRange r w m h e)
 one_proof r w m h e = Prim.hlevel props
 
 -- a configuration is its numbers
-same_config : (c d : Config) → c.regions ≡ d.regions → c.region_words ≡ d.region_words → c.mutators ≡ d.mutators → c.helpers ≡ d.helpers → c.reserve ≡ d.reserve → c ≡ d
+pub same_config : (c d : Config) → c.regions ≡ d.regions → c.region_words ≡ d.region_words → c.mutators ≡ d.mutators → c.helpers ≡ d.helpers → c.reserve ≡ d.reserve → c ≡ d
 same_config c d e1 e2 e3 e4 e5 =
     subst (λ (r : ℕ). (p : IsInRange r d.region_words d.mutators d.helpers d.reserve) → c ≡ of r d.region_words d.mutators d.helpers d.reserve p) e1
     (subst (λ (w : ℕ). (p : IsInRange c.regions w d.mutators d.helpers d.reserve) → c ≡ of c.regions w d.mutators d.helpers d.reserve p) e2

@@ -54,9 +54,10 @@ line_taken c bytes rest after items begun at_end = record {
       (both.0, behind_mark 10 10 after tail (sym at_end ∙ both.1));
 }
 
-pub no_items : (c : Config) (bytes rest : List ℕ) (items : List Item) → HasBegun spaced_item (IsItem c) IsLineEnd bytes rest items → (IsLineEnd rest → ⊥) → BeginsWithNone spaced_item (IsItem c) rest → BeginsWithNone items_and_end (AllByRecursion (IsItem c)) bytes
-no_items c bytes rest items begun more_left none ys tail good digit e =
-    none_follows spaced_item (IsItem c) IsLineEnd bytes rest items items_are_pieces begun more_left none ys (10 ∷ tail) good refl (e ∙ with_end ys tail)
+pub no_items : (c : Config) (bytes rest : List ℕ) (items : List Item) → HasBegun spaced_item (IsItem c) IsLineEnd bytes rest items → (IsLineEnd rest → ⊥) → BeginsWithNone spaced_item (IsItem c) rest
+    → (ys : List Item) (after : List ℕ) → AllByRecursion (IsItem c) ys → bytes ≡ items_and_end ys ++ after → ⊥
+no_items c bytes rest items begun more_left none ys after good e =
+    none_follows spaced_item (IsItem c) IsLineEnd bytes rest items items_are_pieces begun more_left none ys (10 ∷ after) good refl (e ∙ with_end ys after)
 
 -- ---- a whole line
 
@@ -65,9 +66,9 @@ some_item [] bytes after e more_left = absurd (more_left (subst IsLineEnd (sym e
 some_item (i ∷ items) bytes after e more_left = omega arith
 
 -- a line without an item is none
-pub empty_line : (c : Config) (bytes word : List ℕ) → bytes ≡ 33 ∷ word → IsLineEnd word → BeginsWithNone schedule_line (IsScheduleLine c) bytes
-empty_line c bytes word marked at_end [] after good digit e = absurd (omega (arith, good.some))
-empty_line c bytes word marked at_end (y ∷ ys) after good digit e =
+pub empty_line : (c : Config) (bytes word : List ℕ) → bytes ≡ 33 ∷ word → IsLineEnd word → (ys : List Item) (after : List ℕ) → IsScheduleLine c ys → bytes ≡ schedule_line ys ++ after → ⊥
+empty_line c bytes word marked at_end [] after good e = absurd (omega (arith, good.some))
+empty_line c bytes word marked at_end (y ∷ ys) after good e =
     let same : word ≡ items_and_end (y ∷ ys) ++ after = behind_mark 33 33 word (items_and_end (y ∷ ys) ++ after) (sym marked ∙ e) in
     absurd (omega (arith, subst IsLineEnd same at_end))
 
@@ -93,11 +94,6 @@ scheduled c bytes rest turns before after begun at_end made = record {
   spelled = begun.spelled ∙ ap (λ (bs : List ℕ). flat_map schedule_line turns ++ bs) at_end ∙ append-nil (flat_map schedule_line turns);
   items = made;
 }
-
-pub no_schedule : (c : Config) (bytes rest : List ℕ) (turns : List (List Item)) → HasBegun schedule_line (IsScheduleLine c) IsEmpty bytes rest turns → (IsEmpty rest → ⊥) → BeginsWithNone schedule_line (IsScheduleLine c) rest
-    → (ys : List (List Item)) → AllByRecursion (IsScheduleLine c) ys → bytes ≡ flat_map schedule_line ys → ⊥
-no_schedule c bytes rest turns begun more_left none ys good e =
-    none_follows schedule_line (IsScheduleLine c) IsEmpty bytes rest turns lines_are_pieces begun more_left none ys [] good refl (e ∙ sym (append-nil (flat_map schedule_line ys)))
 
 -- the items of one line more
 pub items_more : (before mid after : List Item) (turns : List (List Item)) (items : List Item) → mid ≡ before ++ items_of turns → after ≡ mid ++ items → after ≡ before ++ items_of (turns ++ items ∷ [])

@@ -4,7 +4,8 @@ use Rattle.std.specs.Prelude.{filter, replicate, slice_index_or}
 use Rattle.std.specs.List.{flat_map, AllByRecursion}
 use Rattle.std.proofs.lemmas.Bool.{eqb-true}
 use Rattle.std.proofs.lemmas.Bool.Decides.{nat_tests}
-use Rattle.std.proofs.lemmas.List.{map-append, same_lists, append-nil, get_or-set_same, get_or-set_other, length-set, length-replicate, get_or-replicate}
+use Rattle.std.specs.Fmt.{decimal}
+use Rattle.std.proofs.lemmas.List.{length-append, map-append, same_lists, append-nil, get_or-set_same, get_or-set_other, length-set, length-replicate, get_or-replicate}
 use Rattle.std.proofs.lemmas.List.Elements.{filter-append}
 use Rattle.std.proofs.lemmas.List.Concat.{flat_map-cons}
 use Rattle.std.proofs.lemmas.List.FromFn.{get_or-map-range_with_len, length-map-range_with_len}
@@ -13,7 +14,7 @@ use Rattle.shen_graph.specs.declared.command.Command.{Command}
 use Rattle.heap_words.specs.declared.config.Config.{Config}
 use Rattle.heap_words.specs.declared.schedule.Item.{Item}
 use Rattle.heap_words.specs.declared.schedule.Item.TheVariants.{Steps, Until, Replies}
-use Rattle.trace_grammar.specs.Spelling.{Line, IsLine, line, header, IsItem, IsScheduleLine, schedule_line}
+use Rattle.trace_grammar.specs.Spelling.{Line, IsLine, line, header, space, newline, numbers, word_of, numbers_of, IsItem, IsScheduleLine, schedule_line}
 use Rattle.trace_grammar.specs.Front.{IsBehindCommands}
 use Rattle.trace_grammar.specs.Scanning.{numeral, number_at, positive_at, line_at, sizes_at}
 use Rattle.trace_grammar.specs.Grammar.{most_bytes, script_of, scripts_of, with_line, HasTaken, HasScheduled, Reads}
@@ -92,6 +93,11 @@ taken_more threads bytes rest after scripts news l taken fits parts made = recor
   by_thread = made ∙ ap (λ (s : List (List Command)). with_line s l) taken.by_thread ∙ scripts_more threads taken.lines l fits;
 }
 
+pub taken_count : (threads : ℕ) (bytes rest after : List ℕ) (scripts news : List (List Command)) (l : Line) (taken : HasTaken threads bytes rest scripts) (fits : IsLine threads l) (parts : rest ≡ line l ++ after) (made : news ≡ with_line scripts l)
+    → length (taken_more threads bytes rest after scripts news l taken fits parts made).lines ≡ length taken.lines + 1
+unfolding taken_more
+taken_count threads bytes rest after scripts news l taken fits parts made = length-append taken.lines (l ∷ [])
+
 flat_append : (x : Line) (xs : List Line) (rest : List ℕ) → flat_map line (x ∷ xs) ++ rest ≡ line x ++ (flat_map line xs ++ rest)
 flat_append x xs rest = ap (λ (bs : List ℕ). bs ++ rest) (flat_map-cons line x xs) ∙ append_assoc (line x) (flat_map line xs) rest
 
@@ -100,22 +106,6 @@ no_line : (threads : ℕ) (bytes : List ℕ) → IsBehindCommands bytes → line
 unfolding line_at positive_at number_at numeral
 no_line threads [] behind = refl
 no_line threads (b ∷ bytes) behind = rw behind refl
-
--- lines that begin the same bytes are the same, as far as they go
-same_lines : (threads : ℕ) (xs ys : List Line) (rest after : List ℕ) → threads < 2 ^ 64 → AllByRecursion (IsLine threads) xs → AllByRecursion (IsLine threads) ys → IsBehindCommands after → flat_map line xs ++ rest ≡ flat_map line ys ++ after → (more : List Line) × (rest ≡ flat_map line more ++ after) × AllByRecursion (IsLine threads) more
-same_lines threads [] ys rest after small all_xs all_ys behind e = (ys, e, all_ys)
-same_lines threads (x ∷ xs) [] rest after small all_xs all_ys behind e =
-    let again = line_again threads x (flat_map line xs ++ rest) small all_xs.0 in
-    let here : line_at threads after ≡ Some (x, flat_map line xs ++ rest) = ap (line_at threads) (sym (sym (flat_append x xs rest) ∙ e)) ∙ again in
-    let none = no_line threads after behind in
-    absurd cc
-same_lines threads (x ∷ xs) (y ∷ ys) rest after small all_xs all_ys behind e =
-    let here : line_at threads (line x ++ (flat_map line xs ++ rest)) ≡ Some (x, flat_map line xs ++ rest) = line_again threads x (flat_map line xs ++ rest) small all_xs.0 in
-    let there : line_at threads (line y ++ (flat_map line ys ++ after)) ≡ Some (y, flat_map line ys ++ after) = line_again threads y (flat_map line ys ++ after) small all_ys.0 in
-    let one : Line × List ℕ = (x, flat_map line xs ++ rest) in
-    let two : Line × List ℕ = (y, flat_map line ys ++ after) in
-    let same : one ≡ two = same_some one two (sym here ∙ ap (line_at threads) (sym (flat_append x xs rest) ∙ e ∙ flat_append y ys after) ∙ there) in
-    same_lines threads xs ys rest after small all_xs.1 all_ys.1 behind (ap (λ (p : Line × List ℕ). p.1) same)
 
 -- lines with something behind them that is none are the same
 pub lines_once : (threads : ℕ) (xs ys : List Line) (rest after : List ℕ) → threads < 2 ^ 64 → AllByRecursion (IsLine threads) xs → AllByRecursion (IsLine threads) ys → IsBehindCommands rest → IsBehindCommands after → flat_map line xs ++ rest ≡ flat_map line ys ++ after → (xs ≡ ys) × (rest ≡ after)
@@ -135,31 +125,6 @@ lines_once threads (x ∷ xs) (y ∷ ys) rest after small all_xs all_ys p q e =
     let others = lines_once threads xs ys rest after small all_xs.1 all_ys.1 p q (ap (λ (z : Line × List ℕ). z.1) same) in
     (ap (λ (z : Line × List ℕ). z.0 ∷ xs) same ∙ ap (λ (zs : List Line). y ∷ zs) others.0, others.1)
 
--- where no line begins, all lines were taken
-pub all_lines_taken : (threads : ℕ) (bytes rest : List ℕ) (scripts : List (List Command)) → threads < 2 ^ 64 → HasTaken threads bytes rest scripts → IsBehindCommands rest
-    → (ys : List Line) (after : List ℕ) → AllByRecursion (IsLine threads) ys → IsBehindCommands after → bytes ≡ flat_map line ys ++ after → rest ≡ after
-all_lines_taken threads bytes rest scripts small taken at_end ys after all behind e =
-    let m = same_lines threads taken.lines ys rest after small taken.in_range all behind (sym taken.spelled ∙ e) in
-    by_first m.0 m.1 m.2
-  where
-    by_first : (more : List Line) → rest ≡ flat_map line more ++ after → AllByRecursion (IsLine threads) more → rest ≡ after
-    by_first [] spelled fits = spelled
-    by_first (l ∷ more) spelled fits =
-        let here : line_at threads rest ≡ Some (l, flat_map line more ++ after) = ap (line_at threads) (spelled ∙ flat_append l more after) ∙ line_again threads l (flat_map line more ++ after) small fits.0 in
-        let none = no_line threads rest at_end in
-        absurd cc
-
--- a line that could not be taken is in no trace
-pub no_line_left : (threads : ℕ) (bytes rest : List ℕ) (scripts : List (List Command)) → threads < 2 ^ 64 → HasTaken threads bytes rest scripts → (IsBehindCommands rest → ⊥)
-    → ((l : Line) (end : List ℕ) → IsLine threads l → rest ≡ line l ++ end → ⊥) → (ys : List Line) (after : List ℕ) → AllByRecursion (IsLine threads) ys → IsBehindCommands after → bytes ≡ flat_map line ys ++ after → ⊥
-no_line_left threads bytes rest scripts small taken some refused ys after all behind e =
-    let m = same_lines threads taken.lines ys rest after small taken.in_range all behind (sym taken.spelled ∙ e) in
-    by_first m.0 m.1 m.2
-  where
-    by_first : (more : List Line) → rest ≡ flat_map line more ++ after → AllByRecursion (IsLine threads) more → ⊥
-    by_first [] spelled fits = some (subst IsBehindCommands (sym spelled) behind)
-    by_first (l ∷ more) spelled fits = refused l (flat_map line more ++ after) fits.0 (spelled ∙ flat_append l more after)
-
 -- ---- whole traces
 
 -- with no line each script is empty
@@ -172,49 +137,10 @@ scripts_of_none threads =
     let within : k < threads = omega (arith, olds) in
     get_or-replicate threads k none d within ∙ sym (at_thread threads [] k d within))
 
--- the same bytes have one head and one rest
-pub one_head : (bytes rest after : List ℕ) (c d : Config) → bytes ≡ header c ++ rest → bytes ≡ header d ++ after → (c.mutators ≡ d.mutators) × (c.helpers ≡ d.helpers) × (rest ≡ after)
-one_head bytes rest after c d e f =
-    let one : (List ℕ × List ℕ) × List ℕ = ((c.regions ∷ c.region_words ∷ c.reserve ∷ [], c.mutators ∷ c.helpers ∷ []), rest) in
-    let two : (List ℕ × List ℕ) × List ℕ = ((d.regions ∷ d.region_words ∷ d.reserve ∷ [], d.mutators ∷ d.helpers ∷ []), after) in
-    let same : one ≡ two = same_some one two (sym (sizes_again c rest) ∙ ap sizes_at (sym e ∙ f) ∙ sizes_again d after) in
-    (ap (λ (x : (List ℕ × List ℕ) × List ℕ). get_or x.0.1 0 0) same, ap (λ (x : (List ℕ × List ℕ) × List ℕ). get_or x.0.1 1 0) same, ap (λ (x : (List ℕ × List ℕ) × List ℕ). x.1) same)
-
 -- the schedule stands behind the commands
 pub turns_behind : (turns : List (List Item)) → IsBehindCommands (flat_map schedule_line turns)
 turns_behind [] = tt
 turns_behind (items ∷ turns) = refl
-
--- where no lines were read, the bytes are no trace
-pub no_trace : (bytes rest : List ℕ) (c : Config) (threads : ℕ) → bytes ≡ header c ++ rest → threads ≡ c.mutators
-    → ((lines : List Line) (after : List ℕ) → AllByRecursion (IsLine threads) lines → IsBehindCommands after → rest ≡ flat_map line lines ++ after → ⊥)
-    → (config : Config) (scripts : List (List Command)) (items : List Item) → Reads bytes config scripts items → ⊥
-no_trace bytes rest c threads found same none config scripts items reads =
-    let h = one_head bytes rest (flat_map line reads.lines ++ flat_map schedule_line reads.turns) c config found reads.spelled in
-    none reads.lines (flat_map schedule_line reads.turns) (subst (λ (n : ℕ). AllByRecursion (IsLine n) reads.lines) (sym (same ∙ h.0)) reads.in_range) (turns_behind reads.turns) h.2
-
-same_item : (c d : Config) → c.mutators ≡ d.mutators → c.helpers ≡ d.helpers → (i : Item) → IsItem c i → IsItem d i
-same_item c d e f (Steps number count) fits = (omega arith, fits.1)
-same_item c d e f (Until number place) fits = omega arith
-same_item c d e f (Replies number count) fits = (omega arith, fits.1)
-
-same_items : (c d : Config) → c.mutators ≡ d.mutators → c.helpers ≡ d.helpers → (items : List Item) → AllByRecursion (IsItem c) items → AllByRecursion (IsItem d) items
-same_items c d e f [] all = tt
-same_items c d e f (i ∷ items) all = (same_item c d e f i all.0, same_items c d e f items all.1)
-
-same_turns : (c d : Config) → c.mutators ≡ d.mutators → c.helpers ≡ d.helpers → (turns : List (List Item)) → AllByRecursion (IsScheduleLine c) turns → AllByRecursion (IsScheduleLine d) turns
-same_turns c d e f [] all = tt
-same_turns c d e f (items ∷ turns) all = (record { some = all.0.some; in_range = same_items c d e f items all.0.in_range }, same_turns c d e f turns all.1)
-
--- where no schedule was read behind the lines, the bytes are no trace
-pub no_turns : (bytes rest behind : List ℕ) (c : Config) (threads : ℕ) → bytes ≡ header c ++ rest → threads ≡ c.mutators
-    → ((lines : List Line) (after : List ℕ) → AllByRecursion (IsLine threads) lines → IsBehindCommands after → rest ≡ flat_map line lines ++ after → behind ≡ after)
-    → ((turns : List (List Item)) → AllByRecursion (IsScheduleLine c) turns → behind ≡ flat_map schedule_line turns → ⊥)
-    → (config : Config) (scripts : List (List Command)) (items : List Item) → Reads bytes config scripts items → ⊥
-no_turns bytes rest behind c threads found same only none config scripts items reads =
-    let h = one_head bytes rest (flat_map line reads.lines ++ flat_map schedule_line reads.turns) c config found reads.spelled in
-    none reads.turns (same_turns config c (sym h.0) (sym h.1) reads.turns reads.turns_in_range)
-    (only reads.lines (flat_map schedule_line reads.turns) (subst (λ (n : ℕ). AllByRecursion (IsLine n) reads.lines) (sym (same ∙ h.0)) reads.in_range) (turns_behind reads.turns) h.2)
 
 -- what was read is a trace
 pub whole : (bytes rest behind : List ℕ) (c : Config) (threads : ℕ) (scripts : List (List Command)) (items : List Item) → length bytes ≤ most_bytes → bytes ≡ header c ++ rest → threads ≡ c.mutators
@@ -229,3 +155,28 @@ whole bytes rest behind c threads scripts items short found same taken turned = 
   in_order = turned.items;
   short = short;
 }
+
+-- there are no more lines than bytes
+pub few_lines : (lines : List Line) → length lines ≤ length (flat_map line lines)
+few_lines [] = omega arith
+few_lines (l ∷ lines) =
+    let front = ap length (flat_map-cons line l lines) in
+    let sizes = length-append (line l) (flat_map line lines) in
+    let parts = length-append (decimal l.thread) (space ∷ (word_of l.command ++ (numbers (numbers_of l.command) ++ newline ∷ []))) in
+    let others = few_lines lines in
+    omega (arith, front, sizes, parts, others)
+
+pub few_turns : (turns : List (List Item)) → length turns ≤ length (flat_map schedule_line turns)
+few_turns [] = omega arith
+few_turns (items ∷ turns) =
+    let front = ap length (flat_map-cons schedule_line items turns) in
+    let sizes = length-append (schedule_line items) (flat_map schedule_line turns) in
+    let others = few_turns turns in
+    omega (arith, front, sizes, others)
+
+-- a line of a command is none of the schedule
+pub command_is_no_turn : (threads : ℕ) (l : Line) (bytes rest : List ℕ) → threads < 2 ^ 64 → IsLine threads l → bytes ≡ line l ++ rest → IsBehindCommands bytes → ⊥
+command_is_no_turn threads l bytes rest small fits e behind =
+    let here : line_at threads bytes ≡ Some (l, rest) = ap (line_at threads) e ∙ line_again threads l rest small fits in
+    let none = no_line threads bytes behind in
+    absurd cc

@@ -1,12 +1,23 @@
+use trace_grammar::Why;
+
 /// Why no trace was read.
 #[derive(Clone, Copy, Debug, PartialEq, Eq)]
 pub enum TraceFault {
-    /// The bytes are no trace.
-    NotRead,
+    /// This line of the bytes, counted from 1, is the first that is outside the grammar, and why.
+    BadLine { line: u64, why: Why },
     /// There are more bytes than a trace may have. So many were read.
     TooLong { bytes: u64 },
     /// The source failed.
     ReadFault,
+    /// Memory was refused.
+    NoMemory,
+}
+
+/// Why a line was not taken.
+#[derive(Clone, Copy, Debug, PartialEq, Eq)]
+pub(crate) enum LineFault {
+    /// No line of the kind stands there.
+    Refused,
     /// Memory was refused.
     NoMemory,
 }

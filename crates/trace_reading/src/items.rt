@@ -6,8 +6,8 @@ ghost use Rattle.heap_words.specs.declared.place.Place.{Place as Spot};
 ghost use Rattle.trace_grammar.specs.Spelling.{IsItem, aim, item};
 ghost use Rattle.trace_grammar.specs.Front.{BeginsWith, BeginsWithNone, IsAny, IsItemOf};
 
-use crate::scan::positive_at;
 use heap_words::{Config, Item, Place};
+use trace_scan::positive_at;
 
 /// The most steps, or replies, of an item.
 const MOST_COUNT: u64 = 4_000_000_000;

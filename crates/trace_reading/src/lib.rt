@@ -3,13 +3,10 @@
 
 mod fault;
 mod items;
-mod kind;
 mod line;
 mod read;
-mod scan;
 mod schedule_lines;
 mod source_bytes;
 
 pub use fault::TraceFault;
 pub use read::read_trace;
-pub use scan::number_in;

@@ -4,9 +4,8 @@ ghost use Rattle.std.specs.Option.{option_map};
 ghost use Rattle.trace_grammar.specs.Spelling.{Line};
 ghost use Rattle.trace_grammar.specs.Scanning.{command_at, line_at};
 
-use crate::kind::kind_at;
-use crate::scan::{numbers_at, positive_at, text_at};
 use shen_graph::Command;
+use trace_scan::{kind_at, numbers_at, positive_at, text_at};
 
 /// The command at the front, and what is behind its numbers.
 #[tactic(auto, unfolding(trace_grammar::specs::Scanning::command_at))]

@@ -1,5 +1,5 @@
 //! Reading a trace.
-ghost use Rattle.std.specs.Prelude.{◌≡◌, ◌≢◌, ◌↔◌, ℕ, ◌+◌, ◌<◌, ◌≤◌, List, [], ◌++◌, Err, length, take, IfSome, IfNone, IfOk, OnOk, IfErr, IsTrue};
+ghost use Rattle.std.specs.Prelude.{false, ◌≡◌, ◌≢◌, ◌↔◌, ℕ, ◌+◌, ◌<◌, ◌≤◌, List, [], ◌++◌, Err, length, take, Some, IfSome, IfNone, IfOk, OnOk, IfErr, IsTrue};
 ghost use Rattle.std.specs.List.{flat_map, AllByRecursion};
 ghost use Rattle.std.specs.Option.{option_map};
 ghost use Rattle.std.specs.Io.KnownBytes.{Consumes};
@@ -11,11 +11,14 @@ ghost use Rattle.heap_words.specs.declared.schedule.Item.{Item};
 ghost use Rattle.trace_grammar.specs.Scanning.{sizes_at};
 ghost use Rattle.trace_grammar.specs.Front.{IsBehindCommands};
 ghost use Rattle.trace_grammar.specs.Grammar.{most_bytes, with_line, scripts_of, HasTaken, Reads, Came};
+ghost use Rattle.trace_grammar.specs.declared.why.Why.{Why as Cause};
+ghost use Rattle.trace_refusals.specs.Causes.{parts};
+ghost use Rattle.trace_refusals.specs.Refused.{body_stage, cause_of, StopsAt, Refused};
+ghost use Rattle.trace_reading.specs.Stops.{StopsCommands};
 ghost use Rattle.trace_reading.specs.Faults.{IsTextFault};
 
-use crate::fault::TraceFault;
+use crate::fault::{LineFault, TraceFault};
 use crate::line::line_at;
-use crate::scan::{numbers_at, text_at};
 use crate::schedule_lines::take_schedule;
 use crate::source_bytes::all_bytes;
 use heap_words::{Config, Schedule};
@@ -23,6 +26,8 @@ use shen_base::Source;
 use shen_graph::Script;
 use std::alloc::Global;
 use trace_grammar::{Scripts, Trace};
+use trace_refusals::{body_refusal, head_refusal};
+use trace_scan::{numbers_at, text_at};
 
 /// The numbers at the head of a trace, and the bytes behind its three lines.
 #[tactic(auto, unfolding(trace_grammar::specs::Scanning::sizes_at))]
@@ -63,18 +68,17 @@ fn take_line<'a>(
     threads: u32,
     bytes: &'a [u8],
     scripts: &mut Vec<Script>,
-) -> Result<&'a [u8], TraceFault>
+) -> Result<&'a [u8], LineFault>
     requires { length scripts.old.items ≡ threads }
     ensures ok { IfOk result (λ rest. (l : Line) × IsLine threads l × (bytes.now ≡ line l ++ rest.now) × (scripts.new.items ≡ with_line scripts.old.items l)) }
-    ensures fault { IfErr result IsTextFault }
-    ensures not_read { result ≡ Err TraceFault.NotRead → (l : Line) (rest : List ℕ) → IsLine threads l → bytes.now ≢ line l ++ rest }
+    ensures refused { result ≡ Err LineFault.Refused → (l : Line) (rest : List ℕ) → IsLine threads l → bytes.now ≢ line l ++ rest }
 {
     let Some((thread, command, rest)) = line_at(threads, bytes) else {
-        return Err(TraceFault::NotRead);
+        return Err(LineFault::Refused);
     };
     match scripts[thread as usize - 1].push(alloc, command) {
         Ok(()) => Ok(rest),
-        Err(_) => Err(TraceFault::NoMemory),
+        Err(_) => Err(LineFault::NoMemory),
     }
 }
 
@@ -88,24 +92,55 @@ fn is_behind_commands(bytes: &[u8]) -> bool
     }
 }
 
-/// Takes all lines of commands, and returns the bytes behind them.
+/// Takes all lines of commands, the first of which is line 4, and returns the number of the line behind them and the bytes
+/// from it on.
 fn take_lines<'a>(
     alloc: Global,
-    threads: u32,
+    config: &Config,
     bytes: &'a [u8],
     scripts: &mut Vec<Script>,
-) -> Result<&'a [u8], TraceFault>
-    requires { scripts.old.items ≡ scripts_of threads [] }
-    ensures ok { IfOk result (λ rest. HasTaken threads bytes.now rest.now scripts.new.items) }
-    ensures only { IfOk result (λ rest. (lines : List Line) (after : List ℕ) → AllByRecursion (IsLine threads) lines → IsBehindCommands after → bytes.now ≡ flat_map line lines ++ after → rest.now ≡ after) }
+) -> Result<(u64, &'a [u8]), TraceFault>
+    requires scripts { scripts.old.items ≡ scripts_of config.now.mutators [] }
+    requires few { length bytes.now ≤ most_bytes }
+    ensures ok { IfOk result (λ x. (taken : HasTaken config.now.mutators bytes.now x.1.now scripts.new.items) × (x.0 ≡ 4 + length taken.lines)) }
+    ensures behind { IfOk result (λ x. IsBehindCommands x.1.now) }
     ensures fault { IfErr result IsTextFault }
-    ensures not_read { result ≡ Err TraceFault.NotRead → (lines : List Line) (after : List ℕ) → AllByRecursion (IsLine threads) lines → IsBehindCommands after → bytes.now ≢ flat_map line lines ++ after }
+    ensures bad_line { (n : ℕ) (why : Cause) → result ≡ Err (TraceFault.BadLine n why) → StopsCommands config.now bytes.now n why }
 {
+    let threads = config.mutators() as u32;
     let mut rest = bytes;
+    let mut line = 4;
     'lines: while !is_behind_commands(rest) {
-        rest = take_line(alloc, threads, rest, scripts)?;
+        rest = match take_line(alloc, threads, rest, scripts) {
+            Ok(behind) => behind,
+            Err(LineFault::NoMemory) => return Err(TraceFault::NoMemory),
+            Err(LineFault::Refused) => return Err(bad_command(config, line, rest)),
+        };
+        line += 1;
     }
-    Ok(rest)
+    Ok((line, rest))
+}
+
+/// The fault of bytes that do not begin with a line of a command, where this is line `number`.
+fn bad_command(config: &Config, number: u64, bytes: &[u8]) -> TraceFault
+    requires some { IsBehindCommands bytes.now → ⊥ }
+    requires refused { (l : Line) (rest : List ℕ) → IsLine config.now.mutators l → bytes.now ≢ line l ++ rest }
+    ensures { (why : Cause) × (result ≡ TraceFault.BadLine number why) × (cause_of (body_stage config.now false) (parts 10 bytes.now) ≡ Some why) }
+{
+    let why = body_refusal(config, false, bytes).unwrap();
+    TraceFault::BadLine { line: number, why }
+}
+
+/// The fault of bytes that do not begin with the head of a trace.
+fn bad_head(bytes: &[u8]) -> TraceFault
+    requires { (config : Sizes) (rest : List ℕ) → bytes.now ≢ header config ++ rest }
+    ensures { (n : ℕ) × (why : Cause) × (result ≡ TraceFault.BadLine n why) × StopsAt bytes.now n why }
+{
+    let refusal = head_refusal(bytes).unwrap();
+    TraceFault::BadLine {
+        line: refusal.line,
+        why: refusal.why,
+    }
 }
 
 /// A script without a command for each of so many threads.
@@ -130,18 +165,17 @@ fn trace_of(alloc: Global, bytes: &[u8]) -> Result<Trace, TraceFault>
     requires { length bytes.now ≤ most_bytes }
     ensures ok { IfOk result (λ trace. Reads bytes.now trace.config trace.scripts trace.schedule) }
     ensures fault { IfErr result IsTextFault }
-    ensures not_read { result ≡ Err TraceFault.NotRead → (config : Sizes) (scripts : List (List Command)) (items : List Item) → Reads bytes.now config scripts items → ⊥ }
+    ensures bad_line { (n : ℕ) (why : Cause) → result ≡ Err (TraceFault.BadLine n why) → Refused bytes.now n why }
 {
     let Some((config, rest)) = config_at(bytes) else {
-        return Err(TraceFault::NotRead);
+        return Err(bad_head(bytes));
     };
-    let threads = config.mutators() as u32;
-    let mut scripts = empty_scripts(alloc, threads)?;
+    let mut scripts = empty_scripts(alloc, config.mutators() as u32)?;
     let Ok(mut schedule) = Schedule::open(alloc) else {
         return Err(TraceFault::NoMemory);
     };
-    let turns = take_lines(alloc, threads, rest, &mut scripts)?;
-    take_schedule(alloc, &config, turns, &mut schedule)?;
+    let (line, turns) = take_lines(alloc, &config, rest, &mut scripts)?;
+    take_schedule(alloc, &config, line, turns, &mut schedule)?;
     Ok(Trace {
         config,
         scripts: Scripts::from_vec(scripts),
@@ -154,9 +188,8 @@ fn trace_of(alloc: Global, bytes: &[u8]) -> Result<Trace, TraceFault>
 pub fn read_trace<S: Source>(alloc: Global, source: &mut S) -> Result<Trace, TraceFault>
     ensures ok { IfOk result (λ trace. (bytes : List ℕ) × Came (S.left source.old) (S.left source.new) bytes × Reads bytes trace.config trace.scripts trace.schedule) }
 
-    // The bytes came whole, and are outside the grammar.
-    ensures not_read { result ≡ Err TraceFault.NotRead → (bytes : List ℕ) × Came (S.left source.old) (S.left source.new) bytes × (length bytes ≤ most_bytes)
-        × ((config : Sizes) (scripts : List (List Command)) (items : List Item) → Reads bytes config scripts items → ⊥) }
+    // The bytes came whole, and are refused at that line and for that cause.
+    ensures bad_line { (n : ℕ) (why : Cause) → result ≡ Err (TraceFault.BadLine n why) → (bytes : List ℕ) × Came (S.left source.old) (S.left source.new) bytes × Refused bytes n why }
 
     ensures too_long { (n : ℕ) → result ≡ Err (TraceFault.TooLong n) → (n ≡ most_bytes + 1)
         × ((bytes : List ℕ) × Consumes (S.left source.old) (S.left source.new) bytes × (length bytes ≡ most_bytes + 1)) }

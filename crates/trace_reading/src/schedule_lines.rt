@@ -1,17 +1,22 @@
 //! The lines of a schedule.
-ghost use Rattle.std.specs.Prelude.{◌≡◌, ◌↔◌, List, ◌∷◌, [], ◌++◌, Err, IfOk, OnOk, IfErr, IsTrue};
+ghost use Rattle.std.specs.Prelude.{◌≡◌, ◌↔◌, List, ◌∷◌, [], ◌++◌, Err, IfOk, OnOk, IfErr, IsTrue, ◌≢◌, nat_lt, Some, ◌≤◌, ◌+◌, ◌<◌, ◌^◌, ℕ, length};
 ghost use Rattle.std.specs.List.{flat_map, AllByRecursion};
 ghost use Rattle.heap_words.specs.declared.schedule.Item.{Item as Piece};
 ghost use Rattle.trace_grammar.specs.Spelling.{IsItem, spaced_item, items_and_end, IsScheduleLine, schedule_line};
-ghost use Rattle.trace_grammar.specs.Front.{IsLineEnd, BeginsWith, BeginsWithNone};
+ghost use Rattle.trace_grammar.specs.Front.{IsLineEnd, IsBehindCommands, BeginsWith, BeginsWithNone};
 ghost use Rattle.trace_grammar.specs.Grammar.{items_of, HasScheduled};
+ghost use Rattle.trace_grammar.specs.declared.why.Why.{Why as Cause};
 ghost use Rattle.trace_reading.specs.Faults.{IsTextFault};
+ghost use Rattle.trace_refusals.specs.Causes.{parts};
+ghost use Rattle.trace_refusals.specs.Refused.{body_stage, cause_of};
+ghost use Rattle.trace_reading.specs.Stops.{StopsTurns};
 
-use crate::fault::TraceFault;
+use crate::fault::{LineFault, TraceFault};
 use crate::items::item_at;
-use crate::scan::text_at;
 use heap_words::{Config, Schedule};
 use std::alloc::Global;
+use trace_refusals::body_refusal;
+use trace_scan::text_at;
 
 /// Takes a space and an item, and adds the item to the schedule.
 fn take_item<'a>(
@@ -19,20 +24,19 @@ fn take_item<'a>(
     config: &Config,
     bytes: &'a [u8],
     schedule: &mut Schedule,
-) -> Result<&'a [u8], TraceFault>
+) -> Result<&'a [u8], LineFault>
     ensures ok { IfOk result (λ rest. (i : Piece) × BeginsWith spaced_item (IsItem config.now) bytes.now i rest.now × (schedule.new ≡ schedule.old ++ i ∷ [])) }
-    ensures fault { IfErr result IsTextFault }
-    ensures not_read { result ≡ Err TraceFault.NotRead → BeginsWithNone spaced_item (IsItem config.now) bytes.now }
+    ensures refused { result ≡ Err LineFault.Refused → BeginsWithNone spaced_item (IsItem config.now) bytes.now }
 {
     let Some(word) = text_at(b" ", bytes) else {
-        return Err(TraceFault::NotRead);
+        return Err(LineFault::Refused);
     };
     let Some((item, rest)) = item_at(config, word) else {
-        return Err(TraceFault::NotRead);
+        return Err(LineFault::Refused);
     };
     match schedule.push(alloc, item) {
         Ok(()) => Ok(rest),
-        Err(_) => Err(TraceFault::NoMemory),
+        Err(_) => Err(LineFault::NoMemory),
     }
 }
 
@@ -52,10 +56,9 @@ fn take_items<'a>(
     config: &Config,
     bytes: &'a [u8],
     schedule: &mut Schedule,
-) -> Result<&'a [u8], TraceFault>
+) -> Result<&'a [u8], LineFault>
     ensures ok { IfOk result (λ rest. (items : List Piece) × BeginsWith items_and_end (AllByRecursion (IsItem config.now)) bytes.now items rest.now × (schedule.new ≡ schedule.old ++ items)) }
-    ensures fault { IfErr result IsTextFault }
-    ensures not_read { result ≡ Err TraceFault.NotRead → BeginsWithNone items_and_end (AllByRecursion (IsItem config.now)) bytes.now }
+    ensures refused { result ≡ Err LineFault.Refused → (items : List Piece) (rest : List ℕ) → AllByRecursion (IsItem config.now) items → bytes.now ≢ items_and_end items ++ rest }
 {
     let mut rest = bytes;
     'items: while !is_line_end(rest) {
@@ -70,34 +73,54 @@ fn take_schedule_line<'a>(
     config: &Config,
     bytes: &'a [u8],
     schedule: &mut Schedule,
-) -> Result<&'a [u8], TraceFault>
+) -> Result<&'a [u8], LineFault>
     ensures ok { IfOk result (λ rest. (items : List Piece) × BeginsWith schedule_line (IsScheduleLine config.now) bytes.now items rest.now × (schedule.new ≡ schedule.old ++ items)) }
-    ensures fault { IfErr result IsTextFault }
-    ensures not_read { result ≡ Err TraceFault.NotRead → BeginsWithNone schedule_line (IsScheduleLine config.now) bytes.now }
+    ensures refused { result ≡ Err LineFault.Refused → (items : List Piece) (rest : List ℕ) → IsScheduleLine config.now items → bytes.now ≢ schedule_line items ++ rest }
 {
     let Some(items) = text_at(b"!", bytes) else {
-        return Err(TraceFault::NotRead);
+        return Err(LineFault::Refused);
     };
     if is_line_end(items) {
-        return Err(TraceFault::NotRead);
+        return Err(LineFault::Refused);
     }
     take_items(alloc, config, items, schedule)
 }
 
-/// Takes all lines of the schedule, to the end of the bytes.
+/// Takes all lines of the schedule, to the end of the bytes, of which the first is this line of the trace.
 pub(crate) fn take_schedule(
     alloc: Global,
     config: &Config,
+    first: u64,
     bytes: &[u8],
     schedule: &mut Schedule,
 ) -> Result<(), TraceFault>
+    requires few { first + length bytes.now < 2 ^ 64 }
+    requires behind { IsBehindCommands bytes.now }
     ensures ok { OnOk result (HasScheduled config.now bytes.now schedule.old schedule.new) }
     ensures fault { IfErr result IsTextFault }
-    ensures not_read { result ≡ Err TraceFault.NotRead → (turns : List (List Piece)) → AllByRecursion (IsScheduleLine config.now) turns → bytes.now ≡ flat_map schedule_line turns → ⊥ }
+    ensures bad_line { (n : ℕ) (why : Cause) → result ≡ Err (TraceFault.BadLine n why) → StopsTurns config.now first bytes.now n why }
 {
     let mut rest = bytes;
+    let mut line = first;
     'turns: while !rest.is_empty() {
-        rest = take_schedule_line(alloc, config, rest, schedule)?;
+        rest = match take_schedule_line(alloc, config, rest, schedule) {
+            Ok(behind) => behind,
+            Err(LineFault::NoMemory) => return Err(TraceFault::NoMemory),
+            Err(LineFault::Refused) => return Err(bad_turn(config, first, line, rest)),
+        };
+        line += 1;
     }
     Ok(())
+}
+
+/// The fault of bytes that do not begin with a line of the schedule, where the schedule begins at the line `first` and
+/// this is the line `line`.
+fn bad_turn(config: &Config, first: u64, line: u64, bytes: &[u8]) -> TraceFault
+    requires some { 1 ≤ length bytes.now }
+    requires mark { line ≤ first → IsBehindCommands bytes.now }
+    requires refused { (items : List Piece) (rest : List ℕ) → IsScheduleLine config.now items → bytes.now ≢ schedule_line items ++ rest }
+    ensures { (why : Cause) × (result ≡ TraceFault.BadLine line why) × (cause_of (body_stage config.now (nat_lt first line)) (parts 10 bytes.now) ≡ Some why) }
+{
+    let why = body_refusal(config, first < line, bytes).unwrap();
+    TraceFault::BadLine { line, why }
 }

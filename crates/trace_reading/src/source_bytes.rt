@@ -3,6 +3,7 @@ ghost use Rattle.std.specs.Prelude.{◌≡◌, ◌≢◌, ℕ, ◌+◌, ◌<◌,
 ghost use Rattle.std.specs.Io.KnownBytes.{Consumes, IsAtEnd};
 ghost use Rattle.shen_base.specs.Count.{Rose};
 ghost use Rattle.trace_grammar.specs.Grammar.{most_bytes, Came};
+ghost use Rattle.trace_grammar.specs.declared.why.Why.{Why};
 ghost use Rattle.trace_reading.specs.Faults.{IsReadingFault};
 
 use crate::fault::TraceFault;
@@ -57,7 +58,7 @@ pub(crate) fn all_bytes<S: Source>(alloc: Global, source: &mut S) -> Result<Vec<
     ensures too_long { (n : ℕ) → result ≡ Err (TraceFault.TooLong n) → (n ≡ most_bytes + 1)
         × ((bytes : List ℕ) × Consumes (S.left source.old) (S.left source.new) bytes × (length bytes ≡ most_bytes + 1)) }
     ensures read_fault { result ≡ Err TraceFault.ReadFault → Rose (S.faults source.old) (S.faults source.new) }
-    ensures readable { result ≢ Err TraceFault.NotRead }
+    ensures no_bad_line { (n : ℕ) (why : Why) → result ≢ Err (TraceFault.BadLine n why) }
     ensures faults_never_fall { S.faults source.old ≤ S.faults source.new }
 {
     let mut block = room_for(alloc, BLOCK)?;

@@ -4,12 +4,11 @@ use Rattle.std.specs.Fmt.{decimal}
 use Rattle.trace_grammar.specs.Spelling.{newline}
 use Rattle.trace_grammar.specs.Why.{text_of}
 use Rattle.trace_writing.specs.declared.message.Line.{Line}
-use Rattle.trace_writing.specs.declared.message.Line.TheVariants.{BadWords, BadTrace, BadLine, TooLong, Unfinished, ReadFault, NoMemory}
+use Rattle.trace_writing.specs.declared.message.Line.TheVariants.{BadWords, BadLine, TooLong, Unfinished, ReadFault, NoMemory}
 
 -- what a line says
 abbrev pub message : Line → List ℕ
 message BadWords = codes "bad words"
-message BadTrace = codes "bad trace"
 message (BadLine n why) = codes "bad line " ++ (decimal n ++ (codes ": " ++ text_of why))
 message TooLong = codes "too long: more than 16777216 bytes"
 message (Unfinished steps) = codes "unfinished after " ++ decimal steps ++ codes " steps"

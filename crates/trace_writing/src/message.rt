@@ -14,8 +14,6 @@ use trace_grammar::Why;
 pub enum Line {
     /// The words of the command line are outside their grammar: `bad words`.
     BadWords,
-    /// The bytes that were read are no trace: `bad trace`.
-    BadTrace,
     /// This line of the trace, counted from 1, is the first that is refused, and why: `bad line N: why`.
     BadLine { line: u64, why: Why },
     /// More bytes came than a trace may have: `too long: more than 16777216 bytes`.
@@ -36,7 +34,6 @@ pub fn write_line<K: Sink>(sink: &mut K, line: &Line) -> Result<(), WriteFault>
 {
     match line {
         Line::BadWords => write_all(sink, b"bad words\n"),
-        Line::BadTrace => write_all(sink, b"bad trace\n"),
         Line::BadLine { line, why } => write_bad_line(sink, *line, *why),
         Line::TooLong => write_all(sink, b"too long: more than 16777216 bytes\n"),
         Line::Unfinished { steps } => write_unfinished(sink, *steps),

@@ -24,7 +24,6 @@ fn each_line_has_its_text(rt: HostRuntime) -> Result<(), Fail> {
     let alloc = rt.alloc();
     for (line, text) in [
         (Line::BadWords, "bad words\n"),
-        (Line::BadTrace, "bad trace\n"),
         (
             Line::BadLine {
                 line: 1,

@@ -6,10 +6,12 @@ use Rattle.shenrun.specs.declared.status.Status.TheVariants.{Ok, BadTrace, Unfin
 use Rattle.shenrun.proofs.Ends.{said}
 use Rattle.shenrun.proofs.replay.replay.Goals as goal
 
-pub returns-in-Err-NotRead : goal.returns-in-Err-NotRead
-returns-in-Err-NotRead g c = λ words asked.
-    let none = c.in-Err-NotRead.ensures.not_read (let e = c.in-Err-NotRead.field-0-is in cc) in
-    said words _ _ (line_text line.BadTrace) BadTrace c.say.result ((c.args.steps, asked), inl (none, refl)) c.say.ensures
+pub returns-in-Err-BadLine : goal.returns-in-Err-BadLine
+returns-in-Err-BadLine g c = λ words asked.
+    let n = c.in-Err-BadLine.line in
+    let why = c.in-Err-BadLine.why in
+    let bad = c.in-Err-BadLine.ensures.bad_line n why (let e = c.in-Err-BadLine.field-0-is in cc) in
+    said words _ _ (line_text (line.BadLine n why)) BadTrace c.say.result ((c.args.steps, asked), inl (bad.0, n, why, bad.1, bad.2, refl)) (rw c.in-Err-BadLine.field-0-is at c.say.ensures)
 
 pub returns-in-Err-TooLong : goal.returns-in-Err-TooLong
 returns-in-Err-TooLong g c = λ words asked.

@@ -6,8 +6,8 @@ use Rattle.trace_grammar.specs.Scanning.{line_at}
 use Rattle.trace_grammar.proofs.Lines.{line_takes, line_again}
 use Rattle.trace_reading.proofs.read.take_line.Goals as goal
 
-pub returns-in_default-clause-not_read : goal.returns-in_default-clause-not_read
-returns-in_default-clause-not_read c = λ _ l rest fits e. let again = line_again c.args.threads l rest (omega arith) fits in let here = ap (line_at c.args.threads) e in let none = c.in_default.ensures in cc
+pub returns-in_default-clause-refused : goal.returns-in_default-clause-refused
+returns-in_default-clause-refused c = λ _ l rest fits e. let again = line_again c.args.threads l rest (omega arith) fits in let here = ap (line_at c.args.threads) e in let none = c.in_default.ensures in cc
 
 pub overflow_sub-thread : goal.overflow_sub-thread
 overflow_sub-thread c =

@@ -1,4 +1,4 @@
-use Rattle.std.proofs.Common.{◌≡◌, List, ◌++◌, length}
+use Rattle.std.proofs.Common.{◌≡◌, List, ◌+◌, ◌++◌, length}
 use Rattle.heap_words.specs.declared.schedule.Item.{Item}
 use Rattle.trace_grammar.specs.Spelling.{IsScheduleLine, schedule_line}
 use Rattle.trace_grammar.specs.Grammar.{items_of}
@@ -7,7 +7,8 @@ use Rattle.trace_grammar.proofs.ScheduleLines.{IsEmpty}
 use Rattle.trace_reading.proofs.schedule_lines.take_schedule.Given as goal
 
 abbrev pub invariant-turns : goal.invariant-turns
-invariant-turns l = (turns : List (List Item)) × HasBegun schedule_line (IsScheduleLine l.config) IsEmpty l.bytes l.rest turns × (l.schedule ≡ l.fn.schedule ++ items_of turns)
+invariant-turns l =
+    (turns : List (List Item)) × HasBegun schedule_line (IsScheduleLine l.config) IsEmpty l.bytes l.rest turns × (l.schedule ≡ l.fn.schedule ++ items_of turns) × (l.line ≡ l.first + length turns)
 
 abbrev pub decreases-turns : goal.decreases-turns
 decreases-turns l = length l.rest

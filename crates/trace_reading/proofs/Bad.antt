@@ -1,0 +1,86 @@
+-- Bytes at which no line stands have a cause.
+use Rattle.std.proofs.Common.{◌≡◌, ◌≢◌, ◌⊎◌, ℕ, ◌+◌, ◌≤◌, Bool, true, false, eqb, ltb, List, [], ◌∷◌, ◌++◌, length, Option, Some, None, inl, inr, refl, sym, ap, subst, arith}
+use Rattle.std.specs.List.{flat_map}
+use Rattle.std.proofs.lemmas.Bool.Decides.{nat_tests}
+use Rattle.std.proofs.lemmas.List.{length-append}
+use Rattle.std.specs.Option.{IsSome}
+use Rattle.shen_graph.specs.declared.command.Command.{Command}
+use Rattle.heap_words.specs.declared.config.Config.{Config}
+use Rattle.heap_words.specs.declared.schedule.Item.{Item}
+use Rattle.trace_grammar.specs.Spelling.{Line, IsLine, line, header, schedule_line, IsScheduleLine}
+use Rattle.trace_grammar.specs.Front.{IsBehindCommands}
+use Rattle.trace_grammar.specs.Grammar.{HasTaken}
+use Rattle.trace_grammar.specs.declared.why.Why.{Why}
+use Rattle.trace_grammar.proofs.Traces.{few_lines, few_turns, command_is_no_turn}
+use Rattle.trace_refusals.specs.Causes.{parts}
+use Rattle.trace_refusals.specs.Refused.{Commands, body_stage, cause_of, StopsAt}
+use Rattle.trace_refusals.proofs.Begins.{Begun, begun_head, begun_lines, begun_turns, begun_stops}
+use Rattle.trace_refusals.proofs.Spells.{BeginsWithCommand, BeginsWithTurn, commands_spell, turns_spell}
+use Rattle.trace_reading.specs.Stops.{StopsCommands, StopsTurns}
+
+-- ---- no line of a command
+
+nothing : (bytes : List ℕ) → (IsBehindCommands bytes → ⊥) → 1 ≤ length bytes
+nothing [] some = absurd (some tt)
+nothing (b ∷ bytes) some = omega arith
+
+pub command_cause : (c : Config) (bytes : List ℕ) → (IsBehindCommands bytes → ⊥) → ((l : Line) (rest : List ℕ) → IsLine c.mutators l → bytes ≢ line l ++ rest) → cause_of (body_stage c false) (parts 10 bytes) ≡ None → ⊥
+command_cause c bytes some refused none = by_kind (commands_spell c bytes (nothing bytes some) none)
+  where
+    by_kind : BeginsWithCommand c bytes ⊎ BeginsWithTurn c bytes → ⊥
+    by_kind (inl it) = refused it.0 it.1 it.2 it.3
+    by_kind (inr it) = some (subst IsBehindCommands (sym it.3) refl)
+
+-- ---- no line of the schedule
+
+pub turn_cause : (c : Config) (behind : Bool) (bytes : List ℕ) → 1 ≤ length bytes → (behind ≡ false → IsBehindCommands bytes) → ((items : List Item) (rest : List ℕ) → IsScheduleLine c items → bytes ≢ schedule_line items ++ rest)
+    → cause_of (body_stage c behind) (parts 10 bytes) ≡ None → ⊥
+turn_cause c true bytes some mark refused none = let it = turns_spell c bytes some none in refused it.0 it.1 it.2 it.3
+turn_cause c false bytes some mark refused none = by_kind (commands_spell c bytes some none)
+  where
+    by_kind : BeginsWithCommand c bytes ⊎ BeginsWithTurn c bytes → ⊥
+    by_kind (inl it) = command_is_no_turn c.mutators it.0 bytes it.1 (omega (arith, c.in_range.most_mutators)) it.2 it.3 (mark refl)
+    by_kind (inr it) = refused it.0 it.1 it.2 it.3
+
+-- whether a line of the schedule stands before, by the numbers of lines and by their count
+pub later_line : (first line count : ℕ) → line ≡ first + count → ltb first line ≡ ltb 0 count
+later_line first line count e = by_test (ltb 0 count) refl
+  where
+    by_test : (test : Bool) → ltb 0 count ≡ test → ltb first line ≡ test
+    by_test true f = grind (arith, nat_tests)
+    by_test false f = grind (arith, nat_tests)
+
+pub not_later : (first line : ℕ) → ltb first line ≡ false → line ≤ first
+not_later first line e = grind (arith, nat_tests)
+
+-- ---- counts
+
+pub lines_fit : (lines : List Line) (bytes rest : List ℕ) → bytes ≡ flat_map line lines ++ rest → length lines + length rest ≤ length bytes
+lines_fit lines bytes rest e = let few = few_lines lines in let size = ap length e in let sizes = length-append (flat_map line lines) rest in omega (arith, few, size, sizes)
+
+pub turns_fit : (turns : List (List Item)) (bytes rest : List ℕ) → bytes ≡ flat_map schedule_line turns ++ rest → length turns + length rest ≤ length bytes
+turns_fit turns bytes rest e = let few = few_turns turns in let size = ap length e in let sizes = length-append (flat_map schedule_line turns) rest in omega (arith, few, size, sizes)
+
+-- ---- the whole trace
+
+pub stops_in_commands : (bytes rest : List ℕ) (c : Config) (n : ℕ) (why : Why) → bytes ≡ header c ++ rest → StopsCommands c rest n why → StopsAt bytes n why
+stops_in_commands bytes rest c n why e stops =
+    let head = begun_head bytes rest c e in
+    let lines = begun_lines bytes stops.lines stops.rest 3 c stops.in_range (subst (λ (bs : List ℕ). Begun bytes bs 3 (Commands c)) stops.spelled head) in
+    begun_stops bytes stops.rest (3 + length stops.lines) n (Commands c) why lines (omega (arith, stops.number)) stops.cause
+
+pub stops_in_turns : (bytes rest behind : List ℕ) (c : Config) (scripts : List (List Command)) (first n : ℕ) (why : Why) (taken : HasTaken c.mutators rest behind scripts) → bytes ≡ header c ++ rest → first ≡ 4 + length taken.lines
+    → StopsTurns c first behind n why → StopsAt bytes n why
+stops_in_turns bytes rest behind c scripts first n why taken e number stops =
+    let head = begun_head bytes rest c e in
+    let lines = begun_lines bytes taken.lines behind 3 c taken.in_range (subst (λ (bs : List ℕ). Begun bytes bs 3 (Commands c)) taken.spelled head) in
+    let turns = begun_turns bytes stops.turns stops.rest (3 + length taken.lines) c stops.in_range (subst (λ (bs : List ℕ). Begun bytes bs (3 + length taken.lines) (Commands c)) stops.spelled lines) in
+    begun_stops bytes stops.rest (3 + length taken.lines + length stops.turns) n (body_stage c (ltb 0 (length stops.turns))) why turns (omega (arith, number, stops.number)) stops.cause
+
+pub known : (o : Option Why) → (o ≡ None → ⊥) → IsSome o
+known (Some why) some = refl
+known None some = absurd (some refl)
+
+pub not_none : (bytes : List ℕ) → eqb (length bytes) 0 ≡ false → 1 ≤ length bytes
+not_none [] e = absurd cc
+not_none (b ∷ bytes) e = omega arith

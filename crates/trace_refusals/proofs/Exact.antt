@@ -1,0 +1,128 @@
+-- Bytes are read or refused, and never both, nor refused in two ways.
+use Rattle.std.proofs.Common.{◌≡◌, ◌⊎◌, ℕ, suc, ◌+◌, ◌^◌, ◌<◌, Bool, true, false, ltb, List, [], ◌∷◌, ◌++◌, length, get_or, map, Some, None, inl, inr, refl, sym, ap, subst, ◌∙◌, append-nil, arith}
+use Rattle.std.specs.Prelude.{codes}
+use Rattle.std.specs.List.{flat_map}
+use Rattle.std.specs.Fmt.{decimal}
+use Rattle.std.specs.Str.Parse.{digits_value}
+use Rattle.std.proofs.lemmas.Fmt.{digits_value-decimal}
+use Rattle.shen_graph.specs.declared.command.Command.{Command}
+use Rattle.heap_words.specs.declared.config.Config.{Config}
+use Rattle.heap_words.specs.declared.schedule.Item.{Item}
+use Rattle.trace_grammar.specs.Spelling.{line, schedule_line}
+use Rattle.trace_grammar.specs.Grammar.{Reads}
+use Rattle.trace_grammar.specs.declared.why.Why.{Why}
+use Rattle.trace_grammar.proofs.Numbers.{own, same_some}
+use Rattle.trace_grammar.proofs.Once.{same_config}
+use Rattle.trace_refusals.specs.Refused.{Stage, Version, Heap, Threads, Commands, Turns, body_stage, cause_of, Follows, IsCommandLine, IsTurn, Lead, StopsAt}
+use Rattle.trace_refusals.proofs.Heads.{heap_again, threads_again}
+use Rattle.trace_refusals.proofs.Commands.{line_words}
+use Rattle.trace_refusals.proofs.Turns.{words_of_turn}
+use Rattle.trace_refusals.proofs.Leads.{few_threads, line_text, turn_text, no_number, fine}
+use Rattle.trace_refusals.proofs.Begins.{Begun, begun_head, begun_lines, begun_turns}
+
+-- ---- what follows a line is one thing
+
+same_number : (n m : ℕ) → n < 2 ^ 64 → m < 2 ^ 64 → decimal n ≡ decimal m → n ≡ m
+same_number n m a b e = sym (digits_value-decimal own n a) ∙ ap (digits_value 10) e ∙ digits_value-decimal own m b
+
+same_words : (ws vs : List (List ℕ)) (i : ℕ) → ws ≡ vs → get_or ws i [] ≡ get_or vs i []
+same_words ws vs i e = ap (λ (l : List (List ℕ)). get_or l i []) e
+
+same_heap : (c d : Config) → codes "heap" ∷ map decimal (c.regions ∷ c.region_words ∷ c.reserve ∷ []) ≡ codes "heap" ∷ map decimal (d.regions ∷ d.region_words ∷ d.reserve ∷ []) → Threads c.regions c.region_words c.reserve ≡ Threads d.regions d.region_words d.reserve
+same_heap c d e =
+    let ws = codes "heap" ∷ map decimal (c.regions ∷ c.region_words ∷ c.reserve ∷ []) in
+    let vs = codes "heap" ∷ map decimal (d.regions ∷ d.region_words ∷ d.reserve ∷ []) in
+    let r = same_number c.regions d.regions (omega (arith, c.in_range.most_regions)) (omega (arith, d.in_range.most_regions)) (same_words ws vs 1 e) in
+    let w = same_number c.region_words d.region_words (omega (arith, c.in_range.most_words)) (omega (arith, d.in_range.most_words)) (same_words ws vs 2 e) in
+    let k = same_number c.reserve d.reserve (omega (arith, c.in_range.some_left, c.in_range.most_regions)) (omega (arith, d.in_range.some_left, d.in_range.most_regions)) (same_words ws vs 3 e) in
+    ap (λ (n : ℕ). Threads n c.region_words c.reserve) r ∙ ap (λ (n : ℕ). Threads d.regions n c.reserve) w ∙ ap (λ (n : ℕ). Threads d.regions d.region_words n) k
+
+same_threads : (r w e : ℕ) (c d : Config) → c.regions ≡ r → c.region_words ≡ w → c.reserve ≡ e → d.regions ≡ r → d.region_words ≡ w → d.reserve ≡ e
+    → codes "threads" ∷ map decimal (c.mutators ∷ c.helpers ∷ []) ≡ codes "threads" ∷ map decimal (d.mutators ∷ d.helpers ∷ []) → c ≡ d
+same_threads r w e c d c1 c2 c3 d1 d2 d3 same =
+    let ws = codes "threads" ∷ map decimal (c.mutators ∷ c.helpers ∷ []) in
+    let vs = codes "threads" ∷ map decimal (d.mutators ∷ d.helpers ∷ []) in
+    let m = same_number c.mutators d.mutators (omega (arith, c.in_range.most_mutators)) (omega (arith, d.in_range.most_mutators)) (same_words ws vs 1 same) in
+    let h = same_number c.helpers d.helpers (omega (arith, c.in_range.most_helpers)) (omega (arith, d.in_range.most_helpers)) (same_words ws vs 2 same) in
+    same_config c d (c1 ∙ sym d1) (c2 ∙ sym d2) m h (c3 ∙ sym d3)
+
+-- a line of a command is no line of the schedule
+not_both : (c : Config) (text : List ℕ) → IsCommandLine c text → IsTurn c text → ⊥
+not_both c text it other =
+    let l = it.0 in
+    let one = (line_text c.mutators text l (few_threads c) it.1 it.2).0 in
+    let two = (turn_text c text other.0 other.1 other.2).0 in
+    let small : l.thread < 2 ^ 64 = omega (arith, it.1.to_last, few_threads c) in
+    let first : decimal l.thread ≡ 33 ∷ [] = same_words (line_words l) (words_of_turn other.0) 0 (sym one ∙ two) in
+    no_number l.thread small first
+
+same_next : (stage : Stage) (text : List ℕ) (a b : Stage) → Follows stage text a → Follows stage text b → a ≡ b
+same_next Version text a b f g = f.1 ∙ sym g.1
+same_next Heap text a b f g = f.2 ∙ same_heap f.0 g.0 (sym (heap_again f.0 text f.1).2 ∙ (heap_again g.0 text g.1).2) ∙ sym g.2
+same_next (Threads r w e) text a b f g =
+    f.5 ∙ ap Commands (same_threads r w e f.0 g.0 f.1 f.2 f.3 g.1 g.2 g.3 (sym (threads_again r w e f.0 text f.4).2 ∙ (threads_again r w e g.0 text g.4).2)) ∙ sym g.5
+same_next (Commands c) text a b (inl f) (inl g) = f.1 ∙ sym g.1
+same_next (Commands c) text a b (inl f) (inr g) = absurd (not_both c text f.0 g.0)
+same_next (Commands c) text a b (inr f) (inl g) = absurd (not_both c text g.0 f.0)
+same_next (Commands c) text a b (inr f) (inr g) = f.1 ∙ sym g.1
+same_next (Turns c) text a b f g = f.1 ∙ sym g.1
+
+-- ---- lines lead to one end
+
+-- a line with a cause is the first of these, or they are the empty text behind the last end of a line
+abbrev IsEnding : Stage → List (List ℕ) → Type 0
+IsEnding stage texts = ((why : Why) × (cause_of stage texts ≡ Some why)) ⊎ ((texts ≡ [] ∷ []) × (cause_of stage texts ≡ None))
+
+no_ending : (stage : Stage) → IsEnding stage [] → ⊥
+unfolding cause_of
+no_ending stage (inl it) = let e = it.1 in cc
+no_ending stage (inr it) = let e = it.0 in cc
+
+goes_on : (stage next : Stage) (text : List ℕ) (others : List (List ℕ)) → Follows stage text next → (others ≡ [] → ⊥) → IsEnding stage (text ∷ others) → ⊥
+unfolding cause_of
+goes_on stage next text [] f some ending = some refl
+goes_on stage next text (t ∷ others) f some (inl it) = let none = (fine stage text next f).0 in let e = it.1 in cc
+goes_on stage next text (t ∷ others) f some (inr it) = let e = it.0 in cc
+
+not_empty : (stage : Stage) (xs ys : List (List ℕ)) → IsEnding stage ys → xs ++ ys ≡ [] → ⊥
+not_empty stage [] ys ending e = no_ending stage (subst (IsEnding stage) e ending)
+not_empty stage (x ∷ xs) ys ending e = absurd cc
+
+heads : (x y : List ℕ) (xs ys : List (List ℕ)) → x ∷ xs ≡ y ∷ ys → (x ≡ y) × (xs ≡ ys)
+heads x y xs ys e = (cc, cc)
+
+pub one_end : (stage : Stage) (xs ys : List (List ℕ)) (a b : Stage) (p q : List (List ℕ)) → Lead stage xs a → Lead stage ys b → xs ++ p ≡ ys ++ q → IsEnding a p → IsEnding b q → (length xs ≡ length ys) × (cause_of a p ≡ cause_of b q)
+one_end stage [] [] a b p q l m e f g = (refl, ap (λ (s : Stage). cause_of s p) (sym l ∙ m) ∙ ap (cause_of b) e)
+one_end stage [] (y ∷ ys) a b p q l m e f g =
+    absurd (goes_on stage m.0 y (ys ++ q) m.1 (not_empty b ys q g) (subst (IsEnding stage) e (subst (λ (s : Stage). IsEnding s p) (sym l) f)))
+one_end stage (x ∷ xs) [] a b p q l m e f g =
+    absurd (goes_on stage l.0 x (xs ++ p) l.1 (not_empty a xs p f) (subst (IsEnding stage) (sym e) (subst (λ (s : Stage). IsEnding s q) (sym m) g)))
+one_end stage (x ∷ xs) (y ∷ ys) a b p q l m e f g =
+    let first = heads x y (xs ++ p) (ys ++ q) e in
+    let same : l.0 ≡ m.0 = same_next stage x l.0 m.0 l.1 (subst (λ (t : List ℕ). Follows stage t m.0) (sym first.0) m.1) in
+    let others = one_end m.0 xs ys a b p q (subst (λ (s : Stage). Lead s xs a) same l.2) m.2 first.1 f g in
+    (ap suc others.0, others.1)
+
+-- bytes are refused once
+pub refused_once : (bytes : List ℕ) (n m : ℕ) (why other : Why) → StopsAt bytes n why → StopsAt bytes m other → (n ≡ m) × (why ≡ other)
+refused_once bytes n m why other s t =
+    let one = one_end Version s.before t.before s.stage t.stage s.from_it t.from_it s.lead t.lead (sym s.lines ∙ t.lines) (inl (why, s.cause)) (inl (other, t.cause)) in
+    (omega (arith, s.number, t.number, one.0), same_some why other (sym s.cause ∙ one.1 ∙ t.cause))
+
+-- ---- what is read is not refused
+
+body_ends : (c : Config) (some : Bool) → cause_of (body_stage c some) ([] ∷ []) ≡ None
+unfolding cause_of
+body_ends c true = refl
+body_ends c false = refl
+
+pub never_both : (bytes : List ℕ) (c : Config) (scripts : List (List Command)) (items : List Item) (n : ℕ) (why : Why) → Reads bytes c scripts items → StopsAt bytes n why → ⊥
+never_both bytes c scripts items n why reads stops =
+    let head = begun_head bytes (flat_map line reads.lines ++ flat_map schedule_line reads.turns) c reads.spelled in
+    let lines = begun_lines bytes reads.lines (flat_map schedule_line reads.turns) 3 c reads.in_range head in
+    let turns = begun_turns bytes reads.turns [] (3 + length reads.lines) c reads.turns_in_range (subst (λ (bs : List ℕ). Begun bytes bs (3 + length reads.lines) (Commands c)) (sym (append-nil (flat_map schedule_line reads.turns))) lines) in
+    let stage = body_stage c (ltb 0 (length reads.turns)) in
+    let none = body_ends c (ltb 0 (length reads.turns)) in
+    let one = one_end Version turns.before stops.before stage stops.stage ([] ∷ []) stops.from_it turns.lead stops.lead (sym turns.lines ∙ stops.lines) (inr (refl, none)) (inl (why, stops.cause)) in
+    let e = sym none ∙ one.1 ∙ stops.cause in
+    absurd cc

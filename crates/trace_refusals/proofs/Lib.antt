@@ -1,0 +1,14 @@
+pub mod Cuts
+pub mod PlaceCodes
+pub mod Words
+pub mod Lines
+pub mod Free
+pub mod Numerals
+pub mod Heads
+pub mod Commands
+pub mod Turns
+pub mod Leads
+pub mod Begins
+pub mod Spells
+pub mod Exact
+pub mod Either

@@ -1,0 +1,92 @@
+-- Which bytes are refused, at which line, and why.
+use Rattle.std.specs.Prelude.{ℕ, ◌≡◌, ◌⊎◌, ◌+◌, ◌≤◌, Bool, true, false, List, [], ◌∷◌, ◌++◌, codes, length, if◌then◌else◌, Option, Some, None}
+use Rattle.heap_words.specs.declared.config.Config.{Config}
+use Rattle.heap_words.specs.declared.schedule.Item.{Item}
+use Rattle.trace_grammar.specs.Spelling.{space, newline, titled, Line, line, IsLine, schedule_line, IsScheduleLine}
+use Rattle.trace_grammar.specs.Grammar.{most_bytes}
+use Rattle.trace_grammar.specs.declared.why.Why.{Why}
+use Rattle.trace_grammar.specs.declared.why.Why.TheVariants.{EndOfLine, ScheduleLast}
+use Rattle.trace_refusals.specs.Causes.{parts, is_same, title_cause, version_ranges, heap_ranges, threads_ranges, command_cause, schedule_cause}
+
+-- what is to stand on a line
+pub data Stage : Type 0 where
+  -- the version, the heap, and the threads behind a heap of these sizes
+  Version : Stage
+  Heap : Stage
+  Threads : (regions region_words reserve : ℕ) → Stage
+  -- a command, or a line of the schedule
+  Commands : Config → Stage
+  -- a line of the schedule
+  Turns : Config → Stage
+
+-- behind the head, where a line of the schedule stands before it or not
+abbrev pub body_stage : Config → Bool → Stage
+body_stage c false = Commands c
+body_stage c true = Turns c
+
+-- ---- the lines of a trace
+
+abbrev pub IsCommandLine : Config → List ℕ → Type 0
+IsCommandLine c text = (l : Line) × IsLine c.mutators l × (text ++ newline ∷ [] ≡ line l)
+
+abbrev pub IsTurn : Config → List ℕ → Type 0
+IsTurn c text = (items : List Item) × IsScheduleLine c items × (text ++ newline ∷ [] ≡ schedule_line items)
+
+-- this text, with the end of its line, is a line of the grammar there, and what is to stand on the next
+abbrev pub Follows : Stage → List ℕ → Stage → Type 0
+Follows Version text next = (text ++ newline ∷ [] ≡ titled (codes "shen") (1 ∷ [])) × (next ≡ Heap)
+Follows Heap text next = (c : Config) × (text ++ newline ∷ [] ≡ titled (codes "heap") (c.regions ∷ c.region_words ∷ c.reserve ∷ [])) × (next ≡ Threads c.regions c.region_words c.reserve)
+Follows (Threads r w e) text next = (c : Config) × (c.regions ≡ r) × (c.region_words ≡ w) × (c.reserve ≡ e) × (text ++ newline ∷ [] ≡ titled (codes "threads") (c.mutators ∷ c.helpers ∷ [])) × (next ≡ Commands c)
+Follows (Commands c) text next = (IsCommandLine c text × (next ≡ Commands c)) ⊎ (IsTurn c text × (next ≡ Turns c))
+Follows (Turns c) text next = IsTurn c text × (next ≡ Turns c)
+
+-- these lines follow one on the other
+abbrev pub Lead : Stage → List (List ℕ) → Stage → Type 0
+Lead stage [] end = stage ≡ end
+Lead stage (text ∷ texts) end = (next : Stage) × Follows stage text next × Lead next texts end
+
+-- ---- the first line that is none
+
+-- a line of a command or of the schedule, by its words
+abbrev pub body_cause : Config → Option Why → List (List ℕ) → Option Why
+body_cause c other [] = other
+body_cause c other (w ∷ ws) = if is_same w (33 ∷ []) then schedule_cause c ws else other
+
+-- a line of a command, by its words
+abbrev pub command_line_cause : Config → List (List ℕ) → Option Why
+command_line_cause c [] = None
+command_line_cause c (w ∷ ws) = command_cause c.mutators w ws
+
+-- the first cause that holds for a line with these words
+unfoldable pub words_cause : Stage → List (List ℕ) → Option Why
+words_cause Version ws = title_cause (codes "shen") version_ranges ws
+words_cause Heap ws = title_cause (codes "heap") (heap_ranges ws) ws
+words_cause (Threads r w e) ws = title_cause (codes "threads") threads_ranges ws
+words_cause (Commands c) ws = body_cause c (command_line_cause c ws) ws
+words_cause (Turns c) ws = body_cause c (Some ScheduleLast) ws
+
+-- the bytes end here, with this text behind the last end of a line
+abbrev pub end_cause : Stage → List ℕ → Option Why
+end_cause (Commands c) [] = None
+end_cause (Turns c) [] = None
+end_cause _ text = Some EndOfLine
+
+-- the first cause that holds for the first of these lines; the last of them has no end
+unfoldable pub cause_of : Stage → List (List ℕ) → Option Why
+cause_of stage [] = None
+cause_of stage (text ∷ []) = end_cause stage text
+cause_of stage (text ∷ next ∷ more) = words_cause stage (parts space text)
+
+-- Line n, counted from 1, is the first that is outside the grammar, and why is the first cause that holds for it.
+pub record StopsAt (bytes : List ℕ) (n : ℕ) (why : Why) : Type 0 where
+  pub before : List (List ℕ)
+  pub from_it : List (List ℕ)
+  pub lines : parts newline bytes ≡ before ++ from_it
+  pub number : n ≡ length before + 1
+  pub stage : Stage
+  pub lead : Lead Version before stage
+  pub cause : cause_of stage from_it ≡ Some why
+
+-- the bytes are not too many, and are refused at line n
+abbrev pub Refused : List ℕ → ℕ → Why → Type 0
+Refused bytes n why = StopsAt bytes n why × (length bytes ≤ most_bytes)
