@@ -2,7 +2,7 @@
 use Rattle.std.proofs.Common.{◌≡◌, ◌⊎◌, ℕ, List, sym, subst, inl, inr}
 use Rattle.std.specs.Io.KnownBytes.{Appends}
 use Rattle.shen_base.specs.Count.{Rose}
-use Rattle.text_writer.specs.Sending.{AppendsFront}
+use Rattle.text_writer.specs.Sending.{WritesFront}
 use Rattle.shenrun.specs.declared.status.Status.{Status}
 use Rattle.shenrun.specs.declared.status.Status.TheVariants.{Ok, BadWords, BadTrace, Unfinished, ReadFault, WriteFault, NoMemory}
 use Rattle.shenrun.specs.Answered.{Allows, Input, Output, IsWritten, IsAnswered}
@@ -22,7 +22,7 @@ pub said : (words : List (List ℕ)) (input : Input) (output : Output) (text : L
     → EndsWith text status result output.before output.after → IsAnswered words input output result
 said words input output text status result allows ends = by_end ends.written
   where
-    by_end : ((result ≡ status) × Appends output.before.written output.after.written text) ⊎ ((result ≡ WriteFault) × Rose output.before.faults output.after.faults × AppendsFront output.before.written output.after.written text)
+    by_end : ((result ≡ status) × Appends output.before.written output.after.written text) ⊎ ((result ≡ WriteFault) × Rose output.before.faults output.after.faults × WritesFront output.before output.after text)
         → IsAnswered words input output result
     by_end (inl whole) = subst (IsAnswered words input output) (sym whole.0) (written_is_answer words input output status (text, allows, whole.1, ends.few_calls))
     by_end (inr front) = subst (IsAnswered words input output) (sym front.0) (front.1, (status, text, allows, front.2, ends.few_calls))

@@ -2,7 +2,7 @@
 use Rattle.std.specs.Prelude.{ℕ, ◌≡◌, ◌+◌, ◌⊎◌, List, length, Option}
 use Rattle.std.specs.Io.KnownBytes.{Appends, Consumes}
 use Rattle.shen_base.specs.Count.{Rose, CalledAtMost}
-use Rattle.text_writer.specs.Sending.{Outlet, AppendsFront}
+use Rattle.text_writer.specs.Sending.{Outlet, WritesFront}
 use Rattle.trace_grammar.specs.Grammar.{most_bytes, Came}
 use Rattle.trace_grammar.specs.declared.why.Why.{Why}
 use Rattle.trace_refusals.specs.Refused.{Refused}
@@ -52,11 +52,12 @@ IsWritten words input output status =
     (out : List ℕ) × Allows words input status out × Appends output.before.written output.after.written out × CalledAtMost (length out) output.before.calls output.after.calls
 
 -- The status fits the words, what came and what was written. After a write fault a front of a text was written that
--- goes with another status, and by at most one call for each byte of that text.
+-- goes with another status: by at most one call for each byte that was written and the one that failed, and at most one for
+-- each byte of that text.
 abbrev pub IsAnswered : List (List ℕ) → Input → Output → Status → Type 0
 IsAnswered words input output WriteFault =
     Rose output.before.faults output.after.faults
-    × ((status : Status) × (out : List ℕ) × Allows words input status out × AppendsFront output.before.written output.after.written out × CalledAtMost (length out) output.before.calls output.after.calls)
+    × ((status : Status) × (out : List ℕ) × Allows words input status out × WritesFront output.before output.after out × CalledAtMost (length out) output.before.calls output.after.calls)
 IsAnswered words input output Ok = IsWritten words input output Ok
 IsAnswered words input output BadWords = IsWritten words input output BadWords
 IsAnswered words input output BadTrace = IsWritten words input output BadTrace

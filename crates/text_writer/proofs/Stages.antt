@@ -4,7 +4,7 @@ use Rattle.std.specs.Prelude.{Result, is_err}
 use Rattle.std.specs.Io.KnownBytes.{Appends}
 use Rattle.std.proofs.KnownBytes.{Appends-nil, Appends-trans}
 use Rattle.shen_base.specs.Count.{Rose, CalledAtMost}
-use Rattle.text_writer.specs.Sending.{Outlet, outlet, Held, Stage, stage, AppendsFront, AppendsUpTo, HasTaken, Puts, Writes}
+use Rattle.text_writer.specs.Sending.{Outlet, outlet, Held, Stage, stage, WritesFront, WritesUpTo, HasTaken, Puts, Writes}
 
 -- one text was put, and then another
 pub puts_both : {a b c : Stage} {x y : List ℕ} → Puts a b x → Puts b c y → Puts a c (x ++ y)
@@ -20,9 +20,14 @@ puts_same {a} {b} {x} {y} e p = record {
 }
 
 -- a front of a text is one of a longer text
-front_longer : (old new : Option (List ℕ)) (x y : List ℕ) → AppendsFront old new x → AppendsFront old new (x ++ y)
-front_longer old new x y (sent, rest, appended, e) =
-    (sent, rest ++ y, appended, sym (append_assoc sent rest y) ∙ ap (λ t. t ++ y) e)
+front_longer : {before after : Outlet} {x : List ℕ} (y : List ℕ) → WritesFront before after x → WritesFront before after (x ++ y)
+front_longer y f = record {
+  sent = f.sent;
+  rest = f.rest ++ y;
+  appended = f.appended;
+  split = sym (append_assoc f.sent f.rest y) ∙ ap (λ t. t ++ y) f.split;
+  few_calls = f.few_calls;
+}
 
 -- a longer text allows as many calls
 few_longer : (before after : ℕ) (x y : List ℕ) → CalledAtMost (length x) before after → CalledAtMost (length (x ++ y)) before after
@@ -33,11 +38,11 @@ pub puts_more_stopped : (a b : Stage) (x y : List ℕ) → b.block.failed ≡ tr
 puts_more_stopped a b x y failed p = record {
   behind = λ first sofar h.
       let taken : HasTaken b first (sofar ++ x) = p.behind first sofar h in
-      let going : b.block.failed ≡ false → AppendsUpTo first.written b.sink.written (sofar ++ (x ++ y)) b.block.unsent = λ f. cc in
+      let going : b.block.failed ≡ false → WritesUpTo first b.sink (sofar ++ (x ++ y)) b.block.unsent = λ f. cc in
       record {
         never_fell = taken.never_fell;
         going = going;
-        stopped = λ f. (subst (AppendsFront first.written b.sink.written) (append_assoc sofar x y) (front_longer _ _ _ y (taken.stopped f).0), (taken.stopped f).1);
+        stopped = λ f. (subst (WritesFront first b.sink) (append_assoc sofar x y) (front_longer y (taken.stopped f).0), (taken.stopped f).1);
         few_calls =
             subst (λ t. CalledAtMost (length t) first.calls (b.sink.calls + length b.block.unsent)) (append_assoc sofar x y)
             (few_longer first.calls (b.sink.calls + length b.block.unsent) (sofar ++ x) y taken.few_calls);
@@ -53,8 +58,16 @@ few_sent : (first before after : ℕ) (unsent left sofar : List ℕ) → left �
     → CalledAtMost (length (sofar ++ [])) first (after + length left)
 few_sent first before after unsent left sofar emptied taken few = rw (append-nil, emptied) (omega (arith, taken, few))
 
+-- first the calls for one text, and then those for another
+few_both : (first before after : ℕ) (x y : List ℕ) → CalledAtMost (length x) first before → CalledAtMost (length y) before after → CalledAtMost (length (x ++ y)) first after
+few_both first before after x y few more = omega (arith, length-append x y)
+
+-- the same, and one call more
+few_and_one : (first before after : ℕ) (x y : List ℕ) → CalledAtMost (length x) first before → CalledAtMost (length y + 1) before after → CalledAtMost (length (x ++ y) + 1) first after
+few_and_one first before after x y few more = omega (arith, length-append x y)
+
 -- a count that never fell rose
-rose_later : (before middle after : ℕ) → before ≤ middle → Rose middle after → Rose before after
+pub rose_later : (before middle after : ℕ) → before ≤ middle → Rose middle after → Rose before after
 rose_later before middle after first rose = grind arith
 
 -- bytes went into the block
@@ -62,8 +75,13 @@ pub puts_kept : (w : Option (List ℕ)) (f c : ℕ) (held : Held) (more : List �
 puts_kept w f c held more = record {
   behind = λ first sofar h. record {
     never_fell = h.never_fell;
-    going = λ g. (let (sent, appended, e) = h.going g in (sent, appended, sym (append_assoc sent held.unsent more) ∙ ap (λ t. t ++ more) e));
-    stopped = λ g. (front_longer _ _ _ more (h.stopped g).0, (h.stopped g).1);
+    going = λ g. record {
+      sent = (h.going g).sent;
+      appended = (h.going g).appended;
+      split = sym (append_assoc (h.going g).sent held.unsent more) ∙ ap (λ t. t ++ more) (h.going g).split;
+      few_calls = (h.going g).few_calls;
+    };
+    stopped = λ g. (front_longer more (h.stopped g).0, (h.stopped g).1);
     few_calls = few_kept first.calls c held.unsent sofar more h.few_calls;
   };
 }
@@ -71,10 +89,10 @@ puts_kept w f c held more = record {
 -- an empty block before a sink, of which nothing was asked
 taken_none : (w : Option (List ℕ)) (f c : ℕ) → HasTaken (stage w f c (record { unsent = []; failed = false })) (outlet w f c) []
 taken_none w f c =
-    let stopped : false ≡ true → AppendsFront w w [] × Rose f f = λ g. cc in
+    let stopped : false ≡ true → WritesFront (outlet w f c) (outlet w f c) [] × Rose f f = λ g. cc in
     record {
       never_fell = omega arith;
-      going = λ g. ([], Appends-nil w, refl);
+      going = λ g. record { sent = []; appended = Appends-nil w; split = refl; few_calls = omega arith };
       stopped = stopped;
       few_calls = omega arith;
     }
@@ -82,8 +100,8 @@ taken_none w f c =
 -- the text that was taken, where nothing is left in the block and there was no fault
 taken_all : (s : Stage) (first : Outlet) (text : List ℕ) → s.block.failed ≡ false → s.block.unsent ≡ [] → HasTaken s first text → Appends first.written s.sink.written text
 taken_all s first text ok emptied h =
-    let (sent, appended, e) = h.going ok in
-    subst (Appends first.written s.sink.written) (sym (append-nil sent) ∙ ap (λ t. sent ++ t) (sym emptied) ∙ e) appended
+    let up = h.going ok in
+    subst (Appends first.written s.sink.written) (sym (append-nil up.sent) ∙ ap (λ t. up.sent ++ t) (sym emptied) ∙ up.split) up.appended
 
 -- the stage behind one where nothing more was put
 pub taken_still : {a b : Stage} {first : Outlet} {text : List ℕ} → Puts a b [] → HasTaken a first text → HasTaken b first text
@@ -134,31 +152,36 @@ pub puts_sent : {F : Type 0} (result : Result (Unit {0}) F) (before after : Outl
     → Puts (record { sink = before; block = held }) (record { sink = after; block = left }) []
 puts_sent (Ok x) before after held left h fine emptied is = record {
   behind = λ first sofar taken.
-      let stopped : left.failed ≡ true → AppendsFront first.written after.written (sofar ++ []) × Rose first.faults after.faults = λ g. cc in
+      let up = taken.going fine in
+      let stopped : left.failed ≡ true → WritesFront first after (sofar ++ []) × Rose first.faults after.faults = λ g. cc in
       record {
         never_fell = omega (arith, taken.never_fell, h.faults_never_fall);
-        going = λ g.
-            (let (sent, appended, e) = taken.going fine in (
-              sent ++ held.unsent,
-              Appends-trans _ _ _ sent held.unsent appended h.all,
-              ap (λ t. (sent ++ held.unsent) ++ t) emptied ∙ append-nil (sent ++ held.unsent) ∙ e ∙ sym (append-nil sofar),
-            ));
+        going = λ g. record {
+          sent = up.sent ++ held.unsent;
+          appended = Appends-trans _ _ _ up.sent held.unsent up.appended h.all;
+          split = ap (λ t. (up.sent ++ held.unsent) ++ t) emptied ∙ append-nil (up.sent ++ held.unsent) ∙ up.split ∙ sym (append-nil sofar);
+          few_calls = few_both first.calls before.calls after.calls up.sent held.unsent up.few_calls h.few_calls;
+        };
         stopped = stopped;
         few_calls = few_sent first.calls before.calls after.calls held.unsent left.unsent sofar emptied taken.few_calls h.few_calls;
       };
 }
 puts_sent (Err x) before after held left h fine emptied is = record {
   behind = λ first sofar taken.
-      let going : left.failed ≡ false → AppendsUpTo first.written after.written (sofar ++ []) left.unsent = λ g. cc in
+      let up = taken.going fine in
+      let part = h.front in
+      let going : left.failed ≡ false → WritesUpTo first after (sofar ++ []) left.unsent = λ g. cc in
+      let front : WritesFront first after (sofar ++ []) = record {
+        sent = up.sent ++ part.sent;
+        rest = part.rest;
+        appended = Appends-trans _ _ _ up.sent part.sent up.appended part.appended;
+        split = append_assoc up.sent part.sent part.rest ∙ ap (λ t. up.sent ++ t) part.split ∙ up.split ∙ sym (append-nil sofar);
+        few_calls = few_and_one first.calls before.calls after.calls up.sent part.sent up.few_calls part.few_calls;
+      } in
       record {
         never_fell = omega (arith, taken.never_fell, h.faults_never_fall);
         going = going;
-        stopped = λ g.
-            (let (sent, appended, e) = taken.going fine in
-            let (more, rest, then, split) = h.front in (
-              (sent ++ more, rest, Appends-trans _ _ _ sent more appended then, append_assoc sent more rest ∙ ap (λ t. sent ++ t) split ∙ e ∙ sym (append-nil sofar)),
-              rose_later first.faults before.faults after.faults taken.never_fell h.only_by_fault,
-            ));
+        stopped = λ g. (front, rose_later first.faults before.faults after.faults taken.never_fell h.only_by_fault);
         few_calls = few_sent first.calls before.calls after.calls held.unsent left.unsent sofar emptied taken.few_calls h.few_calls;
       };
 }
@@ -168,9 +191,9 @@ pub puts_dropped : (sink : Outlet) (held left : Held) → held.failed ≡ true �
     → Puts (record { sink = sink; block = held }) (record { sink = sink; block = left }) []
 puts_dropped sink held left failed emptied is = record {
   behind = λ first sofar taken.
-      let going : left.failed ≡ false → AppendsUpTo first.written sink.written (sofar ++ []) left.unsent = λ g. cc in
-      let stopped : AppendsFront first.written sink.written (sofar ++ []) × Rose first.faults sink.faults =
-      subst (λ t. AppendsFront first.written sink.written t × Rose first.faults sink.faults) (sym (append-nil sofar)) (taken.stopped failed) in
+      let going : left.failed ≡ false → WritesUpTo first sink (sofar ++ []) left.unsent = λ g. cc in
+      let stopped : WritesFront first sink (sofar ++ []) × Rose first.faults sink.faults =
+      subst (λ t. WritesFront first sink t × Rose first.faults sink.faults) (sym (append-nil sofar)) (taken.stopped failed) in
       record {
         never_fell = taken.never_fell;
         going = going;

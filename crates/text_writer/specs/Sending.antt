@@ -25,31 +25,38 @@ pub record Stage : Type 0 where
 abbrev pub stage : Option (List ℕ) → ℕ → ℕ → Held → Stage
 stage written faults calls block = record { sink = outlet written faults calls; block = block }
 
--- known bytes grow by the front of a text
-abbrev pub AppendsFront : (old new : Option (List ℕ)) → (text : List ℕ) → Type 0
-AppendsFront old new text = (sent rest : List ℕ) × Appends old new sent × (sent ++ rest ≡ text)
+-- A front of a text was written before a call failed: by at most one call for each of its bytes, and the one that failed.
+pub record WritesFront (before after : Outlet) (text : List ℕ) : Type 0 where
+  pub sent : List ℕ
+  pub rest : List ℕ
+  pub appended : Appends before.written after.written sent
+  pub split : sent ++ rest ≡ text
+  pub few_calls : CalledAtMost (length sent + 1) before.calls after.calls
 
 -- How a call that writes a text to a sink ends, between the sink before it and after it: at Ok all of the text was
 -- appended, and at Err its front, and there was a fault. In both cases the sink was called at most once for each byte of
 -- the text.
 pub record Writes {T E : Type 0} (result : Result T E) (before after : Outlet) (text : List ℕ) : Type 0 where
   pub all : OnOk result (Appends before.written after.written text)
-  pub front : OnErr result (AppendsFront before.written after.written text)
+  pub front : OnErr result (WritesFront before after text)
   pub only_by_fault : OnErr result (Rose before.faults after.faults)
   pub faults_never_fall : before.faults ≤ after.faults
   pub few_calls : CalledAtMost (length text) before.calls after.calls
 
--- known bytes grow by a text, but for its end, which is not sent yet
-abbrev pub AppendsUpTo : (old new : Option (List ℕ)) → (text unsent : List ℕ) → Type 0
-AppendsUpTo old new text unsent = (sent : List ℕ) × Appends old new sent × (sent ++ unsent ≡ text)
+-- a text was written but for its end, which is not sent yet, by at most one call for each byte
+pub record WritesUpTo (before after : Outlet) (text unsent : List ℕ) : Type 0 where
+  pub sent : List ℕ
+  pub appended : Appends before.written after.written sent
+  pub split : sent ++ unsent ≡ text
+  pub few_calls : CalledAtMost (length sent) before.calls after.calls
 
 -- This text was put since the sink stood as `first`. It is written or stands in the block; or its front is written, and
 -- there was a fault. The calls so far, and one more for each byte that stands in the block, are at most one for each byte
 -- of the text.
 pub record HasTaken (s : Stage) (first : Outlet) (text : List ℕ) : Type 0 where
   pub never_fell : first.faults ≤ s.sink.faults
-  pub going : s.block.failed ≡ false → AppendsUpTo first.written s.sink.written text s.block.unsent
-  pub stopped : s.block.failed ≡ true → AppendsFront first.written s.sink.written text × Rose first.faults s.sink.faults
+  pub going : s.block.failed ≡ false → WritesUpTo first s.sink text s.block.unsent
+  pub stopped : s.block.failed ≡ true → WritesFront first s.sink text × Rose first.faults s.sink.faults
   pub few_calls : CalledAtMost (length text) first.calls (s.sink.calls + length s.block.unsent)
 
 -- From one stage to the next a text was put, behind all that was put before.
