@@ -51,7 +51,7 @@ pub struct Ended {
     pub adders: Vec<Option<Adder>>,
 }
 
-/// So many adders, all idle and in one bundle. The total is 0.
+/// So many adders, all idle and in one bundle. The total is 0. An error is want of memory.
 pub fn open(alloc: Global, count: usize) -> Result<(Tally, Bundle), AllocError>
     ensures { IfOk result (λ t. (t.0.table.shared.key ≡ count) × (t.1.seat.table_id ≡ t.0.table.shared.table_id) × (length t.1.adders.items ≡ count) × (t.1.seat.me.0 ≡ whole (opening count).machines)) }
 {
@@ -64,7 +64,8 @@ pub fn open(alloc: Global, count: usize) -> Result<(Tally, Bundle), AllocError>
 }
 
 impl Bundle {
-    /// Gives the adders of one bundle, of so many, to a bundle of their own.
+    /// Gives the adders of one bundle, of so many, to a bundle of their own. An error is want of memory, and then nothing
+    /// was given.
     pub fn deal(
         &mut self,
         alloc: Global,
@@ -76,6 +77,7 @@ impl Bundle {
         requires some { 0 < bundles }
         ensures dealt { IfOk result (λ dealt. (dealt.seat.table_id ≡ self.old.seat.table_id) × (length dealt.adders.items ≡ length self.old.adders.items) × (dealt.seat.me.0 ≡ dealt_to bundles bundle self.old.seat.me.0)) }
         ensures left { IfOk result (λ _. (self.new.seat.table_id ≡ self.old.seat.table_id) × (length self.new.adders.items ≡ length self.old.adders.items) × (self.new.seat.me.0 ≡ left_over (is_dealt_to bundles bundle) self.old.seat.me.0)) }
+        ensures refused { IfErr result (λ _. (self.new.seat.table_id ≡ self.old.seat.table_id) × (self.new.seat.me ≡ self.old.seat.me) × (self.new.adders.items ≡ self.old.adders.items)) }
     {
         let adders = deal_machines(alloc, &mut self.adders, bundles, bundle)?;
         let seat = deal_bundle::<Worker, Wish, usize, OfAdders, Brand>(
@@ -191,8 +193,8 @@ impl Tally {
     }
 }
 
-/// So many adders in two bundles, each in a thread of its own, make so many steps each. Some list of those steps, one after
-/// the other, leads to what is left.
+/// So many adders in two bundles, each in a thread of its own, make so many steps each. Some list of steps, one after the
+/// other, leads to what is left, and in it each adder makes just so many. An error is want of memory.
 pub fn add_in_two<R: Threads + Sync>(
     rt: &R,
     alloc: Global,
