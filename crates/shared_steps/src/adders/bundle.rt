@@ -1,4 +1,4 @@
-ghost use Rattle.std.specs.Prelude.{◌≡◌, ◌<◌, ◌==◌, if◌then◌else◌, ℕ, true, [], ◌∷◌, length, List, Some, IfOk, IfErr};
+ghost use Rattle.std.specs.Prelude.{◌≡◌, ◌<◌, ◌==◌, if◌then◌else◌, ℕ, true, false, [], ◌∷◌, length, List, Some, IfOk, IfErr};
 ghost use Rattle.std.specs.Option.{is_some};
 ghost use Rattle.shared_steps.specs.Views.{machine_of, whole, merged, dealt_to, left_over, is_dealt_to, machines_of, kept_of, IsWhole};
 ghost use Rattle.shared_steps.specs.Rule.{Took, AreReached};
@@ -98,7 +98,8 @@ impl Bundle {
 
     /// Whether the bundle has all adders.
     pub fn has_all(&self) -> bool
-        ensures { result ≡ true → IsWhole (length self.now.adders.items) self.now.seat.me.0 }
+        ensures all { result ≡ true → IsWhole (length self.now.adders.items) self.now.seat.me.0 }
+        ensures not_all { result ≡ false → (number : ℕ) × (number < length self.now.adders.items) × (is_some (machine_of self.now.seat.me.0 number) ≡ false) }
     {
         all_there(&self.adders)
     }
