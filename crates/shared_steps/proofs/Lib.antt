@@ -9,3 +9,4 @@ pub mod Numbers
 pub mod Reached
 pub mod AdderViews
 pub mod Locked
+pub mod StepsMade

@@ -11,7 +11,7 @@ use Rattle.shared_steps.specs.declared.adders.Adder.{Adder}
 use Rattle.shared_steps.specs.declared.adders.Adder.TheVariants.{Idle, Asks, Looks, Writes, Leaves}
 use Rattle.shared_steps.specs.declared.adders.Wish.{Wish}
 use Rattle.shared_steps.specs.declared.adders.Worker.{Worker}
-use Rattle.shared_steps.specs.Adders.{adders_kind, opening, worker, plan_at, next_at, IsFit, ended_at}
+use Rattle.shared_steps.specs.Adders.{adders_kind, opening, worker, plan_at, next_at, IsFit}
 
 -- whether it has the lock, as 1 or 0
 abbrev holds_at : Adder → ℕ
@@ -76,7 +76,7 @@ step_locked : (s : Stage Worker) (number : ℕ) (w : Worker) (wish : Wish) → I
 unfolding adders_kind
 step_locked s number w wish locked here =
     let told : ℕ = slice_index s.words (place_of (plan_at w.adder)) in
-    let next : Worker = worker (next_at w.adder told) (w.calls + ended_at w.adder) in
+    let next : Worker = worker (next_at w.adder told) (w.steps + 1) in
     let sum = holders-set s.machines number w next here in
     let mine = holder_counts s.machines number w here in
     let b = balanced w.adder (slice_index s.words 0) told (holders s.machines) (holders (slice_set s.machines number next)) locked.lock locked.one mine

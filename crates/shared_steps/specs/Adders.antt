@@ -1,5 +1,5 @@
 -- Machines that add to a total under a lock: word 0 is the lock, 1 while one has it, and word 1 the total.
-use Rattle.std.specs.Prelude.{ℕ, ◌≡◌, ◌+◌, ◌%◌, ◌^◌, ◌==◌, Bool, true, false, List, [], ◌∷◌, replicate, if◌then◌else◌}
+use Rattle.std.specs.Prelude.{ℕ, ◌≡◌, ◌+◌, ◌%◌, ◌^◌, ◌==◌, Bool, true, false, List, [], ◌∷◌, length, replicate, Option, Some, None, slice_get, if◌then◌else◌}
 use Rattle.heap_words.specs.declared.access.Access.{Access}
 use Rattle.heap_words.specs.declared.access.Access.TheVariants.{Load, Store, Sub, Exchange}
 use Rattle.shared_steps.specs.declared.adders.Adder.{Adder}
@@ -8,7 +8,7 @@ use Rattle.shared_steps.specs.declared.adders.Wish.{Wish}
 use Rattle.shared_steps.specs.declared.adders.Wish.TheVariants.{Begin, GoOn}
 use Rattle.shared_steps.specs.declared.adders.Worker.{Worker}
 use Rattle.steps_base.specs.Steps.{Kind, Stage, IsReached}
-use Rattle.shared_steps.specs.Views.{View, whole, kept_of}
+use Rattle.shared_steps.specs.Views.{View, whole, machine_of, kept_one, kept_of}
 
 -- an adder that is idle begins, and one that is not goes on
 abbrev pub takes_at : Adder → Wish → Bool
@@ -47,17 +47,9 @@ IsFit Looks told = Unit {0}
 IsFit (Writes found) told = Unit {0}
 IsFit Leaves told = told ≡ 1
 
--- how many calls end with the step
-abbrev pub ended_at : Adder → ℕ
-ended_at Idle = 0
-ended_at Asks = 0
-ended_at Looks = 0
-ended_at (Writes found) = 0
-ended_at Leaves = 1
-
--- the adder, with the calls that it has ended
+-- the adder, with the steps that it has made
 abbrev pub worker : Adder → ℕ → Worker
-worker adder calls = record { adder = adder; calls = calls }
+worker adder steps = record { adder = adder; steps = steps }
 
 abbrev pub adder_of : Worker → Adder
 adder_of w = w.adder
@@ -67,15 +59,31 @@ unfoldable pub adders_kind : Kind Worker Wish
 adders_kind = record {
   takes = λ w wish. takes_at w.adder wish;
   plan = λ w wish. plan_at w.adder;
-  took = λ w wish told. worker (next_at w.adder told) (w.calls + ended_at w.adder);
+  took = λ w wish told. worker (next_at w.adder told) (w.steps + 1);
 }
 
 -- so many adders, all idle, and nothing added
 unfoldable pub opening : ℕ → Stage Worker
 opening count = record { words = 0 ∷ 0 ∷ []; machines = replicate count (worker Idle 0) }
 
--- some list of steps of so many adders ends in this lock, this total and these adders
-pub record IsEnd (count lock total : ℕ) (left : View Adder) : Type 0 where
-  pub workers : List Worker
+abbrev pub steps_of : Worker → ℕ
+steps_of w = w.steps
+
+-- so many steps more
+abbrev pub more : ℕ → Option ℕ → Option ℕ
+more n None = None
+more n (Some m) = Some (m + n)
+
+-- each worker has made so many steps, by its number
+pub record HaveMade (steps : ℕ → ℕ) (before after : View Worker) : Type 0 where
+  pub long : length after ≡ length before
+  pub each : (number : ℕ) → kept_one steps_of (machine_of after number) ≡ more (steps number) (kept_one steps_of (machine_of before number))
+
+-- some list of steps of so many adders ends in this lock and this total, and these workers, of which memory has the adders
+pub record IsEnd (count lock total : ℕ) (workers : List Worker) (left : View Adder) : Type 0 where
   pub reached : IsReached adders_kind (opening count) (record { words = lock ∷ total ∷ []; machines = workers })
   pub adders_are : kept_of adder_of (whole workers) ≡ left
+
+-- each has made so many steps
+abbrev pub EachMade : ℕ → List Worker → Type 0
+EachMade steps workers = (number : ℕ) (w : Worker) → slice_get workers number ≡ Some w → w.steps ≡ steps

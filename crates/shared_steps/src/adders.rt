@@ -35,12 +35,12 @@ pub enum Wish {
     GoOn,
 }
 
-/// An adder, and how many calls it has ended, which no memory keeps. No value of it is made.
+/// An adder, and how many steps it has made, which no memory keeps. No value of it is made.
 pub struct Worker {
     /// Where it stands.
     pub adder: Adder,
-    /// The calls that it has ended.
-    pub calls: u64,
+    /// The steps that it has made.
+    pub steps: u64,
 }
 
 impl Adder {

@@ -7,7 +7,7 @@ use crate::machines::{Cut, Machines, Parts, SharedWords, StepsTable, Union, View
 use atomic_table::{Closed, Table};
 use std::alloc::{AllocError, Global};
 
-/// A table that begins with these words, the opening's, and one seat with all machines.
+/// A table that begins with these words, the opening's, and one seat with all machines. An error is want of memory.
 pub fn open_table<R, O, K, M: Machines<R, O, K>>(
     alloc: Global,
     words: &[u64],
@@ -19,7 +19,7 @@ pub fn open_table<R, O, K, M: Machines<R, O, K>>(
     Table::of_words(alloc, words, key)
 }
 
-/// Gives the machines of one bundle, of so many, to a seat of their own.
+/// Gives the machines of one bundle, of so many, to a seat of their own: those whose numbers have the remainder `bundle`.
 pub fn deal_bundle<R, O, K, M: Machines<R, O, K>, G: Cut>(
     table: &SharedWords<R, O, K, M>,
     seat: &mut ViewSeat<R>,

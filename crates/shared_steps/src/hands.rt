@@ -16,7 +16,8 @@ fn places<T: Drop>(alloc: Global, count: usize) -> Result<Vec<Option<T>>, AllocE
     Ok(places)
 }
 
-/// Takes out the machines of one bundle, of so many. Each stays under its number, in both lists.
+/// Takes out the machines of one bundle, of so many: those whose numbers have the remainder `bundle`. Each stays under its
+/// number, in both lists. An error is want of memory, and then nothing was taken out.
 pub fn deal_machines<T: Drop>(
     alloc: Global,
     machines: &mut Vec<Option<T>>,
@@ -37,7 +38,7 @@ pub fn deal_machines<T: Drop>(
     Ok(dealt)
 }
 
-/// Takes in the machines of another bundle.
+/// Takes in the machines of another bundle. Where both have one under a number, its own stays.
 pub fn join_machines<T: Drop>(machines: &mut Vec<Option<T>>, mut others: Vec<Option<T>>)
     requires { length machines.old.items ≡ length others.items }
     ensures { machines.new.items ≡ merged machines.old.items others.items }

@@ -6,7 +6,9 @@ ghost use Rattle.shared_steps.specs.Rule.{Took};
 use crate::machines::{Machines, SharedWords, Turn, Turns, ViewSeat};
 use heap_words::Access;
 
-/// Makes the access of a machine's next step, and returns the word that it found.
+/// Makes the access of the next step of the seat's machine `number` under this order, and returns the word that it found.
+/// The access is one of any form; a store is a swap, so that the word before it is known. Called with `Brand` for `G`, whose
+/// members the caller's proof picks from the arguments.
 pub fn make_step<R, O, K, M: Machines<R, O, K>, G: Turn<R, O>>(
     table: &SharedWords<R, O, K, M>,
     seat: &mut ViewSeat<R>,

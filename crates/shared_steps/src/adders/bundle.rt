@@ -1,8 +1,8 @@
-ghost use Rattle.std.specs.Prelude.{◌≡◌, ◌<◌, ℕ, true, [], ◌∷◌, length, List, Some, IfOk, IfErr};
+ghost use Rattle.std.specs.Prelude.{◌≡◌, ◌<◌, ◌==◌, if◌then◌else◌, ℕ, true, false, [], ◌∷◌, length, List, Some, IfOk, IfErr};
 ghost use Rattle.std.specs.Option.{is_some};
-ghost use Rattle.shared_steps.specs.Views.{machine_of, whole, merged, dealt_to, left_over, is_dealt_to, kept_of, IsWhole, SameNumbers};
+ghost use Rattle.shared_steps.specs.Views.{machine_of, whole, merged, dealt_to, left_over, is_dealt_to, machines_of, kept_of, IsWhole};
 ghost use Rattle.shared_steps.specs.Rule.{Took, AreReached};
-ghost use Rattle.shared_steps.specs.Adders.{adders_kind, opening, adder_of, IsEnd};
+ghost use Rattle.shared_steps.specs.Adders.{adders_kind, opening, adder_of, HaveMade, IsEnd, EachMade};
 
 use crate::adders::{Adder, Wish, Worker};
 use crate::bundles::{close_table, deal_bundle, join_bundle, open_table};
@@ -51,7 +51,7 @@ pub struct Ended {
     pub adders: Vec<Option<Adder>>,
 }
 
-/// So many adders, all idle and in one bundle. The total is 0.
+/// So many adders, all idle and in one bundle. The total is 0. An error is want of memory.
 pub fn open(alloc: Global, count: usize) -> Result<(Tally, Bundle), AllocError>
     ensures { IfOk result (λ t. (t.0.table.shared.key ≡ count) × (t.1.seat.table_id ≡ t.0.table.shared.table_id) × (length t.1.adders.items ≡ count) × (t.1.seat.me.0 ≡ whole (opening count).machines)) }
 {
@@ -64,7 +64,8 @@ pub fn open(alloc: Global, count: usize) -> Result<(Tally, Bundle), AllocError>
 }
 
 impl Bundle {
-    /// Gives the adders of one bundle, of so many, to a bundle of their own.
+    /// Gives the adders of one bundle, of so many, to a bundle of their own. An error is want of memory, and then nothing
+    /// was given.
     pub fn deal(
         &mut self,
         alloc: Global,
@@ -76,6 +77,7 @@ impl Bundle {
         requires some { 0 < bundles }
         ensures dealt { IfOk result (λ dealt. (dealt.seat.table_id ≡ self.old.seat.table_id) × (length dealt.adders.items ≡ length self.old.adders.items) × (dealt.seat.me.0 ≡ dealt_to bundles bundle self.old.seat.me.0)) }
         ensures left { IfOk result (λ _. (self.new.seat.table_id ≡ self.old.seat.table_id) × (length self.new.adders.items ≡ length self.old.adders.items) × (self.new.seat.me.0 ≡ left_over (is_dealt_to bundles bundle) self.old.seat.me.0)) }
+        ensures refused { IfErr result (λ _. (self.new.seat.table_id ≡ self.old.seat.table_id) × (self.new.seat.me ≡ self.old.seat.me) × (self.new.adders.items ≡ self.old.adders.items)) }
     {
         let adders = deal_machines(alloc, &mut self.adders, bundles, bundle)?;
         let seat = deal_bundle::<Worker, Wish, usize, OfAdders, Brand>(
@@ -96,7 +98,8 @@ impl Bundle {
 
     /// Whether the bundle has all adders.
     pub fn has_all(&self) -> bool
-        ensures { result ≡ true → IsWhole (length self.now.adders.items) self.now.seat.me.0 }
+        ensures all { result ≡ true → IsWhole (length self.now.adders.items) self.now.seat.me.0 }
+        ensures not_all { result ≡ false → (number : ℕ) × (number < length self.now.adders.items) × (is_some (machine_of self.now.seat.me.0 number) ≡ false) }
     {
         all_there(&self.adders)
     }
@@ -106,8 +109,8 @@ impl Bundle {
         requires tally { (self.old.seat.table_id ≡ tally.now.table.shared.table_id) × (length self.old.adders.items ≡ tally.now.table.shared.key) }
         requires here { is_some (machine_of self.old.seat.me.0 number) ≡ true }
         ensures tally { (self.new.seat.table_id ≡ self.old.seat.table_id) × (length self.new.adders.items ≡ length self.old.adders.items) }
-        ensures numbers { SameNumbers self.old.seat.me.0 self.new.seat.me.0 }
-        ensures step { (wish : Wish) × (told : ℕ) × Took adders_kind (opening tally.now.table.shared.key) number wish self.old.seat.me told self.new.seat.me }
+        ensures steps { HaveMade (λ k. if k == number then 1 else 0) self.old.seat.me.0 self.new.seat.me.0 }
+        ensures event { (wish : Wish) × (told : ℕ) × Took adders_kind (opening tally.now.table.shared.key) number wish self.old.seat.me told self.new.seat.me }
     {
         let Some(adder) = self.adders[number] else {
             unreachable!()
@@ -126,7 +129,7 @@ impl Bundle {
     fn step_if_here(&mut self, tally: &Tally, number: usize)
         requires { (self.old.seat.table_id ≡ tally.now.table.shared.table_id) × (length self.old.adders.items ≡ tally.now.table.shared.key) }
         ensures tally { (self.new.seat.table_id ≡ self.old.seat.table_id) × (length self.new.adders.items ≡ length self.old.adders.items) }
-        ensures numbers { SameNumbers self.old.seat.me.0 self.new.seat.me.0 }
+        ensures steps { HaveMade (λ k. if k == number then 1 else 0) self.old.seat.me.0 self.new.seat.me.0 }
     {
         if self.has(number) {
             self.step(tally, number);
@@ -137,7 +140,7 @@ impl Bundle {
     fn turn(&mut self, tally: &Tally)
         requires { (self.old.seat.table_id ≡ tally.now.table.shared.table_id) × (length self.old.adders.items ≡ tally.now.table.shared.key) }
         ensures tally { (self.new.seat.table_id ≡ self.old.seat.table_id) × (length self.new.adders.items ≡ length self.old.adders.items) }
-        ensures numbers { SameNumbers self.old.seat.me.0 self.new.seat.me.0 }
+        ensures steps { HaveMade (λ _. 1) self.old.seat.me.0 self.new.seat.me.0 }
     {
         for number in 0..self.adders.len() {
             self.step_if_here(tally, number);
@@ -148,7 +151,7 @@ impl Bundle {
     pub fn run(mut self, tally: &Tally, turns: usize) -> Bundle
         requires { (self.seat.table_id ≡ tally.now.table.shared.table_id) × (length self.adders.items ≡ tally.now.table.shared.key) }
         ensures tally { (result.seat.table_id ≡ self.seat.table_id) × (length result.adders.items ≡ length self.adders.items) }
-        ensures numbers { SameNumbers self.seat.me.0 result.seat.me.0 }
+        ensures steps { HaveMade (λ _. turns) self.seat.me.0 result.seat.me.0 }
     {
         for _ in 0..turns {
             self.turn(tally);
@@ -175,7 +178,7 @@ impl Tally {
     pub fn close(self, bundle: Bundle) -> Ended
         requires table { bundle.seat.table_id ≡ self.table.shared.table_id }
         requires all { IsWhole self.table.shared.key bundle.seat.me.0 }
-        ensures { IsEnd self.table.shared.key result.lock result.total result.adders.items }
+        ensures { IsEnd self.table.shared.key result.lock result.total (machines_of bundle.seat.me.0) result.adders.items }
     {
         let Tally { table } = self;
         let Bundle { seat, adders } = bundle;
@@ -191,15 +194,15 @@ impl Tally {
     }
 }
 
-/// So many adders in two bundles, each in a thread of its own, make so many steps each. Some list of those steps, one after
-/// the other, leads to what is left.
+/// So many adders in two bundles, each in a thread of its own, make so many steps each. Some list of steps, one after the
+/// other, leads to what is left, and in it each adder makes just so many. An error is want of memory.
 pub fn add_in_two<R: Threads + Sync>(
     rt: &R,
     alloc: Global,
     count: usize,
     turns: usize,
 ) -> Result<Ended, AllocError>
-    ensures { IfOk result (λ end. IsEnd count end.lock end.total end.adders.items) }
+    ensures { IfOk result (λ end. (workers : List Worker) × IsEnd count end.lock end.total workers end.adders.items × EachMade turns workers) }
 {
     let (tally, mut evens) = open(alloc, count)?;
     let odds = evens.deal(alloc, &tally, 2, 1)?;

@@ -1,15 +1,14 @@
 use Rattle.std.proofs.Common.{◌≡◌, ◌<◌, ◌∙◌, ap, sym, arith, length, refl, true, Some, ℕ, subst}
 use Rattle.std.proofs.lemmas.List.{length-set}
-use Rattle.shared_steps.specs.Views.{SameNumbers}
 use Rattle.shared_steps.specs.Rule.{Took}
 use Rattle.shared_steps.proofs.AdderViews.{same_reached}
-use Rattle.shared_steps.proofs.Numbers.{same_step}
+use Rattle.shared_steps.proofs.StepsMade.{made_step}
 use Rattle.shared_steps.proofs.Reached.{reached_step}
-use Rattle.std.specs.Prelude.{slice_set}
+use Rattle.std.specs.Prelude.{slice_set, ◌==◌, if◌then◌else◌}
 use Rattle.std.specs.Option.{is_some}
 use Rattle.shared_steps.specs.declared.adders.Adder.{Adder}
 use Rattle.shared_steps.specs.declared.adders.Worker.{Worker}
-use Rattle.shared_steps.specs.Adders.{adders_kind, opening, adder_of, next_at, plan_at, takes_at, IsFit}
+use Rattle.shared_steps.specs.Adders.{adders_kind, opening, adder_of, next_at, plan_at, takes_at, IsFit, HaveMade}
 use Rattle.shared_steps.specs.Views.{View, machine_of, kept_of}
 use Rattle.shared_steps.proofs.Kept.{kept_some, kept_can, kept_finds, kept_step}
 use Rattle.shared_steps.proofs.Locked.{finds_fit}
@@ -77,8 +76,9 @@ invariant_of-self c =
           c.args.self.now.reached);
     }
 
-pub returns-clause-numbers : goal.returns-clause-numbers
-returns-clause-numbers c =
+pub returns-clause-steps : goal.returns-clause-steps
+unfolding adders_kind
+returns-clause-steps c =
     let took = c.make_step-told.ensures.took in
-    subst (λ (v : View Worker). SameNumbers c.args.self.now.seat.me.0 v) (sym took.view)
-    (same_step c.args.self.now.seat.me.0 c.args.number took.machine (adders_kind.took took.machine c.wish.result c.make_step-told.result) took.here)
+    subst (λ (v : View Worker). HaveMade (λ k. if k == c.args.number then 1 else 0) c.args.self.now.seat.me.0 v) (sym took.view)
+    (made_step c.args.self.now.seat.me.0 c.args.number took.machine (adders_kind.took took.machine c.wish.result c.make_step-told.result) took.here refl)

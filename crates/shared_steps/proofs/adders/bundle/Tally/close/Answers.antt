@@ -31,7 +31,6 @@ returns c =
     let reached = c.close_table-closed.ensures.reached in
     let same : ws ≡ c.word-lock.result ∷ c.word-total.result ∷ [] = two_words ws c.word-lock.result c.word-total.result (length_reached key ws rs reached) c.word-lock.ensures c.word-total.ensures in
     record {
-      workers = rs;
       reached = subst (λ (xs : List ℕ). IsReached adders_kind (opening key) (record { words = xs; machines = rs })) same reached;
       adders_are = ap (kept_of adder_of) (sym c.requires.all.all) ∙ c.args.bundle.kept;
     }
