@@ -12,3 +12,4 @@ pub mod Promised
 pub mod Roots
 pub mod Standing
 pub mod Made
+pub mod Serving

@@ -13,7 +13,7 @@ use Rattle.image_laws.specs.Full.{asked_in, made_in, served_in, room_for, served
 use Rattle.image_laws.specs.Served.{tops_at_turn, given_in, IsAnswered, RequestsAreAnswered}
 
 -- one turn
-served_first : (c : Config) (m : Word → ℕ) (word : Word) → served c m 0 word ≡ m word
+pub served_first : (c : Config) (m : Word → ℕ) (word : Word) → served c m 0 word ≡ m word
 unfolding served
 served_first c m word = refl
 
@@ -22,10 +22,10 @@ turn : (c : Config) (m : Word → ℕ) (t : ℕ) (word : Word)
 unfolding served
 turn c m t word = refl
 
-turn_idle : (c : Config) (m : Word → ℕ) (t : ℕ) (word : Word) → served c m t (Wait t) ≡ 0 → served c m (suc t) word ≡ served c m t word
+pub turn_idle : (c : Config) (m : Word → ℕ) (t : ℕ) (word : Word) → served c m t (Wait t) ≡ 0 → served c m (suc t) word ≡ served c m t word
 turn_idle c m t word none = turn c m t word ∙ cond-true (served c m t (Wait t) == 0) (served c m t word) (served_in c (served c m t) t (room_for c (served c m t) t) word) (eq-eqb (served c m t (Wait t)) 0 none)
 
-turn_waits : (c : Config) (m : Word → ℕ) (t : ℕ) (word : Word) → served c m t (Wait t) ≢ 0
+pub turn_waits : (c : Config) (m : Word → ℕ) (t : ℕ) (word : Word) → served c m t (Wait t) ≢ 0
     → served c m (suc t) word ≡ served_in c (served c m t) t (room_for c (served c m t) t) word
 turn_waits c m t word some = turn c m t word ∙ cond-false (served c m t (Wait t) == 0) (served c m t word) (served_in c (served c m t) t (room_for c (served c m t) t) word) (ne_eqb (served c m t (Wait t)) 0 some)
 
@@ -41,11 +41,11 @@ answer_of_other c m t u None other = refl
 answer_of_other c m t u (Some r) other = cond-false (t == u) (base_of c r + m (Top r)) (m (Answer u)) (ne_eqb t u (λ e. other (sym e)))
 
 -- and to its own, where room is found
-own_wait : (c : Config) (m : Word → ℕ) (t r : ℕ) → served_in c m t (Some r) (Wait t) ≡ 0
+pub own_wait : (c : Config) (m : Word → ℕ) (t r : ℕ) → served_in c m t (Some r) (Wait t) ≡ 0
 unfolding made_in
 own_wait c m t r = cond-true (t == t) 0 (m (Wait t)) (eq-eqb t t refl)
 
-own_answer : (c : Config) (m : Word → ℕ) (t r : ℕ) → served_in c m t (Some r) (Answer t) ≡ base_of c r + m (Top r)
+pub own_answer : (c : Config) (m : Word → ℕ) (t r : ℕ) → served_in c m t (Some r) (Answer t) ≡ base_of c r + m (Top r)
 unfolding made_in
 own_answer c m t r = cond-true (t == t) (base_of c r + m (Top r)) (m (Answer t)) (eq-eqb t t refl)
 

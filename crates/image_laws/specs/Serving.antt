@@ -7,7 +7,8 @@ use Rattle.regions.specs.Place.{base_of}
 use Rattle.shen_graph.specs.declared.name.Name.{Name}
 use Rattle.shen_graph.specs.Graph.{Graph}
 use Rattle.heap_world.specs.World.{Block, thing, Plot}
-use Rattle.image_laws.specs.Full.{room_for, served, refused, full, now_in, root_words, kept_in}
+use Rattle.image_laws.specs.Plot.{packed_block}
+use Rattle.image_laws.specs.Full.{room_for, served, packed, full, now_in, root_words, kept_in}
 use Rattle.image_laws.specs.Promised.{Promises, with_promised}
 use Rattle.image_laws.specs.Held.{IsAmong, HoldsGraph}
 use Rattle.image_laws.specs.Image.{RootsStand, ImageStands}
@@ -67,3 +68,13 @@ AreAsking c memory g p from = (t : ℕ) → from ≤ t → t < c.mutators → me
 abbrev pub ServingStands : Type 0
 ServingStands = (c : Config) (memory : Word → ℕ) (block : Plot) (g : Graph) (p : Promises) → ImageStands c memory block g p → AreAsking c memory g p 0
     → (n : ℕ) → n ≤ c.mutators → ImageStands c (served c memory n) (served_block c memory block n) g (served_promises c memory p n)
+
+-- A full collection keeps the graph: where the words of an image hold it, by current copies, with objects that threads
+-- were promised, and who waits asks for an object that can be, they stand for it afterwards, with the objects that were
+-- made for waiting threads as further promises.
+abbrev pub FullStands : Type 0
+FullStands = (c : Config) (memory : Word → ℕ) (block : Plot) (g : Graph) (p : Promises)
+    → HoldsGraph c (λ r. memory (Top r)) (λ a. memory (Heap a)) block (now_in memory) (IsAmong (root_words c memory)) (with_promised g p)
+    → RootsStand c memory block g p → AreAsking c memory g p 0
+    → ImageStands c (full c memory) (served_block c (packed c (now_in memory) (kept_in c memory) memory) (packed_block c (kept_in c memory) block) c.mutators) g
+    (served_promises c (packed c (now_in memory) (kept_in c memory) memory) p c.mutators)
