@@ -13,3 +13,4 @@ pub mod Roots
 pub mod Standing
 pub mod Made
 pub mod Serving
+pub mod Crowded
