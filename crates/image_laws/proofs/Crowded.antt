@@ -1,9 +1,8 @@
 -- Who is refused was crowded out by what lives, what is promised, and what was given before.
-use Rattle.std.proofs.Common.{◌≡◌, ◌≢◌, ℕ, ◌+◌, ◌-◌, ◌*◌, ◌<◌, ◌≤◌, ◌⊎◌, List, sum_by, Some, ⊎_elim, refl, sym, ap, ◌∙◌, arith}
+use Rattle.std.proofs.Common.{◌≡◌, ◌≢◌, ℕ, ◌+◌, ◌-◌, ◌*◌, ◌<◌, ◌≤◌, List, sum_by, Some, ⊎_elim, refl, sym, ap, ◌∙◌, arith}
 use Rattle.std.proofs.Math.Nat.{mul-le-mul_right}
 use Rattle.heap_words.specs.declared.config.Config.{Config}
 use Rattle.heap_words.specs.Words.{Word, Top, Wait, Answer, Heap}
-use Rattle.regions.specs.Place.{base_of}
 use Rattle.packing.specs.Tops.{sum_below}
 use Rattle.packing.specs.Rooms.{HasNoRoom, IsLowestRoom}
 use Rattle.shen_graph.specs.declared.name.Name.{Name}

@@ -1,8 +1,8 @@
 -- An object is made for a thread that waits: the image stands for the graph with one promise more.
-use Rattle.std.proofs.Common.{◌≡◌, ◌≢◌, ℕ, ◌+◌, ◌-◌, ◌*◌, ◌^◌, ◌<◌, ◌≤◌, ◌⊎◌, ◌==◌, ◌&&◌, inl, inr, Bool, true, false, zero, suc, cond, nat_le, nat_lt, List, length, replicate, slice_get, Option, Some, None, ⊎_elim, refl, sym, ap, ◌∙◌, subst, arith, w64}
+use Rattle.std.proofs.Common.{◌≡◌, ◌≢◌, ℕ, ◌+◌, ◌<◌, ◌≤◌, ◌⊎◌, ◌==◌, ◌&&◌, inl, inr, true, false, zero, suc, cond, nat_le, nat_lt, replicate, slice_get, Option, Some, None, ⊎_elim, refl, sym, ap, ◌∙◌, subst, arith, w64}
 use Rattle.std.specs.Prelude.{bit_and}
 use Rattle.std.specs.Int.{bit_at}
-use Rattle.std.proofs.lemmas.Bool.{cond-true, cond-false, cases_Bool, cases_eq, eq-eqb, ne_eqb, and_from, and_left, and_right, le-leb, lt-leb, lt-ltb, le-ltb, false≢true, true≢false}
+use Rattle.std.proofs.lemmas.Bool.{cond-true, cond-false, cases_Bool, cases_eq, eq-eqb, ne_eqb, and_from, and_left, and_right, le-leb, lt-leb, lt-ltb, le-ltb}
 use Rattle.std.proofs.lemmas.List.{length-replicate}
 use Rattle.std.proofs.lemmas.Nat.Bits.{bit_at_clear_same}
 use Rattle.std.proofs.lemmas.Option.{none-some, same_Some, slice_get_within}
@@ -10,12 +10,12 @@ use Rattle.heap_words.specs.declared.config.Config.{Config}
 use Rattle.heap_words.specs.Words.{Word, Free, Top, Root, Wait, Answer, Heap}
 use Rattle.heap_words.specs.Encoding.{plain_header, object_words, refs_in, nums_in, shape_word, name_code, request_count_in, request_shape_in}
 use Rattle.regions.specs.Place.{base_of}
-use Rattle.regions.specs.Sets.{IsIn, all_but}
+use Rattle.regions.specs.Sets.{all_but}
 use Rattle.shen_graph.specs.declared.name.Name.{Name}
 use Rattle.shen_graph.specs.Graph.{Graph, Object, Reference, blank, same_name, same_reference}
 use Rattle.shen_graph.proofs.PlainLemmas.{same_name-true, same_name-itself}
-use Rattle.heap_world.specs.World.{Block, thing, hand, words_of, Plot, name_at, Points, IsPlotted, IsFilled, IsObject, AreObjects, IsFreeWord}
-use Rattle.heap_world.proofs.Updates.{updated, updated_else, updated_there, updated_same}
+use Rattle.heap_world.specs.World.{Block, thing, hand, words_of, Plot, name_at, Points, IsObject, AreObjects, IsFreeWord}
+use Rattle.heap_world.proofs.Updates.{updated, updated_else, updated_there}
 use Rattle.heap_world.proofs.Keeping.{points_stay}
 use Rattle.heap_world.proofs.Pieces.{beside, piece_cases, object_reads}
 use Rattle.heap_world.proofs.FreeRegions.{free_without}
@@ -23,7 +23,7 @@ use Rattle.heap_world.proofs.Joined as joined
 use Rattle.heap_world.proofs.Joined.{CanJoin}
 use Rattle.image_laws.specs.Full.{fresh_word, made_in}
 use Rattle.image_laws.specs.Promised.{Promises, with_promised}
-use Rattle.image_laws.specs.Image.{AnswerStands, RootsStand, ImageStands}
+use Rattle.image_laws.specs.Image.{AnswerStands, ImageStands}
 use Rattle.image_laws.specs.Serving.{asked_shape, asked_name, asked_piece, made_block, made_promise, IsAsking}
 
 -- the words of a new object, and the others
@@ -116,10 +116,10 @@ module _ (c : Config) (m : Word → ℕ) (block : Plot) (g : Graph) (p : Promise
     room = room;
     some = omega arith;
   }
-      where
-        long : (a : ℕ) (b : Block) → block a ≡ Some b → 3 ≤ words_of b
-        long a (thing name refs nums) is = omega arith
-        long a (hand seat words) is = absurd (stands.no_hands a seat words is)
+    where
+      long : (a : ℕ) (b : Block) → block a ≡ Some b → 3 ≤ words_of b
+      long a (thing name refs nums) is = omega arith
+      long a (hand seat words) is = absurd (stands.no_hands a seat words is)
 
   names_stay : (a : ℕ) (name : Name) → name_at (block a) ≡ Some name → name_at (new_block a) ≡ Some name
   names_stay = joined.names_stay c top block r (m (Top r)) piece can
@@ -217,9 +217,11 @@ module _ (c : Config) (m : Word → ℕ) (block : Plot) (g : Graph) (p : Promise
         (subst (PieceAt (λ x. after (Heap x)) new_block (with_promised g more).object address) made.1
         (blank (refs_in (asked_shape m t)) (nums_in (asked_shape m t)), new_object, new_words)))
         (λ (old : (a ≢ address) × (block a ≡ Some (thing name refs nums))).
-        let o = stands.objects.each a refs nums name old.1 in
-        (o.0, object_stays name o.0 o.1,
-        object_reads heap (λ x. after (Heap x)) block new_block a refs nums name o.0 (λ k below. old_word a k (thing name refs nums) old.1 below) names_stay o.2))
+        let o = stands.objects.each a refs nums name old.1 in (
+          o.0,
+          object_stays name o.0 o.1,
+          object_reads heap (λ x. after (Heap x)) block new_block a refs nums name o.0 (λ k below. old_word a k (thing name refs nums) old.1 below) names_stay o.2,
+        ))
         (cases a (thing name refs nums) is);
     once = λ a b refs nums more_refs more_nums name is_a is_b. ⊎_elim
         (λ (made_a : (a ≡ address) × (piece ≡ thing name refs nums)). ⊎_elim
@@ -232,14 +234,14 @@ module _ (c : Config) (m : Word → ℕ) (block : Plot) (g : Graph) (p : Promise
         (cases b (thing name more_refs more_nums) is_b))
         (cases a (thing name refs nums) is_a);
   }
-      where
-        named : (name : Name) (refs nums : ℕ) → piece ≡ thing name refs nums → new ≡ name
-        named name refs nums same = same_Some new name (ap (λ b. name_at (Some b)) same)
+    where
+      named : (name : Name) (refs nums : ℕ) → piece ≡ thing name refs nums → new ≡ name
+      named name refs nums same = same_Some new name (ap (λ b. name_at (Some b)) same)
 
-        not_old : (a : ℕ) (name : Name) (refs nums : ℕ) → block a ≡ Some (thing name refs nums) → new ≡ name → ⊥
-        not_old a name refs nums is same =
-            let o = stands.objects.each a refs nums name is in
-            none-some o.0 (sym asking.new ∙ ap (with_promised g p).object same ∙ o.1)
+      not_old : (a : ℕ) (name : Name) (refs nums : ℕ) → block a ≡ Some (thing name refs nums) → new ≡ name → ⊥
+      not_old a name refs nums is same =
+          let o = stands.objects.each a refs nums name is in
+          none-some o.0 (sym asking.new ∙ ap (with_promised g p).object same ∙ o.1)
 
   nobody_has_room : (a seat words : ℕ) → new_block a ≡ Some (hand seat words) → ⊥
   nobody_has_room a seat words is = ⊎_elim

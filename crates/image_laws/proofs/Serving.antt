@@ -1,22 +1,22 @@
 -- Serving and refusing keep the graph, and so does a full collection.
-use Rattle.std.proofs.Common.{◌≡◌, ◌≢◌, ℕ, ◌+◌, ◌<◌, ◌≤◌, ◌⊎◌, ◌==◌, inl, inr, true, false, cond, nat_le, zero, suc, Option, Some, None, ⊎_elim, refl, sym, ap, ◌∙◌, subst, arith}
+use Rattle.std.proofs.Common.{◌≡◌, ◌≢◌, ℕ, ◌+◌, ◌<◌, ◌≤◌, ◌==◌, inl, cond, nat_le, zero, suc, Option, Some, None, ⊎_elim, refl, sym, ap, ◌∙◌, subst, arith}
 use Rattle.std.proofs.Math.Path.{fun_ext}
 use Rattle.std.proofs.lemmas.Bool.{cond-true, cond-false, cases_eq, eq-eqb, ne_eqb, le-leb}
 use Rattle.std.proofs.lemmas.Option.{none-some}
 use Rattle.heap_words.specs.declared.config.Config.{Config}
-use Rattle.heap_words.specs.Words.{Word, Top, Root, Wait, Answer, Heap}
-use Rattle.heap_words.specs.Encoding.{refs_in, nums_in, shape_word, request_shape_in, object_words}
+use Rattle.heap_words.specs.Words.{Word, Top, Wait, Answer, Heap}
+use Rattle.heap_words.specs.Encoding.{object_words}
 use Rattle.packing.specs.Places.{new_place}
 use Rattle.packing.proofs.Rooms.{has_room}
 use Rattle.shen_graph.specs.declared.name.Name.{Name}
-use Rattle.shen_graph.specs.Graph.{Graph, Reference}
+use Rattle.shen_graph.specs.Graph.{Graph}
 use Rattle.heap_world.specs.World.{Plot, name_at}
 use Rattle.image_laws.specs.Held.{IsAmong, HoldsGraph}
 use Rattle.image_laws.specs.Plot.{packed_block}
-use Rattle.image_laws.specs.Full.{now_in, root_words, kept_in, packed, served_in, made_in, room_for, served, refused, full}
+use Rattle.image_laws.specs.Full.{now_in, root_words, kept_in, packed, served_in, room_for, served, refused, full}
 use Rattle.image_laws.specs.Promised.{Promises, with_promised}
 use Rattle.image_laws.specs.Image.{AnswerStands, RootsStand, ImageStands}
-use Rattle.image_laws.specs.Serving.{asked_shape, made_block, made_promise, turn_room, served_block, served_promises, IsAsking, AreAsking}
+use Rattle.image_laws.specs.Serving.{asked_shape, made_block, made_promise, turn_room, served_block, served_promises, AreAsking}
 use Rattle.image_laws.proofs.Standing.{packed_stands}
 use Rattle.image_laws.proofs.Served.{served_first, turn_idle, turn_waits, before_turn, after_turn, own_wait}
 use Rattle.image_laws.proofs.Made.{made_stands, other_words, other_asks}
@@ -41,12 +41,13 @@ one_turn : (c : Config) (g : Graph) (m : Word → ℕ) (block : Plot) (p : Promi
 one_turn c g m block p n None below stands is = (stands.0, λ t later inside some. stands.1 t (omega (arith, later)) inside some)
 one_turn c g m block p n (Some r) below stands is =
     let room = finds_room c m n r is in
-    let asking = stands.1 n (omega arith) below room.0 in
-    (made_stands c m block g p stands.0 n r below asking room.1 room.2,
-    λ t later inside some.
-    let other : n ≢ t = λ same. omega (arith, same, later) in
-    let words = other_words c m block g p stands.0 n r below asking room.1 room.2 t other in
-    other_asks c m block g p stands.0 n r below asking room.1 room.2 t other (stands.1 t (omega (arith, later)) inside (λ zero'. some (words.0 ∙ zero'))))
+    let asking = stands.1 n (omega arith) below room.0 in (
+      made_stands c m block g p stands.0 n r below asking room.1 room.2,
+      λ t later inside some.
+          let other : n ≢ t = λ same. omega (arith, same, later) in
+          let words = other_words c m block g p stands.0 n r below asking room.1 room.2 t other in
+          other_asks c m block g p stands.0 n r below asking room.1 room.2 t other (stands.1 t (omega (arith, later)) inside (λ zero'. some (words.0 ∙ zero'))),
+    )
 
 -- the words after a turn, by the region that was found
 turn_is : (c : Config) (m : Word → ℕ) (n : ℕ) → served c m (suc n) ≡ served_in c (served c m n) n (turn_room c (served c m n) n)
@@ -77,18 +78,18 @@ module _ (c : Config) (g : Graph) (m : Word → ℕ) (block : Plot) (p : Promise
   -- who still waits at the end has no answer
   left_unanswered : (t : ℕ) → t < c.mutators → served c m c.mutators (Wait t) ≢ 0 → served c m c.mutators (Answer t) ≡ 0
   left_unanswered t inside some = by_room (turn_room c (served c m t) t) refl
-      where
-        end : (served c m c.mutators (Wait t) ≡ served c m (suc t) (Wait t)) × (served c m c.mutators (Answer t) ≡ served c m (suc t) (Answer t))
-        end = after_turn c m c.mutators t inside
+    where
+      end : (served c m c.mutators (Wait t) ≡ served c m (suc t) (Wait t)) × (served c m c.mutators (Answer t) ≡ served c m (suc t) (Answer t))
+      end = after_turn c m c.mutators t inside
 
-        by_room : (o : Option ℕ) → turn_room c (served c m t) t ≡ o → served c m c.mutators (Answer t) ≡ 0
-        by_room None is =
-            let same : (word : Word) → served c m (suc t) word ≡ served c m t word = λ word. ap (λ f. f word) (turn_is c m t) ∙ ap (λ o. served_in c (served c m t) t o word) is in
-            let before = before_turn c m t t (omega arith) in
-            let waits : m (Wait t) ≢ 0 = λ zero'. some (end.0 ∙ same (Wait t) ∙ before.0 ∙ zero') in
-            end.1 ∙ same (Answer t) ∙ before.1 ∙ (asking t (omega arith) inside waits).unanswered
-        by_room (Some r) is =
-            absurd (some (end.0 ∙ ap (λ f. f (Wait t)) (turn_is c m t) ∙ ap (λ o. served_in c (served c m t) t o (Wait t)) is ∙ own_wait c (served c m t) t r))
+      by_room : (o : Option ℕ) → turn_room c (served c m t) t ≡ o → served c m c.mutators (Answer t) ≡ 0
+      by_room None is =
+          let same : (word : Word) → served c m (suc t) word ≡ served c m t word = λ word. ap (λ f. f word) (turn_is c m t) ∙ ap (λ o. served_in c (served c m t) t o word) is in
+          let before = before_turn c m t t (omega arith) in
+          let waits : m (Wait t) ≢ 0 = λ zero'. some (end.0 ∙ same (Wait t) ∙ before.0 ∙ zero') in
+          end.1 ∙ same (Answer t) ∙ before.1 ∙ (asking t (omega arith) inside waits).unanswered
+      by_room (Some r) is =
+          absurd (some (end.0 ∙ ap (λ f. f (Wait t)) (turn_is c m t) ∙ ap (λ o. served_in c (served c m t) t o (Wait t)) is ∙ own_wait c (served c m t) t r))
 
 -- refusing keeps the graph, where who waits has no answer
 refused_stands : (c : Config) (m : Word → ℕ) (block : Plot) (g : Graph) (p : Promises) → ImageStands c m block g p
