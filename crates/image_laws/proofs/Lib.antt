@@ -12,3 +12,5 @@ pub mod Promised
 pub mod Roots
 pub mod Standing
 pub mod Made
+pub mod Serving
+pub mod Crowded

@@ -1,11 +1,11 @@
 -- The list of the root words has exactly the words that stand for roots and for what is promised.
-use Rattle.std.proofs.Common.{◌≡◌, ◌≢◌, ℕ, ◌+◌, ◌<◌, ◌≤◌, ◌⊎◌, ◌==◌, ◌++◌, ◌||◌, ◌∷◌, [], inl, inr, true, false, zero, suc, cond, nat_le, nat_eq, List, map, Option, Some, None, ⊎_elim, refl, sym, ap, ◌∙◌, subst, arith}
+use Rattle.std.proofs.Common.{◌≡◌, ◌≢◌, ℕ, ◌+◌, ◌<◌, ◌≤◌, ◌⊎◌, ◌==◌, ◌++◌, ◌∷◌, [], true, false, zero, suc, cond, nat_le, nat_eq, List, map, Some, None, ⊎_elim, refl, sym, ap, ◌∙◌, subst, arith}
 use Rattle.std.specs.List.{range_with_len}
-use Rattle.std.proofs.lemmas.Bool.{cond-true, cond-false, cond_both, cases_Bool, cases_eq, cases_lt, eq-eqb, ne_eqb, eqb-true, le-leb, lt-leb, leb-true, leb-false, or_cases, or_left, or_right, false≢true}
+use Rattle.std.proofs.lemmas.Bool.{cond-true, cond-false, cases_Bool, cases_eq, eq-eqb, ne_eqb, eqb-true, lt-leb, leb-false, or_cases, or_left, or_right, false≢true}
 use Rattle.std.proofs.lemmas.Option.{none-some}
 use Rattle.std.proofs.lemmas.List.Folds.{list_any-append}
 use Rattle.heap_words.specs.declared.config.Config.{Config}
-use Rattle.heap_words.specs.Words.{Word, Top, Root, Answer, Heap}
+use Rattle.heap_words.specs.Words.{Word, Root, Answer}
 use Rattle.heap_graph.specs.Walk.{has}
 use Rattle.heap_graph.proofs.Marks.{has-range}
 use Rattle.shen_graph.specs.declared.name.Name.{Name}
@@ -66,9 +66,12 @@ module _ (memory : Word → ℕ) where
       (λ (last : has (one_answer n) q ≡ true). ⊎_elim
       (λ (none : nat_le (memory (Answer n)) 1 ≡ true).
       absurd (false≢true (ap (λ xs. has xs q) (sym (cond-true (nat_le (memory (Answer n)) 1) [] (memory (Answer n) ∷ []) none)) ∙ last)))
-      (λ (some : nat_le (memory (Answer n)) 1 ≡ false).
-      (n, omega arith, leb-false (memory (Answer n)) 1 some,
-      sym (has_one (memory (Answer n)) q (ap (λ xs. has xs q) (sym (cond-false (nat_le (memory (Answer n)) 1) [] (memory (Answer n) ∷ []) some)) ∙ last))))
+      (λ (some : nat_le (memory (Answer n)) 1 ≡ false). (
+        n,
+        omega arith,
+        leb-false (memory (Answer n)) 1 some,
+        sym (has_one (memory (Answer n)) q (ap (λ xs. has xs q) (sym (cond-false (nat_le (memory (Answer n)) 1) [] (memory (Answer n) ∷ []) some)) ∙ last)),
+      ))
       (cases_Bool (nat_le (memory (Answer n)) 1)))
       (has_either (answers_below memory n) (one_answer n) q is)
 
@@ -124,16 +127,20 @@ module _ (c : Config) (top : ℕ → ℕ) (memory : Word → ℕ) (block : Plot)
       let same : p.ref (at.0 + 1) ≡ Some name = ap p.ref (sym at.2) ∙ promised in
       ⊎_elim
       (λ (none : (memory (Answer at.0) ≤ 1) × (p.ref (at.0 + 1) ≡ None)). absurd (none-some name (sym none.1 ∙ same)))
-      (λ (some : (1 < memory (Answer at.0)) × (other : Name) × (p.ref (at.0 + 1) ≡ Some other) × (name_at (block (memory (Answer at.0))) ≡ Some other)).
-      (memory (Answer at.0), has_second (roots_below memory c.mutators) (answers_below memory c.mutators) (memory (Answer at.0)) (answer_listed memory c.mutators at.0 at.1 some.0),
-      some.3 ∙ sym some.2 ∙ same))
+      (λ (some : (1 < memory (Answer at.0)) × (other : Name) × (p.ref (at.0 + 1) ≡ Some other) × (name_at (block (memory (Answer at.0))) ≡ Some other)). (
+        memory (Answer at.0),
+        has_second (roots_below memory c.mutators) (answers_below memory c.mutators) (memory (Answer at.0)) (answer_listed memory c.mutators at.0 at.1 some.0),
+        some.3 ∙ sym some.2 ∙ same,
+      ))
       (stand.answers at.0 at.1))
       (λ (plain : i ≢ 16).
       let root : g.root t i ≡ Some name = sym (cond-false (i == 16) (p.ref t) (g.root t i) (ne_eqb i 16 plain)) ∙ is in
       let at = stand.no_more_roots t i name root in
-      let same : g.root (at.0 + 1) i ≡ Some name = ap (λ u. g.root u i) (sym at.2) ∙ root in
-      (memory (Root at.0 i), has_first (roots_below memory c.mutators) (answers_below memory c.mutators) (memory (Root at.0 i)) (root_listed memory c.mutators at.0 i at.1 at.3),
-      subst (Points block (memory (Root at.0 i))) same (stand.roots at.0 i at.1 at.3)))
+      let same : g.root (at.0 + 1) i ≡ Some name = ap (λ u. g.root u i) (sym at.2) ∙ root in (
+        memory (Root at.0 i),
+        has_first (roots_below memory c.mutators) (answers_below memory c.mutators) (memory (Root at.0 i)) (root_listed memory c.mutators at.0 i at.1 at.3),
+        subst (Points block (memory (Root at.0 i))) same (stand.roots at.0 i at.1 at.3),
+      ))
       (cases_eq i 16)
 
   -- the words that are roots or answers are among the root words

@@ -1,5 +1,5 @@
 -- The words of an image stand for a graph before and after packing.
-use Rattle.std.proofs.Common.{◌≡◌, ◌≢◌, ℕ, ◌+◌, ◌<◌, ◌≤◌, ◌⊎◌, ◌==◌, inl, inr, false, cond, nat_le, List, Option, Some, None, ⊎_elim, refl, sym, ap, ◌∙◌, subst, arith}
+use Rattle.std.proofs.Common.{◌≡◌, ℕ, ◌+◌, ◌<◌, ◌≤◌, ◌==◌, inl, inr, nat_le, List, Some, None, ⊎_elim, sym, ap, ◌∙◌, arith}
 use Rattle.std.proofs.lemmas.Bool.{cond-true, cond-false, le-leb, lt-leb, ne_eqb}
 use Rattle.heap_words.specs.declared.config.Config.{Config}
 use Rattle.heap_words.specs.Words.{Word, Top, Root, Answer, Heap}
@@ -8,10 +8,10 @@ use Rattle.packing.specs.Places.{new_place}
 use Rattle.packing.proofs.Places.{stays_above}
 use Rattle.sliding.specs.Slide.{renewed}
 use Rattle.shen_graph.specs.declared.name.Name.{Name}
-use Rattle.shen_graph.specs.Graph.{Graph, Reference}
-use Rattle.heap_world.specs.World.{Plot, thing, name_at, Points}
+use Rattle.shen_graph.specs.Graph.{Graph}
+use Rattle.heap_world.specs.World.{Plot, name_at, Points}
 use Rattle.heap_world.proofs.Pointing.{named_thing}
-use Rattle.image_laws.specs.Held.{IsCopy, IsAmong, HoldsGraph}
+use Rattle.image_laws.specs.Held.{IsAmong, HoldsGraph}
 use Rattle.image_laws.specs.Plot.{packed_block}
 use Rattle.image_laws.specs.Full.{now_in, root_words, kept_in, packed, renewed_answer}
 use Rattle.image_laws.specs.Laws.{KeepsGraph}

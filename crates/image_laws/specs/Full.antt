@@ -98,7 +98,7 @@ asked_in memory t = if memory (Wait t) == 0 then 0 else object_words (request_sh
 abbrev pub fresh_word : (address shape name before x : ℕ) → ℕ
 fresh_word address shape name before x =
     if nat_le address x && nat_lt x (address + object_words shape) then
-        (if address == x then plain_header else (if address + 1 == x then shape else (if address + 2 == x then name else 0)))
+    (if address == x then plain_header else (if address + 1 == x then shape else (if address + 2 == x then name else 0)))
     else before
 
 -- the words after the object that a thread asks for was made at the top of a region

@@ -1,10 +1,10 @@
 -- When the words of an image stand for a graph, while no object has an old copy and nobody has room in hand.
-use Rattle.std.specs.Prelude.{ℕ, ◌≡◌, ◌+◌, ◌<◌, ◌≤◌, ◌⊎◌, Option, Some, None}
+use Rattle.std.specs.Prelude.{ℕ, ◌≡◌, ◌+◌, ◌<◌, ◌≤◌, ◌⊎◌, Some, None}
 use Rattle.heap_words.specs.declared.config.Config.{Config}
 use Rattle.heap_words.specs.Words.{Word, Free, Top, Root, Answer, Heap}
 use Rattle.shen_graph.specs.declared.name.Name.{Name}
 use Rattle.shen_graph.specs.Graph.{Graph, Reference}
-use Rattle.heap_world.specs.World.{Block, thing, hand, Plot, name_at, Points, IsPlotted, IsFilled, AreObjects, IsFreeWord}
+use Rattle.heap_world.specs.World.{hand, Plot, name_at, Points, IsPlotted, IsFilled, AreObjects, IsFreeWord}
 use Rattle.image_laws.specs.Held.{IsAmong, HoldsGraph}
 use Rattle.image_laws.specs.Plot.{packed_block}
 use Rattle.image_laws.specs.Full.{now_in, root_words, kept_in, packed}

@@ -1,17 +1,20 @@
 -- What serving makes of the regions and of what threads are promised: each request that finds room becomes an object.
-use Rattle.std.specs.Prelude.{ℕ, ◌≡◌, ◌≢◌, ◌+◌, ◌^◌, ◌<◌, ◌≤◌, ◌==◌, if◌then◌else◌, Option, Some, None, zero, suc}
+use Rattle.std.specs.Prelude.{ℕ, ◌≡◌, ◌≢◌, ◌+◌, ◌-◌, ◌*◌, ◌<◌, ◌≤◌, ◌==◌, if◌then◌else◌, List, sum_by, Option, Some, None, zero, suc}
 use Rattle.heap_words.specs.declared.config.Config.{Config}
-use Rattle.heap_words.specs.Words.{Word, Top, Wait, Answer}
+use Rattle.heap_words.specs.Words.{Word, Top, Wait, Answer, Heap}
 use Rattle.heap_words.specs.Encoding.{refs_in, nums_in, shape_word, request_shape_in, request_count_in}
 use Rattle.regions.specs.Place.{base_of}
 use Rattle.shen_graph.specs.declared.name.Name.{Name}
-use Rattle.shen_graph.specs.Graph.{Graph}
+use Rattle.packing.specs.Tops.{sum_below}
+use Rattle.shen_graph.specs.Graph.{Graph, named}
+use Rattle.shen_graph.specs.Reach.{IsReach, size}
 use Rattle.heap_world.specs.World.{Block, thing, Plot}
-use Rattle.image_laws.specs.Full.{room_for, served, refused, full, now_in, root_words, kept_in}
-use Rattle.image_laws.specs.Promised.{Promises, with_promised}
+use Rattle.image_laws.specs.Plot.{packed_block}
+use Rattle.image_laws.specs.Full.{asked_in, room_for, served, packed, full, now_in, root_words, kept_in}
+use Rattle.image_laws.specs.Promised.{Promises, with_promised, AreFresh, promised_words}
+use Rattle.image_laws.specs.Served.{given_in}
 use Rattle.image_laws.specs.Held.{IsAmong, HoldsGraph}
 use Rattle.image_laws.specs.Image.{RootsStand, ImageStands}
-use Rattle.heap_words.specs.Words.{Heap}
 
 -- the shape word that a thread asks for, and the name of the object to come
 abbrev pub asked_shape : (Word → ℕ) → ℕ → ℕ
@@ -67,3 +70,24 @@ AreAsking c memory g p from = (t : ℕ) → from ≤ t → t < c.mutators → me
 abbrev pub ServingStands : Type 0
 ServingStands = (c : Config) (memory : Word → ℕ) (block : Plot) (g : Graph) (p : Promises) → ImageStands c memory block g p → AreAsking c memory g p 0
     → (n : ℕ) → n ≤ c.mutators → ImageStands c (served c memory n) (served_block c memory block n) g (served_promises c memory p n)
+
+-- A full collection keeps the graph: where the words of an image hold it, by current copies, with objects that threads
+-- were promised, and who waits asks for an object that can be, they stand for it afterwards, with the objects that were
+-- made for waiting threads as further promises.
+abbrev pub FullStands : Type 0
+FullStands = (c : Config) (memory : Word → ℕ) (block : Plot) (g : Graph) (p : Promises)
+    → HoldsGraph c (λ r. memory (Top r)) (λ a. memory (Heap a)) block (now_in memory) (IsAmong (root_words c memory)) (with_promised g p)
+    → RootsStand c memory block g p → AreAsking c memory g p 0
+    → ImageStands c (full c memory) (served_block c (packed c (now_in memory) (kept_in c memory) memory) (packed_block c (kept_in c memory) block) c.mutators) g
+    (served_promises c (packed c (now_in memory) (kept_in c memory) memory) p c.mutators)
+
+-- A request of n words is refused only where live objects, objects that threads have not taken yet, and what was given
+-- before it in this pause crowd the regions: with n words less in each they could not be full.
+abbrev pub FullIsCrowded : Type 0
+FullIsCrowded = (c : Config) (memory : Word → ℕ) (block : Plot) (g : Graph) (p : Promises) (names : List Name)
+    → HoldsGraph c (λ r. memory (Top r)) (λ a. memory (Heap a)) block (now_in memory) (IsAmong (root_words c memory)) (with_promised g p)
+    → AreFresh c.mutators g p → IsReach g names
+    → (t : ℕ) → t < c.mutators → memory (Wait t) ≢ 0 → asked_in memory t ≤ c.region_words → full c memory (Answer t) ≡ 1
+    → c.regions * (c.region_words - asked_in memory t + 1)
+    ≤ sum_by (λ n. size (named g (Some n))) names + sum_below (promised_words p) (c.mutators + 1)
+    + sum_below (given_in c (packed c (now_in memory) (kept_in c memory) memory)) t
