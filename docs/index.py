@@ -16,7 +16,8 @@ import sys
 TOP = os.path.dirname(os.path.dirname(os.path.abspath(__file__)))
 INDEX = os.path.join(TOP, "docs", "INDEX.md")
 DEFINITIONS = os.path.join(TOP, "docs", "DEFINITIONS.md")
-DEFINITION = re.compile(r"^(?=(?:\w+ )*pub )(?:(?:abbrev|unfoldable|opaque|pub|data|record) )+([^\s:(){}]+)")
+# At the start of a line, or inside a module with parameters (where a field of a record begins with `pub` too).
+DEFINITION = re.compile(r"^(?:(?=(?:\w+ )*pub )| +(?=(?:pub )?(?:abbrev|unfoldable|opaque|data|record) ))(?:(?:abbrev|unfoldable|opaque|pub|data|record) )+([^\s:(){}]+)")
 IMPORT = re.compile(r"ghost use Rattle\.(\w+)\.specs\.([\w.]+?)(?:\.\{([^}]*)\}|\s+as\s+(\w+))?;")
 HEAD = """# Index of definitions
 
@@ -50,8 +51,8 @@ def definitions(crate):
         module = os.path.splitext(os.path.relpath(path, os.path.join(TOP, "crates", crate, "specs")))[0].replace(os.sep, ".")
         comment = []
         for line in text_of(path).splitlines():
-            if line.startswith("--"):
-                comment.append(line[2:].strip())
+            if line.lstrip().startswith("--"):
+                comment.append(line.lstrip()[2:].strip())
                 continue
             found = DEFINITION.match(line)
             if found and module != "Lib":
