@@ -15,7 +15,6 @@ use Rattle.mutator.specs.Rows.{next_of}
 use Rattle.mutator.specs.Seen.{seen, order_of, config_of}
 use Rattle.step_core.specs.Actor as actors
 use Rattle.step_core.specs.Machines.{takes_of}
-use Rattle.step_core.specs.Opening.{opening}
 use Rattle.shen_core.specs.declared.machine.Machine.{Machine}
 use Rattle.shen_core.specs.declared.machine.Machine.TheVariants as machine
 use Rattle.shen_core.specs.Shown.{shown, order_of_machine, heap_of}
@@ -76,8 +75,8 @@ module _ (config : Config) (words new_words : List ℕ) (machines : List Machine
   -- so memory shows a stage again
   pub made_shown : IsShownBySome config words (map shown machines) → IsShownBySome config new_words (map shown (slice_set machines number (machine.Mutator n)))
   made_shown some = record {
-    events = some.events ++ event number (order_of m) ∷ [];
-    shows = made_event.goes_on (opening config) some.events some.shows;
+    run = record { start = some.run.start; graph = some.run.graph; begins = some.run.begins; events = some.run.events ++ event number (order_of m) ∷ [] };
+    shows = made_event.goes_on some.run.start some.run.events some.shows;
   }
 
   -- its order is done

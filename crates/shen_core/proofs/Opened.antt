@@ -10,6 +10,7 @@ use Rattle.step_core.specs.Actor as actors
 use Rattle.step_core.specs.Opening.{opening_words, opening_machine, opening_actor, opening}
 use Rattle.steps_base.proofs.Runs.{go-none}
 use Rattle.step_core.specs.Machines.{kind}
+use Rattle.step_core.proofs.FirstFacts.{opening_run}
 use Rattle.shen_core.specs.declared.machine.Machine.{Machine}
 use Rattle.shen_core.specs.Shown.{shown}
 use Rattle.shen_core.specs.Runs.{Shows, IsShownBySome}
@@ -30,7 +31,7 @@ shows_opening c words machines words_are machines_are = record {
 
 -- so no event led to it
 pub shown_by_none : (c : Config) (words : List ℕ) (machines : List actors.Machine) → Shows words machines (opening c) → IsShownBySome c words machines
-shown_by_none c words machines shows = record { events = []; shows = subst (λ s. Shows words machines s) (sym (go-none (kind c) (opening c))) shows }
+shown_by_none c words machines shows = record { run = opening_run c []; shows = subst (λ s. Shows words machines s) (sym (go-none (kind c) (opening c))) shows }
 
 -- there is a machine for each seat
 pub machines_count : (c : Config) (machines : List Machine) → map shown machines ≡ map (opening_machine c) (range_with_len 0 (seat_count c.mutators c.helpers)) → length machines ≡ seat_count c.mutators c.helpers

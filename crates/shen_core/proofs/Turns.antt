@@ -18,9 +18,9 @@ use Rattle.mutator.specs.Rows.{Mutating}
 use Rattle.mutator.specs.Fit.{IsFit}
 use Rattle.step_core.specs.Actor.{Machine, mutating, fresh_control, Actor}
 use Rattle.step_core.specs.Machines.{plan_of, is_resting}
-use Rattle.step_core.specs.Begins.{reached}
+use Rattle.step_core.specs.Begins.{ending}
 use Rattle.step_core.specs.Schedule.{Scripts, script_of, turn, turn_of, order_on_turn}
-use Rattle.step_core.proofs.Theorem.{every_list}
+use Rattle.step_core.proofs.Theorem.{run_sound}
 use Rattle.shen_core.specs.Runs.{Shows, access_of, IsShownBySome, event}
 use Rattle.shen_core.specs.Progress.{Jobs, Tells}
 use Rattle.shen_core.proofs.Events.{shown_actor}
@@ -28,8 +28,8 @@ use Rattle.shen_core.proofs.Events.{shown_actor}
 -- a mutator has the number of its seat, which is one of a mutator
 pub seat_below : (c : Config) (words : List ℕ) (machines : List Machine) (number : ℕ) (m : Mutating) → IsShownBySome c words machines → slice_get machines number ≡ Some (mutating m) → number < c.mutators
 seat_below c words machines number m some here =
-    let found = shown_actor words machines (reached c some.events) number (mutating m) some.shows here in
-    ((every_list c some.events).of_heap.numbers number found.0 m (record { here = found.1; is = found.2 })).1
+    let found = shown_actor words machines (ending c some.run) number (mutating m) some.shows here in
+    ((run_sound c some.run).of_heap.numbers number found.0 m (record { here = found.1; is = found.2 })).1
 
 -- the same where it is only known that some events led there
 pub seat_below_some : (c : Config) (words : List ℕ) (machines : List Machine) (number : ℕ) (m : Mutating) → ∥ IsShownBySome c words machines ∥₁ → slice_get machines number ≡ Some (mutating m) → number < c.mutators
@@ -43,10 +43,10 @@ fit_shown c words machines number m order some here takes = ∥∥₁_elim some 
   where
     by_events : IsShownBySome c words machines → IsFit c m order (slice_index words (place_of (access_of c m)))
     by_events shown =
-        let found = shown_actor words machines (reached c shown.events) number (mutating m) shown.shows here in
-        let fit = ((every_list c shown.events).fit number found.0 m (record { here = found.1; is = found.2 })).fit order takes in
+        let found = shown_actor words machines (ending c shown.run) number (mutating m) shown.shows here in
+        let fit = ((run_sound c shown.run).fit number found.0 m (record { here = found.1; is = found.2 })).fit order takes in
         subst (λ ws. IsFit c m order (slice_index ws (place_of (access_of c m)))) shown.shows.words_are
-        (subst (λ machine. IsFit c m order (slice_index (reached c shown.events).words (place_of (plan_of c machine)))) found.2 fit)
+        (subst (λ machine. IsFit c m order (slice_index (ending c shown.run).words (place_of (plan_of c machine)))) found.2 fit)
 
 -- a map of a map of an option
 map_of_map : {A B C : Type 0} (f : B → C) (g : A → B) (o : Option A) → option_map f (option_map g o) ≡ option_map (λ x. f (g x)) o

@@ -9,7 +9,7 @@ use Rattle.steps_base.specs.Steps.{Stage, Event, act, go, IsEvent}
 use Rattle.shen_graph.specs.declared.order.Order.{Order}
 use Rattle.step_core.specs.Actor.{Machine, Actor}
 use Rattle.step_core.specs.Machines.{plan_of, machine_after, kind}
-use Rattle.step_core.specs.Begins.{reached}
+use Rattle.step_core.specs.Begins.{Run, ending}
 
 -- these words and machines are those of the stage, whose machines have their calls besides
 pub record Shows (words : List ℕ) (machines : List Machine) (s : Stage Actor) : Type 0 where
@@ -20,10 +20,10 @@ pub record Shows (words : List ℕ) (machines : List Machine) (s : Stage Actor) 
 abbrev pub access_of : Config → Mutating → Access
 access_of c m = placed c (touch_of c m)
 
--- some events from the opening lead to these words and machines
+-- some run leads to these words and machines
 pub record IsShownBySome (c : Config) (words : List ℕ) (machines : List Machine) : Type 0 where
-  pub events : List (Event Order)
-  pub shows : Shows words machines (reached c events)
+  pub run : Run c
+  pub shows : Shows words machines (ending c run)
 
 abbrev pub event : ℕ → Order → Event Order
 event number order = record { number = number; order = order }

@@ -31,16 +31,13 @@ pub struct Plain {
 }
 
 impl Plain {
-    ghost use Rattle.std.specs.Prelude.{◌<◌, ◌↔◌, ◌≢◌, true, false, slice_set, slice_index, Some, None, IfOk, IfSome, List, ℕ};
+    ghost use Rattle.std.specs.Prelude.{◌<◌, ◌↔◌, ◌≢◌, true, false, slice_set, slice_index, Some, None, IfOk, IfSome};
     ghost use Rattle.heap_words.specs.Access.{place_of};
     ghost use Rattle.shen_graph.specs.declared.order.Order.TheVariants.{Nothing, Begin};
     ghost use Rattle.shen_graph.specs.Valid.{IsValid};
     ghost use Rattle.step_core.specs.Machines.{takes_of, plan_of, stands_in, reply_in, place_in, is_resting, may_begin, WaitsIn, made_of_machine};
     ghost use Rattle.step_core.specs.Opening.{opening};
-    ghost use Rattle.shen_graph.specs.History.{after};
-    ghost use Rattle.shen_graph.specs.declared.order.Order.{Order};
-    ghost use Rattle.steps_base.specs.Steps.{Event};
-    ghost use Rattle.step_core.specs.Begins.{first_graph, reached, past};
+    ghost use Rattle.step_core.specs.Begins.{Run, ending, graph_after};
     ghost use Rattle.heap_graph.specs.Shows as texts;
     ghost use Rattle.shen_core.specs.State.{config_of, words_of, machines_of, orders_of, seats_of, Shows, machine_at, has_turn, found_by, next_machine, IsStep, IsUnchanged};
     ghost use Rattle.shen_core.specs.Answer.{says};
@@ -208,7 +205,7 @@ impl Plain {
         requires rest { AllRest self.old }
         requires room { heap_size (config_of self.old) ≤ text.old.room }
         requires threads { length text.old.roots ≡ (config_of self.old).mutators }
-        ensures shows { (events : List (Event Order)) → Shows self.old (reached (config_of self.old) events) → texts.Shows text.new (config_of self.old).mutators (after (first_graph (config_of self.old)) (past (config_of self.old) events)) }
+        ensures shows { (run : Run (config_of self.old)) → Shows self.old (ending (config_of self.old) run) → texts.Shows text.new (config_of self.old).mutators (graph_after (config_of self.old) run) }
 
         // Nothing else changes.
         ensures unchanged { IsUnchanged self.old self.new }

@@ -7,11 +7,8 @@ ghost use Rattle.heap_words.specs.declared.config.Config.{Config as Sizes};
 ghost use Rattle.heap_words.specs.declared.schedule.Item.{Item};
 ghost use Rattle.shen_graph.specs.declared.command.Command.{Command};
 ghost use Rattle.shen_graph.specs.Work.{HasScript};
-ghost use Rattle.shen_graph.specs.History.{after};
 ghost use Rattle.heap_graph.specs.Shows.{Shows};
-ghost use Rattle.steps_base.specs.Steps.{Event};
-ghost use Rattle.shen_graph.specs.declared.order.Order.{Order};
-ghost use Rattle.step_core.specs.Begins.{first_graph, reached, past};
+ghost use Rattle.step_core.specs.Begins.{Run, ending, graph_after};
 ghost use Rattle.shen_core.specs.State as memory;
 ghost use Rattle.shen_core.specs.State.{config_of};
 ghost use Rattle.shen_core.specs.Progress.{AllRest};
@@ -84,7 +81,7 @@ fn run(alloc: Global, trace: &Trace, steps: u64) -> Result<(Work, Plain), Refusa
 fn graph_of(alloc: Global, config: Config, plain: &mut Plain) -> Result<GraphText, Refusal>
     requires config { config_of plain.old ≡ config }
     requires rest { AllRest plain.old }
-    ensures shows { IfOk result (λ text. (events : List (Event Order)) → memory.Shows plain.old (reached config events) → Shows text config.mutators (after (first_graph config) (past config events))) }
+    ensures shows { IfOk result (λ text. (run : Run config) → memory.Shows plain.old (ending config run) → Shows text config.mutators (graph_after config run)) }
     ensures threads { IfOk result (λ text. length text.roots ≡ config.mutators) }
     ensures fault { IfErr result (λ e. e ≡ Refusal.NoMemory) }
 {

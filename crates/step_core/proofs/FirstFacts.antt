@@ -11,6 +11,9 @@ use Rattle.std.proofs.lemmas.Bool.{cases_eq, and_right, cond-false, ne_eqb, eqb-
 use Rattle.std.proofs.lemmas.Bool.Decides.{nat_tests}
 use Rattle.heap_words.specs.declared.config.Config.{Config}
 use Rattle.heap_words.specs.Ranges.{seat_count}
+use Rattle.std.specs.Prelude.{List}
+use Rattle.steps_base.specs.Steps.{Event}
+use Rattle.shen_graph.specs.declared.order.Order.{Order}
 use Rattle.regions.specs.Place.{base_of}
 use Rattle.heap_words.specs.Words.{Word, same_word, Top, Root, Heap, Phase, Cset, Free, Evac, Current, Wait, Answer}
 use Rattle.shen_graph.specs.declared.name.Name.{Name}
@@ -21,7 +24,7 @@ use Rattle.step_core.specs.Actor.{mutating, fresh_helper, fresh_control}
 use Rattle.step_core.specs.Opening.{opening_actor, opening, first_free}
 use Rattle.heap_world.specs.World.{World, Plot, Block, thing, hand, words_of, name_at, Points, IsInUse, IsPlotted, IsFilled, IsThing, IsGiven, AreObjects, IsFreeWord, Shared}
 use Rattle.heap_world.specs.Represents.{Represents}
-use Rattle.step_core.specs.Begins.{IsNew, Begins, first_graph}
+use Rattle.step_core.specs.Begins.{IsNew, Begins, Run, first_graph}
 use Rattle.step_core.proofs.Roots.{no_more_opening}
 use Rattle.shen_graph.proofs.PlainLemmas.{same_name-true}
 use Rattle.step_core.proofs.NewObject.{all_alike}
@@ -256,3 +259,7 @@ opening_begins c = record {
       ∙ get_or_from_slice_get (opening c).machines k a a there in
       subst (λ b. IsNew c (first_graph c) k b) is (first_new c k below);
 }
+
+-- a run from the opening
+abbrev pub opening_run : (c : Config) → List (Event Order) → Run c
+opening_run c events = record { start = opening c; graph = first_graph c; begins = opening_begins c; events = events }

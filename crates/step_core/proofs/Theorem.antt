@@ -26,16 +26,15 @@ use Rattle.alloc_buffers.specs.Facts.{HasLess}
 use Rattle.step_core.specs.Actor.{mutating, Actor, fresh_control}
 use Rattle.step_core.specs.Machines.{plan_of, takes_of, kind}
 use Rattle.step_core.specs.Settled.{settled}
-use Rattle.step_core.specs.Opening.{opening}
 use Rattle.step_core.specs.History.{history}
-use Rattle.step_core.specs.Begins.{Begins, first_graph, reached, past}
+use Rattle.step_core.specs.Begins.{Begins, Run, ending, history_in, first_graph, reached, past}
 use Rattle.step_core.specs.Sound.{world_of, IsMutator, IsOfHeap, FindsFit, IsSound}
 use Rattle.heap_world.specs.Roots.{HasNoMore}
 use Rattle.step_core.specs.Stepped.{SpotFacts, Stepped}
 use Rattle.step_core.proofs.Facts.{IsThread, IsMachine, Follows}
 use Rattle.step_core.proofs.Roles.{number_of, mutator_of}
 use Rattle.step_core.proofs.Beginning.{follows_begins}
-use Rattle.step_core.proofs.FirstFacts.{opening_begins}
+use Rattle.step_core.proofs.FirstFacts.{opening_run}
 use Rattle.step_core.proofs.Induction.{follows_run, found-placed, gives_settled}
 use Rattle.step_core.proofs.NoFull.{history_not_full}
 use Rattle.step_core.proofs.Roots.{no_more_after}
@@ -123,9 +122,13 @@ pub every_run : (c : Config) (s : Stage Actor) (g : Graph) → Begins c s g → 
 every_run c s g begins events =
     sound c g (go (kind c) s events) (history c s events) (follows_all c s g begins events) (history_not_full c s events) begins.no_more
 
--- so it is from the opening on
+-- so is where a run leads
+pub run_sound : (c : Config) (run : Run c) → IsSound c run.graph (ending c run) (history_in c run)
+run_sound c run = every_run c run.start run.graph run.begins run.events
+
+-- from the opening on too
 pub every_list : (c : Config) (events : List (Event Order)) → IsSound c (first_graph c) (reached c events) (past c events)
-every_list c events = every_run c (opening c) (first_graph c) (opening_begins c) events
+every_list c events = run_sound c (opening_run c events)
 
 -- a mutator that is reached makes an access of the table
 pub reached_inside : (c : Config) (s : Stage Actor) (g : Graph) → Begins c s g → (number : ℕ) (a : Actor) (m : Mutating) → HasReached (kind c) s number a → a.machine ≡ mutating m → place_of (plan_of c a.machine) < table_words c

@@ -7,7 +7,7 @@ use Rattle.steps_base.specs.Steps.{Stage, Event, go}
 use Rattle.shen_graph.specs.declared.order.Order.{Order}
 use Rattle.shen_graph.specs.Graph as graphs
 use Rattle.shen_graph.specs.Graph.{Graph}
-use Rattle.shen_graph.specs.History.{Entry}
+use Rattle.shen_graph.specs.History.{Entry, after}
 use Rattle.mutator.specs.Orders.{is_valid}
 use Rattle.heap_world.specs.Represents.{Represents}
 use Rattle.step_core.specs.Actor.{Actor}
@@ -32,6 +32,25 @@ pub record Begins (c : Config) (s : Stage Actor) (g : Graph) : Type 0 where
   pub stands : Represents c (settled c s) g
   pub no_more : HasNoMore c.mutators g
   pub machines : (number : ℕ) (a : Actor) → slice_get s.machines number ≡ Some a → IsNew c g number a
+
+-- a run: a stage that begins a graph, and what happens from there
+pub record Run (c : Config) : Type 0 where
+  pub start : Stage Actor
+  pub graph : Graph
+  pub begins : Begins c start graph
+  pub events : List (Event Order)
+
+-- where a run leads
+abbrev pub ending : (c : Config) → Run c → Stage Actor
+ending c run = go (kind c) run.start run.events
+
+-- its history
+abbrev pub history_in : (c : Config) → Run c → List Entry
+history_in c run = history c run.start run.events
+
+-- the graph after its history
+abbrev pub graph_after : (c : Config) → Run c → Graph
+graph_after c run = after run.graph (history_in c run)
 
 -- the graph before the first event
 abbrev pub first_graph : Config → Graph

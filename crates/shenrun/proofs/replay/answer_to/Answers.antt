@@ -1,5 +1,6 @@
 use Rattle.shenrun.proofs.Scripts.{count_scripts}
 use Rattle.shenrun.proofs.Whole.{all_rest, replayed}
+use Rattle.step_core.proofs.FirstFacts.{opening_run}
 use Rattle.shenrun.specs.Replayed.{events_of}
 use Rattle.shenrun.proofs.replay.answer_to.Goals as goal
 
@@ -14,4 +15,4 @@ returns-clause-ok c = λ bytes reads.
     let items = c.args.trace.now.schedule in
     let done = c.in_ok-replies.ensures.finished in
     replayed bytes config scripts items c.args.steps c.in_ok-replies.replies c.in_ok-replies.plain c.in_ok-graph.graph reads (count_scripts bytes config scripts items reads) done c.in_ok-graph.ensures.threads
-    (c.in_ok-graph.ensures.shows (events_of config scripts items c.args.steps) done.shows)
+    (c.in_ok-graph.ensures.shows (opening_run config (events_of config scripts items c.args.steps)) done.shows)
