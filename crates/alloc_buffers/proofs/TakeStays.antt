@@ -11,7 +11,7 @@ use Rattle.alloc_buffers.specs.Facts.{HasLess, TakeFacts, CanTake}
 
 module _ (c : Config) (u w : World) (seat : ℕ) (rely : Rely seat u w) (own : (r : ℕ) → u.memory (Current seat) ≡ r + 1 → u.owner r ≡ Some seat) where
   -- that there was less room stays
-  less_stays : (words : ℕ) → HasLess c u seat words → HasLess c w seat words
+  less_stays : (words : ℕ) → HasLess c u.memory seat words → HasLess c w.memory seat words
   less_stays words less r is =
       let is_now : u.memory (Current seat) ≡ r + 1 = sym rely.current ∙ is in
       rw (rely.tops r (own r is_now)) (less r is_now)

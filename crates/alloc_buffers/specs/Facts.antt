@@ -2,7 +2,7 @@
 use Rattle.std.specs.Prelude.{ℕ, ◌≡◌, ◌+◌, ◌<◌, ◌≤◌, true, Some}
 use Rattle.heap_words.specs.declared.config.Config.{Config}
 use Rattle.heap_words.specs.Ranges.{seat_count}
-use Rattle.heap_words.specs.Words.{Top, Current}
+use Rattle.heap_words.specs.Words.{Word, Top, Current}
 use Rattle.heap_world.specs.World.{World, hand}
 use Rattle.alloc_buffers.specs.declared.spot.Taken.TheVariants.{At, NoRoom}
 use Rattle.alloc_buffers.specs.declared.spot.TakeSpot.{TakeSpot}
@@ -10,8 +10,8 @@ use Rattle.alloc_buffers.specs.declared.spot.TakeSpot.TheVariants.{LoadCurrent, 
 use Rattle.alloc_buffers.specs.Rows.{is_ready}
 
 -- the current region of a seat, if it has one, has less room than so many words
-abbrev pub HasLess : Config → World → ℕ → ℕ → Type 0
-HasLess c w seat words = (r : ℕ) → w.memory (Current seat) ≡ r + 1 → c.region_words < w.memory (Top r) + words
+abbrev pub HasLess : Config → (Word → ℕ) → ℕ → ℕ → Type 0
+HasLess c memory seat words = (r : ℕ) → memory (Current seat) ≡ r + 1 → c.region_words < memory (Top r) + words
 
 -- a region that a seat has taken and not made its current one yet
 pub record IsTaken (c : Config) (w : World) (seat region : ℕ) : Type 0 where
@@ -31,12 +31,12 @@ pub record IsRoomy (c : Config) (w : World) (seat words region top : ℕ) : Type
 abbrev pub TakeFacts : Config → World → ℕ → ℕ → TakeSpot → Type 0
 TakeFacts c w seat words LoadCurrent = Unit {0}
 TakeFacts c w seat words (LoadTop region) = w.memory (Current seat) ≡ region + 1
-TakeFacts c w seat words LoadFree = HasLess c w seat words
-TakeFacts c w seat words (TakeRegion region) = HasLess c w seat words × (region < c.regions)
+TakeFacts c w seat words LoadFree = HasLess c w.memory seat words
+TakeFacts c w seat words (TakeRegion region) = HasLess c w.memory seat words × (region < c.regions)
 TakeFacts c w seat words (StoreCurrent region) = IsTaken c w seat region
 TakeFacts c w seat words (StoreTop region top) = IsRoomy c w seat words region top
 TakeFacts c w seat words (Ended (At address)) = w.block address ≡ Some (hand seat words)
-TakeFacts c w seat words (Ended NoRoom) = HasLess c w seat words
+TakeFacts c w seat words (Ended NoRoom) = HasLess c w.memory seat words
 
 -- so many words from an address on are the room that the taking has ended with
 abbrev pub IsTakenRoom : TakeSpot → ℕ → ℕ → ℕ → Type 0

@@ -161,3 +161,23 @@ fn parts_of_a_table(rt: HostRuntime) -> Result<(), Fail> {
     assert_eq!(rt; heap_in(config, &words).len(), 256);
     Ok(())
 }
+
+// The names of the words of the smallest table: its end is the heap.
+#[test]
+fn names_of_words(rt: HostRuntime) {
+    let config = Config::new(4, 64, 1, 0, 0).expect(&rt, "in range");
+    for at in 0..config.table_words() {
+        let of_heap = matches!(config.name_of(at), WordName::Heap { .. });
+        assert_eq!(rt; of_heap, at >= 59);
+    }
+    let root = WordName::Root {
+        mutator: 0,
+        index: 3,
+    };
+    assert_eq!(rt; config.name_of(27), root);
+    let entry = WordName::Buffer {
+        mutator: 0,
+        entry: 7,
+    };
+    assert_eq!(rt; config.name_of(48), entry);
+}

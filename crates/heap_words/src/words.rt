@@ -13,14 +13,14 @@ impl Config {
         self.regions * self.region_words
     }
 
-    fn bit_words(&self) -> usize
+    pub(crate) fn bit_words(&self) -> usize
         ensures value { result ≡ bit_words self.now }
         ensures bound { result ≤ 1024 }
     {
         (self.heap_size() + 63) / 64
     }
 
-    fn image_start(&self) -> usize
+    pub(crate) fn image_start(&self) -> usize
         ensures value { result ≡ image_start self.now }
         ensures bound { result ≤ 14 }
     {
@@ -35,7 +35,7 @@ impl Config {
         self.image_start() + 7 + 3 * self.regions + self.mutators + self.helpers
     }
 
-    fn marks_start(&self) -> usize
+    pub(crate) fn marks_start(&self) -> usize
         ensures value { result ≡ marks_start self.now }
         ensures bound { result ≤ 440 }
     {

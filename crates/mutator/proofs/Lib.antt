@@ -1,4 +1,4 @@
 pub mod Ready
+pub mod Done
 pub mod Orders
 pub mod Waits
-pub mod Done

@@ -20,7 +20,8 @@ use Rattle.shen_graph.specs.declared.order.Order.{Order}
 use Rattle.shen_graph.specs.declared.order.Order.TheVariants.{Nothing, Begin}
 use Rattle.mutator.specs.Orders.{is_between_calls}
 use Rattle.mutator.specs.Rows.{Mutating, fresh_mutator, given_at, next_at, next_of}
-use Rattle.step_core.specs.Actor.{Machine, mutating, helping, controlling, Actor, entries_of, command_by, took_of, kind}
+use Rattle.step_core.specs.Actor.{Machine, mutating, fresh_helper, fresh_control, Actor, entries_of, command_by}
+use Rattle.step_core.specs.Machines.{took_of, kind}
 use Rattle.step_core.specs.Opening.{opening_actor, opening}
 use Rattle.step_core.specs.Schedule.{Scripts, script_of, order_on_turn, turn, Agenda, scheduled}
 use Rattle.shen_core.specs.Runs.{event}
@@ -145,7 +146,7 @@ all_call_first c scripts t below = record {
   is = record {
     here = slice_get-get_or (opening c).machines t (opening_actor c t) (let long = length-map-range_with_len (opening_actor c) 0 (seat_count c.mutators c.helpers) in omega arith)
         ∙ ap (λ a. Some a) (get_or-map-range_with_len (opening_actor c) 0 (seat_count c.mutators c.helpers) t t (opening_actor c t) (omega arith) (omega arith));
-    is = ap (λ b. if b then mutating (fresh_mutator t) else (if nat_lt t (c.mutators + c.helpers) then helping else controlling)) (lt-ltb t c.mutators below);
+    is = ap (λ b. if b then mutating (fresh_mutator t) else (if nat_lt t (c.mutators + c.helpers) then fresh_helper else fresh_control)) (lt-ltb t c.mutators below);
   };
   done = refl;
   doing = λ busy. absurd (false≢true (sym busy));

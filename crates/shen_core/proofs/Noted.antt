@@ -1,7 +1,7 @@
 -- After a turn: the machines, the orders and the work.
 use Rattle.std.proofs.Common.{◌≡◌, ◌≢◌, ◌<◌, ◌≤◌, ⊎_elim, ℕ, true, false, List, [], ◌∷◌, ◌++◌, length, get_or, map, All, Option, Some, None, refl, sym, ap, ◌∙◌, subst, arith}
 use Rattle.std.specs.Prelude.{◌+◌, slice_get, slice_set, slice_index, IsSome, unwrap_or}
-use Rattle.std.proofs.lemmas.List.{length-append, map-append, get_or-set_same, get_or-set_other, get_or_past}
+use Rattle.std.proofs.lemmas.List.{length-append, map-append, get_or-set_same, get_or-set_other, get_or_past, append-nil, set-set}
 use Rattle.std.proofs.lemmas.List.Elements.{All-set}
 use Rattle.std.proofs.lemmas.Option.{same_Some}
 use Rattle.std.proofs.lemmas.Bool.{false≢true, cases_eq, cases_lt}
@@ -16,23 +16,25 @@ use Rattle.shen_graph.specs.declared.command.Command.{Command}
 use Rattle.shen_graph.specs.declared.command.Reply.{Reply}
 use Rattle.shen_graph.specs.Work as work
 use Rattle.mutator.specs.declared.spot.Spot.{Spot}
-use Rattle.mutator.specs.declared.spot.Spot.TheVariants.{Rest, StoreFresh, Leave}
+use Rattle.mutator.specs.declared.spot.Spot.TheVariants.{Rest, Making, Leave}
+use Rattle.mutator.specs.declared.makes.MakeSpot.TheVariants as make
+use Rattle.mutator.specs.declared.spot.Kept.{Kept}
 use Rattle.shen_graph.specs.declared.order.Order.{Order}
 use Rattle.shen_graph.specs.declared.order.Order.TheVariants.{Nothing}
 use Rattle.mutator.specs.Orders.{is_between_calls}
 use Rattle.mutator.specs.Rows.{Mutating, given_at, answer_at, reply_at, next_at}
 use Rattle.mutator.proofs.Done.{done_gives}
-use Rattle.step_core.specs.Actor.{Machine, mutating, helping, controlling, Actor, entries_of, takes_of, plan_of, took_of, kind}
-use Rattle.step_core.specs.Schedule.{Scripts, waits, waits_of, waits_in, is_again}
+use Rattle.step_core.specs.Actor.{Machine, mutating, fresh_control, Actor, entries_of}
+use Rattle.step_core.specs.Machines.{takes_of, plan_of, kind, is_again, is_resting, reply_in, made_of_machine, at_hand, at_hand_of, ended_by}
+use Rattle.step_core.specs.Schedule.{Scripts, waits, waits_of, waits_in}
 use Rattle.shen_core.specs.declared.step.Stepped.{Stepped}
 use Rattle.shen_core.specs.declared.step.Stepped.TheVariants as stepped
 use Rattle.shen_core.specs.declared.plain.Plain.{Plain}
 use Rattle.shen_core.specs.Runs.{Shows, event, next_by}
-use Rattle.shen_core.specs.Answer.{stepped_of, says, is_resting, reply_in, made_of_machine, at_hand, at_hand_of}
+use Rattle.shen_core.specs.Answer.{stepped_of, says}
 use Rattle.shen_core.specs.Progress.{Jobs, Tells, CanRun, IsTurn, Turned, IsMoved, HasTurned}
 use Rattle.shen_core.specs.State.{config_of, words_of, orders_of, machines_of, machine_at, order_at, has_turn, next_machine, IsStep}
 use Rattle.shen_graph.specs.Valid.{IsValid}
-use Rattle.std.proofs.lemmas.List.{append-nil, set-set}
 use Rattle.shen_core.proofs.Events.{shown_actor}
 use Rattle.shen_core.proofs.Turns.{machine_within}
 
@@ -83,8 +85,7 @@ script_stays jobs number reply t has here = ⊎_elim
 -- the reply that a machine's step gives
 abbrev pub given_in : Machine → Option Reply
 given_in (mutating m) = given_at m.spot
-given_in helping = None
-given_in controlling = None
+given_in _ = None
 
 -- a reply as a list
 abbrev pub listed : Option Reply → List Reply
@@ -97,12 +98,11 @@ replies_of_entries seat command None = refl
 replies_of_entries seat command (Some r) = refl
 
 -- the replies of an actor after its step
-took_replies : (c : Config) (a : Actor) (order : Order) (got : ℕ) (machine : Machine) → takes_of machine order ≡ true → map (λ e. e.reply) (took_of c a order got machine).calls ≡ map (λ e. e.reply) a.calls ++ listed (given_in machine)
-took_replies c a order got helping takes = cc
-took_replies c a order got controlling takes = cc
-took_replies c a order got (mutating m) takes =
+took_replies : (a : Actor) (order : Order) (machine : Machine) → takes_of machine order ≡ true → map (λ e. e.reply) (a.calls ++ ended_by a.command machine) ≡ map (λ e. e.reply) a.calls ++ listed (given_in machine)
+took_replies a order (mutating m) takes =
     map-append (λ e. e.reply) a.calls (entries_of m.seat a.command (given_at m.spot))
     ∙ ap (λ rs. map (λ e. e.reply) a.calls ++ rs) (replies_of_entries m.seat a.command (given_at m.spot))
+took_replies a order _ takes = cc
 
 -- the replies of the machine's actor after its event
 pub acted_replies : (c : Config) (s : Stage Actor) (number : ℕ) (order : Order) (a : Actor) (machine : Machine) → slice_get s.machines number ≡ Some a → a.machine ≡ machine → takes_of machine order ≡ true
@@ -114,7 +114,7 @@ acted_replies c s number order a machine here is takes b there =
     let found = ap (λ x. slice_get x.machines number) (act-event (kind c) s (event number order) a one) ∙ slice_get-set_same s.machines number a _ here in
     let same = same_Some _ b (sym found ∙ there) in
     ap (λ x. map (λ e. e.reply) x.calls) (sym same)
-    ∙ took_replies c a order _ a.machine taken
+    ∙ took_replies a order a.machine taken
     ∙ ap (λ x. map (λ e. e.reply) a.calls ++ listed (given_in x)) is
 
 -- the work tells the replies after an event that gives none
@@ -154,11 +154,11 @@ tells_noted c words machines jobs number machine order reply scripts s shows tel
 
 -- whether the next step of a machine that memory shows says that it waits
 pub shown_waits : (c : Config) (words : List ℕ) (machines : List Machine) (number : ℕ) (m : Mutating) (s : Stage Actor) → Shows words machines s → slice_get machines number ≡ Some (mutating m)
-    → waits c s number ≡ is_again (answer_at c m.spot (slice_index words (place_of (plan_of c (mutating m)))))
+    → waits c s number ≡ is_again (answer_at c m.kept m.spot (slice_index words (place_of (plan_of c (mutating m)))))
 shown_waits c words machines number m s shows here =
     let found = shown_actor words machines s number (mutating m) shows here in
     ap (waits_of c s) found.1 ∙ ap (waits_in s c) found.2
-    ∙ ap (λ ws. is_again (answer_at c m.spot (slice_index ws (place_of (plan_of c (mutating m)))))) shows.words_are
+    ∙ ap (λ ws. is_again (answer_at c m.kept m.spot (slice_index ws (place_of (plan_of c (mutating m)))))) shows.words_are
 
 -- what a turn has done, by what its step said
 pub turned_from : (c : Config) (scripts : Scripts) (s : Stage Actor) (number : ℕ) (p : Plain) (jobs : Jobs) (said : Took) → IsMoved c scripts s number p jobs (is_again said) → Turned c scripts s number p jobs (stepped_of said)
@@ -179,9 +179,9 @@ done_of took.Again is = cc
 done_of took.Done is = refl
 
 -- a step that is not done gives no reply
-pub other_gives : (c : Config) (spot : Spot) (got : ℕ) → (stepped_of (answer_at c spot got) ≡ stepped.Done → ⊥) → given_at spot ≡ None
-other_gives c (Leave r) got is = absurd (is refl)
-other_gives c _ got is = refl
+pub other_gives : (c : Config) (kept : Kept) (spot : Spot) (got : ℕ) → (stepped_of (answer_at c kept spot got) ≡ stepped.Done → ⊥) → given_at spot ≡ None
+other_gives c kept (Leave r) got is = absurd (is refl)
+other_gives c kept _ got is = refl
 
 -- after a step that gives a reply the machine has it
 pub next_reply : (c : Config) (m : Mutating) (order : Order) (got : ℕ) (spot : Spot) (r : Reply) → given_at spot ≡ Some r → reply_at (next_at c m order got spot).spot ≡ Some r
@@ -196,7 +196,8 @@ next_rests c m order got _ r is = absurd (cc)
 -- a step that gives no reply makes at most one object, and then the reply is at hand
 pub next_made : (c : Config) (m : Mutating) (order : Order) (got : ℕ) (spot : Spot) → given_at spot ≡ None → ((next_at c m order got spot).made ≤ m.made + at_hand (next_at c m order got spot).spot) × (at_hand spot ≡ 0)
 next_made c m order got Rest none = (omega arith, refl)
-next_made c m order got (StoreFresh dst refs nums address) none = (omega arith, refl)
+next_made c m order got (Making (make.StoreRoot address)) none = (omega arith, refl)
+next_made c m order got (Making at) none = (omega arith, refl)
 next_made c m order got (Leave r) none = absurd (cc)
 next_made c m order got _ none = (omega arith, refl)
 
@@ -208,8 +209,7 @@ given_made c m order got _ r is = absurd (cc)
 -- a machine that takes its order is a mutator
 pub takes_mutator : (machine : Machine) (order : Order) → takes_of machine order ≡ true → (m : Mutating) × (machine ≡ mutating m)
 takes_mutator (mutating m) order takes = (m, refl)
-takes_mutator helping order takes = absurd (cc)
-takes_mutator controlling order takes = absurd (cc)
+takes_mutator _ order takes = absurd (cc)
 
 -- One `Plain` and its work after a turn of a machine in another.
 pub record IsAfter (p q : Plain) (jobs later : Jobs) (number : ℕ) (next : Machine) : Type 0 where
@@ -226,11 +226,11 @@ pub record IsAfter (p q : Plain) (jobs later : Jobs) (number : ℕ) (next : Mach
 module _ (p q : Plain) (jobs later : Jobs) (number : ℕ) (next : Machine) (after : IsAfter p q jobs later number next) where
   -- the machine of the turn is the next one
   at_number : machine_at q number ≡ next
-  at_number = ap (λ ms. get_or ms number controlling) after.machines ∙ get_or-set_same (machines_of p) number next controlling after.within
+  at_number = ap (λ ms. get_or ms number fresh_control) after.machines ∙ get_or-set_same (machines_of p) number next fresh_control after.within
 
   -- all others stay
   at_other : (t : ℕ) → t ≢ number → machine_at q t ≡ machine_at p t
-  at_other t other = ap (λ ms. get_or ms t controlling) after.machines ∙ get_or-set_other (machines_of p) number t next controlling other
+  at_other t other = ap (λ ms. get_or ms t fresh_control) after.machines ∙ get_or-set_other (machines_of p) number t next fresh_control other
 
   -- the heap can go on with the work
   pub can_run_after : CanRun p jobs → CanRun q later
@@ -260,14 +260,12 @@ module _ (p q : Plain) (jobs later : Jobs) (number : ℕ) (next : Machine) (afte
 -- the same of a machine
 next_by_made : (c : Config) (words : List ℕ) (order : Order) (machine : Machine) → given_in machine ≡ None → (made_of_machine (next_by c words order machine) ≤ made_of_machine machine + at_hand_of (next_by c words order machine)) × (at_hand_of machine ≡ 0)
 next_by_made c words order (mutating m) none = next_made c m order _ m.spot none
-next_by_made c words order helping none = (omega arith, refl)
-next_by_made c words order controlling none = (omega arith, refl)
+next_by_made c words order _ none = (omega arith, refl)
 
 -- a step that gives a reply makes no object
 given_by_made : (c : Config) (words : List ℕ) (order : Order) (machine : Machine) (r : Reply) → given_in machine ≡ Some r → (made_of_machine (next_by c words order machine) ≡ made_of_machine machine) × (at_hand_of machine ≡ 1)
 given_by_made c words order (mutating m) r is = given_made c m order _ m.spot r is
-given_by_made c words order helping r is = absurd (cc)
-given_by_made c words order controlling r is = absurd (cc)
+given_by_made c words order _ r is = absurd (cc)
 
 -- A `Plain`, with the order for a machine, and after that machine's step, which said so.
 pub record IsStepped (p mid q : Plain) (jobs : Jobs) (number : ℕ) (said : Stepped) : Type 0 where
@@ -289,7 +287,7 @@ pub record IsStepped (p mid q : Plain) (jobs : Jobs) (number : ℕ) (said : Step
 module _ (p mid q : Plain) (jobs : Jobs) (number : ℕ) (said : Stepped) (facts : IsStepped p mid q jobs number said) where
   -- the order changes nothing of the machine
   same_machine : machine_at mid number ≡ machine_at p number
-  same_machine = ap (λ ms. get_or ms number controlling) facts.mid_machines
+  same_machine = ap (λ ms. get_or ms number fresh_control) facts.mid_machines
 
   -- its number is one of a mutator
   pub below_now : number < (config_of p).mutators
@@ -322,8 +320,7 @@ module _ (p mid q : Plain) (jobs : Jobs) (number : ℕ) (said : Stepped) (facts 
   -- a mutator that gave a reply rests
   next_is_resting : (machine : Machine) (r : Reply) (c : Config) (words : List ℕ) (order : Order) → given_in machine ≡ Some r → is_resting (next_by c words order machine) ≡ true
   next_is_resting (mutating m) r c words order gives = next_rests c m order _ m.spot r gives
-  next_is_resting helping r c words order gives = absurd (cc)
-  next_is_resting controlling r c words order gives = absurd (cc)
+  next_is_resting _ r c words order gives = absurd (cc)
 
   -- the reply is noted
   pub can_run_noted : (r : Reply) → given_in (machine_at mid number) ≡ Some r → CanRun p jobs → CanRun q (work.with_reply jobs number r)
@@ -351,14 +348,14 @@ module _ (p mid q : Plain) (jobs : Jobs) (number : ℕ) (said : Stepped) (facts 
   has_turned later tells_later scripts s shows tells =
       let found = takes_mutator (machine_at mid number) (order_at mid number) facts.has in
       let got = slice_index (words_of mid) (place_of (plan_of (config_of mid) (mutating found.0))) in
-      let said_is : said ≡ stepped_of (answer_at (config_of mid) found.0.spot got) = facts.says ∙ ap (λ machine. says (config_of mid) machine (slice_index (words_of mid) (place_of (plan_of (config_of mid) machine)))) found.1 in
+      let said_is : said ≡ stepped_of (answer_at (config_of mid) found.0.kept found.0.spot got) = facts.says ∙ ap (λ machine. says (config_of mid) machine (slice_index (words_of mid) (place_of (plan_of (config_of mid) machine)))) found.1 in
       subst (λ x. Turned (config_of p) scripts s number q later x) (sym said_is)
-      (turned_from (config_of p) scripts s number q later (answer_at (config_of mid) found.0.spot got)
+      (turned_from (config_of p) scripts s number q later (answer_at (config_of mid) found.0.kept found.0.spot got)
       (record {
         event = event number (order_at mid number);
         is = facts.turn scripts s shows tells;
         waits_is = shown_waits (config_of p) (words_of mid) (machines_of mid) number found.0 s (shows_mid s shows) (here_mid ∙ ap (λ x. Some x) found.1)
-            ∙ ap (λ c. is_again (answer_at c found.0.spot (slice_index (words_of mid) (place_of (plan_of c (mutating found.0)))))) (sym facts.mid_config);
+            ∙ ap (λ c. is_again (answer_at c found.0.kept found.0.spot (slice_index (words_of mid) (place_of (plan_of c (mutating found.0)))))) (sym facts.mid_config);
         shows = subst (λ c. Shows (words_of q) (machines_of q) (act (kind c) s (event number (order_at mid number)))) facts.mid_config (facts.event.acts s (shows_mid s shows));
         tells = tells_later scripts s (shows_mid s shows) tells;
       }))
@@ -375,9 +372,8 @@ module _ (p mid q : Plain) (jobs : Jobs) (number : ℕ) (said : Stepped) (facts 
 
   -- a step that is not done gives no reply, by its machine
   given_by : (machine : Machine) → said ≡ says (config_of mid) machine (slice_index (words_of mid) (place_of (plan_of (config_of mid) machine))) → (said ≡ stepped.Done → ⊥) → given_in machine ≡ None
-  given_by (mutating m) is other = other_gives (config_of mid) m.spot _ (λ e. other (is ∙ e))
-  given_by helping is other = refl
-  given_by controlling is other = refl
+  given_by (mutating m) is other = other_gives (config_of mid) m.kept m.spot _ (λ e. other (is ∙ e))
+  given_by _ is other = refl
 
   -- nor does the turn
   pub none_given : (said ≡ stepped.Done → ⊥) → given_in (machine_at mid number) ≡ None
@@ -386,17 +382,16 @@ module _ (p mid q : Plain) (jobs : Jobs) (number : ℕ) (said : Stepped) (facts 
   -- a step that is done gives a reply, by its machine
   reply_by : (machine : Machine) → said ≡ says (config_of mid) machine (slice_index (words_of mid) (place_of (plan_of (config_of mid) machine))) → said ≡ stepped.Done → (r : Reply) × (given_in machine ≡ Some r) × (reply_in (next_by (config_of mid) (words_of mid) (order_at mid number) machine) ≡ Some r)
   reply_by (mutating m) is done =
-      let gives = done_gives (config_of mid) m.spot _ (done_of _ (sym is ∙ done)) in
+      let gives = done_gives (config_of mid) m.kept m.spot _ (done_of _ (sym is ∙ done)) in
       (gives.0, gives.1, next_reply (config_of mid) m (order_at mid number) _ m.spot gives.0 gives.1)
-  reply_by helping is done = absurd (cc)
-  reply_by controlling is done = absurd (cc)
+  reply_by _ is done = absurd (cc)
 
   -- after a step that ends a call memory has a reply
   pub has_reply : said ≡ stepped.Done → reply_in (machine_at q number) ≢ None
   has_reply done none =
       let found = reply_by (machine_at mid number) facts.says done in
       let now : machine_at q number ≡ next_machine mid number =
-      ap (λ ms. get_or ms number controlling) facts.machines ∙ get_or-set_same (machines_of mid) number (next_machine mid number) controlling (subst (λ ms. number < length ms) (sym facts.mid_machines) facts.within) in
+      ap (λ ms. get_or ms number fresh_control) facts.machines ∙ get_or-set_same (machines_of mid) number (next_machine mid number) fresh_control (subst (λ ms. number < length ms) (sym facts.mid_machines) facts.within) in
       let both : None ≡ Some found.0 = sym none ∙ ap reply_in now ∙ found.2 in
       cc
 
@@ -405,5 +400,5 @@ module _ (p mid q : Plain) (jobs : Jobs) (number : ℕ) (said : Stepped) (facts 
   reply_given r done has =
       let found = reply_by (machine_at mid number) facts.says done in
       let now : machine_at q number ≡ next_machine mid number =
-      ap (λ ms. get_or ms number controlling) facts.machines ∙ get_or-set_same (machines_of mid) number (next_machine mid number) controlling (subst (λ ms. number < length ms) (sym facts.mid_machines) facts.within) in
+      ap (λ ms. get_or ms number fresh_control) facts.machines ∙ get_or-set_same (machines_of mid) number (next_machine mid number) fresh_control (subst (λ ms. number < length ms) (sym facts.mid_machines) facts.within) in
       found.1 ∙ sym found.2 ∙ ap reply_in (sym now) ∙ has

@@ -6,7 +6,7 @@ use Rattle.shen_graph.specs.History.{commands_of}
 use Rattle.mutator.specs.Orders.{is_between_calls}
 use Rattle.mutator.specs.Rows.{Mutating}
 use Rattle.step_core.specs.Actor.{Actor}
-use Rattle.step_core.specs.Follows.{IsMutator}
+use Rattle.step_core.specs.Sound.{IsMutator}
 use Rattle.step_core.specs.Schedule.{Scripts, script_of}
 
 -- The machine is a mutator. The calls that it has ended have the first commands of its script, in order, and a call in

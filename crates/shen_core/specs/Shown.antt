@@ -9,8 +9,8 @@ use Rattle.shen_core.specs.declared.machine.Machine.TheVariants.{Mutator, Helper
 
 abbrev pub shown : Machine → actors.Machine
 shown (Mutator m) = actors.mutating (seen m)
-shown Helper = actors.helping
-shown Control = actors.controlling
+shown Helper = actors.fresh_helper
+shown Control = actors.fresh_control
 
 -- the order that the machine was given
 abbrev pub order_of_machine : Machine → Order

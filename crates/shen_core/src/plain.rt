@@ -8,9 +8,8 @@ use crate::machine::Machine;
 use crate::opening::open_machines;
 use crate::step::{Stepped, make_step};
 use heap_graph::write_graph;
-use heap_words::{Config, NoMemory, Place};
+use heap_words::{Config, NoMemory, Place, heap_in, roots_in};
 use shen_graph::{Command, GraphText, Reply};
-use stage_graph::{heap_in, heap_size, roots_in};
 use std::alloc::Global;
 use step_core::open_words;
 
@@ -32,21 +31,19 @@ pub struct Plain {
 }
 
 impl Plain {
-    ghost use Rattle.std.specs.Prelude.{◌<◌, ◌↔◌, ◌≢◌, true, false, slice_set, slice_index, Some, None, IfOk, IfSome};
+    ghost use Rattle.std.specs.Prelude.{◌<◌, ◌↔◌, ◌≢◌, true, false, slice_set, slice_index, Some, None, IfOk, IfSome, List, ℕ};
     ghost use Rattle.heap_words.specs.Access.{place_of};
     ghost use Rattle.shen_graph.specs.declared.order.Order.TheVariants.{Nothing, Begin};
     ghost use Rattle.shen_graph.specs.Valid.{IsValid};
-    ghost use Rattle.step_core.specs.Actor.{takes_of, plan_of};
-    ghost use Rattle.step_core.specs.Schedule.{stands_in};
+    ghost use Rattle.step_core.specs.Machines.{takes_of, stands_in, reply_in, place_in, is_resting, may_begin, made_of_machine, WaitsIn};
     ghost use Rattle.step_core.specs.Opening.{opening};
-    ghost use Rattle.std.specs.Prelude.{List, ℕ};
     ghost use Rattle.shen_graph.specs.History.{after};
     ghost use Rattle.shen_graph.specs.declared.order.Order.{Order};
     ghost use Rattle.steps_base.specs.Steps.{Event};
-    ghost use Rattle.step_core.specs.Follows.{first_graph, reached, past};
+    ghost use Rattle.step_core.specs.Begins.{first_graph, reached, past};
     ghost use Rattle.heap_graph.specs.Shows as texts;
     ghost use Rattle.shen_core.specs.State.{config_of, words_of, machines_of, orders_of, seats_of, Shows, machine_at, has_turn, found_by, next_machine, IsStep, IsUnchanged};
-    ghost use Rattle.shen_core.specs.Answer.{says, reply_in, place_in, is_resting, may_begin, made_of_machine, WaitsIn};
+    ghost use Rattle.shen_core.specs.Answer.{says};
     ghost use Rattle.shen_core.specs.Progress.{AllRest};
 
     /// The heap of this configuration before the first event, whose mutators have not begun a call.
@@ -57,10 +54,10 @@ impl Plain {
     {
         let words = open_words(alloc, config)?;
         let machines = open_machines(alloc, config)?;
-        let Ok(marks) = vec![in alloc; false; heap_size(config)] else {
+        let Ok(marks) = vec![in alloc; false; config.heap_size()] else {
             return Err(NoMemory);
         };
-        let Ok(addresses) = Vec::with_capacity(alloc, heap_size(config)) else {
+        let Ok(addresses) = Vec::with_capacity(alloc, config.heap_size()) else {
             return Err(NoMemory);
         };
         Ok(Plain {

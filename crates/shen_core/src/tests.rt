@@ -4,7 +4,7 @@ ghost use Rattle.shen_graph.specs.Work.{HasScript};
 ghost use Rattle.shen_core.specs.Progress.{CanRun, IsRunnable};
 ghost use Rattle.heap_words.specs.Words.{heap_size};
 ghost use Rattle.shen_core.specs.State.{config_of, seats_of, machine_at};
-ghost use Rattle.shen_core.specs.Answer.{may_begin, made_of_machine, reply_in};
+ghost use Rattle.step_core.specs.Machines.{may_begin, made_of_machine, reply_in};
 
 use crate::{Plain, Ran, Stepped};
 use heap_words::{Config, Item, Place, Schedule};

@@ -9,7 +9,7 @@ use Rattle.shen_graph.specs.declared.order.Order.{Order}
 use Rattle.step_core.specs.Actor.{Actor}
 use Rattle.step_core.specs.Opening.{opening}
 use Rattle.step_core.specs.Schedule.{Scripts, schedule_events}
-use Rattle.step_core.specs.Follows.{reached, past}
+use Rattle.step_core.specs.Begins.{reached, past}
 use Rattle.shen_core.specs.Progress.{AreIdle}
 use Rattle.trace_text.specs.Grammar.{Reads}
 use Rattle.trace_text.specs.Answer.{IsAnswerText}

@@ -11,7 +11,7 @@ ghost use Rattle.shen_graph.specs.History.{after};
 ghost use Rattle.heap_graph.specs.Shows.{Shows};
 ghost use Rattle.steps_base.specs.Steps.{Event};
 ghost use Rattle.shen_graph.specs.declared.order.Order.{Order};
-ghost use Rattle.step_core.specs.Follows.{first_graph, reached, past};
+ghost use Rattle.step_core.specs.Begins.{first_graph, reached, past};
 ghost use Rattle.shen_core.specs.State as memory;
 ghost use Rattle.shen_core.specs.State.{config_of};
 ghost use Rattle.shen_core.specs.Progress.{AllRest};

@@ -1,4 +1,3 @@
-use Rattle.std.proofs.Common.{arith}
 use Rattle.regions.proofs.SetLemmas.{all_but_members}
 use Rattle.regions.proofs.sets.all_but.Goals as goal
 

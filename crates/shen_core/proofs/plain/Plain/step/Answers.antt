@@ -6,11 +6,10 @@ use Rattle.mutator.specs.Fit.{IsFit}
 use Rattle.mutator.specs.Seen.{seen, order_of}
 use Rattle.std.specs.Prelude.{◌↔◌}
 use Rattle.mutator.specs.Waits.{WaitsAt}
-use Rattle.step_core.specs.Actor.{plan_of}
+use Rattle.step_core.specs.Machines.{plan_of, place_in, reply_in, WaitsIn}
 use Rattle.steps_base.proofs.Places.{slice_get-set_same}
 use Rattle.shen_core.specs.declared.machine.Machine.TheVariants as machine
 use Rattle.shen_core.specs.declared.step.Stepped.TheVariants as stepped
-use Rattle.shen_core.specs.Answer.{place_in, reply_in, WaitsIn}
 use Rattle.shen_core.specs.Runs.{access_of}
 use Rattle.shen_core.specs.State.{has_turn}
 use Rattle.std.proofs.lemmas.List.{length-set}
