@@ -4,9 +4,9 @@ use Rattle.std.proofs.lemmas.Bool.{false≢true}
 use Rattle.heap_words.specs.Access.{place_of}
 use Rattle.mutator.specs.Fit.{IsFit}
 use Rattle.mutator.specs.Seen.{seen, order_of}
-use Rattle.step_core.specs.Machines.{plan_of, place_in, reply_in, WaitsIn}
 use Rattle.std.specs.Prelude.{◌↔◌}
 use Rattle.mutator.specs.Waits.{WaitsAt}
+use Rattle.step_core.specs.Machines.{plan_of, place_in, reply_in, WaitsIn}
 use Rattle.steps_base.proofs.Places.{slice_get-set_same}
 use Rattle.shen_core.specs.declared.machine.Machine.TheVariants as machine
 use Rattle.shen_core.specs.declared.step.Stepped.TheVariants as stepped
@@ -16,7 +16,7 @@ use Rattle.std.proofs.lemmas.List.{length-set}
 use Rattle.std.proofs.Math.Logic.{∥∥₁_map}
 use Rattle.shen_core.proofs.Memory.{from_read, shown_here, made_from, made_step, made_shown, made_heap, made_orders, made_machines, machine_here, turn_here, heap_here}
 use Rattle.shen_core.proofs.Noted.{never_idle}
-use Rattle.shen_core.proofs.Turns.{fit_shown}
+use Rattle.shen_core.proofs.Turns.{seat_below_some, fit_shown}
 use Rattle.shen_core.proofs.plain.Plain.step.Goals as goal
 
 pub invariant_of-self-else-is_idle-clause-reached : goal.invariant_of-self-else-is_idle-clause-reached
