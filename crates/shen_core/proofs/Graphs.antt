@@ -12,7 +12,7 @@ use Rattle.mutator.specs.declared.spot.Order.{Order}
 use Rattle.mutator.specs.Orders.{is_at_rest}
 use Rattle.mutator.specs.Rows.{Mutating}
 use Rattle.step_core.specs.Actor.{Machine, mutating, helping, controlling}
-use Rattle.step_core.specs.World.{name_at}
+use Rattle.heap_world.specs.World.{name_at}
 use Rattle.step_core.specs.Follows.{first_graph, reached, past}
 use Rattle.step_core.proofs.Theorem.{every_list}
 use Rattle.heap_graph.specs.Shows.{WordsStand, StandForSome}

@@ -16,11 +16,11 @@ use Rattle.mutator.specs.declared.spot.Spot.{Spot}
 use Rattle.mutator.specs.declared.spot.Spot.TheVariants.{Rest, Ended}
 use Rattle.mutator.specs.Orders.{is_at_rest}
 use Rattle.step_core.specs.Actor.{Actor}
-use Rattle.step_core.specs.World as world
-use Rattle.step_core.specs.World.{World, Plot, Block, thing, hand, words_of, name_at, Points}
+use Rattle.heap_world.specs.World as world
+use Rattle.heap_world.specs.World.{World, Plot, Block, thing, hand, words_of, name_at, Points}
 use Rattle.step_core.specs.Stepped.{root_now}
 use Rattle.step_core.specs.Follows.{settled, world_of, StandsFor}
-use Rattle.step_core.proofs.Pointing.{named_thing, piece_inside as words_inside}
+use Rattle.heap_world.proofs.Pointing.{named_thing, piece_inside as words_inside}
 use Rattle.heap_graph.specs.Stands.{Refers, IsAt}
 use Rattle.heap_graph.specs.Rows.{root_word}
 use Rattle.heap_graph.specs.Shows.{WordsStand}

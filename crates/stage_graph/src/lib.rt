@@ -11,7 +11,7 @@ ghost use Rattle.shen_graph.specs.Graph.{Graph};
 ghost use Rattle.shen_graph.specs.History.{after};
 ghost use Rattle.mutator.specs.declared.spot.Order.{Order};
 ghost use Rattle.step_core.specs.Actor.{Actor};
-ghost use Rattle.step_core.specs.World.{name_at};
+ghost use Rattle.heap_world.specs.World.{name_at};
 ghost use Rattle.step_core.specs.Follows.{StandsFor, past, first_graph};
 ghost use Rattle.heap_graph.specs.Shows.{WordsStand};
 ghost use Rattle.stage_graph.specs.Parts.{heap_in, roots_in, AreResting, HasNoMore};

@@ -11,7 +11,7 @@ use Rattle.mutator.specs.declared.spot.Spot.TheVariants.{Rest, Ended, AskCycle, 
 use Rattle.mutator.specs.declared.spot.Order.{Order}
 use Rattle.mutator.specs.declared.spot.Order.TheVariants.{Nothing, Begin}
 use Rattle.mutator.specs.Rows.{Mutating}
-use Rattle.step_core.specs.World.{World}
+use Rattle.heap_world.specs.World.{World}
 use Rattle.step_core.specs.Stepped.{Row}
 use Rattle.step_core.proofs.Spots.{mutator_at, accessed}
 use Rattle.step_core.proofs.Ready.{leaving}

@@ -17,11 +17,11 @@ use Rattle.mutator.specs.declared.spot.Order.{Order}
 use Rattle.mutator.specs.declared.spot.Order.TheVariants.{Nothing, Begin}
 use Rattle.mutator.specs.Rows.{Mutating, name_in}
 use Rattle.mutator.specs.Told.{name_the_same}
-use Rattle.step_core.specs.World.{World}
+use Rattle.heap_world.specs.World.{World}
 use Rattle.step_core.specs.Stepped.{Row}
 use Rattle.step_core.proofs.Spots.{mutator_at}
 use Rattle.step_core.proofs.Ready.{leaving, ready_of, number_small}
-use Rattle.step_core.proofs.Pointing.{points_small}
+use Rattle.heap_world.proofs.Pointing.{points_small}
 use Rattle.step_core.proofs.Naming.{same_words, names_agree, name_there, name_read, shown_is, field_in, number_in, word_in}
 use Rattle.step_core.proofs.Loading.{looks, replies, replies_root, roots_then}
 use Rattle.step_core.proofs.InHand.{shown_not_full, field_mine}

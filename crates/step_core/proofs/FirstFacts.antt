@@ -19,7 +19,7 @@ use Rattle.shen_graph.specs.Graph.{Object, hub, same_name, blank}
 use Rattle.mutator.specs.Rows.{fresh_mutator}
 use Rattle.step_core.specs.Actor.{mutating, helping, controlling}
 use Rattle.step_core.specs.Opening.{opening_machine, opening_actor, opening, first_free}
-use Rattle.step_core.specs.World.{World, Plot, Block, thing, hand, words_of, name_at, Points, IsInUse, IsPlotted, IsFilled, IsObject, IsGiven, AreObjects, IsFreeWord, Shared}
+use Rattle.heap_world.specs.World.{World, Plot, Block, thing, hand, words_of, name_at, Points, IsInUse, IsPlotted, IsFilled, IsObject, IsGiven, AreObjects, IsFreeWord, Shared}
 use Rattle.step_core.specs.Stepped.{Mine}
 use Rattle.step_core.specs.Follows.{first_graph, IsMachine, Follows}
 use Rattle.shen_graph.proofs.PlainLemmas.{same_name-true}
@@ -153,8 +153,6 @@ first_objects c = record {
             (subst (λ r. IsObject (λ b. first_memory c (Heap b)) (first_block c) c.region_words r nums hub (blank 16 0)) sizes
             (subst (λ m. IsObject (λ b. first_memory c (Heap b)) (first_block c) c.region_words 16 m hub (blank 16 0)) none (hub_object c)))),
       );
-  all = λ name o is.
-      (c.region_words, 16, 0, block_hub c ∙ ap (λ n. Some (thing n 16 0)) (sym (object_only c name o is).0));
   once = λ a b refs nums more_refs more_nums name is_a is_b. (block_only c a _ is_a).0 ∙ sym (block_only c b _ is_b).0;
 }
 

@@ -16,16 +16,17 @@ use Rattle.mutator.specs.declared.spot.Order.{Order}
 use Rattle.mutator.specs.declared.spot.Order.TheVariants.{Nothing, Begin}
 use Rattle.mutator.specs.Rows.{Mutating, fresh_word, touch_of}
 use Rattle.steps_base.specs.Touch.{touched}
-use Rattle.step_core.specs.World.{World, Block, thing, hand, words_of, name_at, IsObject, IsGiven, Shared}
-use Rattle.step_core.specs.Stepped.{IsFilling, Mine, Rely, Row}
-use Rattle.step_core.proofs.Updates.{updated, updated_there}
+use Rattle.heap_world.specs.World.{World, Block, thing, hand, words_of, name_at, IsObject, IsGiven, Shared}
+use Rattle.step_core.specs.Stepped.{IsFilling, Mine, Row}
+use Rattle.heap_world.specs.Rely.{Rely}
+use Rattle.heap_world.proofs.Updates.{updated, updated_there}
 use Rattle.step_core.proofs.Spots.{mutator_at, accessed}
 use Rattle.step_core.proofs.Settling.{legal_answer, graph_answer}
-use Rattle.step_core.proofs.Stable.{points_stay}
+use Rattle.heap_world.proofs.Keeping.{points_stay}
 use Rattle.step_core.proofs.Ready.{leaving, word_ready, fresh_ready}
 use Rattle.step_core.proofs.RootStores.{roots_written}
-use Rattle.step_core.proofs.Apart.{far}
-use Rattle.step_core.proofs.Pieces.{object_reads}
+use Rattle.heap_world.proofs.Apart.{far}
+use Rattle.heap_world.proofs.Pieces.{object_reads}
 use Rattle.step_core.proofs.NewObject.{new_object, names_stay, things_stay, hands_stay, old_hand, plotted_again, filled_again, objects_again, rooms_again, given_again, with_count, count_own}
 
 -- the name of a thread's next object
@@ -59,7 +60,6 @@ module _ (c : Config) (u : World) (seat made phase cset : ℕ) (command : Comman
             let other : a ≢ address = λ same. (let clash : Some (thing n more_refs more_nums) ≡ Some (hand seat (3 + refs + nums)) = sym is ∙ ap u.block same ∙ mine.facts.1.room in cc) in
             let kept = λ (k : ℕ) (below : k < 3 + more_refs + more_nums). else_stays a k (thing n more_refs more_nums) is other below in
             (o.0, o.1, object_reads (λ b. u.memory (Heap b)) (λ b. stored_world.memory (Heap b)) u.block u.block a more_refs more_nums n o.0 kept (λ b m e. e) o.2);
-        all = shared.objects.all;
         once = shared.objects.once;
       };
       given = shared.given;
@@ -112,7 +112,7 @@ module _ (c : Config) (u : World) (seat made phase cset : ℕ) (command : Comman
     others_stored : (j : ℕ) → j ≢ seat → Rely j u stored_world
     others_stored j differs = record {
       names = λ a n is. is;
-      things = λ a more_refs more_nums n is. is;
+      targets = λ a more_refs more_nums n has. record { piece = has.piece };
       hands = λ a words is. is;
       no_hands = λ a words is. is;
       hand_words = λ a words k is below.
@@ -124,6 +124,9 @@ module _ (c : Config) (u : World) (seat made phase cset : ℕ) (command : Comman
       root_words = λ i. refl;
       roots = λ i. refl;
       count = refl;
+      state = refl;
+      phase = refl;
+      cset = refl;
     }
 
   -- the step that stores a word of a new object
@@ -215,7 +218,7 @@ module _ (c : Config) (u : World) (seat made phase cset : ℕ) (command : Comman
     others_made : (j : ℕ) → j ≢ seat → Rely j u made_world
     others_made j differs = record {
       names = names;
-      things = λ a more_refs more_nums n is. things_stay c top u.block address seat refs nums name room a more_refs more_nums n is;
+      targets = λ a more_refs more_nums n has. record { piece = things_stay c top u.block address seat refs nums name room a more_refs more_nums n has.piece };
       hands = λ a words is. hands_stay c top u.block address seat refs nums name room a j words differs is;
       no_hands = λ a words is. (old_hand c top u.block address seat refs nums name room a j words is).1;
       hand_words = λ a words k is below. refl;
@@ -225,6 +228,9 @@ module _ (c : Config) (u : World) (seat made phase cset : ℕ) (command : Comman
       root_words = λ i. cond-false ((seat == j) && (dst == i)) _ _ (and_left _ _ (ne_eqb seat j (λ e. differs (sym e))));
       roots = λ i. cond-false (((j + 1) == (seat + 1)) && (i == dst)) _ _ (and_left _ _ (ne_eqb (j + 1) (seat + 1) (λ e. differs (omega (arith, e)))));
       count = cond-false ((j + 1) == (seat + 1)) _ _ (ne_eqb (j + 1) (seat + 1) (λ e. differs (omega (arith, e))));
+      state = refl;
+      phase = refl;
+      cset = refl;
     }
 
   -- the step that stores a new object into a root settles its name

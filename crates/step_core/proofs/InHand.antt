@@ -10,10 +10,10 @@ use Rattle.shen_graph.specs.Graph.{Reference}
 use Rattle.shen_graph.specs.Step.{shown}
 use Rattle.shen_graph.specs.History.{is_full}
 use Rattle.mutator.specs.Rows.{after_field}
-use Rattle.step_core.specs.World.{World, hand, thing, Points, Shared}
+use Rattle.heap_world.specs.World.{World, hand, thing, Points, Shared}
 use Rattle.step_core.specs.Stepped.{Mine}
 use Rattle.step_core.proofs.Spots.{mutator_at}
-use Rattle.step_core.proofs.Pointing.{named_thing, piece_word, null_if_0, named_if_not_0}
+use Rattle.heap_world.proofs.Pointing.{named_thing, piece_word, null_if_0, named_if_not_0}
 use Rattle.step_core.proofs.Ready.{ready_of}
 
 -- a reply that shows a reference is not full

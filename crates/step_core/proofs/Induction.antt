@@ -25,7 +25,7 @@ use Rattle.mutator.specs.Told.{told_of as settled_by}
 use Rattle.mutator.specs.Fit.{is_ready}
 use Rattle.step_core.specs.Actor.{Machine, mutating, helping, controlling, Actor, entries_of, command_by, takes_of, took_of, kind}
 use Rattle.step_core.specs.History.{told_by, told_of_machine, told, history}
-use Rattle.step_core.specs.World.{World, Plot, Shared}
+use Rattle.heap_world.specs.World.{World, Plot, Shared}
 use Rattle.step_core.specs.Stepped.{SpotFacts, Mine, Stepped, fixed_by}
 use Rattle.step_core.specs.Follows.{settled, first_graph, world_of, IsThread, IsMachine, Follows}
 use Rattle.mutator.proofs.Ready.{word_of_ready}

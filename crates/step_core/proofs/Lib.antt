@@ -1,9 +1,5 @@
 mod Stable
 mod Settling
-pub mod Pointing
-mod Updates
-mod Apart
-mod Objects
 mod Naming
 mod Loading
 mod InHand
@@ -13,12 +9,8 @@ mod Loads
 mod Fields
 mod RootStores
 mod Stores
-mod Pieces
-mod SharedOut
-mod NewPiece
 mod NewObject
 mod Ready
-mod FreeRegions
 mod Takes
 mod Fresh
 mod Places

@@ -1,12 +1,10 @@
 -- Steps that load a word: what they settle, and what they leave as it was.
-use Rattle.std.proofs.Common.{◌≡◌, ℕ, ◌+◌, ◌<◌, ⊎_elim, true, false, Option, Some, None, refl, sym, ap, ◌∙◌, arith}
+use Rattle.std.proofs.Common.{◌≡◌, ℕ, ◌+◌, ◌<◌, true, false, Option, Some, None, refl, sym, ap, ◌∙◌, arith}
 use Rattle.std.specs.Prelude.{◌==◌, ◌&&◌, if◌then◌else◌}
-use Rattle.std.proofs.Math.Path.{fun_ext}
-use Rattle.std.proofs.lemmas.Bool.{cases_Bool, eq-eqb, cond-true, cond-false}
+use Rattle.std.proofs.lemmas.Bool.{eq-eqb}
 use Rattle.std.proofs.lemmas.Bool.Decides.{nat_tests}
 use Rattle.heap_words.specs.declared.config.Config.{Config}
-use Rattle.heap_words.specs.Words.{Word, same_word, write}
-use Rattle.heap_words.proofs.Stores.{same_word_true}
+use Rattle.heap_words.specs.Words.{Word}
 use Rattle.steps_base.specs.Touch.{touch, loads}
 use Rattle.shen_graph.specs.declared.command.Command.{Command}
 use Rattle.shen_graph.specs.declared.command.Reply.{Reply}
@@ -16,32 +14,10 @@ use Rattle.shen_graph.specs.History.{is_full}
 use Rattle.mutator.specs.declared.spot.Order.TheVariants.{Nothing}
 use Rattle.mutator.specs.Rows.{Mutating, touch_of, next_of, given_at}
 use Rattle.mutator.specs.Told.{told_of}
-use Rattle.step_core.specs.World.{World, Plot, Points, Shared}
-use Rattle.step_core.specs.Stepped.{Mine, Rely, Stepped}
+use Rattle.heap_world.specs.World.{World, Plot, Points, Shared}
+use Rattle.step_core.specs.Stepped.{Mine, Stepped}
+use Rattle.heap_world.proofs.Keeping.{load_keeps, rely_same}
 use Rattle.step_core.proofs.Settling.{legal_answer, graph_answer}
-
--- a load leaves the memory as it is
-pub load_keeps : (memory : Word → ℕ) (at : Word) → memory ≡ write memory at (memory at)
-load_keeps memory at = fun_ext (λ w. ⊎_elim
-    (λ (same : same_word at w ≡ true). sym (cond-true (same_word at w) (memory at) (memory w) same ∙ ap memory (same_word_true at w same)))
-    (λ (differs : same_word at w ≡ false). sym (cond-false (same_word at w) (memory at) (memory w) differs))
-    (cases_Bool (same_word at w)))
-
--- where nothing changes, everything can be relied on
-pub rely_same : (seat : ℕ) (u : World) → Rely seat u u
-rely_same seat u = record {
-  names = λ a name is. is;
-  things = λ a refs nums name is. is;
-  hands = λ a words is. is;
-  no_hands = λ a words is. is;
-  hand_words = λ a words k is below. refl;
-  current = refl;
-  owners = λ r is. is;
-  tops = λ r is. refl;
-  root_words = λ i. refl;
-  roots = λ i. refl;
-  count = refl;
-}
 
 -- a step that loads a word and settles nothing
 pub looks : (c : Config) (u : World) (m : Mutating) (at : Word) (command : Command) (fixed : Option Reply)

@@ -20,11 +20,11 @@ use Rattle.mutator.specs.declared.spot.Order.TheVariants.{Nothing, Begin}
 use Rattle.mutator.specs.Orders.{is_next}
 use Rattle.mutator.specs.Rows.{Mutating, roots_of, root_of, is_on_object, lacks_object, has_part, first_spot, after_first, with_part}
 use Rattle.mutator.specs.Told.{name_the_same}
-use Rattle.step_core.specs.World.{World, Points, Shared}
+use Rattle.heap_world.specs.World.{World, Points, Shared}
 use Rattle.step_core.specs.Stepped.{HasRoot, HasObject, HasFirst, HasRoots, Mine, Stepped, Row}
 use Rattle.step_core.proofs.Spots.{mutator_at}
 use Rattle.step_core.proofs.Ready.{leaving, ready_of, number_small}
-use Rattle.step_core.proofs.Pointing.{named_thing, named_if_not_0, null_if_0, points_small}
+use Rattle.heap_world.proofs.Pointing.{named_thing, named_if_not_0, null_if_0, points_small}
 use Rattle.step_core.proofs.Naming.{same_words, names_agree, word_in, shape_in, bad_on_null, bad_on_shape}
 use Rattle.step_core.proofs.Loading.{looks, replies}
 
@@ -58,7 +58,7 @@ abbrev object_of : (c : Config) (u : World) (seat : ℕ) (k : Command) (object :
 object_of c u seat k object shared on first =
     let named = named_if_not_0 c _ u.block shared.plotted object _ (first.first_is first.some) (first.not_null on) in
     let piece = named_thing (u.block object) named.0 named.2 in
-    record { name = named.0; refs = piece.0; nums = piece.1; root_is = named.1; target = piece.2 }
+    record { name = named.0; refs = piece.0; nums = piece.1; root_is = named.1; target = record { piece = piece.2 } }
 
 -- yes and no are not full
 full_no : (b : Bool) → is_full (yes_or_no b) ≡ false

@@ -16,9 +16,9 @@ use Rattle.shen_graph.specs.Step.{shown, answers, outcome}
 use Rattle.shen_graph.proofs.PlainLemmas.{same_name-true, same_name-itself}
 use Rattle.mutator.specs.Rows.{root_of, is_on_object, has_part, name_in}
 use Rattle.mutator.specs.Told.{name_the_same, shown_word}
-use Rattle.step_core.specs.World.{World, thing, name_at, Points, IsObject, Shared}
+use Rattle.heap_world.specs.World.{World, thing, name_at, Points, IsObject, Shared}
 use Rattle.step_core.specs.Stepped.{HasObject}
-use Rattle.step_core.proofs.Pointing.{named_thing, piece_word, null_if_0}
+use Rattle.heap_world.proofs.Pointing.{named_thing, piece_word, null_if_0}
 
 -- name words are equal exactly where their names are
 same_codes : (m n : Name) → m.count < 2 ^ 32 → n.count < 2 ^ 32 → (name_code m.thread m.count == name_code n.thread n.count) ≡ same_name m n
@@ -105,7 +105,7 @@ module _ (c : Config) (u : World) (shared : Shared c u) where
   -- the graph's object of an object in hand
   pub object_in : (seat root object : ℕ) (has : HasObject u seat root object)
       → (o : Object) × (u.graph.object has.name ≡ Some o) × IsObject (λ a. u.memory (Heap a)) u.block object has.refs has.nums has.name o
-  object_in seat root object has = shared.objects.each object has.refs has.nums has.name has.target
+  object_in seat root object has = shared.objects.each object has.refs has.nums has.name has.target.piece
 
   -- a reference field of an object in hand
   pub field_in : (seat root object field : ℕ) (has : HasObject u seat root object) → field < has.refs
@@ -125,7 +125,7 @@ module _ (c : Config) (u : World) (shared : Shared c u) where
 
   -- the words of an object in hand are words of the heap
   pub word_in : (seat root object at k : ℕ) (has : HasObject u seat root object) → k < 3 + has.refs + has.nums → at ≡ object + k → is_word c (Heap at) ≡ true
-  word_in seat root object at k has below is = ap (λ a. is_word c (Heap a)) is ∙ piece_word c _ u.block shared.plotted object k (thing has.name has.refs has.nums) has.target below
+  word_in seat root object at k has below is = ap (λ a. is_word c (Heap a)) is ∙ piece_word c _ u.block shared.plotted object k (thing has.name has.refs has.nums) has.target.piece below
 
   -- there is no field and no number past the last
   no_field_in : (seat root object field : ℕ) (has : HasObject u seat root object) → has.refs ≤ field → field_at u.graph (seat + 1) root field ≡ None

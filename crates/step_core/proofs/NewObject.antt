@@ -11,11 +11,11 @@ use Rattle.shen_graph.specs.declared.name.Name.{Name}
 use Rattle.shen_graph.specs.Graph.{Object, same_name, blank}
 use Rattle.shen_graph.proofs.PlainLemmas.{same_name-true, same_name-itself}
 use Rattle.mutator.specs.Rows.{fresh_word}
-use Rattle.step_core.specs.World.{Block, thing, hand, words_of, Plot, name_at, Points, IsInUse, IsPlotted, IsFilled, IsObject, IsGiven, AreObjects, AreRooms}
-use Rattle.step_core.proofs.Updates.{updated, updated_there, updated_else}
-use Rattle.step_core.proofs.Pointing.{named_thing}
-use Rattle.step_core.proofs.Objects.{two_names, where_object}
-use Rattle.step_core.proofs.Pieces.{piece_cases, object_reads}
+use Rattle.heap_world.specs.World.{Block, thing, hand, words_of, Plot, name_at, Points, IsInUse, IsPlotted, IsFilled, IsObject, IsGiven, AreObjects, AreRooms}
+use Rattle.heap_world.proofs.Updates.{updated, updated_there, updated_else}
+use Rattle.heap_world.proofs.Pointing.{named_thing}
+use Rattle.heap_world.proofs.Objects.{two_names, where_object}
+use Rattle.heap_world.proofs.Pieces.{piece_cases, object_reads}
 
 -- the references of a new object are null, and its numbers 0
 pub all_alike : {A : Type 0} (n i : ℕ) (x y : A) → slice_get (replicate n x) i ≡ Some y → y ≡ x
@@ -154,12 +154,6 @@ module _ (c : Config) (top : ℕ → ℕ) (block : Plot) (address seat refs nums
             object_reads heap heap block new_block a more_refs more_nums n was.0 (λ k below. refl) names_stay was.2,
           ))
           (piece_cases block address new_thing a (thing n more_refs more_nums) is);
-      all = λ n p is. ⊎_elim
-          (λ (same : same_name n name ≡ true). (address, refs, nums, updated_there block address (Some new_thing) ∙ ap (λ m. Some (thing m refs nums)) (sym (same_name-true n name same))))
-          (λ (differs : same_name n name ≡ false).
-          let was = objects.all n p (sym (cond-false (same_name n name) _ _ differs) ∙ is) in
-          (was.0, was.1, was.2, things_stay was.0 was.1 was.2 n was.3))
-          (cases_Bool (same_name n name));
       once = λ a b refs_a nums_a refs_b nums_b n is_a is_b. ⊎_elim
           (λ (new_a : (a ≡ address) × (new_thing ≡ thing n refs_a nums_a)). ⊎_elim
           (λ (new_b : (b ≡ address) × (new_thing ≡ thing n refs_b nums_b)). new_a.0 ∙ sym new_b.0)

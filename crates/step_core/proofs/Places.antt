@@ -7,7 +7,7 @@ use Rattle.mutator.specs.declared.spot.Spot.{Spot}
 use Rattle.mutator.specs.declared.spot.Spot.TheVariants.{Rest, Ended, LoadSet, LoadRoot, LoadSecond, LoadThird, LoadShape, LoadField, LoadExpected, StoreField, SwapField, ExchangeField, LoadNumber, StoreNumber, LoadName, StoreLoaded, StoreRoot, Taking, StoreWord, StoreFresh, AskCycle, Leave}
 use Rattle.mutator.specs.declared.spot.Order.{Order}
 use Rattle.mutator.specs.Rows.{Mutating}
-use Rattle.step_core.specs.World.{World}
+use Rattle.heap_world.specs.World.{World}
 use Rattle.step_core.specs.Stepped.{Row}
 use Rattle.step_core.proofs.Calls.{at_rest, at_ended, at_ask, at_leave}
 use Rattle.step_core.proofs.Loads.{at_load_set, at_load_root, at_load_second, at_load_third, at_load_shape}

@@ -13,10 +13,10 @@ use Rattle.alloc_buffers.specs.Rows as takes
 use Rattle.mutator.specs.declared.spot.Spot.TheVariants.{Taking, StoreWord, StoreFresh, Leave}
 use Rattle.mutator.specs.Rows.{fresh_word}
 use Rattle.mutator.specs.Fit.{is_ready, is_next_object, is_going}
-use Rattle.step_core.specs.World.{World, hand, Plot, Points, IsPlotted}
+use Rattle.heap_world.specs.World.{World, hand, Plot, Points, IsPlotted}
 use Rattle.step_core.specs.Stepped.{IsMaking, Mine}
 use Rattle.step_core.proofs.Spots.{mutator_at}
-use Rattle.step_core.proofs.Pointing.{piece_word, piece_small}
+use Rattle.heap_world.proofs.Pointing.{piece_word, piece_small}
 
 -- an access can be made whose word is one of the table and whose number is a word
 pub ready_of : (b d : Bool) → b ≡ true → d ≡ true → ((b && d) && true) ≡ true

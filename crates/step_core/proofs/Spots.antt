@@ -4,7 +4,7 @@ use Rattle.heap_words.specs.declared.config.Config.{Config}
 use Rattle.steps_base.specs.Touch.{touched}
 use Rattle.mutator.specs.declared.spot.Spot.{Spot}
 use Rattle.mutator.specs.Rows.{Mutating, touch_of}
-use Rattle.step_core.specs.World.{World}
+use Rattle.heap_world.specs.World.{World}
 
 -- a mutator at a spot
 abbrev pub mutator_at : ℕ → ℕ → ℕ → ℕ → Spot → Mutating

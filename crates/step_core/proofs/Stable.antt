@@ -1,23 +1,18 @@
 -- What a mutator knows stays true while another machine makes a step.
-use Rattle.std.proofs.Common.{◌≡◌, ℕ, ◌+◌, inl, inr, ⊎_elim, Option, Some, None, refl, sym, ◌∙◌, arith}
+use Rattle.std.proofs.Common.{◌≡◌, ℕ, ◌+◌, inl, inr, ⊎_elim, Option, Some, refl, sym, ◌∙◌, arith}
 use Rattle.heap_words.specs.declared.config.Config.{Config}
 use Rattle.heap_words.specs.Words.{Current}
-use Rattle.shen_graph.specs.declared.name.Name.{Name}
 use Rattle.shen_graph.specs.declared.command.Command.{Command}
 use Rattle.shen_graph.specs.declared.command.Reply.{Reply}
-use Rattle.shen_graph.specs.Graph.{Reference}
 use Rattle.alloc_buffers.specs.declared.spot.TakeSpot.{TakeSpot}
 use Rattle.alloc_buffers.specs.declared.spot.TakeSpot.TheVariants as take_spot
 use Rattle.mutator.specs.declared.spot.Spot.{Spot}
 use Rattle.mutator.specs.declared.spot.Spot.TheVariants.{Rest, Ended, LoadSet, LoadRoot, AskCycle, Leave, LoadSecond, LoadThird, LoadShape, LoadField, LoadExpected, StoreField, SwapField, ExchangeField, LoadNumber, StoreNumber, LoadName, StoreLoaded, StoreRoot, Taking, StoreWord, StoreFresh}
 use Rattle.mutator.specs.Rows.{Mutating, root_of}
-use Rattle.step_core.specs.World.{World, Plot, Points, name_at, Shared}
-use Rattle.step_core.specs.Stepped.{HasRoot, HasObject, HasFirst, IsGet, IsSet, IsCas, IsXchg, IsRd, IsWr, IsFound, IsCopy, HasLess, TakeFacts, IsFilling, SpotFacts, root_now, Mine, Rely}
-
--- a word stands for what it stood for where names stay
-pub points_stay : (u w : Plot) → ((a : ℕ) (name : Name) → name_at (u a) ≡ Some name → name_at (w a) ≡ Some name) → (word : ℕ) (reference : Reference) → Points u word reference → Points w word reference
-points_stay u w names word None is = is
-points_stay u w names word (Some name) is = names word name is
+use Rattle.heap_world.specs.World.{World, Points, Shared}
+use Rattle.step_core.specs.Stepped.{HasRoot, HasObject, HasFirst, IsGet, IsSet, IsCas, IsXchg, IsRd, IsWr, IsFound, IsCopy, HasLess, TakeFacts, IsFilling, SpotFacts, root_now, Mine}
+use Rattle.heap_world.specs.Rely.{Rely}
+use Rattle.heap_world.proofs.Keeping.{points_stay}
 
 module _ (c : Config) (u w : World) (seat : ℕ) (rely : Rely seat u w) where
   -- so it does for a root
@@ -39,7 +34,7 @@ module _ (c : Config) (u w : World) (seat : ℕ) (rely : Rely seat u w) where
     refs = has.refs;
     nums = has.nums;
     root_is = rely.roots root ∙ has.root_is;
-    target = rely.things object has.refs has.nums has.name has.target;
+    target = rely.targets object has.refs has.nums has.name has.target;
   }
 
   -- that there was less room stays

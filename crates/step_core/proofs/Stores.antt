@@ -20,16 +20,17 @@ use Rattle.mutator.specs.declared.spot.Order.{Order}
 use Rattle.mutator.specs.declared.spot.Order.TheVariants.{Nothing, Begin}
 use Rattle.mutator.specs.Rows.{Mutating, touch_of, next_of, given_at}
 use Rattle.mutator.specs.Told.{told_of}
-use Rattle.step_core.specs.World.{World, Points, Target, IsObject, Shared}
+use Rattle.heap_world.specs.World.{World, Points, Target, IsObject, Shared}
 use Rattle.step_core.specs.Stepped.{HasObject, Mine, Stepped, Row}
-use Rattle.step_core.proofs.Updates.{updated}
+use Rattle.heap_world.proofs.Updates.{updated}
 use Rattle.step_core.proofs.Ready.{leaving}
 use Rattle.step_core.proofs.Naming.{object_in, field_in, number_in, same_words, shown_is}
-use Rattle.step_core.proofs.Objects.{field_stored, number_stored, stored, changed, shared_stored, rely_stored}
+use Rattle.heap_world.proofs.Objects.{field_stored, number_stored, stored, changed, shared_stored, rely_stored}
 use Rattle.step_core.proofs.Settling.{legal_answer, graph_answer}
 use Rattle.step_core.proofs.Spots.{mutator_at}
 use Rattle.step_core.proofs.InHand.{shown_not_full, field_mine}
-use Rattle.step_core.proofs.Loading.{load_keeps, rely_same, roots_then}
+use Rattle.step_core.proofs.Loading.{roots_then}
+use Rattle.heap_world.proofs.Keeping.{load_keeps, rely_same}
 
 -- an object with another reference in a field, and with another number
 abbrev with_reference : Object → ℕ → Reference → Object
@@ -67,7 +68,7 @@ module _ (g : Graph) (t obj : ℕ) (name : Name) (o : Object) (root_is : g.root 
 module _ (c : Config) (u : World) (m : Mutating) (object refs nums at value : ℕ) (name : Name) (o : Object) (root : ℕ → ℕ → Reference) (command : Command) (fixed : Option Reply) (r : Reply) where
   -- the step is as it should be
   store_settles : touched u.memory (touch_of c m) ≡ write u.memory (Heap at) value → told_of u.memory m ≡ Some r → given_at m.spot ≡ None → fixed ≡ None → is_full r ≡ false
-      → Shared c u → Target u.block object name refs nums → object ≤ at → at < object + (3 + refs + nums)
+      → Shared c u → Target u object refs nums name → object ≤ at → at < object + (3 + refs + nums)
       → IsObject (updated (λ a. u.memory (Heap a)) at value) u.block object refs nums name o
       → outcome u.graph (m.seat + 1) command ≡ answers r (changed u.graph name o root)
       → ((seat i : ℕ) → seat ≢ m.seat → root (seat + 1) i ≡ u.graph.root (seat + 1) i)

@@ -25,13 +25,14 @@ use Rattle.mutator.specs.declared.spot.Order.{Order}
 use Rattle.mutator.specs.declared.spot.Order.TheVariants.{Nothing, Begin}
 use Rattle.mutator.specs.Rows.{Mutating, touch_of, after_take, take_next}
 use Rattle.mutator.specs.Fit.{is_ready}
-use Rattle.step_core.specs.World.{World, Plot, Block, thing, hand, name_at, AreCurrent, AreRooms, Shared}
-use Rattle.step_core.specs.Stepped.{IsMaking, IsRoomy, TakeFacts, Mine, Rely, Row, Stepped}
-use Rattle.step_core.proofs.Updates.{updated, updated_same, updated_there, updated_else}
+use Rattle.heap_world.specs.World.{World, Plot, Block, thing, hand, name_at, AreCurrent, AreRooms, Shared}
+use Rattle.step_core.specs.Stepped.{IsMaking, IsRoomy, TakeFacts, Mine, Row, Stepped}
+use Rattle.heap_world.specs.Rely.{Rely}
+use Rattle.heap_world.proofs.Updates.{updated, updated_same, updated_there, updated_else}
 use Rattle.step_core.proofs.Spots.{mutator_at, accessed}
-use Rattle.step_core.proofs.Stable.{points_stay}
-use Rattle.step_core.proofs.NewPiece.{CanGrow, names_stay, stays, old_hand, own_hand, plotted_more, filled_more, objects_more, free_more, rooms_more}
-use Rattle.step_core.proofs.FreeRegions.{lowest_within, owner_stays, free_without, currents_stay}
+use Rattle.heap_world.proofs.Keeping.{points_stay}
+use Rattle.heap_world.proofs.NewPiece.{CanGrow, names_stay, stays, old_hand, own_hand, plotted_more, filled_more, objects_more, free_more, rooms_more}
+use Rattle.heap_world.proofs.FreeRegions.{lowest_within, owner_stays, free_without, currents_stay}
 use Rattle.step_core.proofs.Ready.{taking_ready, word_ready}
 use Rattle.step_core.proofs.Loading.{looks}
 
@@ -59,7 +60,7 @@ rooms_with c top current block seat region none rooms a s words is =
     let is_room = rooms a s words is in
     let other : seat ≢ s = λ same. none a words (subst (λ k. block a ≡ Some (hand k words)) (sym same) is) in
     record {
-      mutator = is_room.mutator;
+      seated = is_room.seated;
       some = is_room.some;
       region = is_room.region;
       is_current = updated_else current seat (region + 1) s other ∙ is_room.is_current;
@@ -208,7 +209,7 @@ module _ (c : Config) (u : World) (seat made phase cset : ℕ) (command : Comman
               (record { within = within; own = updated_there u.owner region (Some seat); empty = shared.free_word.empty region within bit }));
           others = λ j d. record {
             names = λ a n is. is;
-            things = λ a more_refs more_nums n is. is;
+            targets = λ a more_refs more_nums n has. record { piece = has.piece };
             hands = λ a more is. is;
             no_hands = λ a more is. is;
             hand_words = λ a more k is below. refl;
@@ -218,6 +219,9 @@ module _ (c : Config) (u : World) (seat made phase cset : ℕ) (command : Comman
             root_words = λ i. refl;
             roots = λ i. refl;
             count = refl;
+            state = refl;
+            phase = refl;
+            cset = refl;
           };
         }
 
@@ -330,7 +334,7 @@ module _ (c : Config) (u : World) (seat made phase cset : ℕ) (command : Comman
         calm = shared.calm;
         free_word = free_more c tops currents u.block region top words seat grows (u.memory Free) u.owner own shared.free_word;
         currents = shared.currents;
-        rooms = rooms_more c tops currents u.block region top words seat grows u.owner mine.seat roomy.is_current shared.currents mine.hands;
+        rooms = rooms_more c tops currents u.block region top words seat grows u.owner (let below = mine.seat in omega (arith, below)) roomy.is_current shared.currents mine.hands;
         unasked = shared.unasked;
       }
 
@@ -361,7 +365,7 @@ module _ (c : Config) (u : World) (seat made phase cset : ℕ) (command : Comman
       others_grown : (j : ℕ) → j ≢ seat → Rely j u grown_world
       others_grown j differs = record {
         names = names;
-        things = λ a more_refs more_nums n is. stays_there a (thing n more_refs more_nums) is;
+        targets = λ a more_refs more_nums n has. record { piece = stays_there a (thing n more_refs more_nums) has.piece };
         hands = λ a more is. stays_there a (hand j more) is;
         no_hands = λ a more is. old_hand c tops currents u.block region top words seat grows a j more differs is;
         hand_words = λ a more k is below. refl;
@@ -371,6 +375,9 @@ module _ (c : Config) (u : World) (seat made phase cset : ℕ) (command : Comman
         root_words = λ i. refl;
         roots = λ i. refl;
         count = refl;
+        state = refl;
+        phase = refl;
+        cset = refl;
       }
 
       -- the store of the top puts the words into hand

@@ -17,7 +17,7 @@ use Rattle.mutator.specs.Orders.{is_at_rest}
 use Rattle.mutator.specs.Rows.{Mutating, touch_of}
 use Rattle.mutator.specs.Fit.{IsFit}
 use Rattle.step_core.specs.Actor.{mutating, Actor, plan_of, takes_of, kind}
-use Rattle.step_core.specs.World.{World}
+use Rattle.heap_world.specs.World.{World}
 use Rattle.step_core.specs.Opening.{opening}
 use Rattle.step_core.specs.Follows.{first_graph, world_of, reached, past, IsMutator, IsThread, IsMachine, Follows, FindsFit, IsSound}
 use Rattle.step_core.specs.Stepped.{SpotFacts, Stepped}

@@ -15,7 +15,7 @@ use Rattle.mutator.specs.Fit.{IsReady, IsFit}
 use Rattle.step_core.specs.Actor.{Machine, mutating, helping, controlling, Actor, entries_of, plan_of, kind}
 use Rattle.step_core.specs.Opening.{opening}
 use Rattle.step_core.specs.History.{history}
-use Rattle.step_core.specs.World.{World, Plot, Shared}
+use Rattle.heap_world.specs.World.{World, Plot, Shared}
 use Rattle.step_core.specs.Stepped.{Mine}
 
 -- The words that count, by their names. A pause changes them all at once, when it has computed the new ones.

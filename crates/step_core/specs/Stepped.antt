@@ -21,7 +21,8 @@ use Rattle.mutator.specs.Rows.{Mutating, touch_of, next_of, given_at, roots_of, 
 use Rattle.mutator.specs.Told.{told_of}
 use Rattle.mutator.specs.Fit.{IsReady}
 use Rattle.step_core.specs.Actor.{entry_of, command_by}
-use Rattle.step_core.specs.World.{World, thing, hand, name_at, Points, Target, Shared}
+use Rattle.heap_world.specs.World.{World, hand, name_at, Points, Target, Shared}
+use Rattle.heap_world.specs.Rely.{Rely}
 
 -- A word is that of a root which the command loads: it stands for the root's reference. Of a root that the command does
 -- not load nothing is known.
@@ -40,7 +41,7 @@ pub record HasObject (w : World) (seat root object : ℕ) : Type 0 where
   pub refs : ℕ
   pub nums : ℕ
   pub root_is : w.graph.root (seat + 1) root ≡ Some name
-  pub target : Target w.block object name refs nums
+  pub target : Target w object refs nums name
 
 -- the first root of a command is loaded, and if the command works on an object, it is not null
 pub record HasFirst (w : World) (seat : ℕ) (k : Command) (first : ℕ) : Type 0 where
@@ -208,21 +209,6 @@ pub record Mine (c : Config) (w : World) (m : Mutating) (command : Command) (fix
   pub roots : (i : ℕ) → i < 16 → Points w.block (root_now w m.seat m.spot i) (w.graph.root (m.seat + 1) i)
   pub hands : (a words : ℕ) → w.block a ≡ Some (hand m.seat words) → IsInHand m.spot a words
   pub facts : SpotFacts c w m.seat m.made command fixed m.spot
-
--- What the mutator of a seat relies on while another machine leads from u to w: objects stay where they are, and what
--- is its own stays as it is.
-pub record Rely (seat : ℕ) (u w : World) : Type 0 where
-  pub names : (a : ℕ) (name : Name) → name_at (u.block a) ≡ Some name → name_at (w.block a) ≡ Some name
-  pub things : (a refs nums : ℕ) (name : Name) → u.block a ≡ Some (thing name refs nums) → w.block a ≡ Some (thing name refs nums)
-  pub hands : (a words : ℕ) → u.block a ≡ Some (hand seat words) → w.block a ≡ Some (hand seat words)
-  pub no_hands : (a words : ℕ) → w.block a ≡ Some (hand seat words) → u.block a ≡ Some (hand seat words)
-  pub hand_words : (a words k : ℕ) → u.block a ≡ Some (hand seat words) → k < words → w.memory (Heap (a + k)) ≡ u.memory (Heap (a + k))
-  pub current : w.memory (Current seat) ≡ u.memory (Current seat)
-  pub owners : (r : ℕ) → u.owner r ≡ Some seat → w.owner r ≡ Some seat
-  pub tops : (r : ℕ) → u.owner r ≡ Some seat → w.memory (Top r) ≡ u.memory (Top r)
-  pub root_words : (i : ℕ) → w.memory (Root seat i) ≡ u.memory (Root seat i)
-  pub roots : (i : ℕ) → w.graph.root (seat + 1) i ≡ u.graph.root (seat + 1) i
-  pub count : w.graph.count (seat + 1) ≡ u.graph.count (seat + 1)
 
 -- the graph after the entry that a step settles, if it settles one
 abbrev pub graph_by : Graph → ℕ → Command → Option Reply → Graph

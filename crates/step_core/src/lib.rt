@@ -14,8 +14,6 @@ ghost use Rattle.mutator.specs.Rows.{Mutating};
 ghost use Rattle.mutator.specs.Fit.{IsFit};
 ghost use Rattle.step_core.specs.Actor.{Actor, mutating, plan_of, kind};
 ghost use Rattle.step_core.specs.Opening.{opening};
-ghost use Rattle.step_core.specs.World.{World, Shared};
-ghost use Rattle.step_core.specs.Regions.{AreSharedOut};
 ghost use Rattle.step_core.specs.Follows.{reached, past, IsSound};
 
 pub use opening::open_words;
@@ -25,12 +23,6 @@ pub use opening::open_words;
 /// more where its call in progress is settled, and each mutator finds a fit word next.
 pub fn every_schedule()
     ensures { (c : Config) (events : List (Event Order)) → IsSound c (reached c events) (past c events) }
-{}
-
-/// A law: where words and machines stand for a graph, as they do after every list of steps, no two machines have one
-/// region, a free region is nobody's, and in a region there is room in hand once at most, behind all its objects.
-pub fn regions_are_shared_out()
-    ensures { (c : Config) (w : World) → Shared c w → AreSharedOut c w }
 {}
 
 /// A law: a mutator that is reached by some steps makes its next access inside the table.

@@ -1,0 +1,53 @@
+-- What stays where little changes: words that stand for references, a memory of which a word is loaded, and what is relied on.
+use Rattle.std.proofs.Common.{◌≡◌, ℕ, ⊎_elim, true, false, Some, None, refl, sym, ap, ◌∙◌}
+use Rattle.std.proofs.Math.Path.{fun_ext}
+use Rattle.std.proofs.lemmas.Bool.{cases_Bool, cond-true, cond-false}
+use Rattle.heap_words.specs.Words.{Word, same_word, write}
+use Rattle.heap_words.proofs.Stores.{same_word_true}
+use Rattle.shen_graph.specs.declared.name.Name.{Name}
+use Rattle.shen_graph.specs.Graph.{Reference}
+use Rattle.heap_world.specs.World.{World, Plot, Points, name_at}
+use Rattle.heap_world.specs.Rely.{Keeps, Rely}
+
+-- a word stands for what it stood for where names stay
+pub points_stay : (u w : Plot) → ((a : ℕ) (name : Name) → name_at (u a) ≡ Some name → name_at (w a) ≡ Some name) → (word : ℕ) (reference : Reference) → Points u word reference → Points w word reference
+points_stay u w names word None is = is
+points_stay u w names word (Some name) is = names word name is
+
+-- a load leaves the memory as it is
+pub load_keeps : (memory : Word → ℕ) (at : Word) → memory ≡ write memory at (memory at)
+load_keeps memory at = fun_ext (λ w. ⊎_elim
+    (λ (same : same_word at w ≡ true). sym (cond-true (same_word at w) (memory at) (memory w) same ∙ ap memory (same_word_true at w same)))
+    (λ (differs : same_word at w ≡ false). sym (cond-false (same_word at w) (memory at) (memory w) differs))
+    (cases_Bool (same_word at w)))
+
+-- where nothing changes, everything can be relied on
+pub rely_same : (seat : ℕ) (u : World) → Rely seat u u
+rely_same seat u = record {
+  names = λ a name is. is;
+  targets = λ a refs nums name is. is;
+  hands = λ a words is. is;
+  no_hands = λ a words is. is;
+  hand_words = λ a words k is below. refl;
+  current = refl;
+  owners = λ r is. is;
+  tops = λ r is. refl;
+  root_words = λ i. refl;
+  roots = λ i. refl;
+  count = refl;
+  state = refl;
+  phase = refl;
+  cset = refl;
+}
+
+-- what is relied on keeps all that the facts of a seat stand on
+pub keeps_of : (seat : ℕ) (u w : World) → Rely seat u w → Keeps seat u w
+keeps_of seat u w rely = record {
+  names = rely.names;
+  targets = rely.targets;
+  hands = rely.hands;
+  hand_words = rely.hand_words;
+  root_words = rely.root_words;
+  roots = rely.roots;
+  count = rely.count;
+}

@@ -1,0 +1,9 @@
+pub mod Keeping
+pub mod Updates
+pub mod Pointing
+pub mod Apart
+pub mod Pieces
+pub mod NewPiece
+pub mod FreeRegions
+pub mod Objects
+pub mod SharedOut

@@ -1,0 +1,164 @@
+-- A word of an object changes, and the graph's object with it.
+use Rattle.std.proofs.Common.{◌≡◌, ◌≢◌, ℕ, ◌+◌, ◌<◌, ◌≤◌, false, List, length, Option, Some, ⊎_elim, refl, sym, ap, ◌∙◌, arith}
+use Rattle.std.specs.Prelude.{if◌then◌else◌, slice_get, slice_set}
+use Rattle.std.proofs.lemmas.Bool.{cases_Bool, cases_eq, cond-true, cond-false}
+use Rattle.std.proofs.lemmas.List.{length-set}
+use Rattle.std.proofs.lemmas.Option.{same_Some, slice_get_within, slice_get-get_or}
+use Rattle.heap_words.specs.declared.config.Config.{Config}
+use Rattle.heap_words.specs.Words.{Heap, Top, write}
+use Rattle.steps_base.proofs.Places.{slice_get-set_same, slice_get-set_other}
+use Rattle.shen_graph.specs.declared.name.Name.{Name}
+use Rattle.shen_graph.specs.Graph.{Reference, Object, Graph, same_name}
+use Rattle.shen_graph.proofs.PlainLemmas.{same_name-true, same_name-itself}
+use Rattle.heap_world.specs.World.{World, thing, hand, Plot, Points, Target, IsPlotted, IsObject, AreObjects, Shared}
+use Rattle.heap_world.specs.Rely.{Rely}
+use Rattle.heap_world.proofs.Updates.{updated, updated_same, updated_else}
+use Rattle.heap_world.proofs.Apart.{one_piece}
+use Rattle.heap_world.proofs.Pieces.{object_reads}
+
+-- an element that was set
+get_set_same : {X : Type 0} (xs : List X) (i : ℕ) (x : X) → i < length xs → slice_get (slice_set xs i x) i ≡ Some x
+get_set_same xs i x below = slice_get-set_same xs i _ x (slice_get-get_or xs i x below)
+
+-- the test on two names
+pub two_names : (a b : Name) → a ≢ b → same_name a b ≡ false
+two_names a b other = ⊎_elim (λ is. absurd (other (same_name-true a b is))) (λ is. is) (cases_Bool (same_name a b))
+
+module _ (heap : ℕ → ℕ) (block : Plot) (a refs nums : ℕ) (name : Name) (o : Object) (is : IsObject heap block a refs nums name o) where
+  -- a reference field of an object is another
+  pub field_stored : (field value : ℕ) (r : Reference) → field < refs → Points block value r
+      → IsObject (updated heap (a + 3 + field) value) block a refs nums name (record { refs = slice_set o.refs field r; nums = o.nums })
+  field_stored field value r below points =
+      let old : (at : ℕ) → a + 3 + field ≢ at → updated heap (a + 3 + field) value at ≡ heap at = updated_else heap (a + 3 + field) value in
+      record {
+        header = old a (omega arith) ∙ is.header;
+        shape = old (a + 1) (omega arith) ∙ is.shape;
+        name_word = old (a + 2) (omega arith) ∙ is.name_word;
+        few_refs = is.few_refs;
+        few_nums = is.few_nums;
+        refs_are = length-set o.refs field r ∙ is.refs_are;
+        nums_are = is.nums_are;
+        references = λ i q here. ⊎_elim
+            (λ same.
+            let word_is : updated heap (a + 3 + field) value (a + 3 + i) ≡ value = updated_same heap (a + 3 + field) value (a + 3 + i) (omega (arith, same)) in
+            let is_here : slice_get (slice_set o.refs field r) i ≡ Some r = ap (λ j. slice_get (slice_set o.refs field r) j) same ∙ get_set_same o.refs field r (omega (arith, is.refs_are)) in
+            let reference_is : q ≡ r = same_Some q r (sym here ∙ is_here) in
+            rw (word_is, reference_is) points)
+            (λ other.
+            let word_is : updated heap (a + 3 + field) value (a + 3 + i) ≡ heap (a + 3 + i) = old (a + 3 + i) (λ same. other (omega arith)) in
+            rw word_is (is.references i q (sym (slice_get-set_other o.refs field i r other) ∙ here)))
+            (cases_eq i field);
+        numbers = λ i n here. old (a + 3 + refs + i) (omega arith) ∙ is.numbers i n here;
+      }
+
+  -- a number of an object is another
+  pub number_stored : (index value : ℕ) → index < nums
+      → IsObject (updated heap (a + 3 + refs + index) value) block a refs nums name (record { refs = o.refs; nums = slice_set o.nums index value })
+  number_stored index value below =
+      let old : (at : ℕ) → a + 3 + refs + index ≢ at → updated heap (a + 3 + refs + index) value at ≡ heap at = updated_else heap (a + 3 + refs + index) value in
+      record {
+        header = old a (omega arith) ∙ is.header;
+        shape = old (a + 1) (omega arith) ∙ is.shape;
+        name_word = old (a + 2) (omega arith) ∙ is.name_word;
+        few_refs = is.few_refs;
+        few_nums = is.few_nums;
+        refs_are = is.refs_are;
+        nums_are = length-set o.nums index value ∙ is.nums_are;
+        references = λ i q here.
+            let word_is : updated heap (a + 3 + refs + index) value (a + 3 + i) ≡ heap (a + 3 + i) = old (a + 3 + i) (omega (arith, is.refs_are, slice_get_within o.refs i q here)) in
+            rw word_is (is.references i q here);
+        numbers = λ i n here. ⊎_elim
+            (λ same.
+            let is_here : slice_get (slice_set o.nums index value) i ≡ Some value = ap (λ j. slice_get (slice_set o.nums index value) j) same ∙ get_set_same o.nums index value (omega (arith, is.nums_are)) in
+            updated_same heap (a + 3 + refs + index) value (a + 3 + refs + i) (omega (arith, same)) ∙ same_Some value n (sym is_here ∙ here))
+            (λ other. old (a + 3 + refs + i) (λ same. other (omega arith)) ∙ is.numbers i n (sym (slice_get-set_other o.nums index i value other) ∙ here))
+            (cases_eq i index);
+      }
+
+-- the objects where that of one name is another
+abbrev pub where_object : (Name → Option Object) → Name → Object → Name → Option Object
+where_object object name o n = if same_name n name then Some o else object n
+
+-- there is an object of a name afterwards only if there was one before, for the one that changes is one of them
+object_before : (object : Name → Option Object) (name : Name) (before o : Object) → object name ≡ Some before → (n : Name) (x : Object) → where_object object name o n ≡ Some x
+    → (y : Object) × (object n ≡ Some y)
+object_before object name before o was n x is = ⊎_elim
+    (λ same. (before, ap object (same_name-true n name same) ∙ was))
+    (λ other. (x, sym (cond-false (same_name n name) (Some o) (object n) other) ∙ is))
+    (cases_Bool (same_name n name))
+
+-- One word of an object is another: the graph's object is the one that its words say, and all others are as before.
+module _ (c : Config) (top heap : ℕ → ℕ) (block : Plot) (object : Name → Option Object) (plotted : IsPlotted c top block) (are : AreObjects heap block object) where
+  -- the objects after a word of one of them changed
+  objects_stored : (a refs nums at value : ℕ) (name : Name) (o : Object) → block a ≡ Some (thing name refs nums) → a ≤ at → at < a + (3 + refs + nums)
+      → IsObject (updated heap at value) block a refs nums name o → AreObjects (updated heap at value) block (where_object object name o)
+  objects_stored a refs nums at value name o piece from_start to_end is = record {
+    each = λ b more_refs more_nums n there. ⊎_elim
+        (λ same.
+        let pieces : Some (thing n more_refs more_nums) ≡ Some (thing name refs nums) = sym there ∙ ap block same ∙ piece in
+        let name_is : n ≡ name = cc in
+        let refs_are : more_refs ≡ refs = cc in
+        let nums_are : more_nums ≡ nums = cc in
+        (o, cond-true (same_name n name) (Some o) (object n) (ap (λ m. same_name m name) name_is ∙ same_name-itself name), rw (same, name_is, refs_are, nums_are) is))
+        (λ other.
+        let before = are.each b more_refs more_nums n there in
+        let other_name : n ≢ name = λ same. other (are.once b a more_refs more_nums refs nums name (there ∙ ap (λ m. Some (thing m more_refs more_nums)) same) piece) in (
+          before.0,
+          cond-false (same_name n name) (Some o) (object n) (two_names n name other_name) ∙ before.1,
+          object_reads heap (updated heap at value) block block b more_refs more_nums n before.0
+              (λ k below. updated_else heap at value (b + k) (λ same. other (one_piece c top block plotted b a (b + k) (thing n more_refs more_nums) (thing name refs nums) there piece (omega arith) (omega arith) (omega arith) (omega arith))))
+              (λ x m e. e) before.2,
+        ))
+        (cases_eq b a);
+    once = are.once;
+  }
+
+-- the world after a word of the heap is another, and the graph
+abbrev pub stored : World → ℕ → ℕ → Graph → World
+stored u at value g = record { memory = write u.memory (Heap at) value; block = u.block; owner = u.owner; graph = g }
+
+-- the graph in which the object of a name is another, and the roots
+abbrev pub changed : Graph → Name → Object → (ℕ → ℕ → Reference) → Graph
+changed g name o root = record { object = where_object g.object name o; root = root; count = g.count }
+
+module _ (c : Config) (u : World) (a refs nums at value : ℕ) (name : Name) (o : Object) (root : ℕ → ℕ → Reference) (shared : Shared c u) (target : Target u a refs nums name) where
+  -- what machines share, after a word of an object and the graph's object have changed
+  pub shared_stored : a ≤ at → at < a + (3 + refs + nums) → IsObject (updated (λ b. u.memory (Heap b)) at value) u.block a refs nums name o
+      → Shared c (stored u at value (changed u.graph name o root))
+  shared_stored from_start to_end is = record {
+    plotted = shared.plotted;
+    filled = shared.filled;
+    objects = objects_stored c (λ r. u.memory (Top r)) (λ b. u.memory (Heap b)) u.block u.graph.object shared.plotted shared.objects a refs nums at value name o target.piece from_start to_end is;
+    given = λ n x there.
+        let was = shared.objects.each a refs nums name target.piece in
+        let before = object_before u.graph.object name was.0 o was.1 n x there in
+        shared.given n before.0 before.1;
+    calm = shared.calm;
+    free_word = shared.free_word;
+    currents = shared.currents;
+    rooms = shared.rooms;
+    unasked = shared.unasked;
+  }
+
+  -- and what another mutator relies on, if its roots are as before
+  pub rely_stored : a ≤ at → at < a + (3 + refs + nums) → (seat : ℕ) → ((i : ℕ) → root (seat + 1) i ≡ u.graph.root (seat + 1) i)
+      → Rely seat u (stored u at value (changed u.graph name o root))
+  rely_stored from_start to_end seat roots = record {
+    names = λ b n is. is;
+    targets = λ b more_refs more_nums n has. record { piece = has.piece };
+    hands = λ b words is. is;
+    no_hands = λ b words is. is;
+    hand_words = λ b words k is below. updated_else (λ b. u.memory (Heap b)) at value (b + k) (λ same.
+        let same_piece : b ≡ a = one_piece c (λ r. u.memory (Top r)) u.block shared.plotted b a (b + k) (hand seat words) (thing name refs nums) is target.piece (omega arith) (omega arith) (omega arith) (omega arith) in
+        let both : Some (hand seat words) ≡ Some (thing name refs nums) = sym is ∙ ap u.block same_piece ∙ target.piece in
+        cc);
+    current = refl;
+    owners = λ r is. is;
+    tops = λ r is. refl;
+    root_words = λ i. refl;
+    roots = roots;
+    count = refl;
+    state = refl;
+    phase = refl;
+    cset = refl;
+  }

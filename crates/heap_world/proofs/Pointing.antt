@@ -1,0 +1,63 @@
+-- Words that stand for references: null is 0 and nothing else, and one object has one address.
+use Rattle.std.proofs.Common.{◌≡◌, ◌≢◌, ℕ, ◌+◌, ◌*◌, ◌<◌, ◌≤◌, true, Option, Some, None, refl, sym, ap, ◌∙◌, arith}
+use Rattle.std.proofs.lemmas.Bool.Decides.{nat_tests}
+use Rattle.std.proofs.lemmas.Option.{same_Some}
+use Rattle.std.proofs.Math.Nat.{mul-le-mul_right}
+use Rattle.heap_words.specs.declared.config.Config.{Config}
+use Rattle.heap_words.specs.Words.{Heap, is_word}
+use Rattle.shen_graph.specs.declared.name.Name.{Name}
+use Rattle.shen_graph.specs.Graph.{Reference}
+use Rattle.heap_world.specs.World.{Block, thing, hand, words_of, Plot, name_at, Points, IsPlotted}
+
+-- the piece at an address that stands for an object is the object
+pub named_thing : (o : Option Block) (n : Name) → name_at o ≡ Some n → (refs : ℕ) × (nums : ℕ) × (o ≡ Some (thing n refs nums))
+named_thing (Some (thing name refs nums)) n is = (refs, nums, ap (λ m. Some (thing m refs nums)) (same_Some name n is))
+named_thing (Some (hand seat words)) n is = cc
+named_thing None n is = cc
+
+module _ (c : Config) (top : ℕ → ℕ) (block : Plot) (plotted : IsPlotted c top block) where
+  -- the words of a piece are words of the heap
+  pub piece_inside : (a : ℕ) (b : Block) → block a ≡ Some b → (c.region_words ≤ a) × (a + words_of b ≤ (c.regions + 1) * c.region_words)
+  piece_inside a b is =
+      let used = plotted.in_use a b is in
+      let most : top used.region ≤ c.region_words = plotted.tops used.region used.within in
+      let low : 1 * c.region_words ≤ (used.region + 1) * c.region_words = mul-le-mul_right c.region_words (omega arith) in
+      let high : (used.region + 1 + 1) * c.region_words ≤ (c.regions + 1) * c.region_words = mul-le-mul_right c.region_words (omega (arith, used.within)) in
+      (omega (arith, low, used.from_base), omega (arith, high, most, used.to_top))
+
+  -- each word of a piece is a word of the heap
+  pub piece_word : (a k : ℕ) (b : Block) → block a ≡ Some b → k < words_of b → is_word c (Heap (a + k)) ≡ true
+  piece_word a k b is below =
+      let inside = piece_inside a b is in
+      let low : c.region_words ≤ a + k = omega (arith, inside.0) in
+      let high : a + k < (c.regions + 1) * c.region_words = omega (arith, inside.1, below) in
+      grind (arith, nat_tests)
+
+  -- no piece is at 0
+  none_at_0 : (b : Block) → block 0 ≡ Some b → ⊥
+  none_at_0 b is = let inside = piece_inside 0 b is in let long = c.in_range.least_words in omega (arith, inside.0, long)
+
+  -- a word that stands for null is 0, and 0 stands for nothing else
+  pub null_if_0 : (word : ℕ) (r : Reference) → Points block word r → word ≡ 0 → r ≡ None
+  null_if_0 word None points is = refl
+  null_if_0 word (Some n) points is =
+      let piece = named_thing (block 0) n (ap (λ a. name_at (block a)) (sym is) ∙ points) in
+      absurd (none_at_0 (thing n piece.0 piece.1) piece.2)
+
+  -- a word that is not 0 stands for a name
+  pub named_if_not_0 : (word : ℕ) (r : Reference) → Points block word r → word ≢ 0 → (n : Name) × (r ≡ Some n) × (name_at (block word) ≡ Some n)
+  named_if_not_0 word None points other = absurd (other points)
+  named_if_not_0 word (Some n) points other = (n, refl, points)
+
+  -- the address of a piece is small
+  pub piece_small : (a : ℕ) (b : Block) → block a ≡ Some b → a < 2097152
+  piece_small a b is =
+      let inside = piece_inside a b is in
+      let most : (c.regions + 1) * c.region_words ≤ (64 + 1) * c.region_words = mul-le-mul_right c.region_words (let few = c.in_range.most_regions in omega (arith, few)) in
+      let long = c.in_range.most_words in
+      omega (arith, inside.1, most, long)
+
+  -- and so is a word that stands for a reference
+  pub points_small : (word : ℕ) (r : Reference) → Points block word r → word < 2097152
+  points_small word None points = omega (arith, points)
+  points_small word (Some n) points = let piece = named_thing (block word) n points in piece_small word (thing n piece.0 piece.1) piece.2

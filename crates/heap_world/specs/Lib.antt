@@ -1,0 +1,3 @@
+pub mod World
+pub mod Rely
+pub mod Regions

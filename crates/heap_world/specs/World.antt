@@ -1,0 +1,141 @@
+-- What it means that the words of a heap stand for a graph.
+use Rattle.std.specs.Prelude.{ℕ, ◌≡◌, ◌+◌, ◌<◌, ◌≤◌, ◌^◌, length, Option, Some, None, slice_get}
+use Rattle.heap_words.specs.declared.config.Config.{Config}
+use Rattle.heap_words.specs.Words.{Word, Phase, Cset, Free, Evac, Top, Current, Wait, Answer, Heap}
+use Rattle.heap_words.specs.Ranges.{seat_count}
+use Rattle.heap_words.specs.Encoding.{plain_header, shape_word, name_code}
+use Rattle.regions.specs.Place.{base_of}
+use Rattle.regions.specs.Sets.{IsIn}
+use Rattle.shen_graph.specs.declared.name.Name.{Name}
+use Rattle.shen_graph.specs.Graph.{Reference, Object, Graph}
+
+-- A piece of the part of a region that is in use: an object of a name, with so many references and numbers, or so many
+-- words that a machine has in hand.
+pub data Block : Type 0 where
+  thing : (name : Name) (refs nums : ℕ) → Block
+  hand : (seat words : ℕ) → Block
+
+abbrev pub words_of : Block → ℕ
+words_of (thing name refs nums) = 3 + refs + nums
+words_of (hand seat words) = words
+
+-- by address, the piece that begins there
+abbrev pub Plot : Type 0
+Plot = ℕ → Option Block
+
+-- a memory, how its regions are divided, the seat that has a region to itself, and the graph that the memory stands for
+pub record World : Type 0 where
+  pub memory : Word → ℕ
+  pub block : Plot
+  pub owner : ℕ → Option ℕ
+  pub graph : Graph
+
+-- the object that an address stands for, if it does
+abbrev pub name_at : Option Block → Option Name
+name_at (Some (thing name refs nums)) = Some name
+name_at (Some (hand seat words)) = None
+name_at None = None
+
+-- a word stands for a reference: 0 for null, and else an address that stands for its object
+abbrev pub Points : Plot → ℕ → Reference → Type 0
+Points block word None = word ≡ 0
+Points block word (Some name) = name_at (block word) ≡ Some name
+
+-- the object's current copy, with so many references and numbers, is at the address
+pub record Target (w : World) (address refs nums : ℕ) (name : Name) : Type 0 where
+  pub piece : w.block address ≡ Some (thing name refs nums)
+
+-- so many words from an address on lie in the part of a region that is in use
+pub record IsInUse (c : Config) (top : ℕ → ℕ) (address words : ℕ) : Type 0 where
+  pub region : ℕ
+  pub within : region < c.regions
+  pub from_base : base_of c region ≤ address
+  pub to_top : address + words ≤ base_of c region + top region
+
+-- pieces lie in the parts in use and apart from each other, and no part in use is longer than its region
+pub record IsPlotted (c : Config) (top : ℕ → ℕ) (block : Plot) : Type 0 where
+  pub tops : (r : ℕ) → r < c.regions → top r ≤ c.region_words
+  pub in_use : (a : ℕ) (b : Block) → block a ≡ Some b → IsInUse c top a (words_of b)
+  pub apart : (a b : ℕ) (x y : Block) → block a ≡ Some x → block b ≡ Some y → a < b → a + words_of x ≤ b
+
+-- pieces fill the parts in use: there is one at the base, and one after each that does not end at the top
+pub record IsFilled (c : Config) (top : ℕ → ℕ) (block : Plot) : Type 0 where
+  pub first : (r : ℕ) → r < c.regions → 0 < top r → (b : Block) × (block (base_of c r) ≡ Some b)
+  pub next : (r a : ℕ) (x : Block) → r < c.regions → base_of c r ≤ a → block a ≡ Some x → a + words_of x < base_of c r + top r
+      → (b : Block) × (block (a + words_of x) ≡ Some b)
+
+-- the words of an object are those of the graph's object: its references stand for its references, and its numbers are its numbers
+pub record IsObject (heap : ℕ → ℕ) (block : Plot) (address refs nums : ℕ) (name : Name) (object : Object) : Type 0 where
+  pub header : heap address ≡ plain_header
+  pub shape : heap (address + 1) ≡ shape_word refs nums
+  pub name_word : heap (address + 2) ≡ name_code name.thread name.count
+  pub few_refs : refs ≤ 16
+  pub few_nums : nums ≤ 16
+  pub refs_are : length object.refs ≡ refs
+  pub nums_are : length object.nums ≡ nums
+  pub references : (i : ℕ) (reference : Reference) → slice_get object.refs i ≡ Some reference → Points block (heap (address + 3 + i)) reference
+  pub numbers : (i n : ℕ) → slice_get object.nums i ≡ Some n → heap (address + 3 + refs + i) ≡ n
+
+-- a name is one that a thread has given: the hub's, or of a mutator and of a count that it has reached
+pub record IsGiven (c : Config) (count : ℕ → ℕ) (name : Name) : Type 0 where
+  pub thread : name.thread ≤ c.mutators
+  pub made : name.count ≤ count name.thread + 1
+  pub by_thread : 1 ≤ name.thread → name.count ≤ count name.thread
+  pub small : name.count < 2 ^ 32
+
+-- each piece that is an object is one of the graph, and no two have one name
+pub record AreObjects (heap : ℕ → ℕ) (block : Plot) (object : Name → Option Object) : Type 0 where
+  pub each : (a refs nums : ℕ) (name : Name) → block a ≡ Some (thing name refs nums)
+      → (o : Object) × (object name ≡ Some o) × IsObject heap block a refs nums name o
+  pub once : (a b refs nums more_refs more_nums : ℕ) (name : Name) → block a ≡ Some (thing name refs nums)
+      → block b ≡ Some (thing name more_refs more_nums) → a ≡ b
+
+-- nothing is collected yet: the phase is 0, no region is in the collection set, and nobody copies
+pub record IsCalm (phase cset evac : ℕ) : Type 0 where
+  pub phase_is : phase ≡ 0
+  pub cset_is : cset ≡ 0
+  pub evac_is : evac ≡ 0
+
+-- the free word has no bit at or above the number of regions, and a region whose bit is set has top 0 and is nobody's
+pub record IsFreeWord (c : Config) (free : ℕ) (top : ℕ → ℕ) (owner : ℕ → Option ℕ) : Type 0 where
+  pub no_more : free < 2 ^ c.regions
+  pub empty : (r : ℕ) → r < c.regions → IsIn free r → top r ≡ 0
+  pub nobodys : (r : ℕ) → r < c.regions → IsIn free r → owner r ≡ None
+
+-- the current region of a seat is its own, so that no two seats have one
+pub record AreCurrent (c : Config) (current : ℕ → ℕ) (owner : ℕ → Option ℕ) : Type 0 where
+  pub within : (seat r : ℕ) → current seat ≡ r + 1 → r < c.regions
+  pub own : (seat r : ℕ) → current seat ≡ r + 1 → owner r ≡ Some seat
+
+-- room in hand is a seat's, in its current region, and ends at the top
+pub record IsRoom (c : Config) (top current : ℕ → ℕ) (address seat words : ℕ) : Type 0 where
+  pub seated : seat < seat_count c.mutators c.helpers
+  pub some : 3 ≤ words
+  pub region : ℕ
+  pub is_current : current seat ≡ region + 1
+  pub from_base : base_of c region ≤ address
+  pub at_top : address + words ≡ base_of c region + top region
+
+abbrev pub AreRooms : Config → (ℕ → ℕ) → (ℕ → ℕ) → Plot → Type 0
+AreRooms c top current block = (a seat words : ℕ) → block a ≡ Some (hand seat words) → IsRoom c top current a seat words
+
+-- nobody waits for an object, and none is answered yet
+pub record AreUnasked (c : Config) (wait answer : ℕ → ℕ) : Type 0 where
+  pub waits : (t : ℕ) → t < c.mutators → wait t ≡ 0
+  pub answers : (t : ℕ) → t < c.mutators → answer t ≡ 0
+
+-- the facts that all machines share, each over the words that it speaks of
+pub record SharedFacts (c : Config) (top heap : ℕ → ℕ) (block : Plot) (owner : ℕ → Option ℕ) (object : Name → Option Object) (count : ℕ → ℕ) (phase cset evac free : ℕ) (current wait answer : ℕ → ℕ) : Type 0 where
+  pub plotted : IsPlotted c top block
+  pub filled : IsFilled c top block
+  pub objects : AreObjects heap block object
+  pub given : (name : Name) (o : Object) → object name ≡ Some o → IsGiven c count name
+  pub calm : IsCalm phase cset evac
+  pub free_word : IsFreeWord c free top owner
+  pub currents : AreCurrent c current owner
+  pub rooms : AreRooms c top current block
+  pub unasked : AreUnasked c wait answer
+
+abbrev pub Shared : Config → World → Type 0
+Shared c w = SharedFacts c (λ r. w.memory (Top r)) (λ a. w.memory (Heap a)) w.block w.owner w.graph.object w.graph.count (w.memory Phase) (w.memory Cset) (w.memory Evac)
+    (w.memory Free) (λ s. w.memory (Current s)) (λ t. w.memory (Wait t)) (λ t. w.memory (Answer t))

@@ -1,0 +1,6 @@
+pub mod Held
+pub mod Plot
+pub mod Pack
+pub mod Full
+pub mod Laws
+pub mod Served

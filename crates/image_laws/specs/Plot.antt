@@ -1,0 +1,23 @@
+-- How the regions are divided once the kept objects were packed.
+use Rattle.std.specs.Prelude.{ℕ, ◌+◌, ◌*◌, ◌==◌, ◌&&◌, nat_lt, if◌then◌else◌, Option, Some, None, option_and_then, zero, suc}
+use Rattle.heap_words.specs.declared.config.Config.{Config}
+use Rattle.packing.specs.Places.{new_place}
+use Rattle.packing.specs.Tops.{top_before}
+use Rattle.heap_world.specs.World.{Plot}
+
+-- the address behind the last one of the heap
+abbrev pub heap_end : Config → ℕ
+heap_end c = (c.regions + 1) * c.region_words
+
+-- the kept address below an end whose object is placed at an address, if there is one
+unfoldable pub origin : (region_words : ℕ) (kept : ℕ → ℕ) (place : ℕ) → ℕ → Option ℕ
+origin region_words kept place zero = None
+origin region_words kept place (suc a) = if nat_lt 0 (kept a) && (new_place region_words kept a == place) then Some a else origin region_words kept place a
+
+-- at the new place of each kept object the piece that was at its address, and no other pieces
+abbrev pub packed_block : Config → (kept : ℕ → ℕ) → Plot → Plot
+packed_block c kept block place = option_and_then block (origin c.region_words kept place (heap_end c))
+
+-- the top of each region then
+abbrev pub packed_top : Config → (kept : ℕ → ℕ) → ℕ → ℕ
+packed_top c kept r = top_before c.region_words kept r (heap_end c)

@@ -1,0 +1,5 @@
+use Rattle.packing.proofs.Places.{each_fits}
+use Rattle.packing.proofs.packing_fits.Goals as goal
+
+pub returns : goal.returns
+returns c = each_fits

@@ -1,0 +1,4 @@
+pub mod Places
+pub mod Tops
+pub mod Rooms
+pub mod Laws

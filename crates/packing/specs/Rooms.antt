@@ -1,0 +1,47 @@
+-- What requests for words get: each a place in the lowest region that has room for it, one request after the other.
+-- Who asks for nothing asks for 0 words, which are given somewhere and change no top.
+use Rattle.std.specs.Prelude.{ℕ, ◌+◌, ◌<◌, ◌≤◌, ◌==◌, zero, suc, nat_le, if◌then◌else◌, Option, Some, None}
+
+-- the first of two that is there
+abbrev pub first_of_two : Option ℕ → Option ℕ → Option ℕ
+first_of_two (Some r) other = Some r
+first_of_two None other = other
+
+-- the lowest of so many regions that has room for so many words above its top
+unfoldable pub lowest_room : (region_words : ℕ) (top : ℕ → ℕ) (words : ℕ) → ℕ → Option ℕ
+lowest_room region_words top words zero = None
+lowest_room region_words top words (suc r) = first_of_two (lowest_room region_words top words r) (if nat_le (top r + words) region_words then Some r else None)
+
+-- no region has room for so many words above its top
+abbrev pub HasNoRoom : (region_words : ℕ) (top : ℕ → ℕ) (words regions : ℕ) → Type 0
+HasNoRoom region_words top words regions = (r : ℕ) → r < regions → region_words < top r + words
+
+-- a region has room for so many words above its top, and no lower one has
+pub record IsLowestRoom (region_words : ℕ) (top : ℕ → ℕ) (words regions r : ℕ) : Type 0 where
+  pub below : r < regions
+  pub room : top r + words ≤ region_words
+  pub none_lower : (q : ℕ) → q < r → region_words < top q + words
+
+-- the tops after so many words were taken in a region, if there is one
+abbrev pub taken_in : (top : ℕ → ℕ) (words : ℕ) → Option ℕ → ℕ → ℕ
+taken_in top words None q = top q
+taken_in top words (Some r) q = if q == r then top q + words else top q
+
+-- the tops after so many requests were served, one after the other, each in the lowest region that has room
+unfoldable pub tops_served : (region_words regions : ℕ) (asked top : ℕ → ℕ) → ℕ → ℕ → ℕ
+tops_served region_words regions asked top zero q = top q
+tops_served region_words regions asked top (suc t) q =
+    taken_in (tops_served region_words regions asked top t) (asked t) (lowest_room region_words (tops_served region_words regions asked top t) (asked t) regions) q
+
+-- so many words, if a region was found for them
+abbrev pub given_by : Option ℕ → ℕ → ℕ
+given_by None words = 0
+given_by (Some r) words = words
+
+-- the region that the request of a thread finds at its turn
+abbrev pub room_at_turn : (region_words regions : ℕ) (asked top : ℕ → ℕ) → ℕ → Option ℕ
+room_at_turn region_words regions asked top t = lowest_room region_words (tops_served region_words regions asked top t) (asked t) regions
+
+-- the words that the request of a thread is given at its turn
+abbrev pub granted : (region_words regions : ℕ) (asked top : ℕ → ℕ) → ℕ → ℕ
+granted region_words regions asked top t = given_by (room_at_turn region_words regions asked top t) (asked t)

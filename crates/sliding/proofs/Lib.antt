@@ -1,0 +1,5 @@
+pub mod Flags
+pub mod Assigned
+pub mod Slid
+pub mod Moved
+pub mod Checked
