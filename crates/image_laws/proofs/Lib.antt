@@ -7,3 +7,5 @@ pub mod Image
 pub mod Found
 pub mod Walked
 pub mod Served
+pub mod Live
+pub mod Promised

@@ -28,7 +28,7 @@ none_at_0 c top block plotted word name is zero' =
     omega (arith, inside.0, zero', c.in_range.least_words)
 
 -- the object that a name names
-named_object : (g : Graph) (name : Name) (o : Object) → g.object name ≡ Some o → named g (Some name) ≡ o
+pub named_object : (g : Graph) (name : Name) (o : Object) → g.object name ≡ Some o → named g (Some name) ≡ o
 named_object g name o is = ap (λ (found : Option Object). unwrap_or found (record { refs = []; nums = [] })) is
 
 module _ (c : Config) (top heap : ℕ → ℕ) (block : Plot) (now : ℕ → ℕ) (IsRoot : ℕ → Type 0) (g : Graph) (holds : HoldsGraph c top heap block now IsRoot g) where

@@ -4,3 +4,4 @@ pub mod Pack
 pub mod Full
 pub mod Laws
 pub mod Served
+pub mod Promised

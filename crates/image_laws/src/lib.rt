@@ -2,6 +2,7 @@
 #![tactic(auto)]
 
 ghost use Rattle.image_laws.specs.Laws.{ReachableAreHeld, PackingKeepsGraph, KeptAreHeld};
+ghost use Rattle.image_laws.specs.Promised.{KeptAreLive, KeptAreLiveOrPromised};
 ghost use Rattle.image_laws.specs.Served.{ServingAnswers};
 
 /// A law: what root words lead to, by current copies, are exactly the current copies of the objects that the graph
@@ -25,4 +26,15 @@ pub fn kept_are_held()
 /// where no region has.
 pub fn serving_answers()
     ensures { ServingAnswers }
+{}
+
+/// A law: what is kept has no more words than what the graph reaches.
+pub fn kept_are_live()
+    ensures { KeptAreLive }
+{}
+
+/// A law: where threads have objects that they have not taken yet, what is kept has no more words than what the graph
+/// reaches and those objects.
+pub fn kept_are_live_or_promised()
+    ensures { KeptAreLiveOrPromised }
 {}
