@@ -3,6 +3,7 @@ pub mod Updates
 pub mod Pointing
 pub mod Apart
 pub mod Pieces
+pub mod Joined
 pub mod NewPiece
 pub mod FreeRegions
 pub mod Objects

@@ -1,15 +1,14 @@
 -- The list of what is found by so many turns: it has exactly what roots and fields lead to, once the turns are as many as
 -- there are addresses.
-use Rattle.std.proofs.Common.{◌≡◌, ◌≢◌, ℕ, ◌+◌, ◌-◌, ◌<◌, ◌≤◌, ◌⊎◌, ◌==◌, ◌||◌, Bool, true, false, zero, suc, List, [], ◌∷◌, ◌++◌, length, get_or, slice_get, map, nat_eq, Option, Some, None, inl, inr, ⊎_elim, refl, sym, ap, ◌∙◌, subst, arith, length-append}
+use Rattle.std.proofs.Common.{◌≡◌, ◌≢◌, ℕ, ◌+◌, ◌<◌, ◌≤◌, ◌==◌, ◌||◌, true, zero, suc, List, [], ◌∷◌, ◌++◌, length, slice_get, map, nat_eq, Option, Some, None, ⊎_elim, refl, sym, ap, ◌∙◌, subst, arith, length-append}
 use Rattle.std.specs.List.{range_with_len, IsDistinct}
-use Rattle.std.proofs.lemmas.Bool.{cond_both, cases_Bool, cases_lt, cases_eq, or_cases, or_left, or_right, or_parts, eqb-true, eq-eqb, false≢true, true≢false}
+use Rattle.std.proofs.lemmas.Bool.{cond_both, cases_lt, cases_eq, or_cases, or_left, or_right, or_parts, eqb-true, eq-eqb, false≢true}
 use Rattle.std.proofs.lemmas.Cmp.{nat_eq_equiv}
 use Rattle.std.proofs.lemmas.List.{append-nil}
-use Rattle.std.proofs.lemmas.List.FromFn.{length-range_with_len, get_or-range_with_len}
-use Rattle.std.proofs.lemmas.List.Folds.{list_any_at}
+use Rattle.std.proofs.lemmas.List.FromFn.{length-range_with_len}
 use Rattle.std.proofs.lemmas.Map.Keys.{IsDistinct-push, IsDistinct-from_apart}
 use Rattle.std.proofs.lemmas.Map.Made.{length-le_from_is_member}
-use Rattle.std.proofs.lemmas.Option.{slice_get_within, slice_get-get_or, none-some, same_Some}
+use Rattle.std.proofs.lemmas.Option.{slice_get_within, none-some, same_Some}
 use Rattle.heap_graph.specs.Walk.{has, with_address, with_addresses}
 use Rattle.heap_graph.proofs.Marks.{has-range, kept, new, only, prefix}
 use Rattle.image_laws.specs.Held.{with_fields, found_in}

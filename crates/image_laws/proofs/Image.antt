@@ -1,5 +1,5 @@
 -- The image after packing stands for the same graph.
-use Rattle.std.proofs.Common.{◌≡◌, ◌≢◌, ℕ, ◌+◌, ◌*◌, ◌<◌, ◌≤◌, ◌==◌, nat_le, cond, Option, Some, None, List, true, refl, sym, ap, ◌∙◌, subst, arith}
+use Rattle.std.proofs.Common.{◌≡◌, ℕ, nat_le, Some, List, refl, sym, ◌∙◌, arith}
 use Rattle.std.proofs.lemmas.Bool.{cond-true, le-leb}
 use Rattle.heap_words.specs.declared.config.Config.{Config}
 use Rattle.heap_words.specs.Words.{Word, Top, Heap, Wait, Answer}
@@ -9,11 +9,11 @@ use Rattle.sliding.specs.Slide.{renewed, slid}
 use Rattle.sliding.proofs.Slid.{slid_is}
 use Rattle.shen_graph.specs.declared.name.Name.{Name}
 use Rattle.shen_graph.specs.Graph.{Graph, Object}
-use Rattle.heap_world.specs.World.{World, Plot, thing, hand, AreObjects, IsGiven, AreUnasked, Shared}
-use Rattle.image_laws.specs.Held.{IsHeld, from_root, IsAmong}
+use Rattle.heap_world.specs.World.{Plot, thing, hand, AreObjects, IsGiven, AreUnasked, Shared}
+use Rattle.image_laws.specs.Held.{from_root, IsAmong}
 use Rattle.image_laws.specs.Plot.{heap_end, packed_block, packed_top}
 use Rattle.image_laws.specs.Pack.{CanPack}
-use Rattle.image_laws.specs.Full.{packed, renewed_answer}
+use Rattle.image_laws.specs.Full.{packed}
 use Rattle.image_laws.specs.Laws.{packed_world, IsBeforePacking, KeepsGraph}
 use Rattle.image_laws.proofs.Reached.{can_pack}
 use Rattle.image_laws.proofs.Origin.{kept_inside, lie_apart, block_from}

@@ -9,3 +9,8 @@ pub mod Walked
 pub mod Served
 pub mod Live
 pub mod Promised
+pub mod Roots
+pub mod Standing
+pub mod Made
+pub mod Serving
+pub mod Crowded

@@ -1,12 +1,12 @@
 -- What is kept has no more words than what the graph reaches.
-use Rattle.std.proofs.Common.{◌≡◌, ◌≢◌, ℕ, ◌+◌, ◌-◌, ◌<◌, ◌≤◌, ◌⊎◌, List, length, get_or, sum_by, Option, Some, None, refl, sym, ap, ◌∙◌, subst, arith}
+use Rattle.std.proofs.Common.{◌≡◌, ℕ, ◌+◌, ◌<◌, ◌≤◌, List, length, get_or, sum_by, Some, sym, ap, ◌∙◌, arith}
 use Rattle.std.proofs.lemmas.List.{get_or_default}
 use Rattle.heap_words.specs.declared.config.Config.{Config}
 use Rattle.heap_words.specs.Encoding.{object_words}
 use Rattle.packing.specs.Tops.{sum_below}
 use Rattle.packing.proofs.Sums.{sum_of_things, sum_by_index}
 use Rattle.shen_graph.specs.declared.name.Name.{Name}
-use Rattle.shen_graph.specs.Graph.{Graph, Object, named, hub}
+use Rattle.shen_graph.specs.Graph.{Graph, named, hub}
 use Rattle.shen_graph.specs.Reach.{IsReachable, IsReach, size}
 use Rattle.heap_world.specs.World.{Plot, thing}
 use Rattle.image_laws.specs.Held.{IsHeld, AreKept, HoldsGraph}

@@ -1,8 +1,8 @@
 -- Which kept object is placed at an address.
-use Rattle.std.proofs.Common.{◌≡◌, ◌≢◌, ℕ, ◌+◌, ◌-◌, ◌*◌, ◌%◌, ◌<◌, ◌≤◌, ◌⊎◌, ◌==◌, ◌&&◌, inl, inr, nat_lt, true, false, zero, suc, cond, Option, Some, None, ⊎_elim, refl, sym, ap, ◌∙◌, subst, arith}
+use Rattle.std.proofs.Common.{◌≡◌, ◌≢◌, ℕ, ◌+◌, ◌-◌, ◌*◌, ◌%◌, ◌<◌, ◌≤◌, ◌==◌, ◌&&◌, nat_lt, true, false, zero, suc, cond, Option, Some, None, ⊎_elim, refl, sym, ap, ◌∙◌, subst, arith}
 use Rattle.std.specs.Prelude.{option_and_then}
-use Rattle.std.proofs.lemmas.Bool.{true≢false, cond-true, cond-false, cases_eq, cases_Bool, and_from, and_parts, lt-ltb, ltb-true, eq-eqb, eqb-true}
-use Rattle.std.proofs.lemmas.Nat.{mod-mul-add, mul-le}
+use Rattle.std.proofs.lemmas.Bool.{true≢false, cond-true, cond-false, cases_Bool, and_from, and_parts, lt-ltb, ltb-true, eq-eqb, eqb-true}
+use Rattle.std.proofs.lemmas.Nat.{mod-mul-add}
 use Rattle.std.proofs.lemmas.Option.{none-some, same_Some}
 use Rattle.heap_words.specs.declared.config.Config.{Config}
 use Rattle.regions.specs.Place.{base_of}
@@ -51,7 +51,7 @@ origin_found w kept lie (suc e) a some below = ⊎_elim
     let differs : a ≢ e = λ same.
     let begins : 0 < kept e = subst (λ k. 0 < kept k) same some in
     let test = and_from (nat_lt 0 (kept e)) (new_place w kept e == new_place w kept a) (lt-ltb 0 (kept e) begins)
-        (eq-eqb (new_place w kept e) (new_place w kept a) (ap (new_place w kept) (sym same))) in
+    (eq-eqb (new_place w kept e) (new_place w kept a) (ap (new_place w kept) (sym same))) in
     true≢false (sym test ∙ other)
     in
     origin_next w kept (new_place w kept a) e

@@ -1,15 +1,15 @@
 -- Exactly the reachable objects are held.
-use Rattle.std.proofs.Common.{◌≡◌, ◌≢◌, ℕ, ◌+◌, ◌<◌, ◌≤◌, length, get_or, Option, Some, None, List, [], slice_get, unwrap_or, refl, sym, ap, ◌∙◌, subst, arith}
+use Rattle.std.proofs.Common.{◌≡◌, ◌≢◌, ℕ, ◌+◌, ◌<◌, ◌≤◌, get_or, Option, Some, None, [], slice_get, unwrap_or, sym, ap, ◌∙◌, arith}
 use Rattle.std.proofs.lemmas.Option.{slice_get_within, slice_get-get_or}
 use Rattle.heap_words.specs.declared.config.Config.{Config}
-use Rattle.heap_words.specs.Encoding.{shape_word, refs_in, nums_in, object_words}
+use Rattle.heap_words.specs.Encoding.{shape_word, refs_in, object_words}
 use Rattle.shen_graph.specs.declared.name.Name.{Name}
 use Rattle.shen_graph.specs.Graph.{Graph, Object, Reference, named}
 use Rattle.shen_graph.specs.Reach.{IsReachable}
 use Rattle.shen_graph.specs.Reach as reach
-use Rattle.heap_world.specs.World.{Plot, thing, name_at, Points, IsPlotted, IsObject}
+use Rattle.heap_world.specs.World.{Plot, thing, name_at, IsPlotted}
 use Rattle.heap_world.proofs.Pointing.{piece_inside, named_thing, named_if_not_0}
-use Rattle.image_laws.specs.Held.{IsHeld, from_root, from_field, AreKept, IsCopy, HoldsGraph}
+use Rattle.image_laws.specs.Held.{IsHeld, from_root, from_field, AreKept, HoldsGraph}
 use Rattle.image_laws.specs.Laws.{HeldAreReachable}
 use Rattle.image_laws.specs.Pack.{CanPack}
 

@@ -1,19 +1,19 @@
 -- The turns of the waiting threads, by the words of the image.
-use Rattle.std.proofs.Common.{◌≡◌, ◌≢◌, ℕ, ◌+◌, ◌-◌, ◌*◌, ◌<◌, ◌≤◌, ◌==◌, ◌⊎◌, inl, inr, zero, suc, cond, true, Option, Some, None, ⊎_elim, refl, sym, ap, ◌∙◌, subst, arith}
+use Rattle.std.proofs.Common.{◌≡◌, ◌≢◌, ℕ, ◌+◌, ◌-◌, ◌*◌, ◌<◌, ◌≤◌, ◌==◌, ◌⊎◌, inl, inr, zero, suc, cond, Option, Some, None, ⊎_elim, refl, sym, ap, ◌∙◌, arith}
 use Rattle.std.proofs.lemmas.Bool.{cond-true, cond-false, cases_eq, eq-eqb, ne_eqb}
 use Rattle.heap_words.specs.declared.config.Config.{Config}
 use Rattle.heap_words.specs.Words.{Word, Top, Wait, Answer}
 use Rattle.heap_words.specs.Encoding.{object_words, request_shape_in}
 use Rattle.regions.specs.Place.{base_of}
 use Rattle.packing.specs.Tops.{sum_below}
-use Rattle.packing.specs.Rooms.{lowest_room, taken_in, tops_served, room_at_turn, granted, HasNoRoom, IsLowestRoom}
+use Rattle.packing.specs.Rooms.{lowest_room, taken_in, tops_served, room_at_turn, HasNoRoom, IsLowestRoom}
 use Rattle.packing.proofs.Sums.{sum_same}
-use Rattle.packing.proofs.Rooms.{none_has_room, all_full, has_room, lowest_is, same_room, served_next, served_none, served_is, refused_among_granted, taken_here, taken_elsewhere}
+use Rattle.packing.proofs.Rooms.{none_has_room, all_full, has_room, lowest_is, same_room, served_next, served_none, served_is, refused_among_granted}
 use Rattle.image_laws.specs.Full.{asked_in, made_in, served_in, room_for, served, refused}
 use Rattle.image_laws.specs.Served.{tops_at_turn, given_in, IsAnswered, RequestsAreAnswered}
 
 -- one turn
-served_first : (c : Config) (m : Word → ℕ) (word : Word) → served c m 0 word ≡ m word
+pub served_first : (c : Config) (m : Word → ℕ) (word : Word) → served c m 0 word ≡ m word
 unfolding served
 served_first c m word = refl
 
@@ -22,10 +22,10 @@ turn : (c : Config) (m : Word → ℕ) (t : ℕ) (word : Word)
 unfolding served
 turn c m t word = refl
 
-turn_idle : (c : Config) (m : Word → ℕ) (t : ℕ) (word : Word) → served c m t (Wait t) ≡ 0 → served c m (suc t) word ≡ served c m t word
+pub turn_idle : (c : Config) (m : Word → ℕ) (t : ℕ) (word : Word) → served c m t (Wait t) ≡ 0 → served c m (suc t) word ≡ served c m t word
 turn_idle c m t word none = turn c m t word ∙ cond-true (served c m t (Wait t) == 0) (served c m t word) (served_in c (served c m t) t (room_for c (served c m t) t) word) (eq-eqb (served c m t (Wait t)) 0 none)
 
-turn_waits : (c : Config) (m : Word → ℕ) (t : ℕ) (word : Word) → served c m t (Wait t) ≢ 0
+pub turn_waits : (c : Config) (m : Word → ℕ) (t : ℕ) (word : Word) → served c m t (Wait t) ≢ 0
     → served c m (suc t) word ≡ served_in c (served c m t) t (room_for c (served c m t) t) word
 turn_waits c m t word some = turn c m t word ∙ cond-false (served c m t (Wait t) == 0) (served c m t word) (served_in c (served c m t) t (room_for c (served c m t) t) word) (ne_eqb (served c m t (Wait t)) 0 some)
 
@@ -33,19 +33,19 @@ turn_waits c m t word some = turn c m t word ∙ cond-false (served c m t (Wait 
 wait_of_other : (c : Config) (m : Word → ℕ) (t u : ℕ) (o : Option ℕ) → u ≢ t → served_in c m t o (Wait u) ≡ m (Wait u)
 unfolding made_in
 wait_of_other c m t u None other = refl
-wait_of_other c m t u (Some r) other = cond-false (u == t) 0 (m (Wait u)) (ne_eqb u t other)
+wait_of_other c m t u (Some r) other = cond-false (t == u) 0 (m (Wait u)) (ne_eqb t u (λ e. other (sym e)))
 
 answer_of_other : (c : Config) (m : Word → ℕ) (t u : ℕ) (o : Option ℕ) → u ≢ t → served_in c m t o (Answer u) ≡ m (Answer u)
 unfolding made_in
 answer_of_other c m t u None other = refl
-answer_of_other c m t u (Some r) other = cond-false (u == t) (base_of c r + m (Top r)) (m (Answer u)) (ne_eqb u t other)
+answer_of_other c m t u (Some r) other = cond-false (t == u) (base_of c r + m (Top r)) (m (Answer u)) (ne_eqb t u (λ e. other (sym e)))
 
 -- and to its own, where room is found
-own_wait : (c : Config) (m : Word → ℕ) (t r : ℕ) → served_in c m t (Some r) (Wait t) ≡ 0
+pub own_wait : (c : Config) (m : Word → ℕ) (t r : ℕ) → served_in c m t (Some r) (Wait t) ≡ 0
 unfolding made_in
 own_wait c m t r = cond-true (t == t) 0 (m (Wait t)) (eq-eqb t t refl)
 
-own_answer : (c : Config) (m : Word → ℕ) (t r : ℕ) → served_in c m t (Some r) (Answer t) ≡ base_of c r + m (Top r)
+pub own_answer : (c : Config) (m : Word → ℕ) (t r : ℕ) → served_in c m t (Some r) (Answer t) ≡ base_of c r + m (Top r)
 unfolding made_in
 own_answer c m t r = cond-true (t == t) (base_of c r + m (Top r)) (m (Answer t)) (eq-eqb t t refl)
 
@@ -60,9 +60,10 @@ turn_of_other : (c : Config) (m : Word → ℕ) (t u : ℕ) → u ≢ t
     → (served c m (suc t) (Wait u) ≡ served c m t (Wait u)) × (served c m (suc t) (Answer u) ≡ served c m t (Answer u))
 turn_of_other c m t u other = ⊎_elim
     (λ (none : served c m t (Wait t) ≡ 0). (turn_idle c m t (Wait u) none, turn_idle c m t (Answer u) none))
-    (λ (some : served c m t (Wait t) ≢ 0).
-    (turn_waits c m t (Wait u) some ∙ wait_of_other c (served c m t) t u (room_for c (served c m t) t) other,
-    turn_waits c m t (Answer u) some ∙ answer_of_other c (served c m t) t u (room_for c (served c m t) t) other))
+    (λ (some : served c m t (Wait t) ≢ 0). (
+      turn_waits c m t (Wait u) some ∙ wait_of_other c (served c m t) t u (room_for c (served c m t) t) other,
+      turn_waits c m t (Answer u) some ∙ answer_of_other c (served c m t) t u (room_for c (served c m t) t) other,
+    ))
     (cases_eq (served c m t (Wait t)) 0)
 
 -- so before its turn a thread's words are as they were
@@ -88,9 +89,9 @@ after_turn c m (suc n) u earlier = ⊎_elim
 taken_none : (top : ℕ → ℕ) (o : Option ℕ) (q : ℕ) → taken_in top 0 o q ≡ top q
 taken_none top None q = refl
 taken_none top (Some r) q = ⊎_elim
-    (λ (here : q ≡ r). let one = cond-true (q == r) (top q + 0) (top q) (eq-eqb q r here) in omega (arith, one))
-    (λ (other : q ≢ r). cond-false (q == r) (top q + 0) (top q) (ne_eqb q r other))
-    (cases_eq q r)
+    (λ (here : r ≡ q). let one = cond-true (r == q) (top r + 0) (top q) (eq-eqb r q here) in let same : top r ≡ top q = ap top here in omega (arith, one, same))
+    (λ (other : r ≢ q). cond-false (r == q) (top r + 0) (top q) (ne_eqb r q other))
+    (cases_eq r q)
 
 module _ (c : Config) (m : Word → ℕ) where
   abbrev asked : ℕ → ℕ
@@ -126,19 +127,19 @@ module _ (c : Config) (m : Word → ℕ) where
       turn_waits c m t (Top q) (λ zero'. some (sym wait ∙ zero'))
       ∙ turn_top c (served c m t) t q (room_for c (served c m t) t)
       ∙ ap (λ n. taken_in (λ r. served c m t (Top r)) n (room_for c (served c m t) t) q) (sym (asks t some))
-      ∙ taken_same (λ r. served c m t (Top r)) (tops t) (asked t) (room_for c (served c m t) t) q (tops_are_served t q)
+      ∙ taken_same (λ r. served c m t (Top r)) (tops t) (asked t) (room_for c (served c m t) t) q (λ r. tops_are_served t r)
       ∙ ap (λ o. taken_in (tops t) (asked t) o q) (found t some (λ r. tops_are_served t r))
       ∙ sym (served_next c.region_words c.regions asked top t q))
       (cases_eq (m (Wait t)) 0)
-      where
-        taken_same : (one other : ℕ → ℕ) (n : ℕ) (o : Option ℕ) (k : ℕ) → one k ≡ other k → taken_in one n o k ≡ taken_in other n o k
-        taken_same one other n None k same = same
-        taken_same one other n (Some r) k same = ap (λ j. cond (k == r) (j + n) j) same
+    where
+      taken_same : (one other : ℕ → ℕ) (n : ℕ) (o : Option ℕ) (k : ℕ) → ((r : ℕ) → one r ≡ other r) → taken_in one n o k ≡ taken_in other n o k
+      taken_same one other n None k same = same k
+      taken_same one other n (Some r) k same = ap (λ j. cond (r == k) (j + n) (one k)) (same r) ∙ ap (λ j. cond (r == k) (other r + n) j) (same k)
 
-        found : (u : ℕ) → m (Wait u) ≢ 0 → ((r : ℕ) → served c m u (Top r) ≡ tops u r) → room_for c (served c m u) u ≡ room_at_turn c.region_words c.regions asked top u
-        found u some same =
-            ap (λ n. lowest_room c.region_words (λ r. served c m u (Top r)) n c.regions) (sym (asks u some))
-            ∙ same_room c.region_words (λ r. served c m u (Top r)) (tops u) (asked u) c.regions (λ r _. same r)
+      found : (u : ℕ) → m (Wait u) ≢ 0 → ((r : ℕ) → served c m u (Top r) ≡ tops u r) → room_for c (served c m u) u ≡ room_at_turn c.region_words c.regions asked top u
+      found u some same =
+          ap (λ n. lowest_room c.region_words (λ r. served c m u (Top r)) n c.regions) (sym (asks u some))
+          ∙ same_room c.region_words (λ r. served c m u (Top r)) (tops u) (asked u) c.regions (λ r _. same r)
 
   -- a thread's words at the end are those after its own turn
   final_answer : (t : ℕ) → refused (served c m c.mutators) (Answer t) ≡ cond (served c m c.mutators (Wait t) == 0) (served c m c.mutators (Answer t)) 1

@@ -1,5 +1,5 @@
 -- The objects after packing are the graph's objects, and words that stood for them stand for them.
-use Rattle.std.proofs.Common.{◌≡◌, ◌≢◌, ℕ, ◌+◌, ◌-◌, ◌<◌, ◌≤◌, ◌==◌, ◌&&◌, nat_le, nat_lt, true, false, cond, length, Option, Some, None, slice_get, ⊎_elim, refl, sym, ap, ◌∙◌, subst, arith}
+use Rattle.std.proofs.Common.{◌≡◌, ◌≢◌, ℕ, ◌+◌, ◌<◌, ◌==◌, ◌&&◌, nat_le, nat_lt, cond, Option, Some, None, refl, sym, ap, ◌∙◌, subst, arith}
 use Rattle.std.proofs.lemmas.Bool.{cond-true, cond-false, eq-eqb, ne_eqb, and_from, and_left, and_right, le-leb, lt-leb, lt-ltb, le-ltb}
 use Rattle.std.proofs.lemmas.Option.{slice_get_within}
 use Rattle.heap_words.specs.declared.config.Config.{Config}
@@ -8,12 +8,11 @@ use Rattle.packing.specs.Places.{new_place}
 use Rattle.sliding.specs.Slide.{renewed, placed_word, slid_word, IsSlidTo}
 use Rattle.shen_graph.specs.declared.name.Name.{Name}
 use Rattle.shen_graph.specs.Graph.{Object, Reference}
-use Rattle.heap_world.specs.World.{Block, thing, words_of, Plot, name_at, Points, IsObject, AreObjects}
-use Rattle.heap_world.proofs.Pointing.{named_thing}
+use Rattle.heap_world.specs.World.{thing, Plot, name_at, Points, IsObject, AreObjects}
 use Rattle.image_laws.specs.Plot.{heap_end, packed_block}
 use Rattle.image_laws.specs.Pack.{CanPack}
 use Rattle.image_laws.proofs.Reached.{none_at_0, refs_read}
-use Rattle.image_laws.proofs.Origin.{kept_inside, block_at, IsFrom, block_from}
+use Rattle.image_laws.proofs.Origin.{kept_inside, block_at, block_from}
 
 -- the words of an object in its new place, by their index
 pub word_stays : (renew : ℕ → ℕ) (refs index word : ℕ) → index ≢ 0 → (index < 3) → placed_word renew refs index word ≡ word

@@ -98,17 +98,17 @@ asked_in memory t = if memory (Wait t) == 0 then 0 else object_words (request_sh
 abbrev pub fresh_word : (address shape name before x : ℕ) → ℕ
 fresh_word address shape name before x =
     if nat_le address x && nat_lt x (address + object_words shape) then
-        (if x == address then plain_header else (if x == address + 1 then shape else (if x == address + 2 then name else 0)))
+    (if address == x then plain_header else (if address + 1 == x then shape else (if address + 2 == x then name else 0)))
     else before
 
 -- the words after the object that a thread asks for was made at the top of a region
 unfoldable pub made_in : Config → (Word → ℕ) → (thread region : ℕ) → Word → ℕ
 made_in c memory t r (Heap x) =
     fresh_word (base_of c r + memory (Top r)) (request_shape_in (memory (Wait t))) (name_code (t + 1) (request_count_in (memory (Wait t)))) (memory (Heap x)) x
-made_in c memory t r (Top q) = if q == r then memory (Top q) + object_words (request_shape_in (memory (Wait t))) else memory (Top q)
+made_in c memory t r (Top q) = if r == q then memory (Top r) + object_words (request_shape_in (memory (Wait t))) else memory (Top q)
 made_in c memory t r Free = bit_and (memory Free) (all_but r)
-made_in c memory t r (Answer u) = if u == t then base_of c r + memory (Top r) else memory (Answer u)
-made_in c memory t r (Wait u) = if u == t then 0 else memory (Wait u)
+made_in c memory t r (Answer u) = if t == u then base_of c r + memory (Top r) else memory (Answer u)
+made_in c memory t r (Wait u) = if t == u then 0 else memory (Wait u)
 made_in c memory t r word = memory word
 
 -- and where no region was found, as they were

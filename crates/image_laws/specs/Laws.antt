@@ -1,5 +1,5 @@
 -- That packing keeps exactly what the graph reaches, and keeps the graph.
-use Rattle.std.specs.Prelude.{ℕ, ◌≡◌, ◌+◌, ◌<◌, Some, None, List}
+use Rattle.std.specs.Prelude.{ℕ, ◌≡◌, Some, None, List}
 use Rattle.heap_words.specs.declared.config.Config.{Config}
 use Rattle.heap_words.specs.Words.{Word, Free, Top, Heap, Wait, Answer}
 use Rattle.packing.specs.Tops.{sum_below}

@@ -5,3 +5,5 @@ pub mod Full
 pub mod Laws
 pub mod Served
 pub mod Promised
+pub mod Image
+pub mod Serving

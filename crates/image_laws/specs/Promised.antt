@@ -1,5 +1,5 @@
 -- Objects that threads were given and have not taken yet: each is held by an answer, and is no object of the program's graph.
-use Rattle.std.specs.Prelude.{ℕ, ◌≡◌, ◌+◌, ◌*◌, ◌≤◌, ◌==◌, if◌then◌else◌, Some, None, List, sum_by}
+use Rattle.std.specs.Prelude.{ℕ, ◌≡◌, ◌+◌, ◌≤◌, ◌==◌, if◌then◌else◌, Some, None, List, sum_by}
 use Rattle.heap_words.specs.declared.config.Config.{Config}
 use Rattle.packing.specs.Tops.{sum_below}
 use Rattle.shen_graph.specs.declared.name.Name.{Name}

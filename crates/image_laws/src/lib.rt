@@ -1,9 +1,11 @@
 //! What a full collection does to the graph: laws about the image of a heap, as theorems and no code.
 #![tactic(auto)]
 
+ghost use Rattle.image_laws.specs.Image.{StandingHolds, PackedStands};
 ghost use Rattle.image_laws.specs.Laws.{ReachableAreHeld, PackingKeepsGraph, KeptAreHeld};
 ghost use Rattle.image_laws.specs.Promised.{KeptAreLive, KeptAreLiveOrPromised};
 ghost use Rattle.image_laws.specs.Served.{ServingAnswers};
+ghost use Rattle.image_laws.specs.Serving.{ServingStands, FullStands, FullIsCrowded};
 
 /// A law: what root words lead to, by current copies, are exactly the current copies of the objects that the graph
 /// reaches.
@@ -37,4 +39,30 @@ pub fn kept_are_live()
 /// reaches and those objects.
 pub fn kept_are_live_or_promised()
     ensures { KeptAreLiveOrPromised }
+{}
+
+/// A law: words that stand for a graph, with no old copies, hold it by current copies.
+pub fn standing_holds()
+    ensures { StandingHolds }
+{}
+
+/// A law: words that hold a graph by current copies stand for the same graph once what is held was packed.
+pub fn packed_stands()
+    ensures { PackedStands }
+{}
+
+/// A law: serving waiting requests keeps the graph. The objects that are made for them are further promises.
+pub fn serving_stands()
+    ensures { ServingStands }
+{}
+
+/// A law: a full collection keeps the graph that the words of an image hold by current copies.
+pub fn full_stands()
+    ensures { FullStands }
+{}
+
+/// A law: a request is answered that the heap is full only where live objects, promised ones and what was given before it
+/// crowd the regions.
+pub fn full_is_crowded()
+    ensures { FullIsCrowded }
 {}

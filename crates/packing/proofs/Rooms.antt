@@ -116,7 +116,7 @@ pub taken_here : (top : ℕ → ℕ) (n r : ℕ) → taken_in top n (Some r) r �
 taken_here top n r = cond-true (r == r) (top r + n) (top r) (eq-eqb r r refl)
 
 pub taken_elsewhere : (top : ℕ → ℕ) (n r q : ℕ) → q ≢ r → taken_in top n (Some r) q ≡ top q
-taken_elsewhere top n r q differs = cond-false (q == r) (top q + n) (top q) (ne_eqb q r differs)
+taken_elsewhere top n r q differs = cond-false (r == q) (top r + n) (top q) (ne_eqb r q (λ e. differs (sym e)))
 
 -- what is taken is what the sum of the tops grows by
 taken_sum : (top : ℕ → ℕ) (n regions : ℕ) (o : Option ℕ) → ((r : ℕ) → o ≡ Some r → r < regions)
@@ -124,13 +124,13 @@ taken_sum : (top : ℕ → ℕ) (n regions : ℕ) (o : Option ℕ) → ((r : ℕ
 taken_sum top n regions None below =
     let same = sum_same (taken_in top n None) top regions (λ q _. refl) in omega (arith, same)
 taken_sum top n regions (Some r) below =
-    let more : ℕ → ℕ = λ q. if q == r then n else 0 in
+    let more : ℕ → ℕ = λ q. if r == q then n else 0 in
     let split : sum_below (taken_in top n (Some r)) regions ≡ sum_below (λ q. top q + more q) regions =
     sum_same (taken_in top n (Some r)) (λ q. top q + more q) regions (λ q _. ⊎_elim
-    (λ (here : q ≡ r). let one = cond-true (q == r) (top q + n) (top q) (eq-eqb q r here) in let two = cond-true (q == r) n 0 (eq-eqb q r here) in omega (arith, one, two))
-    (λ (differs : q ≢ r). let one = cond-false (q == r) (top q + n) (top q) (ne_eqb q r differs) in let two = cond-false (q == r) n 0 (ne_eqb q r differs) in omega (arith, one, two))
-    (cases_eq q r)) in
-    let one : sum_below more regions ≡ more r = sum_of_one more regions r (below r refl) (λ q _ differs. cond-false (q == r) n 0 (ne_eqb q r differs)) in
+    (λ (here : r ≡ q). let one = cond-true (r == q) (top r + n) (top q) (eq-eqb r q here) in let two = cond-true (r == q) n 0 (eq-eqb r q here) in let same : top r ≡ top q = ap top here in omega (arith, one, two, same))
+    (λ (differs : r ≢ q). let one = cond-false (r == q) (top r + n) (top q) (ne_eqb r q differs) in let two = cond-false (r == q) n 0 (ne_eqb r q differs) in omega (arith, one, two))
+    (cases_eq r q)) in
+    let one : sum_below more regions ≡ more r = sum_of_one more regions r (below r refl) (λ q _ differs. cond-false (r == q) n 0 (ne_eqb r q (λ e. differs (sym e)))) in
     let there : more r ≡ n = cond-true (r == r) n 0 (eq-eqb r r refl) in
     omega (arith, split, sum_both top more regions, one, there)
 

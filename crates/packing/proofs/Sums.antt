@@ -86,11 +86,13 @@ sum_of_things f g (suc n) m pick once =
     let there : one q ≡ g q = cond-true (q == q) (g q) 0 (eq-eqb q q refl) in
     let Picked : ℕ → Type 0 = λ a. (k : ℕ) × (k < m) × (f a ≤ others k) in
     let again : (a : ℕ) → a < n → 0 < f a → Picked a = λ a less some.
-    let at = pick a (later a less) some in
-    (at.0, at.1,
-    (let apart : at.0 ≢ q = λ same. (let one_place = once a n (later a less) some last begins same in omega (arith, one_place, less)) in
-    let kept : others at.0 ≡ g at.0 = cond-false (at.0 == q) 0 (g at.0) (ne_eqb at.0 q apart) in
-    omega (arith, at.2, kept)))
+    let at = pick a (later a less) some in (
+      at.0,
+      at.1,
+      (let apart : at.0 ≢ q = λ same. (let one_place = once a n (later a less) some last begins same in omega (arith, one_place, less)) in
+          let kept : others at.0 ≡ g at.0 = cond-false (at.0 == q) 0 (g at.0) (ne_eqb at.0 q apart) in
+          omega (arith, at.2, kept)),
+    )
     in
     let rest = sum_of_things f others n m again (λ a b less_a some_a less_b some_b same. once a b (later a less_a) some_a (later b less_b) some_b same) in
     omega (arith, rest, split, sum_both others one m, alone, there, mine.2, sum_next f n))

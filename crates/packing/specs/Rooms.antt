@@ -25,7 +25,7 @@ pub record IsLowestRoom (region_words : ℕ) (top : ℕ → ℕ) (words regions 
 -- the tops after so many words were taken in a region, if there is one
 abbrev pub taken_in : (top : ℕ → ℕ) (words : ℕ) → Option ℕ → ℕ → ℕ
 taken_in top words None q = top q
-taken_in top words (Some r) q = if q == r then top q + words else top q
+taken_in top words (Some r) q = if r == q then top r + words else top q
 
 -- the tops after so many requests were served, one after the other, each in the lowest region that has room
 unfoldable pub tops_served : (region_words regions : ℕ) (asked top : ℕ → ℕ) → ℕ → ℕ → ℕ

@@ -3,3 +3,4 @@ pub mod Assigned
 pub mod Slid
 pub mod Moved
 pub mod Checked
+pub mod Followed

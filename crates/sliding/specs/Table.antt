@@ -2,7 +2,7 @@
 use Rattle.std.specs.Prelude.{ℕ, ◌≡◌, ◌≢◌, ◌+◌, ◌-◌, ◌^◌, ◌<◌, ◌≤◌, ◌==◌, ◌&&◌, nat_le, nat_lt, if◌then◌else◌, Bool, false, List, length, slice_index, slice_index_or}
 use Rattle.heap_words.specs.Encoding.{refs_in, object_words, is_forwarded, forwardee_in}
 use Rattle.packing.specs.Places.{LieApart, new_place}
-use Rattle.sliding.specs.Slide.{slid_word}
+use Rattle.sliding.specs.Slide.{slid_word, renewed}
 
 -- the word at an address
 abbrev pub word_of : (first : ℕ) (heap : List ℕ) → ℕ → ℕ
@@ -51,3 +51,23 @@ current_index first heap k =
 -- what begins at an index is its own current copy
 abbrev pub IsCurrent : (first : ℕ) (heap : List ℕ) → ℕ → Type 0
 IsCurrent first heap k = current_index first heap k ≡ k
+
+-- the address of the current copy of what begins at an address, by its header
+abbrev pub now_of : (first : ℕ) (heap : List ℕ) → ℕ → ℕ
+now_of first heap a = if is_forwarded (word_of first heap a) then forwardee_in (word_of first heap a) else a
+
+-- a word is null, or the address of an old or current copy in the heap whose current copy is kept
+abbrev pub LeadsToKept : (first : ℕ) (heap : List ℕ) (marks : List Bool) → ℕ → Type 0
+LeadsToKept first heap marks word =
+    word ≢ 0 → (first ≤ word) × (word < first + length heap) × (0 < kept_of first heap marks (now_of first heap word))
+
+-- What is marked can be packed: marked objects are current copies, and their references lead to marked ones.
+pub record CanCompact (first : ℕ) (heap : List ℕ) (marks : List Bool) : Type 0 where
+  pub marked : IsMarkedHeap first heap marks
+  pub current : (a : ℕ) → 0 < kept_of first heap marks a → now_of first heap a ≡ a
+  pub closed : (a i : ℕ) → 0 < kept_of first heap marks a → i < refs_in (word_of first heap (a + 1)) → LeadsToKept first heap marks (word_of first heap (a + (3 + i)))
+
+-- the table renews a word as it should
+pub record IsRenewedBy (first : ℕ) (heap : List ℕ) (marks : List Bool) (places : List ℕ) (word : ℕ) : Type 0 where
+  pub in_table : IsInTable first places word
+  pub renewed_as : from_table first places word ≡ renewed first (now_of first heap) (kept_of first heap marks) word

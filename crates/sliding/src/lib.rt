@@ -5,13 +5,15 @@
 //! `assign` fills the table and the tops, `follow` gives each old copy the place of its current copy, and `slide` moves
 //! the words and renews the references. Each is one sweep over the addresses and takes no memory. The idea of sliding
 //! compaction is that of the LISP 2 collector; what is different here is that references are renewed while an object
-//! moves, so that words left behind show no renewed reference.
+//! moves, so that words left behind show no renewed reference. `compact_marked` is all three in turn.
 #![tactic(auto)]
 
+mod compact;
 mod copies;
 mod moves;
 mod places;
 
+pub use compact::compact_marked;
 pub use copies::follow;
 pub use moves::{renew, slide, slides_to_one_heap};
 pub use places::{assign, place_behind};
