@@ -38,15 +38,15 @@ pub made_within : (c : Config) (m : Word → ℕ) (t r : ℕ) → AreWithin c m 
     → AreWithin c (made_in c m t r)
 unfolding made_in
 made_within c m t r within room q below = ⊎_elim
-    (λ (here : q ≡ r).
+    (λ (here : r ≡ q).
     let words = object_words (request_shape_in (m (Wait t))) in
-    let grown : made_in c m t r (Top q) ≡ m (Top q) + words = cond-true (q == r) (m (Top q) + words) (m (Top q)) (eq-eqb q r here) in
-    omega (arith, grown, ap (λ k. m (Top k)) here, room))
-    (λ (other : q ≢ r).
+    let grown : made_in c m t r (Top q) ≡ m (Top r) + words = cond-true (r == q) (m (Top r) + words) (m (Top q)) (eq-eqb r q here) in
+    omega (arith, grown, room))
+    (λ (other : r ≢ q).
     let words = object_words (request_shape_in (m (Wait t))) in
-    let same : made_in c m t r (Top q) ≡ m (Top q) = cond-false (q == r) (m (Top q) + words) (m (Top q)) (ne_eqb q r other) in
+    let same : made_in c m t r (Top q) ≡ m (Top q) = cond-false (r == q) (m (Top r) + words) (m (Top q)) (ne_eqb r q other) in
     omega (arith, same, within q below))
-    (cases_eq q r)
+    (cases_eq r q)
 
 -- what the answer for a request of a thread says
 pub found_room : (c : Config) (m : Word → ℕ) (words asked r : ℕ) (result : Option ℕ) → result ≡ lowest_room c.region_words (λ q. m (Top q)) words c.regions

@@ -1,6 +1,5 @@
 -- Stores by the names of words, and what several of them make.
-use Rattle.std.proofs.Common.{◌≡◌, ◌≢◌, ℕ, ◌+◌, ◌<◌, ◌≤◌, ◌&&◌, ◌==◌, nat_le, nat_lt, cond, bit_and, refl, sym, ap, ◌∙◌, subst, ⊎_elim, arith}
-use Rattle.std.proofs.lemmas.Bool.{cond-false, cases_eq, ne_eqb}
+use Rattle.std.proofs.Common.{◌≡◌, ℕ, ◌+◌, ◌<◌, ◌≤◌, ◌&&◌, ◌==◌, nat_le, nat_lt, cond, bit_and, refl, sym, ap, ◌∙◌, subst, arith}
 use Rattle.std.proofs.lemmas.Bool.Decides.{nat_tests}
 use Rattle.std.proofs.Math.Path.{fun_ext}
 use Rattle.heap_words.specs.declared.config.Config.{Config}
@@ -45,19 +44,8 @@ cleared_next a n m = fun_ext (λ w. cleared_next_at a n m w)
 
 heap_made : (a words shape name before x : ℕ) → 3 ≤ words
     → cond (a + 2 == x) name (cond (a + 1 == x) shape (cond (a == x) 1 (cond (nat_le a x && nat_lt x (a + words)) 0 before)))
-    ≡ cond (nat_le a x && nat_lt x (a + words)) (cond (x == a) 1 (cond (x == a + 1) shape (cond (x == a + 2) name 0))) before
+    ≡ cond (nat_le a x && nat_lt x (a + words)) (cond (a == x) 1 (cond (a + 1 == x) shape (cond (a + 2 == x) name 0))) before
 heap_made a words shape name before x some = grind (arith, nat_tests)
-
-swapped : (x y p q : ℕ) → cond (x == y) p q ≡ cond (y == x) p q
-swapped x y p q = grind (arith, nat_tests)
-
-top_grown : (m : ℕ → ℕ) (r q n : ℕ) → cond (r == q) (m r + n) (m q) ≡ cond (q == r) (m q + n) (m q)
-top_grown m r q n = ⊎_elim
-    (λ (here : q ≡ r). subst (λ k. cond (k == q) (m k + n) (m q) ≡ cond (q == k) (m q + n) (m q)) here refl)
-    (λ (other : q ≢ r).
-    cond-false (r == q) (m r + n) (m q) (ne_eqb r q (λ e. other (sym e)))
-    ∙ sym (cond-false (q == r) (m q + n) (m q) (ne_eqb q r other)))
-    (cases_eq q r)
 
 -- the words after these stores
 abbrev pub made_by_stores : (Word → ℕ) → (t r address shape name top free : ℕ) → Word → ℕ
@@ -72,9 +60,6 @@ unfolding made_in
 made_at c m t r (Heap x) =
     heap_made (base_of c r + m (Top r)) (object_words (request_shape_in (m (Wait t)))) (request_shape_in (m (Wait t)))
     (name_code (t + 1) (request_count_in (m (Wait t)))) (m (Heap x)) x (omega arith)
-made_at c m t r (Top q) = top_grown (λ k. m (Top k)) r q (object_words (request_shape_in (m (Wait t))))
-made_at c m t r (Answer u) = swapped t u (base_of c r + m (Top r)) (m (Answer u))
-made_at c m t r (Wait u) = swapped t u 0 (m (Wait u))
 made_at c m t r _ = refl
 
 pub made_steps : (c : Config) (m : Word → ℕ) (t r address shape name top free : ℕ)

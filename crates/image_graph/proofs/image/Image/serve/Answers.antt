@@ -5,6 +5,9 @@ use Rattle.heap_words.specs.Words.{Word, Top, Wait}
 use Rattle.heap_words.specs.Encoding.{object_words, request_shape_in}
 use Rattle.packing.specs.Rooms.{HasNoRoom}
 use Rattle.image_laws.specs.Full.{served, served_in, room_for}
+use Rattle.image_laws.specs.Image.{ImageStands}
+use Rattle.image_laws.specs.Serving.{served_block, served_promises}
+use Rattle.image_laws.proofs.Serving.{served_stands}
 use Rattle.image_graph.specs.State.{config_of, memory_of}
 use Rattle.image_graph.proofs.Turns.{holds_within, served_none, turned, left_at, left_from, IsTold, told_left, told_served}
 use Rattle.image_graph.proofs.image.Image.serve.Goals as goal
@@ -62,3 +65,13 @@ loop-mutator-preserved c =
             (λ left. true≢false (sym yes ∙ c.serve_one.ensures.left.1 (and_back (left_from g m t left)))) c.loop-mutator.invariant.told)
       ];
     }
+
+pub returns-clause-graph : goal.returns-clause-graph
+returns-clause-graph c = λ block g p stands asking.
+    let config = config_of c.args.self.now in
+    let m : Word → ℕ = memory_of c.args.self.now in
+    let all : c.loop-mutator.mutator ≡ config.mutators =
+    omega (arith, c.loop-mutator-test.false, c.loop-mutator.auto.mutator-end, c.mutators-mutator-end.ensures, ap (λ (k : Config). k.mutators) c.config.ensures) in
+    let words : memory_of c.loop-mutator.self ≡ served config m config.mutators = c.loop-mutator.invariant.words ∙ ap (λ n. served config m n) all in
+    subst (λ (k : Word → ℕ). ImageStands config k (served_block config m block config.mutators) g (served_promises config m p config.mutators)) (sym words)
+    (served_stands config g m block p stands asking config.mutators (omega arith))
