@@ -1,0 +1,36 @@
+use Rattle.std.proofs.Common.{◌≡◌, ◌+◌, sym, ap, ◌∙◌, subst, arith}
+use Rattle.heap_words.specs.Words.{Heap, IsWord, write}
+use Rattle.image_graph.specs.State.{config_of, memory_of}
+use Rattle.image_graph.specs.Make.{cleared}
+use Rattle.image_graph.proofs.Steps.{stored, placed_inside, cleared_none, cleared_next}
+use Rattle.image_graph.proofs.image.Image.clear.Goals as goal
+
+pub set_word-requires : goal.set_word-requires
+set_word-requires c =
+    let old = c.args.self.now in
+    let is : IsWord (config_of old) (Heap (c.args.address + c.loop-index.index)) = (omega (arith, c.requires.inside.from), omega (arith, c.requires.inside.to, c.loop-index-test.true)) in
+    placed_inside (config_of c.loop-index.self) c.config-config.result (Heap (c.args.address + c.loop-index.index)) c.heap_at.result
+    (c.loop-index.invariant.config ∙ sym c.config-config.ensures)
+    (subst (λ k. IsWord k (Heap (c.args.address + c.loop-index.index))) (sym c.config-config.ensures) is) c.heap_at.ensures
+
+pub loop-index-init : goal.loop-index-init
+loop-index-init c = record { config = search; words = cleared_none c.args.address (memory_of c.args.self.now) }
+
+pub loop-index-preserved : goal.loop-index-preserved
+loop-index-preserved c =
+    let old = c.args.self.now in
+    let at = c.args.address + c.loop-index.index in
+    let is : IsWord (config_of old) (Heap at) = (omega (arith, c.requires.inside.from), omega (arith, c.requires.inside.to, c.loop-index-test.true)) in
+    let one : memory_of c.set_word.new.self ≡ write (memory_of c.loop-index.self) (Heap at) 0 =
+    stored (config_of c.loop-index.self) c.config-config.result (memory_of c.loop-index.self) (memory_of c.set_word.new.self) (Heap at) c.heap_at.result 0
+    (c.loop-index.invariant.config ∙ sym c.config-config.ensures)
+    (subst (λ k. IsWord k (Heap at)) (sym c.config-config.ensures) is) c.heap_at.ensures c.set_word.ensures.named in
+    record {
+      config = c.set_word.ensures.config ∙ c.loop-index.invariant.config;
+      words = one ∙ ap (λ m. write m (Heap at) 0) c.loop-index.invariant.words ∙ cleared_next c.args.address c.loop-index.index (memory_of old);
+    }
+
+pub returns-clause-words : goal.returns-clause-words
+returns-clause-words c =
+    let all : c.loop-index.index ≡ c.args.words = omega (arith, c.loop-index-test.false, c.loop-index.auto.index-end) in
+    c.loop-index.invariant.words ∙ ap (λ n. cleared c.args.address n (memory_of c.args.self.now)) all

@@ -1,0 +1,58 @@
+use Rattle.std.proofs.Common.{◌≡◌, ◌<◌, ◌+◌, ℕ, bit_and, sym, ap, ◌∙◌, subst, arith}
+use Rattle.heap_words.specs.declared.config.Config.{Config}
+use Rattle.heap_words.specs.Words.{Word, Free, Top, Wait, Answer, Heap, IsWord, word_at, write}
+use Rattle.heap_words.specs.Encoding.{object_words, request_shape_in, request_count_in, name_code}
+use Rattle.regions.specs.Place.{base_of}
+use Rattle.image_graph.specs.State.{config_of, memory_of}
+use Rattle.image_graph.specs.Make.{cleared, AreInHeap}
+use Rattle.image_graph.proofs.Room.{room_in_heap}
+use Rattle.image_graph.proofs.Steps.{stored, made_steps}
+use Rattle.image_graph.proofs.image.Image.make_object.Goals as goal
+
+pub returns-clause-words : goal.returns-clause-words
+returns-clause-words c =
+    let g = c.config-config.result in
+    let t = c.args.mutator in
+    let r = c.args.region in
+    let old : Word → ℕ = memory_of c.args.self.now in
+    let same : g ≡ config_of c.args.self.now = c.config-config.ensures in
+    -- what was read
+    let request : c.word-request.result ≡ old (Wait t) = c.word-request.ensures.named (Wait t) c.requires.mutator (ap (λ (k : Config). word_at k (Wait t)) (sym same) ∙ sym c.wait_at.ensures) in
+    let top : c.word-top.result ≡ old (Top r) = c.word-top.ensures.named (Top r) c.requires.region (ap (λ (k : Config). word_at k (Top r)) (sym same) ∙ sym c.top_at.ensures) in
+    let free : c.word-free.result ≡ old Free = c.word-free.ensures.named Free tt (ap (λ (k : Config). word_at k Free) (sym same) ∙ sym c.free_at.ensures) in
+    let shape : c.request_shape-shape.result ≡ request_shape_in (old (Wait t)) = c.request_shape-shape.ensures ∙ ap request_shape_in request in
+    let base : c.base.result ≡ base_of (config_of c.args.self.now) r = c.base.ensures ∙ ap (λ (k : Config). base_of k r) same in
+    let a : ℕ = c.base.result + c.word-top.result in
+    let address : a ≡ base_of (config_of c.args.self.now) r + old (Top r) = omega (arith, base, top) in
+    let name : c.name_word-name.result ≡ name_code (t + 1) (request_count_in (old (Wait t))) =
+    c.name_word-name.ensures ∙ ap (name_code (t + 1)) (c.request_count.ensures ∙ ap request_count_in request) in
+    let words : c.words_of.result ≡ object_words c.request_shape-shape.result = c.words_of.ensures in
+    -- where it is written
+    let inside : AreInHeap (config_of c.args.self.now) (base_of (config_of c.args.self.now) r + old (Top r)) (object_words (request_shape_in (old (Wait t)))) =
+    room_in_heap (config_of c.args.self.now) r (old (Top r)) (object_words (request_shape_in (old (Wait t)))) c.requires.region c.requires.room in
+    let is_heap : (i : ℕ) → i < 3 → IsWord g (Heap (a + i)) =
+    λ i few. subst (λ (k : Config). IsWord k (Heap (a + i))) (sym same) (omega (arith, inside.from, address), omega (arith, inside.to, address, few)) in
+    let e0 : config_of c.clear.new.self ≡ g = c.clear.ensures.config ∙ sym same in
+    let e1 : config_of c.set_word.new.self ≡ g = c.set_word.ensures.config ∙ e0 in
+    let e2 : config_of c.set_word-2.new.self ≡ g = c.set_word-2.ensures.config ∙ e1 in
+    let e3 : config_of c.set_word-3.new.self ≡ g = c.set_word-3.ensures.config ∙ e2 in
+    let e4 : config_of c.set_word-4.new.self ≡ g = c.set_word-4.ensures.config ∙ e3 in
+    let e5 : config_of c.set_word-5.new.self ≡ g = c.set_word-5.ensures.config ∙ e4 in
+    let e6 : config_of c.set_word-6.new.self ≡ g = c.set_word-6.ensures.config ∙ e5 in
+    let s1 = stored (config_of c.clear.new.self) g _ _ (Heap a) c.heap_at.result 1 e0 (subst (λ (k : Config). IsWord k (Heap a)) (sym same) (omega (arith, inside.from, address), omega (arith, inside.to, address))) c.heap_at.ensures c.set_word.ensures.named in
+    let s2 = stored (config_of c.set_word.new.self) g _ _ (Heap (a + 1)) c.heap_at-2.result c.request_shape-shape.result e1 (is_heap 1 (omega arith)) c.heap_at-2.ensures c.set_word-2.ensures.named in
+    let s3 = stored (config_of c.set_word-2.new.self) g _ _ (Heap (a + 2)) c.heap_at-3.result c.name_word-name.result e2 (is_heap 2 (omega arith)) c.heap_at-3.ensures c.set_word-3.ensures.named in
+    let s4 = stored (config_of c.set_word-3.new.self) g _ _ (Top r) c.top_at-2.result (c.word-top.result + c.words_of-2.result) e3 (subst (λ (k : Config). r < k.regions) (sym same) c.requires.region) c.top_at-2.ensures c.set_word-4.ensures.named in
+    let s5 = stored (config_of c.set_word-4.new.self) g _ _ Free c.free_at-2.result (bit_and c.word-free.result c.all_but.result) e4 tt c.free_at-2.ensures c.set_word-5.ensures.named in
+    let s6 = stored (config_of c.set_word-5.new.self) g _ _ (Answer t) c.answer_at.result a e5 (subst (λ (k : Config). t < k.mutators) (sym same) c.requires.mutator) c.answer_at.ensures c.set_word-6.ensures.named in
+    let s7 = stored (config_of c.set_word-6.new.self) g _ _ (Wait t) c.wait_at-2.result 0 e6 (subst (λ (k : Config). t < k.mutators) (sym same) c.requires.mutator) c.wait_at-2.ensures c.set_word-7.ensures.named in
+    let cleared_is : memory_of c.clear.new.self ≡ cleared a (object_words c.request_shape-shape.result) old = c.clear.ensures.words ∙ ap (λ n. cleared a n old) words in
+    s7 ∙ ap (λ m. write m (Wait t) 0)
+    (s6 ∙ ap (λ m. write m (Answer t) a)
+    (s5 ∙ ap (λ m. write m Free (bit_and c.word-free.result c.all_but.result))
+    (s4 ∙ ap (λ m. write m (Top r) (c.word-top.result + c.words_of-2.result))
+    (s3 ∙ ap (λ m. write m (Heap (a + 2)) c.name_word-name.result)
+    (s2 ∙ ap (λ m. write m (Heap (a + 1)) c.request_shape-shape.result)
+    (s1 ∙ ap (λ m. write m (Heap a) 1) cleared_is))))))
+    ∙ made_steps (config_of c.args.self.now) old t r a c.request_shape-shape.result c.name_word-name.result (c.word-top.result + c.words_of-2.result) (bit_and c.word-free.result c.all_but.result)
+    address shape name (omega (arith, top, c.words_of-2.ensures)) (ap (λ k. bit_and k c.all_but.result) free ∙ ap (bit_and (old Free)) c.all_but.ensures.value)

@@ -1,0 +1,4 @@
+pub mod State
+pub mod Holds
+pub mod Left
+pub mod Make

@@ -1,0 +1,18 @@
+-- Parts of the heap that are written when an object is made.
+use Rattle.std.specs.Prelude.{ℕ, ◌+◌, ◌*◌, ◌<◌, ◌≤◌, ◌&&◌, nat_le, nat_lt, if◌then◌else◌}
+use Rattle.heap_words.specs.declared.config.Config.{Config}
+use Rattle.heap_words.specs.Words.{Word, Top, Heap}
+
+-- a memory after so many words of the heap were cleared, from an address on
+abbrev pub cleared : (address words : ℕ) → (Word → ℕ) → Word → ℕ
+cleared address words memory (Heap x) = if nat_le address x && nat_lt x (address + words) then 0 else memory (Heap x)
+cleared address words memory word = memory word
+
+-- so many words from an address on are of the heap
+pub record AreInHeap (c : Config) (address words : ℕ) : Type 0 where
+  pub from : c.region_words ≤ address
+  pub to : address + words ≤ (c.regions + 1) * c.region_words
+
+-- no region uses more words than it has
+abbrev pub AreWithin : Config → (Word → ℕ) → Type 0
+AreWithin c memory = (r : ℕ) → r < c.regions → memory (Top r) ≤ c.region_words

@@ -1,0 +1,166 @@
+ghost use Rattle.std.specs.Prelude.{◌≡◌, ◌≤◌, length, vec_capacity};
+ghost use Rattle.heap_words.specs.Words.{table_words, heap_size};
+
+use heap_graph::write_graph;
+use heap_words::{Config, NoMemory, forwarded, forwardee, heap_in, roots_in};
+use shen_graph::GraphText;
+use std::alloc::Global;
+
+/// The words of a heap, and where a collection of all of it works. Only `open` takes memory.
+#[derive(Drop)]
+pub struct Image {
+    config: Config,
+    words: Vec<u64>,
+    // For each word of the heap a word of a second heap and a flag, and room for as many addresses: the mark stack.
+    places: Vec<u64>,
+    marks: Vec<bool>,
+    addresses: Vec<u64>,
+    ghost all_words: { length words.items ≡ table_words config },
+    ghost all_places: { length places.items ≡ heap_size config },
+    ghost all_marks: { length marks.items ≡ heap_size config },
+    ghost enough_addresses: { heap_size config ≤ vec_capacity addresses },
+}
+
+impl Image {
+    ghost use Rattle.std.specs.Prelude.{ℕ, ◌<◌, ◌+◌, true, false, slice_set, slice_index, Option, IfOk};
+    ghost use Rattle.heap_words.specs.Words.{Word, Top, Current, Heap, IsWord, word_at, write, heap_in, roots_in};
+    ghost use Rattle.shen_graph.specs.declared.name.Name.{Name};
+    ghost use Rattle.shen_graph.specs.Graph.{Graph};
+    ghost use Rattle.heap_graph.specs.Shows.{Shows, WordsStand, StandForSome};
+    ghost use Rattle.image_laws.specs.Full.{now_in};
+    ghost use Rattle.image_graph.specs.State.{config_of, words_of, memory_of, IsUnchanged, IsSomeSeats};
+
+    /// An image of this configuration whose words are all 0. The error is that memory was refused.
+    pub fn open(alloc: Global, config: Config) -> Result<Image, NoMemory>
+        ensures config { IfOk result (λ image. config_of image ≡ config) }
+        ensures words { IfOk result (λ image. (word : Word) → memory_of image word ≡ 0) }
+    {
+        let Ok(words) = vec![in alloc; 0u64; config.table_words()] else {
+            return Err(NoMemory);
+        };
+        let Ok(places) = vec![in alloc; 0u64; config.heap_size()] else {
+            return Err(NoMemory);
+        };
+        let Ok(marks) = vec![in alloc; false; config.heap_size()] else {
+            return Err(NoMemory);
+        };
+        let Ok(addresses) = Vec::with_capacity(alloc, config.heap_size()) else {
+            return Err(NoMemory);
+        };
+        Ok(Image {
+            config,
+            words,
+            places,
+            marks,
+            addresses,
+        })
+    }
+
+    /// The heap's configuration.
+    pub fn config(&self) -> Config
+        ensures { result ≡ config_of self.now }
+    {
+        self.config
+    }
+
+    /// The word at a place of the table.
+    pub fn word(&self, at: usize) -> u64
+        requires { at < table_words (config_of self.now) }
+        ensures value { result ≡ slice_index (words_of self.now) at }
+        ensures named { (word : Word) → IsWord (config_of self.now) word → word_at (config_of self.now) word ≡ at → result ≡ memory_of self.now word }
+    {
+        self.words[at]
+    }
+
+    /// Puts a value at a place of the table. No other word changes.
+    pub fn set_word(&mut self, at: usize, value: u64)
+        requires { at < table_words (config_of self.old) }
+        ensures config { config_of self.new ≡ config_of self.old }
+        ensures words { words_of self.new ≡ slice_set (words_of self.old) at value }
+        ensures named { (word : Word) → IsWord (config_of self.old) word → word_at (config_of self.old) word ≡ at → memory_of self.new ≡ write (memory_of self.old) word value }
+    {
+        self.words[at] = value;
+    }
+
+    // The top of each region.
+    pub(crate) fn tops(&self) -> &[u64]
+        ensures count { length result.now ≡ (config_of self.now).regions }
+        ensures tops { (r : ℕ) → r < (config_of self.now).regions → slice_index result.now r ≡ memory_of self.now (Top r) }
+    {
+        let start = self.config.top_at(0);
+        &self.words[start..start + self.config.regions()]
+    }
+
+    /// The address of the current copy of the object at an address: the forwardee where the object is forwarded, and
+    /// else the address.
+    pub fn resolve(&self, address: u64) -> u64
+        requires { IsWord (config_of self.now) (Heap address) }
+        ensures { result ≡ now_in (memory_of self.now) address }
+    {
+        let header = self.word(self.config.heap_at(address));
+        if forwarded(header) {
+            forwardee(header)
+        } else {
+            address
+        }
+    }
+
+    /// Up to where, in words from its base, a region was in use when a pause began: its top.
+    pub fn edge(&self, region: usize) -> u64
+        requires { region < (config_of self.now).regions }
+        ensures { result ≡ memory_of self.now (Top region) }
+    {
+        self.word(self.config.top_at(region))
+    }
+
+    /// Whether some seat allocates from the region.
+    pub fn is_current(&self, region: usize) -> bool
+        requires { region < (config_of self.now).regions }
+        ensures yes { result ≡ true → IsSomeSeats (config_of self.now) (memory_of self.now) region }
+        ensures no { result ≡ false → IsSomeSeats (config_of self.now) (memory_of self.now) region → ⊥ }
+    {
+        for seat in 0..self.config.seats() {
+            if self.word(self.config.cur_at(seat)) == region as u64 + 1 {
+                return true;
+            }
+        }
+        false
+    }
+
+    /// Makes the words of room that seats have in hand fit to be walked over, before a pause notes the edges of regions.
+    /// A seat has no such room while its machine waits, so there is nothing to do.
+    pub fn settle(&mut self)
+        ensures { IsUnchanged self.old self.new }
+    {}
+
+    /// Takes from each seat what it holds of a region, before objects are moved. Seats hold nothing but the number of their
+    /// current region, which is let go with the rest of a collection's words, so there is nothing to do.
+    pub fn let_go(&mut self)
+        ensures { IsUnchanged self.old self.new }
+    {}
+
+    /// Writes the graph that the words stand for: the objects that the roots lead to, in the order of their names, and the
+    /// roots of each mutator. Answers are no roots here. What the text held before is gone. It was opened for at least as
+    /// many words as the heap has, and for the heap's mutators. No word of the image changes, and no memory is taken.
+    pub fn answer_graph(&mut self, text: &mut GraphText)
+        requires room { heap_size (config_of self.old) ≤ text.old.room }
+        requires threads { length text.old.roots ≡ (config_of self.old).mutators }
+        requires stand { StandForSome (config_of self.old).region_words (heap_in (config_of self.old) (words_of self.old)) (roots_in (config_of self.old) (words_of self.old)) }
+        ensures unchanged { IsUnchanged self.old self.new }
+        ensures shows { (at : ℕ → Option Name) (g : Graph) → WordsStand (config_of self.old).region_words (heap_in (config_of self.old) (words_of self.old)) (roots_in (config_of self.old) (words_of self.old)) at g
+            → Shows text.new (config_of self.old).mutators g }
+
+        // The same text serves again.
+        ensures same_room { text.new.room ≡ text.old.room }
+        ensures same_threads { length text.new.roots ≡ length text.old.roots }
+    {
+        write_graph(
+            self.config.region_words() as u64,
+            heap_in(self.config, &self.words),
+            roots_in(self.config, &self.words),
+            &mut self.marks,
+            &mut self.addresses,
+            text,
+        );
+    }
+}
