@@ -144,37 +144,40 @@ impl Mutator {
         ensures again { (result ≡ Took.Again) ↔ WaitsAt (config_of self.old) (seen self.old).spot got }
     {
         let order = self.order;
-        let kept = self.kept;
         self.order = Order::Nothing;
-        let (next, says) = match self.spot {
+        match self.spot {
             Spot::Rest | Spot::Ended { .. } => {
                 self.kept.phase = got;
                 if let Order::Begin(command) = order {
                     self.kept.command = command;
                     self.spot = Spot::LoadSet;
                 }
-                (self.spot, Took::More)
             }
             Spot::LoadSet => {
                 self.kept.cset = got;
-                (first_spot(kept), Took::More)
+                self.spot = first_spot(self.kept);
             }
-            Spot::Loading { at } => (at.after(kept, got), Took::More),
-            Spot::OnField { object, at } => (at.after(object, got), at.says(got)),
-            Spot::OnNumber { at, .. } => (at.after(got), Took::More),
-            Spot::Showing { value, at } => (at.after(value, got), Took::More),
-            Spot::StoreRoot { .. } | Spot::AskCycle => {
-                (Spot::Leave { reply: Reply::Ok }, Took::More)
+            Spot::Loading { at } => self.spot = at.after(self.kept, got),
+            Spot::OnField { object, at } => {
+                self.spot = at.after(object, got);
+                return at.says(got);
             }
+            Spot::OnNumber { at, .. } => self.spot = at.after(got),
+            Spot::Showing { value, at } => self.spot = at.after(value, got),
+            Spot::StoreRoot { .. } | Spot::AskCycle => self.spot = Spot::Leave { reply: Reply::Ok },
             Spot::Making { at } => {
                 let made = self.made;
+                let (next, says) = at.after(self.config, self.mutator, made, self.kept, got);
                 self.made = at.made_after(made);
-                at.after(self.config, self.mutator, made, kept, got)
+                self.spot = next;
+                return says;
             }
-            Spot::Leave { reply } => (Spot::Ended { reply }, Took::Done),
-        };
-        self.spot = next;
-        says
+            Spot::Leave { reply } => {
+                self.spot = Spot::Ended { reply };
+                return Took::Done;
+            }
+        }
+        Took::More
     }
 
     /// The reply of the last call, until the next one is ordered.
