@@ -52,24 +52,24 @@ rooted c m blank = record {
 stands : (c : Config) (m : Word → ℕ) → IsBlank c m → ImageStands c m no_block no_graph no_promise
 stands c m blank = record {
   plotted = record {
-      tops = λ r below. omega (arith, blank.tops r);
-      in_use = λ a b is. absurd (none-some b is);
-      apart = λ a b x y is is_other before. absurd (none-some x is);
-    };
+    tops = λ r below. omega (arith, blank.tops r);
+    in_use = λ a b is. absurd (none-some b is);
+    apart = λ a b x y is is_other before. absurd (none-some x is);
+  };
   filled = record {
-      first = λ r below some. absurd (omega (arith, some, blank.tops r));
-      next = λ r a x below from is before. absurd (none-some x is);
-    };
+    first = λ r below some. absurd (omega (arith, some, blank.tops r));
+    next = λ r a x below from is before. absurd (none-some x is);
+  };
   objects = record {
-      each = λ a refs nums name is. absurd (none-some _ is);
-      once = λ a b refs nums more_refs more_nums name is is_other. absurd (none-some _ is);
-    };
+    each = λ a refs nums name is. absurd (none-some _ is);
+    once = λ a b refs nums more_refs more_nums name is is_other. absurd (none-some _ is);
+  };
   no_hands = λ a seat words is. none-some _ is;
   free_word = record {
-      no_more = blank.free;
-      empty = λ r below member. blank.tops r;
-      nobodys = λ r below member. refl;
-    };
+    no_more = blank.free;
+    empty = λ r below member. blank.tops r;
+    nobodys = λ r below member. refl;
+  };
   rooted = rooted c m blank;
 }
 
@@ -89,29 +89,37 @@ asking c m blank t some =
     }
 
 pub blank_holds : (c : Config) (m : Word → ℕ) → IsBlank c m → HoldsSome c m
-blank_holds c m blank = ∣ (no_graph, (no_block, (λ r. None), no_promise, record {
-  objects = standing_holds c m no_block no_graph no_promise (stands c m blank);
-  rooted = rooted c m blank;
-  moved = λ a refs nums name is forwarded. absurd (none-some _ is);
-  filled = (stands c m blank).filled;
-  no_hands = (stands c m blank).no_hands;
-  free_word = (stands c m blank).free_word;
-  currents = record {
-      within = λ seat r is. absurd (omega (arith, is, blank.currents seat));
-      own = λ seat r is. absurd (omega (arith, is, blank.currents seat));
-    };
-  asking = λ t from below some. asking c m blank t some;
-  next = record {
-      asked = λ t below some. let first = blank.waits t some in ap request_count_in first.is ∙ omega (arith, first.few_refs, first.few_nums);
-      promised = λ t name is. absurd (none-some name is);
-      given = λ name o is. absurd (none-some o is);
-    };
-  unreached = record {
-      own = λ t n is. absurd (none-some n is);
-      few = λ t n is. absurd (none-some n is);
-      fresh = λ t n is reached. none-some n is;
-    };
-})) ∣₁
+blank_holds c m blank = ∣ (
+  no_graph,
+  (
+    no_block,
+    (λ r. None),
+    no_promise,
+    record {
+      objects = standing_holds c m no_block no_graph no_promise (stands c m blank);
+      rooted = rooted c m blank;
+      moved = λ a refs nums name is forwarded. absurd (none-some _ is);
+      filled = (stands c m blank).filled;
+      no_hands = (stands c m blank).no_hands;
+      free_word = (stands c m blank).free_word;
+      currents = record {
+        within = λ seat r is. absurd (omega (arith, is, blank.currents seat));
+        own = λ seat r is. absurd (omega (arith, is, blank.currents seat));
+      };
+      asking = λ t from below some. asking c m blank t some;
+      next = record {
+        asked = λ t below some. let first = blank.waits t some in ap request_count_in first.is ∙ omega (arith, first.few_refs, first.few_nums);
+        promised = λ t name is. absurd (none-some name is);
+        given = λ name o is. absurd (none-some o is);
+      };
+      unreached = record {
+        own = λ t n is. absurd (none-some n is);
+        few = λ t n is. absurd (none-some n is);
+        fresh = λ t n is reached. none-some n is;
+      };
+    },
+  ),
+) ∣₁
 
 -- two threads ask for their first objects, and four regions are free
 waits_so : (m : Word → ℕ) (a b t : ℕ) → ((w : Word) → m w ≡ 0) → IsFirst a → IsFirst b
