@@ -5,3 +5,6 @@ mod image;
 mod serve;
 
 pub use image::Image;
+
+#[cfg(test)]
+mod tests;
