@@ -1,5 +1,5 @@
 -- What a walk that has ended gives: its rows fit, differ in their names, and in order show the graph.
-use Rattle.std.proofs.Common.{ℕ, ◌≡◌, ◌+◌, ◌-◌, ◌<◌, ◌≤◌, ◌==◌, true, false, Option, Some, List, length, get_or, map, nat_eq, sum_by, All, Contains, arith, refl, ap, sym, ◌∙◌, subst}
+use Rattle.std.proofs.Common.{ℕ, ◌≡◌, ◌+◌, ◌-◌, ◌<◌, ◌≤◌, true, false, Option, Some, List, length, get_or, map, nat_eq, sum_by, All, Contains, arith, refl, ap, sym, ◌∙◌, subst}
 use Rattle.std.specs.List.{IsDistinct}
 use Rattle.std.specs.List.Sorted.{IsPermutation}
 use Rattle.std.proofs.lemmas.List.{get_or-map, length-map, ext_get_or}
@@ -8,15 +8,16 @@ use Rattle.std.proofs.lemmas.List.Elements.{All-map}
 use Rattle.std.proofs.lemmas.List.Sorted.{All-permutation, Contains-permutation}
 use Rattle.std.proofs.lemmas.Map.Keys.{IsDistinct-from_apart, apart_from_distinct}
 use Rattle.std.proofs.lemmas.Map.Views.{All-from_any, Contains-from_any, exact_unsigned_eq}
-use Rattle.std.proofs.lemmas.Bool.{eq-eqb, eqb-true, eqb-false, and_parts, false_from_ne_true}
+use Rattle.std.proofs.lemmas.Bool.{eq-eqb, eqb-false, false_from_ne_true}
 use Rattle.std.proofs.lemmas.Cmp.{nat_eq_equiv}
+use Rattle.shen_graph.proofs.PlainLemmas.{same_name-true}
 use Rattle.shen_graph.specs.declared.name.Name.{Name}
 use Rattle.shen_graph.specs.Graph.{Graph, Reference, same_name}
-use Rattle.shen_graph.specs.GraphText.{Text, Row, names_of}
+use Rattle.shen_graph.specs.GraphText.{Text, Row, row_in, names_of}
 use Rattle.shen_graph.specs.Reach.{IsReachable, InOrder}
 use Rattle.heap_graph.specs.Walk.{has, refs_at, words_at, Leads, from_root, from_field, IsSound, IsWalk}
 use Rattle.heap_graph.specs.Rows.{IsNamed, name_at, reference_in, row_at, root_word, root_rows}
-use Rattle.heap_graph.specs.Shows.{row_in, Shows, WordsStand}
+use Rattle.heap_graph.specs.Shows.{Shows, WordsStand}
 use Rattle.heap_graph.proofs.Sizes.{sizes_fit, same_functions}
 use Rattle.heap_graph.proofs.Standing.{facts, led_name, name_led, reference_same, row_same}
 
@@ -55,12 +56,6 @@ module _ (first : ℕ) (heap roots : List ℕ) (sound : IsSound first heap roots
         sizes_fit (λ a. words_at heap (a - first)) order first (length heap) walk.once
         (λ a b ha hb. sound.apart a b (walk.led a ha) (walk.led b hb))
         (λ a h. sound.above a (walk.led a h)) (λ a h. sound.below a (walk.led a h))
-
-same_name-true : (n m : Name) → same_name n m ≡ true → n ≡ m
-same_name-true n m h =
-    let p = and_parts (n.thread == m.thread) (n.count == m.count) h in
-    ap (λ t. record { thread = t; count = n.count }) (eqb-true n.thread m.thread p.0)
-    ∙ ap (λ k. record { thread = m.thread; count = k }) (eqb-true n.count m.count p.1)
 
 -- what a function makes of an element is in the list that it makes of the whole
 Contains-map : {A B : Type 0} (f : A → B) (xs : List A) (x : A) → Contains xs x → Contains (map f xs) (f x)

@@ -1,15 +1,11 @@
 -- When a text shows a graph.
-use Rattle.std.specs.Prelude.{ℕ, ◌≡◌, ◌+◌, ◌-◌, Option, Some, List, map, length, slice_index}
+use Rattle.std.specs.Prelude.{ℕ, ◌≡◌, ◌+◌, ◌-◌, Option, List, map, length, slice_index}
 use Rattle.shen_graph.specs.declared.name.Name.{Name}
-use Rattle.shen_graph.specs.Graph.{Graph, named}
-use Rattle.shen_graph.specs.GraphText.{Text, Row, names_of}
+use Rattle.shen_graph.specs.Graph.{Graph}
+use Rattle.shen_graph.specs.GraphText.{Text, row_in, names_of}
 use Rattle.shen_graph.specs.Reach.{IsReach}
 use Rattle.heap_graph.specs.Stands.{Stands}
 use Rattle.heap_graph.specs.Rows.{root_word, root_rows}
-
--- the object of a name, as a row
-abbrev pub row_in : Graph → Name → Row
-row_in g n = record { name = n; refs = (named g (Some n)).refs; nums = (named g (Some n)).nums }
 
 -- The text has the row of each object that can be reached, in the order of names, and no other row, and the roots of
 -- each thread.

@@ -1,6 +1,6 @@
 //! Writes objects and roots as rows.
 
-ghost use Rattle.std.specs.Prelude.{◌≡◌, ◌+◌, ◌-◌, ◌*◌, ◌^◌, ◌<◌, ◌≤◌, ◌++◌, ℕ, All, length, map, sum_by, IsPermutation};
+ghost use Rattle.std.specs.Prelude.{◌≡◌, ◌+◌, ◌-◌, ◌*◌, ◌^◌, ◌<◌, ◌≤◌, ◌++◌, All, length, map, sum_by, IsPermutation};
 ghost use Rattle.std.specs.List.{IsDistinct};
 ghost use Rattle.shen_graph.specs.Graph.{same_name};
 ghost use Rattle.shen_graph.specs.Reach.{InOrder};

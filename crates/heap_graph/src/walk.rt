@@ -1,6 +1,6 @@
 //! Finds the addresses that roots lead to.
 
-ghost use Rattle.std.specs.Prelude.{◌≡◌, ◌+◌, ◌-◌, ◌<◌, ◌≤◌, ◌≢◌, ℕ, All, length, vec_capacity};
+ghost use Rattle.std.specs.Prelude.{◌≡◌, ◌+◌, ◌≤◌, All, length, vec_capacity};
 ghost use Rattle.heap_graph.specs.Walk.{refs_at, words_at, IsSound, IsAmong, IsMarked, IsWalk, with_address, with_addresses};
 
 use heap_words::refs_of;

@@ -1,6 +1,6 @@
 //! Writes the graph that a heap stands for.
 
-ghost use Rattle.std.specs.Prelude.{◌≡◌, ◌+◌, ◌*◌, ◌^◌, ◌<◌, ◌≤◌, ℕ, Option, length, vec_capacity};
+ghost use Rattle.std.specs.Prelude.{◌≡◌, ◌*◌, ◌^◌, ◌<◌, ◌≤◌, ℕ, Option, length, vec_capacity};
 ghost use Rattle.shen_graph.specs.declared.name.Name.{Name};
 ghost use Rattle.shen_graph.specs.Graph.{Graph};
 ghost use Rattle.heap_graph.specs.Shows.{Shows, WordsStand, StandForSome};

@@ -2,3 +2,4 @@ pub mod Bounds
 pub mod Codes
 pub mod Rows
 pub mod Stores
+pub mod Shapes

@@ -130,13 +130,6 @@ view_set c words at value w whole is_at =
     store_other c words at value w is_at differ ∙ sym (cond-false (same_word at w) value (view c words w) differ))
     (cases_Bool (same_word at w))
 
--- a written name reads what was written, and another as before
-pub write_same : (memory : Word → ℕ) (at : Word) (value : ℕ) → write memory at value at ≡ value
-write_same memory at value = cond-true (same_word at at) value (memory at) (same_word_refl at)
-
-pub write_other : (memory : Word → ℕ) (at : Word) (value : ℕ) (w : Word) → same_word at w ≡ false → write memory at value w ≡ memory w
-write_other memory at value w differ = cond-false (same_word at w) value (memory w) differ
-
 -- the store of whole memories
 pub view_set_all : (c : Config) (words : List ℕ) (at : Word) (value : ℕ) → length words ≡ table_words c → IsWord c at → view c (set words (word_at c at) value) ≡ write (view c words) at value
 view_set_all c words at value whole is_at = fun_ext (λ w. view_set c words at value w whole is_at)

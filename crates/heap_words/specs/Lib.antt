@@ -4,3 +4,4 @@ pub mod Encoding
 pub mod Place
 pub mod Words
 pub mod Access
+pub mod Name

@@ -1,5 +1,5 @@
--- The codes of the places.
-use Rattle.std.specs.Prelude.{ℕ, List, [], ◌∷◌}
+-- The codes of the places, by which two places are told apart.
+use Rattle.std.specs.Prelude.{ℕ, Bool, ◌==◌, ◌&&◌, List, [], ◌∷◌, slice_index}
 use Rattle.heap_words.specs.declared.place.Place.{Place}
 use Rattle.heap_words.specs.declared.place.Place.TheVariants.{E1, E2, E3, E4, PH, CS, LV, ML, H0, RL, SH, FL, FS, FX, CX, NL, NS, NM, RS, AK, BC, BL, GO, BZ, BE, BN, TC, TT, TF, TG, TU, TS, IW, WS, WK, WO, WP, WL, WC, HL, XL, XC, SL, CL, CP, HI, HX, GB, XS, OL, OX, XW, HR, MC, EC, UC, KX, MG, MB, MO, MS, MF, ET, ES, EB, UL, UT, US, UB, UF, UH, UX, I0, IE, I1, I2, P1, P2, PL, PS, P3}
 
@@ -86,3 +86,7 @@ code_of P2 = 80 ∷ 50 ∷ []
 code_of PL = 80 ∷ 76 ∷ []
 code_of PS = 80 ∷ 83 ∷ []
 code_of P3 = 80 ∷ 51 ∷ []
+
+-- whether two places are one: no two have one code
+abbrev pub same_place : Place → Place → Bool
+same_place p q = (slice_index (code_of p) 0 == slice_index (code_of q) 0) && (slice_index (code_of p) 1 == slice_index (code_of q) 1)

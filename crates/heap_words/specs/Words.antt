@@ -1,5 +1,5 @@
 -- The names of the words of the table, and where each one stands.
-use Rattle.std.specs.Prelude.{◌≡◌, ℕ, ◌+◌, ◌-◌, ◌*◌, ◌/◌, ◌<◌, ◌≤◌, ◌==◌, ◌&&◌, nat_lt, nat_le, Bool, true, false, if◌then◌else◌, List, length, slice_index, slice_set, ⊤}
+use Rattle.std.specs.Prelude.{◌≡◌, ℕ, ◌+◌, ◌-◌, ◌*◌, ◌/◌, ◌<◌, ◌≤◌, ◌==◌, ◌&&◌, nat_lt, nat_le, Bool, true, false, if◌then◌else◌, List, length, slice_index, slice_set, slice_range, ⊤}
 use Rattle.heap_words.specs.Ranges.{seat_count}
 use Rattle.heap_words.specs.declared.config.Config.{Config}
 
@@ -81,6 +81,14 @@ heap_start config = marks_start config + 2 * bit_words config
 -- the words of the table
 abbrev pub table_words : Config → ℕ
 table_words config = heap_start config + heap_size config
+
+-- the words of the heap in a table, from the first address on
+abbrev pub heap_in : Config → List ℕ → List ℕ
+heap_in config words = slice_range words (heap_start config) (table_words config)
+
+-- the words of the roots in a table, 16 for each mutator
+abbrev pub roots_in : Config → List ℕ → List ℕ
+roots_in config words = slice_range words (roots_start config) (roots_start config + 16 * config.mutators)
 
 -- where a word stands
 abbrev pub word_at : Config → Word → ℕ

@@ -1,4 +1,4 @@
-ghost use Rattle.std.specs.Prelude.{◌≡◌, ◌^◌, ◌<◌};
+ghost use Rattle.std.specs.Prelude.{◌≡◌};
 ghost use Rattle.heap_words.specs.Access.{place_of, made_of};
 
 /// One access of one word of the table, at the place `at`.

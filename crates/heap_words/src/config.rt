@@ -1,4 +1,4 @@
-ghost use Rattle.std.specs.Prelude.{◌≡◌, ◌+◌, IfOk};
+ghost use Rattle.std.specs.Prelude.{◌≡◌, IfOk};
 ghost use Rattle.std.specs.Result.{result_err};
 ghost use Rattle.heap_words.specs.Ranges.{IsInRange, seat_count};
 ghost use Rattle.heap_words.specs.Faults.{fault_of};

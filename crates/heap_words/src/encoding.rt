@@ -1,4 +1,4 @@
-ghost use Rattle.std.specs.Prelude.{◌≡◌, ℕ, ◌^◌, ◌<◌, ◌≤◌};
+ghost use Rattle.std.specs.Prelude.{◌≡◌, ◌^◌, ◌<◌, ◌≤◌};
 ghost use Rattle.heap_words.specs.Encoding.{is_forwarded, forwardee_in, header_word, shape_word, refs_in, nums_in, object_words, name_code, thread_in, count_in, request_code, request_count_in, request_shape_in, HeadersUndo, ShapesUndo, NamesUndo, RequestsUndo};
 
 /// Whether a header word is that of an object that has moved: its address has been put over it

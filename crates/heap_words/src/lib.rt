@@ -5,6 +5,7 @@
 mod access;
 mod config;
 mod encoding;
+mod name;
 mod place;
 mod schedule;
 mod words;
@@ -15,9 +16,10 @@ pub use encoding::{
     count_of, forwarded, forwardee, header_to, name_word, nums_of, readers_undo, refs_of,
     request_count, request_shape, request_word, shape_of, thread_of, words_of,
 };
+pub use name::WordName;
 pub use place::Place;
 pub use schedule::{Item, NoMemory, Schedule};
-pub use words::words_apart;
+pub use words::{heap_in, roots_in, words_apart};
 
 #[cfg(test)]
 mod tests;

@@ -1,4 +1,5 @@
 use super::*;
+use std::test::Fail;
 
 // The smallest configuration, and one with a helper.
 #[test]
@@ -125,6 +126,8 @@ fn codes_of_places(rt: HostRuntime) {
     }
     assert_eq!(rt; Place::of(*b"E1"), Some(Place::E1));
     assert_eq!(rt; Place::of(*b"e1"), None);
+    assert!(rt; Place::HX.is(Place::HX));
+    assert!(rt; !Place::HX.is(Place::HI));
 }
 
 #[test]
@@ -144,4 +147,37 @@ fn schedules(rt: HostRuntime) -> Result<(), NoMemory> {
     schedule.push(alloc, until)?;
     assert!(rt; schedule.list() == [steps, until].as_slice());
     Ok(())
+}
+
+// The parts of a table by their lengths: 16 roots for the one mutator, and the words of all regions.
+#[test]
+fn parts_of_a_table(rt: HostRuntime) -> Result<(), Fail> {
+    let config = Config::new(4, 64, 1, 0, 0).expect(&rt, "in range");
+    assert_eq!(rt; config.heap_size(), 256);
+    assert_eq!(rt; config.roots_start(), 24);
+    assert_eq!(rt; config.heap_start(), 59);
+    let words = vec![in rt.alloc(); 7u64; config.table_words()]?;
+    assert_eq!(rt; roots_in(config, &words).len(), 16);
+    assert_eq!(rt; heap_in(config, &words).len(), 256);
+    Ok(())
+}
+
+// The names of the words of the smallest table: its end is the heap.
+#[test]
+fn names_of_words(rt: HostRuntime) {
+    let config = Config::new(4, 64, 1, 0, 0).expect(&rt, "in range");
+    for at in 0..config.table_words() {
+        let of_heap = matches!(config.name_of(at), WordName::Heap { .. });
+        assert_eq!(rt; of_heap, at >= 59);
+    }
+    let root = WordName::Root {
+        mutator: 0,
+        index: 3,
+    };
+    assert_eq!(rt; config.name_of(27), root);
+    let entry = WordName::Buffer {
+        mutator: 0,
+        entry: 7,
+    };
+    assert_eq!(rt; config.name_of(48), entry);
 }

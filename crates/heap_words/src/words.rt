@@ -1,46 +1,49 @@
-ghost use Rattle.std.specs.Prelude.{◌≡◌, ◌≤◌};
-ghost use Rattle.heap_words.specs.Words.{Pause, Left, End, State, Phase, Cset, Free, Evac, Claim, Ask, Top, Tams, Limit, Current, Root, Count, Buffer, Wait, Answer, Grey, Black, Heap, IsWord, word_at, table_words, heap_size, bit_words, image_start, roots_start, marks_start, heap_start, AreApart, IsStoreOfOne};
+ghost use Rattle.std.specs.Prelude.{◌≡◌, ◌≤◌, length};
+ghost use Rattle.heap_words.specs.Words.{Pause, Left, End, State, Phase, Cset, Free, Evac, Claim, Ask, Top, Tams, Limit, Current, Root, Count, Buffer, Wait, Answer, Grey, Black, Heap, IsWord, word_at, table_words, heap_size, bit_words, image_start, roots_start, marks_start, heap_start, heap_in, roots_in, AreApart, IsStoreOfOne};
 
 use super::config::Config;
 
 // Where the rows of words begin.
 impl Config {
-    fn heap_size(&self) -> usize
+    /// The words of the heap: those of all regions.
+    pub fn heap_size(&self) -> usize
         ensures value { result ≡ heap_size self.now }
         ensures bound { result ≤ 65536 }
     {
         self.regions * self.region_words
     }
 
-    fn bit_words(&self) -> usize
+    pub(crate) fn bit_words(&self) -> usize
         ensures value { result ≡ bit_words self.now }
         ensures bound { result ≤ 1024 }
     {
         (self.heap_size() + 63) / 64
     }
 
-    fn image_start(&self) -> usize
+    pub(crate) fn image_start(&self) -> usize
         ensures value { result ≡ image_start self.now }
         ensures bound { result ≤ 14 }
     {
         3 + self.mutators + self.helpers
     }
 
-    fn roots_start(&self) -> usize
+    /// Where the words of the mutators begin in the table, their roots first.
+    pub fn roots_start(&self) -> usize
         ensures value { result ≡ roots_start self.now }
         ensures bound { result ≤ 224 }
     {
         self.image_start() + 7 + 3 * self.regions + self.mutators + self.helpers
     }
 
-    fn marks_start(&self) -> usize
+    pub(crate) fn marks_start(&self) -> usize
         ensures value { result ≡ marks_start self.now }
         ensures bound { result ≤ 440 }
     {
         self.roots_start() + 27 * self.mutators
     }
 
-    fn heap_start(&self) -> usize
+    /// Where the words of the heap begin in the table; they end it.
+    pub fn heap_start(&self) -> usize
         ensures value { result ≡ heap_start self.now }
         ensures bound { result ≤ 2488 }
     {
@@ -223,6 +226,23 @@ impl Config {
     {
         self.heap_start() + self.heap_size()
     }
+}
+
+/// The words of the heap in a table of this configuration, from the first address on.
+pub fn heap_in(config: Config, words: &[u64]) -> &[u64]
+    requires { length words.now ≡ table_words config }
+    ensures { result.now ≡ heap_in config words.now }
+{
+    &words[config.heap_start()..config.table_words()]
+}
+
+/// The words of the roots in a table of this configuration, 16 for each mutator.
+pub fn roots_in(config: Config, words: &[u64]) -> &[u64]
+    requires { length words.now ≡ table_words config }
+    ensures { result.now ≡ roots_in config words.now }
+{
+    let start = config.roots_start();
+    &words[start..start + 16 * config.mutators()]
 }
 
 /// A law: each word stands inside the table and apart from every other, and a store changes one.

@@ -1,10 +1,12 @@
 -- A word as a set of regions: its lowest member, and how many members it has.
-use Rattle.std.proofs.Common.{◌≡◌, ℕ, ◌+◌, ◌%◌, ◌^◌, ◌<◌, refl, sym, ap, ◌∙◌, arith, zero, suc, w64}
+use Rattle.std.proofs.Common.{◌≡◌, ◌≢◌, ◌↔◌, ℕ, ◌+◌, ◌-◌, ◌*◌, ◌%◌, ◌^◌, ◌<◌, ◌≤◌, refl, sym, ap, ◌∙◌, subst, ⊎_elim, arith, zero, suc, w64}
+use Rattle.std.proofs.Math.Pow.{pow-lt}
 use Rattle.std.specs.Int.{bit_at, trailing_zeros}
 use Rattle.std.specs.Int.Count.{ones}
-use Rattle.std.proofs.lemmas.Nat.{ones_cat, mod-pow-add, mod_below, pow_pos}
-use Rattle.std.proofs.lemmas.Nat.Bits.{bit_at-trailing_zeros, bit_at-lt}
-use Rattle.regions.specs.Sets.{IsLowest, members_below}
+use Rattle.std.proofs.lemmas.Nat.{ones_cat, mod-pow-add, mod_below, pow_pos, one_shl}
+use Rattle.std.proofs.lemmas.Bool.{cases_lt}
+use Rattle.std.proofs.lemmas.Nat.Bits.{bit_at-trailing_zeros, bit_at-lt, bit_at_not, bit_at_above, bit_at-pow_same, bit_at-pow_other}
+use Rattle.regions.specs.Sets.{IsIn, IsLowest, members_below, all_but}
 
 -- the lowest 1 of a word is its lowest member
 pub lowest_member : (set : ℕ) → 0 < set → set < 2 ^ 64 → IsLowest set (trailing_zeros w64 set)
@@ -39,3 +41,26 @@ ones-members set fits = ap ones (omega arith) ∙ ones-low set 64
 pub no_members : members_below 0 64 ≡ 0
 unfolding ones
 no_members = sym (ones-members 0 (omega arith))
+
+-- the set of all regions but one is the 64-bit word without its bit
+bit_at-all_but : (region r : ℕ) → region < 64 → r < 64 → bit_at (all_but region) r ≡ 1 - bit_at (2 ^ region) r
+bit_at-all_but region r below within =
+    let one : 1 * 2 ^ region % 2 ^ 64 ≡ 2 ^ region = one_shl region 64 below in
+    let fits : 1 * 2 ^ region % 2 ^ 64 < 2 ^ 64 = subst (λ n. n < 2 ^ 64) (sym one) (pow-lt below) in
+    bit_at_not w64 (1 * 2 ^ region % 2 ^ 64) r fits within ∙ ap (λ n. 1 - bit_at n r) one
+
+-- a region is in it exactly where it is another region
+pub all_but_members : (region : ℕ) → region < 64 → (r : ℕ) → IsIn (all_but region) r ↔ ((r < 64) × (r ≢ region))
+all_but_members region below r = (to, from) where
+  to : IsIn (all_but region) r → (r < 64) × (r ≢ region)
+  to member = ⊎_elim
+    (λ (within : r < 64). (within, λ (same : r ≡ region).
+      let one : bit_at (2 ^ region) r ≡ 1 = ap (bit_at (2 ^ region)) same ∙ bit_at-pow_same region in
+      let none = bit_at-all_but region r below within in
+      omega (arith, one, none, member)))
+    (λ (above : 64 ≤ r).
+      let none = bit_at_above (all_but region) 64 r (omega arith) above in
+      absurd (omega (arith, none, member)))
+    (cases_lt r 64)
+  from : (r < 64) × (r ≢ region) → IsIn (all_but region) r
+  from other = bit_at-all_but region r below other.0 ∙ ap (λ b. 1 - b) (bit_at-pow_other region r other.1)

@@ -1,4 +1,4 @@
-ghost use Rattle.std.specs.Prelude.{◌≡◌, ◌<◌, IfSome, IsNone, IsTrue, ◌↔◌};
+ghost use Rattle.std.specs.Prelude.{ℕ, ◌≡◌, ◌≢◌, ◌<◌, IfSome, IsNone, IsTrue, ◌↔◌};
 ghost use Rattle.regions.specs.Sets.{IsIn, IsLowest, members_below, lowest_in, all_but};
 
 /// Whether a region, counted from 0, is in a set.
@@ -32,7 +32,8 @@ pub fn size(set: u64) -> u32
 /// The set of all regions but one, which is counted from 0.
 pub fn all_but(region: usize) -> u64
     requires { region < 64 }
-    ensures { result ≡ all_but region }
+    ensures value { result ≡ all_but region }
+    ensures members { (r : ℕ) → IsIn result r ↔ ((r < 64) × (r ≢ region)) }
 {
     !(1 << region)
 }

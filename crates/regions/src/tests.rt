@@ -24,6 +24,8 @@ fn smallest_heap(rt: HostRuntime) {
     assert_eq!(rt; size(u64::MAX), 64);
     assert!(rt; is_in(12, 2));
     assert!(rt; !is_in(12, 0));
+    assert_eq!(rt; all_but(0), u64::MAX - 1);
+    assert_eq!(rt; all_but(63), u64::MAX >> 1);
 
     let tops = [19, 64, 60, 0];
     assert_eq!(rt; first_with_room(config, &tops, 0, 45), Some(0));

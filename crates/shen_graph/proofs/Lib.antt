@@ -3,3 +3,4 @@ pub mod OrderLemmas
 pub mod PlainLemmas
 pub mod ReachLemmas
 pub mod StepLemmas
+pub mod ValidLemmas

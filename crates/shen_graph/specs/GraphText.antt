@@ -1,14 +1,18 @@
 -- A graph as it is to be written: rows of objects, and rows of roots.
-use Rattle.std.specs.Prelude.{ℕ, ◌-◌, List, [], ◌∷◌, ◌++◌, map, replicate, length, None, slice_index_or, slice_set}
+use Rattle.std.specs.Prelude.{ℕ, ◌-◌, List, [], ◌∷◌, ◌++◌, map, replicate, length, None, Some, slice_index_or, slice_set}
 use Rattle.std.specs.List.{IsDistinct}
 use Rattle.shen_graph.specs.declared.name.Name.{Name}
-use Rattle.shen_graph.specs.Graph.{Reference, hub, same_name}
+use Rattle.shen_graph.specs.Graph.{Graph, Reference, hub, named, same_name}
 
 -- an object: its name, its references and its numbers
 pub record Row : Type 0 where
   pub name : Name
   pub refs : List Reference
   pub nums : List ℕ
+
+-- the object of a name in a graph, as a row
+abbrev pub row_in : Graph → Name → Row
+row_in g n = record { name = n; refs = (named g (Some n)).refs; nums = (named g (Some n)).nums }
 
 -- the rows of objects, a row of 16 roots for each thread, the words of room that are left, and the words of room in all
 pub record Text : Type 0 where

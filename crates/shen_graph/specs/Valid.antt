@@ -1,5 +1,5 @@
 -- Which commands are in range.
-use Rattle.std.specs.Prelude.{ℕ, ◌<◌, ◌≤◌}
+use Rattle.std.specs.Prelude.{ℕ, ◌^◌, ◌<◌, ◌≤◌, Bool, true, ◌&&◌, nat_lt, nat_le}
 use Rattle.shen_graph.specs.declared.command.Command.{Command}
 use Rattle.shen_graph.specs.declared.command.Command.TheVariants.{New, Get, Set, Cas, Xchg, Rd, Wr, Copy, Drop, Same, Gc}
 
@@ -15,6 +15,7 @@ IsSize fields = fields ≤ 16
 abbrev pub IsIndex : ℕ → Type 0
 IsIndex index = index ≤ 31
 
+-- the roots, sizes and indexes of a command are in range
 abbrev pub IsValid : Command → Type 0
 IsValid (New dst refs nums) = IsRoot dst × IsSize refs × IsSize nums
 IsValid (Get dst src field) = IsRoot dst × IsRoot src × IsIndex field
@@ -27,3 +28,38 @@ IsValid (Copy dst src) = IsRoot dst × IsRoot src
 IsValid (Drop dst) = IsRoot dst
 IsValid (Same a b) = IsRoot a × IsRoot b
 IsValid Gc = Unit {0}
+
+-- a number that a command writes fits 64 bits, as each number of the code does
+abbrev pub FitsValue : Command → Type 0
+FitsValue (Wr obj index value) = value < 2 ^ 64
+FitsValue _ = Unit {0}
+
+-- the tests of these
+
+abbrev pub is_root : ℕ → Bool
+is_root root = nat_lt root 16
+
+abbrev pub is_size : ℕ → Bool
+is_size fields = nat_le fields 16
+
+abbrev pub is_index : ℕ → Bool
+is_index index = nat_le index 31
+
+-- `IsValid` as a test
+abbrev pub is_valid : Command → Bool
+is_valid (New dst refs nums) = is_root dst && (is_size refs && is_size nums)
+is_valid (Get dst src field) = is_root dst && (is_root src && is_index field)
+is_valid (Set obj field val) = is_root obj && (is_index field && is_root val)
+is_valid (Cas obj field expect val) = is_root obj && (is_index field && (is_root expect && is_root val))
+is_valid (Xchg dst obj field val) = is_root dst && (is_root obj && (is_index field && is_root val))
+is_valid (Rd obj index) = is_root obj && is_index index
+is_valid (Wr obj index value) = is_root obj && is_index index
+is_valid (Copy dst src) = is_root dst && is_root src
+is_valid (Drop dst) = is_root dst
+is_valid (Same a b) = is_root a && is_root b
+is_valid Gc = true
+
+-- `FitsValue` as a test
+abbrev pub fits_value : Command → Bool
+fits_value (Wr obj index value) = nat_lt value (2 ^ 64)
+fits_value _ = true

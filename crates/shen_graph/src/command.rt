@@ -1,5 +1,5 @@
-ghost use Rattle.std.specs.Prelude.{IsTrue, ◌↔◌};
-ghost use Rattle.shen_graph.specs.Valid.{IsValid};
+ghost use Rattle.std.specs.Prelude.{◌≡◌, IsTrue, ◌↔◌};
+ghost use Rattle.shen_graph.specs.Valid.{IsValid, is_valid};
 
 use crate::name::Name;
 
@@ -100,7 +100,8 @@ impl Command {
 
     /// Whether roots are below 16, sizes at most 16, and fields and indexes at most 31.
     pub fn is_valid(&self) -> bool
-        ensures { IsTrue result ↔ IsValid self.now }
+        ensures valid { IsTrue result ↔ IsValid self.now }
+        ensures test { result ≡ is_valid self.now }
     {
         let is_root = |root: u32| root < Command::ROOTS;
         let is_size = |fields: u32| fields <= Command::FIELDS;

@@ -173,6 +173,19 @@ fn a_script_is_worked_off(rt: HostRuntime) -> Result<(), Fail> {
 }
 
 #[test]
+fn scripts_move_into_a_work(rt: HostRuntime) -> Result<(), Fail> {
+    let alloc = rt.alloc();
+    let mut script = Script::open(alloc)?;
+    script.push(alloc, Command::Gc)?;
+    let mut scripts = Vec::new(alloc);
+    scripts.push(script)?;
+    let work = Work::of(alloc, scripts)?;
+    assert_eq!(rt; work.next(0), Some(Command::Gc));
+    assert!(rt; work.replies(0).list().is_empty());
+    Ok(())
+}
+
+#[test]
 fn a_text_is_sorted_and_read(rt: HostRuntime) -> Result<(), Fail> {
     let alloc = rt.alloc();
     let mut text = GraphText::open(alloc, 10, 2)?;

@@ -76,7 +76,13 @@ impl Job {
         for command in commands {
             script.push(alloc, *command)?;
         }
-        let replies = Replies::open(alloc, commands.len())?;
+        Job::of(alloc, script)
+    }
+
+    fn of(alloc: Global, script: Script) -> Result<Job, NoMemory>
+        ensures { IfOk result (λ job. job ≡ begun script) }
+    {
+        let replies = Replies::open(alloc, script.list().len())?;
         Ok(Job { script, replies })
     }
 
@@ -123,6 +129,19 @@ impl Work {
         let mut jobs = [None, None, None, None, None, None, None, None];
         for (mutator, script) in scripts.iter().enumerate() {
             jobs[mutator] = Some(Job::open(alloc, script.list())?);
+        }
+        Ok(Work { jobs })
+    }
+
+    /// These scripts, as `open` has them. They move into the work: no command is copied.
+    pub fn of(alloc: Global, mut scripts: Vec<Script>) -> Result<Work, NoMemory>
+        requires { length scripts.items ≤ 8 }
+        ensures { IfOk result (λ work. work ≡ opened scripts.items) }
+    {
+        let mut jobs = [None, None, None, None, None, None, None, None];
+        while let Some(script) = scripts.pop() {
+            let mutator = scripts.len();
+            jobs[mutator] = Some(Job::of(alloc, script)?);
         }
         Ok(Work { jobs })
     }

@@ -10,8 +10,8 @@ ghost use Rattle.shen_graph.specs.Work.{HasScript};
 ghost use Rattle.shen_graph.specs.History.{after};
 ghost use Rattle.heap_graph.specs.Shows.{Shows};
 ghost use Rattle.steps_base.specs.Steps.{Event};
-ghost use Rattle.mutator.specs.declared.spot.Order.{Order};
-ghost use Rattle.step_core.specs.Follows.{first_graph, reached, past};
+ghost use Rattle.shen_graph.specs.declared.order.Order.{Order};
+ghost use Rattle.step_core.specs.Begins.{first_graph, reached, past};
 ghost use Rattle.shen_core.specs.State as memory;
 ghost use Rattle.shen_core.specs.State.{config_of};
 ghost use Rattle.shen_core.specs.Progress.{AllRest};
@@ -29,7 +29,6 @@ use heap_words::Config;
 use shen_base::{Sink, Source};
 use shen_core::{Plain, Ran};
 use shen_graph::{GraphText, Work};
-use stage_graph::heap_size;
 use std::alloc::Global;
 use trace_text::{
     Answer, Line, Trace, TraceFault, number_in, read_trace, write_answer, write_line,
@@ -88,7 +87,7 @@ fn graph_of(alloc: Global, config: Config, plain: &mut Plain) -> Result<GraphTex
     ensures threads { IfOk result (λ text. length text.roots ≡ config.mutators) }
     ensures fault { IfErr result (λ e. e ≡ Refusal.NoMemory) }
 {
-    let Ok(mut text) = GraphText::open(alloc, heap_size(config), config.mutators()) else {
+    let Ok(mut text) = GraphText::open(alloc, config.heap_size(), config.mutators()) else {
         return Err(Refusal::NoMemory);
     };
     plain.graph(&mut text);

@@ -1,0 +1,173 @@
+ghost use Rattle.std.specs.Prelude.{◌≡◌, ◌+◌, ◌*◌, ◌<◌};
+ghost use Rattle.heap_words.specs.Words.{Word, IsWord, word_at, table_words, image_start, roots_start};
+ghost use Rattle.heap_words.specs.Name.{word_of};
+
+use super::config::Config;
+
+/// A word of the table by what it is for. Mutators, seats, regions and words of bits are counted from 0.
+#[derive(Clone, Copy, Debug, PartialEq, Eq)]
+pub enum WordName {
+    /// Whether a pause is wanted or runs.
+    Pause,
+    /// The mutators that have not ended.
+    Left,
+    /// Whether the control has ended.
+    End,
+    /// Whether a mutator or helper is inside the heap.
+    State { seat: usize },
+    /// The phase.
+    Phase,
+    /// The collection set.
+    Cset,
+    /// The free regions.
+    Free,
+    /// The copiers.
+    Evac,
+    /// The units of work that were claimed.
+    Claim,
+    /// What is asked for.
+    Ask,
+    /// The used words of a region.
+    Top { region: usize },
+    /// The top of a region when marking began.
+    Tams { region: usize },
+    /// The top of a region when updating began.
+    Limit { region: usize },
+    /// The region that a seat allocates from.
+    Current { seat: usize },
+    /// A root of a mutator.
+    Root { mutator: usize, index: usize },
+    /// The entries of a mutator's SATB buffer.
+    Count { mutator: usize },
+    /// An entry of a mutator's SATB buffer.
+    Buffer { mutator: usize, entry: usize },
+    /// A mutator's waiting request.
+    Wait { mutator: usize },
+    /// The answer to a mutator's request.
+    Answer { mutator: usize },
+    /// A word of grey bits.
+    Grey { word: usize },
+    /// A word of black bits.
+    Black { word: usize },
+    /// The heap's word of an address.
+    Heap { address: u64 },
+}
+
+impl Config {
+    /// The name of the word that stands at this place of the table: it undoes the places of all words.
+    pub fn name_of(&self, at: usize) -> WordName
+        requires { at < table_words self.now }
+        ensures word { IsWord self.now (word_of result) }
+        ensures place { word_at self.now (word_of result) ≡ at }
+        ensures only { (word : Word) → IsWord self.now word → word_at self.now word ≡ at → word ≡ word_of result }
+    {
+        if at < self.image_start() {
+            self.outer_name(at)
+        } else if at < self.roots_start() {
+            self.image_name(at - self.image_start())
+        } else if at < self.marks_start() {
+            self.mutator_name(at - self.roots_start())
+        } else if at < self.marks_start() + self.bit_words() {
+            WordName::Grey {
+                word: at - self.marks_start(),
+            }
+        } else if at < self.heap_start() {
+            WordName::Black {
+                word: at - self.marks_start() - self.bit_words(),
+            }
+        } else {
+            let address = at - self.heap_start() + self.region_words;
+            WordName::Heap {
+                address: address as u64,
+            }
+        }
+    }
+
+    // The name of a word before the image.
+    fn outer_name(&self, at: usize) -> WordName
+        requires { at < image_start self.now }
+        ensures word { IsWord self.now (word_of result) }
+        ensures place { word_at self.now (word_of result) ≡ at }
+    {
+        match at {
+            0 => WordName::Pause,
+            1 => WordName::Left,
+            2 => WordName::End,
+            _ => WordName::State { seat: at - 3 },
+        }
+    }
+
+    // The name of a word of the image before those of the mutators, by how many words stand before it there.
+    fn image_name(&self, before: usize) -> WordName
+        requires { image_start self.now + before < roots_start self.now }
+        ensures word { IsWord self.now (word_of result) }
+        ensures place { word_at self.now (word_of result) ≡ image_start self.now + before }
+    {
+        match before {
+            0 => WordName::Phase,
+            1 => WordName::Cset,
+            2 => WordName::Free,
+            3 => WordName::Evac,
+            4 => WordName::Claim,
+            5 => WordName::Ask,
+            _ => self.region_name(before - 6),
+        }
+    }
+
+    // The name of a word of the regions, or of a current region, by how many words of these stand before it.
+    fn region_name(&self, before: usize) -> WordName
+        requires { image_start self.now + 6 + before < roots_start self.now }
+        ensures word { IsWord self.now (word_of result) }
+        ensures place { word_at self.now (word_of result) ≡ image_start self.now + 6 + before }
+    {
+        let regions = self.regions;
+        if before < regions {
+            WordName::Top { region: before }
+        } else if before < 2 * regions {
+            WordName::Tams {
+                region: before - regions,
+            }
+        } else if before < 3 * regions {
+            WordName::Limit {
+                region: before - 2 * regions,
+            }
+        } else {
+            WordName::Current {
+                seat: before - 3 * regions,
+            }
+        }
+    }
+
+    // The name of a word of the mutators, by how many of these stand before it.
+    fn mutator_name(&self, before: usize) -> WordName
+        requires { before < 27 * self.now.mutators }
+        ensures word { IsWord self.now (word_of result) }
+        ensures place { word_at self.now (word_of result) ≡ roots_start self.now + before }
+    {
+        let mutators = self.mutators;
+        if before < 16 * mutators {
+            WordName::Root {
+                mutator: before / 16,
+                index: before % 16,
+            }
+        } else if before < 17 * mutators {
+            WordName::Count {
+                mutator: before - 16 * mutators,
+            }
+        } else if before < 25 * mutators {
+            let entries = before - 17 * mutators;
+            WordName::Buffer {
+                mutator: entries / 8,
+                entry: entries % 8,
+            }
+        } else if before < 26 * mutators {
+            WordName::Wait {
+                mutator: before - 25 * mutators,
+            }
+        } else {
+            WordName::Answer {
+                mutator: before - 26 * mutators,
+            }
+        }
+    }
+}

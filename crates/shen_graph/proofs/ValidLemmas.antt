@@ -1,0 +1,42 @@
+-- Each range of a command's numbers as a test.
+use Rattle.std.proofs.Common.{ℕ, ◌^◌, Bool, ◌&&◌, refl, arith}
+use Rattle.std.specs.Bool.{Decides}
+use Rattle.std.proofs.lemmas.Bool.Decides.{Decides-and, Decides-like, Decides-ltb, nat_tests}
+use Rattle.shen_graph.specs.declared.command.Command.{Command}
+use Rattle.shen_graph.specs.declared.command.Command.TheVariants.{New, Get, Set, Cas, Xchg, Rd, Wr, Copy, Drop, Same, Gc}
+use Rattle.shen_graph.specs.Valid.{IsRoot, IsSize, IsIndex, IsValid, FitsValue, is_root, is_size, is_index, is_valid, fits_value}
+
+root : (n : ℕ) → Decides (is_root n) (IsRoot n)
+root n = Decides-ltb n 16
+
+size : (n : ℕ) → Decides (is_size n) (IsSize n)
+size n = (λ e. grind (arith, nat_tests), λ e. grind (arith, nat_tests))
+
+index : (n : ℕ) → Decides (is_index n) (IsIndex n)
+index n = (λ e. grind (arith, nat_tests), λ e. grind (arith, nat_tests))
+
+both : {P Q : Type 0} (a b : Bool) → Decides a P → Decides b Q → Decides (a && b) (P × Q)
+both a b p q = Decides-and a b p q
+
+all_three : {P Q R : Type 0} (a b c : Bool) → Decides a P → Decides b Q → Decides c R → Decides (a && (b && c)) (P × Q × R)
+all_three a b c p q r = Decides-like (a && (b && c)) (λ h. (h.0, h.1.0, h.1.1)) (λ h. (h.0, (h.1, h.2))) (both a (b && c) p (both b c q r))
+
+all_four : {P Q R S : Type 0} (a b c d : Bool) → Decides a P → Decides b Q → Decides c R → Decides d S → Decides (a && (b && (c && d))) (P × Q × R × S)
+all_four a b c d p q r s = Decides-like (a && (b && (c && d))) (λ h. (h.0, h.1.0, h.1.1.0, h.1.1.1)) (λ h. (h.0, (h.1, (h.2, h.3)))) (both a (b && (c && d)) p (both b (c && d) q (both c d r s)))
+
+pub is_valid-Decides : (command : Command) → Decides (is_valid command) (IsValid command)
+is_valid-Decides (New dst refs nums) = all_three (is_root dst) (is_size refs) (is_size nums) (root dst) (size refs) (size nums)
+is_valid-Decides (Get dst src field) = all_three (is_root dst) (is_root src) (is_index field) (root dst) (root src) (index field)
+is_valid-Decides (Set obj field val) = all_three (is_root obj) (is_index field) (is_root val) (root obj) (index field) (root val)
+is_valid-Decides (Cas obj field expect val) = all_four (is_root obj) (is_index field) (is_root expect) (is_root val) (root obj) (index field) (root expect) (root val)
+is_valid-Decides (Xchg dst obj field val) = all_four (is_root dst) (is_root obj) (is_index field) (is_root val) (root dst) (root obj) (index field) (root val)
+is_valid-Decides (Rd obj i) = both (is_root obj) (is_index i) (root obj) (index i)
+is_valid-Decides (Wr obj i value) = both (is_root obj) (is_index i) (root obj) (index i)
+is_valid-Decides (Copy dst src) = both (is_root dst) (is_root src) (root dst) (root src)
+is_valid-Decides (Drop dst) = root dst
+is_valid-Decides (Same a b) = both (is_root a) (is_root b) (root a) (root b)
+is_valid-Decides Gc = (λ e. tt, λ e. refl)
+
+pub fits_value-Decides : (command : Command) → Decides (fits_value command) (FitsValue command)
+fits_value-Decides (Wr obj i value) = Decides-ltb value (2 ^ 64)
+fits_value-Decides _ = (λ e. tt, λ e. refl)
