@@ -14,6 +14,7 @@ ghost use Rattle.trace_grammar.specs.Grammar.{most_bytes, with_line, scripts_of,
 ghost use Rattle.trace_grammar.specs.declared.why.Why.{Why as Cause};
 ghost use Rattle.trace_refusals.specs.Causes.{parts};
 ghost use Rattle.trace_refusals.specs.Refused.{body_stage, cause_of, StopsAt, Refused};
+ghost use Rattle.trace_reading.specs.Calls.{HasFewCalls};
 ghost use Rattle.trace_reading.specs.Stops.{StopsCommands};
 ghost use Rattle.trace_reading.specs.Faults.{IsTextFault};
 
@@ -195,6 +196,9 @@ pub fn read_trace<S: Source>(alloc: Global, source: &mut S) -> Result<Trace, Tra
         × ((bytes : List ℕ) × Consumes (S.left source.old) (S.left source.new) bytes × (length bytes ≡ most_bytes + 1)) }
     ensures read_fault { result ≡ Err TraceFault.ReadFault → Rose (S.faults source.old) (S.faults source.new) }
     ensures faults_never_fall { S.faults source.old ≤ S.faults source.new }
+
+    // In every outcome the source is called at most once for each byte that it gives, and once for the end or the fault.
+    ensures few_calls { HasFewCalls (S.left source.old) (S.left source.new) (S.calls source.old) (S.calls source.new) }
 {
     let bytes = all_bytes(alloc, source)?;
     trace_of(alloc, &bytes)

@@ -1,9 +1,10 @@
 //! All the bytes of a source.
-ghost use Rattle.std.specs.Prelude.{◌≡◌, ◌≢◌, ℕ, ◌+◌, ◌<◌, ◌≤◌, List, Option, length, vec_len, IfOk, OnOk, IfErr, Err};
+ghost use Rattle.std.specs.Prelude.{◌≡◌, ◌≢◌, ℕ, ◌+◌, ◌<◌, ◌≤◌, List, Option, length, vec_len, IfOk, OnOk, IfErr, OnErr, Err};
 ghost use Rattle.std.specs.Io.KnownBytes.{Consumes, IsAtEnd};
-ghost use Rattle.shen_base.specs.Count.{Rose};
+ghost use Rattle.shen_base.specs.Count.{Rose, raised};
 ghost use Rattle.trace_grammar.specs.Grammar.{most_bytes, Came};
 ghost use Rattle.trace_grammar.specs.declared.why.Why.{Why};
+ghost use Rattle.trace_reading.specs.Calls.{HasFewCalls};
 ghost use Rattle.trace_reading.specs.Faults.{IsReadingFault};
 
 use crate::fault::TraceFault;
@@ -40,6 +41,11 @@ fn read_piece<S: Source>(
     ensures fault { IfErr result IsReadingFault }
     ensures read_fault { result ≡ Err TraceFault.ReadFault → Rose (S.faults source.old) (S.faults source.new) }
     ensures faults_never_fall { S.faults source.old ≤ S.faults source.new }
+    ensures one_call { S.calls source.new ≡ raised (S.calls source.old) }
+
+    // What was taken, also where there was no memory to keep it.
+    ensures took { OnErr result ((first : Option (List ℕ)) → Consumes first (S.left source.old) bytes.old.items
+        → (all : List ℕ) × Consumes first (S.left source.new) all × (length bytes.old.items ≤ length all) × (length all ≤ length bytes.old.items + length piece.old)) }
 {
     let count = match source.read(piece) {
         Ok(count) => count,
@@ -60,6 +66,7 @@ pub(crate) fn all_bytes<S: Source>(alloc: Global, source: &mut S) -> Result<Vec<
     ensures read_fault { result ≡ Err TraceFault.ReadFault → Rose (S.faults source.old) (S.faults source.new) }
     ensures no_bad_line { (n : ℕ) (why : Why) → result ≢ Err (TraceFault.BadLine n why) }
     ensures faults_never_fall { S.faults source.old ≤ S.faults source.new }
+    ensures few_calls { HasFewCalls (S.left source.old) (S.left source.new) (S.calls source.old) (S.calls source.new) }
 {
     let mut block = room_for(alloc, BLOCK)?;
     let mut bytes = Vec::new(alloc);
