@@ -9,7 +9,10 @@ use Rattle.alloc_buffers.specs.declared.spot.Taken.TheVariants.{At, NoRoom}
 use Rattle.alloc_buffers.specs.declared.spot.TakeSpot.{TakeSpot}
 use Rattle.alloc_buffers.specs.declared.spot.TakeSpot.TheVariants as take_spot
 use Rattle.mutator.specs.declared.spot.Spot.{Spot}
-use Rattle.mutator.specs.declared.spot.Spot.TheVariants.{ExchangeField, Taking, Leave}
+use Rattle.mutator.specs.declared.spot.Spot.TheVariants.{OnField, Making, Leave}
+use Rattle.mutator.specs.declared.spot.Kept.{Kept}
+use Rattle.mutator.specs.declared.fields.FieldSpot.TheVariants.{Exchange}
+use Rattle.mutator.specs.declared.makes.MakeSpot.TheVariants.{Taking}
 use Rattle.mutator.specs.Rows.{given_at, take_next, take_says, answer_at}
 
 -- an exchange is done again or goes on
@@ -26,8 +29,10 @@ take_goes (take_spot.TakeRegion region) next is = cc
 take_goes _ next is = cc
 
 -- a step that says Done gives its reply, and no other step does
-pub done_gives : (c : Config) (spot : Spot) (got : ℕ) → answer_at c spot got ≡ took.Done → (r : Reply) × (given_at spot ≡ Some r)
-done_gives c (Leave r) got is = (r, refl)
-done_gives c (ExchangeField object field found expect value) got is = absurd (swap_goes (got == found) is)
-done_gives c (Taking dst refs nums take) got is = absurd (take_goes take (take_next c refs nums take got) is)
-done_gives c _ got is = absurd (cc)
+pub done_gives : (c : Config) (kept : Kept) (spot : Spot) (got : ℕ) → answer_at c kept spot got ≡ took.Done → (r : Reply) × (given_at spot ≡ Some r)
+done_gives c kept (Leave r) got is = (r, refl)
+done_gives c kept (OnField object (Exchange found expect value)) got is = absurd (swap_goes (got == found) is)
+done_gives c kept (Making (Taking take)) got is = absurd (take_goes take (take_next c kept take got) is)
+done_gives c kept (OnField object at) got is = absurd (cc)
+done_gives c kept (Making at) got is = absurd (cc)
+done_gives c kept _ got is = absurd (cc)

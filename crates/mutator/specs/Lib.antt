@@ -1,4 +1,5 @@
 pub mod Orders
+pub mod Commands
 pub mod Rows
 pub mod Told
 pub mod Fit

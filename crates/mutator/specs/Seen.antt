@@ -9,7 +9,7 @@ use Rattle.mutator.specs.Rows.{Mutating}
 
 -- all but its configuration and the order that it was given
 abbrev pub seen : Mutator → Mutating
-seen m = record { seat = m.mutator; made = m.made; phase = m.phase; cset = m.cset; spot = m.spot }
+seen m = record { seat = m.mutator; made = m.made; kept = m.kept; spot = m.spot }
 
 -- the heap that it works on
 abbrev pub config_of : Mutator → Config

@@ -6,9 +6,18 @@ use Rattle.shen_graph.specs.declared.command.Command.TheVariants.{Same}
 use Rattle.shen_graph.specs.declared.command.Reply.{Reply}
 use Rattle.shen_graph.specs.declared.command.Reply.TheVariants as reply
 use Rattle.shen_graph.specs.Step.{yes_or_no}
+use Rattle.mutator.specs.declared.spot.Kept.{Kept}
 use Rattle.mutator.specs.declared.spot.Spot.{Spot}
-use Rattle.mutator.specs.declared.spot.Spot.TheVariants.{LoadRoot, LoadSecond, LoadShape, LoadField, LoadExpected, StoreField, SwapField, ExchangeField, LoadNumber, StoreNumber, StoreRoot, StoreFresh, AskCycle}
-use Rattle.mutator.specs.Rows.{Mutating, root_of, lacks_object, has_part, name_in}
+use Rattle.mutator.specs.declared.spot.Spot.TheVariants.{Loading, OnField, OnNumber, StoreRoot, Making, AskCycle}
+use Rattle.mutator.specs.declared.loads.LoadSpot.{LoadSpot}
+use Rattle.mutator.specs.declared.loads.LoadSpot.TheVariants as load
+use Rattle.mutator.specs.declared.fields.FieldSpot.{FieldSpot}
+use Rattle.mutator.specs.declared.fields.FieldSpot.TheVariants as fields
+use Rattle.mutator.specs.declared.numbers.NumberSpot.{NumberSpot}
+use Rattle.mutator.specs.declared.numbers.NumberSpot.TheVariants as number
+use Rattle.mutator.specs.declared.makes.MakeSpot.TheVariants as make
+use Rattle.mutator.specs.Commands.{root_of, index_of, lacks_object, has_part}
+use Rattle.mutator.specs.Rows.{Mutating, name_in}
 
 -- the name of the object at an address
 abbrev pub name_of_object : (Word → ℕ) → ℕ → ℕ
@@ -27,22 +36,34 @@ abbrev pub told_second : (Word → ℕ) → Command → ℕ → ℕ → Option R
 told_second memory (Same a b) first second = Some (yes_or_no (name_the_same memory first second))
 told_second memory _ first second = None
 
--- the reply that the access of a mutator settles, by its seat, how many objects it has made, and the memory that it finds
-abbrev pub told_at : (Word → ℕ) → ℕ → ℕ → Spot → Option Reply
-told_at memory seat made (LoadRoot command) = if lacks_object command (memory (Root seat (root_of command 0))) then Some reply.Bad else None
-told_at memory seat made (LoadSecond command first) = told_second memory command first (memory (Root seat (root_of command 1)))
-told_at memory seat made (LoadShape command object second third) = if has_part command (memory (Heap (object + 1))) then None else Some reply.Bad
-told_at memory seat made (LoadField object field dst) = Some (shown_word memory (memory (Heap (object + 3 + field))))
-told_at memory seat made (LoadExpected object field expect value) = if name_the_same memory (memory (Heap (object + 3 + field))) expect then None else Some reply.No
-told_at memory seat made (StoreField object field value) = Some reply.Ok
-told_at memory seat made (SwapField object field value dst) = Some (shown_word memory (memory (Heap (object + 3 + field))))
-told_at memory seat made (ExchangeField object field found expect value) = if memory (Heap (object + 3 + field)) == found then Some reply.Yes else None
-told_at memory seat made (LoadNumber object refs index) = Some (reply.Number (memory (Heap (object + 3 + refs + index))))
-told_at memory seat made (StoreNumber object refs index value) = Some reply.Ok
-told_at memory seat made (StoreRoot dst value) = Some reply.Ok
-told_at memory seat made (StoreFresh dst refs nums address) = Some (reply.Ref (record { thread = seat + 1; count = made + 1 }))
-told_at memory seat made AskCycle = Some reply.Ok
-told_at memory seat made _ = None
+-- what each part of a call settles
+abbrev pub load_told : (Word → ℕ) → ℕ → Kept → LoadSpot → Option Reply
+load_told memory seat kept load.First = if lacks_object kept.command (memory (Root seat (root_of kept.command 0))) then Some reply.Bad else None
+load_told memory seat kept (load.Second first) = told_second memory kept.command first (memory (Root seat (root_of kept.command 1)))
+load_told memory seat kept (load.Third first second) = None
+load_told memory seat kept (load.Shape object second third) = if has_part kept.command (memory (Heap (object + 1))) then None else Some reply.Bad
+
+abbrev pub field_told : (Word → ℕ) → ℕ → Kept → FieldSpot → Option Reply
+field_told memory object kept fields.Load = Some (shown_word memory (memory (Heap (object + 3 + index_of kept.command))))
+field_told memory object kept (fields.LoadExpected expect value) = if name_the_same memory (memory (Heap (object + 3 + index_of kept.command))) expect then None else Some reply.No
+field_told memory object kept (fields.Store value) = Some reply.Ok
+field_told memory object kept (fields.Swap value) = Some (shown_word memory (memory (Heap (object + 3 + index_of kept.command))))
+field_told memory object kept (fields.Exchange found expect value) = if memory (Heap (object + 3 + index_of kept.command)) == found then Some reply.Yes else None
+
+abbrev pub number_told : (Word → ℕ) → ℕ → ℕ → Kept → NumberSpot → Option Reply
+number_told memory object refs kept number.Load = Some (reply.Number (memory (Heap (object + 3 + refs + index_of kept.command))))
+number_told memory object refs kept number.Store = Some reply.Ok
+
+-- the reply that the access of a mutator settles, by its seat, how many objects it has made, what its call keeps, and the
+-- memory that it finds
+abbrev pub told_at : (Word → ℕ) → ℕ → ℕ → Kept → Spot → Option Reply
+told_at memory seat made kept (Loading at) = load_told memory seat kept at
+told_at memory seat made kept (OnField object at) = field_told memory object kept at
+told_at memory seat made kept (OnNumber object refs at) = number_told memory object refs kept at
+told_at memory seat made kept (StoreRoot value) = Some reply.Ok
+told_at memory seat made kept (Making (make.StoreRoot address)) = Some (reply.Ref (record { thread = seat + 1; count = made + 1 }))
+told_at memory seat made kept AskCycle = Some reply.Ok
+told_at memory seat made kept _ = None
 
 abbrev pub told_of : (Word → ℕ) → Mutating → Option Reply
-told_of memory m = told_at memory m.seat m.made m.spot
+told_of memory m = told_at memory m.seat m.made m.kept m.spot

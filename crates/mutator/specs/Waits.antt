@@ -4,12 +4,14 @@ use Rattle.heap_words.specs.declared.config.Config.{Config}
 use Rattle.regions.specs.Sets.{IsIn, members_below}
 use Rattle.alloc_buffers.specs.declared.spot.TakeSpot.TheVariants.{LoadFree, TakeRegion}
 use Rattle.mutator.specs.declared.spot.Spot.{Spot}
-use Rattle.mutator.specs.declared.spot.Spot.TheVariants.{ExchangeField, Taking}
+use Rattle.mutator.specs.declared.spot.Spot.TheVariants.{OnField, Making}
+use Rattle.mutator.specs.declared.fields.FieldSpot.TheVariants.{Exchange}
+use Rattle.mutator.specs.declared.makes.MakeSpot.TheVariants.{Taking}
 
 -- At CX it finds another word than it expects, at TG the region that it wants is not free any more, and at TF no more
 -- regions are free than are kept for copies. At each other place it never waits.
 abbrev pub WaitsAt : Config → Spot → ℕ → Type 0
-WaitsAt c (ExchangeField object field found expect value) got = got ≢ found
-WaitsAt c (Taking dst refs nums (TakeRegion region)) got = IsIn got region → ⊥
-WaitsAt c (Taking dst refs nums LoadFree) got = members_below got 64 ≤ c.reserve
+WaitsAt c (OnField object (Exchange found expect value)) got = got ≢ found
+WaitsAt c (Making (Taking (TakeRegion region))) got = IsIn got region → ⊥
+WaitsAt c (Making (Taking LoadFree)) got = members_below got 64 ≤ c.reserve
 WaitsAt c _ got = ⊥

@@ -1,11 +1,25 @@
 //! A mutator thread as a machine: each of its steps is one access of one word of the table. `plan` says which access
 //! comes next, and `took` takes the word that it found. A mutator stands at a spot, and the rows in `specs/Rows.antt`
-//! say for each spot what it does and what follows.
+//! say for each spot what it does and what follows. The spots of a part of a call stand together, in a type and a file of
+//! their own.
 #![tactic(auto)]
 
-mod body;
+mod commands;
+mod fields;
+mod loads;
+mod makes;
+mod numbers;
+mod shows;
 mod spot;
 mod thread;
 
-pub use spot::Spot;
+pub use fields::FieldSpot;
+pub use loads::LoadSpot;
+pub use makes::MakeSpot;
+pub use numbers::NumberSpot;
+pub use shows::ShowSpot;
+pub use spot::{Kept, Spot};
 pub use thread::Mutator;
+
+#[cfg(test)]
+mod tests;

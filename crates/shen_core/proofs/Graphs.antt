@@ -9,6 +9,7 @@ use Rattle.shen_graph.specs.declared.name.Name.{Name}
 use Rattle.mutator.specs.Orders.{is_between_calls}
 use Rattle.mutator.specs.Rows.{Mutating}
 use Rattle.step_core.specs.Actor.{Machine, mutating, fresh_control}
+use Rattle.mutator.specs.declared.spot.Kept.{Kept}
 use Rattle.mutator.specs.declared.spot.Spot.{Spot}
 use Rattle.mutator.specs.declared.spot.Spot.TheVariants.{Rest, Ended}
 use Rattle.heap_world.specs.World.{World, name_at, Points}
@@ -30,10 +31,10 @@ rest_parts (mutating m) rest = (m, refl, rest)
 rest_parts _ rest = cc
 
 -- between two calls the root's word counts
-root_between_calls : (w : World) (seat index : ℕ) (spot : Spot) → is_between_calls spot ≡ true → root_now w seat spot index ≡ w.memory (Root seat index)
-root_between_calls w seat index Rest rest = refl
-root_between_calls w seat index (Ended reply) rest = refl
-root_between_calls w seat index _ rest = cc
+root_between_calls : (w : World) (seat index : ℕ) (kept : Kept) (spot : Spot) → is_between_calls spot ≡ true → root_now w seat kept spot index ≡ w.memory (Root seat index)
+root_between_calls w seat index kept Rest rest = refl
+root_between_calls w seat index kept (Ended reply) rest = refl
+root_between_calls w seat index kept _ rest = cc
 
 module _ (c : Config) (words : List ℕ) (machines : List Machine) (count : c.mutators < length machines)
     (rest : (number : ℕ) → number < c.mutators → is_resting (slice_index_or machines number fresh_control) ≡ true) (run : Run c)
@@ -61,7 +62,7 @@ module _ (c : Config) (words : List ℕ) (machines : List Machine) (count : c.mu
       let seat : m.seat ≡ t = (sound.of_heap.numbers t found.0 m is).0 in
       let w : World = world_of c (ending c run) sound.stands.block sound.stands.owner graph in
       subst (λ k. Points sound.stands.block (settled c (ending c run) (Root k i)) (graph.root (k + 1) i)) seat
-      (subst (λ word. Points sound.stands.block word (graph.root (m.seat + 1) i)) (root_between_calls w m.seat i m.spot parts.2)
+      (subst (λ word. Points sound.stands.block word (graph.root (m.seat + 1) i)) (root_between_calls w m.seat i m.kept m.spot parts.2)
       ((sound.stands.mutators t found.0 m is).roots i small))
 
   -- the words stand for the graph after the run

@@ -16,7 +16,9 @@ use Rattle.shen_graph.specs.declared.command.Command.{Command}
 use Rattle.shen_graph.specs.declared.command.Reply.{Reply}
 use Rattle.shen_graph.specs.Work as work
 use Rattle.mutator.specs.declared.spot.Spot.{Spot}
-use Rattle.mutator.specs.declared.spot.Spot.TheVariants.{Rest, StoreFresh, Leave}
+use Rattle.mutator.specs.declared.spot.Spot.TheVariants.{Rest, Making, Leave}
+use Rattle.mutator.specs.declared.makes.MakeSpot.TheVariants as make
+use Rattle.mutator.specs.declared.spot.Kept.{Kept}
 use Rattle.shen_graph.specs.declared.order.Order.{Order}
 use Rattle.shen_graph.specs.declared.order.Order.TheVariants.{Nothing}
 use Rattle.mutator.specs.Orders.{is_between_calls}
@@ -152,11 +154,11 @@ tells_noted c words machines jobs number machine order reply scripts s shows tel
 
 -- whether the next step of a machine that memory shows says that it waits
 pub shown_waits : (c : Config) (words : List ℕ) (machines : List Machine) (number : ℕ) (m : Mutating) (s : Stage Actor) → Shows words machines s → slice_get machines number ≡ Some (mutating m)
-    → waits c s number ≡ is_again (answer_at c m.spot (slice_index words (place_of (plan_of c (mutating m)))))
+    → waits c s number ≡ is_again (answer_at c m.kept m.spot (slice_index words (place_of (plan_of c (mutating m)))))
 shown_waits c words machines number m s shows here =
     let found = shown_actor words machines s number (mutating m) shows here in
     ap (waits_of c s) found.1 ∙ ap (waits_in s c) found.2
-    ∙ ap (λ ws. is_again (answer_at c m.spot (slice_index ws (place_of (plan_of c (mutating m)))))) shows.words_are
+    ∙ ap (λ ws. is_again (answer_at c m.kept m.spot (slice_index ws (place_of (plan_of c (mutating m)))))) shows.words_are
 
 -- what a turn has done, by what its step said
 pub turned_from : (c : Config) (scripts : Scripts) (s : Stage Actor) (number : ℕ) (p : Plain) (jobs : Jobs) (said : Took) → IsMoved c scripts s number p jobs (is_again said) → Turned c scripts s number p jobs (stepped_of said)
@@ -177,9 +179,9 @@ done_of took.Again is = cc
 done_of took.Done is = refl
 
 -- a step that is not done gives no reply
-pub other_gives : (c : Config) (spot : Spot) (got : ℕ) → (stepped_of (answer_at c spot got) ≡ stepped.Done → ⊥) → given_at spot ≡ None
-other_gives c (Leave r) got is = absurd (is refl)
-other_gives c _ got is = refl
+pub other_gives : (c : Config) (kept : Kept) (spot : Spot) (got : ℕ) → (stepped_of (answer_at c kept spot got) ≡ stepped.Done → ⊥) → given_at spot ≡ None
+other_gives c kept (Leave r) got is = absurd (is refl)
+other_gives c kept _ got is = refl
 
 -- after a step that gives a reply the machine has it
 pub next_reply : (c : Config) (m : Mutating) (order : Order) (got : ℕ) (spot : Spot) (r : Reply) → given_at spot ≡ Some r → reply_at (next_at c m order got spot).spot ≡ Some r
@@ -194,7 +196,8 @@ next_rests c m order got _ r is = absurd (cc)
 -- a step that gives no reply makes at most one object, and then the reply is at hand
 pub next_made : (c : Config) (m : Mutating) (order : Order) (got : ℕ) (spot : Spot) → given_at spot ≡ None → ((next_at c m order got spot).made ≤ m.made + at_hand (next_at c m order got spot).spot) × (at_hand spot ≡ 0)
 next_made c m order got Rest none = (omega arith, refl)
-next_made c m order got (StoreFresh dst refs nums address) none = (omega arith, refl)
+next_made c m order got (Making (make.StoreRoot address)) none = (omega arith, refl)
+next_made c m order got (Making at) none = (omega arith, refl)
 next_made c m order got (Leave r) none = absurd (cc)
 next_made c m order got _ none = (omega arith, refl)
 
@@ -345,14 +348,14 @@ module _ (p mid q : Plain) (jobs : Jobs) (number : ℕ) (said : Stepped) (facts 
   has_turned later tells_later scripts s shows tells =
       let found = takes_mutator (machine_at mid number) (order_at mid number) facts.has in
       let got = slice_index (words_of mid) (place_of (plan_of (config_of mid) (mutating found.0))) in
-      let said_is : said ≡ stepped_of (answer_at (config_of mid) found.0.spot got) = facts.says ∙ ap (λ machine. says (config_of mid) machine (slice_index (words_of mid) (place_of (plan_of (config_of mid) machine)))) found.1 in
+      let said_is : said ≡ stepped_of (answer_at (config_of mid) found.0.kept found.0.spot got) = facts.says ∙ ap (λ machine. says (config_of mid) machine (slice_index (words_of mid) (place_of (plan_of (config_of mid) machine)))) found.1 in
       subst (λ x. Turned (config_of p) scripts s number q later x) (sym said_is)
-      (turned_from (config_of p) scripts s number q later (answer_at (config_of mid) found.0.spot got)
+      (turned_from (config_of p) scripts s number q later (answer_at (config_of mid) found.0.kept found.0.spot got)
       (record {
         event = event number (order_at mid number);
         is = facts.turn scripts s shows tells;
         waits_is = shown_waits (config_of p) (words_of mid) (machines_of mid) number found.0 s (shows_mid s shows) (here_mid ∙ ap (λ x. Some x) found.1)
-            ∙ ap (λ c. is_again (answer_at c found.0.spot (slice_index (words_of mid) (place_of (plan_of c (mutating found.0)))))) (sym facts.mid_config);
+            ∙ ap (λ c. is_again (answer_at c found.0.kept found.0.spot (slice_index (words_of mid) (place_of (plan_of c (mutating found.0)))))) (sym facts.mid_config);
         shows = subst (λ c. Shows (words_of q) (machines_of q) (act (kind c) s (event number (order_at mid number)))) facts.mid_config (facts.event.acts s (shows_mid s shows));
         tells = tells_later scripts s (shows_mid s shows) tells;
       }))
@@ -369,7 +372,7 @@ module _ (p mid q : Plain) (jobs : Jobs) (number : ℕ) (said : Stepped) (facts 
 
   -- a step that is not done gives no reply, by its machine
   given_by : (machine : Machine) → said ≡ says (config_of mid) machine (slice_index (words_of mid) (place_of (plan_of (config_of mid) machine))) → (said ≡ stepped.Done → ⊥) → given_in machine ≡ None
-  given_by (mutating m) is other = other_gives (config_of mid) m.spot _ (λ e. other (is ∙ e))
+  given_by (mutating m) is other = other_gives (config_of mid) m.kept m.spot _ (λ e. other (is ∙ e))
   given_by _ is other = refl
 
   -- nor does the turn
@@ -379,7 +382,7 @@ module _ (p mid q : Plain) (jobs : Jobs) (number : ℕ) (said : Stepped) (facts 
   -- a step that is done gives a reply, by its machine
   reply_by : (machine : Machine) → said ≡ says (config_of mid) machine (slice_index (words_of mid) (place_of (plan_of (config_of mid) machine))) → said ≡ stepped.Done → (r : Reply) × (given_in machine ≡ Some r) × (reply_in (next_by (config_of mid) (words_of mid) (order_at mid number) machine) ≡ Some r)
   reply_by (mutating m) is done =
-      let gives = done_gives (config_of mid) m.spot _ (done_of _ (sym is ∙ done)) in
+      let gives = done_gives (config_of mid) m.kept m.spot _ (done_of _ (sym is ∙ done)) in
       (gives.0, gives.1, next_reply (config_of mid) m (order_at mid number) _ m.spot gives.0 gives.1)
   reply_by _ is done = absurd (cc)
 

@@ -35,7 +35,7 @@ impl Plain {
     ghost use Rattle.heap_words.specs.Access.{place_of};
     ghost use Rattle.shen_graph.specs.declared.order.Order.TheVariants.{Nothing, Begin};
     ghost use Rattle.shen_graph.specs.Valid.{IsValid};
-    ghost use Rattle.step_core.specs.Machines.{takes_of, plan_of, stands_in, reply_in, place_in, is_resting, may_begin, WaitsIn, made_of_machine};
+    ghost use Rattle.step_core.specs.Machines.{takes_of, stands_in, reply_in, place_in, is_resting, may_begin, made_of_machine, WaitsIn};
     ghost use Rattle.step_core.specs.Opening.{opening};
     ghost use Rattle.step_core.specs.Begins.{Run, ending, graph_after};
     ghost use Rattle.heap_graph.specs.Shows as texts;

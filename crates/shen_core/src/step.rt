@@ -37,7 +37,7 @@ pub(crate) fn make_step(words: &mut Vec<u64>, mutator: &mut Mutator) -> Stepped
     ensures seen { seen mutator.new ≡ next_of (config_of mutator.old) (seen mutator.old) (order_of mutator.old) (slice_index words.old.items (place_of (access_of (config_of mutator.old) (seen mutator.old)))) }
     ensures order { order_of mutator.new ≡ Nothing }
     ensures config { config_of mutator.new ≡ config_of mutator.old }
-    ensures says { result ≡ stepped_of (answer_at (config_of mutator.old) (seen mutator.old).spot (slice_index words.old.items (place_of (access_of (config_of mutator.old) (seen mutator.old))))) }
+    ensures says { result ≡ stepped_of (answer_at (config_of mutator.old) (seen mutator.old).kept (seen mutator.old).spot (slice_index words.old.items (place_of (access_of (config_of mutator.old) (seen mutator.old))))) }
     ensures done { (result ≡ Stepped.Done) ↔ (place_at (seen mutator.old).spot ≡ places.LV) }
     ensures replied { result ≡ Stepped.Done → reply_at (seen mutator.new).spot ≢ None }
     ensures again { (result ≡ Stepped.Again) ↔ WaitsAt (config_of mutator.old) (seen mutator.old).spot (slice_index words.old.items (place_of (access_of (config_of mutator.old) (seen mutator.old)))) }

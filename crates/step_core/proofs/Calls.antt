@@ -1,6 +1,7 @@
 -- The steps of a call that asks for a cycle: they load the phase and the collection set, ask, and leave.
 use Rattle.std.proofs.Common.{◌≡◌, ℕ, ◌+◌, Option, refl, sym, ap, ◌∙◌, arith}
 use Rattle.std.proofs.lemmas.Bool.Decides.{nat_tests}
+use Rattle.std.proofs.lemmas.Bool.{and_from, eq-eqb}
 use Rattle.heap_words.specs.declared.config.Config.{Config}
 use Rattle.shen_graph.specs.declared.command.Command.{Command}
 use Rattle.shen_graph.specs.declared.command.Reply.{Reply}
@@ -8,6 +9,7 @@ use Rattle.shen_graph.specs.declared.command.Reply.TheVariants as reply
 use Rattle.shen_graph.specs.Step.{outcome}
 use Rattle.mutator.specs.declared.spot.Spot.{Spot}
 use Rattle.mutator.specs.declared.spot.Spot.TheVariants.{Rest, Ended, AskCycle, Leave}
+use Rattle.mutator.specs.declared.spot.Kept.{Kept}
 use Rattle.shen_graph.specs.declared.order.Order.{Order}
 use Rattle.shen_graph.specs.declared.order.Order.TheVariants.{Nothing, Begin}
 use Rattle.mutator.specs.Rows.{Mutating}
@@ -17,9 +19,9 @@ use Rattle.step_core.proofs.Spots.{mutator_at, accessed}
 use Rattle.step_core.proofs.Ready.{leaving}
 use Rattle.step_core.proofs.Settling.{legal_answer, graph_answer}
 
-module _ (c : Config) (u : World) (seat made phase cset : ℕ) (command : Command) (fixed : Option Reply) where
+module _ (c : Config) (u : World) (seat made : ℕ) (kept : Kept) (command : Command) (fixed : Option Reply) where
   abbrev at_spot : Spot → Mutating
-  at_spot spot = mutator_at seat made phase cset spot
+  at_spot spot = mutator_at seat made kept spot
 
   -- a call begins after the opening
   pub at_rest : (order : Order) → OrderedRow c u (at_spot Rest) command order fixed
@@ -33,7 +35,7 @@ module _ (c : Config) (u : World) (seat made phase cset : ℕ) (command : Comman
     shared = shared;
     mine = record {
       seated = mine.seated;
-      ready = refl;
+      ready = and_from _ _ refl (eq-eqb _ _ shared.calm.phase_is);
       roots = mine.roots;
       hands = mine.hands;
       facts = record { unsettled = mine.facts; is = refl; next = takes };
@@ -53,7 +55,7 @@ module _ (c : Config) (u : World) (seat made phase cset : ℕ) (command : Comman
     shared = shared;
     mine = record {
       seated = mine.seated;
-      ready = refl;
+      ready = and_from _ _ refl (eq-eqb _ _ shared.calm.phase_is);
       roots = mine.roots;
       hands = mine.hands;
       facts = record { unsettled = mine.facts; is = refl; next = takes };
@@ -72,7 +74,7 @@ module _ (c : Config) (u : World) (seat made phase cset : ℕ) (command : Comman
         legal = legal_answer u.graph seat command reply.Ok refl gc;
         settles = λ r e. (mine.facts.0, refl);
         shared = shared;
-        mine = leaving c _ seat made phase cset command reply.Ok mine.seated mine.roots mine.hands;
+        mine = leaving c _ seat made kept command reply.Ok mine.seated mine.roots mine.hands;
         others = λ j d. search (arith, nat_tests);
       }
 

@@ -12,7 +12,12 @@ use Rattle.shen_graph.specs.declared.command.Reply.TheVariants as reply
 use Rattle.shen_graph.specs.Graph.{with_root, same_reference}
 use Rattle.shen_graph.specs.Step.{shown, answers, outcome}
 use Rattle.mutator.specs.declared.spot.Spot.{Spot}
-use Rattle.mutator.specs.declared.spot.Spot.TheVariants.{LoadField, LoadExpected, LoadNumber, LoadName}
+use Rattle.mutator.specs.declared.spot.Spot.TheVariants.{OnField, OnNumber, Showing}
+use Rattle.mutator.specs.declared.fields.FieldSpot.TheVariants as fields
+use Rattle.mutator.specs.declared.numbers.NumberSpot.TheVariants as numbers
+use Rattle.mutator.specs.declared.shows.ShowSpot.TheVariants as show
+use Rattle.mutator.specs.declared.spot.Kept.{Kept}
+use Rattle.mutator.specs.Commands.{dst_of, index_of}
 use Rattle.mutator.specs.Rows.{Mutating, name_in}
 use Rattle.mutator.specs.Told.{name_the_same}
 use Rattle.heap_world.specs.World.{World}
@@ -24,30 +29,38 @@ use Rattle.step_core.proofs.Naming.{same_words, names_agree, name_there, name_re
 use Rattle.step_core.proofs.Loading.{looks, replies, replies_root, roots_then}
 use Rattle.step_core.proofs.InHand.{shown_not_full, field_mine}
 
-module _ (c : Config) (u : World) (seat made phase cset : ℕ) (command : Command) (fixed : Option Reply) where
+module _ (c : Config) (u : World) (seat made : ℕ) (kept : Kept) (command : Command) (fixed : Option Reply) where
   abbrev at_spot : Spot → Mutating
-  at_spot spot = mutator_at seat made phase cset spot
+  at_spot spot = mutator_at seat made kept spot
+
+  -- the command's field or number
+  abbrev field : ℕ
+  field = index_of kept.command
+
+  -- the command's root
+  abbrev dst : ℕ
+  dst = dst_of kept.command
 
   -- the load of a field settles the reference that it stands for
-  pub at_load_field : (object field dst : ℕ) → Row c u (at_spot (LoadField object field dst)) command fixed
-  at_load_field object field dst shared mine =
+  pub at_load_field : (object : ℕ) → Row c u (at_spot (OnField object fields.Load)) command fixed
+  at_load_field object shared mine =
       let get = mine.facts.1 in
       let here = field_in c u shared seat get.src object field get.of get.below in
       let got : ℕ = u.memory (Heap (object + 3 + field)) in
-      replies_root c u (at_spot (LoadField object field dst)) (Heap (object + 3 + field)) command fixed (shown here.0) dst here.0
+      replies_root c u (at_spot (OnField object fields.Load)) (Heap (object + 3 + field)) command fixed (shown here.0) dst here.0
       refl
       (ap (λ r. Some r) (shown_is c u shared got here.0 here.2))
       refl mine.facts.0 (shown_not_full here.0)
       (ap (λ k. outcome u.graph (seat + 1) k) get.is ∙ rw here.1 refl)
       shared
-      (field_mine c (record { memory = u.memory; block = u.block; owner = u.owner; graph = with_root u.graph (seat + 1) dst here.0 }) seat made phase cset command dst got here.0
+      (field_mine c (record { memory = u.memory; block = u.block; owner = u.owner; graph = with_root u.graph (seat + 1) dst here.0 }) seat made kept command got here.0
       shared mine.seated get.small
       (roots_then u.block (λ i. u.memory (Root seat i)) u.graph.root (seat + 1) dst got here.0 mine.roots here.2)
       mine.hands here.2)
 
   -- the load of a field that is to change only from an expected reference settles No where it has another
-  pub at_load_expected : (object field expect value : ℕ) → Row c u (at_spot (LoadExpected object field expect value)) command fixed
-  at_load_expected object field expect value shared mine =
+  pub at_load_expected : (object expect value : ℕ) → Row c u (at_spot (OnField object (fields.LoadExpected expect value))) command fixed
+  at_load_expected object expect value shared mine =
       let cas = mine.facts.1 in
       let here = field_in c u shared seat cas.obj object field cas.of cas.below in
       let got : ℕ = u.memory (Heap (object + 3 + field)) in
@@ -56,7 +69,7 @@ module _ (c : Config) (u : World) (seat made phase cset : ℕ) (command : Comman
       let below = cas.below in
       ⊎_elim
       (λ (same : (got == expect) ≡ true).
-      looks c u (at_spot (LoadExpected object field expect value)) (Heap (object + 3 + field)) command fixed refl (cond-true _ _ _ (agree ∙ same)) refl shared
+      looks c u (at_spot (OnField object (fields.LoadExpected expect value))) (Heap (object + 3 + field)) command fixed refl (cond-true _ _ _ (agree ∙ same)) refl shared
       (rw same (record {
         seated = mine.seated;
         ready = ready_of _ (is_number got && is_number value) (word_in c u shared seat cas.obj object (object + 3 + field) (3 + field) cas.of (omega arith) (omega arith))
@@ -66,32 +79,33 @@ module _ (c : Config) (u : World) (seat made phase cset : ℕ) (command : Comman
         facts = (mine.facts.0, cas, eqb-true _ _ same);
       })))
       (λ (differs : (got == expect) ≡ false).
-      replies c u (at_spot (LoadExpected object field expect value)) (Heap (object + 3 + field)) command fixed reply.No refl (cond-false _ _ _ (agree ∙ differs)) refl mine.facts.0 refl
+      replies c u (at_spot (OnField object (fields.LoadExpected expect value))) (Heap (object + 3 + field)) command fixed reply.No refl (cond-false _ _ _ (agree ∙ differs)) refl mine.facts.0 refl
       (ap (λ k. outcome u.graph (seat + 1) k) cas.is ∙ rw here.1 (cond-false _ _ _ (sym words ∙ differs)))
       shared
-      (rw differs (leaving c _ seat made phase cset command reply.No mine.seated mine.roots mine.hands)))
+      (rw differs (leaving c _ seat made kept command reply.No mine.seated mine.roots mine.hands)))
       (cases_Bool (got == expect))
 
   -- the load of a number settles it
-  pub at_load_number : (object refs index : ℕ) → Row c u (at_spot (LoadNumber object refs index)) command fixed
-  at_load_number object refs index shared mine =
+  pub at_load_number : (object refs : ℕ) → Row c u (at_spot (OnNumber object refs numbers.Load)) command fixed
+  at_load_number object refs shared mine =
+      let index : ℕ = field in
       let rd = mine.facts.1 in
       let here = number_in c u shared seat rd.obj object index rd.of rd.below in
       let got : ℕ = u.memory (Heap (object + 3 + refs + index)) in
-      replies c u (at_spot (LoadNumber object refs index)) (Heap (object + 3 + refs + index)) command fixed (reply.Number got) refl refl refl mine.facts.0 refl
+      replies c u (at_spot (OnNumber object refs numbers.Load)) (Heap (object + 3 + refs + index)) command fixed (reply.Number got) refl refl refl mine.facts.0 refl
       (ap (λ k. outcome u.graph (seat + 1) k) rd.is ∙ rw here (ap (λ n. answers (reply.Number (u.memory (Heap (object + 3 + n + index)))) u.graph) (sym rd.refs_are)))
       shared
-      (leaving c _ seat made phase cset command (reply.Number got) mine.seated mine.roots mine.hands)
+      (leaving c _ seat made kept command (reply.Number got) mine.seated mine.roots mine.hands)
 
   -- the load of a name: it is the one that was settled
-  pub at_load_name : (value dst : ℕ) → Row c u (at_spot (LoadName value dst)) command fixed
-  at_load_name value dst shared mine =
+  pub at_load_name : (value : ℕ) → Row c u (at_spot (Showing value show.LoadName)) command fixed
+  at_load_name value shared mine =
       let found = mine.facts in
       let word = name_there c u shared value found.name found.is in
       let read : name_in (u.memory (Heap (value + 2))) ≡ found.name = ap name_in word.0 ∙ name_read found.name word.1 in
       let below = mine.seated.below in
       let small = found.small in
-      looks c u (at_spot (LoadName value dst)) (Heap (value + 2)) command fixed refl refl refl shared
+      looks c u (at_spot (Showing value show.LoadName)) (Heap (value + 2)) command fixed refl refl refl shared
       (record {
         seated = mine.seated;
         ready = ready_of _ _ (grind (arith, nat_tests)) (number_small value (points_small c _ u.block shared.plotted value (Some found.name) found.is));

@@ -11,7 +11,10 @@ use Rattle.shen_graph.specs.declared.command.Reply.TheVariants as reply
 use Rattle.shen_graph.specs.Graph.{Object, blank, fresh, with_root, with_fresh}
 use Rattle.shen_graph.specs.Step.{outcome}
 use Rattle.mutator.specs.declared.spot.Spot.{Spot}
-use Rattle.mutator.specs.declared.spot.Spot.TheVariants.{StoreWord, StoreFresh, Leave}
+use Rattle.mutator.specs.declared.spot.Spot.TheVariants.{Making, Leave}
+use Rattle.mutator.specs.declared.makes.MakeSpot.TheVariants as make
+use Rattle.mutator.specs.declared.spot.Kept.{Kept}
+use Rattle.mutator.specs.Commands.{dst_of, refs_of, nums_of}
 use Rattle.mutator.specs.Rows.{Mutating, fresh_word, touch_of}
 use Rattle.steps_base.specs.Touch.{touched}
 use Rattle.heap_world.specs.World.{World, Block, thing, hand, words_of, name_at, IsThing, IsGiven, Shared}
@@ -31,14 +34,26 @@ use Rattle.step_core.proofs.NewObject.{new_object, names_stay, things_stay, hand
 abbrev next_name : ℕ → ℕ → Name
 next_name thread made = record { thread = thread; count = made + 1 }
 
-module _ (c : Config) (u : World) (seat made phase cset : ℕ) (command : Command) (fixed : Option Reply) where
+module _ (c : Config) (u : World) (seat made : ℕ) (kept : Kept) (command : Command) (fixed : Option Reply) where
   abbrev at_spot : Spot → Mutating
-  at_spot spot = mutator_at seat made phase cset spot
+  at_spot spot = mutator_at seat made kept spot
 
-  module _ (dst refs nums address done : ℕ) (shared : Shared c u) (mine : Mine c u (at_spot (StoreWord dst refs nums address done)) command fixed) where
+  -- the command's root
+  abbrev dst : ℕ
+  dst = dst_of kept.command
+
+  -- how many references its object has
+  abbrev refs : ℕ
+  refs = refs_of kept.command
+
+  -- and how many numbers
+  abbrev nums : ℕ
+  nums = nums_of kept.command
+
+  module _ (address done : ℕ) (shared : Shared c u) (mine : Mine c u (at_spot (Making (make.StoreWord address done))) command fixed) where
     -- the world with one word more stored
     abbrev stored_world : World
-    stored_world = accessed c u (at_spot (StoreWord dst refs nums address done))
+    stored_world = accessed c u (at_spot (Making (make.StoreWord address done)))
 
     -- the words of other pieces stay
     else_stays : (a k : ℕ) (b : Block) → u.block a ≡ Some b → a ≢ address → k < words_of b → stored_world.memory (Heap (a + k)) ≡ u.memory (Heap (a + k))
@@ -85,17 +100,17 @@ module _ (c : Config) (u : World) (seat made phase cset : ℕ) (command : Comman
 
     -- the mutator goes on with the next word, or with the root
     mine_stored : (b : Bool) → nat_lt (done + 1) (3 + refs + nums) ≡ b
-        → Mine c stored_world (at_spot (if b then StoreWord dst refs nums address (done + 1) else StoreFresh dst refs nums address)) command fixed
+        → Mine c stored_world (at_spot (Making (if b then make.StoreWord address (done + 1) else make.StoreRoot address))) command fixed
     mine_stored true more = record {
       seated = mine.seated;
-      ready = word_ready c seat made command fixed dst refs nums mine.facts.0 (λ r. u.memory (Top r)) u.block shared.plotted address mine.facts.1.room mine.seated.below (done + 1) (ltb-true _ _ more);
+      ready = word_ready c seat made kept command fixed mine.facts.0 (λ r. u.memory (Top r)) u.block shared.plotted address mine.facts.1.room mine.seated.below (done + 1) (ltb-true _ _ more);
       roots = mine.roots;
       hands = mine.hands;
       facts = (mine.facts.0, filling, ltb-true _ _ more);
     }
     mine_stored false all = record {
       seated = mine.seated;
-      ready = fresh_ready c seat made command fixed dst refs nums mine.facts.0 (λ r. u.memory (Top r)) u.block shared.plotted address mine.facts.1.room mine.seated.below;
+      ready = fresh_ready c seat made kept command fixed mine.facts.0 (λ r. u.memory (Top r)) u.block shared.plotted address mine.facts.1.room mine.seated.below;
       roots = mine.roots;
       hands = mine.hands;
       facts = (
@@ -126,19 +141,19 @@ module _ (c : Config) (u : World) (seat made phase cset : ℕ) (command : Comman
     }
 
   -- the step that stores a word of a new object
-  pub at_store_word : (dst refs nums address done : ℕ) → Row c u (at_spot (StoreWord dst refs nums address done)) command fixed
-  at_store_word dst refs nums address done shared mine = record {
-    world = stored_world dst refs nums address done shared mine;
+  pub at_store_word : (address done : ℕ) → Row c u (at_spot (Making (make.StoreWord address done))) command fixed
+  at_store_word address done shared mine = record {
+    world = stored_world address done shared mine;
     memory = refl;
     graph = refl;
     legal = tt;
     settles = λ r e. cc;
-    shared = shared_stored dst refs nums address done shared mine;
-    mine = mine_stored dst refs nums address done shared mine (nat_lt (done + 1) (3 + refs + nums)) refl;
-    others = others_stored dst refs nums address done shared mine;
+    shared = shared_stored address done shared mine;
+    mine = mine_stored address done shared mine (nat_lt (done + 1) (3 + refs + nums)) refl;
+    others = others_stored address done shared mine;
   }
 
-  module _ (dst refs nums address : ℕ) (shared : Shared c u) (mine : Mine c u (at_spot (StoreFresh dst refs nums address)) command fixed) where
+  module _ (address : ℕ) (shared : Shared c u) (mine : Mine c u (at_spot (Making (make.StoreRoot address))) command fixed) where
     abbrev top : ℕ → ℕ
     top r = u.memory (Top r)
 
@@ -148,7 +163,7 @@ module _ (c : Config) (u : World) (seat made phase cset : ℕ) (command : Comman
     -- the world with the new object
     abbrev made_world : World
     made_world = record {
-      memory = touched u.memory (touch_of c (at_spot (StoreFresh dst refs nums address)));
+      memory = touched u.memory (touch_of c (at_spot (Making (make.StoreRoot address))));
       block = updated u.block address (Some (thing name refs nums));
       owner = u.owner;
       graph = with_root (with_fresh u.graph (seat + 1) (blank refs nums)) (seat + 1) dst (Some name);
@@ -201,9 +216,9 @@ module _ (c : Config) (u : World) (seat made phase cset : ℕ) (command : Comman
     }
 
     -- the mutator has only to leave
-    mine_made : Mine c made_world (mutator_at seat (made + 1) phase cset (Leave (reply.Ref (next_name (seat + 1) made)))) command (Some (reply.Ref (next_name (seat + 1) made)))
+    mine_made : Mine c made_world (mutator_at seat (made + 1) kept (Leave (reply.Ref (next_name (seat + 1) made)))) command (Some (reply.Ref (next_name (seat + 1) made)))
     mine_made =
-        leaving c made_world seat (made + 1) phase cset command (reply.Ref (next_name (seat + 1) made)) (record { below = mine.seated.below; counted = count_own u.graph.count (seat + 1) ∙ ap (λ k. k + 1) mine.seated.counted })
+        leaving c made_world seat (made + 1) kept command (reply.Ref (next_name (seat + 1) made)) (record { below = mine.seated.below; counted = count_own u.graph.count (seat + 1) ∙ ap (λ k. k + 1) mine.seated.counted })
         (roots_written made_world.block u.memory u.graph.root seat dst address (Some name)
         (λ i below. points_stay u.block made_world.block names (u.memory (Root seat i)) (u.graph.root (seat + 1) i) (mine.roots i below))
         (ap name_at (updated_there u.block address (Some (thing name refs nums)))))
@@ -229,19 +244,19 @@ module _ (c : Config) (u : World) (seat made phase cset : ℕ) (command : Comman
     }
 
   -- the step that stores a new object into a root settles its name
-  pub at_store_fresh : (dst refs nums address : ℕ) → Row c u (at_spot (StoreFresh dst refs nums address)) command fixed
-  at_store_fresh dst refs nums address shared mine =
+  pub at_store_fresh : (address : ℕ) → Row c u (at_spot (Making (make.StoreRoot address))) command fixed
+  at_store_fresh address shared mine =
       let making = mine.facts.0 in
       let answer : Reply = reply.Ref (next_name (seat + 1) made) in
       let replied : (outcome u.graph (seat + 1) command).reply ≡ answer =
-      ap (λ k. (outcome u.graph (seat + 1) k).reply) making.is ∙ ap (λ n. reply.Ref n) (name_is dst refs nums address shared mine) in
+      ap (λ k. (outcome u.graph (seat + 1) k).reply) making.is ∙ ap (λ n. reply.Ref n) (name_is address shared mine) in
       record {
-        world = made_world dst refs nums address shared mine;
+        world = made_world address shared mine;
         memory = refl;
         graph = sym (graph_answer u.graph seat command answer refl ∙ ap (λ k. (outcome u.graph (seat + 1) k).graph) making.is);
         legal = legal_answer u.graph seat command answer refl replied;
         settles = λ r e. (making.unsettled, refl);
-        shared = shared_made dst refs nums address shared mine;
-        mine = mine_made dst refs nums address shared mine;
-        others = others_made dst refs nums address shared mine;
+        shared = shared_made address shared mine;
+        mine = mine_made address shared mine;
+        others = others_made address shared mine;
       }

@@ -1,20 +1,23 @@
 -- A reference that was found in a field, while it is in hand for a root.
-use Rattle.std.proofs.Common.{◌≡◌, ℕ, ◌+◌, ◌<◌, ⊎_elim, true, false, Some, None, refl, ap, subst, arith}
+use Rattle.std.proofs.Common.{◌≡◌, ℕ, ◌+◌, ◌<◌, ⊎_elim, true, false, Some, None, refl, ap, arith}
 use Rattle.std.specs.Prelude.{◌==◌, if◌then◌else◌}
 use Rattle.std.proofs.lemmas.Bool.{cases_Bool, eqb-true, eqb-false}
 use Rattle.std.proofs.lemmas.Bool.Decides.{nat_tests}
 use Rattle.heap_words.specs.declared.config.Config.{Config}
-use Rattle.heap_words.specs.Words.{Root}
+use Rattle.heap_words.specs.Words.{Root, is_word}
+use Rattle.steps_base.specs.Fits.{is_number}
 use Rattle.shen_graph.specs.declared.command.Command.{Command}
 use Rattle.shen_graph.specs.Graph.{Reference}
 use Rattle.shen_graph.specs.Step.{shown}
 use Rattle.shen_graph.specs.History.{is_full}
 use Rattle.mutator.specs.Rows.{after_field}
+use Rattle.mutator.specs.Commands.{dst_of}
 use Rattle.heap_world.specs.World.{World, hand, thing, Points, Shared}
 use Rattle.step_core.specs.Stepped.{IsSeated, Mine}
 use Rattle.step_core.proofs.Spots.{mutator_at}
-use Rattle.heap_world.proofs.Pointing.{named_thing, piece_word, null_if_0, named_if_not_0}
-use Rattle.step_core.proofs.Ready.{ready_of}
+use Rattle.heap_world.proofs.Pointing.{named_thing, piece_word, points_small, null_if_0, named_if_not_0}
+use Rattle.step_core.proofs.Ready.{ready_of, number_small}
+use Rattle.mutator.specs.declared.spot.Kept.{Kept}
 
 -- a reply that shows a reference is not full
 pub shown_not_full : (r : Reference) → is_full (shown r) ≡ false
@@ -22,20 +25,20 @@ shown_not_full None = refl
 shown_not_full (Some n) = refl
 
 -- With the reference of a field in hand for a root, and settled, a call goes on: it stores null, or loads the name first.
-pub field_mine : (c : Config) (w : World) (seat made phase cset : ℕ) (command : Command) (dst got : ℕ) (v : Reference)
-    → Shared c w → IsSeated c.mutators seat (w.graph.count (seat + 1)) made → dst < 16
-    → ((i : ℕ) → i < 16 → Points w.block (if i == dst then got else w.memory (Root seat i)) (w.graph.root (seat + 1) i))
+pub field_mine : (c : Config) (w : World) (seat made : ℕ) (kept : Kept) (command : Command) (got : ℕ) (v : Reference)
+    → Shared c w → IsSeated c.mutators seat (w.graph.count (seat + 1)) made → dst_of kept.command < 16
+    → ((i : ℕ) → i < 16 → Points w.block (if i == dst_of kept.command then got else w.memory (Root seat i)) (w.graph.root (seat + 1) i))
     → ((a words : ℕ) → w.block a ≡ Some (hand seat words) → ⊥)
     → Points w.block got v
-    → Mine c w (mutator_at seat made phase cset (after_field dst got)) command (Some (shown v))
-field_mine c w seat made phase cset command dst got v shared seated small roots hands is = ⊎_elim
+    → Mine c w (mutator_at seat made kept (after_field got)) command (Some (shown v))
+field_mine c w seat made kept command got v shared seated small roots hands is = ⊎_elim
     (λ (none : (got == 0) ≡ true).
     let below = seated.below in
     let zero_got : got ≡ 0 = eqb-true _ _ none in
     rw none (record {
       seated = seated;
-      ready = ready_of _ true (grind (arith, nat_tests)) refl;
-      roots = λ i few. subst (λ word. Points w.block (if i == dst then word else w.memory (Root seat i)) (w.graph.root (seat + 1) i)) zero_got (roots i few);
+      ready = ready_of (is_word c (Root seat (dst_of kept.command))) (is_number got) (grind (arith, nat_tests)) (number_small got (points_small c _ w.block shared.plotted got v is));
+      roots = roots;
       hands = hands;
       facts = (ap (λ r. Some (shown r)) (null_if_0 c _ w.block shared.plotted got v is zero_got), small);
     }))

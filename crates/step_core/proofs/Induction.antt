@@ -15,6 +15,7 @@ use Rattle.shen_graph.specs.declared.command.Command.{Command}
 use Rattle.shen_graph.specs.declared.command.Reply.{Reply}
 use Rattle.shen_graph.specs.Graph.{Graph}
 use Rattle.shen_graph.specs.History.{Entry, after, of_thread}
+use Rattle.mutator.specs.declared.spot.Kept.{Kept}
 use Rattle.mutator.specs.declared.spot.Spot.{Spot}
 use Rattle.mutator.specs.declared.spot.Spot.TheVariants.{Rest, Ended, Leave}
 use Rattle.shen_graph.specs.declared.order.Order.{Order}
@@ -47,20 +48,20 @@ view-placed c words t is long =
     (view_set_all c words t.word (formed t.form (view c words t.word)) long (is_word_true c t.word is))
 
 -- a mutator that begins a call has no settled reply
-begins_unsettled : (c : Config) (w : World) (seat : ℕ) (command : Command) (fixed : Option Reply) (spot : Spot) (made : ℕ) (k : Command) → takes_at spot made (Begin k) ≡ true → SpotFacts c w seat made command fixed spot → fixed ≡ None
-begins_unsettled c w seat command fixed Rest made k takes facts = facts
-begins_unsettled c w seat command fixed (Ended r) made k takes facts = facts
-begins_unsettled c w seat command fixed _ made k takes facts = cc
+begins_unsettled : (c : Config) (w : World) (seat : ℕ) (kept : Kept) (command : Command) (fixed : Option Reply) (spot : Spot) (made : ℕ) (k : Command) → takes_at spot made (Begin k) ≡ true → SpotFacts c w seat made kept command fixed spot → fixed ≡ None
+begins_unsettled c w seat kept command fixed Rest made k takes facts = facts
+begins_unsettled c w seat kept command fixed (Ended r) made k takes facts = facts
+begins_unsettled c w seat kept command fixed _ made k takes facts = cc
 
 -- a reply that is given is the settled one, of a call that goes on
-pub gives_settled : (c : Config) (w : World) (seat : ℕ) (command : Command) (fixed : Option Reply) (spot : Spot) (made : ℕ) (reply : Reply) → SpotFacts c w seat made command fixed spot → given_at spot ≡ Some reply → fixed ≡ Some reply
-gives_settled c w seat command fixed (Leave r) made reply facts is = facts ∙ is
-gives_settled c w seat command fixed _ made reply facts is = cc
+pub gives_settled : (c : Config) (w : World) (seat : ℕ) (kept : Kept) (command : Command) (fixed : Option Reply) (spot : Spot) (made : ℕ) (reply : Reply) → SpotFacts c w seat made kept command fixed spot → given_at spot ≡ Some reply → fixed ≡ Some reply
+gives_settled c w seat kept command fixed (Leave r) made reply facts is = facts ∙ is
+gives_settled c w seat kept command fixed _ made reply facts is = cc
 
 -- the command stays, or no reply is settled
-command_stays : (c : Config) (w : World) (seat : ℕ) (command : Command) (fixed : Option Reply) (spot : Spot) (made : ℕ) (order : Order) → takes_at spot made order ≡ true → SpotFacts c w seat made command fixed spot → (fixed ≡ None) ⊎ (command_by order command ≡ command)
-command_stays c w seat command fixed spot made Nothing takes facts = inr refl
-command_stays c w seat command fixed spot made (Begin k) takes facts = inl (begins_unsettled c w seat command fixed spot made k takes facts)
+command_stays : (c : Config) (w : World) (seat : ℕ) (kept : Kept) (command : Command) (fixed : Option Reply) (spot : Spot) (made : ℕ) (order : Order) → takes_at spot made order ≡ true → SpotFacts c w seat made kept command fixed spot → (fixed ≡ None) ⊎ (command_by order command ≡ command)
+command_stays c w seat kept command fixed spot made Nothing takes facts = inr refl
+command_stays c w seat kept command fixed spot made (Begin k) takes facts = inl (begins_unsettled c w seat kept command fixed spot made k takes facts)
 
 -- the entries of a mutator after a step that settles a reply, gives one, or does neither
 entries_step : (calls : List Entry) (seat : ℕ) (command after : Command) (fixed told given : Option Reply)
@@ -114,9 +115,9 @@ module _ (c : Config) (u : World) (past : List Entry) (number : ℕ) (machines :
         ∙ ap (λ es. es ++ the_entries)
         (subst (λ n. of_thread past (n + 1) ≡ calls ++ entries_of n command thread.fixed) (sym thread.number_is) thread.entries_are)
         ∙ entries_step calls m.seat command (command_by order command) thread.fixed the_told (given_at m.spot)
-        (λ reply is. gives_settled c u m.seat command thread.fixed m.spot m.made reply thread.mine.facts is)
+        (λ reply is. gives_settled c u m.seat m.kept command thread.fixed m.spot m.made reply thread.mine.facts is)
         step.settles
-        (command_stays c u m.seat command thread.fixed m.spot m.made order takes thread.mine.facts));
+        (command_stays c u m.seat m.kept command thread.fixed m.spot m.made order takes thread.mine.facts));
   }
 
   -- what its place owes, as an event

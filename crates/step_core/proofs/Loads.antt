@@ -14,13 +14,16 @@ use Rattle.shen_graph.specs.declared.command.Reply.TheVariants as reply
 use Rattle.shen_graph.specs.Step.{yes_or_no, answers, outcome}
 use Rattle.shen_graph.specs.History.{is_full}
 use Rattle.mutator.specs.declared.spot.Spot.{Spot}
-use Rattle.mutator.specs.declared.spot.Spot.TheVariants.{LoadSet, LoadRoot, LoadSecond, LoadThird, LoadShape, Leave}
+use Rattle.mutator.specs.declared.spot.Spot.TheVariants.{LoadSet, Loading, Leave}
+use Rattle.mutator.specs.declared.loads.LoadSpot.TheVariants as load
+use Rattle.mutator.specs.declared.spot.Kept.{Kept}
 use Rattle.shen_graph.specs.declared.order.Order.TheVariants.{Nothing}
 use Rattle.mutator.specs.Orders.{is_next}
-use Rattle.mutator.specs.Rows.{Mutating, roots_of, root_of, is_on_object, lacks_object, has_part, first_spot, after_first, with_part}
+use Rattle.mutator.specs.Commands.{roots_of, root_of, is_on_object, lacks_object, has_part}
+use Rattle.mutator.specs.Rows.{Mutating, first_spot, after_first, with_part}
 use Rattle.mutator.specs.Told.{name_the_same}
-use Rattle.heap_world.specs.World.{World, Points, Shared}
-use Rattle.step_core.specs.Stepped.{HasRoot, HasObject, HasFirst, HasRoots, Mine, Stepped, Row}
+use Rattle.heap_world.specs.World.{World, hand, Points, Shared}
+use Rattle.step_core.specs.Stepped.{HasRoot, HasObject, HasFirst, HasRoots, IsBegun, IsSeated, Mine, Stepped, Row}
 use Rattle.step_core.proofs.Spots.{mutator_at}
 use Rattle.step_core.proofs.Ready.{leaving, ready_of, number_small}
 use Rattle.heap_world.proofs.Pointing.{named_thing, named_if_not_0, null_if_0, points_small}
@@ -59,32 +62,47 @@ object_of c u seat k object shared on first =
     let piece = named_thing (u.block object) named.0 named.2 in
     record { name = named.0; refs = piece.0; nums = piece.1; root_is = named.1; target = record { piece = piece.2 } }
 
+-- a call of a command has begun: what a mutator counts on that has no root in hand
+record IsUnderWay (c : Config) (u : World) (seat made : ℕ) (command : Command) (fixed : Option Reply) (k : Command) : Type 0 where
+  seated : IsSeated c.mutators seat (u.graph.count (seat + 1)) made
+  roots : (i : ℕ) → i < 16 → Points u.block (u.memory (Root seat i)) (u.graph.root (seat + 1) i)
+  hands : (a words : ℕ) → u.block a ≡ Some (hand seat words) → ⊥
+  facts : IsBegun made command fixed k
+
 -- yes and no are not full
 full_no : (b : Bool) → is_full (yes_or_no b) ≡ false
 full_no true = refl
 full_no false = refl
 
-module _ (c : Config) (u : World) (seat made phase cset : ℕ) (command : Command) (fixed : Option Reply) where
+module _ (c : Config) (u : World) (seat made : ℕ) (kept : Kept) (command : Command) (fixed : Option Reply) where
   abbrev at_spot : Spot → Mutating
-  at_spot spot = mutator_at seat made phase cset spot
+  at_spot spot = mutator_at seat made kept spot
 
-  -- what the mutator counts on at a spot, once the call has a settled reply or none
-  abbrev HasSpot : ℕ → Option Reply → Spot → Type 0
-  HasSpot now settled spot = Mine c u (mutator_at seat made phase now spot) command settled
+  -- what the call of a command keeps that has loaded this collection set
+  abbrev keeping : Command → ℕ → Kept
+  keeping k now = record { command = k; phase = kept.phase; cset = now }
+
+  -- the mutator in a call of a command
+  abbrev at_call : Command → Spot → Mutating
+  at_call k spot = mutator_at seat made (keeping k kept.cset) spot
+
+  -- what it counts on at a spot, once the call has a settled reply or none
+  abbrev HasSpot : Command → ℕ → Option Reply → Spot → Type 0
+  HasSpot k now settled spot = Mine c u (mutator_at seat made (keeping k now) spot) command settled
 
   -- a call of a command has begun, and no root is in hand
-  abbrev HasBegun : ℕ → Command → Type 0
-  HasBegun now k = HasSpot now fixed (LoadSet k)
+  abbrev HasBegun : Command → Type 0
+  HasBegun k = IsUnderWay c u seat made command fixed k
 
   -- it can go on with the command's first root
-  root_mine : (k : Command) (now : ℕ) → 0 < length (roots_of k) → HasBegun cset k → HasSpot now fixed (LoadRoot k)
+  root_mine : (k : Command) (now : ℕ) → 0 < length (roots_of k) → HasBegun k → HasSpot k now fixed (Loading load.First)
   root_mine k now some mine =
       let below = mine.seated.below in
       let small = root_small made k 0 mine.facts.next some in
       record { seated = mine.seated; ready = grind (arith, nat_tests); roots = mine.roots; hands = mine.hands; facts = (mine.facts, some) }
 
   -- where it goes on after the collection set
-  set_mine : (k : Command) (now : ℕ) → HasBegun cset k → HasSpot now fixed (first_spot k)
+  set_mine : (k : Command) (now : ℕ) → HasBegun k → HasSpot k now fixed (first_spot k)
   set_mine (New dst refs nums) now mine =
       let below = mine.seated.below in
       let next = mine.facts.next in
@@ -127,11 +145,11 @@ module _ (c : Config) (u : World) (seat made phase cset : ℕ) (command : Comman
   set_mine (Same a b) now mine = root_mine (Same a b) now (omega arith) mine
 
   -- it leaves with the reply that is settled
-  leave_mine : (k : Command) (r : Reply) → HasBegun cset k → HasSpot cset (Some r) (Leave r)
-  leave_mine k r mine = leaving c _ seat made phase cset command r mine.seated mine.roots mine.hands
+  leave_mine : (k : Command) (r : Reply) → HasBegun k → HasSpot k kept.cset (Some r) (Leave r)
+  leave_mine k r mine = leaving c _ seat made (keeping k kept.cset) command r mine.seated mine.roots mine.hands
 
   -- it can go on with the shape of the command's object
-  shape_mine : (k : Command) (object second third : ℕ) → Shared c u → HasBegun cset k → is_on_object k ≡ true → HasRoots u seat k object second third → HasSpot cset fixed (LoadShape k object second third)
+  shape_mine : (k : Command) (object second third : ℕ) → Shared c u → HasBegun k → is_on_object k ≡ true → HasRoots u seat k object second third → HasSpot k kept.cset fixed (Loading (load.Shape object second third))
   shape_mine k object second third shared mine on has =
       let of : HasObject u seat (root_of k 0) object = object_of c u seat k object shared on has.first_is in
       record {
@@ -143,25 +161,25 @@ module _ (c : Config) (u : World) (seat made phase cset : ℕ) (command : Comman
       }
 
   -- the word of a root of the command stands for the root
-  root_has : (k : Command) (i : ℕ) → HasBegun cset k → HasRoot u seat k i (u.memory (Root seat (root_of k i)))
+  root_has : (k : Command) (i : ℕ) → HasBegun k → HasRoot u seat k i (u.memory (Root seat (root_of k i)))
   root_has k i mine below = mine.roots (root_of k i) (root_small made k i mine.facts.next below)
 
   -- it can go on with the second root, and with the third
-  second_mine : (k : Command) (first : ℕ) → HasBegun cset k → 1 < length (roots_of k) → HasFirst u seat k first → HasSpot cset fixed (LoadSecond k first)
+  second_mine : (k : Command) (first : ℕ) → HasBegun k → 1 < length (roots_of k) → HasFirst u seat k first → HasSpot k kept.cset fixed (Loading (load.Second first))
   second_mine k first mine more has =
       let below = mine.seated.below in
       let small = root_small made k 1 mine.facts.next more in
       record { seated = mine.seated; ready = grind (arith, nat_tests); roots = mine.roots; hands = mine.hands; facts = (mine.facts, more, has) }
 
   -- it can go on with the third root
-  third_mine : (k : Command) (first second : ℕ) → HasBegun cset k → 2 < length (roots_of k) → HasFirst u seat k first → HasRoot u seat k 1 second → HasSpot cset fixed (LoadThird k first second)
+  third_mine : (k : Command) (first second : ℕ) → HasBegun k → 2 < length (roots_of k) → HasFirst u seat k first → HasRoot u seat k 1 second → HasSpot k kept.cset fixed (Loading (load.Third first second))
   third_mine k first second mine more has has_second =
       let below = mine.seated.below in
       let small = root_small made k 2 mine.facts.next more in
       record { seated = mine.seated; ready = grind (arith, nat_tests); roots = mine.roots; hands = mine.hands; facts = (mine.facts, more, has, has_second) }
 
   -- where it goes on after the first root
-  first_mine : (k : Command) (first : ℕ) → Shared c u → HasBegun cset k → HasFirst u seat k first → HasSpot cset fixed (after_first k first)
+  first_mine : (k : Command) (first : ℕ) → Shared c u → HasBegun k → HasFirst u seat k first → HasSpot k kept.cset fixed (after_first k first)
   first_mine (Get dst src field) first shared mine has =
       shape_mine (Get dst src field) first 0 0 shared mine refl (record { first_is = has; second_is = λ below. absurd (omega arith); third_is = λ below. absurd (omega arith) })
   first_mine (Rd obj index) first shared mine has =
@@ -187,23 +205,25 @@ module _ (c : Config) (u : World) (seat made phase cset : ℕ) (command : Comman
   first_mine _ first shared mine has = let some = has.some in absurd (omega arith)
 
   -- the load of the collection set
-  pub at_load_set : (k : Command) → Row c u (at_spot (LoadSet k)) command fixed
-  at_load_set k shared mine = looks c u (at_spot (LoadSet k)) Cset command fixed refl refl refl shared (set_mine k (u.memory Cset) mine)
+  pub at_load_set : Row c u (at_spot LoadSet) command fixed
+  at_load_set shared mine =
+      let begun : HasBegun kept.command = record { seated = mine.seated; roots = mine.roots; hands = mine.hands; facts = mine.facts } in
+      looks c u (at_spot LoadSet) Cset command fixed refl refl refl shared (set_mine kept.command (u.memory Cset) begun)
 
   -- the first root of a command is null, and there is no object
-  root_lacks : (k : Command) → Shared c u → HasBegun cset k → 0 < length (roots_of k) → lacks_object k (u.memory (Root seat (root_of k 0))) ≡ true → Stepped c u (at_spot (LoadRoot k)) command Nothing fixed
+  root_lacks : (k : Command) → Shared c u → HasBegun k → 0 < length (roots_of k) → lacks_object k (u.memory (Root seat (root_of k 0))) ≡ true → Stepped c u (at_call k (Loading load.First)) command Nothing fixed
   root_lacks k shared mine some lacks =
       let parts = and_parts _ _ lacks in
       let null : u.graph.root (seat + 1) (root_of k 0) ≡ None = null_if_0 c _ u.block shared.plotted _ _ (root_has k 0 mine some) (eqb-true _ _ parts.1) in
-      replies c u (at_spot (LoadRoot k)) (Root seat (root_of k 0)) command fixed reply.Bad refl
+      replies c u (at_call k (Loading load.First)) (Root seat (root_of k 0)) command fixed reply.Bad refl
       (cond-true _ _ _ lacks) refl mine.facts.unsettled refl
       (ap (λ x. outcome u.graph (seat + 1) x) mine.facts.is ∙ bad_on_null u.graph (seat + 1) k parts.0 null)
       shared (rw lacks (leave_mine k reply.Bad mine))
 
   -- it is not, or the command works on none
-  root_goes : (k : Command) → Shared c u → HasBegun cset k → 0 < length (roots_of k) → lacks_object k (u.memory (Root seat (root_of k 0))) ≡ false → Stepped c u (at_spot (LoadRoot k)) command Nothing fixed
+  root_goes : (k : Command) → Shared c u → HasBegun k → 0 < length (roots_of k) → lacks_object k (u.memory (Root seat (root_of k 0))) ≡ false → Stepped c u (at_call k (Loading load.First)) command Nothing fixed
   root_goes k shared mine some lacks =
-      looks c u (at_spot (LoadRoot k)) (Root seat (root_of k 0)) command fixed refl (cond-false _ _ _ lacks) refl shared
+      looks c u (at_call k (Loading load.First)) (Root seat (root_of k 0)) command fixed refl (cond-false _ _ _ lacks) refl shared
       (rw lacks (first_mine k (u.memory (Root seat (root_of k 0))) shared mine (record {
         some = some;
         first_is = root_has k 0 mine;
@@ -211,54 +231,55 @@ module _ (c : Config) (u : World) (seat made phase cset : ℕ) (command : Comman
       })))
 
   -- the load of the first root
-  pub at_load_root : (k : Command) → Row c u (at_spot (LoadRoot k)) command fixed
-  at_load_root k shared mine =
-      let base : HasBegun cset k = record { seated = mine.seated; ready = refl; roots = mine.roots; hands = mine.hands; facts = mine.facts.0 } in
+  pub at_load_root : Row c u (at_spot (Loading load.First)) command fixed
+  at_load_root shared mine =
+      let k : Command = kept.command in
+      let base : HasBegun k = record { seated = mine.seated; roots = mine.roots; hands = mine.hands; facts = mine.facts.0 } in
       ⊎_elim (root_lacks k shared base mine.facts.1) (root_goes k shared base mine.facts.1) (cases_Bool (lacks_object k (u.memory (Root seat (root_of k 0)))))
 
   -- where it goes on after the second root; for a Same it is settled here whether the roots are the same
-  second_step : (k : Command) (first : ℕ) → Shared c u → HasBegun cset k → 1 < length (roots_of k) → HasFirst u seat k first → Stepped c u (at_spot (LoadSecond k first)) command Nothing fixed
+  second_step : (k : Command) (first : ℕ) → Shared c u → HasBegun k → 1 < length (roots_of k) → HasFirst u seat k first → Stepped c u (at_call k (Loading (load.Second first))) command Nothing fixed
   second_step (Set obj field val) first shared mine more has =
-      looks c u (at_spot (LoadSecond (Set obj field val) first)) (Root seat val) command fixed refl refl refl shared
+      looks c u (at_call (Set obj field val) (Loading (load.Second first))) (Root seat val) command fixed refl refl refl shared
       (shape_mine (Set obj field val) first (u.memory (Root seat val)) 0 shared mine refl (record { first_is = has; second_is = root_has (Set obj field val) 1 mine; third_is = λ below. absurd (omega arith) }))
   second_step (Cas obj field expect val) first shared mine more has =
-      looks c u (at_spot (LoadSecond (Cas obj field expect val) first)) (Root seat expect) command fixed refl refl refl shared
+      looks c u (at_call (Cas obj field expect val) (Loading (load.Second first))) (Root seat expect) command fixed refl refl refl shared
       (third_mine (Cas obj field expect val) first (u.memory (Root seat expect)) mine (omega arith) has (root_has (Cas obj field expect val) 1 mine))
   second_step (Xchg dst obj field val) first shared mine more has =
-      looks c u (at_spot (LoadSecond (Xchg dst obj field val) first)) (Root seat val) command fixed refl refl refl shared
+      looks c u (at_call (Xchg dst obj field val) (Loading (load.Second first))) (Root seat val) command fixed refl refl refl shared
       (shape_mine (Xchg dst obj field val) first (u.memory (Root seat val)) 0 shared mine refl (record { first_is = has; second_is = root_has (Xchg dst obj field val) 1 mine; third_is = λ below. absurd (omega arith) }))
   second_step (Same a b) first shared mine more has =
       let got : ℕ = u.memory (Root seat b) in
       let is_first = has.first_is has.some in
       let is_second = root_has (Same a b) 1 mine more in
       let agree : name_the_same u.memory first got ≡ (first == got) = names_agree c u shared first got _ _ is_first is_second in
-      replies c u (at_spot (LoadSecond (Same a b) first)) (Root seat b) command fixed (yes_or_no (name_the_same u.memory first got)) refl refl refl mine.facts.unsettled
+      replies c u (at_call (Same a b) (Loading (load.Second first))) (Root seat b) command fixed (yes_or_no (name_the_same u.memory first got)) refl refl refl mine.facts.unsettled
       (full_no (name_the_same u.memory first got))
       (ap (λ x. outcome u.graph (seat + 1) x) mine.facts.is ∙ ap (λ x. answers (yes_or_no x) u.graph) (sym (agree ∙ same_words c u shared first got _ _ is_first is_second)))
       shared
-      (subst (λ f. HasSpot cset f (Leave (yes_or_no (first == got)))) (ap (λ x. Some (yes_or_no x)) (sym agree)) (leave_mine (Same a b) (yes_or_no (first == got)) mine))
+      (subst (λ f. HasSpot (Same a b) kept.cset f (Leave (yes_or_no (first == got)))) (ap (λ x. Some (yes_or_no x)) (sym agree)) (leave_mine (Same a b) (yes_or_no (first == got)) mine))
   second_step _ first shared mine more has = absurd (omega arith)
 
   -- the load of the second root
-  pub at_load_second : (k : Command) (first : ℕ) → Row c u (at_spot (LoadSecond k first)) command fixed
-  at_load_second k first shared mine =
-      second_step k first shared (record { seated = mine.seated; ready = refl; roots = mine.roots; hands = mine.hands; facts = mine.facts.0 }) mine.facts.1 mine.facts.2
+  pub at_load_second : (first : ℕ) → Row c u (at_spot (Loading (load.Second first))) command fixed
+  at_load_second first shared mine =
+      second_step kept.command first shared (record { seated = mine.seated; roots = mine.roots; hands = mine.hands; facts = mine.facts.0 }) mine.facts.1 mine.facts.2
 
   -- where it goes on after the third root: only a Cas has one
-  third_step : (k : Command) (first second : ℕ) → Shared c u → HasBegun cset k → 2 < length (roots_of k) → HasFirst u seat k first → HasRoot u seat k 1 second → Stepped c u (at_spot (LoadThird k first second)) command Nothing fixed
+  third_step : (k : Command) (first second : ℕ) → Shared c u → HasBegun k → 2 < length (roots_of k) → HasFirst u seat k first → HasRoot u seat k 1 second → Stepped c u (at_call k (Loading (load.Third first second))) command Nothing fixed
   third_step (Cas obj field expect val) first second shared mine more has has_second =
-      looks c u (at_spot (LoadThird (Cas obj field expect val) first second)) (Root seat val) command fixed refl refl refl shared
+      looks c u (at_call (Cas obj field expect val) (Loading (load.Third first second))) (Root seat val) command fixed refl refl refl shared
       (shape_mine (Cas obj field expect val) first second (u.memory (Root seat val)) shared mine refl (record { first_is = has; second_is = has_second; third_is = root_has (Cas obj field expect val) 2 mine }))
   third_step _ first second shared mine more has has_second = absurd (omega arith)
 
   -- the load of the third root
-  pub at_load_third : (k : Command) (first second : ℕ) → Row c u (at_spot (LoadThird k first second)) command fixed
-  at_load_third k first second shared mine =
-      third_step k first second shared (record { seated = mine.seated; ready = refl; roots = mine.roots; hands = mine.hands; facts = mine.facts.0 }) mine.facts.1 mine.facts.2 mine.facts.3
+  pub at_load_third : (first second : ℕ) → Row c u (at_spot (Loading (load.Third first second))) command fixed
+  at_load_third first second shared mine =
+      third_step kept.command first second shared (record { seated = mine.seated; roots = mine.roots; hands = mine.hands; facts = mine.facts.0 }) mine.facts.1 mine.facts.2 mine.facts.3
 
   -- where it goes on with a part of the object that there is
-  part_mine : (k : Command) (object second third shape : ℕ) → Shared c u → HasBegun cset k → HasRoots u seat k object second third → (of : HasObject u seat (root_of k 0) object)
-      → refs_in shape ≡ of.refs → nums_in shape ≡ of.nums → is_on_object k ≡ true → has_part k shape ≡ true → HasSpot cset fixed (with_part k object second third shape)
+  part_mine : (k : Command) (object second third shape : ℕ) → Shared c u → HasBegun k → HasRoots u seat k object second third → (of : HasObject u seat (root_of k 0) object)
+      → refs_in shape ≡ of.refs → nums_in shape ≡ of.nums → is_on_object k ≡ true → has_part k shape ≡ true → HasSpot k kept.cset fixed (with_part k object second third shape)
   part_mine (Get dst src field) object second third shape shared mine has of refs nums on part =
       let next = mine.facts.next in
       let below : field < of.refs = let lt = ltb-true _ _ part in omega arith in
@@ -325,17 +346,18 @@ module _ (c : Config) (u : World) (seat made phase cset : ℕ) (command : Comman
   part_mine _ object second third shape shared mine has of refs nums on part = cc
 
   -- the load of the shape settles Bad where the object has no such part
-  pub at_load_shape : (k : Command) (object second third : ℕ) → Row c u (at_spot (LoadShape k object second third)) command fixed
-  at_load_shape k object second third shared mine =
-      let base : HasBegun cset k = record { seated = mine.seated; ready = refl; roots = mine.roots; hands = mine.hands; facts = mine.facts.0 } in
+  pub at_load_shape : (object second third : ℕ) → Row c u (at_spot (Loading (load.Shape object second third))) command fixed
+  at_load_shape object second third shared mine =
+      let k : Command = kept.command in
+      let base : HasBegun k = record { seated = mine.seated; roots = mine.roots; hands = mine.hands; facts = mine.facts.0 } in
       let of : HasObject u seat (root_of k 0) object = object_of c u seat k object shared mine.facts.1 mine.facts.2.first_is in
       let sizes = shape_in c u shared seat (root_of k 0) object of in
       ⊎_elim
       (λ (part : has_part k (u.memory (Heap (object + 1))) ≡ true).
-      looks c u (at_spot (LoadShape k object second third)) (Heap (object + 1)) command fixed refl (cond-true _ _ _ part) refl shared
+      looks c u (at_spot (Loading (load.Shape object second third))) (Heap (object + 1)) command fixed refl (cond-true _ _ _ part) refl shared
       (rw part (part_mine k object second third (u.memory (Heap (object + 1))) shared base mine.facts.2 of sizes.0 sizes.1 mine.facts.1 part)))
       (λ (lacks : has_part k (u.memory (Heap (object + 1))) ≡ false).
-      replies c u (at_spot (LoadShape k object second third)) (Heap (object + 1)) command fixed reply.Bad refl (cond-false _ _ _ lacks) refl mine.facts.0.unsettled refl
+      replies c u (at_spot (Loading (load.Shape object second third))) (Heap (object + 1)) command fixed reply.Bad refl (cond-false _ _ _ lacks) refl mine.facts.0.unsettled refl
       (ap (λ x. outcome u.graph (seat + 1) x) mine.facts.0.is ∙ bad_on_shape c u shared seat object k of mine.facts.1 lacks)
       shared (rw lacks (leave_mine k reply.Bad base)))
       (cases_Bool (has_part k (u.memory (Heap (object + 1)))))

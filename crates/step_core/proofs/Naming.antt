@@ -14,7 +14,8 @@ use Rattle.shen_graph.specs.declared.command.Reply.TheVariants as reply
 use Rattle.shen_graph.specs.Graph.{Reference, Object, Graph, same_name, same_reference, named, field_at, number_at}
 use Rattle.shen_graph.specs.Step.{shown, answers, outcome}
 use Rattle.shen_graph.proofs.PlainLemmas.{same_name-true, same_name-itself}
-use Rattle.mutator.specs.Rows.{root_of, is_on_object, has_part, name_in}
+use Rattle.mutator.specs.Commands.{root_of, is_on_object, has_part}
+use Rattle.mutator.specs.Rows.{name_in}
 use Rattle.mutator.specs.Told.{name_the_same, shown_word}
 use Rattle.heap_world.specs.World.{World, thing, name_at, Points, IsThing, Shared}
 use Rattle.step_core.specs.Stepped.{HasObject}

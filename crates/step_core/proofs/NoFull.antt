@@ -14,9 +14,17 @@ use Rattle.shen_graph.specs.Step.{yes_or_no}
 use Rattle.shen_graph.specs.History.{Entry, IsWithoutFull}
 use Rattle.shen_graph.specs.declared.order.Order.{Order}
 use Rattle.mutator.specs.declared.spot.Spot.{Spot}
-use Rattle.mutator.specs.declared.spot.Spot.TheVariants.{LoadRoot, LoadSecond, LoadShape, LoadField, LoadExpected, StoreField, SwapField, ExchangeField, LoadNumber, StoreNumber, StoreRoot, StoreFresh, AskCycle}
-use Rattle.mutator.specs.Rows.{root_of, lacks_object, has_part, name_in}
-use Rattle.mutator.specs.Told.{name_of_object, name_the_same, shown_word, told_second, told_at}
+use Rattle.mutator.specs.declared.spot.Spot.TheVariants.{Loading, OnField, OnNumber, StoreRoot, Making, AskCycle}
+use Rattle.mutator.specs.declared.loads.LoadSpot.TheVariants as load
+use Rattle.mutator.specs.declared.fields.FieldSpot.TheVariants as fields
+use Rattle.mutator.specs.declared.numbers.NumberSpot.TheVariants as numbers
+use Rattle.mutator.specs.declared.makes.MakeSpot.TheVariants as make
+use Rattle.mutator.specs.declared.spot.Kept.{Kept}
+use Rattle.mutator.specs.declared.loads.LoadSpot.{LoadSpot}
+use Rattle.mutator.specs.declared.fields.FieldSpot.{FieldSpot}
+use Rattle.mutator.specs.Commands.{root_of, index_of, lacks_object, has_part}
+use Rattle.mutator.specs.Rows.{name_in}
+use Rattle.mutator.specs.Told.{name_of_object, name_the_same, shown_word, told_second, load_told, field_told, told_at}
 use Rattle.step_core.specs.Actor.{Machine, mutating, Actor, entries_of, command_by}
 use Rattle.step_core.specs.Machines.{takes_of, kind, told_by}
 use Rattle.step_core.specs.History.{told_of_machine, told, history}
@@ -52,28 +60,36 @@ if_else true r not e = absurd cc
 if_else false r not e = not (some_same r Full e)
 
 -- what an access settles is no Full
-told_not_full : (memory : Word → ℕ) (seat made : ℕ) (spot : Spot) → told_at memory seat made spot ≢ Some Full
-told_not_full memory seat made (LoadRoot command) = if_then (lacks_object command (memory (Root seat (root_of command 0)))) Bad (λ h. absurd cc)
-told_not_full memory seat made (LoadSecond command first) = second_not_full memory command first (memory (Root seat (root_of command 1)))
-told_not_full memory seat made (LoadShape command object second third) = if_else (has_part command (memory (Heap (object + 1)))) Bad (λ h. absurd cc)
-told_not_full memory seat made (LoadField object field dst) = λ e. shown_not_full memory (memory (Heap (object + 3 + field))) (some_same _ Full e)
-told_not_full memory seat made (LoadExpected object field expect value) = if_else (name_the_same memory (memory (Heap (object + 3 + field))) expect) No (λ h. absurd cc)
-told_not_full memory seat made (StoreField object field value) = λ e. absurd cc
-told_not_full memory seat made (SwapField object field value dst) = λ e. shown_not_full memory (memory (Heap (object + 3 + field))) (some_same _ Full e)
-told_not_full memory seat made (ExchangeField object field found expect value) = if_then (memory (Heap (object + 3 + field)) == found) Yes (λ h. absurd cc)
-told_not_full memory seat made (LoadNumber object refs index) = λ e. absurd cc
-told_not_full memory seat made (StoreNumber object refs index value) = λ e. absurd cc
-told_not_full memory seat made (StoreRoot dst value) = λ e. absurd cc
-told_not_full memory seat made (StoreFresh dst refs nums address) = λ e. absurd cc
-told_not_full memory seat made AskCycle = λ e. absurd cc
-told_not_full memory seat made _ = λ e. absurd cc
+load_not_full : (memory : Word → ℕ) (seat : ℕ) (kept : Kept) (at : LoadSpot) → load_told memory seat kept at ≢ Some Full
+load_not_full memory seat kept load.First = if_then (lacks_object kept.command (memory (Root seat (root_of kept.command 0)))) Bad (λ h. absurd cc)
+load_not_full memory seat kept (load.Second first) = second_not_full memory kept.command first (memory (Root seat (root_of kept.command 1)))
+load_not_full memory seat kept (load.Third first second) = λ e. absurd cc
+load_not_full memory seat kept (load.Shape object second third) = if_else (has_part kept.command (memory (Heap (object + 1)))) Bad (λ h. absurd cc)
+
+field_not_full : (memory : Word → ℕ) (object : ℕ) (kept : Kept) (at : FieldSpot) → field_told memory object kept at ≢ Some Full
+field_not_full memory object kept fields.Load = λ e. shown_not_full memory (memory (Heap (object + 3 + index_of kept.command))) (some_same _ Full e)
+field_not_full memory object kept (fields.LoadExpected expect value) = if_else (name_the_same memory (memory (Heap (object + 3 + index_of kept.command))) expect) No (λ h. absurd cc)
+field_not_full memory object kept (fields.Store value) = λ e. absurd cc
+field_not_full memory object kept (fields.Swap value) = λ e. shown_not_full memory (memory (Heap (object + 3 + index_of kept.command))) (some_same _ Full e)
+field_not_full memory object kept (fields.Exchange found expect value) = if_then (memory (Heap (object + 3 + index_of kept.command)) == found) Yes (λ h. absurd cc)
+
+told_not_full : (memory : Word → ℕ) (seat made : ℕ) (kept : Kept) (spot : Spot) → told_at memory seat made kept spot ≢ Some Full
+told_not_full memory seat made kept (Loading at) = load_not_full memory seat kept at
+told_not_full memory seat made kept (OnField object at) = field_not_full memory object kept at
+told_not_full memory seat made kept (OnNumber object refs numbers.Load) = λ e. absurd cc
+told_not_full memory seat made kept (OnNumber object refs numbers.Store) = λ e. absurd cc
+told_not_full memory seat made kept (StoreRoot value) = λ e. absurd cc
+told_not_full memory seat made kept (Making (make.StoreRoot address)) = λ e. absurd cc
+told_not_full memory seat made kept (Making at) = λ e. absurd cc
+told_not_full memory seat made kept AskCycle = λ e. absurd cc
+told_not_full memory seat made kept _ = λ e. absurd cc
 
 entries_not_full : (seat : ℕ) (command : Command) (o : Option Reply) → o ≢ Some Full → All IsNotFull (entries_of seat command o)
 entries_not_full seat command None not = All-nil IsNotFull
 entries_not_full seat command (Some r) not = All-cons IsNotFull _ [] (λ e. not (ap (λ (x : Reply). Some x) e)) (All-nil IsNotFull)
 
 machine_not_full : (c : Config) (s : Stage Actor) (a : Actor) (order : Order) (machine : Machine) → All IsNotFull (told_by c s a order machine)
-machine_not_full c s a order (mutating m) = entries_not_full m.seat (command_by order a.command) _ (told_not_full (settled c s) m.seat m.made m.spot)
+machine_not_full c s a order (mutating m) = entries_not_full m.seat (command_by order a.command) _ (told_not_full (settled c s) m.seat m.made m.kept m.spot)
 machine_not_full c s a order _ = All-nil IsNotFull
 
 event_not_full : (c : Config) (s : Stage Actor) (e : Event Order) → All IsNotFull (told c s e)

@@ -10,7 +10,10 @@ use Rattle.shen_graph.specs.declared.command.Command.{Command}
 use Rattle.shen_graph.specs.declared.command.Reply.{Reply}
 use Rattle.alloc_buffers.specs.declared.spot.TakeSpot.{TakeSpot}
 use Rattle.alloc_buffers.specs.Rows as takes
-use Rattle.mutator.specs.declared.spot.Spot.TheVariants.{Taking, StoreWord, StoreFresh, Leave}
+use Rattle.mutator.specs.declared.spot.Spot.TheVariants.{Making, Leave}
+use Rattle.mutator.specs.declared.makes.MakeSpot.TheVariants as make
+use Rattle.mutator.specs.declared.spot.Kept.{Kept}
+use Rattle.mutator.specs.Commands.{dst_of, refs_of, nums_of}
 use Rattle.mutator.specs.Rows.{fresh_word}
 use Rattle.mutator.specs.Fit.{is_ready, is_next_object, is_going}
 use Rattle.heap_world.specs.World.{World, hand, Plot, Points, IsPlotted}
@@ -27,32 +30,38 @@ pub number_small : (n : ℕ) → n < 2097152 → is_number n ≡ true
 number_small n small = lt-ltb n (2 ^ 64) (omega arith)
 
 -- a mutator can always leave
-leave_ready : (c : Config) (seat made : ℕ) (reply : Reply) → seat < c.mutators → is_ready c seat made (Leave reply) ≡ true
-leave_ready c seat made reply below = grind (arith, nat_tests)
+leave_ready : (c : Config) (seat made : ℕ) (kept : Kept) (reply : Reply) → seat < c.mutators → is_ready c seat made kept (Leave reply) ≡ true
+leave_ready c seat made kept reply below = grind (arith, nat_tests)
 
 -- with its reply settled, a mutator has only to leave
-pub leaving : (c : Config) (w : World) (seat made phase cset : ℕ) (command : Command) (r : Reply) → IsSeated c.mutators seat (w.graph.count (seat + 1)) made
+pub leaving : (c : Config) (w : World) (seat made : ℕ) (kept : Kept) (command : Command) (r : Reply) → IsSeated c.mutators seat (w.graph.count (seat + 1)) made
     → ((i : ℕ) → i < 16 → Points w.block (w.memory (Root seat i)) (w.graph.root (seat + 1) i)) → ((a words : ℕ) → w.block a ≡ Some (hand seat words) → ⊥)
-    → Mine c w (mutator_at seat made phase cset (Leave r)) command (Some r)
-leaving c w seat made phase cset command r seated roots hands = record { seated = seated; ready = leave_ready c seat made r seated.below; roots = roots; hands = hands; facts = refl }
+    → Mine c w (mutator_at seat made kept (Leave r)) command (Some r)
+leaving c w seat made kept command r seated roots hands = record { seated = seated; ready = leave_ready c seat made kept r seated.below; roots = roots; hands = hands; facts = refl }
 
 -- the words of a new object are words of 64 bits
 fresh_small : (seat made refs nums k : ℕ) → seat < 8 → made < 4294967295 → refs ≤ 16 → nums ≤ 16 → fresh_word seat made refs nums k < 2 ^ 64
 fresh_small seat made refs nums k few_seats few_made few_refs few_nums = grind (arith, nat_tests)
 
-module _ (c : Config) (seat made : ℕ) (command : Command) (fixed : Option Reply) (dst refs nums : ℕ) (making : IsMaking made command fixed dst refs nums) where
+module _ (c : Config) (seat made : ℕ) (kept : Kept) (command : Command) (fixed : Option Reply) (making : IsMaking made command fixed (dst_of kept.command) (refs_of kept.command) (nums_of kept.command)) where
+  abbrev refs : ℕ
+  refs = refs_of kept.command
+
+  abbrev nums : ℕ
+  nums = nums_of kept.command
+
   -- the object can be made
   object_fits : is_next_object made refs nums ≡ true
   object_fits = and_from _ _ (lt-ltb _ _ making.few) (and_from _ _ (le-leb _ _ making.few_refs) (le-leb _ _ making.few_nums))
 
   -- the accesses of a taking can be made
   pub taking_ready : (take : TakeSpot) → touch_fits c (takes.touch_at seat (3 + refs + nums) take) ≡ true → is_going take ≡ true → takes.numbers_fit c (3 + refs + nums) take ≡ true
-      → is_ready c seat made (Taking dst refs nums take) ≡ true
+      → is_ready c seat made kept (Making (make.Taking take)) ≡ true
   taking_ready take fits going numbers = and_from _ _ fits (and_from _ _ object_fits (and_from _ _ going numbers))
 
   module _ (top : ℕ → ℕ) (block : Plot) (plotted : IsPlotted c top block) (address : ℕ) (room : block address ≡ Some (hand seat (3 + refs + nums))) (mutator : seat < c.mutators) where
     -- the words of the object can be stored
-    pub word_ready : (k : ℕ) → k < 3 + refs + nums → is_ready c seat made (StoreWord dst refs nums address k) ≡ true
+    pub word_ready : (k : ℕ) → k < 3 + refs + nums → is_ready c seat made kept (Making (make.StoreWord address k)) ≡ true
     word_ready k below =
         let few : seat < 8 = (let most = c.in_range.most_mutators in omega (arith, mutator, most)) in
         and_from _ _
@@ -62,8 +71,8 @@ module _ (c : Config) (seat made : ℕ) (command : Command) (fixed : Option Repl
         (and_from _ _ object_fits (lt-ltb _ _ below))
 
     -- its address can be stored into a root
-    pub fresh_ready : is_ready c seat made (StoreFresh dst refs nums address) ≡ true
+    pub fresh_ready : is_ready c seat made kept (Making (make.StoreRoot address)) ≡ true
     fresh_ready =
         and_from _ _
         (and_from _ _ (and_from _ _ (lt-ltb _ _ mutator) (lt-ltb _ _ making.small)) (number_small address (piece_small c top block plotted address (hand seat (3 + refs + nums)) room)))
-        object_fits
+        (and_from _ _ object_fits refl)

@@ -5,6 +5,7 @@ use Rattle.heap_words.specs.declared.config.Config.{Config}
 use Rattle.heap_words.specs.Words.{Root}
 use Rattle.shen_graph.specs.declared.command.Command.{Command}
 use Rattle.shen_graph.specs.History.{Entry}
+use Rattle.mutator.specs.declared.spot.Kept.{Kept}
 use Rattle.mutator.specs.declared.spot.Spot.{Spot}
 use Rattle.mutator.specs.declared.spot.Spot.TheVariants.{Rest, Ended}
 use Rattle.mutator.specs.Orders.{is_between_calls, is_valid}
@@ -44,14 +45,14 @@ mutator_of c k (helping h) number below = absurd (omega (arith, number.0, below)
 mutator_of c k (controlling h) number below = absurd (omega (arith, number, below))
 
 -- what a mutator counts on between two calls
-rest_mine : (c : Config) (w : World) (seat made phase cset : ℕ) (command : Command) (spot : Spot) → is_between_calls spot ≡ true → seat < c.mutators → w.graph.count (seat + 1) ≡ made
+rest_mine : (c : Config) (w : World) (seat made : ℕ) (kept : Kept) (command : Command) (spot : Spot) → is_between_calls spot ≡ true → seat < c.mutators → w.graph.count (seat + 1) ≡ made
     → ((i : ℕ) → i < 16 → Points w.block (w.memory (Root seat i)) (w.graph.root (seat + 1) i)) → ((a words : ℕ) → w.block a ≡ Some (hand seat words) → ⊥)
-    → Mine c w (mutator_at seat made phase cset spot) command None
-rest_mine c w seat made phase cset command Rest rest below counted roots none =
+    → Mine c w (mutator_at seat made kept spot) command None
+rest_mine c w seat made kept command Rest rest below counted roots none =
     record { seated = record { below = below; counted = counted }; ready = refl; roots = roots; hands = none; facts = refl }
-rest_mine c w seat made phase cset command (Ended r) rest below counted roots none =
+rest_mine c w seat made kept command (Ended r) rest below counted roots none =
     record { seated = record { below = below; counted = counted }; ready = refl; roots = roots; hands = none; facts = refl }
-rest_mine c w seat made phase cset command _ rest below counted roots none = absurd cc
+rest_mine c w seat made kept command _ rest below counted roots none = absurd cc
 
 -- an idle machine that has ended no call, in a world in which nobody has room in hand
 pub machine_begins : (c : Config) (w : World) (k : ℕ) (b : Actor) (machine : Machine) → HasNumber c k machine → IsIdle w.graph k machine → b.calls ≡ [] → is_valid b.command ≡ true
@@ -63,7 +64,7 @@ machine_begins c w k b (mutating m) number idle calls valid roots none =
       fixed = None;
       number_is = number.0;
       valid = valid;
-      mine = rest_mine c w m.seat m.made m.phase m.cset b.command m.spot idle.1 below (subst (λ j. w.graph.count (j + 1) ≡ m.made) (sym number.0) idle.0)
+      mine = rest_mine c w m.seat m.made m.kept b.command m.spot idle.1 below (subst (λ j. w.graph.count (j + 1) ≡ m.made) (sym number.0) idle.0)
           (λ i small. roots m.seat i below small) (λ a words is. none a m.seat words is);
       entries_are = sym (append-nil b.calls ∙ calls);
     }

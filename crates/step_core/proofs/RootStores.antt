@@ -12,8 +12,11 @@ use Rattle.shen_graph.specs.declared.command.Reply.TheVariants as reply
 use Rattle.shen_graph.specs.Graph.{Reference, with_root}
 use Rattle.shen_graph.specs.Step.{answers, outcome}
 use Rattle.mutator.specs.declared.spot.Spot.{Spot}
-use Rattle.mutator.specs.declared.spot.Spot.TheVariants.{StoreLoaded, StoreRoot}
+use Rattle.mutator.specs.declared.spot.Spot.TheVariants.{Showing, StoreRoot}
+use Rattle.mutator.specs.declared.shows.ShowSpot.TheVariants as show
+use Rattle.mutator.specs.declared.spot.Kept.{Kept}
 use Rattle.shen_graph.specs.declared.order.Order.TheVariants.{Nothing}
+use Rattle.mutator.specs.Commands.{dst_of}
 use Rattle.mutator.specs.Rows.{Mutating, touch_of}
 use Rattle.heap_world.specs.World.{World, Plot, Points, Shared}
 use Rattle.step_core.specs.Stepped.{Mine, Stepped, Row}
@@ -36,14 +39,18 @@ roots_written block memory root seat dst value v roots stands i below =
     subst (λ word. Points block word (if ((seat + 1) == (seat + 1)) && (i == dst) then v else root (seat + 1) i)) (root_written memory seat dst value i)
     (roots_then block (λ k. memory (Root seat k)) root (seat + 1) dst value v roots stands i below)
 
-module _ (c : Config) (u : World) (seat made phase cset : ℕ) (command : Command) (fixed : Option Reply) where
+module _ (c : Config) (u : World) (seat made : ℕ) (kept : Kept) (command : Command) (fixed : Option Reply) where
   abbrev at_spot : Spot → Mutating
-  at_spot spot = mutator_at seat made phase cset spot
+  at_spot spot = mutator_at seat made kept spot
+
+  -- the command's root
+  abbrev dst : ℕ
+  dst = dst_of kept.command
 
   -- the store of a loaded reference, which is settled, into a root
-  pub at_store_loaded : (dst value : ℕ) (r : Reply) → Row c u (at_spot (StoreLoaded dst value r)) command fixed
-  at_store_loaded dst value r shared mine = record {
-    world = accessed c u (at_spot (StoreLoaded dst value r));
+  pub at_store_loaded : (value : ℕ) (r : Reply) → Row c u (at_spot (Showing value (show.StoreRoot r))) command fixed
+  at_store_loaded value r shared mine = record {
+    world = accessed c u (at_spot (Showing value (show.StoreRoot r)));
     memory = refl;
     graph = refl;
     legal = tt;
@@ -51,29 +58,29 @@ module _ (c : Config) (u : World) (seat made phase cset : ℕ) (command : Comman
     shared = shared;
     mine =
         rw mine.facts.0
-        (leaving c _ seat made phase cset command r mine.seated
+        (leaving c _ seat made kept command r mine.seated
         (λ i below. subst (λ word. Points u.block word (u.graph.root (seat + 1) i)) (root_written u.memory seat dst value i) (mine.roots i below)) mine.hands);
     others = λ j d. search (arith, nat_tests);
   }
 
   -- A step that stores a reference into a root settles the reply Ok of a command which makes that root the reference.
-  root_step : (dst value : ℕ) (v : Reference) → Shared c u → Mine c u (at_spot (StoreRoot dst value)) command fixed
+  root_step : (value : ℕ) (v : Reference) → Shared c u → Mine c u (at_spot (StoreRoot value)) command fixed
       → outcome u.graph (seat + 1) command ≡ answers reply.Ok (with_root u.graph (seat + 1) dst v) → Points u.block value v
-      → Stepped c u (at_spot (StoreRoot dst value)) command Nothing fixed
-  root_step dst value v shared mine is stands = record {
-    world = record { memory = touched u.memory (touch_of c (at_spot (StoreRoot dst value))); block = u.block; owner = u.owner; graph = with_root u.graph (seat + 1) dst v };
+      → Stepped c u (at_spot (StoreRoot value)) command Nothing fixed
+  root_step value v shared mine is stands = record {
+    world = record { memory = touched u.memory (touch_of c (at_spot (StoreRoot value))); block = u.block; owner = u.owner; graph = with_root u.graph (seat + 1) dst v };
     memory = refl;
     graph = sym (graph_answer u.graph seat command reply.Ok refl ∙ ap (λ o. o.graph) is);
     legal = legal_answer u.graph seat command reply.Ok refl (ap (λ o. o.reply) is);
     settles = λ r e. (mine.facts.0, refl);
     shared = shared;
-    mine = leaving c _ seat made phase cset command reply.Ok mine.seated (roots_written u.block u.memory u.graph.root seat dst value v mine.roots stands) mine.hands;
+    mine = leaving c _ seat made kept command reply.Ok mine.seated (roots_written u.block u.memory u.graph.root seat dst value v mine.roots stands) mine.hands;
     others = λ j d. search (arith, nat_tests);
   }
 
   -- the store of a reference into a root settles Ok
-  pub at_store_root : (dst value : ℕ) → Row c u (at_spot (StoreRoot dst value)) command fixed
-  at_store_root dst value shared mine = ⊎_elim
-      (λ copy. root_step dst value (u.graph.root (seat + 1) copy.src) shared mine (ap (λ k. outcome u.graph (seat + 1) k) copy.is) copy.value_is)
-      (λ drop. root_step dst value None shared mine (ap (λ k. outcome u.graph (seat + 1) k) drop.is) drop.value_is)
+  pub at_store_root : (value : ℕ) → Row c u (at_spot (StoreRoot value)) command fixed
+  at_store_root value shared mine = ⊎_elim
+      (λ copy. root_step value (u.graph.root (seat + 1) copy.src) shared mine (ap (λ k. outcome u.graph (seat + 1) k) copy.is) copy.value_is)
+      (λ drop. root_step value None shared mine (ap (λ k. outcome u.graph (seat + 1) k) drop.is) drop.value_is)
       mine.facts.2

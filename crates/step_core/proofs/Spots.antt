@@ -2,13 +2,14 @@
 use Rattle.std.proofs.Common.{ℕ}
 use Rattle.heap_words.specs.declared.config.Config.{Config}
 use Rattle.steps_base.specs.Touch.{touched}
+use Rattle.mutator.specs.declared.spot.Kept.{Kept}
 use Rattle.mutator.specs.declared.spot.Spot.{Spot}
 use Rattle.mutator.specs.Rows.{Mutating, touch_of}
 use Rattle.heap_world.specs.World.{World}
 
 -- a mutator at a spot
-abbrev pub mutator_at : ℕ → ℕ → ℕ → ℕ → Spot → Mutating
-mutator_at seat made phase cset spot = record { seat = seat; made = made; phase = phase; cset = cset; spot = spot }
+abbrev pub mutator_at : ℕ → ℕ → Kept → Spot → Mutating
+mutator_at seat made kept spot = record { seat = seat; made = made; kept = kept; spot = spot }
 
 -- the world after its access
 abbrev pub accessed : Config → World → Mutating → World

@@ -4,11 +4,23 @@ use Rattle.heap_words.specs.declared.config.Config.{Config}
 use Rattle.shen_graph.specs.declared.command.Command.{Command}
 use Rattle.shen_graph.specs.declared.command.Reply.{Reply}
 use Rattle.alloc_buffers.specs.declared.spot.TakeSpot.{TakeSpot}
+use Rattle.mutator.specs.declared.spot.Kept.{Kept}
 use Rattle.mutator.specs.declared.spot.Spot.{Spot}
-use Rattle.mutator.specs.declared.spot.Spot.TheVariants.{Rest, Ended, LoadSet, LoadRoot, AskCycle, Leave, LoadSecond, LoadThird, LoadShape, LoadField, LoadExpected, StoreField, SwapField, ExchangeField, LoadNumber, StoreNumber, LoadName, StoreLoaded, StoreRoot, Taking, StoreWord, StoreFresh}
-use Rattle.mutator.specs.Rows.{Mutating, root_of}
+use Rattle.mutator.specs.declared.spot.Spot.TheVariants.{Rest, Ended, LoadSet, Loading, OnField, OnNumber, Showing, StoreRoot, Making, AskCycle, Leave}
+use Rattle.mutator.specs.declared.loads.LoadSpot.{LoadSpot}
+use Rattle.mutator.specs.declared.loads.LoadSpot.TheVariants as load
+use Rattle.mutator.specs.declared.fields.FieldSpot.{FieldSpot}
+use Rattle.mutator.specs.declared.fields.FieldSpot.TheVariants as fields
+use Rattle.mutator.specs.declared.numbers.NumberSpot.{NumberSpot}
+use Rattle.mutator.specs.declared.numbers.NumberSpot.TheVariants as numbers
+use Rattle.mutator.specs.declared.shows.ShowSpot.{ShowSpot}
+use Rattle.mutator.specs.declared.shows.ShowSpot.TheVariants as show
+use Rattle.mutator.specs.declared.makes.MakeSpot.{MakeSpot}
+use Rattle.mutator.specs.declared.makes.MakeSpot.TheVariants as make
+use Rattle.mutator.specs.Commands.{root_of, dst_of, index_of, number_of, refs_of, nums_of}
+use Rattle.mutator.specs.Rows.{Mutating, words_of}
 use Rattle.heap_world.specs.World.{World, Points, Shared}
-use Rattle.step_core.specs.Stepped.{HasRoot, HasObject, HasFirst, IsGet, IsSet, IsCas, IsXchg, IsRd, IsWr, IsFound, IsCopy, IsFilling, SpotFacts, Mine}
+use Rattle.step_core.specs.Stepped.{HasRoot, HasObject, HasFirst, IsGet, IsSet, IsCas, IsXchg, IsRd, IsWr, IsFound, IsCopy, IsFilling, LoadFacts, FieldFacts, NumberFacts, ShowFacts, MakeFacts, SpotFacts, Mine}
 use Rattle.step_core.specs.Own.{root_now}
 use Rattle.heap_world.specs.Rely.{Keeps, Rely}
 use Rattle.alloc_buffers.specs.Facts.{TakeFacts}
@@ -102,47 +114,64 @@ module _ (c : Config) (u w : World) (seat : ℕ) (keeps : Keeps seat u w) where
   copy_stays : (command : Command) (dst value : ℕ) → IsCopy u seat command dst value → IsCopy w seat command dst value
   copy_stays command dst value is = record { src = is.src; is = is.is; value_is = root_stays value is.src is.value_is }
 
-  -- what a mutator counts on at its spot stays, if that of a taking does
-  facts_stay : (made : ℕ) (command : Command) (fixed : Option Reply) → ((words : ℕ) (take : TakeSpot) → TakeFacts c u seat words take → TakeFacts c w seat words take) → (spot : Spot) → SpotFacts c u seat made command fixed spot → SpotFacts c w seat made command fixed spot
-  facts_stay made command fixed taking Rest facts = facts
-  facts_stay made command fixed taking (Ended reply) facts = facts
-  facts_stay made command fixed taking (LoadSet k) facts = facts
-  facts_stay made command fixed taking (LoadRoot k) facts = facts
-  facts_stay made command fixed taking (LoadSecond k first) facts = (facts.0, facts.1, first_stays k first facts.2)
-  facts_stay made command fixed taking (LoadThird k first second) facts = (facts.0, facts.1, first_stays k first facts.2, loaded_stays k 1 second facts.3)
-  facts_stay made command fixed taking (LoadShape k object second third) facts = (
+  -- what a mutator counts on in each part of a call stays
+  load_stays : (made : ℕ) (k command : Command) (fixed : Option Reply) (at : LoadSpot) → LoadFacts u seat made k command fixed at → LoadFacts w seat made k command fixed at
+  load_stays made k command fixed load.First facts = facts
+  load_stays made k command fixed (load.Second first) facts = (facts.0, facts.1, first_stays k first facts.2)
+  load_stays made k command fixed (load.Third first second) facts = (facts.0, facts.1, first_stays k first facts.2, loaded_stays k 1 second facts.3)
+  load_stays made k command fixed (load.Shape object second third) facts = (
     facts.0,
     facts.1,
     record { first_is = first_stays k object facts.2.first_is; second_is = loaded_stays k 1 second facts.2.second_is; third_is = loaded_stays k 2 third facts.2.third_is },
   )
-  facts_stay made command fixed taking (LoadField object field dst) facts = (facts.0, get_stays command object field dst facts.1)
-  facts_stay made command fixed taking (LoadExpected object field expect value) facts = (facts.0, cas_stays command object field expect value facts.1)
-  facts_stay made command fixed taking (StoreField object field value) facts = (facts.0, set_stays command object field value facts.1)
-  facts_stay made command fixed taking (SwapField object field value dst) facts = (facts.0, xchg_stays command object field value dst facts.1)
-  facts_stay made command fixed taking (ExchangeField object field found expect value) facts = (facts.0, cas_stays command object field expect value facts.1, facts.2)
-  facts_stay made command fixed taking (LoadNumber object refs index) facts = (facts.0, rd_stays command object refs index facts.1)
-  facts_stay made command fixed taking (StoreNumber object refs index value) facts = (facts.0, wr_stays command object refs index value facts.1)
-  facts_stay made command fixed taking (LoadName value dst) facts = found_stays fixed value dst facts
-  facts_stay made command fixed taking (StoreLoaded dst value reply) facts = facts
-  facts_stay made command fixed taking (StoreRoot dst value) facts = (facts.0, facts.1, ⊎_elim (λ is. inl (copy_stays command dst value is)) (λ is. inr is) facts.2)
-  facts_stay made command fixed taking (Taking dst refs nums take) facts = (facts.0, taking (3 + refs + nums) take facts.1)
-  facts_stay made command fixed taking (StoreWord dst refs nums address done) facts = (facts.0, filling_stays made refs nums address done facts.1, facts.2)
-  facts_stay made command fixed taking (StoreFresh dst refs nums address) facts = (facts.0, filling_stays made refs nums address (3 + refs + nums) facts.1)
-  facts_stay made command fixed taking AskCycle facts = facts
-  facts_stay made command fixed taking (Leave reply) facts = facts
+
+  field_stays : (k command : Command) (fixed : Option Reply) (object : ℕ) (at : FieldSpot) → FieldFacts u seat k command fixed object at → FieldFacts w seat k command fixed object at
+  field_stays k command fixed object fields.Load facts = (facts.0, get_stays command object (index_of k) (dst_of k) facts.1)
+  field_stays k command fixed object (fields.LoadExpected expect value) facts = (facts.0, cas_stays command object (index_of k) expect value facts.1)
+  field_stays k command fixed object (fields.Store value) facts = (facts.0, set_stays command object (index_of k) value facts.1)
+  field_stays k command fixed object (fields.Swap value) facts = (facts.0, xchg_stays command object (index_of k) value (dst_of k) facts.1)
+  field_stays k command fixed object (fields.Exchange found expect value) facts = (facts.0, cas_stays command object (index_of k) expect value facts.1, facts.2)
+
+  number_stays : (k command : Command) (fixed : Option Reply) (object refs : ℕ) (at : NumberSpot) → NumberFacts u seat k command fixed object refs at → NumberFacts w seat k command fixed object refs at
+  number_stays k command fixed object refs numbers.Load facts = (facts.0, rd_stays command object refs (index_of k) facts.1)
+  number_stays k command fixed object refs numbers.Store facts = (facts.0, wr_stays command object refs (index_of k) (number_of k) facts.1)
+
+  show_stays : (k : Command) (fixed : Option Reply) (value : ℕ) (at : ShowSpot) → ShowFacts u k fixed value at → ShowFacts w k fixed value at
+  show_stays k fixed value show.LoadName facts = found_stays fixed value (dst_of k) facts
+  show_stays k fixed value (show.StoreRoot reply) facts = facts
+
+  make_stays : (made : ℕ) (k command : Command) (fixed : Option Reply) → ((words : ℕ) (take : TakeSpot) → TakeFacts c u seat words take → TakeFacts c w seat words take) → (at : MakeSpot)
+      → MakeFacts c u seat made k command fixed at → MakeFacts c w seat made k command fixed at
+  make_stays made k command fixed taking (make.Taking take) facts = (facts.0, taking (words_of k) take facts.1)
+  make_stays made k command fixed taking (make.StoreWord address done) facts = (facts.0, filling_stays made (refs_of k) (nums_of k) address done facts.1, facts.2)
+  make_stays made k command fixed taking (make.StoreRoot address) facts = (facts.0, filling_stays made (refs_of k) (nums_of k) address (words_of k) facts.1)
+
+  -- and at its spot, if that of a taking does
+  facts_stay : (made : ℕ) (kept : Kept) (command : Command) (fixed : Option Reply) → ((words : ℕ) (take : TakeSpot) → TakeFacts c u seat words take → TakeFacts c w seat words take) → (spot : Spot)
+      → SpotFacts c u seat made kept command fixed spot → SpotFacts c w seat made kept command fixed spot
+  facts_stay made kept command fixed taking Rest facts = facts
+  facts_stay made kept command fixed taking (Ended reply) facts = facts
+  facts_stay made kept command fixed taking LoadSet facts = facts
+  facts_stay made kept command fixed taking (Loading at) facts = load_stays made kept.command command fixed at facts
+  facts_stay made kept command fixed taking (OnField object at) facts = field_stays kept.command command fixed object at facts
+  facts_stay made kept command fixed taking (OnNumber object refs at) facts = number_stays kept.command command fixed object refs at facts
+  facts_stay made kept command fixed taking (Showing value at) facts = show_stays kept.command fixed value at facts
+  facts_stay made kept command fixed taking (StoreRoot value) facts = (facts.0, facts.1, ⊎_elim (λ is. inl (copy_stays command (dst_of kept.command) value is)) (λ is. inr is) facts.2)
+  facts_stay made kept command fixed taking (Making at) facts = make_stays made kept.command command fixed taking at facts
+  facts_stay made kept command fixed taking AskCycle facts = facts
+  facts_stay made kept command fixed taking (Leave reply) facts = facts
 
   -- a root that counts stays
-  now_stays : (spot : Spot) (index : ℕ) → root_now w seat spot index ≡ root_now u seat spot index
-  now_stays (LoadName value dst) index = rw (keeps.root_words index) refl
-  now_stays (StoreLoaded dst value reply) index = rw (keeps.root_words index) refl
-  now_stays _ index = keeps.root_words index
+  now_stays : (kept : Kept) (spot : Spot) (index : ℕ) → root_now w seat kept spot index ≡ root_now u seat kept spot index
+  now_stays kept (Showing value at) index = rw (keeps.root_words index) refl
+  now_stays kept _ index = keeps.root_words index
 
 -- all that it knows stays
 pub mine_stays : (c : Config) (u w : World) (m : Mutating) (command : Command) (fixed : Option Reply) → Shared c u → Rely m.seat u w → Mine c u m command fixed → Mine c w m command fixed
 mine_stays c u w m command fixed shared rely mine = let keeps : Keeps m.seat u w = keeps_of m.seat u w rely in record {
   seated = record { below = mine.seated.below; counted = rely.count ∙ mine.seated.counted };
   ready = mine.ready;
-  roots = λ i below. rw (now_stays c u w m.seat keeps m.spot i) (root_stays c u w m.seat keeps _ i (mine.roots i below));
+  roots = λ i below. rw (now_stays c u w m.seat keeps m.kept m.spot i) (root_stays c u w m.seat keeps _ i (mine.roots i below));
   hands = λ a words is. mine.hands a words (rely.no_hands a words is);
-  facts = facts_stay c u w m.seat keeps m.made command fixed (take_stays c u w m.seat rely (λ r is. shared.currents.own m.seat r is)) m.spot mine.facts;
+  facts = facts_stay c u w m.seat keeps m.made m.kept command fixed (take_stays c u w m.seat rely (λ r is. shared.currents.own m.seat r is)) m.spot mine.facts;
 }

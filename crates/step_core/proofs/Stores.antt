@@ -15,8 +15,12 @@ use Rattle.shen_graph.specs.Graph.{Reference, Object, Graph, same_reference, fie
 use Rattle.shen_graph.specs.Step.{outcome, answers, shown}
 use Rattle.shen_graph.specs.History.{is_full}
 use Rattle.mutator.specs.declared.spot.Spot.{Spot}
-use Rattle.mutator.specs.declared.spot.Spot.TheVariants.{StoreField, SwapField, ExchangeField, StoreNumber}
+use Rattle.mutator.specs.declared.spot.Spot.TheVariants.{OnField, OnNumber}
+use Rattle.mutator.specs.declared.fields.FieldSpot.TheVariants as fields
+use Rattle.mutator.specs.declared.numbers.NumberSpot.TheVariants as numbers
+use Rattle.mutator.specs.declared.spot.Kept.{Kept}
 use Rattle.shen_graph.specs.declared.order.Order.TheVariants.{Nothing}
+use Rattle.mutator.specs.Commands.{dst_of, index_of, number_of}
 use Rattle.mutator.specs.Rows.{Mutating, touch_of, next_of, given_at}
 use Rattle.mutator.specs.Told.{told_of}
 use Rattle.heap_world.specs.World.{World, Points, Target, IsThing, Shared}
@@ -112,40 +116,52 @@ module _ (c : Config) (u : World) (m : Mutating) (object field value obj val : �
   field_settles command fixed r memory told given unsettled other answered roots mine =
       store_settles c u m object of.refs of.nums (object + 3 + field) value of.name object_then root command fixed r memory told given unsettled other shared of.target (omega arith) (omega arith) object_stands answered roots mine
 
-module _ (c : Config) (u : World) (seat made phase cset : ℕ) (command : Command) (fixed : Option Reply) where
+module _ (c : Config) (u : World) (seat made : ℕ) (kept : Kept) (command : Command) (fixed : Option Reply) where
   abbrev at_spot : Spot → Mutating
-  at_spot spot = mutator_at seat made phase cset spot
+  at_spot spot = mutator_at seat made kept spot
+
+  -- the command's field or number
+  abbrev field : ℕ
+  field = index_of kept.command
+
+  -- the command's root
+  abbrev dst : ℕ
+  dst = dst_of kept.command
+
+  -- the command's number
+  abbrev number : ℕ
+  number = number_of kept.command
 
   -- the store into a field settles Ok
-  pub at_store_field : (object field value : ℕ) → Row c u (at_spot (StoreField object field value)) command fixed
-  at_store_field object field value shared mine =
+  pub at_store_field : (object value : ℕ) → Row c u (at_spot (OnField object (fields.Store value))) command fixed
+  at_store_field object value shared mine =
       let is = mine.facts.1 in
       let o = object_in c u shared seat is.obj object is.of in
       let v = field_in c u shared seat is.obj object field is.of is.below in
       let answered = set_outcome u.graph (seat + 1) is.obj is.of.name o.0 is.of.root_is o.1 field is.val v.0 v.1 in
-      field_settles c u (at_spot (StoreField object field value)) object field value is.obj is.val shared is.of is.below is.value_is u.graph.root command fixed reply.Ok
+      field_settles c u (at_spot (OnField object (fields.Store value))) object field value is.obj is.val shared is.of is.below is.value_is u.graph.root command fixed reply.Ok
       refl refl refl mine.facts.0 refl (ap (λ k. outcome u.graph (seat + 1) k) is.is ∙ answered) (λ j i d. refl)
-      (leaving c _ seat made phase cset command reply.Ok mine.seated mine.roots mine.hands)
+      (leaving c _ seat made kept command reply.Ok mine.seated mine.roots mine.hands)
 
   -- the swap of a field settles the reference that it had
-  pub at_swap_field : (object field value dst : ℕ) → Row c u (at_spot (SwapField object field value dst)) command fixed
-  at_swap_field object field value dst shared mine =
+  pub at_swap_field : (object value : ℕ) → Row c u (at_spot (OnField object (fields.Swap value))) command fixed
+  at_swap_field object value shared mine =
       let is = mine.facts.1 in
       let o = object_in c u shared seat is.obj object is.of in
       let v = field_in c u shared seat is.obj object field is.of is.below in
       let root = (with_root u.graph (seat + 1) dst v.0).root in
       let got = u.memory (Heap (object + 3 + field)) in
       let answered = xchg_outcome u.graph (seat + 1) is.obj is.of.name o.0 is.of.root_is o.1 dst field is.val v.0 v.1 in
-      field_settles c u (at_spot (SwapField object field value dst)) object field value is.obj is.val shared is.of is.below is.value_is root command fixed (shown v.0)
+      field_settles c u (at_spot (OnField object (fields.Swap value))) object field value is.obj is.val shared is.of is.below is.value_is root command fixed (shown v.0)
       refl (ap (λ x. Some x) (shown_is c u shared got v.0 v.2)) refl mine.facts.0 (shown_not_full v.0) (ap (λ k. outcome u.graph (seat + 1) k) is.is ∙ answered)
       (λ j i d. cond-false ((j + 1 == seat + 1) && (i == dst)) v.0 (u.graph.root (j + 1) i) (grind (arith, nat_tests)))
-      (field_mine c _ seat made phase cset command dst got v.0
-      (shared_then c u (at_spot (SwapField object field value dst)) object field value is.obj is.val shared is.of is.below is.value_is root)
+      (field_mine c _ seat made kept command got v.0
+      (shared_then c u (at_spot (OnField object (fields.Swap value))) object field value is.obj is.val shared is.of is.below is.value_is root)
       mine.seated is.small (roots_then u.block (λ i. u.memory (Root seat i)) u.graph.root (seat + 1) dst got v.0 mine.roots v.2) mine.hands v.2)
 
   -- the field has the word that was found in it: it changes
-  exchange_done : (object field found expect value : ℕ) → (u.memory (Heap (object + 3 + field)) == found) ≡ true → Row c u (at_spot (ExchangeField object field found expect value)) command fixed
-  exchange_done object field found expect value same shared mine =
+  exchange_done : (object found expect value : ℕ) → (u.memory (Heap (object + 3 + field)) == found) ≡ true → Row c u (at_spot (OnField object (fields.Exchange found expect value))) command fixed
+  exchange_done object found expect value same shared mine =
       let is = mine.facts.1 in
       let o = object_in c u shared seat is.obj object is.of in
       let v = field_in c u shared seat is.obj object field is.of is.below in
@@ -153,13 +169,13 @@ module _ (c : Config) (u : World) (seat made phase cset : ℕ) (command : Comman
       let expected : (got == expect) ≡ true = ap (λ x. got == x) (sym mine.facts.2) ∙ same in
       let references : same_reference v.0 (u.graph.root (seat + 1) is.expected) ≡ true = sym (same_words c u shared got expect v.0 _ v.2 is.expect_is) ∙ expected in
       let answered = cas_outcome u.graph (seat + 1) is.obj is.of.name o.0 is.of.root_is o.1 field is.expected is.val v.0 v.1 references in
-      field_settles c u (at_spot (ExchangeField object field found expect value)) object field value is.obj is.val shared is.of is.below is.value_is u.graph.root command fixed reply.Yes
+      field_settles c u (at_spot (OnField object (fields.Exchange found expect value))) object field value is.obj is.val shared is.of is.below is.value_is u.graph.root command fixed reply.Yes
       (rw same refl) (rw same refl) refl mine.facts.0 refl (ap (λ k. outcome u.graph (seat + 1) k) is.is ∙ answered) (λ j i d. refl)
-      (rw same (leaving c _ seat made phase cset command reply.Yes mine.seated mine.roots mine.hands))
+      (rw same (leaving c _ seat made kept command reply.Yes mine.seated mine.roots mine.hands))
 
   -- it has another: nothing changes, and the field is loaded again
-  exchange_again : (object field found expect value : ℕ) → (u.memory (Heap (object + 3 + field)) == found) ≡ false → Row c u (at_spot (ExchangeField object field found expect value)) command fixed
-  exchange_again object field found expect value other shared mine = record {
+  exchange_again : (object found expect value : ℕ) → (u.memory (Heap (object + 3 + field)) == found) ≡ false → Row c u (at_spot (OnField object (fields.Exchange found expect value))) command fixed
+  exchange_again object found expect value other shared mine = record {
     world = u;
     memory = rw other (load_keeps u.memory (Heap (object + 3 + field)));
     graph = rw other refl;
@@ -177,22 +193,24 @@ module _ (c : Config) (u : World) (seat made phase cset : ℕ) (command : Comman
   }
 
   -- the exchange of a field settles Yes where it has the word that was found
-  pub at_exchange_field : (object field found expect value : ℕ) → Row c u (at_spot (ExchangeField object field found expect value)) command fixed
-  at_exchange_field object field found expect value shared mine = ⊎_elim
-      (λ same. exchange_done object field found expect value same shared mine)
-      (λ other. exchange_again object field found expect value other shared mine)
+  pub at_exchange_field : (object found expect value : ℕ) → Row c u (at_spot (OnField object (fields.Exchange found expect value))) command fixed
+  at_exchange_field object found expect value shared mine = ⊎_elim
+      (λ same. exchange_done object found expect value same shared mine)
+      (λ other. exchange_again object found expect value other shared mine)
       (cases_Bool (u.memory (Heap (object + 3 + field)) == found))
 
   -- the store of a number settles Ok
-  pub at_store_number : (object refs index value : ℕ) → Row c u (at_spot (StoreNumber object refs index value)) command fixed
-  at_store_number object refs index value shared mine =
+  pub at_store_number : (object refs : ℕ) → Row c u (at_spot (OnNumber object refs numbers.Store)) command fixed
+  at_store_number object refs shared mine =
+      let index : ℕ = field in
+      let value : ℕ = number in
       let is = mine.facts.1 in
       let o = object_in c u shared seat is.obj object is.of in
       let at = object + 3 + refs + index in
       let stands = number_stored (λ a. u.memory (Heap a)) u.block object is.of.refs is.of.nums is.of.name o.0 o.2 index value is.below in
       let answered = wr_outcome u.graph (seat + 1) is.obj is.of.name o.0 is.of.root_is o.1 index value _ (number_in c u shared seat is.obj object index is.of is.below) in
-      store_settles c u (at_spot (StoreNumber object refs index value)) object is.of.refs is.of.nums at value is.of.name (with_value o.0 index value) u.graph.root command fixed reply.Ok
+      store_settles c u (at_spot (OnNumber object refs numbers.Store)) object is.of.refs is.of.nums at value is.of.name (with_value o.0 index value) u.graph.root command fixed reply.Ok
       refl refl refl mine.facts.0 refl shared is.of.target (omega arith) (omega (arith, is.below, is.refs_are))
       (subst (λ (x : ℕ). IsThing (updated (λ a. u.memory (Heap a)) (object + 3 + x + index) value) u.block object is.of.refs is.of.nums is.of.name (with_value o.0 index value)) (sym is.refs_are) stands)
       (ap (λ k. outcome u.graph (seat + 1) k) is.is ∙ answered) (λ j i d. refl)
-      (leaving c _ seat made phase cset command reply.Ok mine.seated mine.roots mine.hands)
+      (leaving c _ seat made kept command reply.Ok mine.seated mine.roots mine.hands)

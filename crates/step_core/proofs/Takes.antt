@@ -18,8 +18,11 @@ use Rattle.alloc_buffers.specs.Facts.{CanTake}
 use Rattle.alloc_buffers.proofs.Takes.{TakeStep}
 use Rattle.alloc_buffers.proofs.TakePart.{take_part}
 use Rattle.mutator.specs.declared.spot.Spot.{Spot}
-use Rattle.mutator.specs.declared.spot.Spot.TheVariants.{Taking}
+use Rattle.mutator.specs.declared.spot.Spot.TheVariants.{Ended, Making}
+use Rattle.mutator.specs.declared.makes.MakeSpot.TheVariants as make
+use Rattle.mutator.specs.declared.spot.Kept.{Kept}
 use Rattle.shen_graph.specs.declared.order.Order.TheVariants.{Nothing}
+use Rattle.mutator.specs.Commands.{refs_of, nums_of}
 use Rattle.mutator.specs.Rows.{Mutating, after_take}
 use Rattle.mutator.specs.Fit.{is_next_object, is_going}
 use Rattle.step_core.specs.Stepped.{Mine, Row, Stepped}
@@ -32,11 +35,19 @@ not_ended : (take : TakeSpot) → is_going take ≡ true → takes.is_ended take
 not_ended (Ended taken) going = absurd (false≢true going)
 not_ended _ going = refl
 
-module _ (c : Config) (u : World) (seat made phase cset : ℕ) (command : Command) (fixed : Option Reply) where
+module _ (c : Config) (u : World) (seat made : ℕ) (kept : Kept) (command : Command) (fixed : Option Reply) where
   abbrev at_spot : Spot → Mutating
-  at_spot spot = mutator_at seat made phase cset spot
+  at_spot spot = mutator_at seat made kept spot
 
-  module _ (dst refs nums : ℕ) (take : TakeSpot) (mine : Mine c u (at_spot (Taking dst refs nums take)) command fixed) where
+  -- how many references the command's object has
+  abbrev refs : ℕ
+  refs = refs_of kept.command
+
+  -- and how many numbers
+  abbrev nums : ℕ
+  nums = nums_of kept.command
+
+  module _ (take : TakeSpot) (mine : Mine c u (at_spot (Making (make.Taking take))) command fixed) where
     abbrev words : ℕ
     words = 3 + refs + nums
 
@@ -64,10 +75,10 @@ module _ (c : Config) (u : World) (seat made phase cset : ℕ) (command : Comman
 
     -- what it counts on at another spot of the taking
     mine_at : (next : TakeSpot) (w : World) → is_going next ≡ true → Keeps seat u w → CanTake c w seat words next → ((a more : ℕ) → w.block a ≡ Some (hand seat more) → ⊥)
-        → Mine c w (at_spot (Taking dst refs nums next)) command fixed
+        → Mine c w (at_spot (Making (make.Taking next))) command fixed
     mine_at next w going keeps can none = record {
       seated = record { below = mine.seated.below; counted = keeps.count ∙ mine.seated.counted };
-      ready = (let both = and_parts _ _ can.ready in taking_ready c seat made command fixed dst refs nums mine.facts.0 next both.0 going both.1);
+      ready = (let both = and_parts _ _ can.ready in taking_ready c seat made kept command fixed mine.facts.0 next both.0 going both.1);
       roots = λ i below. rw (keeps.root_words i) (root_stays c u w seat keeps _ i (mine.roots i below));
       hands = none;
       facts = (mine.facts.0, can.facts);
@@ -75,14 +86,14 @@ module _ (c : Config) (u : World) (seat made phase cset : ℕ) (command : Comman
 
     -- what it counts on after a step of the taking: with room in hand it goes on with the object's words, and without room it looks
     -- again
-    mine_then : (next : TakeSpot) (w : World) → Shared c w → Keeps seat u w → CanTake c w seat words next → Mine c w (at_spot (after_take dst refs nums next)) command fixed
+    mine_then : (next : TakeSpot) (w : World) → Shared c w → Keeps seat u w → CanTake c w seat words next → Mine c w (at_spot (after_take next)) command fixed
     mine_then (Ended NoRoom) w shared keeps can =
         mine_at LoadCurrent w refl keeps
         (record { seated = can.seated; least = can.least; most = can.most; ready = and_from _ _ (and_from _ _ (lt-ltb _ _ can.seated) refl) refl; facts = tt; hands = can.hands })
         can.hands
     mine_then (Ended (At address)) w shared keeps can = record {
       seated = record { below = mine.seated.below; counted = keeps.count ∙ mine.seated.counted };
-      ready = word_ready c seat made command fixed dst refs nums mine.facts.0 (λ r. w.memory (Top r)) w.block shared.plotted address can.facts mine.seated.below 0 (omega arith);
+      ready = word_ready c seat made kept command fixed mine.facts.0 (λ r. w.memory (Top r)) w.block shared.plotted address can.facts mine.seated.below 0 (omega arith);
       roots = λ i below. rw (keeps.root_words i) (root_stays c u w seat keeps _ i (mine.roots i below));
       hands = can.hands;
       facts = (mine.facts.0, record { room = can.facts; within = omega arith; stored = λ k below. absurd (omega arith) }, omega arith);
@@ -90,7 +101,7 @@ module _ (c : Config) (u : World) (seat made phase cset : ℕ) (command : Comman
     mine_then next w shared keeps can = mine_at next w refl keeps can can.hands
 
     -- the step of the taking is a step of the mutator
-    lifted : TakeStep c u seat words Fresh take → Stepped c u (at_spot (Taking dst refs nums take)) command Nothing fixed
+    lifted : TakeStep c u seat words Fresh take → Stepped c u (at_spot (Making (make.Taking take))) command Nothing fixed
     lifted step = record {
       world = step.world;
       memory = step.memory;
@@ -103,7 +114,7 @@ module _ (c : Config) (u : World) (seat made phase cset : ℕ) (command : Comman
     }
 
   -- the steps of a taking of room
-  pub at_taking : (dst refs nums : ℕ) (take : TakeSpot) → Row c u (at_spot (Taking dst refs nums take)) command fixed
-  at_taking dst refs nums take shared mine =
-      lifted dst refs nums take mine
-      (take_part.step c u seat (record { words = 3 + refs + nums; kind = Fresh }) take (going_now dst refs nums take mine) shared (can_take dst refs nums take mine))
+  pub at_taking : (take : TakeSpot) → Row c u (at_spot (Making (make.Taking take))) command fixed
+  at_taking take shared mine =
+      lifted take mine
+      (take_part.step c u seat (record { words = 3 + refs + nums; kind = Fresh }) take (going_now take mine) shared (can_take take mine))

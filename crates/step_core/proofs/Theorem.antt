@@ -13,10 +13,12 @@ use Rattle.shen_graph.specs.declared.command.Command.TheVariants.{Gc}
 use Rattle.shen_graph.specs.Graph.{Graph}
 use Rattle.shen_graph.specs.History.{Entry, IsWithoutFull, after, of_thread}
 use Rattle.shen_graph.specs.declared.order.Order.{Order}
+use Rattle.mutator.specs.declared.spot.Kept.{Kept}
 use Rattle.mutator.specs.declared.spot.Spot.{Spot}
-use Rattle.mutator.specs.declared.spot.Spot.TheVariants.{Rest, Ended, Taking}
+use Rattle.mutator.specs.declared.spot.Spot.TheVariants.{Rest, Ended, Making}
+use Rattle.mutator.specs.declared.makes.MakeSpot.TheVariants.{Taking}
 use Rattle.mutator.specs.Orders.{is_between_calls}
-use Rattle.mutator.specs.Rows.{Mutating, touch_of}
+use Rattle.mutator.specs.Rows.{Mutating, touch_of, words_of}
 use Rattle.mutator.specs.Fit.{IsFit}
 use Rattle.heap_world.specs.World.{World}
 use Rattle.mutator.proofs.Ready.{word_of_ready, ready_inside}
@@ -41,10 +43,10 @@ use Rattle.step_core.proofs.Roots.{no_more_after}
 use Rattle.step_core.proofs.Places.{each_step}
 
 -- between two calls no reply is settled that is not given
-unsettled_at_rest : (c : Config) (w : World) (seat made : ℕ) (command : Command) (fixed : Option Reply) (spot : Spot) → is_between_calls spot ≡ true → SpotFacts c w seat made command fixed spot → fixed ≡ None
-unsettled_at_rest c w seat made command fixed Rest rest facts = facts
-unsettled_at_rest c w seat made command fixed (Ended reply) rest facts = facts
-unsettled_at_rest c w seat made command fixed _ rest facts = absurd cc
+unsettled_at_rest : (c : Config) (w : World) (seat made : ℕ) (kept : Kept) (command : Command) (fixed : Option Reply) (spot : Spot) → is_between_calls spot ≡ true → SpotFacts c w seat made kept command fixed spot → fixed ≡ None
+unsettled_at_rest c w seat made kept command fixed Rest rest facts = facts
+unsettled_at_rest c w seat made kept command fixed (Ended reply) rest facts = facts
+unsettled_at_rest c w seat made kept command fixed _ rest facts = absurd cc
 
 -- What a stage that follows its history says.
 module _ (c : Config) (g : Graph) (s : Stage Actor) (h : List Entry) (follows : Follows c g s h) where
@@ -101,17 +103,17 @@ module _ (c : Config) (g : Graph) (s : Stage Actor) (h : List Entry) (follows : 
         record {
           fixed = thread.fixed;
           entries_are = thread.entries_are;
-          between_calls = λ rest. unsettled_at_rest c the_world m.seat m.made a.command thread.fixed m.spot rest thread.mine.facts;
-          gives = λ reply is. gives_settled c the_world m.seat a.command thread.fixed m.spot m.made reply thread.mine.facts is;
+          between_calls = λ rest. unsettled_at_rest c the_world m.seat m.made m.kept a.command thread.fixed m.spot rest thread.mine.facts;
+          gives = λ reply is. gives_settled c the_world m.seat m.kept a.command thread.fixed m.spot m.made reply thread.mine.facts is;
         };
     fit = λ number a m here. finds_fit number a m here;
   }
 
   -- of a mutator that is about to look for a free region
-  lacks_room : (number : ℕ) (a : Actor) (m : Mutating) (dst refs nums : ℕ) → IsMutator s number a m → m.spot ≡ Taking dst refs nums LoadFree → HasLess c (settled c s) m.seat (3 + refs + nums)
-  lacks_room number a m dst refs nums here at =
+  lacks_room : (number : ℕ) (a : Actor) (m : Mutating) → IsMutator s number a m → m.spot ≡ Making (Taking LoadFree) → HasLess c (settled c s) m.seat (words_of m.kept.command)
+  lacks_room number a m here at =
       let thread = thread_of number a m here in
-      (subst (λ spot. SpotFacts c the_world m.seat m.made a.command thread.fixed spot) at thread.mine.facts).1
+      (subst (λ spot. SpotFacts c the_world m.seat m.made m.kept a.command thread.fixed spot) at thread.mine.facts).1
 
 -- each stage that events lead to follows the history of the events
 follows_all : (c : Config) (s : Stage Actor) (g : Graph) → Begins c s g → (events : List (Event Order)) → Follows c g (go (kind c) s events) (history c s events)
@@ -147,6 +149,6 @@ found_fit c s g begins number a m order told f is =
     f.reached) f.here f.found
 
 -- a mutator that is about to look for a free region lacks room
-pub run_lacks_room : (c : Config) (s : Stage Actor) (g : Graph) → Begins c s g → (events : List (Event Order)) (number : ℕ) (a : Actor) (m : Mutating) (dst refs nums : ℕ)
-    → IsMutator (go (kind c) s events) number a m → m.spot ≡ Taking dst refs nums LoadFree → HasLess c (settled c (go (kind c) s events)) m.seat (3 + refs + nums)
+pub run_lacks_room : (c : Config) (s : Stage Actor) (g : Graph) → Begins c s g → (events : List (Event Order)) (number : ℕ) (a : Actor) (m : Mutating)
+    → IsMutator (go (kind c) s events) number a m → m.spot ≡ Making (Taking LoadFree) → HasLess c (settled c (go (kind c) s events)) m.seat (words_of m.kept.command)
 run_lacks_room c s g begins events = lacks_room c g (go (kind c) s events) (history c s events) (follows_all c s g begins events)

@@ -20,7 +20,7 @@ use Rattle.shen_graph.specs.Graph.{Graph}
 use Rattle.shen_graph.specs.History.{Entry}
 use Rattle.mutator.specs.declared.spot.Spot.{Spot}
 use Rattle.mutator.specs.declared.spot.Spot.TheVariants.{Leave}
-use Rattle.mutator.specs.Orders.{is_between_calls, takes_at}
+use Rattle.mutator.specs.Orders.{is_between_calls, takes_commands, takes_at}
 use Rattle.mutator.specs.Rows.{touch_of, next_of, given_at, answer_at, reply_at, place_at}
 use Rattle.mutator.specs.Told.{told_of}
 use Rattle.mutator.specs.Waits.{WaitsAt}
@@ -53,7 +53,7 @@ machine_after c order got (controlling k) = controlling k
 
 -- what it says of the step that finds this word: nothing where it is idle
 abbrev pub answer_of : Config → Machine → ℕ → Option Took
-answer_of c (mutating m) got = Some (answer_at c m.spot got)
+answer_of c (mutating m) got = Some (answer_at c m.kept m.spot got)
 answer_of c (helping h) got = None
 answer_of c (controlling k) got = None
 
@@ -72,7 +72,7 @@ told_by c s a order (controlling k) = []
 -- What it does on its turn, by its script and the calls that it has ended: in a call it goes on, and between two calls it
 -- begins the command that follows. It is idle where there is none.
 abbrev pub order_by : List Command → List Entry → Machine → Option Order
-order_by script calls (mutating m) = if is_between_calls m.spot then option_map (λ command. Begin command) (slice_get script (length calls)) else Some Nothing
+order_by script calls (mutating m) = if takes_commands m.spot then option_map (λ command. Begin command) (slice_get script (length calls)) else Some Nothing
 order_by script calls (helping h) = None
 order_by script calls (controlling k) = None
 

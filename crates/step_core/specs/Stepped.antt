@@ -12,12 +12,24 @@ use Rattle.shen_graph.specs.Graph.{Graph}
 use Rattle.shen_graph.specs.Step.{IsLegal}
 use Rattle.shen_graph.specs.History.{after_entry}
 use Rattle.alloc_buffers.specs.Facts.{TakeFacts}
-use Rattle.mutator.specs.declared.spot.Spot.{Spot}
-use Rattle.mutator.specs.declared.spot.Spot.TheVariants.{Rest, Ended, LoadSet, LoadRoot, LoadSecond, LoadThird, LoadShape, LoadField, LoadExpected, StoreField, SwapField, ExchangeField, LoadNumber, StoreNumber, LoadName, StoreLoaded, StoreRoot, Taking, StoreWord, StoreFresh, AskCycle, Leave}
 use Rattle.shen_graph.specs.declared.order.Order.{Order}
 use Rattle.shen_graph.specs.declared.order.Order.TheVariants.{Nothing}
+use Rattle.mutator.specs.declared.spot.Kept.{Kept}
+use Rattle.mutator.specs.declared.spot.Spot.{Spot}
+use Rattle.mutator.specs.declared.spot.Spot.TheVariants.{Rest, Ended, LoadSet, Loading, OnField, OnNumber, Showing, StoreRoot, Making, AskCycle, Leave}
+use Rattle.mutator.specs.declared.loads.LoadSpot.{LoadSpot}
+use Rattle.mutator.specs.declared.loads.LoadSpot.TheVariants as load
+use Rattle.mutator.specs.declared.fields.FieldSpot.{FieldSpot}
+use Rattle.mutator.specs.declared.fields.FieldSpot.TheVariants as fields
+use Rattle.mutator.specs.declared.numbers.NumberSpot.{NumberSpot}
+use Rattle.mutator.specs.declared.numbers.NumberSpot.TheVariants as numbers
+use Rattle.mutator.specs.declared.shows.ShowSpot.{ShowSpot}
+use Rattle.mutator.specs.declared.shows.ShowSpot.TheVariants as show
+use Rattle.mutator.specs.declared.makes.MakeSpot.{MakeSpot}
+use Rattle.mutator.specs.declared.makes.MakeSpot.TheVariants as make
 use Rattle.mutator.specs.Orders.{takes_at, is_next}
-use Rattle.mutator.specs.Rows.{Mutating, touch_of, next_of, given_at, roots_of, root_of, is_on_object, fresh_word}
+use Rattle.mutator.specs.Commands.{roots_of, root_of, dst_of, index_of, number_of, refs_of, nums_of, is_on_object}
+use Rattle.mutator.specs.Rows.{Mutating, words_of, touch_of, next_of, given_at, fresh_word}
 use Rattle.mutator.specs.Told.{told_of}
 use Rattle.mutator.specs.Fit.{IsReady}
 use Rattle.step_core.specs.Actor.{entry_of, command_by}
@@ -137,31 +149,50 @@ pub record IsFilling (w : World) (seat made refs nums address done : ℕ) : Type
   pub within : done ≤ 3 + refs + nums
   pub stored : (k : ℕ) → k < done → w.memory (Heap (address + k)) ≡ fresh_word seat made refs nums k
 
--- What holds while a mutator stands at a spot in a call of this command. `fixed` is the reply that the history has for
--- the call, once it is settled.
-abbrev pub SpotFacts : Config → World → ℕ → ℕ → Command → Option Reply → Spot → Type 0
-SpotFacts c w seat made command fixed Rest = fixed ≡ None
-SpotFacts c w seat made command fixed (Ended reply) = fixed ≡ None
-SpotFacts c w seat made command fixed (LoadSet k) = IsBegun made command fixed k
-SpotFacts c w seat made command fixed (LoadRoot k) = IsBegun made command fixed k × (0 < length (roots_of k))
-SpotFacts c w seat made command fixed (LoadSecond k first) = IsBegun made command fixed k × (1 < length (roots_of k)) × HasFirst w seat k first
-SpotFacts c w seat made command fixed (LoadThird k first second) = IsBegun made command fixed k × (2 < length (roots_of k)) × HasFirst w seat k first × HasRoot w seat k 1 second
-SpotFacts c w seat made command fixed (LoadShape k object second third) = IsBegun made command fixed k × (is_on_object k ≡ true) × HasRoots w seat k object second third
-SpotFacts c w seat made command fixed (LoadField object field dst) = (fixed ≡ None) × IsGet w seat command object field dst
-SpotFacts c w seat made command fixed (LoadExpected object field expect value) = (fixed ≡ None) × IsCas w seat command object field expect value
-SpotFacts c w seat made command fixed (StoreField object field value) = (fixed ≡ None) × IsSet w seat command object field value
-SpotFacts c w seat made command fixed (SwapField object field value dst) = (fixed ≡ None) × IsXchg w seat command object field value dst
-SpotFacts c w seat made command fixed (ExchangeField object field found expect value) = (fixed ≡ None) × IsCas w seat command object field expect value × (found ≡ expect)
-SpotFacts c w seat made command fixed (LoadNumber object refs index) = (fixed ≡ None) × IsRd w seat command object refs index
-SpotFacts c w seat made command fixed (StoreNumber object refs index value) = (fixed ≡ None) × IsWr w seat command object refs index value
-SpotFacts c w seat made command fixed (LoadName value dst) = IsFound w fixed value dst
-SpotFacts c w seat made command fixed (StoreLoaded dst value reply) = (fixed ≡ Some reply) × (dst < 16)
-SpotFacts c w seat made command fixed (StoreRoot dst value) = (fixed ≡ None) × (dst < 16) × (IsCopy w seat command dst value ⊎ IsDrop command dst value)
-SpotFacts c w seat made command fixed (Taking dst refs nums take) = IsMaking made command fixed dst refs nums × TakeFacts c w seat (3 + refs + nums) take
-SpotFacts c w seat made command fixed (StoreWord dst refs nums address done) = IsMaking made command fixed dst refs nums × IsFilling w seat made refs nums address done × (done < 3 + refs + nums)
-SpotFacts c w seat made command fixed (StoreFresh dst refs nums address) = IsMaking made command fixed dst refs nums × IsFilling w seat made refs nums address (3 + refs + nums)
-SpotFacts c w seat made command fixed AskCycle = (fixed ≡ None) × (command ≡ Gc)
-SpotFacts c w seat made command fixed (Leave reply) = fixed ≡ Some reply
+-- What holds in each part of a call of this command, of which the mutator keeps k. `fixed` is the reply that the history has
+-- for the call, once it is settled.
+abbrev pub LoadFacts : World → ℕ → ℕ → Command → Command → Option Reply → LoadSpot → Type 0
+LoadFacts w seat made k command fixed load.First = IsBegun made command fixed k × (0 < length (roots_of k))
+LoadFacts w seat made k command fixed (load.Second first) = IsBegun made command fixed k × (1 < length (roots_of k)) × HasFirst w seat k first
+LoadFacts w seat made k command fixed (load.Third first second) = IsBegun made command fixed k × (2 < length (roots_of k)) × HasFirst w seat k first × HasRoot w seat k 1 second
+LoadFacts w seat made k command fixed (load.Shape object second third) = IsBegun made command fixed k × (is_on_object k ≡ true) × HasRoots w seat k object second third
+
+abbrev pub FieldFacts : World → ℕ → Command → Command → Option Reply → ℕ → FieldSpot → Type 0
+FieldFacts w seat k command fixed object fields.Load = (fixed ≡ None) × IsGet w seat command object (index_of k) (dst_of k)
+FieldFacts w seat k command fixed object (fields.LoadExpected expect value) = (fixed ≡ None) × IsCas w seat command object (index_of k) expect value
+FieldFacts w seat k command fixed object (fields.Store value) = (fixed ≡ None) × IsSet w seat command object (index_of k) value
+FieldFacts w seat k command fixed object (fields.Swap value) = (fixed ≡ None) × IsXchg w seat command object (index_of k) value (dst_of k)
+FieldFacts w seat k command fixed object (fields.Exchange found expect value) = (fixed ≡ None) × IsCas w seat command object (index_of k) expect value × (found ≡ expect)
+
+abbrev pub NumberFacts : World → ℕ → Command → Command → Option Reply → ℕ → ℕ → NumberSpot → Type 0
+NumberFacts w seat k command fixed object refs numbers.Load = (fixed ≡ None) × IsRd w seat command object refs (index_of k)
+NumberFacts w seat k command fixed object refs numbers.Store = (fixed ≡ None) × IsWr w seat command object refs (index_of k) (number_of k)
+
+abbrev pub ShowFacts : World → Command → Option Reply → ℕ → ShowSpot → Type 0
+ShowFacts w k fixed value show.LoadName = IsFound w fixed value (dst_of k)
+ShowFacts w k fixed value (show.StoreRoot reply) = (fixed ≡ Some reply) × (dst_of k < 16)
+
+abbrev pub MakeFacts : Config → World → ℕ → ℕ → Command → Command → Option Reply → MakeSpot → Type 0
+MakeFacts c w seat made k command fixed (make.Taking take) = IsMaking made command fixed (dst_of k) (refs_of k) (nums_of k) × TakeFacts c w seat (words_of k) take
+MakeFacts c w seat made k command fixed (make.StoreWord address done) =
+    IsMaking made command fixed (dst_of k) (refs_of k) (nums_of k) × IsFilling w seat made (refs_of k) (nums_of k) address done × (done < words_of k)
+MakeFacts c w seat made k command fixed (make.StoreRoot address) =
+    IsMaking made command fixed (dst_of k) (refs_of k) (nums_of k) × IsFilling w seat made (refs_of k) (nums_of k) address (words_of k)
+
+-- and at each spot
+abbrev pub SpotFacts : Config → World → ℕ → ℕ → Kept → Command → Option Reply → Spot → Type 0
+SpotFacts c w seat made kept command fixed Rest = fixed ≡ None
+SpotFacts c w seat made kept command fixed (Ended reply) = fixed ≡ None
+SpotFacts c w seat made kept command fixed LoadSet = IsBegun made command fixed kept.command
+SpotFacts c w seat made kept command fixed (Loading at) = LoadFacts w seat made kept.command command fixed at
+SpotFacts c w seat made kept command fixed (OnField object at) = FieldFacts w seat kept.command command fixed object at
+SpotFacts c w seat made kept command fixed (OnNumber object refs at) = NumberFacts w seat kept.command command fixed object refs at
+SpotFacts c w seat made kept command fixed (Showing value at) = ShowFacts w kept.command fixed value at
+SpotFacts c w seat made kept command fixed (StoreRoot value) =
+    (fixed ≡ None) × (dst_of kept.command < 16) × (IsCopy w seat command (dst_of kept.command) value ⊎ IsDrop command (dst_of kept.command) value)
+SpotFacts c w seat made kept command fixed (Making at) = MakeFacts c w seat made kept.command command fixed at
+SpotFacts c w seat made kept command fixed AskCycle = (fixed ≡ None) × (command ≡ Gc)
+SpotFacts c w seat made kept command fixed (Leave reply) = fixed ≡ Some reply
 
 -- The facts of a seat that all places share, over the words and numbers that they read: it is a mutator's, and it has made
 -- as many objects as the graph says.
@@ -176,9 +207,9 @@ Seated c w m = IsSeated c.mutators m.seat (w.graph.count (m.seat + 1)) m.made
 pub record Mine (c : Config) (w : World) (m : Mutating) (command : Command) (fixed : Option Reply) : Type 0 where
   pub seated : Seated c w m
   pub ready : IsReady c m
-  pub roots : (i : ℕ) → i < 16 → Points w.block (root_now w m.seat m.spot i) (w.graph.root (m.seat + 1) i)
-  pub hands : (a words : ℕ) → w.block a ≡ Some (hand m.seat words) → IsInHand m.spot a words
-  pub facts : SpotFacts c w m.seat m.made command fixed m.spot
+  pub roots : (i : ℕ) → i < 16 → Points w.block (root_now w m.seat m.kept m.spot i) (w.graph.root (m.seat + 1) i)
+  pub hands : (a words : ℕ) → w.block a ≡ Some (hand m.seat words) → IsInHand m.kept m.spot a words
+  pub facts : SpotFacts c w m.seat m.made m.kept command fixed m.spot
 
 -- the graph after the entry that a step settles, if it settles one
 abbrev pub graph_by : Graph → ℕ → Command → Option Reply → Graph

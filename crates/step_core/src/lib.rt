@@ -13,8 +13,9 @@ ghost use Rattle.shen_graph.specs.declared.order.Order.{Order};
 ghost use Rattle.shen_graph.specs.Graph.{Graph};
 ghost use Rattle.alloc_buffers.specs.declared.spot.TakeSpot.TheVariants.{LoadFree};
 ghost use Rattle.alloc_buffers.specs.Facts.{HasLess};
-ghost use Rattle.mutator.specs.declared.spot.Spot.TheVariants.{Taking};
-ghost use Rattle.mutator.specs.Rows.{Mutating};
+ghost use Rattle.mutator.specs.declared.spot.Spot.TheVariants.{Making};
+ghost use Rattle.mutator.specs.declared.makes.MakeSpot.TheVariants.{Taking};
+ghost use Rattle.mutator.specs.Rows.{Mutating, words_of};
 ghost use Rattle.mutator.specs.Fit.{IsFit};
 ghost use Rattle.step_core.specs.Actor.{Actor, mutating};
 ghost use Rattle.step_core.specs.Machines.{plan_of, kind};
@@ -51,5 +52,5 @@ pub fn found_words_are_fit()
 
 /// A law: a mutator that is about to look for a free region has a current region with less room than it wants, or none.
 pub fn looks_for_room_in_need()
-    ensures { (c : Config) (s : Stage Actor) (g : Graph) → Begins c s g → (events : List (Event Order)) (number : ℕ) (a : Actor) (m : Mutating) (dst refs nums : ℕ) → IsMutator (go (kind c) s events) number a m → m.spot ≡ Taking dst refs nums LoadFree → HasLess c (settled c (go (kind c) s events)) m.seat (3 + refs + nums) }
+    ensures { (c : Config) (s : Stage Actor) (g : Graph) → Begins c s g → (events : List (Event Order)) (number : ℕ) (a : Actor) (m : Mutating) → IsMutator (go (kind c) s events) number a m → m.spot ≡ Making (Taking LoadFree) → HasLess c (settled c (go (kind c) s events)) m.seat (words_of m.kept.command) }
 {}

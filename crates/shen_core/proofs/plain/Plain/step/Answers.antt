@@ -4,9 +4,9 @@ use Rattle.std.proofs.lemmas.Bool.{false≢true}
 use Rattle.heap_words.specs.Access.{place_of}
 use Rattle.mutator.specs.Fit.{IsFit}
 use Rattle.mutator.specs.Seen.{seen, order_of}
-use Rattle.step_core.specs.Machines.{plan_of, place_in, reply_in, WaitsIn}
 use Rattle.std.specs.Prelude.{◌↔◌}
 use Rattle.mutator.specs.Waits.{WaitsAt}
+use Rattle.step_core.specs.Machines.{plan_of, place_in, reply_in, WaitsIn}
 use Rattle.steps_base.proofs.Places.{slice_get-set_same}
 use Rattle.shen_core.specs.declared.machine.Machine.TheVariants as machine
 use Rattle.shen_core.specs.declared.step.Stepped.TheVariants as stepped

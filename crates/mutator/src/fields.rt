@@ -1,0 +1,119 @@
+ghost use Rattle.std.specs.Prelude.{◌≡◌, true};
+ghost use Rattle.steps_base.specs.Touch.{placed};
+ghost use Rattle.steps_base.specs.Fits.{touch_fits};
+ghost use Rattle.mutator.specs.Rows as rows;
+
+use crate::commands::index_of;
+use crate::shows::after_field;
+use crate::spot::{Kept, Spot};
+use heap_words::{Access, Config, Place, Took};
+use shen_graph::Reply;
+
+/// What a call does to the reference field that its command is about.
+#[derive(Clone, Copy, Debug, PartialEq, Eq)]
+pub enum FieldSpot {
+    /// It loads the field, for a root.
+    Load,
+    /// It loads the field, to compare it.
+    LoadExpected {
+        /// The reference that is to be there.
+        expect: u64,
+        /// The reference that is to be stored then.
+        value: u64,
+    },
+    /// It stores a reference into the field.
+    Store {
+        /// The reference.
+        value: u64,
+    },
+    /// It swaps a reference into the field; a root shall have what was there.
+    Swap {
+        /// The reference.
+        value: u64,
+    },
+    /// It exchanges the field's reference for another.
+    Exchange {
+        /// The reference that it found there.
+        found: u64,
+        /// The reference that is to be there.
+        expect: u64,
+        /// The reference that is to be stored.
+        value: u64,
+    },
+}
+
+impl FieldSpot {
+    /// The place of the next access.
+    pub(crate) fn place(self) -> Place
+        ensures { result ≡ rows.field_place self }
+    {
+        match self {
+            FieldSpot::Load | FieldSpot::LoadExpected { .. } => Place::FL,
+            FieldSpot::Store { .. } => Place::FS,
+            FieldSpot::Swap { .. } => Place::FX,
+            FieldSpot::Exchange { .. } => Place::CX,
+        }
+    }
+
+    /// The next access, of the field of an object.
+    pub(crate) fn access(self, config: Config, object: u64, kept: Kept) -> Access
+        requires { touch_fits config (rows.field_touch object kept self) ≡ true }
+        ensures { result ≡ placed config (rows.field_touch object kept self) }
+    {
+        let at = config.heap_at(object + 3 + index_of(kept.command) as u64);
+        match self {
+            FieldSpot::Load | FieldSpot::LoadExpected { .. } => Access::Load { at },
+            FieldSpot::Store { value } => Access::Store { at, value },
+            FieldSpot::Swap { value } => Access::Swap { at, value },
+            FieldSpot::Exchange { found, value, .. } => Access::Exchange {
+                at,
+                expect: found,
+                value,
+            },
+        }
+    }
+
+    /// Where the call goes on with the reference that was in the field of the object.
+    pub(crate) fn after(self, object: u64, got: u64) -> Spot
+        ensures { result ≡ rows.field_next object self got }
+    {
+        match self {
+            FieldSpot::Load | FieldSpot::Swap { .. } => after_field(got),
+            FieldSpot::LoadExpected { expect, value } => after_expected(object, expect, value, got),
+            FieldSpot::Store { .. } => Spot::Leave { reply: Reply::Ok },
+            FieldSpot::Exchange { found, .. } if got == found => Spot::Leave { reply: Reply::Yes },
+            FieldSpot::Exchange { expect, value, .. } => Spot::OnField {
+                object,
+                at: FieldSpot::LoadExpected { expect, value },
+            },
+        }
+    }
+
+    /// What the step says that has found this reference.
+    pub(crate) fn says(self, got: u64) -> Took
+        ensures { result ≡ rows.field_says self got }
+    {
+        match self {
+            FieldSpot::Exchange { found, .. } if got != found => Took::Again,
+            _ => Took::More,
+        }
+    }
+}
+
+// Where it goes on with the reference that it has found in a field, to exchange it if it is the one that is to be there.
+fn after_expected(object: u64, expect: u64, value: u64, found: u64) -> Spot
+    ensures { result ≡ rows.after_expected object expect value found }
+{
+    if found == expect {
+        Spot::OnField {
+            object,
+            at: FieldSpot::Exchange {
+                found,
+                expect,
+                value,
+            },
+        }
+    } else {
+        Spot::Leave { reply: Reply::No }
+    }
+}

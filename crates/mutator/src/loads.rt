@@ -1,0 +1,190 @@
+ghost use Rattle.std.specs.Prelude.{◌≡◌, true};
+ghost use Rattle.steps_base.specs.Touch.{placed};
+ghost use Rattle.steps_base.specs.Fits.{touch_fits};
+ghost use Rattle.mutator.specs.Rows as rows;
+
+use crate::commands::{first_root, has_part, is_on_object, root_count, second_root, third_root};
+use crate::fields::FieldSpot;
+use crate::makes::MakeSpot;
+use crate::numbers::NumberSpot;
+use crate::spot::{Kept, Spot};
+use alloc_buffers::TakeSpot;
+use heap_words::{Access, Config, Place, refs_of};
+use shen_graph::{Command, Reply};
+
+/// Where a call stands that loads the roots of its command, and the shape of its object.
+#[derive(Clone, Copy, Debug, PartialEq, Eq)]
+pub enum LoadSpot {
+    /// It loads the first root of its command.
+    First,
+    /// It loads the second root of its command.
+    Second {
+        /// The first root.
+        first: u64,
+    },
+    /// It loads the third root of its command.
+    Third {
+        /// The first root.
+        first: u64,
+        /// The second root.
+        second: u64,
+    },
+    /// It loads the shape of the object that its command works on.
+    Shape {
+        /// The object, which is the first root.
+        object: u64,
+        /// The second root, if the command has one.
+        second: u64,
+        /// The third root, if the command has one.
+        third: u64,
+    },
+}
+
+impl LoadSpot {
+    /// The place of the next access.
+    pub(crate) fn place(self) -> Place
+        ensures { result ≡ rows.load_place self }
+    {
+        match self {
+            LoadSpot::Shape { .. } => Place::SH,
+            _ => Place::RL,
+        }
+    }
+
+    /// The next access of the mutator of a seat.
+    pub(crate) fn access(self, config: Config, seat: usize, kept: Kept) -> Access
+        requires { touch_fits config (rows.load_touch seat kept self) ≡ true }
+        ensures { result ≡ placed config (rows.load_touch seat kept self) }
+    {
+        let at = match self {
+            LoadSpot::First => config.root_at(seat, first_root(kept.command) as usize),
+            LoadSpot::Second { .. } => config.root_at(seat, second_root(kept.command) as usize),
+            LoadSpot::Third { .. } => config.root_at(seat, third_root(kept.command) as usize),
+            LoadSpot::Shape { object, .. } => config.heap_at(object + 1),
+        };
+        Access::Load { at }
+    }
+
+    /// Where the call goes on with the word that was loaded.
+    pub(crate) fn after(self, kept: Kept, got: u64) -> Spot
+        ensures { result ≡ rows.load_next kept self got }
+    {
+        match self {
+            LoadSpot::First => after_root(kept, got),
+            LoadSpot::Second { first } => after_second(kept, first, got),
+            LoadSpot::Third { first, second } => after_roots(kept, first, second, got),
+            LoadSpot::Shape {
+                object,
+                second,
+                third,
+            } => after_shape(kept, object, second, third, got),
+        }
+    }
+}
+
+/// Where a call goes on once the collection set was loaded.
+pub(crate) fn first_spot(kept: Kept) -> Spot
+    ensures { result ≡ rows.first_spot kept.command }
+{
+    match kept.command {
+        Command::New { .. } => Spot::Making {
+            at: MakeSpot::Taking {
+                take: TakeSpot::LoadCurrent,
+            },
+        },
+        Command::Drop { .. } => Spot::StoreRoot { value: 0 },
+        Command::Gc => Spot::AskCycle,
+        _ => Spot::Loading {
+            at: LoadSpot::First,
+        },
+    }
+}
+
+// Where it goes on once its first root was loaded: the reply is Bad where the object's root is null.
+fn after_root(kept: Kept, first: u64) -> Spot
+    ensures { result ≡ rows.after_root kept.command first }
+{
+    if is_on_object(kept.command) && first == 0 {
+        return Spot::Leave { reply: Reply::Bad };
+    }
+    if root_count(kept.command) > 1 {
+        Spot::Loading {
+            at: LoadSpot::Second { first },
+        }
+    } else {
+        after_roots(kept, first, 0, 0)
+    }
+}
+
+// Where it goes on once its second root was loaded.
+fn after_second(kept: Kept, first: u64, second: u64) -> Spot
+    ensures { result ≡ rows.after_second kept.command first second }
+{
+    if root_count(kept.command) > 2 {
+        Spot::Loading {
+            at: LoadSpot::Third { first, second },
+        }
+    } else {
+        after_roots(kept, first, second, 0)
+    }
+}
+
+// Where it goes on once all its roots were loaded.
+fn after_roots(kept: Kept, first: u64, second: u64, third: u64) -> Spot
+    ensures { result ≡ rows.after_roots kept.command first second third }
+{
+    match kept.command {
+        Command::Copy { .. } => Spot::StoreRoot { value: first },
+        Command::Same { .. } => {
+            let reply = if first == second {
+                Reply::Yes
+            } else {
+                Reply::No
+            };
+            Spot::Leave { reply }
+        }
+        _ => Spot::Loading {
+            at: LoadSpot::Shape {
+                object: first,
+                second,
+                third,
+            },
+        },
+    }
+}
+
+// Where it goes on with an object of this shape: the reply is Bad where it has no such field or number.
+fn after_shape(kept: Kept, object: u64, second: u64, third: u64, shape: u64) -> Spot
+    ensures { result ≡ rows.after_shape kept.command object second third shape }
+{
+    if !has_part(kept.command, shape) {
+        return Spot::Leave { reply: Reply::Bad };
+    }
+    let at = match kept.command {
+        Command::Get { .. } => FieldSpot::Load,
+        Command::Set { .. } => FieldSpot::Store { value: second },
+        Command::Xchg { .. } => FieldSpot::Swap { value: second },
+        Command::Cas { .. } => FieldSpot::LoadExpected {
+            expect: second,
+            value: third,
+        },
+        _ => return on_number(kept, object, shape),
+    };
+    Spot::OnField { object, at }
+}
+
+// Where a command on a number goes on with it.
+fn on_number(kept: Kept, object: u64, shape: u64) -> Spot
+    ensures { result ≡ rows.on_number kept.command object shape }
+{
+    let at = match kept.command {
+        Command::Rd { .. } => NumberSpot::Load,
+        Command::Wr { .. } => NumberSpot::Store,
+        _ => return Spot::Leave { reply: Reply::Bad },
+    };
+    Spot::OnNumber {
+        object,
+        refs: refs_of(shape),
+        at,
+    }
+}
