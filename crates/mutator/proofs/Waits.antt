@@ -1,5 +1,5 @@
 -- What a step says, by its place and the word that it finds.
-use Rattle.std.proofs.Common.{◌≡◌, ◌≢◌, ◌≤◌, ◌+◌, ◌-◌, ℕ, Bool, true, false, refl, sym, ◌∙◌, arith}
+use Rattle.std.proofs.Common.{◌≡◌, ◌≢◌, ◌≤◌, ◌-◌, ℕ, Bool, true, false, refl, sym, ◌∙◌, arith}
 use Rattle.std.specs.Prelude.{◌↔◌, ◌==◌, if◌then◌else◌}
 use Rattle.std.specs.Int.{bit_at}
 use Rattle.std.proofs.lemmas.Bool.{eq-eqb, eqb-true, false≢true}
@@ -54,9 +54,8 @@ take_again c kept (TakeRegion region) got going = by_bit (bit_at got region == 1
     by_bit : (b : Bool) → (bit_at got region == 1) ≡ b → IsAgain (take_says (TakeRegion region) (if b then StoreCurrent region else LoadFree)) (IsIn got region → ⊥)
     by_bit true is_in = record { there = λ w. absurd (w (eqb-true _ _ is_in)); only = λ is. absurd (cc (is)) }
     by_bit false out = record { there = λ w. refl; only = λ is is_in. false≢true (sym out ∙ eq-eqb _ _ is_in) }
-take_again c kept (StoreCurrent region) got going = more_goes
-take_again c kept (StoreTop region top) got going = more_goes
 take_again c kept (Ended taken) got going = absurd (cc (going))
+take_again c kept _ got going = more_goes
 
 -- a step of the exchange of a field
 exchange_again : (got found : ℕ) (b : Bool) → (got == found) ≡ b → IsAgain (if b then More else Again) (got ≢ found)

@@ -16,7 +16,7 @@ use Rattle.std.proofs.lemmas.List.{length-set}
 use Rattle.std.proofs.Math.Logic.{∥∥₁_map}
 use Rattle.shen_core.proofs.Memory.{from_read, shown_here, made_from, made_step, made_shown, made_heap, made_orders, made_machines, machine_here, turn_here, heap_here}
 use Rattle.shen_core.proofs.Noted.{never_idle}
-use Rattle.shen_core.proofs.Turns.{seat_below_some, fit_shown}
+use Rattle.shen_core.proofs.Turns.{fit_shown}
 use Rattle.shen_core.proofs.plain.Plain.step.Goals as goal
 
 pub invariant_of-self-else-is_idle-clause-reached : goal.invariant_of-self-else-is_idle-clause-reached
