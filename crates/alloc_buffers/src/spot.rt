@@ -103,14 +103,17 @@ impl TakeSpot {
             TakeSpot::LoadFree => Access::Load {
                 at: config.free_at(),
             },
+            // keeps IsFreeWord
             TakeSpot::TakeRegion { region } => Access::And {
                 at: config.free_at(),
                 value: all_but(region),
             },
+            // keeps AreCurrent
             TakeSpot::StoreCurrent { region } => Access::Store {
                 at: config.cur_at(seat),
                 value: region as u64 + 1,
             },
+            // keeps IsPlotted, IsFilled and AreRooms
             TakeSpot::StoreTop { region, top } => Access::Store {
                 at: config.top_at(region),
                 value: top + words,

@@ -1,38 +1,16 @@
 -- Which orders a mutator takes.
-use Rattle.std.specs.Prelude.{ℕ, Bool, true, false, ◌&&◌, nat_lt, nat_le}
-use Rattle.steps_base.specs.Fits.{is_number}
+use Rattle.std.specs.Prelude.{ℕ, Bool, true, false, ◌&&◌, nat_lt}
+use Rattle.shen_graph.specs.Valid as ranges
+use Rattle.shen_graph.specs.Valid.{fits_value}
 use Rattle.shen_graph.specs.declared.command.Command.{Command}
-use Rattle.shen_graph.specs.declared.command.Command.TheVariants.{New, Get, Set, Cas, Xchg, Rd, Wr, Copy, Drop, Same, Gc}
 use Rattle.mutator.specs.declared.spot.Spot.{Spot}
 use Rattle.mutator.specs.declared.spot.Spot.TheVariants.{Rest, Ended}
 use Rattle.shen_graph.specs.declared.order.Order.{Order}
 use Rattle.shen_graph.specs.declared.order.Order.TheVariants.{Nothing, Begin}
 
--- whether a number is that of a root
-abbrev pub is_root : ℕ → Bool
-is_root root = nat_lt root 16
-
--- whether a number may be that of a field
-abbrev pub is_index : ℕ → Bool
-is_index index = nat_le index 31
-
--- whether an object may have so many fields of a kind
-abbrev pub is_size : ℕ → Bool
-is_size fields = nat_le fields 16
-
--- whether the numbers of a command are in range
+-- whether the numbers of a command are in range, as those of each command of the code that is valid are
 abbrev pub is_valid : Command → Bool
-is_valid (New dst refs nums) = is_root dst && (is_size refs && is_size nums)
-is_valid (Get dst src field) = is_root dst && (is_root src && is_index field)
-is_valid (Set obj field val) = is_root obj && (is_index field && is_root val)
-is_valid (Cas obj field expect val) = is_root obj && (is_index field && (is_root expect && is_root val))
-is_valid (Xchg dst obj field val) = is_root dst && (is_root obj && (is_index field && is_root val))
-is_valid (Rd obj index) = is_root obj && is_index index
-is_valid (Wr obj index value) = is_root obj && (is_index index && is_number value)
-is_valid (Copy dst src) = is_root dst && is_root src
-is_valid (Drop dst) = is_root dst
-is_valid (Same a b) = is_root a && is_root b
-is_valid Gc = true
+is_valid command = ranges.is_valid command && fits_value command
 
 -- whether no call is in progress
 abbrev pub is_between_calls : Spot → Bool

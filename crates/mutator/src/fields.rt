@@ -63,6 +63,7 @@ impl FieldSpot {
         let at = config.heap_at(object + 3 + index_of(kept.command) as u64);
         match self {
             FieldSpot::Load | FieldSpot::LoadExpected { .. } => Access::Load { at },
+            // These three keep AreObjects.
             FieldSpot::Store { value } => Access::Store { at, value },
             FieldSpot::Swap { value } => Access::Swap { at, value },
             FieldSpot::Exchange { found, value, .. } => Access::Exchange {

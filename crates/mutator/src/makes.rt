@@ -52,10 +52,12 @@ impl MakeSpot {
         let (refs, nums) = size_of(kept.command);
         match self {
             MakeSpot::Taking { take } => take.access(config, seat, 3 + refs as u64 + nums as u64),
+            // keeps AreObjects: the words are in hand
             MakeSpot::StoreWord { address, done } => Access::Store {
                 at: config.heap_at(address + done),
                 value: fresh_word(seat, made, refs, nums, done),
             },
+            // keeps AreObjects, AreRooms and IsGiven
             MakeSpot::StoreRoot { address } => Access::Store {
                 at: config.root_at(seat, dst_of(kept.command) as usize),
                 value: address,
@@ -106,6 +108,7 @@ impl MakeSpot {
         ensures { result ≡ rows.made_after made self }
     {
         match self {
+            // keeps IsGiven
             MakeSpot::StoreRoot { .. } => made + 1,
             _ => made,
         }

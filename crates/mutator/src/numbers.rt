@@ -36,6 +36,7 @@ impl NumberSpot {
         let at = config.heap_at(object + 3 + refs + index_of(kept.command) as u64);
         match self {
             NumberSpot::Load => Access::Load { at },
+            // keeps AreObjects
             NumberSpot::Store => Access::Store {
                 at,
                 value: number_of(kept.command),

@@ -40,6 +40,7 @@ impl ShowSpot {
             ShowSpot::LoadName => Access::Load {
                 at: config.heap_at(value + 2),
             },
+            // keeps HasItsOwn.roots
             ShowSpot::StoreRoot { .. } => Access::Store {
                 at: config.root_at(seat, dst_of(kept.command) as usize),
                 value,

@@ -113,6 +113,7 @@ impl Mutator {
             Spot::OnField { object, at } => at.access(config, object, self.kept),
             Spot::OnNumber { object, refs, at } => at.access(config, object, refs, self.kept),
             Spot::Showing { value, at } => at.access(config, seat, value, self.kept),
+            // keeps HasItsOwn.roots
             Spot::StoreRoot { value } => Access::Store {
                 at: config.root_at(seat, dst_of(self.kept.command) as usize),
                 value,

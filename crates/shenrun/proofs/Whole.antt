@@ -14,7 +14,7 @@ use Rattle.heap_words.specs.declared.schedule.Item.{Item}
 use Rattle.steps_base.specs.Steps.{Stage, Event}
 use Rattle.shen_graph.specs.declared.command.Reply.{Reply}
 use Rattle.shen_graph.specs.Graph.{Reference, Graph, opening as graph_opening}
-use Rattle.shen_graph.specs.GraphText.{Text, Row, names_of, root_of}
+use Rattle.shen_graph.specs.GraphText.{Text, Row, names_of, root_of, row_in}
 use Rattle.shen_graph.specs.History.{Entry, after, of_thread, commands_of}
 use Rattle.shen_graph.specs.History as history
 use Rattle.shen_graph.specs.Work as work
@@ -32,7 +32,7 @@ use Rattle.step_core.specs.Machines.{is_resting}
 use Rattle.shen_core.specs.Progress.{Jobs, AreIdle, AllRest}
 use Rattle.shen_core.specs.Calls.{HasCalled, AllHaveCalled}
 use Rattle.trace_grammar.specs.Grammar.{Reads}
-use Rattle.trace_writing.specs.Answer.{answer_text, row_in}
+use Rattle.trace_writing.specs.Answer.{answer_text}
 use Rattle.trace_writing.proofs.AnswerLemmas.{answer_text_same}
 use Rattle.shenrun.specs.Replayed.{events_of, history_of, end_of, IsWhole, IsReplayed}
 use Rattle.shenrun.specs.Running.{HasFinished}

@@ -8,7 +8,7 @@ pub enum Status {
     Ok,
     /// The words of the command line are outside their grammar. Nothing was read.
     BadWords,
-    /// No trace came, or one that cannot be run.
+    /// What came is no trace, or is longer than a trace may be.
     BadTrace,
     /// A machine still had work after the steps that were allowed.
     Unfinished,

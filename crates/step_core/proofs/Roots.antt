@@ -10,7 +10,7 @@ use Rattle.shen_graph.specs.Graph.{Graph, Reference, Object, named, with_root, w
 use Rattle.shen_graph.specs.Step.{Outcome, answers, shown, on, outcome}
 use Rattle.shen_graph.specs.declared.command.Reply.TheVariants as reply
 use Rattle.shen_graph.specs.History.{Entry, is_full, after_entry, after}
-use Rattle.mutator.specs.Orders.{is_root, is_valid}
+use Rattle.shen_graph.specs.Valid.{is_root, is_valid, fits_value}
 use Rattle.std.proofs.lemmas.Bool.{and_parts}
 use Rattle.step_core.specs.Threads.{IsSettled}
 use Rattle.heap_world.specs.Roots.{HasNoMore}
@@ -84,7 +84,7 @@ entry_keeps threads g e settled few = by_full (is_full e.reply)
   where
     by_full : (b : Bool) → HasNoMore threads (if b then g else (outcome g e.thread e.command).graph)
     by_full true = few
-    by_full false = outcome_keeps threads e.thread settled.least settled.most g few e.command settled.valid
+    by_full false = outcome_keeps threads e.thread settled.least settled.most g few e.command (and_parts (is_valid e.command) (fits_value e.command) settled.valid).0
 
 -- the same after a whole history
 pub no_more_after : (threads : ℕ) (g : Graph) (es : List Entry) → All (IsSettled threads) es → HasNoMore threads g → HasNoMore threads (after g es)

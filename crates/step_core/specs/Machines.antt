@@ -1,6 +1,6 @@
 -- What machines do, by their roles: the orders that they take, their accesses, what follows, what they say, and what their
 -- accesses settle. Each function has one clause a role, and no other file of definitions tells the roles apart.
-use Rattle.std.specs.Prelude.{ℕ, ◌≡◌, ◌+◌, ◌<◌, ◌≤◌, ◌==◌, Bool, true, false, ◌&&◌, List, [], ◌++◌, length, Option, Some, None, slice_get, slice_index, if◌then◌else◌}
+use Rattle.std.specs.Prelude.{ℕ, ◌≡◌, ◌+◌, ◌<◌, ◌≤◌, Bool, true, false, List, [], ◌++◌, length, Option, Some, None, slice_get, if◌then◌else◌}
 use Rattle.std.specs.Option.{option_map}
 use Rattle.heap_words.specs.declared.config.Config.{Config}
 use Rattle.heap_words.specs.declared.access.Access.{Access}
@@ -8,7 +8,7 @@ use Rattle.heap_words.specs.declared.access.Took.{Took}
 use Rattle.heap_words.specs.declared.access.Took.TheVariants.{Again}
 use Rattle.heap_words.specs.declared.place.Place.{Place}
 use Rattle.heap_words.specs.declared.place.Place.TheVariants as place
-use Rattle.heap_words.specs.Place.{code_of}
+use Rattle.heap_words.specs.Place.{same_place}
 use Rattle.heap_words.specs.Words.{Pause}
 use Rattle.steps_base.specs.Touch.{touch, loads, placed}
 use Rattle.steps_base.specs.Steps.{Kind, Stage}
@@ -75,9 +75,6 @@ abbrev pub order_by : List Command → List Entry → Machine → Option Order
 order_by script calls (mutating m) = if takes_commands m.spot then option_map (λ command. Begin command) (slice_get script (length calls)) else Some Nothing
 order_by script calls (helping h) = None
 order_by script calls (controlling k) = None
-
-abbrev pub same_place : Place → Place → Bool
-same_place p q = (slice_index (code_of p) 0 == slice_index (code_of q) 0) && (slice_index (code_of p) 1 == slice_index (code_of q) 1)
 
 -- whether its next access stands at a place. Machines that have none stand nowhere
 abbrev pub stands_in : Place → Machine → Bool

@@ -28,6 +28,13 @@ impl Scripts {
         Scripts { scripts }
     }
 
+    /// The scripts of these threads, back, without taking memory.
+    pub fn into_vec(self) -> Vec<Script>
+        ensures { result.items ≡ self.old }
+    {
+        self.scripts
+    }
+
     /// The scripts, that of thread 1 first.
     pub fn list(&self) -> &[Script]
         ensures { result.now ≡ self.now }

@@ -5,11 +5,11 @@ use Rattle.std.specs.Fmt.{decimal}
 use Rattle.shen_graph.specs.declared.name.Name.{Name}
 use Rattle.shen_graph.specs.declared.command.Reply.{Reply}
 use Rattle.shen_graph.specs.declared.command.Reply.TheVariants.{Ref, Null, Ok, Yes, No, Number, Bad, Full}
-use Rattle.shen_graph.specs.Graph.{Reference, Graph, named, opening}
+use Rattle.shen_graph.specs.Graph.{Reference, opening}
 use Rattle.shen_graph.specs.History.{Entry, after, of_thread}
 use Rattle.shen_graph.specs.History as history
 use Rattle.shen_graph.specs.Reach.{IsReach}
-use Rattle.shen_graph.specs.GraphText.{Row, root_of}
+use Rattle.shen_graph.specs.GraphText.{Row, root_of, row_in}
 use Rattle.shen_graph.specs.Work.{replies_of}
 use Rattle.trace_grammar.specs.Spelling.{space, newline}
 use Rattle.trace_writing.specs.declared.answer.Answer.{Answer}
@@ -66,10 +66,6 @@ answer_text threads replies rows root =
 -- the text of an answer in memory
 abbrev pub text_of : Answer → List ℕ
 text_of a = answer_text (length a.graph.roots) (λ t. replies_of a.replies (t - 1)) a.graph.rows (root_of a.graph)
-
--- the object of that name
-abbrev pub row_in : Graph → Name → Row
-row_in g n = record { name = n; refs = (named g (Some n)).refs; nums = (named g (Some n)).nums }
 
 -- The text that answers a history of so many threads: what its entries were answered, and the graph after them, with the
 -- objects that can be reached in the order of their names.
