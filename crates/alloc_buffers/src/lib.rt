@@ -7,7 +7,7 @@
 mod spot;
 mod take;
 
-ghost use Rattle.std.specs.Prelude.{ℕ, ◌≡◌, List};
+ghost use Rattle.std.specs.Prelude.{ℕ, List};
 ghost use Rattle.heap_words.specs.declared.config.Config.{Config};
 ghost use Rattle.alloc_buffers.specs.declared.spot.Kind.{Kind as Purpose};
 ghost use Rattle.alloc_buffers.specs.Room.{HasNoRoom, IsLackOfRoom};

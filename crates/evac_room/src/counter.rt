@@ -1,4 +1,4 @@
-ghost use Rattle.std.specs.Prelude.{◌≡◌, ◌<◌, ◌^◌};
+ghost use Rattle.std.specs.Prelude.{◌≡◌};
 ghost use Rattle.evac_room.specs.Counter as counter;
 
 /// Bit 63 of the word that counts the copiers: a copier found no room.

@@ -16,7 +16,7 @@ pub struct EnterEvac {
 }
 
 impl EnterEvac {
-    ghost use Rattle.std.specs.Prelude.{false, Some, None, ◌≢◌, ◌↔◌, ◌<◌};
+    ghost use Rattle.std.specs.Prelude.{false, Some, ◌↔◌, ◌<◌};
     ghost use Rattle.heap_words.specs.Access.{place_of};
     ghost use Rattle.heap_words.specs.Words.{table_words};
     ghost use Rattle.evac_room.specs.Counter.{IsQuiet};

@@ -1,7 +1,7 @@
 //! The counter by itself: one word and up to 12 copiers, each of whose steps is one access. The laws are of every list
 //! of steps, so of every way in which threads may take turns.
 
-ghost use Rattle.std.specs.Prelude.{ℕ, ◌≡◌, ◌≢◌, ◌≤◌, ◌<◌, ◌+◌, ◌-◌, ◌*◌, ◌^◌, ◌↔◌, bit_or, true, List, [], ◌∷◌, ◌++◌, Some, slice_get};
+ghost use Rattle.std.specs.Prelude.{ℕ, ◌≡◌, ◌≢◌, ◌≤◌, ◌<◌, ◌+◌, ◌-◌, ◌*◌, ◌^◌, ◌↔◌, bit_or, true, List, ◌∷◌, ◌++◌, Some, slice_get};
 ghost use Rattle.steps_base.specs.Steps.{Event};
 ghost use Rattle.evac_room.specs.declared.wish.Wish.{Wish};
 ghost use Rattle.std.specs.Int.{bit_at};

@@ -22,8 +22,8 @@ pub struct Image {
 }
 
 impl Image {
-    ghost use Rattle.std.specs.Prelude.{ℕ, ◌<◌, ◌+◌, true, false, slice_set, slice_index, Option, IfOk};
-    ghost use Rattle.heap_words.specs.Words.{Word, Top, Current, Heap, IsWord, word_at, write, heap_in, roots_in};
+    ghost use Rattle.std.specs.Prelude.{ℕ, ◌<◌, true, false, slice_set, slice_index, Option, IfOk};
+    ghost use Rattle.heap_words.specs.Words.{Word, Top, Heap, IsWord, word_at, write, heap_in, roots_in};
     ghost use Rattle.shen_graph.specs.declared.name.Name.{Name};
     ghost use Rattle.shen_graph.specs.Graph.{Graph};
     ghost use Rattle.heap_graph.specs.Shows.{Shows, WordsStand, StandForSome};

@@ -1,4 +1,4 @@
-ghost use Rattle.std.specs.Prelude.{◌≡◌, ◌<◌, ◌≤◌, true};
+ghost use Rattle.std.specs.Prelude.{◌≡◌, ◌<◌, true};
 ghost use Rattle.steps_base.specs.Touch.{placed};
 ghost use Rattle.mutator.specs.Rows as rows;
 ghost use Rattle.mutator.specs.Fit.{is_ready, is_next_object};

@@ -24,10 +24,10 @@ pub struct Mutator {
 }
 
 impl Mutator {
-    ghost use Rattle.std.specs.Prelude.{◌↔◌, ◌≢◌, ◌+◌, IsTrue, Some, None, false};
+    ghost use Rattle.std.specs.Prelude.{◌↔◌, ◌≢◌, Some, None, false};
     ghost use Rattle.shen_graph.specs.Valid.{IsValid};
     ghost use Rattle.heap_words.specs.Access.{place_of};
-    ghost use Rattle.heap_words.specs.Words.{Root, Heap, is_word, word_at, table_words};
+    ghost use Rattle.heap_words.specs.Words.{table_words};
     ghost use Rattle.steps_base.specs.Touch.{placed};
     ghost use Rattle.mutator.specs.Orders.{is_between_calls, takes_commands, takes_at};
     ghost use Rattle.mutator.specs.Rows.{fresh_mutator, place_at, touch_of, next_of, answer_at, reply_at};

@@ -1,6 +1,6 @@
 //! An example of a kind of machine: adders, each of which adds 1 to a total under a lock, as often as it is asked. It shows
 //! what a crate whose threads share a table gives to the functions of this one, and what it gets from them.
-ghost use Rattle.std.specs.Prelude.{◌≡◌, ℕ, true, false};
+ghost use Rattle.std.specs.Prelude.{◌≡◌, true};
 ghost use Rattle.shared_steps.specs.Adders.{takes_at, plan_at, next_at, IsFit};
 
 mod bundle;

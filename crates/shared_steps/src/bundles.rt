@@ -1,4 +1,4 @@
-ghost use Rattle.std.specs.Prelude.{◌≡◌, ◌<◌, ℕ, [], length, IfOk};
+ghost use Rattle.std.specs.Prelude.{◌≡◌, ◌<◌, [], length, IfOk};
 ghost use Rattle.std.specs.Slots.{slots_items, slots_len, IsFull};
 ghost use Rattle.steps_base.specs.Steps.{IsReached};
 ghost use Rattle.shared_steps.specs.Views.{whole, machines_of, picked, left_over, merged, is_dealt_to, IsWhole};

@@ -1,6 +1,6 @@
 //! The standard library's readers and writers as sources and sinks. What stands behind them, a file or a terminal,
 //! is trusted to be what it says.
-ghost use Rattle.std.specs.Prelude.{◌≡◌, ℕ, ◌<◌, ◌≤◌, length, take, IfOk, OnOk, OnErr};
+ghost use Rattle.std.specs.Prelude.{◌≡◌, ◌<◌, ◌≤◌, length, take, IfOk, OnOk, OnErr};
 ghost use Rattle.std.specs.Io.KnownBytes.{Appends, Consumes, IsAtEnd, Keeps};
 ghost use Rattle.shen_base.specs.Count.{Rose, raised};
 

@@ -1,5 +1,5 @@
 //! Sources and sinks in memory, which give and take small pieces and fail at calls that are named beforehand.
-ghost use Rattle.std.specs.Prelude.{◌≡◌, ℕ, ◌+◌, ◌-◌, ◌<◌, ◌≤◌, ◌⊎◌, ◌↔◌, List, [], ◌++◌, Some, min, length, take, drop, vec_len, Contains, IfOk, IsOk, IsErr, OnErr};
+ghost use Rattle.std.specs.Prelude.{◌≡◌, ℕ, ◌+◌, ◌-◌, ◌<◌, ◌≤◌, ◌⊎◌, ◌↔◌, List, [], ◌++◌, Some, min, length, take, drop, vec_len, IfOk, IsOk, IsErr, OnErr};
 ghost use Rattle.std.specs.Io.KnownBytes.{Appends, Consumes, IsAtEnd, Keeps};
 ghost use Rattle.shen_base.specs.Count.{Rose, raised};
 ghost use Rattle.shen_base.specs.Memory.{IsNextFailing, IsFullFor};

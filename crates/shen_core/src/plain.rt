@@ -32,7 +32,6 @@ pub struct Plain {
 
 impl Plain {
     ghost use Rattle.std.specs.Prelude.{◌<◌, ◌↔◌, ◌≢◌, true, false, slice_set, slice_index, Some, None, IfOk, IfSome};
-    ghost use Rattle.heap_words.specs.Access.{place_of};
     ghost use Rattle.shen_graph.specs.declared.order.Order.TheVariants.{Nothing, Begin};
     ghost use Rattle.shen_graph.specs.Valid.{IsValid};
     ghost use Rattle.step_core.specs.Machines.{takes_of, stands_in, reply_in, place_in, is_resting, may_begin, made_of_machine, WaitsIn};

@@ -1,5 +1,5 @@
 //! The top call: words and a trace in, an answer or one line out.
-ghost use Rattle.std.specs.Prelude.{◌≡◌, ◌<◌, ◌+◌, ℕ, List, Option, Some, Err, IfOk, IfErr, MatchOption, length, map};
+ghost use Rattle.std.specs.Prelude.{◌≡◌, ◌<◌, ℕ, List, Some, Err, IfOk, IfErr, MatchOption, length, map};
 ghost use Rattle.std.specs.String.{string_bytes};
 ghost use Rattle.std.specs.Io.KnownBytes.{Appends};
 ghost use Rattle.shen_base.specs.Count.{Rose};
@@ -60,12 +60,12 @@ fn steps_of(words: &[String]) -> Option<u64>
 }
 
 /// Runs the schedule of a trace, and then rounds, on a heap of its own, until all machines are idle.
-fn run(alloc: Global, trace: &Trace, steps: u64) -> Result<(Work, Plain), Refusal>
-    requires { (bytes : List ℕ) × Reads bytes trace.now.config trace.now.scripts trace.now.schedule }
-    ensures finished { IfOk result (λ x. HasFinished trace.now.config trace.now.scripts trace.now.schedule steps x.0 x.1) }
-    ensures unfinished { result ≡ Err Refusal.Unfinished → (bytes : List ℕ) → Reads bytes trace.now.config trace.now.scripts trace.now.schedule → IsUnfinished bytes steps }
+fn run(alloc: Global, trace: Trace, steps: u64) -> Result<(Work, Plain), Refusal>
+    requires { (bytes : List ℕ) × Reads bytes trace.config trace.scripts trace.schedule }
+    ensures finished { IfOk result (λ x. HasFinished trace.config trace.scripts trace.schedule steps x.0 x.1) }
+    ensures unfinished { result ≡ Err Refusal.Unfinished → (bytes : List ℕ) → Reads bytes trace.config trace.scripts trace.schedule → IsUnfinished bytes steps }
 {
-    let Ok(mut work) = Work::open(alloc, trace.scripts.list()) else {
+    let Ok(mut work) = Work::of(alloc, trace.scripts.into_vec()) else {
         return Err(Refusal::NoMemory);
     };
     let Ok(mut plain) = Plain::open(alloc, trace.config) else {
@@ -93,14 +93,15 @@ fn graph_of(alloc: Global, config: Config, plain: &mut Plain) -> Result<GraphTex
 }
 
 /// The answer to a trace.
-fn answer_to(alloc: Global, trace: &Trace, steps: u64) -> Result<Answer, Refusal>
-    requires { (bytes : List ℕ) × Reads bytes trace.now.config trace.now.scripts trace.now.schedule }
-    ensures ok { IfOk result (λ answer. (bytes : List ℕ) → Reads bytes trace.now.config trace.now.scripts trace.now.schedule → IsReplayed bytes steps (text_of answer)) }
+fn answer_to(alloc: Global, trace: Trace, steps: u64) -> Result<Answer, Refusal>
+    requires { (bytes : List ℕ) × Reads bytes trace.config trace.scripts trace.schedule }
+    ensures ok { IfOk result (λ answer. (bytes : List ℕ) → Reads bytes trace.config trace.scripts trace.schedule → IsReplayed bytes steps (text_of answer)) }
     ensures scripts { IfOk result (λ answer. (mutator : ℕ) → mutator < length answer.graph.roots → HasScript answer.replies mutator) }
-    ensures unfinished { result ≡ Err Refusal.Unfinished → (bytes : List ℕ) → Reads bytes trace.now.config trace.now.scripts trace.now.schedule → IsUnfinished bytes steps }
+    ensures unfinished { result ≡ Err Refusal.Unfinished → (bytes : List ℕ) → Reads bytes trace.config trace.scripts trace.schedule → IsUnfinished bytes steps }
 {
+    let config = trace.config;
     let (replies, mut plain) = run(alloc, trace, steps)?;
-    let graph = graph_of(alloc, trace.config, &mut plain)?;
+    let graph = graph_of(alloc, config, &mut plain)?;
     Ok(Answer { replies, graph })
 }
 
@@ -142,7 +143,7 @@ fn replay<S: Source, K: Sink>(alloc: Global, steps: u64, source: &mut S, sink: &
         Err(TraceFault::ReadFault) => return say(sink, Line::ReadFault, Status::ReadFault),
         Err(TraceFault::NoMemory) => return say(sink, Line::NoMemory, Status::NoMemory),
     };
-    let answer = match answer_to(alloc, &trace, steps) {
+    let answer = match answer_to(alloc, trace, steps) {
         Ok(answer) => answer,
         Err(Refusal::Unfinished) => {
             return say(sink, Line::Unfinished { steps }, Status::Unfinished);

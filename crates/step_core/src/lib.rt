@@ -4,7 +4,7 @@
 
 mod opening;
 
-ghost use Rattle.std.specs.Prelude.{ℕ, ◌≡◌, ◌+◌, ◌<◌, List};
+ghost use Rattle.std.specs.Prelude.{ℕ, ◌≡◌, ◌<◌, List};
 ghost use Rattle.heap_words.specs.declared.config.Config.{Config};
 ghost use Rattle.heap_words.specs.Access.{place_of};
 ghost use Rattle.heap_words.specs.Words.{table_words};

@@ -1,8 +1,7 @@
 //! The items of a schedule.
-ghost use Rattle.std.specs.Prelude.{◌≡◌, ◌+◌, ◌<◌, MatchOption};
+ghost use Rattle.std.specs.Prelude.{◌<◌, MatchOption};
 ghost use Rattle.heap_words.specs.Place.{code_of};
 ghost use Rattle.heap_words.specs.Ranges.{seat_count};
-ghost use Rattle.heap_words.specs.declared.place.Place.{Place as Spot};
 ghost use Rattle.trace_grammar.specs.Spelling.{IsItem, aim, item};
 ghost use Rattle.trace_grammar.specs.Front.{BeginsWith, BeginsWithNone, IsAny, IsItemOf};
 

@@ -1,7 +1,6 @@
 //! A command's line.
-ghost use Rattle.std.specs.Prelude.{◌≡◌, ℕ, Option};
+ghost use Rattle.std.specs.Prelude.{◌≡◌};
 ghost use Rattle.std.specs.Option.{option_map};
-ghost use Rattle.trace_grammar.specs.Spelling.{Line};
 ghost use Rattle.trace_grammar.specs.Scanning.{command_at, line_at};
 
 use shen_graph::Command;

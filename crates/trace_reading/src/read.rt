@@ -1,13 +1,10 @@
 //! Reading a trace.
-ghost use Rattle.std.specs.Prelude.{false, ◌≡◌, ◌≢◌, ◌↔◌, ℕ, ◌+◌, ◌<◌, ◌≤◌, List, [], ◌++◌, Err, length, take, Some, IfSome, IfNone, IfOk, OnOk, IfErr, IsTrue};
-ghost use Rattle.std.specs.List.{flat_map, AllByRecursion};
+ghost use Rattle.std.specs.Prelude.{false, ◌≡◌, ◌≢◌, ◌↔◌, ℕ, ◌+◌, ◌≤◌, List, [], ◌++◌, Err, length, take, Some, IfSome, IfNone, IfOk, IfErr, IsTrue};
 ghost use Rattle.std.specs.Option.{option_map};
 ghost use Rattle.std.specs.Io.KnownBytes.{Consumes};
 ghost use Rattle.shen_base.specs.Count.{Rose};
-ghost use Rattle.shen_graph.specs.declared.command.Command.{Command};
 ghost use Rattle.heap_words.specs.declared.config.Config.{Config as Sizes};
 ghost use Rattle.trace_grammar.specs.Spelling.{Line, IsLine, line, header};
-ghost use Rattle.heap_words.specs.declared.schedule.Item.{Item};
 ghost use Rattle.trace_grammar.specs.Scanning.{sizes_at};
 ghost use Rattle.trace_grammar.specs.Front.{IsBehindCommands};
 ghost use Rattle.trace_grammar.specs.Grammar.{most_bytes, with_line, scripts_of, HasTaken, Reads, Came};

@@ -1,10 +1,10 @@
 //! The lines of a schedule.
 ghost use Rattle.std.specs.Prelude.{◌≡◌, ◌↔◌, List, ◌∷◌, [], ◌++◌, Err, IfOk, OnOk, IfErr, IsTrue, ◌≢◌, nat_lt, Some, ◌≤◌, ◌+◌, ◌<◌, ◌^◌, ℕ, length};
-ghost use Rattle.std.specs.List.{flat_map, AllByRecursion};
+ghost use Rattle.std.specs.List.{AllByRecursion};
 ghost use Rattle.heap_words.specs.declared.schedule.Item.{Item as Piece};
 ghost use Rattle.trace_grammar.specs.Spelling.{IsItem, spaced_item, items_and_end, IsScheduleLine, schedule_line};
 ghost use Rattle.trace_grammar.specs.Front.{IsLineEnd, IsBehindCommands, BeginsWith, BeginsWithNone};
-ghost use Rattle.trace_grammar.specs.Grammar.{items_of, HasScheduled};
+ghost use Rattle.trace_grammar.specs.Grammar.{HasScheduled};
 ghost use Rattle.trace_grammar.specs.declared.why.Why.{Why as Cause};
 ghost use Rattle.trace_reading.specs.Faults.{IsTextFault};
 ghost use Rattle.trace_refusals.specs.Causes.{parts};

@@ -1,5 +1,5 @@
 //! The three lines of the head.
-ghost use Rattle.std.specs.Prelude.{◌≡◌, ◌⊎◌, ℕ, ◌-◌, List, [], ◌∷◌, ◌++◌, length, slice_index_or, None, MatchOption};
+ghost use Rattle.std.specs.Prelude.{◌≡◌, ◌⊎◌, ℕ, ◌-◌, List, [], ◌∷◌, ◌++◌, slice_index_or, None, MatchOption};
 ghost use Rattle.std.specs.Str.Parse.{digits_value};
 ghost use Rattle.trace_refusals.specs.Causes.{parts, number_cause, title_cause};
 ghost use Rattle.heap_words.specs.declared.config.Config.{Config};

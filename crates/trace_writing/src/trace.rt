@@ -1,5 +1,5 @@
 //! Traces as text.
-ghost use Rattle.std.specs.Prelude.{ℕ, List, ◌≡◌, ◌+◌, ◌<◌, ◌≤◌, ◌∷◌, ◌++◌, length};
+ghost use Rattle.std.specs.Prelude.{ℕ, List, ◌≡◌, ◌+◌, ◌≤◌, ◌++◌, length};
 ghost use Rattle.std.specs.List.{flat_map, AllByRecursion};
 ghost use Rattle.shen_graph.specs.declared.command.Command.{Command as Asked};
 ghost use Rattle.heap_words.specs.declared.config.Config.{Config as Sizes};

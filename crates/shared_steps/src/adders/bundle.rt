@@ -1,4 +1,4 @@
-ghost use Rattle.std.specs.Prelude.{◌≡◌, ◌<◌, ◌==◌, if◌then◌else◌, ℕ, true, false, [], ◌∷◌, length, List, Some, IfOk, IfErr};
+ghost use Rattle.std.specs.Prelude.{◌≡◌, ◌<◌, ◌==◌, if◌then◌else◌, ℕ, true, false, [], length, List, IfOk, IfErr};
 ghost use Rattle.std.specs.Option.{is_some};
 ghost use Rattle.shared_steps.specs.Views.{machine_of, whole, merged, dealt_to, left_over, is_dealt_to, machines_of, kept_of, IsWhole};
 ghost use Rattle.shared_steps.specs.Rule.{Took, AreReached};

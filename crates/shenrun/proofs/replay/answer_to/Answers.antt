@@ -6,13 +6,13 @@ use Rattle.shenrun.proofs.replay.answer_to.Goals as goal
 
 pub graph_of-requires-clause-rest : goal.graph_of-requires-clause-rest
 graph_of-requires-clause-rest c =
-    all_rest c.args.trace.now.config c.args.trace.now.scripts c.args.trace.now.schedule c.args.steps c.in_ok-replies.replies c.in_ok-replies.plain c.in_ok-replies.ensures.finished
+    all_rest c.args.trace.config c.args.trace.scripts c.args.trace.schedule c.args.steps c.in_ok-replies.replies c.in_ok-replies.plain c.in_ok-replies.ensures.finished
 
 pub returns-clause-ok : goal.returns-clause-ok
 returns-clause-ok c = λ bytes reads.
-    let config = c.args.trace.now.config in
-    let scripts = c.args.trace.now.scripts in
-    let items = c.args.trace.now.schedule in
+    let config = c.args.trace.config in
+    let scripts = c.args.trace.scripts in
+    let items = c.args.trace.schedule in
     let done = c.in_ok-replies.ensures.finished in
     replayed bytes config scripts items c.args.steps c.in_ok-replies.replies c.in_ok-replies.plain c.in_ok-graph.graph reads (count_scripts bytes config scripts items reads) done c.in_ok-graph.ensures.threads
     (c.in_ok-graph.ensures.shows (opening_run config (events_of config scripts items c.args.steps)) done.shows)
