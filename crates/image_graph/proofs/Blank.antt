@@ -35,7 +35,7 @@ pub record IsBlank (c : Config) (m : Word → ℕ) : Type 0 where
 abbrev no_block : Plot
 no_block a = None
 
-abbrev no_graph : Graph
+abbrev pub no_graph : Graph
 no_graph = record { object = λ n. None; root = λ t i. None; count = λ t. 0 }
 
 abbrev no_promise : Promises
