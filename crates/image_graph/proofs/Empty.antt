@@ -32,9 +32,15 @@ module _ (c : Config) (words : List ℕ) (long : length words ≡ table_words c)
       (cases_Bool (nat_le 1 t && nat_lt i 16))
 
   pub empty_stands : StandForSome c.region_words (heap_in c words) (roots_in c words)
-  empty_stands = ∣ ((λ a. None), (no_graph, record {
-    each = λ a n is. absurd (none-some n is);
-    once = λ a b n is is_other. absurd (none-some n is);
-    apart = λ a b n m o is is_other object before. absurd (none-some n is);
-    roots = null_root;
-  })) ∣₁
+  empty_stands = ∣ (
+    (λ a. None),
+    (
+      no_graph,
+      record {
+        each = λ a n is. absurd (none-some n is);
+        once = λ a b n is is_other. absurd (none-some n is);
+        apart = λ a b n m o is is_other object before. absurd (none-some n is);
+        roots = null_root;
+      },
+    ),
+  ) ∣₁
