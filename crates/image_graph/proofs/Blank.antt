@@ -1,19 +1,18 @@
 -- An image without an object, in which threads may wait, holds the graph without an object.
-use Rattle.std.proofs.Common.{◌≡◌, ◌≢◌, ℕ, ◌+◌, ◌<◌, ◌≤◌, ◌==◌, ◌^◌, Option, Some, None, inl, cond, refl, sym, ap, ◌∙◌, subst, ⊎_elim, arith, true, false, Bool}
+use Rattle.std.proofs.Common.{◌≡◌, ◌≢◌, ℕ, ◌<◌, ◌≤◌, ◌==◌, ◌^◌, None, inl, cond, refl, sym, ap, ◌∙◌, subst, ⊎_elim, arith, true, false}
 use Rattle.std.proofs.lemmas.Bool.{cases_Bool, cond-true, cond-false}
 use Rattle.std.proofs.lemmas.Option.{none-some}
 use Rattle.heap_words.specs.declared.config.Config.{Config}
 use Rattle.heap_words.specs.Words.{Word, Free, Top, Current, Root, Wait, Answer, write}
 use Rattle.heap_words.specs.Encoding.{shape_word, refs_in, nums_in, request_code, request_shape_in, request_count_in}
 use Rattle.heap_words.proofs.Shapes.{refs_in-shape_word, nums_in-shape_word}
-use Rattle.shen_graph.specs.declared.name.Name.{Name}
-use Rattle.shen_graph.specs.Graph.{Graph, Reference}
+use Rattle.shen_graph.specs.Graph.{Graph}
 use Rattle.heap_world.specs.World.{Plot}
-use Rattle.image_laws.specs.Promised.{Promises, with_promised}
+use Rattle.image_laws.specs.Promised.{Promises}
 use Rattle.image_laws.specs.Image.{ImageStands, RootsStand}
 use Rattle.image_laws.specs.Serving.{IsAsking, asked_shape}
 use Rattle.image_laws.proofs.Standing.{standing_holds}
-use Rattle.image_graph.specs.Holds.{HoldsSome, HoldsBy}
+use Rattle.image_graph.specs.Holds.{HoldsSome}
 
 -- a thread asks for its first object
 pub record IsFirst (request : ℕ) : Type 0 where
@@ -35,7 +34,7 @@ pub record IsBlank (c : Config) (m : Word → ℕ) : Type 0 where
 abbrev no_block : Plot
 no_block a = None
 
-abbrev no_graph : Graph
+abbrev pub no_graph : Graph
 no_graph = record { object = λ n. None; root = λ t i. None; count = λ t. 0 }
 
 abbrev no_promise : Promises

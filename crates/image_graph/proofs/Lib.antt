@@ -2,3 +2,4 @@ pub mod Steps
 pub mod Room
 pub mod Turns
 pub mod Blank
+pub mod Empty

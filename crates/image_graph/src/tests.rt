@@ -4,6 +4,7 @@ ghost use Rattle.image_graph.specs.State.{config_of, memory_of};
 
 use super::Image;
 use heap_words::{Config, name_word, request_word, shape_of};
+use shen_graph::{GraphText, Name};
 use std::alloc::Global;
 use std::test::Fail;
 
@@ -60,5 +61,18 @@ fn follows_one_forwarding_pointer(rt: HostRuntime) -> Result<(), Fail> {
     image.settle();
     image.let_go();
     assert_eq!(rt; image.word(config.heap_at(64)), 515);
+    Ok(())
+}
+
+// No object, no root: what the text held before is gone.
+#[test]
+fn writes_a_graph_without_objects(rt: HostRuntime) -> Result<(), Fail> {
+    let mut image = opened(rt.alloc())?;
+    let mut text = GraphText::open(rt.alloc(), 256, 2)?;
+    text.object(Name::HUB);
+    image.answer_graph(&mut text);
+    assert_eq!(rt; text.rows(), 0);
+    assert_eq!(rt; text.root_at(1, 0), None);
+    assert_eq!(rt; text.root_at(2, 15), None);
     Ok(())
 }
