@@ -30,7 +30,7 @@ impl Scripts {
 
     /// The scripts of these threads, back, without taking memory.
     pub fn into_vec(self) -> Vec<Script>
-        ensures { result.items ≡ self.old }
+        ensures { result.items ≡ self }
     {
         self.scripts
     }
