@@ -235,14 +235,14 @@ impl Plain {
     /// Runs the items of a schedule and then rounds, in which the machines take turns by their numbers and idle ones are
     /// passed over, until all machines are idle or so many steps were made. A mutator between two calls begins the next
     /// command of its script in `work`, where the replies are noted.
-    pub fn run(&mut self, work: &mut Work, schedule: &Schedule, limit: u64) -> Ran
+    pub fn run(&mut self, work: &mut Work, schedule: &Schedule, steps: u64) -> Ran
         requires run { CanRun self.old work.old }
         requires items { All (IsInSeats (config_of self.old)) schedule.now }
         ensures run { CanRun self.new work.new }
         ensures config { config_of self.new ≡ config_of self.old }
-        ensures events { RunsSchedule self.old work.old schedule.now limit self.new work.new result }
+        ensures events { RunsSchedule self.old work.old schedule.now steps self.new work.new result }
     {
-        let mut left = limit;
+        let mut left = steps;
         for item in schedule.list() {
             left = self.run_item(work, *item, left);
         }

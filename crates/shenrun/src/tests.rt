@@ -678,6 +678,7 @@ impl Source for Endless {
 #[derive(Drop)]
 struct OneLine {
     left: usize,
+    calls: u64,
 }
 
 impl Source for OneLine {
@@ -687,7 +688,10 @@ impl Source for OneLine {
 
     ghost faults = { λ _. 0 };
 
+    ghost calls = { λ source. source.calls };
+
     fn read(&mut self, buf: &mut [u8]) -> Result<usize, Failed> {
+        self.calls = self.calls.saturating_add(1);
         let count = buf.len().min(self.left);
         buf[..count].fill(b'x');
         self.left -= count;
@@ -700,7 +704,11 @@ fn said_of_one_line(alloc: Global, bytes: usize) -> Result<Vec<u8>, Fail> {
     let mut words = Vec::new(alloc);
     words.push(String::from_str(alloc, "replay")?)?;
     let mut sink = MemorySink::with_room(alloc, 100, 100, Vec::new(alloc))?;
-    shenrun(alloc, &words, &mut OneLine { left: bytes }, &mut sink);
+    let mut source = OneLine {
+        left: bytes,
+        calls: 0,
+    };
+    shenrun(alloc, &words, &mut source, &mut sink);
     Ok(Vec::from_slice(alloc, sink.bytes())?)
 }
 

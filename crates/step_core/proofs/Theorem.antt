@@ -1,5 +1,5 @@
 -- The theorem over every list of events.
-use Rattle.std.proofs.Common.{◌≡◌, ℕ, ◌+◌, ◌<◌, true, List, [], Option, Some, None, sym, ap, ◌∙◌, subst, arith}
+use Rattle.std.proofs.Common.{◌≡◌, ◌≢◌, false, ℕ, ◌+◌, ◌<◌, true, List, [], Option, Some, None, sym, ap, ◌∙◌, subst, arith}
 use Rattle.std.specs.Prelude.{get_or, slice_get, slice_index}
 use Rattle.std.proofs.lemmas.Bool.{and_parts}
 use Rattle.heap_words.specs.declared.config.Config.{Config}
@@ -15,22 +15,27 @@ use Rattle.shen_graph.specs.History.{Entry, IsWithoutFull, after, of_thread}
 use Rattle.shen_graph.specs.declared.order.Order.{Order}
 use Rattle.mutator.specs.declared.spot.Kept.{Kept}
 use Rattle.mutator.specs.declared.spot.Spot.{Spot}
-use Rattle.mutator.specs.declared.spot.Spot.TheVariants.{Rest, Ended, Making}
+use Rattle.mutator.specs.declared.spot.Spot.TheVariants.{Rest, Ended, LoadSet, Loading, OnField, OnNumber, Showing, StoreRoot, Making, AskCycle, Leave}
 use Rattle.mutator.specs.declared.makes.MakeSpot.TheVariants.{Taking}
+use Rattle.mutator.specs.declared.makes.MakeSpot.TheVariants as make
+use Rattle.mutator.specs.declared.loads.LoadSpot.TheVariants as load
+use Rattle.mutator.specs.declared.fields.FieldSpot.TheVariants as fields
+use Rattle.mutator.specs.declared.numbers.NumberSpot.TheVariants as numbers
+use Rattle.mutator.specs.declared.shows.ShowSpot.TheVariants as show
 use Rattle.mutator.specs.Orders.{is_between_calls}
 use Rattle.mutator.specs.Rows.{Mutating, touch_of, words_of}
 use Rattle.mutator.specs.Fit.{IsFit}
-use Rattle.heap_world.specs.World.{World}
+use Rattle.heap_world.specs.World.{World, hand}
 use Rattle.mutator.proofs.Ready.{word_of_ready, ready_inside}
 use Rattle.std.proofs.lemmas.Option.{slice_get-get_or}
 use Rattle.alloc_buffers.specs.declared.spot.TakeSpot.TheVariants.{LoadFree}
 use Rattle.alloc_buffers.specs.Facts.{HasLess}
-use Rattle.step_core.specs.Actor.{mutating, Actor, fresh_control}
+use Rattle.step_core.specs.Actor.{Machine, mutating, helping, controlling, Actor, fresh_control}
 use Rattle.step_core.specs.Machines.{plan_of, takes_of, kind}
 use Rattle.step_core.specs.Settled.{settled}
 use Rattle.step_core.specs.History.{history}
 use Rattle.step_core.specs.Begins.{Begins, Run, ending, history_in, first_graph, reached, past}
-use Rattle.step_core.specs.Sound.{world_of, IsMutator, IsOfHeap, FindsFit, IsSound}
+use Rattle.step_core.specs.Sound.{has_settled, world_of, IsMutator, IsOfHeap, FindsFit, IsSound}
 use Rattle.heap_world.specs.Roots.{HasNoMore}
 use Rattle.step_core.specs.Stepped.{SpotFacts, Stepped}
 use Rattle.step_core.proofs.Facts.{IsThread, IsMachine, Follows}
@@ -47,6 +52,43 @@ unsettled_at_rest : (c : Config) (w : World) (seat made : ℕ) (kept : Kept) (co
 unsettled_at_rest c w seat made kept command fixed Rest rest facts = facts
 unsettled_at_rest c w seat made kept command fixed (Ended reply) rest facts = facts
 unsettled_at_rest c w seat made kept command fixed _ rest facts = absurd cc
+
+-- before the access that settles the reply there is none
+unsettled_before : (c : Config) (w : World) (seat made : ℕ) (kept : Kept) (command : Command) (fixed : Option Reply) (spot : Spot) → has_settled spot ≡ false → SpotFacts c w seat made kept command fixed spot → fixed ≡ None
+unsettled_before c w seat made kept command fixed Rest before facts = facts
+unsettled_before c w seat made kept command fixed (Ended reply) before facts = facts
+unsettled_before c w seat made kept command fixed LoadSet before facts = facts.unsettled
+unsettled_before c w seat made kept command fixed (Loading load.First) before facts = facts.0.unsettled
+unsettled_before c w seat made kept command fixed (Loading (load.Second first)) before facts = facts.0.unsettled
+unsettled_before c w seat made kept command fixed (Loading (load.Third first second)) before facts = facts.0.unsettled
+unsettled_before c w seat made kept command fixed (Loading (load.Shape object second third)) before facts = facts.0.unsettled
+unsettled_before c w seat made kept command fixed (OnField object fields.Load) before facts = facts.0
+unsettled_before c w seat made kept command fixed (OnField object (fields.LoadExpected expect value)) before facts = facts.0
+unsettled_before c w seat made kept command fixed (OnField object (fields.Store value)) before facts = facts.0
+unsettled_before c w seat made kept command fixed (OnField object (fields.Swap value)) before facts = facts.0
+unsettled_before c w seat made kept command fixed (OnField object (fields.Exchange found expect value)) before facts = facts.0
+unsettled_before c w seat made kept command fixed (OnNumber object refs numbers.Load) before facts = facts.0
+unsettled_before c w seat made kept command fixed (OnNumber object refs numbers.Store) before facts = facts.0
+unsettled_before c w seat made kept command fixed (StoreRoot value) before facts = facts.0
+unsettled_before c w seat made kept command fixed (Making (Taking take)) before facts = facts.0.unsettled
+unsettled_before c w seat made kept command fixed (Making (make.StoreWord address done)) before facts = facts.0.unsettled
+unsettled_before c w seat made kept command fixed (Making (make.StoreRoot address)) before facts = facts.0.unsettled
+unsettled_before c w seat made kept command fixed AskCycle before facts = facts.0
+unsettled_before c w seat made kept command fixed _ before facts = absurd cc
+
+-- and behind it there is one
+settled_after : (c : Config) (w : World) (seat made : ℕ) (kept : Kept) (command : Command) (fixed : Option Reply) (spot : Spot) → has_settled spot ≡ true → SpotFacts c w seat made kept command fixed spot → fixed ≢ None
+settled_after c w seat made kept command fixed (Showing value show.LoadName) behind facts = λ none. absurd (let it = facts.settled in cc)
+settled_after c w seat made kept command fixed (Showing value (show.StoreRoot reply)) behind facts = λ none. absurd (let it = facts.0 in cc)
+settled_after c w seat made kept command fixed (Leave reply) behind facts = λ none. absurd cc
+settled_after c w seat made kept command fixed _ behind facts = absurd cc
+
+-- only a mutator has room in hand
+hand_of : (c : Config) (w : World) (entries : List Entry) (number : ℕ) (actor : Actor) (machine : Machine) → IsMachine c w entries number actor machine
+    → (a words : ℕ) → w.block a ≡ Some (hand number words) → number < c.mutators
+hand_of c w entries number actor (mutating m) is a words there = subst (λ k. k < c.mutators) is.number_is is.mine.seated.below
+hand_of c w entries number actor (helping h) is a words there = absurd (is.hands a words there)
+hand_of c w entries number actor (controlling k) is a words there = absurd (is.hands a words there)
 
 -- What a stage that follows its history says.
 module _ (c : Config) (g : Graph) (s : Stage Actor) (h : List Entry) (follows : Follows c g s h) where
@@ -75,6 +117,7 @@ module _ (c : Config) (g : Graph) (s : Stage Actor) (h : List Entry) (follows : 
   of_heap = record {
     words = follows.words;
     machines = follows.seats;
+    roles = λ number a there. number_of c the_world (of_thread h (number + 1)) number a a.machine (follows.machines number a there);
     mutators = λ number below.
         let there : slice_get s.machines number ≡ Some (get_or s.machines number (record { machine = fresh_control; command = Gc; calls = [] })) =
         slice_get-get_or s.machines number _ (let seats = follows.seats in omega (arith, below, seats)) in
@@ -84,6 +127,15 @@ module _ (c : Config) (g : Graph) (s : Stage Actor) (h : List Entry) (follows : 
     numbers = λ number a m here. let thread = thread_of number a m here in (thread.number_is, subst (λ k. k < c.mutators) thread.number_is thread.mine.seated.below);
   }
 
+  -- of room in hand
+  in_hand : (a seat words : ℕ) → follows.block a ≡ Some (hand seat words) → seat < c.mutators
+  in_hand a seat words there =
+      let below = (follows.shared.rooms a seat words there).seated in
+      let here : slice_get s.machines seat ≡ Some (get_or s.machines seat (record { machine = fresh_control; command = Gc; calls = [] })) =
+      slice_get-get_or s.machines seat _ (let seats = follows.seats in omega (arith, below, seats)) in
+      let actor = get_or s.machines seat (record { machine = fresh_control; command = Gc; calls = [] }) in
+      hand_of c the_world (of_thread h (seat + 1)) seat actor actor.machine (follows.machines seat actor here) a words there
+
   -- of all: it is sound
   sound : IsWithoutFull h → HasNoMore c.mutators g → IsSound c g s h
   sound without_full no_more = record {
@@ -92,6 +144,7 @@ module _ (c : Config) (g : Graph) (s : Stage Actor) (h : List Entry) (follows : 
       block = follows.block;
       owner = follows.owner;
       shared = follows.shared;
+      in_hand = in_hand;
       mutators = λ number a m here. let mine = (thread_of number a m here).mine in record { made = mine.seated.counted; roots = mine.roots; hands = mine.hands };
     };
     legal = follows.legal;
@@ -104,6 +157,8 @@ module _ (c : Config) (g : Graph) (s : Stage Actor) (h : List Entry) (follows : 
           fixed = thread.fixed;
           entries_are = thread.entries_are;
           between_calls = λ rest. unsettled_at_rest c the_world m.seat m.made m.kept a.command thread.fixed m.spot rest thread.mine.facts;
+          before_it = λ before. unsettled_before c the_world m.seat m.made m.kept a.command thread.fixed m.spot before thread.mine.facts;
+          after_it = λ behind. settled_after c the_world m.seat m.made m.kept a.command thread.fixed m.spot behind thread.mine.facts;
           gives = λ reply is. gives_settled c the_world m.seat m.kept a.command thread.fixed m.spot m.made reply thread.mine.facts is;
         };
     fit = λ number a m here. finds_fit number a m here;

@@ -1,5 +1,5 @@
 -- The theorem over every list of events: what holds of each stage that events lead to, and of its history.
-use Rattle.std.specs.Prelude.{ℕ, ◌≡◌, ◌+◌, ◌<◌, true, List, ◌++◌, length, Option, Some, None, slice_get, slice_index, All}
+use Rattle.std.specs.Prelude.{ℕ, ◌≡◌, ◌≢◌, ◌+◌, ◌<◌, Bool, true, false, List, ◌++◌, length, Option, Some, None, slice_get, slice_index, All}
 use Rattle.heap_words.specs.declared.config.Config.{Config}
 use Rattle.heap_words.specs.Access.{place_of}
 use Rattle.heap_words.specs.Ranges.{seat_count}
@@ -9,12 +9,14 @@ use Rattle.shen_graph.specs.declared.command.Reply.{Reply}
 use Rattle.shen_graph.specs.declared.order.Order.{Order}
 use Rattle.shen_graph.specs.Graph.{Graph}
 use Rattle.shen_graph.specs.History.{Entry, after, EachIsLegal, IsWithoutFull, of_thread}
+use Rattle.mutator.specs.declared.spot.Spot.{Spot}
+use Rattle.mutator.specs.declared.spot.Spot.TheVariants.{Showing, Leave}
 use Rattle.mutator.specs.Orders.{is_between_calls, takes_at}
 use Rattle.mutator.specs.Rows.{Mutating, given_at}
 use Rattle.mutator.specs.Fit.{IsReady, IsFit}
-use Rattle.heap_world.specs.World.{World, Plot, Shared}
+use Rattle.heap_world.specs.World.{World, Plot, hand, Shared}
 use Rattle.step_core.specs.Actor.{mutating, Actor, entries_of}
-use Rattle.step_core.specs.Machines.{plan_of}
+use Rattle.step_core.specs.Machines.{plan_of, HasNumber}
 use Rattle.step_core.specs.Settled.{settled}
 use Rattle.step_core.specs.Own.{HasItsOwn}
 use Rattle.step_core.specs.Threads.{IsSettled}
@@ -40,16 +42,24 @@ pub record SomeMutator (s : Stage Actor) (number : ℕ) : Type 0 where
 pub record IsOfHeap (c : Config) (s : Stage Actor) : Type 0 where
   pub words : length s.words ≡ table_words c
   pub machines : length s.machines ≡ seat_count c.mutators c.helpers
+  pub roles : (number : ℕ) (a : Actor) → slice_get s.machines number ≡ Some a → HasNumber c number a.machine
   pub mutators : (number : ℕ) → number < c.mutators → SomeMutator s number
   pub numbers : (number : ℕ) (a : Actor) (m : Mutating) → IsMutator s number a m → (m.seat ≡ number) × (number < c.mutators)
 
 -- Words and machines stand for a graph: there is a way to divide the regions into objects of that graph and words in
--- hand, such that each mutator has in its words what its thread has in the graph.
+-- hand, such that room in hand is a mutator's, and each mutator has in its words what its thread has in the graph.
 pub record StandsFor (c : Config) (s : Stage Actor) (g : Graph) : Type 0 where
   pub block : Plot
   pub owner : ℕ → Option ℕ
   pub shared : Shared c (world_of c s block owner g)
+  pub in_hand : (a seat words : ℕ) → block a ≡ Some (hand seat words) → seat < c.mutators
   pub mutators : (number : ℕ) (a : Actor) (m : Mutating) → IsMutator s number a m → HasItsOwn (world_of c s block owner g) m
+
+-- whether the reply of the call in progress is settled: what the call has found is on its way into a root, or it leaves
+abbrev pub has_settled : Spot → Bool
+has_settled (Showing value at) = true
+has_settled (Leave reply) = true
+has_settled _ = false
 
 -- The entries of a mutator in the history are the calls that it has ended and, where the reply of its call in progress is
 -- settled, one more, of that call. Between two calls there is no more, and the reply that ends a call is the settled one.
@@ -57,6 +67,8 @@ pub record AreCalls (entries : List Entry) (number : ℕ) (a : Actor) (m : Mutat
   pub fixed : Option Reply
   pub entries_are : entries ≡ a.calls ++ entries_of number a.command fixed
   pub between_calls : is_between_calls m.spot ≡ true → fixed ≡ None
+  pub before_it : has_settled m.spot ≡ false → fixed ≡ None
+  pub after_it : has_settled m.spot ≡ true → fixed ≢ None
   pub gives : (reply : Reply) → given_at m.spot ≡ Some reply → fixed ≡ Some reply
 
 -- a mutator's next access is of a word of the table, and the word that it finds there is fit
