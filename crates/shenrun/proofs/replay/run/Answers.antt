@@ -30,8 +30,8 @@ returns-in-Finished-clause-finished c =
     finished c.in-Ok-open.plain c.run.new.self t.config t.scripts t.schedule c.args.steps c.in-Ok.work c.run.new.work c.in-Ok-open.ensures.config c.in-Ok-open.ensures.opening (count_scripts c.requires.0 t.config t.scripts t.schedule c.requires.1)
     (c.in-Ok.ensures ∙ ap opened c.into_vec.ensures) c.in-Finished.ensures.events c.in-Finished.ensures.config c.in-Finished.ensures.run
 
-pub returns-in-Unfinished-clause-unfinished : goal.returns-in-Unfinished-clause-unfinished
-returns-in-Unfinished-clause-unfinished c = λ h bytes reads.
+pub returns-clause-unfinished : goal.returns-clause-unfinished
+returns-clause-unfinished c = λ h bytes reads.
     let t = c.args.trace in
     unfinished c.in-Ok-open.plain c.run.new.self bytes t.config t.scripts t.schedule c.args.steps c.in-Ok.work c.run.new.work c.in-Ok-open.ensures.config c.in-Ok-open.ensures.opening (count_scripts bytes t.config t.scripts t.schedule reads)
     (c.in-Ok.ensures ∙ ap opened c.into_vec.ensures) c.in-Unfinished.ensures.events reads
