@@ -54,13 +54,17 @@ pub all_but_members : (region : ℕ) → region < 64 → (r : ℕ) → IsIn (all
 all_but_members region below r = (to, from) where
   to : IsIn (all_but region) r → (r < 64) × (r ≢ region)
   to member = ⊎_elim
-    (λ (within : r < 64). (within, λ (same : r ≡ region).
-      let one : bit_at (2 ^ region) r ≡ 1 = ap (bit_at (2 ^ region)) same ∙ bit_at-pow_same region in
-      let none = bit_at-all_but region r below within in
-      omega (arith, one, none, member)))
-    (λ (above : 64 ≤ r).
+      (λ (within : r < 64). (
+        within,
+        λ (same : r ≡ region).
+            let one : bit_at (2 ^ region) r ≡ 1 = ap (bit_at (2 ^ region)) same ∙ bit_at-pow_same region in
+            let none = bit_at-all_but region r below within in
+            omega (arith, one, none, member),
+      ))
+      (λ (above : 64 ≤ r).
       let none = bit_at_above (all_but region) 64 r (omega arith) above in
       absurd (omega (arith, none, member)))
-    (cases_lt r 64)
+      (cases_lt r 64)
+
   from : (r < 64) × (r ≢ region) → IsIn (all_but region) r
   from other = bit_at-all_but region r below other.0 ∙ ap (λ b. 1 - b) (bit_at-pow_other region r other.1)
