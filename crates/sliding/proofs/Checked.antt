@@ -1,9 +1,9 @@
 -- What sliding asks of a heap that is written out, by a test that computes.
-use Rattle.std.proofs.Common.{◌≡◌, ℕ, ◌+◌, ◌-◌, ◌%◌, ◌^◌, ◌<◌, ◌≤◌, ◌==◌, ◌&&◌, ◌||◌, Bool, true, false, nat_le, nat_lt, cond, List, length, get_or, sym, ap, ◌∙◌, ⊎_elim, arith}
+use Rattle.std.proofs.Common.{◌≡◌, ℕ, ◌+◌, ◌-◌, ◌%◌, ◌^◌, ◌<◌, ◌≤◌, ◌==◌, ◌&&◌, ◌||◌, Bool, true, false, not, nat_le, nat_lt, cond, List, length, get_or, sym, ap, ◌∙◌, ⊎_elim, arith}
 use Rattle.std.proofs.lemmas.List.{get_or_past}
-use Rattle.std.proofs.lemmas.Bool.{cond-true, cases_Bool, cases_lt, and_from, or_cases, eqb-true, and_parts, leb-true, ltb-true, lt-ltb, agree_below, agree_below_at, true≢false}
-use Rattle.heap_words.specs.Encoding.{object_words, refs_in}
-use Rattle.sliding.specs.Table.{kept_of, word_of, IsMarkedHeap, AreInTable}
+use Rattle.std.proofs.lemmas.Bool.{cond-true, cond-false, not-true, cases_Bool, cases_lt, and_from, or_cases, eqb-true, and_parts, leb-true, ltb-true, lt-ltb, agree_below, agree_below_at, true≢false}
+use Rattle.heap_words.specs.Encoding.{object_words, refs_in, is_forwarded, forwardee_in}
+use Rattle.sliding.specs.Table.{kept_of, word_of, now_of, IsMarkedHeap, AreInTable, LeadsToKept, CanCompact}
 use Rattle.sliding.proofs.Flags.{kept_marked, kept_unmarked, kept_below}
 
 -- the words of the object at an index
@@ -115,3 +115,53 @@ in_table_if w heap places marks same all a i some few differs =
     let high = ltb-true (get_or heap (k + (3 + i)) 0) (w + length heap) parts.1 in
     (omega (arith, low, word), omega (arith, high, word, same)))
     (or_cases (get_or heap (k + (3 + i)) 0 == 0) (nat_le w (get_or heap (k + (3 + i)) 0) && nat_lt (get_or heap (k + (3 + i)) 0) (w + length heap)) one)
+
+-- a marked object has not moved, and its references are null or lead to marked objects
+abbrev own : List ℕ → List Bool → ℕ → Bool
+own heap marks k = cond (get_or marks k false) (not (is_forwarded (get_or heap k 0))) true
+
+abbrev leads : ℕ → List ℕ → List Bool → ℕ → Bool
+leads w heap marks word =
+    (word == 0) || ((nat_le w word && nat_lt word (w + length heap)) && (nat_le w (now_of w heap word) && get_or marks (now_of w heap word - w) false))
+
+abbrev all_lead : ℕ → List ℕ → List Bool → ℕ → Bool
+all_lead w heap marks k = cond (get_or marks k false) (agree_below (λ i. leads w heap marks (get_or heap (k + (3 + i)) 0)) yes (refs_in (get_or heap (k + 1) 0))) true
+
+-- a word that passes the test leads to a kept object
+leads_if : (w : ℕ) (heap : List ℕ) (marks : List Bool) (word : ℕ) → leads w heap marks word ≡ true → LeadsToKept w heap marks word
+leads_if w heap marks word test other = ⊎_elim
+    (λ (null : (word == 0) ≡ true). absurd (other (eqb-true word 0 null)))
+    (λ (rest : ((nat_le w word && nat_lt word (w + length heap)) && (nat_le w (now_of w heap word) && get_or marks (now_of w heap word - w) false)) ≡ true).
+    let halves = and_parts (nat_le w word && nat_lt word (w + length heap)) (nat_le w (now_of w heap word) && get_or marks (now_of w heap word - w) false) rest in
+    let range = and_parts (nat_le w word) (nat_lt word (w + length heap)) halves.0 in
+    let copy = and_parts (nat_le w (now_of w heap word)) (get_or marks (now_of w heap word - w) false) halves.1 in
+    let low = leb-true w (now_of w heap word) copy.0 in
+    let back : w + (now_of w heap word - w) ≡ now_of w heap word = omega (arith, low) in
+    let size : kept_of w heap marks (w + (now_of w heap word - w)) ≡ words heap (now_of w heap word - w) = kept_marked w heap marks (now_of w heap word - w) copy.1 in
+    let same : kept_of w heap marks (w + (now_of w heap word - w)) ≡ kept_of w heap marks (now_of w heap word) = ap (kept_of w heap marks) back in
+    (leb-true w word range.0, ltb-true word (w + length heap) range.1, omega (arith, size, same)))
+    (or_cases (word == 0) ((nat_le w word && nat_lt word (w + length heap)) && (nat_le w (now_of w heap word) && get_or marks (now_of w heap word - w) false)) test)
+
+-- a heap that passes all tests can be packed
+pub can_compact_if : (w : ℕ) (heap : List ℕ) (marks : List Bool) → IsMarkedHeap w heap marks
+    → agree_below (own heap marks) yes (length marks) ≡ true → agree_below (all_lead w heap marks) yes (length marks) ≡ true → CanCompact w heap marks
+can_compact_if w heap marks marked plain all = record {
+  marked = marked;
+  current = λ a some.
+      let at = marked_index w heap marks a some in
+      let row = agree_below_at (own heap marks) yes (length marks) (a - w) plain at.2 in
+      let stays : is_forwarded (get_or heap (a - w) 0) ≡ false =
+      not-true (is_forwarded (get_or heap (a - w) 0)) (sym (cond-true (get_or marks (a - w) false) (not (is_forwarded (get_or heap (a - w) 0))) true at.1) ∙ row) in
+      cond-false (is_forwarded (get_or heap (a - w) 0)) (forwardee_in (get_or heap (a - w) 0)) a stays;
+  closed = λ a i some few.
+      let at = marked_index w heap marks a some in
+      let k = a - w in
+      let row = agree_below_at (all_lead w heap marks) yes (length marks) k all at.2 in
+      let refs = sym (cond-true (get_or marks k false) (agree_below (λ j. leads w heap marks (get_or heap (k + (3 + j)) 0)) yes (refs_in (get_or heap (k + 1) 0))) true at.1) ∙ row in
+      let shape_index : a + 1 - w ≡ k + 1 = omega (arith, at.0) in
+      let shape : refs_in (word_of w heap (a + 1)) ≡ refs_in (get_or heap (k + 1) 0) = ap (λ j. refs_in (get_or heap j 0)) shape_index in
+      let one = agree_below_at (λ j. leads w heap marks (get_or heap (k + (3 + j)) 0)) yes (refs_in (get_or heap (k + 1) 0)) i refs (omega (arith, few, shape)) in
+      let word_index : a + (3 + i) - w ≡ k + (3 + i) = omega (arith, at.0) in
+      let word : word_of w heap (a + (3 + i)) ≡ get_or heap (k + (3 + i)) 0 = ap (λ j. get_or heap j 0) word_index in
+      leads_if w heap marks (word_of w heap (a + (3 + i))) (ap (leads w heap marks) word ∙ one);
+}

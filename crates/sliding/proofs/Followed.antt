@@ -1,10 +1,10 @@
 -- The table of new places, once it was followed: it renews each word by the current copy of what the word names.
-use Rattle.std.proofs.Common.{◌≡◌, ◌≢◌, ℕ, ◌+◌, ◌-◌, ◌<◌, ◌≤◌, ◌==◌, ◌&&◌, Bool, true, false, nat_le, nat_lt, cond, List, length, get_or, ⊎_elim, refl, sym, ap, ◌∙◌, subst, arith}
+use Rattle.std.proofs.Common.{◌≡◌, ◌≢◌, ℕ, ◌+◌, ◌-◌, ◌<◌, ◌≤◌, ◌==◌, ◌&&◌, Bool, true, false, nat_le, nat_lt, List, length, get_or, ⊎_elim, sym, ap, ◌∙◌, subst, arith}
 use Rattle.std.proofs.lemmas.Bool.{cond-true, cond-false, cases_Bool, cases_eq, eq-eqb, ne_eqb, and_from, and_left, le-leb, lt-ltb}
-use Rattle.heap_words.specs.Encoding.{is_forwarded, forwardee_in, refs_in}
+use Rattle.heap_words.specs.Encoding.{is_forwarded, forwardee_in}
 use Rattle.packing.specs.Places.{new_place}
 use Rattle.sliding.specs.Slide.{renewed, IsSlidTo}
-use Rattle.sliding.specs.Table.{word_of, kept_of, now_of, current_index, IsCurrent, HavePlaces, IsInTable, AreInTable, from_table, LeadsToKept, CanCompact, IsRenewedBy}
+use Rattle.sliding.specs.Table.{word_of, kept_of, now_of, current_index, IsCurrent, HavePlaces, AreInTable, from_table, LeadsToKept, CanCompact, IsRenewedBy}
 use Rattle.sliding.proofs.Slid.{renewed_alike}
 
 -- the index of a current copy in the heap is that of its address

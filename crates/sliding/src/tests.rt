@@ -59,3 +59,28 @@ fn follows_a_forwarding_pointer(rt: HostRuntime) {
     follow(8, &heap, &mut places);
     assert!(rt; places == [12, 0, 12, 0]);
 }
+
+// Two regions of 8 words. At 8 is an old copy of the object at 19; the object at 11 names the old copy, and after packing
+// the new place of the current one, which is right behind its own.
+#[test]
+fn renews_by_current_copies(rt: HostRuntime) {
+    let mut heap = [
+        79, 65536, 12, 1, 65793, 11, 8, 100, 7, 7, 7, 1, 65536, 12, 7, 7,
+    ];
+    let marks = [
+        false, false, false, true, false, false, false, false, false, false, false, true, false,
+        false, false, false,
+    ];
+    let mut places = [0; 16];
+    let mut tops = [9; 2];
+    compact_marked(8, &marks, &mut heap, &mut places, &mut tops);
+    assert!(rt; tops == [8, 0]);
+    assert!(rt; renew(8, &places, 8) == 13);
+    assert!(rt; renew(8, &places, 19) == 13);
+    assert!(rt; renew(8, &places, 0) == 0);
+    assert!(rt;
+        heap == [
+            1, 65793, 11, 13, 100, 1, 65536, 12, 7, 7, 7, 1, 65536, 12, 7, 7,
+        ]
+    );
+}
