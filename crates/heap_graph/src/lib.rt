@@ -5,6 +5,7 @@ mod rows;
 mod walk;
 mod write;
 
+pub use walk::take_down;
 pub use write::write_graph;
 
 #[cfg(test)]

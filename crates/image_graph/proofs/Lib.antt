@@ -1,3 +1,4 @@
 pub mod Steps
 pub mod Room
 pub mod Turns
+pub mod Packed
