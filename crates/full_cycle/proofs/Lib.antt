@@ -1,0 +1,5 @@
+pub mod Listed
+pub mod Rows
+pub mod Steps
+pub mod State
+pub mod Refused
