@@ -3,3 +3,5 @@ pub mod Rows
 pub mod Steps
 pub mod State
 pub mod Refused
+pub mod Kept
+pub mod Places

@@ -61,6 +61,12 @@ answer_none m t order none =
 
 -- Turns.
 
+-- past the end of a list there is nothing
+pub none_left : (xs : List ℕ) (n : ℕ) → slice_get xs n ≡ None → length xs ≤ n
+none_left [] n none = omega arith
+none_left (x ∷ xs) zero none = absurd (cc)
+none_left (x ∷ xs) (suc n) none = omega (arith, none_left xs n none)
+
 module _ (c : Config) (m : Word → ℕ) where
   abbrev found : ℕ → List ℕ
   found = found_by c m
