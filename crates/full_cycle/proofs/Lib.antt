@@ -5,3 +5,5 @@ pub mod State
 pub mod Refused
 pub mod Kept
 pub mod Places
+pub mod Holding
+pub mod Slices

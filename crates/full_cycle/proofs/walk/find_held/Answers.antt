@@ -77,9 +77,4 @@ loop-address-preserved c =
     }
 
 pub returns-clause-held : goal.returns-clause-held
-returns-clause-held c =
-    let old = c.args.image.now in
-    let m : Word → ℕ = memory_of old in
-    let n = c.loop-address.turn in
-    let turns = c.loop-address.invariant.turns in
-    turns ∙ last_turn (config_of old) m n (none_left (found_by (config_of old) m n) n (ap (λ xs. slice_get xs n) (sym turns) ∙ sym c.in-None.ensures)) c.loop-address.invariant.few
+returns-clause-held c = let h = c.in_default in let k = c.in_default.not-Some in ?
