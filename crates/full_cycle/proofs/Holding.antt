@@ -3,6 +3,8 @@ use Rattle.std.proofs.Common.{◌≡◌, ◌≢◌, ℕ, ◌+◌, ◌*◌, ◌<�
 use Rattle.std.proofs.lemmas.Bool.{cond-false}
 use Rattle.std.proofs.lemmas.Option.{slice_get-get_or}
 use Rattle.std.proofs.Math.Logic.{∥∥₁_elim}
+use Rattle.std.proofs.Math.Bridge.{le_prop}
+use Rattle.std.proofs.Math.Nat.{ℕ_set}
 use Rattle.heap_words.specs.declared.config.Config.{Config}
 use Rattle.heap_words.specs.Words.{Word, Top, Root, Answer, Heap}
 use Rattle.heap_words.specs.Encoding.{is_forwarded, forwardee_in, refs_in, object_words}
@@ -107,7 +109,7 @@ module _ (c : Config) (memory : Word → ℕ) (block : Plot) (owner : ℕ → Op
   }
 
 collect_prop : (c : Config) (memory : Word → ℕ) → IsProp (CanCollect c memory)
-collect_prop c memory = hlevel
+collect_prop c memory = hlevel (le_prop, ℕ_set)
 
 pub can_collect_some : (c : Config) (memory : Word → ℕ) → HoldsSome c memory → CanCollect c memory
 can_collect_some c memory holds = ∥∥₁_elim holds (collect_prop c memory) (λ h. can_collect c memory h.1.0 h.1.1 h.1.2 h.0 h.1.3)

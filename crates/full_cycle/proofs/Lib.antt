@@ -7,3 +7,4 @@ pub mod Kept
 pub mod Places
 pub mod Holding
 pub mod Slices
+pub mod Whole

@@ -61,6 +61,11 @@ answer_none m t order none =
 
 -- Turns.
 
+-- what is nothing
+pub is_none : (o : Option ℕ) → ((x : ℕ) → o ≡ Some x → ⊥) → o ≡ None
+is_none None never = refl
+is_none (Some x) never = absurd (never x refl)
+
 -- past the end of a list there is nothing
 pub none_left : (xs : List ℕ) (n : ℕ) → slice_get xs n ≡ None → length xs ≤ n
 none_left [] n none = omega arith

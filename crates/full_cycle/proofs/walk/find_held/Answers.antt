@@ -8,7 +8,7 @@ use Rattle.image_laws.specs.Full.{copies_of, roots_below, answers_below, field_w
 use Rattle.image_graph.specs.State.{config_of, memory_of, found_of, marks_of}
 use Rattle.full_cycle.specs.Collect.{found_by}
 use Rattle.full_cycle.proofs.State.{memory_same, carried, both}
-use Rattle.full_cycle.proofs.Listed.{no_turn, next_turn, last_turn, none_left}
+use Rattle.full_cycle.proofs.Listed.{no_turn, next_turn, last_turn, is_none, none_left}
 use Rattle.full_cycle.proofs.walk.find_held.Goals as goal
 
 pub loop-address-init : goal.loop-address-init
@@ -77,4 +77,10 @@ loop-address-preserved c =
     }
 
 pub returns-clause-held : goal.returns-clause-held
-returns-clause-held c = let h = c.in_default in let k = c.in_default.not-Some in ?
+returns-clause-held c =
+    let old = c.args.image.now in
+    let m : Word → ℕ = memory_of old in
+    let n = c.loop-address.turn in
+    let turns = c.loop-address.invariant.turns in
+    let none : slice_get (found_of c.loop-address.image) n ≡ None = sym c.found_at.ensures ∙ is_none c.found_at.result c.in_default.not-Some in
+    turns ∙ last_turn (config_of old) m n (none_left (found_by (config_of old) m n) n (ap (λ xs. slice_get xs n) (sym turns) ∙ none)) c.loop-address.invariant.few
