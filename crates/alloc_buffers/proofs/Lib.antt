@@ -1,1 +1,4 @@
 mod Causes
+pub mod TakeStays
+pub mod Takes
+pub mod TakePart

@@ -1,3 +1,5 @@
 pub mod Rows
 pub mod Room
 pub mod Seen
+pub mod Facts
+pub mod Waits

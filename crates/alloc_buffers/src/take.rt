@@ -26,6 +26,7 @@ impl Take {
     ghost use Rattle.steps_base.specs.Touch.{placed};
     ghost use Rattle.alloc_buffers.specs.Rows.{place_at, touch_at, next_at, has_none, is_ended, says};
     ghost use Rattle.alloc_buffers.specs.Seen.{wanted, spot_of, IsFit};
+    ghost use Rattle.alloc_buffers.specs.Waits.{WaitsAt, EndsAt};
 
     /// A machine of a seat that wants 3 to 35 words.
     pub fn new(config: Config, seat: usize, words: u64, kind: Kind) -> Take
@@ -68,6 +69,11 @@ impl Take {
         ensures row { let w = wanted self.old in spot_of self.new ≡ next_at w.config w.words w.kind (spot_of self.old) got }
         ensures wanted { wanted self.new ≡ wanted self.old }
         ensures says { result ≡ says (spot_of self.old) (spot_of self.new) }
+
+        // The taking ends at TS, and at TF where no region may be taken, and its answer is there then.
+        ensures done { let w = wanted self.old in (result ≡ Took.Done) ↔ EndsAt w.config w.kind (spot_of self.old) got }
+        ensures answered { result ≡ Took.Done → is_ended (spot_of self.new) ≡ true }
+        ensures again { (result ≡ Took.Again) ↔ WaitsAt (spot_of self.old) got }
 
         // There is no room exactly where the free word that was read has no region that may be taken.
         ensures no_room { (spot_of self.new ≡ TakeSpot.Ended Taken.NoRoom) ↔ ((spot_of self.old ≡ TakeSpot.LoadFree) × (has_none (wanted self.old).config (wanted self.old).kind got ≡ true)) }

@@ -17,7 +17,9 @@ use Rattle.evac_room.specs.declared.wish.Wish.{Wish}
 use Rattle.evac_room.specs.declared.wish.Copying.{Copying}
 use Rattle.evac_room.specs.declared.wish.Copying.TheVariants as copying
 use Rattle.evac_room.specs.Counter.{count_of, is_out_of_room, IsQuiet}
-use Rattle.evac_room.specs.Spot.{Spot, outside, inside, is_counted}
+use Rattle.evac_room.specs.declared.spot.RoomSpot.{RoomSpot}
+use Rattle.evac_room.specs.declared.spot.RoomSpot.TheVariants.{Outside, Inside}
+use Rattle.evac_room.specs.Spot.{is_counted}
 use Rattle.evac_room.specs.Rows.{form_at, next_at, answer_at, IsFit}
 use Rattle.evac_room.specs.Core.{takes_at, begun, kind, opening, IsFew, AreOfOthers, reached, counter, counted, said, copying_at, answer_by, answer_to}
 use Rattle.evac_room.proofs.Steps.{Mine, mine_stays, after, IsKept, Says, CanStep, each_keeps, each_says, each_fits}
@@ -25,19 +27,19 @@ use Rattle.evac_room.proofs.Spots.{begun_goes, begun_weight, weight_one, begun_m
 
 -- What holds of the word and the copiers after every list of steps: the word counts those that are counted, and each one
 -- is sure of what its place needs.
-pub record Holds (word : ℕ) (copiers : List Spot) : Type 0 where
+pub record Holds (word : ℕ) (copiers : List RoomSpot) : Type 0 where
   pub is_word : word < 2 ^ 64
   pub few : length copiers ≤ 12
   pub counts : count_of word ≡ counted copiers
-  pub mine : (number : ℕ) (spot : Spot) → slice_get copiers number ≡ Some spot → Mine word spot
+  pub mine : (number : ℕ) (spot : RoomSpot) → slice_get copiers number ≡ Some spot → Mine word spot
 
 -- the table has the one word, and the invariant holds
-pub record IsSound (s : Stage Spot) : Type 0 where
+pub record IsSound (s : Stage RoomSpot) : Type 0 where
   pub one : s.words ≡ counter s ∷ []
   pub holds : Holds (counter s) s.machines
 
 -- a copier that takes the wish can step
-pub can_step : (word : ℕ) (copiers : List Spot) (number : ℕ) (spot : Spot) (wish : Wish) → Holds word copiers → slice_get copiers number ≡ Some spot → takes_at spot wish ≡ true
+pub can_step : (word : ℕ) (copiers : List RoomSpot) (number : ℕ) (spot : RoomSpot) (wish : Wish) → Holds word copiers → slice_get copiers number ≡ Some spot → takes_at spot wish ≡ true
     → CanStep word (begun spot wish)
 can_step word copiers number spot wish holds here takes = record {
   going = begun_goes spot wish takes;
@@ -48,7 +50,7 @@ can_step word copiers number spot wish holds here takes = record {
 }
 
 -- the invariant after a copier's step
-pub holds_next : (word : ℕ) (copiers : List Spot) (number : ℕ) (spot : Spot) (wish : Wish) (made : ℕ) (next : Spot) → Holds word copiers → slice_get copiers number ≡ Some spot
+pub holds_next : (word : ℕ) (copiers : List RoomSpot) (number : ℕ) (spot : RoomSpot) (wish : Wish) (made : ℕ) (next : RoomSpot) → Holds word copiers → slice_get copiers number ≡ Some spot
     → IsKept word (begun spot wish) made next → Holds made (slice_set copiers number next)
 holds_next word copiers number spot wish made next holds here kept = record {
   is_word = kept.is_word;
@@ -57,7 +59,7 @@ holds_next word copiers number spot wish made next holds here kept = record {
   mine = λ k other at_k. by_number k other at_k (nat_eq k number) refl;
 }
   where
-    by_number : (k : ℕ) (other : Spot) → slice_get (slice_set copiers number next) k ≡ Some other → (b : Bool) → nat_eq k number ≡ b → Mine made other
+    by_number : (k : ℕ) (other : RoomSpot) → slice_get (slice_set copiers number next) k ≡ Some other → (b : Bool) → nat_eq k number ≡ b → Mine made other
     by_number k other at_k true is =
         let same : k ≡ number = grind (arith, nat_tests) in
         let is_next : next ≡ other = cc (at_k, same, slice_get-set_same copiers number spot next here) in
@@ -67,30 +69,30 @@ holds_next word copiers number spot wish made next holds here kept = record {
         mine_stays word made other kept.bit_stays (holds.mine k other (sym (slice_get-set_other copiers number k next apart) ∙ at_k))
 
 -- a stage with one word
-abbrev pub at_word : ℕ → List Spot → Stage Spot
+abbrev pub at_word : ℕ → List RoomSpot → Stage RoomSpot
 at_word word copiers = record { words = word ∷ []; machines = copiers }
 
-pub is_at_word : (s : Stage Spot) → s.words ≡ counter s ∷ [] → s ≡ at_word (counter s) s.machines
-is_at_word s one = ap (λ ws. let x : Stage Spot = record { words = ws; machines = s.machines } in x) one
+pub is_at_word : (s : Stage RoomSpot) → s.words ≡ counter s ∷ [] → s ≡ at_word (counter s) s.machines
+is_at_word s one = ap (λ ws. let x : Stage RoomSpot = record { words = ws; machines = s.machines } in x) one
 
 -- an event of a table of one word
-pub moved_one : (word : ℕ) (copiers : List Spot) (number : ℕ) (spot : Spot) (wish : Wish)
+pub moved_one : (word : ℕ) (copiers : List RoomSpot) (number : ℕ) (spot : RoomSpot) (wish : Wish)
     → moved kind (at_word word copiers) number spot wish ≡ at_word (after word (begun spot wish)) (slice_set copiers number (next_at (begun spot wish) word))
 moved_one word copiers number spot wish =
-    ap (λ ws. let x : Stage Spot = record { words = ws; machines = slice_set copiers number (next_at (begun spot wish) (slice_index (word ∷ []) (place_of (access_at 0 (form_at (begun spot wish)))))) } in x) (accessed_one (form_at (begun spot wish)) word)
+    ap (λ ws. let x : Stage RoomSpot = record { words = ws; machines = slice_set copiers number (next_at (begun spot wish) (slice_index (word ∷ []) (place_of (access_at 0 (form_at (begun spot wish)))))) } in x) (accessed_one (form_at (begun spot wish)) word)
     ∙ ap (λ got. at_word (after word (begun spot wish)) (slice_set copiers number (next_at (begun spot wish) got))) (found_one (form_at (begun spot wish)) word)
 
-pub moved_is : (s : Stage Spot) (number : ℕ) (spot : Spot) (wish : Wish) → s.words ≡ counter s ∷ []
+pub moved_is : (s : Stage RoomSpot) (number : ℕ) (spot : RoomSpot) (wish : Wish) → s.words ≡ counter s ∷ []
     → moved kind s number spot wish ≡ at_word (after (counter s) (begun spot wish)) (slice_set s.machines number (next_at (begun spot wish) (counter s)))
 moved_is s number spot wish one = ap (λ x. moved kind x number spot wish) (is_at_word s one) ∙ moved_one (counter s) s.machines number spot wish
 
 -- what a step may do to the word
-pub record IsStep (old new : Stage Spot) : Type 0 where
+pub record IsStep (old new : Stage RoomSpot) : Type 0 where
   pub sound : IsSound new
   pub bit_stays : is_out_of_room (counter old) ≡ true → is_out_of_room (counter new) ≡ true
   pub quiet_stays : IsQuiet (counter old) → counter new ≡ counter old
 
-pub each_step : (s : Stage Spot) (step : Event Wish) → IsSound s → IsStep s (act kind s step)
+pub each_step : (s : Stage RoomSpot) (step : Event Wish) → IsSound s → IsStep s (act kind s step)
 each_step s step sound = act_cases kind (λ x. IsStep s x) s step
     (record { sound = sound; bit_stays = λ h. h; quiet_stays = λ q. refl })
     (λ spot here takes.
@@ -110,26 +112,26 @@ opening_sound copiers few = record {
   one = refl;
   holds = record {
     is_word = omega arith;
-    few = omega (arith, few.most, length-replicate copiers outside);
+    few = omega (arith, few.most, length-replicate copiers Outside);
     counts = sym (counted_outside copiers);
     mine = λ number spot here. subst (λ x. Mine 0 x) (sym (outside_here copiers number spot here)) tt;
   };
 }
 
 -- each list of steps keeps the invariant
-pub run_sound : (s : Stage Spot) (steps : List (Event Wish)) → IsSound s → IsSound (go kind s steps)
+pub run_sound : (s : Stage RoomSpot) (steps : List (Event Wish)) → IsSound s → IsSound (go kind s steps)
 run_sound s steps sound = go-keeps kind IsSound (λ x step before. (each_step x step before).sound) s steps sound
 
 pub reached_sound : (copiers : ℕ) (steps : List (Event Wish)) → IsFew copiers → IsSound (reached copiers steps)
 reached_sound copiers steps few = run_sound (opening copiers) steps (opening_sound copiers few)
 
 -- what stays from one stage to all that follow
-pub record IsLater (old : ℕ) (s : Stage Spot) : Type 0 where
+pub record IsLater (old : ℕ) (s : Stage RoomSpot) : Type 0 where
   pub sound : IsSound s
   pub bit_stays : is_out_of_room old ≡ true → is_out_of_room (counter s) ≡ true
   pub quiet_stays : IsQuiet old → counter s ≡ old
 
-pub later_more : (s : Stage Spot) (more : List (Event Wish)) → IsSound s → IsLater (counter s) (go kind s more)
+pub later_more : (s : Stage RoomSpot) (more : List (Event Wish)) → IsSound s → IsLater (counter s) (go kind s more)
 later_more s more sound = go-keeps kind (λ x. IsLater (counter s) x)
     (λ x step before. let next = each_step x step before.sound in record {
       sound = next.sound;
@@ -144,10 +146,10 @@ later_reached copiers steps more few =
     (later_more (reached copiers steps) more (reached_sound copiers steps few))
 
 -- what an answer says, of a sound stage
-pub answer_says : (s : Stage Spot) (step : Event Wish) (answer : Copying) → IsSound s → answer_to s step ≡ Some answer → Says (counter s) answer
+pub answer_says : (s : Stage RoomSpot) (step : Event Wish) (answer : Copying) → IsSound s → answer_to s step ≡ Some answer → Says (counter s) answer
 answer_says s step answer sound = by_machine (slice_get s.machines step.number) refl
   where
-    by_takes : (spot : Spot) (b : Bool) → slice_get s.machines step.number ≡ Some spot → takes_at spot step.order ≡ b
+    by_takes : (spot : RoomSpot) (b : Bool) → slice_get s.machines step.number ≡ Some spot → takes_at spot step.order ≡ b
         → (if b then Some (copying_at (begun spot step.order) (counter s)) else None) ≡ Some answer → Says (counter s) answer
     by_takes spot true here takes is =
         let same : copying_at (begun spot step.order) (counter s) ≡ answer = cc (is) in
@@ -155,33 +157,33 @@ answer_says s step answer sound = by_machine (slice_get s.machines step.number) 
         (each_says (counter s) (begun spot step.order) (can_step (counter s) s.machines step.number spot step.order sound.holds here takes))
     by_takes spot false here takes is = absurd (cc (is))
 
-    by_machine : (m : Option Spot) → slice_get s.machines step.number ≡ m → answer_by (counter s) step.order m ≡ Some answer → Says (counter s) answer
+    by_machine : (m : Option RoomSpot) → slice_get s.machines step.number ≡ m → answer_by (counter s) step.order m ≡ Some answer → Says (counter s) answer
     by_machine None here is = absurd (cc (is))
     by_machine (Some spot) here is = by_takes spot (takes_at spot step.order) here refl is
 
 -- a copier that may copy is inside
-pub inside_by_answer : (answer : Took) (next : Spot) → said answer next ≡ copying.Inside → next ≡ inside
-inside_by_answer Done inside is = refl
+pub inside_by_answer : (answer : Took) (next : RoomSpot) → said answer next ≡ copying.Inside → next ≡ Inside
+inside_by_answer Done Inside is = refl
 inside_by_answer Done _ is = absurd (cc (is))
 inside_by_answer _ next is = absurd (cc (is))
 
-pub act_inside : (s : Stage Spot) (step : Event Wish) → IsSound s → answer_to s step ≡ Some copying.Inside → slice_get (act kind s step).machines step.number ≡ Some inside
+pub act_inside : (s : Stage RoomSpot) (step : Event Wish) → IsSound s → answer_to s step ≡ Some copying.Inside → slice_get (act kind s step).machines step.number ≡ Some Inside
 act_inside s step sound = by_machine (slice_get s.machines step.number) refl
   where
-    by_takes : (spot : Spot) (b : Bool) → slice_get s.machines step.number ≡ Some spot → takes_at spot step.order ≡ b
-        → (if b then Some (copying_at (begun spot step.order) (counter s)) else None) ≡ Some copying.Inside → slice_get (act kind s step).machines step.number ≡ Some inside
+    by_takes : (spot : RoomSpot) (b : Bool) → slice_get s.machines step.number ≡ Some spot → takes_at spot step.order ≡ b
+        → (if b then Some (copying_at (begun spot step.order) (counter s)) else None) ≡ Some copying.Inside → slice_get (act kind s step).machines step.number ≡ Some Inside
     by_takes spot true here takes is =
-        let next_is : next_at (begun spot step.order) (counter s) ≡ inside = inside_by_answer (answer_at (begun spot step.order) (counter s)) _ (cc (is)) in
+        let next_is : next_at (begun spot step.order) (counter s) ≡ Inside = inside_by_answer (answer_at (begun spot step.order) (counter s)) _ (cc (is)) in
         ap (λ x. slice_get x.machines step.number) (act-event kind s step spot (record { here = here; takes = takes }) ∙ moved_is s step.number spot step.order sound.one)
         ∙ slice_get-set_same s.machines step.number spot _ here ∙ ap (λ x. Some x) next_is
     by_takes spot false here takes is = absurd (cc (is))
 
-    by_machine : (m : Option Spot) → slice_get s.machines step.number ≡ m → answer_by (counter s) step.order m ≡ Some copying.Inside → slice_get (act kind s step).machines step.number ≡ Some inside
+    by_machine : (m : Option RoomSpot) → slice_get s.machines step.number ≡ m → answer_by (counter s) step.order m ≡ Some copying.Inside → slice_get (act kind s step).machines step.number ≡ Some Inside
     by_machine None here is = absurd (cc (is))
     by_machine (Some spot) here is = by_takes spot (takes_at spot step.order) here refl is
 
 -- steps of others leave a copier where it stands
-pub others_leave : (s : Stage Spot) (number : ℕ) (steps : List (Event Wish)) → AreOfOthers number steps → slice_get (go kind s steps).machines number ≡ slice_get s.machines number
+pub others_leave : (s : Stage RoomSpot) (number : ℕ) (steps : List (Event Wish)) → AreOfOthers number steps → slice_get (go kind s steps).machines number ≡ slice_get s.machines number
 others_leave s number [] others = ap (λ x. slice_get x.machines number) (go-none kind s)
 others_leave s number (step ∷ steps) others =
     let apart : step.number ≢ number = All-head (λ e. e.number ≢ number) step steps others in
@@ -196,7 +198,7 @@ word_counts copiers steps few = (reached_sound copiers steps few).holds.counts
 pub word_is_word : (copiers : ℕ) (steps : List (Event Wish)) → IsFew copiers → counter (reached copiers steps) < 2 ^ 64
 word_is_word copiers steps few = (reached_sound copiers steps few).holds.is_word
 
-pub words_fit : (copiers : ℕ) (steps : List (Event Wish)) (number : ℕ) (spot : Spot) (wish : Wish) → IsFew copiers → slice_get (reached copiers steps).machines number ≡ Some spot → takes_at spot wish ≡ true
+pub words_fit : (copiers : ℕ) (steps : List (Event Wish)) (number : ℕ) (spot : RoomSpot) (wish : Wish) → IsFew copiers → slice_get (reached copiers steps).machines number ≡ Some spot → takes_at spot wish ≡ true
     → IsFit (begun spot wish) (counter (reached copiers steps))
 words_fit copiers steps number spot wish few here takes =
     each_fits _ _ (can_step _ _ number spot wish (reached_sound copiers steps few).holds here takes)
@@ -206,7 +208,7 @@ bit_stays copiers steps more few = (later_reached copiers steps more few).bit_st
 
 -- a copier that was told that it may copy stands inside, and the others leave it there
 pub inside_still : (copiers : ℕ) (steps more : List (Event Wish)) (step : Event Wish) → IsFew copiers → answer_to (reached copiers steps) step ≡ Some copying.Inside → AreOfOthers step.number more
-    → slice_get (reached copiers (steps ++ step ∷ more)).machines step.number ≡ Some inside
+    → slice_get (reached copiers (steps ++ step ∷ more)).machines step.number ≡ Some Inside
 inside_still copiers steps more step few answer others =
     ap (λ s. slice_get s.machines step.number) (go-append kind (opening copiers) steps (step ∷ more) ∙ go-first kind (reached copiers steps) step more)
     ∙ others_leave (act kind (reached copiers steps) step) step.number more others
@@ -214,10 +216,10 @@ inside_still copiers steps more step few answer others =
 
 -- and the word counts it
 pub inside_until_its_step : (copiers : ℕ) (steps more : List (Event Wish)) (step : Event Wish) → IsFew copiers → answer_to (reached copiers steps) step ≡ Some copying.Inside → AreOfOthers step.number more
-    → (slice_get (reached copiers (steps ++ step ∷ more)).machines step.number ≡ Some inside) × (1 ≤ count_of (counter (reached copiers (steps ++ step ∷ more))))
+    → (slice_get (reached copiers (steps ++ step ∷ more)).machines step.number ≡ Some Inside) × (1 ≤ count_of (counter (reached copiers (steps ++ step ∷ more))))
 inside_until_its_step copiers steps more step few answer others =
     let here = inside_still copiers steps more step few answer others in
-    (here, omega (arith, word_counts copiers (steps ++ step ∷ more) few, weight_counted (reached copiers (steps ++ step ∷ more)).machines step.number inside here))
+    (here, omega (arith, word_counts copiers (steps ++ step ∷ more) few, weight_counted (reached copiers (steps ++ step ∷ more)).machines step.number Inside here))
 
 pub stopped_is_quiet : (copiers : ℕ) (steps : List (Event Wish)) (step : Event Wish) → IsFew copiers → answer_to (reached copiers steps) step ≡ Some copying.Stopped → IsQuiet (counter (reached copiers steps))
 stopped_is_quiet copiers steps step few answer = (answer_says (reached copiers steps) step copying.Stopped (reached_sound copiers steps few) answer).stopped_is_quiet refl

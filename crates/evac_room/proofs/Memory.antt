@@ -15,7 +15,8 @@ use Rattle.evac_room.specs.declared.copier.Copier.{Copier}
 use Rattle.evac_room.specs.declared.wish.Wish.{Wish}
 use Rattle.evac_room.specs.declared.wish.Copying.{Copying}
 use Rattle.evac_room.specs.Counter.{IsQuiet}
-use Rattle.evac_room.specs.Spot.{Spot, outside, leaves}
+use Rattle.evac_room.specs.declared.spot.RoomSpot.{RoomSpot}
+use Rattle.evac_room.specs.declared.spot.RoomSpot.TheVariants.{Outside, Lower}
 use Rattle.evac_room.specs.Rows.{next_at, IsFit}
 use Rattle.evac_room.specs.Core.{takes_at, begun, kind, opening, IsFew, copying_at, answer_to}
 use Rattle.evac_room.specs.Copier.{spot_of}
@@ -23,12 +24,12 @@ use Rattle.evac_room.proofs.Steps.{after, IsKept, Says, each_keeps, each_says, e
 use Rattle.evac_room.proofs.Every.{at_word, moved_one, IsSound, reached_sound, can_step}
 
 -- what follows from a sound stage, and has one proof at most, follows of each stage that memory may have
-pub from_memory : {P : Type 0} → IsProp P → (copiers : ℕ) (s : Stage Spot) → IsFew copiers → ∥ IsReached kind (opening copiers) s ∥₁ → (IsSound s → P) → P
+pub from_memory : {P : Type 0} → IsProp P → (copiers : ℕ) (s : Stage RoomSpot) → IsFew copiers → ∥ IsReached kind (opening copiers) s ∥₁ → (IsSound s → P) → P
 from_memory prop copiers s few some follows =
     ∥∥₁_elim some prop (λ one. follows (reached_has kind IsSound (opening copiers) s (λ steps. reached_sound copiers steps few) one))
 
-pub IsFit-prop : (spot : Spot) (word : ℕ) → IsProp (IsFit spot word)
-IsFit-prop leaves word = hlevel (le_prop)
+pub IsFit-prop : (spot : RoomSpot) (word : ℕ) → IsProp (IsFit spot word)
+IsFit-prop Lower word = hlevel (le_prop)
 IsFit-prop _ word = hlevel
 
 pub IsQuiet-prop : (word : ℕ) → IsProp (IsQuiet word)
@@ -37,8 +38,8 @@ IsQuiet-prop word = hlevel (Bool-set, ℕ_set)
 -- the copier of a number, as the code reads it
 pub spot_here : (copiers : List Copier) (number : ℕ) (x : Copier) → number < length (map spot_of copiers) → x ≡ get_or copiers number x → slice_get (map spot_of copiers) number ≡ Some (spot_of x)
 spot_here copiers number x below value =
-    let inside : number < length copiers = omega (arith, length-map copiers spot_of) in
-    slice_get-map spot_of copiers number ∙ ap (λ o. option_map spot_of o) (slice_get_read copiers (length copiers) number x refl inside value)
+    let within : number < length copiers = omega (arith, length-map copiers spot_of) in
+    slice_get-map spot_of copiers number ∙ ap (λ o. option_map spot_of o) (slice_get_read copiers (length copiers) number x refl within value)
 
 -- a copier has taken a wish and made its access
 pub record IsMade (word made : ℕ) (copiers : List Copier) (number : ℕ) (x y : Copier) (wish : Wish) : Type 0 where
@@ -49,12 +50,12 @@ pub record IsMade (word made : ℕ) (copiers : List Copier) (number : ℕ) (x y 
 
 -- the wish is taken by the copier that the code reads
 pub takes_here : (copiers : List Copier) (number : ℕ) (x : Copier) (wish : Wish) → slice_get (map spot_of copiers) number ≡ Some (spot_of x)
-    → takes_at (get_or (map spot_of copiers) number outside) wish ≡ true → takes_at (spot_of x) wish ≡ true
+    → takes_at (get_or (map spot_of copiers) number Outside) wish ≡ true → takes_at (spot_of x) wish ≡ true
 takes_here copiers number x wish here takes =
-    subst (λ spot. takes_at spot wish ≡ true) (get_or_from_slice_get (map spot_of copiers) number (spot_of x) outside here) takes
+    subst (λ spot. takes_at spot wish ≡ true) (get_or_from_slice_get (map spot_of copiers) number (spot_of x) Outside here) takes
 
 pub made_from : (word made : ℕ) (copiers : List Copier) (number : ℕ) (x y : Copier) (wish : Wish) → number < length (map spot_of copiers) → x ≡ get_or copiers number x
-    → takes_at (get_or (map spot_of copiers) number outside) wish ≡ true → spot_of y ≡ next_at (begun (spot_of x) wish) word → made ≡ after word (begun (spot_of x) wish)
+    → takes_at (get_or (map spot_of copiers) number Outside) wish ≡ true → spot_of y ≡ next_at (begun (spot_of x) wish) word → made ≡ after word (begun (spot_of x) wish)
     → IsMade word made copiers number x y wish
 made_from word made copiers number x y wish below value takes spot_is word_is =
     let here : slice_get (map spot_of copiers) number ≡ Some (spot_of x) = spot_here copiers number x below value in
@@ -99,11 +100,11 @@ found_fits word copiers number x wish here takes sound =
     each_fits word (begun (spot_of x) wish) (can_step word (map spot_of copiers) number (spot_of x) wish sound.holds here takes)
 
 -- one copier more, as the opening makes them
-pub outside_more : (copiers : List Copier) (new : Copier) (count : ℕ) → map spot_of copiers ≡ replicate count outside → spot_of new ≡ outside → map spot_of (copiers ++ new ∷ []) ≡ replicate (count + 1) outside
+pub outside_more : (copiers : List Copier) (new : Copier) (count : ℕ) → map spot_of copiers ≡ replicate count Outside → spot_of new ≡ Outside → map spot_of (copiers ++ new ∷ []) ≡ replicate (count + 1) Outside
 outside_more copiers new count so_far is =
-    map-append spot_of copiers (new ∷ []) ∙ ap (λ spots. spots ++ spot_of new ∷ []) so_far ∙ ap (λ spot. replicate count outside ++ spot ∷ []) is ∙ replicate_more count outside
+    map-append spot_of copiers (new ∷ []) ∙ ap (λ spots. spots ++ spot_of new ∷ []) so_far ∙ ap (λ spot. replicate count Outside ++ spot ∷ []) is ∙ replicate_more count Outside
 
-pub opened_reached : (copiers : List Copier) (count : ℕ) → length copiers ≡ count → map spot_of copiers ≡ replicate count outside → IsReached kind (opening (length copiers)) (at_word 0 (map spot_of copiers))
+pub opened_reached : (copiers : List Copier) (count : ℕ) → length copiers ≡ count → map spot_of copiers ≡ replicate count Outside → IsReached kind (opening (length copiers)) (at_word 0 (map spot_of copiers))
 opened_reached copiers count all are =
     subst (λ n. IsReached kind (opening n) (at_word 0 (map spot_of copiers))) (sym all)
     (subst (λ spots. IsReached kind (opening count) (at_word 0 spots)) (sym are) (reached_none kind (opening count)))

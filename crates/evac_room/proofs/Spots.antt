@@ -7,46 +7,48 @@ use Rattle.steps_base.specs.Steps.{accessed}
 use Rattle.steps_base.specs.Touch.{Form, loads, formed, access_at}
 use Rattle.evac_room.specs.declared.wish.Wish.{Wish}
 use Rattle.evac_room.specs.declared.wish.Wish.TheVariants.{Enter, Leave, NoRoom}
-use Rattle.evac_room.specs.Spot.{Spot, outside, inside, stopped, is_at_rest, is_counted}
+use Rattle.evac_room.specs.declared.spot.RoomSpot.{RoomSpot}
+use Rattle.evac_room.specs.declared.spot.RoomSpot.TheVariants.{Outside, Inside, Stopped}
+use Rattle.evac_room.specs.Spot.{is_at_rest, is_counted}
 use Rattle.evac_room.specs.Core.{takes_at, begun, counted}
 use Rattle.evac_room.proofs.Steps.{Mine, weight}
 
 -- a copier that takes the wish then has an access to make
-pub begun_goes : (spot : Spot) (wish : Wish) → takes_at spot wish ≡ true → is_at_rest (begun spot wish) ≡ false
-begun_goes outside Enter takes = refl
-begun_goes outside Leave takes = absurd (cc (takes))
-begun_goes outside NoRoom takes = absurd (cc (takes))
-begun_goes stopped Enter takes = refl
-begun_goes stopped Leave takes = absurd (cc (takes))
-begun_goes stopped NoRoom takes = absurd (cc (takes))
-begun_goes inside Enter takes = absurd (cc (takes))
-begun_goes inside Leave takes = refl
-begun_goes inside NoRoom takes = refl
+pub begun_goes : (spot : RoomSpot) (wish : Wish) → takes_at spot wish ≡ true → is_at_rest (begun spot wish) ≡ false
+begun_goes Outside Enter takes = refl
+begun_goes Outside Leave takes = absurd (cc (takes))
+begun_goes Outside NoRoom takes = absurd (cc (takes))
+begun_goes Stopped Enter takes = refl
+begun_goes Stopped Leave takes = absurd (cc (takes))
+begun_goes Stopped NoRoom takes = absurd (cc (takes))
+begun_goes Inside Enter takes = absurd (cc (takes))
+begun_goes Inside Leave takes = refl
+begun_goes Inside NoRoom takes = refl
 begun_goes _ wish takes = refl
 
 -- a wish changes no count
-pub begun_weight : (spot : Spot) (wish : Wish) → weight (begun spot wish) ≡ weight spot
-begun_weight outside Enter = refl
-begun_weight stopped Enter = refl
-begun_weight inside Leave = refl
-begun_weight inside NoRoom = refl
+pub begun_weight : (spot : RoomSpot) (wish : Wish) → weight (begun spot wish) ≡ weight spot
+begun_weight Outside Enter = refl
+begun_weight Stopped Enter = refl
+begun_weight Inside Leave = refl
+begun_weight Inside NoRoom = refl
 begun_weight spot wish = refl
 
-pub weight_one : (spot : Spot) → is_counted spot ≡ true → weight spot ≡ 1
+pub weight_one : (spot : RoomSpot) → is_counted spot ≡ true → weight spot ≡ 1
 weight_one spot is = ap {B = ℕ} (λ b. cond b 1 0) is
 
-pub begun_mine : (word : ℕ) (spot : Spot) (wish : Wish) → Mine word spot → Mine word (begun spot wish)
-begun_mine word outside Enter mine = tt
-begun_mine word stopped Enter mine = tt
-begun_mine word inside Leave mine = tt
-begun_mine word inside NoRoom mine = tt
+pub begun_mine : (word : ℕ) (spot : RoomSpot) (wish : Wish) → Mine word spot → Mine word (begun spot wish)
+begun_mine word Outside Enter mine = tt
+begun_mine word Stopped Enter mine = tt
+begun_mine word Inside Leave mine = tt
+begun_mine word Inside NoRoom mine = tt
 begun_mine word spot wish mine = mine
 
-pub counted_first : (x : Spot) (xs : List Spot) → counted (x ∷ xs) ≡ weight x + counted xs
+pub counted_first : (x : RoomSpot) (xs : List RoomSpot) → counted (x ∷ xs) ≡ weight x + counted xs
 counted_first x xs = sum_by-cons weight x xs
 
 -- one copier elsewhere changes the count by its own weight
-pub counted_set : (copiers : List Spot) (number : ℕ) (spot next : Spot) → slice_get copiers number ≡ Some spot
+pub counted_set : (copiers : List RoomSpot) (number : ℕ) (spot next : RoomSpot) → slice_get copiers number ≡ Some spot
     → counted (slice_set copiers number next) + weight spot ≡ counted copiers + weight next
 counted_set [] number spot next here = absurd (cc (here))
 counted_set (x ∷ xs) zero spot next here =
@@ -55,15 +57,15 @@ counted_set (x ∷ xs) (suc number) spot next here =
     omega (arith, counted_set xs number spot next here, counted_first x xs, counted_first x (slice_set xs number next))
 
 -- the count is at least the weight of each
-pub weight_counted : (copiers : List Spot) (number : ℕ) (spot : Spot) → slice_get copiers number ≡ Some spot → weight spot ≤ counted copiers
-weight_counted copiers number spot here = omega (arith, counted_set copiers number spot outside here)
+pub weight_counted : (copiers : List RoomSpot) (number : ℕ) (spot : RoomSpot) → slice_get copiers number ≡ Some spot → weight spot ≤ counted copiers
+weight_counted copiers number spot here = omega (arith, counted_set copiers number spot Outside here)
 
 -- nobody is counted of copiers outside, and each of them stands outside
-pub counted_outside : (copiers : ℕ) → counted (replicate copiers outside) ≡ 0
+pub counted_outside : (copiers : ℕ) → counted (replicate copiers Outside) ≡ 0
 counted_outside zero = refl
 counted_outside (suc copiers) = counted_outside copiers
 
-pub outside_here : (copiers number : ℕ) (spot : Spot) → slice_get (replicate copiers outside) number ≡ Some spot → spot ≡ outside
+pub outside_here : (copiers number : ℕ) (spot : RoomSpot) → slice_get (replicate copiers Outside) number ≡ Some spot → spot ≡ Outside
 outside_here zero number spot here = absurd (cc (here))
 outside_here (suc copiers) zero spot here = cc (here)
 outside_here (suc copiers) (suc number) spot here = outside_here copiers number spot here

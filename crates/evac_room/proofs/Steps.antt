@@ -7,32 +7,34 @@ use Rattle.heap_words.specs.declared.access.Took.TheVariants.{More, Again, Done}
 use Rattle.evac_room.specs.declared.wish.Copying.{Copying}
 use Rattle.evac_room.specs.declared.wish.Copying.TheVariants as copying
 use Rattle.evac_room.specs.Counter.{count_of, is_out_of_room, marked, IsQuiet}
-use Rattle.evac_room.specs.Spot.{Spot, outside, looks, raises, inside, leaves, asks, marks, waits, stopped, is_at_rest, is_counted}
+use Rattle.evac_room.specs.declared.spot.RoomSpot.{RoomSpot}
+use Rattle.evac_room.specs.declared.spot.RoomSpot.TheVariants.{Outside, Look, Raise, Inside, Lower, Ask, Mark, Wait, Stopped}
+use Rattle.evac_room.specs.Spot.{is_at_rest, is_counted}
 use Rattle.evac_room.specs.Rows.{form_at, next_at, IsFit}
 use Rattle.evac_room.specs.Core.{copying_at, said}
 
 -- What a copier counts on between its accesses: it raises only a word with bit 63 clear, and waits only once the bit is set.
-abbrev pub Mine : ℕ → Spot → Type 0
-Mine word (raises found) = found < 2 ^ 63
-Mine word waits = is_out_of_room word ≡ true
+abbrev pub Mine : ℕ → RoomSpot → Type 0
+Mine word (Raise found) = found < 2 ^ 63
+Mine word Wait = is_out_of_room word ≡ true
 Mine word _ = ⊤
 
 -- what a copier relies on while another one steps: bit 63 stays
-pub mine_stays : (word next : ℕ) (spot : Spot) → (is_out_of_room word ≡ true → is_out_of_room next ≡ true) → Mine word spot → Mine next spot
-mine_stays word next (raises found) stays mine = mine
-mine_stays word next waits stays mine = stays mine
+pub mine_stays : (word next : ℕ) (spot : RoomSpot) → (is_out_of_room word ≡ true → is_out_of_room next ≡ true) → Mine word spot → Mine next spot
+mine_stays word next (Raise found) stays mine = mine
+mine_stays word next Wait stays mine = stays mine
 mine_stays word next _ stays mine = tt
 
 -- what a copier adds to the count
-abbrev pub weight : Spot → ℕ
+abbrev pub weight : RoomSpot → ℕ
 weight spot = cond (is_counted spot) 1 0
 
 -- what the word is after the step
-abbrev pub after : ℕ → Spot → ℕ
+abbrev pub after : ℕ → RoomSpot → ℕ
 after word spot = formed (form_at spot) word
 
 -- what each step keeps, and what it says
-pub record IsKept (word : ℕ) (spot : Spot) (made : ℕ) (next : Spot) : Type 0 where
+pub record IsKept (word : ℕ) (spot : RoomSpot) (made : ℕ) (next : RoomSpot) : Type 0 where
   pub is_word : made < 2 ^ 64
   pub counts : count_of made + weight spot ≡ count_of word + weight next
   pub bit_stays : is_out_of_room word ≡ true → is_out_of_room made ≡ true
@@ -45,26 +47,26 @@ pub record Says (word : ℕ) (answer : Copying) : Type 0 where
   pub none_enters : IsQuiet word → answer ≢ copying.Inside
 
 -- what a copier may be sure of when it steps
-pub record CanStep (word : ℕ) (spot : Spot) : Type 0 where
+pub record CanStep (word : ℕ) (spot : RoomSpot) : Type 0 where
   pub going : is_at_rest spot ≡ false
   pub is_word : word < 2 ^ 64
   pub few : count_of word ≤ 12
   pub is_in : is_counted spot ≡ true → 1 ≤ count_of word
   pub mine : Mine word spot
 
-pub each_keeps : (word : ℕ) (spot : Spot) → CanStep word spot → IsKept word spot (after word spot) (next_at spot word)
-each_keeps word outside can = absurd (cc (can.going))
-each_keeps word inside can = absurd (cc (can.going))
-each_keeps word stopped can = absurd (cc (can.going))
-each_keeps word looks can = by_bit (is_out_of_room word) (count_of word == 0) refl refl
+pub each_keeps : (word : ℕ) (spot : RoomSpot) → CanStep word spot → IsKept word spot (after word spot) (next_at spot word)
+each_keeps word Outside can = absurd (cc (can.going))
+each_keeps word Inside can = absurd (cc (can.going))
+each_keeps word Stopped can = absurd (cc (can.going))
+each_keeps word Look can = by_bit (is_out_of_room word) (count_of word == 0) refl refl
   where
-    by_bit : (b z : Bool) → is_out_of_room word ≡ b → (count_of word == 0) ≡ z → IsKept word looks word (if b then (if z then stopped else looks) else raises word)
+    by_bit : (b z : Bool) → is_out_of_room word ≡ b → (count_of word == 0) ≡ z → IsKept word Look word (if b then (if z then Stopped else Look) else Raise word)
     by_bit true true out none = record { is_word = can.is_word; counts = refl; bit_stays = λ h. h; quiet_stays = λ q. refl; mine = tt }
     by_bit true false out none = record { is_word = can.is_word; counts = refl; bit_stays = λ h. h; quiet_stays = λ q. refl; mine = tt }
     by_bit false z out none = record { is_word = can.is_word; counts = refl; bit_stays = λ h. h; quiet_stays = λ q. refl; mine = grind (arith, nat_tests) }
-each_keeps word (raises found) can = by_found (word == found) refl
+each_keeps word (Raise found) can = by_found (word == found) refl
   where
-    by_found : (b : Bool) → (word == found) ≡ b → IsKept word (raises found) (if b then found + 1 else word) (if b then inside else looks)
+    by_found : (b : Bool) → (word == found) ≡ b → IsKept word (Raise found) (if b then found + 1 else word) (if b then Inside else Look)
     by_found true is = let same : word ≡ found = grind (arith, nat_tests) in let clear : found < 2 ^ 63 = can.mine in record {
       is_word = omega arith;
       counts = omega (arith, can.few);
@@ -73,7 +75,7 @@ each_keeps word (raises found) can = by_found (word == found) refl
       mine = tt;
     }
     by_found false is = record { is_word = can.is_word; counts = refl; bit_stays = λ h. h; quiet_stays = λ q. refl; mine = tt }
-each_keeps word leaves can =
+each_keeps word Lower can =
     let some : 1 ≤ count_of word = can.is_in refl in record {
       is_word = omega (arith, can.is_word);
       counts = omega (arith, some, can.is_word);
@@ -81,10 +83,10 @@ each_keeps word leaves can =
       quiet_stays = λ q. absurd (omega (arith, some, q.nobody));
       mine = tt;
     }
-each_keeps word asks can = record { is_word = can.is_word; counts = refl; bit_stays = λ h. h; quiet_stays = λ q. refl; mine = tt }
-each_keeps word (marks found) can = by_found (word == found) refl
+each_keeps word Ask can = record { is_word = can.is_word; counts = refl; bit_stays = λ h. h; quiet_stays = λ q. refl; mine = tt }
+each_keeps word (Mark found) can = by_found (word == found) refl
   where
-    by_found : (b : Bool) → (word == found) ≡ b → IsKept word (marks found) (if b then marked found else word) (if b then waits else asks)
+    by_found : (b : Bool) → (word == found) ≡ b → IsKept word (Mark found) (if b then marked found else word) (if b then Wait else Ask)
     by_found true is = let same : word ≡ found = grind (arith, nat_tests) in let some : 1 ≤ count_of word = can.is_in refl in
         let some_found : 1 ≤ count_of found = subst (λ n. 1 ≤ count_of n) same some in record {
           is_word = omega (arith, can.is_word);
@@ -94,44 +96,44 @@ each_keeps word (marks found) can = by_found (word == found) refl
           mine = grind (arith, nat_tests);
         }
     by_found false is = record { is_word = can.is_word; counts = refl; bit_stays = λ h. h; quiet_stays = λ q. refl; mine = tt }
-each_keeps word waits can = by_count (count_of word == 0) refl
+each_keeps word Wait can = by_count (count_of word == 0) refl
   where
-    by_count : (z : Bool) → (count_of word == 0) ≡ z → IsKept word waits word (if z then stopped else waits)
+    by_count : (z : Bool) → (count_of word == 0) ≡ z → IsKept word Wait word (if z then Stopped else Wait)
     by_count true none = record { is_word = can.is_word; counts = refl; bit_stays = λ h. h; quiet_stays = λ q. refl; mine = tt }
     by_count false none = record { is_word = can.is_word; counts = refl; bit_stays = λ h. h; quiet_stays = λ q. refl; mine = can.mine }
 
-pub each_says : (word : ℕ) (spot : Spot) → CanStep word spot → Says word (copying_at spot word)
-each_says word outside can = absurd (cc (can.going))
-each_says word inside can = absurd (cc (can.going))
-each_says word stopped can = absurd (cc (can.going))
-each_says word looks can = by_bit (is_out_of_room word) (count_of word == 0) refl refl
+pub each_says : (word : ℕ) (spot : RoomSpot) → CanStep word spot → Says word (copying_at spot word)
+each_says word Outside can = absurd (cc (can.going))
+each_says word Inside can = absurd (cc (can.going))
+each_says word Stopped can = absurd (cc (can.going))
+each_says word Look can = by_bit (is_out_of_room word) (count_of word == 0) refl refl
   where
     by_bit : (b z : Bool) → is_out_of_room word ≡ b → (count_of word == 0) ≡ z
-        → Says word (said (if b then (if z then Done else Again) else More) (if b then (if z then stopped else looks) else raises word))
+        → Says word (said (if b then (if z then Done else Again) else More) (if b then (if z then Stopped else Look) else Raise word))
     by_bit true true out none = record { stopped_is_quiet = λ is. record { out_of_room = out; nobody = grind (arith, nat_tests) }; none_enters = λ q is. cc }
     by_bit true false out none = record { stopped_is_quiet = λ is. absurd (cc (is)); none_enters = λ q is. cc }
     by_bit false z out none = record { stopped_is_quiet = λ is. absurd (cc (is)); none_enters = λ q is. cc }
-each_says word (raises found) can = by_found (word == found) refl
+each_says word (Raise found) can = by_found (word == found) refl
   where
-    by_found : (b : Bool) → (word == found) ≡ b → Says word (said (if b then Done else Again) (if b then inside else looks))
+    by_found : (b : Bool) → (word == found) ≡ b → Says word (said (if b then Done else Again) (if b then Inside else Look))
     by_found true is = let same : word ≡ found = grind (arith, nat_tests) in let clear : found < 2 ^ 63 = can.mine in
         record { stopped_is_quiet = λ is. absurd (cc (is)); none_enters = λ q is. grind (arith, nat_tests, q.out_of_room) }
     by_found false is = record { stopped_is_quiet = λ is. absurd (cc (is)); none_enters = λ q is. cc }
-each_says word leaves can = record { stopped_is_quiet = λ is. absurd (cc (is)); none_enters = λ q is. cc }
-each_says word asks can = record { stopped_is_quiet = λ is. absurd (cc (is)); none_enters = λ q is. cc }
-each_says word (marks found) can = by_found (word == found)
+each_says word Lower can = record { stopped_is_quiet = λ is. absurd (cc (is)); none_enters = λ q is. cc }
+each_says word Ask can = record { stopped_is_quiet = λ is. absurd (cc (is)); none_enters = λ q is. cc }
+each_says word (Mark found) can = by_found (word == found)
   where
-    by_found : (b : Bool) → Says word (said (if b then More else Again) (if b then waits else asks))
+    by_found : (b : Bool) → Says word (said (if b then More else Again) (if b then Wait else Ask))
     by_found true = record { stopped_is_quiet = λ is. absurd (cc (is)); none_enters = λ q is. cc }
     by_found false = record { stopped_is_quiet = λ is. absurd (cc (is)); none_enters = λ q is. cc }
-each_says word waits can = by_count (count_of word == 0) refl
+each_says word Wait can = by_count (count_of word == 0) refl
   where
-    by_count : (z : Bool) → (count_of word == 0) ≡ z → Says word (said (if z then Done else Again) (if z then stopped else waits))
+    by_count : (z : Bool) → (count_of word == 0) ≡ z → Says word (said (if z then Done else Again) (if z then Stopped else Wait))
     by_count true none = record { stopped_is_quiet = λ is. record { out_of_room = can.mine; nobody = grind (arith, nat_tests) }; none_enters = λ q is. cc }
     by_count false none = record { stopped_is_quiet = λ is. absurd (cc (is)); none_enters = λ q is. cc }
 
 -- the word that it finds is fit
-pub each_fits : (word : ℕ) (spot : Spot) → CanStep word spot → IsFit spot word
-each_fits word leaves can =
+pub each_fits : (word : ℕ) (spot : RoomSpot) → CanStep word spot → IsFit spot word
+each_fits word Lower can =
     let some : 1 ≤ count_of word = can.is_in refl in omega (arith, some)
 each_fits word _ can = tt

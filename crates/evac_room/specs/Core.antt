@@ -8,30 +8,32 @@ use Rattle.evac_room.specs.declared.wish.Wish.{Wish}
 use Rattle.evac_room.specs.declared.wish.Wish.TheVariants.{Enter, Leave, NoRoom}
 use Rattle.evac_room.specs.declared.wish.Copying.{Copying}
 use Rattle.evac_room.specs.declared.wish.Copying.TheVariants as copying
-use Rattle.evac_room.specs.Spot.{Spot, outside, looks, inside, leaves, asks, stopped, is_counted}
+use Rattle.evac_room.specs.declared.spot.RoomSpot.{RoomSpot}
+use Rattle.evac_room.specs.declared.spot.RoomSpot.TheVariants.{Outside, Look, Inside, Lower, Ask, Stopped}
+use Rattle.evac_room.specs.Spot.{is_counted}
 use Rattle.evac_room.specs.Rows.{form_at, next_at, answer_at}
 
 -- whether a copier takes the wish: at rest outside only to enter, at rest inside only to leave or that it found no room;
 -- in between it takes any, and goes on
-abbrev pub takes_at : Spot → Wish → Bool
-takes_at outside Enter = true
-takes_at outside _ = false
-takes_at stopped Enter = true
-takes_at stopped _ = false
-takes_at inside Enter = false
-takes_at inside _ = true
+abbrev pub takes_at : RoomSpot → Wish → Bool
+takes_at Outside Enter = true
+takes_at Outside _ = false
+takes_at Stopped Enter = true
+takes_at Stopped _ = false
+takes_at Inside Enter = false
+takes_at Inside _ = true
 takes_at _ wish = true
 
 -- where it stands once it has taken the wish: at rest it begins a call
-abbrev pub begun : Spot → Wish → Spot
-begun outside Enter = looks
-begun stopped Enter = looks
-begun inside Leave = leaves
-begun inside NoRoom = asks
+abbrev pub begun : RoomSpot → Wish → RoomSpot
+begun Outside Enter = Look
+begun Stopped Enter = Look
+begun Inside Leave = Lower
+begun Inside NoRoom = Ask
 begun spot wish = spot
 
 -- copiers as machines over one word, under wishes
-abbrev pub kind : Kind Spot Wish
+abbrev pub kind : Kind RoomSpot Wish
 kind = record {
   takes = takes_at;
   plan = λ spot wish. access_at 0 (form_at (begun spot wish));
@@ -39,8 +41,8 @@ kind = record {
 }
 
 -- so many copiers outside, and the word 0
-abbrev pub opening : ℕ → Stage Spot
-opening copiers = record { words = 0 ∷ []; machines = replicate copiers outside }
+abbrev pub opening : ℕ → Stage RoomSpot
+opening copiers = record { words = 0 ∷ []; machines = replicate copiers Outside }
 
 -- the copiers are 1 to 12
 pub record IsFew (copiers : ℕ) : Type 0 where
@@ -48,7 +50,7 @@ pub record IsFew (copiers : ℕ) : Type 0 where
   pub most : copiers ≤ 12
 
 -- what a list of steps leads to from the opening
-abbrev pub reached : ℕ → List (Event Wish) → Stage Spot
+abbrev pub reached : ℕ → List (Event Wish) → Stage RoomSpot
 reached copiers steps = go kind (opening copiers) steps
 
 -- none of these steps is one of the copier of this number
@@ -56,42 +58,42 @@ abbrev pub AreOfOthers : ℕ → List (Event Wish) → Type 0
 AreOfOthers number steps = All (λ step. step.number ≢ number) steps
 
 -- the word that counts
-abbrev pub counter : Stage Spot → ℕ
+abbrev pub counter : Stage RoomSpot → ℕ
 counter s = slice_index s.words 0
 
 -- how many copiers are inside, in a leave before its one access, or out of room and not yet taken off
-abbrev pub counted : List Spot → ℕ
+abbrev pub counted : List RoomSpot → ℕ
 counted copiers = count_by is_counted copiers
 
 -- what a copier says of a step that ends its call
-abbrev pub ended_at : Spot → Copying
-ended_at inside = copying.Inside
-ended_at stopped = copying.Stopped
+abbrev pub ended_at : RoomSpot → Copying
+ended_at Inside = copying.Inside
+ended_at Stopped = copying.Stopped
 ended_at _ = copying.Outside
 
-abbrev pub said : Took → Spot → Copying
+abbrev pub said : Took → RoomSpot → Copying
 said took.More next = copying.More
 said took.Again next = copying.Again
 said took.Done next = ended_at next
 
 -- what it says of the step that finds this word
-abbrev pub copying_at : Spot → ℕ → Copying
+abbrev pub copying_at : RoomSpot → ℕ → Copying
 copying_at spot got = said (answer_at spot got) (next_at spot got)
 
 -- what a step answers, if there is the copier and it takes the wish
-abbrev pub answer_by : ℕ → Wish → Option Spot → Option Copying
+abbrev pub answer_by : ℕ → Wish → Option RoomSpot → Option Copying
 answer_by word wish None = None
 answer_by word wish (Some spot) = if takes_at spot wish then Some (copying_at (begun spot wish) word) else None
 
 -- what a step answers in a stage
-abbrev pub answer_to : Stage Spot → Event Wish → Option Copying
+abbrev pub answer_to : Stage RoomSpot → Event Wish → Option Copying
 answer_to s step = answer_by (counter s) step.order (slice_get s.machines step.number)
 
 -- the word, where the copiers stand, and what a step answers, after a list of steps from the opening
 abbrev pub word_after : ℕ → List (Event Wish) → ℕ
 word_after copiers steps = counter (reached copiers steps)
 
-abbrev pub spots_after : ℕ → List (Event Wish) → List Spot
+abbrev pub spots_after : ℕ → List (Event Wish) → List RoomSpot
 spots_after copiers steps = (reached copiers steps).machines
 
 abbrev pub answer_after : ℕ → List (Event Wish) → Event Wish → Option Copying

@@ -1,7 +1,6 @@
 pub mod Counter
 pub mod Spot
 pub mod Rows
-pub mod Stand
 pub mod Seen
 pub mod Core
 pub mod Copier

@@ -9,51 +9,52 @@ use Rattle.heap_words.specs.declared.place.Place.TheVariants as place
 use Rattle.heap_words.specs.Words.{Evac}
 use Rattle.steps_base.specs.Touch.{Form, loads, subtracts, exchanges, touch, placed}
 use Rattle.evac_room.specs.Counter.{count_of, is_out_of_room, marked}
-use Rattle.evac_room.specs.Spot.{Spot, outside, looks, raises, inside, leaves, asks, marks, waits, stopped}
+use Rattle.evac_room.specs.declared.spot.RoomSpot.{RoomSpot}
+use Rattle.evac_room.specs.declared.spot.RoomSpot.TheVariants.{Outside, Look, Raise, Inside, Lower, Ask, Mark, Wait, Stopped}
 
 -- the place of the next access; a copier at rest makes none, and the place is that of a call which it may begin
-abbrev pub place_at : Spot → Place
-place_at outside = place.XL
-place_at looks = place.XL
-place_at (raises found) = place.XC
-place_at inside = place.XS
-place_at leaves = place.XS
-place_at asks = place.OL
-place_at (marks found) = place.OX
-place_at waits = place.XW
-place_at stopped = place.XL
+abbrev pub place_at : RoomSpot → Place
+place_at Outside = place.XL
+place_at Look = place.XL
+place_at (Raise found) = place.XC
+place_at Inside = place.XS
+place_at Lower = place.XS
+place_at Ask = place.OL
+place_at (Mark found) = place.OX
+place_at Wait = place.XW
+place_at Stopped = place.XL
 
 -- what the access does to the counter
-abbrev pub form_at : Spot → Form
-form_at (raises found) = exchanges found (found + 1)
-form_at leaves = subtracts 1
-form_at (marks found) = exchanges found (marked found)
+abbrev pub form_at : RoomSpot → Form
+form_at (Raise found) = exchanges found (found + 1)
+form_at Lower = subtracts 1
+form_at (Mark found) = exchanges found (marked found)
 form_at _ = loads
 
 -- the access of the table
-abbrev pub access_of : Config → Spot → Access
+abbrev pub access_of : Config → RoomSpot → Access
 access_of c spot = placed c (touch Evac (form_at spot))
 
 -- where the copier stands after the access, by the word that it found; at rest it stays
-abbrev pub next_at : Spot → ℕ → Spot
-next_at looks got = if is_out_of_room got then (if count_of got == 0 then stopped else looks) else raises got
-next_at (raises found) got = if got == found then inside else looks
-next_at leaves got = outside
-next_at asks got = marks got
-next_at (marks found) got = if got == found then waits else asks
-next_at waits got = if count_of got == 0 then stopped else waits
+abbrev pub next_at : RoomSpot → ℕ → RoomSpot
+next_at Look got = if is_out_of_room got then (if count_of got == 0 then Stopped else Look) else Raise got
+next_at (Raise found) got = if got == found then Inside else Look
+next_at Lower got = Outside
+next_at Ask got = Mark got
+next_at (Mark found) got = if got == found then Wait else Ask
+next_at Wait got = if count_of got == 0 then Stopped else Wait
 next_at spot got = spot
 
 -- what the step says
-abbrev pub answer_at : Spot → ℕ → Took
-answer_at looks got = if is_out_of_room got then (if count_of got == 0 then Done else Again) else More
-answer_at (raises found) got = if got == found then Done else Again
-answer_at (marks found) got = if got == found then More else Again
-answer_at waits got = if count_of got == 0 then Done else Again
-answer_at asks got = More
+abbrev pub answer_at : RoomSpot → ℕ → Took
+answer_at Look got = if is_out_of_room got then (if count_of got == 0 then Done else Again) else More
+answer_at (Raise found) got = if got == found then Done else Again
+answer_at (Mark found) got = if got == found then More else Again
+answer_at Wait got = if count_of got == 0 then Done else Again
+answer_at Ask got = More
 answer_at _ got = Done
 
 -- the word is fit: no number that the row computes is below 0 or above a word
-abbrev pub IsFit : Spot → ℕ → Type 0
-IsFit leaves got = 1 ≤ got
+abbrev pub IsFit : RoomSpot → ℕ → Type 0
+IsFit Lower got = 1 ≤ got
 IsFit _ got = ⊤

@@ -2,7 +2,8 @@
 use Rattle.std.specs.Prelude.{ℕ, List, [], ◌∷◌, map, slice_index_or}
 use Rattle.steps_base.specs.Steps.{Stage}
 use Rattle.evac_room.specs.declared.copiers.Copiers.{Copiers}
-use Rattle.evac_room.specs.Spot.{Spot, outside}
+use Rattle.evac_room.specs.declared.spot.RoomSpot.{RoomSpot}
+use Rattle.evac_room.specs.declared.spot.RoomSpot.TheVariants.{Outside}
 use Rattle.evac_room.specs.Copier.{spot_of}
 
 -- the word that counts
@@ -10,12 +11,12 @@ abbrev pub word_of : Copiers → ℕ
 word_of c = c.word
 
 -- where the copiers stand, by their numbers
-abbrev pub spots_of : Copiers → List Spot
+abbrev pub spots_of : Copiers → List RoomSpot
 spots_of c = map spot_of c.copiers.items
 
-abbrev pub spot_at : Copiers → ℕ → Spot
-spot_at c number = slice_index_or (spots_of c) number outside
+abbrev pub spot_at : Copiers → ℕ → RoomSpot
+spot_at c number = slice_index_or (spots_of c) number Outside
 
 -- the word and the copiers, as steps see them
-abbrev pub stage_of : Copiers → Stage Spot
+abbrev pub stage_of : Copiers → Stage RoomSpot
 stage_of c = record { words = word_of c ∷ []; machines = spots_of c }

@@ -1,26 +1,18 @@
 ghost use Rattle.std.specs.Prelude.{◌≡◌, true};
-ghost use Rattle.evac_room.specs.Spot.{raises_clear};
-ghost use Rattle.evac_room.specs.Stand.{enter_spot};
+ghost use Rattle.evac_room.specs.Spot.{raises_clear, is_entering};
 
-use crate::counter::{count_of, is_out_of_room};
 use crate::room::Room;
+use crate::spot::RoomSpot;
 use heap_words::{Access, Config, Place, Took};
-
-#[derive(Clone, Copy, Debug, PartialEq, Eq)]
-enum Entering {
-    Look,
-    Raise { found: u64 },
-    Inside,
-    Stopped,
-}
 
 /// A copier that asks to copy. Each step is one access of the word that counts the copiers.
 #[derive(Debug, Drop)]
 pub struct EnterEvac {
     config: Config,
-    at: Entering,
+    spot: RoomSpot,
+    ghost entering: { is_entering spot ≡ true },
     // One more copier never reaches bit 63.
-    ghost clear: { raises_clear (enter_spot at) ≡ true },
+    ghost clear: { raises_clear spot ≡ true },
 }
 
 impl EnterEvac {
@@ -28,18 +20,18 @@ impl EnterEvac {
     ghost use Rattle.heap_words.specs.Access.{place_of};
     ghost use Rattle.heap_words.specs.Words.{table_words};
     ghost use Rattle.evac_room.specs.Counter.{IsQuiet};
-    ghost use Rattle.evac_room.specs.Spot.{looks, stopped, is_at_rest};
+    ghost use Rattle.evac_room.specs.Spot.{is_at_rest};
     ghost use Rattle.evac_room.specs.Rows.{place_at, access_of, next_at, answer_at};
     ghost use Rattle.evac_room.specs.Seen.{spot_of_enter, config_of_enter, room_at};
 
     /// A copier that looks at the counter next.
     pub fn new(config: Config) -> EnterEvac
-        ensures spot { spot_of_enter result ≡ looks }
+        ensures spot { spot_of_enter result ≡ RoomSpot.Look }
         ensures config { config_of_enter result ≡ config }
     {
         EnterEvac {
             config,
-            at: Entering::Look,
+            spot: RoomSpot::Look,
         }
     }
 
@@ -47,7 +39,7 @@ impl EnterEvac {
     pub fn is_done(&self) -> bool
         ensures { result ≡ is_at_rest (spot_of_enter self.now) }
     {
-        matches!(self.at, Entering::Inside | Entering::Stopped)
+        self.spot.is_at_rest()
     }
 
     /// The place of its next access.
@@ -55,11 +47,7 @@ impl EnterEvac {
         requires { is_at_rest (spot_of_enter self.now) ≡ false }
         ensures { result ≡ place_at (spot_of_enter self.now) }
     {
-        match self.at {
-            Entering::Look => Place::XL,
-            Entering::Raise { .. } => Place::XC,
-            Entering::Inside | Entering::Stopped => unreachable!(),
-        }
+        self.spot.place()
     }
 
     /// The access of its next step.
@@ -68,16 +56,7 @@ impl EnterEvac {
         ensures row { result ≡ access_of (config_of_enter self.now) (spot_of_enter self.now) }
         ensures inside { place_of result < table_words (config_of_enter self.now) }
     {
-        let at = self.config.evac_at();
-        match self.at {
-            Entering::Look => Access::Load { at },
-            Entering::Raise { found } => Access::Exchange {
-                at,
-                expect: found,
-                value: found + 1,
-            },
-            Entering::Inside | Entering::Stopped => unreachable!(),
-        }
+        self.spot.access(self.config)
     }
 
     /// Goes on with the word that its access has found; every word is fit.
@@ -87,31 +66,11 @@ impl EnterEvac {
         ensures config { config_of_enter self.new ≡ config_of_enter self.old }
         ensures answer { result ≡ answer_at (spot_of_enter self.old) got }
         ensures done { (result ≡ Took.Done) ↔ (is_at_rest (spot_of_enter self.new) ≡ true) }
-        ensures stopped { (spot_of_enter self.new ≡ stopped) ↔ ((spot_of_enter self.old ≡ looks) × IsQuiet got) }
+        ensures stopped { (spot_of_enter self.new ≡ RoomSpot.Stopped) ↔ ((spot_of_enter self.old ≡ RoomSpot.Look) × IsQuiet got) }
     {
-        match self.at {
-            Entering::Look => {
-                if !is_out_of_room(got) {
-                    self.at = Entering::Raise { found: got };
-                    Took::More
-                } else if count_of(got) == 0 {
-                    self.at = Entering::Stopped;
-                    Took::Done
-                } else {
-                    Took::Again
-                }
-            }
-            Entering::Raise { found } => {
-                if got == found {
-                    self.at = Entering::Inside;
-                    Took::Done
-                } else {
-                    self.at = Entering::Look;
-                    Took::Again
-                }
-            }
-            Entering::Inside | Entering::Stopped => unreachable!(),
-        }
+        let before = self.spot;
+        self.spot = before.after(got);
+        before.says(got)
     }
 
     /// Whether it may copy, once it is done.
@@ -119,10 +78,9 @@ impl EnterEvac {
         requires { is_at_rest (spot_of_enter self.now) ≡ true }
         ensures { room_at (spot_of_enter self.now) ≡ Some result }
     {
-        match self.at {
-            Entering::Inside => Room::Inside,
-            Entering::Stopped => Room::Stopped,
-            Entering::Look | Entering::Raise { .. } => unreachable!(),
+        match self.spot {
+            RoomSpot::Inside => Room::Inside,
+            _ => Room::Stopped,
         }
     }
 }

@@ -6,7 +6,8 @@ ghost use Rattle.steps_base.specs.Steps.{Event};
 ghost use Rattle.evac_room.specs.declared.wish.Wish.{Wish};
 ghost use Rattle.std.specs.Int.{bit_at};
 ghost use Rattle.evac_room.specs.Counter.{count_of, is_out_of_room, marked, IsQuiet};
-ghost use Rattle.evac_room.specs.Spot.{Spot, inside};
+ghost use Rattle.evac_room.specs.declared.spot.RoomSpot.{RoomSpot};
+ghost use Rattle.evac_room.specs.declared.spot.RoomSpot.TheVariants.{Inside};
 ghost use Rattle.evac_room.specs.Rows.{IsFit};
 ghost use Rattle.evac_room.specs.Core.{IsFew, AreOfOthers, counted, takes_at, begun, word_after, spots_after, answer_after};
 
@@ -31,7 +32,7 @@ pub fn every_list_of_steps()
     ensures is_word { (copiers : ℕ) (steps : List (Event Wish)) → IsFew copiers
         → word_after copiers steps < 2 ^ 64 }
     // a copier that takes a wish finds a fit word
-    ensures fits { (copiers : ℕ) (steps : List (Event Wish)) (number : ℕ) (spot : Spot) (wish : Wish) → IsFew copiers
+    ensures fits { (copiers : ℕ) (steps : List (Event Wish)) (number : ℕ) (spot : RoomSpot) (wish : Wish) → IsFew copiers
         → slice_get (spots_after copiers steps) number ≡ Some spot → takes_at spot wish ≡ true
         → IsFit (begun spot wish) (word_after copiers steps) }
     // bit 63 once set stays
@@ -41,7 +42,7 @@ pub fn every_list_of_steps()
     // a copier that was told that it may copy is inside, and counted, until its own next step: whatever the others do
     ensures inside_until_its_step { (copiers : ℕ) (steps more : List (Event Wish)) (step : Event Wish) → IsFew copiers
         → answer_after copiers steps step ≡ Some Copying.Inside → AreOfOthers step.number more
-        → (slice_get (spots_after copiers (steps ++ step ∷ more)) step.number ≡ Some inside)
+        → (slice_get (spots_after copiers (steps ++ step ∷ more)) step.number ≡ Some Inside)
         × (1 ≤ count_of (word_after copiers (steps ++ step ∷ more))) }
     // a copier is stopped only by a quiet word: bit 63 is set, and nobody is counted
     ensures stopped_is_quiet { (copiers : ℕ) (steps : List (Event Wish)) (step : Event Wish) → IsFew copiers

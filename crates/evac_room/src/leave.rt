@@ -1,36 +1,33 @@
-ghost use Rattle.std.specs.Prelude.{◌≡◌};
+ghost use Rattle.std.specs.Prelude.{◌≡◌, true};
+ghost use Rattle.evac_room.specs.Spot.{is_leaving};
 
+use crate::spot::RoomSpot;
 use heap_words::{Access, Config, Place, Took};
-
-#[derive(Clone, Copy, Debug, PartialEq, Eq)]
-enum Leaving {
-    Subtract,
-    Outside,
-}
 
 /// A copier that has copied, and takes itself off the counter in one step.
 #[derive(Debug, Drop)]
 pub struct LeaveEvac {
     config: Config,
-    at: Leaving,
+    spot: RoomSpot,
+    ghost leaving: { is_leaving spot ≡ true },
 }
 
 impl LeaveEvac {
     ghost use Rattle.std.specs.Prelude.{false, ◌<◌};
     ghost use Rattle.heap_words.specs.Access.{place_of};
     ghost use Rattle.heap_words.specs.Words.{table_words};
-    ghost use Rattle.evac_room.specs.Spot.{leaves, is_at_rest};
+    ghost use Rattle.evac_room.specs.Spot.{is_at_rest};
     ghost use Rattle.evac_room.specs.Rows.{place_at, access_of, next_at, answer_at, IsFit};
     ghost use Rattle.evac_room.specs.Seen.{spot_of_leave, config_of_leave};
 
     /// A copier that takes itself off the counter next.
     pub fn new(config: Config) -> LeaveEvac
-        ensures spot { spot_of_leave result ≡ leaves }
+        ensures spot { spot_of_leave result ≡ RoomSpot.Lower }
         ensures config { config_of_leave result ≡ config }
     {
         LeaveEvac {
             config,
-            at: Leaving::Subtract,
+            spot: RoomSpot::Lower,
         }
     }
 
@@ -38,7 +35,7 @@ impl LeaveEvac {
     pub fn is_done(&self) -> bool
         ensures { result ≡ is_at_rest (spot_of_leave self.now) }
     {
-        matches!(self.at, Leaving::Outside)
+        self.spot.is_at_rest()
     }
 
     /// The place of its access.
@@ -46,10 +43,7 @@ impl LeaveEvac {
         requires { is_at_rest (spot_of_leave self.now) ≡ false }
         ensures { result ≡ place_at (spot_of_leave self.now) }
     {
-        match self.at {
-            Leaving::Subtract => Place::XS,
-            Leaving::Outside => unreachable!(),
-        }
+        self.spot.place()
     }
 
     /// The access of its step.
@@ -58,13 +52,7 @@ impl LeaveEvac {
         ensures row { result ≡ access_of (config_of_leave self.now) (spot_of_leave self.now) }
         ensures inside { place_of result < table_words (config_of_leave self.now) }
     {
-        match self.at {
-            Leaving::Subtract => Access::Sub {
-                at: self.config.evac_at(),
-                value: 1,
-            },
-            Leaving::Outside => unreachable!(),
-        }
+        self.spot.access(self.config)
     }
 
     /// Goes on with the word that its access has found. A word is fit if it is not 0.
@@ -75,8 +63,8 @@ impl LeaveEvac {
         ensures config { config_of_leave self.new ≡ config_of_leave self.old }
         ensures answer { result ≡ answer_at (spot_of_leave self.old) got }
     {
-        let _ = got;
-        self.at = Leaving::Outside;
-        Took::Done
+        let before = self.spot;
+        self.spot = before.after(got);
+        before.says(got)
     }
 }

@@ -6,9 +6,9 @@
 //! of them would lose a write. Here whoever finds no room sets the bit, so that nobody enters any more, and waits until
 //! the count is 0; only then it goes on with the old object.
 //!
-//! Three machines make the steps, each of one access of the word: `EnterEvac`, `LeaveEvac` and `OutOfRoom`. The rows in
-//! `specs/Rows.antt` say for each spot which access it makes and what follows. `laws` has the protocol by itself, and
-//! its theorem over every list of steps.
+//! A copier stands at a `RoomSpot`, and each of its steps is one access of the word; the rows in `specs/Rows.antt` say for
+//! each spot which access it makes and what follows. Three machines make the steps of one call each: `EnterEvac`,
+//! `LeaveEvac` and `OutOfRoom`. `laws` has the protocol by itself, and its theorem over every list of steps.
 #![tactic(auto)]
 
 mod copier;
@@ -19,12 +19,14 @@ pub mod laws;
 mod leave;
 mod out_of_room;
 mod room;
+mod spot;
 mod wish;
 
 pub use enter::EnterEvac;
 pub use leave::LeaveEvac;
 pub use out_of_room::OutOfRoom;
 pub use room::Room;
+pub use spot::RoomSpot;
 
 #[cfg(test)]
 mod tests;

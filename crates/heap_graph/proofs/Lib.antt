@@ -7,3 +7,4 @@ pub mod Sizes
 pub mod Standing
 pub mod Shown
 pub mod Merely
+pub mod Tables

@@ -10,8 +10,8 @@ use Rattle.heap_words.proofs.Shapes.{refs_in-shape_word, nums_in-shape_word}
 use Rattle.shen_graph.specs.declared.name.Name.{Name}
 use Rattle.shen_graph.specs.Graph.{Graph, Object, Reference, named}
 use Rattle.shen_graph.specs.Reach.{IsReachable, from_root as reach_root, from_field as reach_field, size}
+use Rattle.heap_world.specs.Objects.{Refers}
 use Rattle.shen_graph.specs.GraphText.{row_in}
-use Rattle.heap_graph.specs.Stands.{Refers}
 use Rattle.heap_graph.specs.Walk.{has, shape_at, refs_at, nums_at, words_at, Leads, from_root, from_field, IsSound}
 use Rattle.heap_graph.specs.Rows.{name_at, reference_in, row_at, root_word}
 use Rattle.heap_graph.specs.Shows.{WordsStand}
@@ -97,7 +97,7 @@ module _ (first : ℕ) (heap roots : List ℕ) (at : ℕ → Option Name) (g : G
         nums = nums;
         words = words;
         within = omega (arith, i.below, words);
-        name = name_back n (get_or heap (a - first + 2) 0) w.short_count (ap (λ k. get_or heap k 0) second ∙ w.name);
+        name = name_back n (get_or heap (a - first + 2) 0) i.short_count (ap (λ k. get_or heap k 0) second ∙ w.name_word);
         object = ap (λ q. unwrap_or q (record { refs = []; nums = [] })) i.object;
       }
 
@@ -126,7 +126,7 @@ module _ (first : ℕ) (heap roots : List ℕ) (at : ℕ → Option Name) (g : G
       ap (λ j. get_or heap j 0) place ∙ sym (get_or-refs_at heap (m - first) k field) ∙ is in
       let q = get_or o.refs k None in
       let got : slice_get o.refs k ≡ Some q = slice_get-get_or o.refs k None low in
-      let r = refers-some a q (subst (λ (w : ℕ). Refers at w q) word ((s.each m n here).1.words.refs k q got)) ne in
+      let r = refers-some a q (subst (λ (w : ℕ). Refers at w q) word ((s.each m n here).1.words.references k q got)) ne in
       (r.0, r.2, reach_field n r.0 k reach (ap (λ b. slice_get b.refs k) f.object ∙ got ∙ ap (λ b. Some b) r.1))
 
   -- an address that roots lead to is where an object stands that can be reached
@@ -154,7 +154,7 @@ module _ (first : ℕ) (heap roots : List ℕ) (at : ℕ → Option Name) (g : G
       let low : f < length o.refs = slice_get_within o.refs f (Some n) got in
       let field : f < refs_in (shape_at heap k) = omega (arith, fa.refs, low) in
       let w = get_or heap (u.0 + 3 + f - first) 0 in
-      let here : at w ≡ Some n = (s.each u.0 m u.1).1.words.refs f (Some n) got in
+      let here : at w ≡ Some n = (s.each u.0 m u.1).1.words.references f (Some n) got in
       let above = (s.each u.0 m u.1).1.above in
       let place = shift_field first u.0 f above in
       let inside : has (refs_at heap k) w ≡ true =
@@ -199,7 +199,7 @@ module _ (first : ℕ) (heap roots : List ℕ) (at : ℕ → Option Name) (g : G
       get_or-map shown (refs_at heap k) i 0 None within
       ∙ ap shown (get_or-refs_at heap k i field ∙ ap (λ j. get_or heap j 0) place)
       ∙ reference_same (get_or heap (a + 3 + i - first) 0) q
-      ((s.each a n here).1.words.refs i q (slice_get-get_or o.refs i None low)))
+      ((s.each a n here).1.words.references i q (slice_get-get_or o.refs i None low)))
 
   nums_same : (a : ℕ) (n : Name) (here : at a ≡ Some n) → nums_at heap (a - first) ≡ (s.each a n here).0.nums
   nums_same a n here =
@@ -214,7 +214,7 @@ module _ (first : ℕ) (heap roots : List ℕ) (at : ℕ → Option Name) (g : G
       let field : i < nums_in (shape_at heap k) = omega (arith, f.nums, low) in
       let place = shift_number first a (length o.refs) (refs_in (shape_at heap k)) i above f.refs in
       get_or-nums_at heap k i field ∙ ap (λ j. get_or heap j 0) place
-      ∙ (s.each a n here).1.words.nums i (get_or o.nums i 0) (slice_get-get_or o.nums i 0 low))
+      ∙ (s.each a n here).1.words.numbers i (get_or o.nums i 0) (slice_get-get_or o.nums i 0 low))
 
   -- the row by the words of an object is its row in the graph
   pub row_same : (a : ℕ) (n : Name) → at a ≡ Some n → row_at first heap a ≡ row_in g n

@@ -10,7 +10,7 @@ use Rattle.steps_base.proofs.Places.{slice_get-set_same, slice_get-set_other}
 use Rattle.shen_graph.specs.declared.name.Name.{Name}
 use Rattle.shen_graph.specs.Graph.{Reference, Object, Graph, same_name}
 use Rattle.shen_graph.proofs.PlainLemmas.{same_name-true, same_name-itself}
-use Rattle.heap_world.specs.World.{World, thing, hand, Plot, Points, Target, IsPlotted, IsObject, AreObjects, Shared}
+use Rattle.heap_world.specs.World.{World, thing, hand, Plot, Points, Target, IsPlotted, IsThing, AreObjects, Shared}
 use Rattle.heap_world.specs.Rely.{Rely}
 use Rattle.heap_world.proofs.Updates.{updated, updated_same, updated_else}
 use Rattle.heap_world.proofs.Apart.{one_piece}
@@ -24,10 +24,10 @@ get_set_same xs i x below = slice_get-set_same xs i _ x (slice_get-get_or xs i x
 pub two_names : (a b : Name) → a ≢ b → same_name a b ≡ false
 two_names a b other = ⊎_elim (λ is. absurd (other (same_name-true a b is))) (λ is. is) (cases_Bool (same_name a b))
 
-module _ (heap : ℕ → ℕ) (block : Plot) (a refs nums : ℕ) (name : Name) (o : Object) (is : IsObject heap block a refs nums name o) where
+module _ (heap : ℕ → ℕ) (block : Plot) (a refs nums : ℕ) (name : Name) (o : Object) (is : IsThing heap block a refs nums name o) where
   -- a reference field of an object is another
   pub field_stored : (field value : ℕ) (r : Reference) → field < refs → Points block value r
-      → IsObject (updated heap (a + 3 + field) value) block a refs nums name (record { refs = slice_set o.refs field r; nums = o.nums })
+      → IsThing (updated heap (a + 3 + field) value) block a refs nums name (record { refs = slice_set o.refs field r; nums = o.nums })
   field_stored field value r below points =
       let old : (at : ℕ) → a + 3 + field ≢ at → updated heap (a + 3 + field) value at ≡ heap at = updated_else heap (a + 3 + field) value in
       record {
@@ -53,7 +53,7 @@ module _ (heap : ℕ → ℕ) (block : Plot) (a refs nums : ℕ) (name : Name) (
 
   -- a number of an object is another
   pub number_stored : (index value : ℕ) → index < nums
-      → IsObject (updated heap (a + 3 + refs + index) value) block a refs nums name (record { refs = o.refs; nums = slice_set o.nums index value })
+      → IsThing (updated heap (a + 3 + refs + index) value) block a refs nums name (record { refs = o.refs; nums = slice_set o.nums index value })
   number_stored index value below =
       let old : (at : ℕ) → a + 3 + refs + index ≢ at → updated heap (a + 3 + refs + index) value at ≡ heap at = updated_else heap (a + 3 + refs + index) value in
       record {
@@ -91,7 +91,7 @@ object_before object name before o was n x is = ⊎_elim
 module _ (c : Config) (top heap : ℕ → ℕ) (block : Plot) (object : Name → Option Object) (plotted : IsPlotted c top block) (are : AreObjects heap block object) where
   -- the objects after a word of one of them changed
   objects_stored : (a refs nums at value : ℕ) (name : Name) (o : Object) → block a ≡ Some (thing name refs nums) → a ≤ at → at < a + (3 + refs + nums)
-      → IsObject (updated heap at value) block a refs nums name o → AreObjects (updated heap at value) block (where_object object name o)
+      → IsThing (updated heap at value) block a refs nums name o → AreObjects (updated heap at value) block (where_object object name o)
   objects_stored a refs nums at value name o piece from_start to_end is = record {
     each = λ b more_refs more_nums n there. ⊎_elim
         (λ same.
@@ -123,7 +123,7 @@ changed g name o root = record { object = where_object g.object name o; root = r
 
 module _ (c : Config) (u : World) (a refs nums at value : ℕ) (name : Name) (o : Object) (root : ℕ → ℕ → Reference) (shared : Shared c u) (target : Target u a refs nums name) where
   -- what machines share, after a word of an object and the graph's object have changed
-  pub shared_stored : a ≤ at → at < a + (3 + refs + nums) → IsObject (updated (λ b. u.memory (Heap b)) at value) u.block a refs nums name o
+  pub shared_stored : a ≤ at → at < a + (3 + refs + nums) → IsThing (updated (λ b. u.memory (Heap b)) at value) u.block a refs nums name o
       → Shared c (stored u at value (changed u.graph name o root))
   shared_stored from_start to_end is = record {
     plotted = shared.plotted;

@@ -7,7 +7,7 @@ use Rattle.heap_words.specs.declared.config.Config.{Config}
 use Rattle.regions.specs.Place.{base_of}
 use Rattle.shen_graph.specs.declared.name.Name.{Name}
 use Rattle.shen_graph.specs.Graph.{Object}
-use Rattle.heap_world.specs.World.{Block, thing, hand, words_of, Plot, name_at, Points, IsPlotted, IsObject, AreRooms}
+use Rattle.heap_world.specs.World.{Block, thing, hand, words_of, Plot, name_at, Points, IsPlotted, IsThing, AreRooms}
 use Rattle.heap_world.proofs.Updates.{updated, updated_same, updated_else}
 use Rattle.heap_world.proofs.Keeping.{points_stay}
 
@@ -51,7 +51,7 @@ piece_cases block at new a b is = ⊎_elim
 pub object_reads : (heap after : ℕ → ℕ) (block more : Plot) (a refs nums : ℕ) (name : Name) (o : Object)
     → ((k : ℕ) → k < 3 + refs + nums → after (a + k) ≡ heap (a + k))
     → ((b : ℕ) (n : Name) → name_at (block b) ≡ Some n → name_at (more b) ≡ Some n)
-    → IsObject heap block a refs nums name o → IsObject after more a refs nums name o
+    → IsThing heap block a refs nums name o → IsThing after more a refs nums name o
 object_reads heap after block more a refs nums name o kept names is = record {
   header = ap after (omega arith) ∙ kept 0 (omega arith) ∙ ap heap (omega arith) ∙ is.header;
   shape = kept 1 (omega arith) ∙ is.shape;

@@ -1,13 +1,13 @@
 -- What it means that the words of a heap stand for a graph.
-use Rattle.std.specs.Prelude.{ℕ, ◌≡◌, ◌+◌, ◌<◌, ◌≤◌, ◌^◌, length, Option, Some, None, slice_get}
+use Rattle.std.specs.Prelude.{ℕ, ◌≡◌, ◌+◌, ◌<◌, ◌≤◌, ◌^◌, Option, Some, None}
 use Rattle.heap_words.specs.declared.config.Config.{Config}
 use Rattle.heap_words.specs.Words.{Word, Phase, Cset, Free, Evac, Top, Current, Wait, Answer, Heap}
 use Rattle.heap_words.specs.Ranges.{seat_count}
-use Rattle.heap_words.specs.Encoding.{plain_header, shape_word, name_code}
 use Rattle.regions.specs.Place.{base_of}
 use Rattle.regions.specs.Sets.{IsIn}
 use Rattle.shen_graph.specs.declared.name.Name.{Name}
 use Rattle.shen_graph.specs.Graph.{Reference, Object, Graph}
+use Rattle.heap_world.specs.Objects.{Refers, IsObject}
 
 -- A piece of the part of a region that is in use: an object of a name, with so many references and numbers, or so many
 -- words that a machine has in hand.
@@ -36,10 +36,9 @@ name_at (Some (thing name refs nums)) = Some name
 name_at (Some (hand seat words)) = None
 name_at None = None
 
--- a word stands for a reference: 0 for null, and else an address that stands for its object
+-- a word stands for a reference where objects stand so
 abbrev pub Points : Plot → ℕ → Reference → Type 0
-Points block word None = word ≡ 0
-Points block word (Some name) = name_at (block word) ≡ Some name
+Points block word reference = Refers (λ a. name_at (block a)) word reference
 
 -- the object's current copy, with so many references and numbers, is at the address
 pub record Target (w : World) (address refs nums : ℕ) (name : Name) : Type 0 where
@@ -64,17 +63,9 @@ pub record IsFilled (c : Config) (top : ℕ → ℕ) (block : Plot) : Type 0 whe
   pub next : (r a : ℕ) (x : Block) → r < c.regions → base_of c r ≤ a → block a ≡ Some x → a + words_of x < base_of c r + top r
       → (b : Block) × (block (a + words_of x) ≡ Some b)
 
--- the words of an object are those of the graph's object: its references stand for its references, and its numbers are its numbers
-pub record IsObject (heap : ℕ → ℕ) (block : Plot) (address refs nums : ℕ) (name : Name) (object : Object) : Type 0 where
-  pub header : heap address ≡ plain_header
-  pub shape : heap (address + 1) ≡ shape_word refs nums
-  pub name_word : heap (address + 2) ≡ name_code name.thread name.count
-  pub few_refs : refs ≤ 16
-  pub few_nums : nums ≤ 16
-  pub refs_are : length object.refs ≡ refs
-  pub nums_are : length object.nums ≡ nums
-  pub references : (i : ℕ) (reference : Reference) → slice_get object.refs i ≡ Some reference → Points block (heap (address + 3 + i)) reference
-  pub numbers : (i n : ℕ) → slice_get object.nums i ≡ Some n → heap (address + 3 + refs + i) ≡ n
+-- the words from an address on are the object of the graph, where objects stand so
+abbrev pub IsThing : (ℕ → ℕ) → Plot → ℕ → ℕ → ℕ → Name → Object → Type 0
+IsThing heap block address refs nums name object = IsObject heap (λ a. name_at (block a)) address refs nums name object
 
 -- a name is one that a thread has given: the hub's, or of a mutator and of a count that it has reached
 pub record IsGiven (c : Config) (count : ℕ → ℕ) (name : Name) : Type 0 where
@@ -86,7 +77,7 @@ pub record IsGiven (c : Config) (count : ℕ → ℕ) (name : Name) : Type 0 whe
 -- each piece that is an object is one of the graph, and no two have one name
 pub record AreObjects (heap : ℕ → ℕ) (block : Plot) (object : Name → Option Object) : Type 0 where
   pub each : (a refs nums : ℕ) (name : Name) → block a ≡ Some (thing name refs nums)
-      → (o : Object) × (object name ≡ Some o) × IsObject heap block a refs nums name o
+      → (o : Object) × (object name ≡ Some o) × IsThing heap block a refs nums name o
   pub once : (a b refs nums more_refs more_nums : ℕ) (name : Name) → block a ≡ Some (thing name refs nums)
       → block b ≡ Some (thing name more_refs more_nums) → a ≡ b
 

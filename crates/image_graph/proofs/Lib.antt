@@ -1,4 +1,6 @@
 pub mod Steps
 pub mod Room
 pub mod Turns
+pub mod Blank
+pub mod Empty
 pub mod Packed

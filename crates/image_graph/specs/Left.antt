@@ -1,13 +1,23 @@
--- Which requests are left when all threads had their turn.
+-- What serving leaves of requests, and of the graph.
 use Rattle.std.specs.Prelude.{ℕ, ◌≢◌, ◌<◌}
 use Rattle.heap_words.specs.declared.config.Config.{Config}
 use Rattle.heap_words.specs.Words.{Word, Wait}
 use Rattle.packing.specs.Rooms.{HasNoRoom}
 use Rattle.image_laws.specs.Full.{asked_in}
 use Rattle.image_laws.specs.Served.{tops_at_turn}
+use Rattle.shen_graph.specs.Graph.{Graph}
+use Rattle.heap_world.specs.World.{Plot}
+use Rattle.image_laws.specs.Promised.{Promises}
+use Rattle.image_laws.specs.Image.{ImageStands}
+use Rattle.image_laws.specs.Serving.{AreAsking, served_block, served_promises}
 
 -- a thread waits, and when its turn comes each region has less room than it asks for
 pub record IsLeft (c : Config) (memory : Word → ℕ) (t : ℕ) : Type 0 where
   pub below : t < c.mutators
   pub waits : memory (Wait t) ≢ 0
   pub no_room : HasNoRoom c.region_words (tops_at_turn c memory t) (asked_in memory t) c.regions
+
+-- the words stand for the same graph as before all threads had their turn, and the objects that were made are promised
+abbrev pub IsServedGraph : Config → (before after : Word → ℕ) → Type 0
+IsServedGraph c before after = (block : Plot) (g : Graph) (p : Promises) → ImageStands c before block g p → AreAsking c before g p 0
+    → ImageStands c after (served_block c before block c.mutators) g (served_promises c before p c.mutators)

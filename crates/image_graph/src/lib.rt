@@ -7,3 +7,6 @@ mod pack;
 mod serve;
 
 pub use image::Image;
+
+#[cfg(test)]
+mod tests;

@@ -5,14 +5,9 @@ ghost use Rattle.heap_words.specs.Words.{Cset, Top, Wait};
 ghost use Rattle.heap_words.specs.Encoding.{object_words, request_shape_in};
 ghost use Rattle.packing.specs.Rooms.{lowest_room, HasNoRoom};
 ghost use Rattle.image_laws.specs.Full.{made_in, served, served_in, room_for};
-ghost use Rattle.shen_graph.specs.Graph.{Graph};
-ghost use Rattle.heap_world.specs.World.{Plot};
-ghost use Rattle.image_laws.specs.Promised.{Promises};
-ghost use Rattle.image_laws.specs.Image.{ImageStands};
-ghost use Rattle.image_laws.specs.Serving.{AreAsking, served_block, served_promises};
 ghost use Rattle.image_graph.specs.State.{config_of, memory_of};
 ghost use Rattle.image_graph.specs.Holds.{HoldsSome};
-ghost use Rattle.image_graph.specs.Left.{IsLeft};
+ghost use Rattle.image_graph.specs.Left.{IsLeft, IsServedGraph};
 ghost use Rattle.image_graph.specs.Make.{cleared, AreInHeap, AreWithin};
 
 use crate::image::Image;
@@ -117,8 +112,7 @@ impl Image {
         requires calm { memory_of self.old Cset ≡ 0 }
         ensures config { config_of self.new ≡ config_of self.old }
         ensures words { memory_of self.new ≡ served (config_of self.old) (memory_of self.old) (config_of self.old).mutators }
-        ensures graph { (block : Plot) (g : Graph) (p : Promises) → ImageStands (config_of self.old) (memory_of self.old) block g p → AreAsking (config_of self.old) (memory_of self.old) g p 0
-            → ImageStands (config_of self.old) (memory_of self.new) (served_block (config_of self.old) (memory_of self.old) block (config_of self.old).mutators) g (served_promises (config_of self.old) (memory_of self.old) p (config_of self.old).mutators) }
+        ensures graph { IsServedGraph (config_of self.old) (memory_of self.old) (memory_of self.new) }
         ensures left { result ≡ false → (t : ℕ) × IsLeft (config_of self.old) (memory_of self.old) t }
         ensures served { result ≡ true → (t : ℕ) → IsLeft (config_of self.old) (memory_of self.old) t → ⊥ }
     {

@@ -14,7 +14,7 @@ use Rattle.regions.specs.Sets.{all_but}
 use Rattle.shen_graph.specs.declared.name.Name.{Name}
 use Rattle.shen_graph.specs.Graph.{Graph, Object, Reference, blank, same_name, same_reference}
 use Rattle.shen_graph.proofs.PlainLemmas.{same_name-true, same_name-itself}
-use Rattle.heap_world.specs.World.{Block, thing, hand, words_of, Plot, name_at, Points, IsObject, AreObjects, IsFreeWord}
+use Rattle.heap_world.specs.World.{Block, thing, hand, words_of, Plot, name_at, Points, IsThing, AreObjects, IsFreeWord}
 use Rattle.heap_world.proofs.Updates.{updated, updated_else, updated_there}
 use Rattle.heap_world.proofs.Keeping.{points_stay}
 use Rattle.heap_world.proofs.Pieces.{beside, piece_cases, object_reads}
@@ -78,7 +78,7 @@ differ a b other = ⊎_elim (λ (is : same_name a b ≡ true). absurd (other (sa
 
 -- what the words at an address are as a piece
 abbrev PieceAt : (ℕ → ℕ) → Plot → (Name → Option Object) → ℕ → Block → Type 0
-PieceAt heap block object a (thing name refs nums) = (o : Object) × (object name ≡ Some o) × IsObject heap block a refs nums name o
+PieceAt heap block object a (thing name refs nums) = (o : Object) × (object name ≡ Some o) × IsThing heap block a refs nums name o
 PieceAt heap block object a (hand seat words) = Unit {0}
 
 module _ (c : Config) (m : Word → ℕ) (block : Plot) (g : Graph) (p : Promises) (stands : ImageStands c m block g p) (t r : ℕ) (inside : t < c.mutators)
@@ -181,7 +181,7 @@ module _ (c : Config) (m : Word → ℕ) (block : Plot) (g : Graph) (p : Promise
       (beside c top block stands.plotted r a b is))
 
   -- the new words are a blank object
-  new_words : IsObject (λ x. after (Heap x)) new_block address (refs_in (asked_shape m t)) (nums_in (asked_shape m t)) new (blank (refs_in (asked_shape m t)) (nums_in (asked_shape m t)))
+  new_words : IsThing (λ x. after (Heap x)) new_block address (refs_in (asked_shape m t)) (nums_in (asked_shape m t)) new (blank (refs_in (asked_shape m t)) (nums_in (asked_shape m t)))
   unfolding made_in
   new_words =
       let shape = asked_shape m t in

@@ -70,12 +70,16 @@ module _ (c : Config) (top heap : ℕ → ℕ) (block : Plot) (object : Name →
         (cases_lt a.0 b.0);
   }
 
+  -- where a kept object is placed, a piece stands
+  some_at : (a p : ℕ) → 0 < kept a → new_place w kept a ≡ p → (b : Block) × (new_block p ≡ Some b)
+  some_at a p some at =
+      let piece = can.things a some in
+      let there : new_block p ≡ block a = ap new_block (sym at) ∙ block_at c top heap block object now kept can a some in
+      (thing piece.0 piece.1 piece.2, there ∙ piece.3)
+
   pub slid_is_filled : IsFilled c new_top new_block
   slid_is_filled = record {
-    first = λ r inside some.
-        let a = first_is_at_base w kept lie r (heap_end c) some in
-        let piece = can.things a.0 a.1.1 in
-        (thing piece.0 piece.1 piece.2, ap new_block (sym a.1.2) ∙ block_at c top heap block object now kept can a.0 a.1.1 ∙ piece.3);
+    first = λ r inside some. (let a = first_is_at_base w kept lie r (heap_end c) some in some_at a.0 (base_of c r) a.1.1 a.1.2);
     next = λ r p x inside low is below.
         let a = from p x is in
         let most = top_within w kept lie r (heap_end c) in
@@ -84,7 +88,5 @@ module _ (c : Config) (top heap : ℕ → ℕ) (block : Plot) (object : Name →
         let back : (r + 1) * w + offset ≡ new_place w kept a.0 = omega (arith, low, a.3) in
         let here : new_place w kept a.0 / w ≡ r + 1 = ap (λ k. k / w) (sym back) ∙ div-mul-add (r + 1) w offset small in
         let b = next_is_behind w kept lie r a.0 (heap_end c) a.2 a.1 here (omega (arith, below, a.3, a.5)) in
-        let piece = can.things b.0 b.1.1 in
-        let there : new_place w kept b.0 ≡ p + words_of x = omega (arith, b.1.2, a.3, a.5) in
-        (thing piece.0 piece.1 piece.2, ap new_block (sym there) ∙ block_at c top heap block object now kept can b.0 b.1.1 ∙ piece.3);
+        some_at b.0 (p + words_of x) b.1.1 (omega (arith, b.1.2, a.3, a.5));
   }

@@ -8,7 +8,7 @@ use Rattle.packing.specs.Places.{new_place}
 use Rattle.sliding.specs.Slide.{renewed, placed_word, slid_word, IsSlidTo}
 use Rattle.shen_graph.specs.declared.name.Name.{Name}
 use Rattle.shen_graph.specs.Graph.{Object, Reference}
-use Rattle.heap_world.specs.World.{thing, Plot, name_at, Points, IsObject, AreObjects}
+use Rattle.heap_world.specs.World.{thing, Plot, name_at, Points, IsThing, AreObjects}
 use Rattle.image_laws.specs.Plot.{heap_end, packed_block}
 use Rattle.image_laws.specs.Pack.{CanPack}
 use Rattle.image_laws.proofs.Reached.{none_at_0, refs_read}
@@ -57,8 +57,8 @@ module _ (c : Config) (top heap : ℕ → ℕ) (block : Plot) (object : Name →
     word_at : (a i : ℕ) → 0 < kept a → i < kept a → after (new_place w kept a + i) ≡ slid_word renew heap a i
     word_at a i some within = let inside = kept_inside c top heap block object now kept can a some in slid_to.moved a i (omega (arith, inside.1, some)) within
 
-    object_slid : (a refs nums : ℕ) (name : Name) (o : Object) → 0 < kept a → kept a ≡ 3 + refs + nums → IsObject heap block a refs nums name o
-        → IsObject after new_block (new_place w kept a) refs nums name o
+    object_slid : (a refs nums : ℕ) (name : Name) (o : Object) → 0 < kept a → kept a ≡ 3 + refs + nums → IsThing heap block a refs nums name o
+        → IsThing after new_block (new_place w kept a) refs nums name o
     object_slid a refs nums name o some size is =
         let p = new_place w kept a in
         let shape : refs_in (heap (a + 1)) ≡ refs = ap refs_in is.shape ∙ refs_read refs nums is.few_refs is.few_nums in
@@ -93,7 +93,7 @@ module _ (c : Config) (top heap : ℕ → ℕ) (block : Plot) (object : Name →
       each = λ p refs nums name is.
           let a = block_from c top heap block object now kept can p (thing name refs nums) is in
           let o = can.each a.0 refs nums name a.1 a.4 in
-          (o.0, o.1, subst (λ k. IsObject after new_block k refs nums name o.0) a.3 (object_slid a.0 refs nums name o.0 a.1 (sym a.5) o.2));
+          (o.0, o.1, subst (λ k. IsThing after new_block k refs nums name o.0) a.3 (object_slid a.0 refs nums name o.0 a.1 (sym a.5) o.2));
       once = λ p q refs nums more_refs more_nums name is_p is_q.
           let a = block_from c top heap block object now kept can p (thing name refs nums) is_p in
           let b = block_from c top heap block object now kept can q (thing name more_refs more_nums) is_q in

@@ -5,7 +5,7 @@ use Rattle.heap_words.specs.Encoding.{refs_in, object_words}
 use Rattle.shen_graph.specs.declared.name.Name.{Name}
 use Rattle.shen_graph.specs.Graph.{Graph, Object}
 use Rattle.heap_graph.specs.Walk.{has, with_addresses}
-use Rattle.heap_world.specs.World.{Plot, thing, name_at, IsPlotted, IsObject}
+use Rattle.heap_world.specs.World.{Plot, thing, name_at, IsPlotted, IsThing}
 
 -- The addresses of the objects that some words lead to. `now` gives the address of an object's current copy.
 pub data IsHeld (now heap : ℕ → ℕ) (IsRoot : ℕ → Type 0) : ℕ → Type 0 where
@@ -42,7 +42,7 @@ pub record HoldsGraph (c : Config) (top heap : ℕ → ℕ) (block : Plot) (now 
   pub plotted : IsPlotted c top block
   pub current : (word : ℕ) (name : Name) → name_at (block word) ≡ Some name → IsCopy block (now word) name
   pub each : (a refs nums : ℕ) (name : Name) → IsHeld now heap IsRoot a → block a ≡ Some (thing name refs nums)
-      → (o : Object) × (g.object name ≡ Some o) × IsObject heap block a refs nums name o
+      → (o : Object) × (g.object name ≡ Some o) × IsThing heap block a refs nums name o
   pub once : (a b refs nums more_refs more_nums : ℕ) (name : Name) → IsHeld now heap IsRoot a → IsHeld now heap IsRoot b
       → block a ≡ Some (thing name refs nums) → block b ≡ Some (thing name more_refs more_nums) → a ≡ b
   pub root_named : (word : ℕ) → IsRoot word → word ≢ 0 → (t : ℕ) × (i : ℕ) × (name : Name) × (g.root t i ≡ Some name) × (name_at (block word) ≡ Some name)

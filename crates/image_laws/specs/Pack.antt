@@ -4,7 +4,7 @@ use Rattle.heap_words.specs.declared.config.Config.{Config}
 use Rattle.heap_words.specs.Encoding.{refs_in}
 use Rattle.shen_graph.specs.declared.name.Name.{Name}
 use Rattle.shen_graph.specs.Graph.{Object}
-use Rattle.heap_world.specs.World.{Plot, thing, name_at, IsPlotted, IsObject}
+use Rattle.heap_world.specs.World.{Plot, thing, name_at, IsPlotted, IsThing}
 use Rattle.image_laws.specs.Held.{IsCopy}
 
 -- Each kept address has an object of the graph of so many words, no two have one name, whatever stands for a name has its
@@ -13,7 +13,7 @@ pub record CanPack (c : Config) (top heap : ℕ → ℕ) (block : Plot) (object 
   pub plotted : IsPlotted c top block
   pub things : (a : ℕ) → 0 < kept a → (name : Name) × (refs : ℕ) × (nums : ℕ) × (block a ≡ Some (thing name refs nums)) × (kept a ≡ 3 + refs + nums)
   pub each : (a refs nums : ℕ) (name : Name) → 0 < kept a → block a ≡ Some (thing name refs nums)
-      → (o : Object) × (object name ≡ Some o) × IsObject heap block a refs nums name o
+      → (o : Object) × (object name ≡ Some o) × IsThing heap block a refs nums name o
   pub once : (a b refs nums more_refs more_nums : ℕ) (name : Name) → 0 < kept a → 0 < kept b
       → block a ≡ Some (thing name refs nums) → block b ≡ Some (thing name more_refs more_nums) → a ≡ b
   pub current : (word : ℕ) (name : Name) → name_at (block word) ≡ Some name → IsCopy block (now word) name

@@ -1,1 +1,4 @@
 pub mod Ready
+pub mod Done
+pub mod Orders
+pub mod Waits

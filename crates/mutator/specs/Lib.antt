@@ -3,3 +3,4 @@ pub mod Rows
 pub mod Told
 pub mod Fit
 pub mod Seen
+pub mod Waits

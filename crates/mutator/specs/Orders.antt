@@ -5,8 +5,8 @@ use Rattle.shen_graph.specs.declared.command.Command.{Command}
 use Rattle.shen_graph.specs.declared.command.Command.TheVariants.{New, Get, Set, Cas, Xchg, Rd, Wr, Copy, Drop, Same, Gc}
 use Rattle.mutator.specs.declared.spot.Spot.{Spot}
 use Rattle.mutator.specs.declared.spot.Spot.TheVariants.{Rest, Ended}
-use Rattle.mutator.specs.declared.spot.Order.{Order}
-use Rattle.mutator.specs.declared.spot.Order.TheVariants.{Nothing, Begin}
+use Rattle.shen_graph.specs.declared.order.Order.{Order}
+use Rattle.shen_graph.specs.declared.order.Order.TheVariants.{Nothing, Begin}
 
 -- whether a number is that of a root
 abbrev pub is_root : ℕ → Bool
@@ -35,16 +35,20 @@ is_valid (Same a b) = is_root a && is_root b
 is_valid Gc = true
 
 -- whether no call is in progress
-abbrev pub is_at_rest : Spot → Bool
-is_at_rest Rest = true
-is_at_rest (Ended reply) = true
-is_at_rest _ = false
+abbrev pub is_between_calls : Spot → Bool
+is_between_calls Rest = true
+is_between_calls (Ended reply) = true
+is_between_calls _ = false
+
+-- Whether a mutator may be given a command. In a heap that does not collect that is wherever no call is in progress.
+abbrev pub takes_commands : Spot → Bool
+takes_commands spot = is_between_calls spot
 
 -- whether a mutator that has made so many objects may be given the command
 abbrev pub is_next : ℕ → Command → Bool
 is_next made command = is_valid command && nat_lt made 4294967295
 
--- whether it takes the order: between two calls a command, and in a call none
+-- whether it makes a step under the order: where it takes commands under a command, and in a call under none
 abbrev pub takes_at : Spot → ℕ → Order → Bool
 takes_at Rest made (Begin command) = is_next made command
 takes_at Rest made Nothing = false
@@ -53,7 +57,7 @@ takes_at (Ended reply) made Nothing = false
 takes_at _ made Nothing = true
 takes_at _ made (Begin command) = false
 
--- whether an order may stand between two calls: none, or a command that is taken
+-- whether an order may stand: none, or a command that is taken
 abbrev pub is_pending : Spot → ℕ → Order → Bool
 is_pending spot made Nothing = true
-is_pending spot made (Begin command) = is_at_rest spot && is_next made command
+is_pending spot made (Begin command) = takes_commands spot && is_next made command

@@ -21,8 +21,8 @@ use Rattle.shen_graph.specs.declared.command.Reply.TheVariants as reply
 use Rattle.shen_graph.specs.Step.{yes_or_no}
 use Rattle.mutator.specs.declared.spot.Spot.{Spot}
 use Rattle.mutator.specs.declared.spot.Spot.TheVariants.{Rest, Ended, LoadSet, LoadRoot, LoadSecond, LoadThird, LoadShape, LoadField, LoadExpected, StoreField, SwapField, ExchangeField, LoadNumber, StoreNumber, LoadName, StoreLoaded, StoreRoot, Taking, StoreWord, StoreFresh, AskCycle, Leave}
-use Rattle.mutator.specs.declared.spot.Order.{Order}
-use Rattle.mutator.specs.declared.spot.Order.TheVariants.{Nothing, Begin}
+use Rattle.shen_graph.specs.declared.order.Order.{Order}
+use Rattle.shen_graph.specs.declared.order.Order.TheVariants.{Nothing, Begin}
 
 -- A mutator between two accesses: its number, how many objects it has made, the phase and the collection set that it
 -- loaded for its call, and where it stands.

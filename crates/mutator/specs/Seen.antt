@@ -1,10 +1,10 @@
 -- What the events see of a mutator.
-use Rattle.std.specs.Prelude.{Bool, true, false, ◌&&◌}
+use Rattle.std.specs.Prelude.{Bool, ◌&&◌}
 use Rattle.heap_words.specs.declared.config.Config.{Config}
 use Rattle.mutator.specs.declared.thread.Mutator.{Mutator}
-use Rattle.mutator.specs.declared.spot.Order.{Order}
-use Rattle.mutator.specs.declared.spot.Order.TheVariants.{Nothing, Begin}
-use Rattle.mutator.specs.Orders.{is_at_rest}
+use Rattle.shen_graph.specs.declared.order.Order.{Order}
+use Rattle.shen_graph.specs.Order.{is_nothing}
+use Rattle.mutator.specs.Orders.{is_between_calls}
 use Rattle.mutator.specs.Rows.{Mutating}
 
 -- all but its configuration and the order that it was given
@@ -19,10 +19,6 @@ config_of m = m.config
 abbrev pub order_of : Mutator → Order
 order_of m = m.order
 
-abbrev pub is_nothing : Order → Bool
-is_nothing Nothing = true
-is_nothing (Begin command) = false
-
 -- neither a call is in progress nor one to begin
 abbrev pub is_idle : Mutator → Bool
-is_idle m = is_at_rest m.spot && is_nothing m.order
+is_idle m = is_between_calls m.spot && is_nothing m.order

@@ -7,5 +7,5 @@ mod body;
 mod spot;
 mod thread;
 
-pub use spot::{Order, Spot};
+pub use spot::Spot;
 pub use thread::Mutator;

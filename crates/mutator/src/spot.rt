@@ -188,12 +188,3 @@ pub enum Spot {
         reply: Reply,
     },
 }
-
-/// What a mutator between two calls is to do next.
-#[derive(Clone, Copy, Debug, PartialEq, Eq)]
-pub enum Order {
-    /// Nothing: it goes on with its call, or rests.
-    Nothing,
-    /// It begins this command.
-    Begin(Command),
-}

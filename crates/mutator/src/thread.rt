@@ -6,10 +6,10 @@ use crate::body::{
     after_expected, after_field, after_root, after_roots, after_second, after_shape, after_take,
     after_word, first_root, first_spot, fresh_word, name_in, second_root, take_says, third_root,
 };
-use crate::spot::{Order, Spot};
+use crate::spot::Spot;
 use alloc_buffers::{Kind, TakeSpot};
 use heap_words::{Access, Config, Place, Took};
-use shen_graph::{Command, Name, Reply};
+use shen_graph::{Command, Name, Order, Reply};
 
 /// A mutator thread: it makes calls one after the other, each in steps of one access.
 #[derive(Debug, Drop)]
@@ -32,9 +32,10 @@ impl Mutator {
     ghost use Rattle.heap_words.specs.Access.{place_of};
     ghost use Rattle.heap_words.specs.Words.{Root, Heap, is_word, word_at, table_words};
     ghost use Rattle.steps_base.specs.Touch.{placed};
-    ghost use Rattle.mutator.specs.Orders.{is_at_rest, takes_at};
+    ghost use Rattle.mutator.specs.Orders.{is_between_calls, takes_commands, takes_at};
     ghost use Rattle.mutator.specs.Rows.{fresh_mutator, place_at, touch_of, next_of, answer_at, reply_at};
     ghost use Rattle.mutator.specs.Fit.{IsFit};
+    ghost use Rattle.mutator.specs.Waits.{WaitsAt};
     ghost use Rattle.mutator.specs.Seen.{seen, config_of, order_of, is_idle};
 
     /// A mutator, counted from 0, that has not begun a call.
@@ -57,7 +58,7 @@ impl Mutator {
 
     /// Orders the command, which the mutator's next step begins.
     pub fn begin(&mut self, command: Command)
-        requires rest { is_at_rest (seen self.old).spot ≡ true }
+        requires rest { takes_commands (seen self.old).spot ≡ true }
         requires valid { IsValid command }
         requires made { (seen self.old).made < 4294967295 }
         ensures order { order_of self.new ≡ Order.Begin command }
@@ -81,7 +82,7 @@ impl Mutator {
 
     /// Whether no call is in progress.
     pub fn is_resting(&self) -> bool
-        ensures { result ≡ is_at_rest (seen self.now).spot }
+        ensures { result ≡ is_between_calls (seen self.now).spot }
     {
         matches!(self.spot, Spot::Rest | Spot::Ended { .. })
     }
@@ -255,6 +256,11 @@ impl Mutator {
         ensures order { order_of self.new ≡ Order.Nothing }
         ensures config { config_of self.new ≡ config_of self.old }
         ensures answer { result ≡ answer_at (config_of self.old) (seen self.old).spot got }
+
+        // A call ends exactly where the mutator leaves, and its reply is there then.
+        ensures done { (result ≡ Took.Done) ↔ (place_at (seen self.old).spot ≡ Place.LV) }
+        ensures replied { result ≡ Took.Done → reply_at (seen self.new).spot ≢ None }
+        ensures again { (result ≡ Took.Again) ↔ WaitsAt (config_of self.old) (seen self.old).spot got }
     {
         let order = self.order;
         self.order = Order::Nothing;

@@ -16,11 +16,12 @@ use Rattle.shen_graph.specs.declared.command.Reply.{Reply}
 use Rattle.shen_graph.specs.History.{Entry, commands_of}
 use Rattle.mutator.specs.declared.spot.Spot.{Spot}
 use Rattle.mutator.specs.declared.spot.Spot.TheVariants.{Leave}
-use Rattle.mutator.specs.declared.spot.Order.{Order}
-use Rattle.mutator.specs.declared.spot.Order.TheVariants.{Nothing, Begin}
-use Rattle.mutator.specs.Orders.{is_at_rest}
+use Rattle.shen_graph.specs.declared.order.Order.{Order}
+use Rattle.shen_graph.specs.declared.order.Order.TheVariants.{Nothing, Begin}
+use Rattle.mutator.specs.Orders.{is_between_calls}
 use Rattle.mutator.specs.Rows.{Mutating, fresh_mutator, given_at, next_at, next_of}
-use Rattle.step_core.specs.Actor.{Machine, mutating, helping, controlling, Actor, entries_of, command_by, took_of, kind}
+use Rattle.step_core.specs.Actor.{Machine, mutating, fresh_helper, fresh_control, Actor, entries_of, command_by}
+use Rattle.step_core.specs.Machines.{took_of, kind}
 use Rattle.step_core.specs.Opening.{opening_actor, opening}
 use Rattle.step_core.specs.Schedule.{Scripts, script_of, order_on_turn, turn, Agenda, scheduled}
 use Rattle.shen_core.specs.Runs.{event}
@@ -34,7 +35,7 @@ use Rattle.shen_core.proofs.Keeps.{schedule_keeps}
 -- The commands of the calls are the first of the script, and one that is in progress is the next.
 record AreFirst (script : List Command) (a : Actor) (spot : Spot) : Type 0 where
   pub done : commands_of a.calls ≡ take (length a.calls) script
-  pub doing : is_at_rest spot ≡ false → slice_get script (length a.calls) ≡ Some a.command
+  pub doing : is_between_calls spot ≡ false → slice_get script (length a.calls) ≡ Some a.command
 
 -- the first elements and the next are one more
 take_next : {A : Type 0} (xs : List A) (n : ℕ) (x : A) → slice_get xs n ≡ Some x → take n xs ++ x ∷ [] ≡ take (n + 1) xs
@@ -50,13 +51,13 @@ given_leaves _ reply e = absurd cc
 -- after its turn a mutator's command is the next of its script
 order_of_turn : (scripts : Scripts) (t : ℕ) (a : Actor) (m : Mutating) (order : Order) → order_on_turn scripts t a (mutating m) ≡ Some order → AreFirst (script_of scripts t) a m.spot
     → slice_get (script_of scripts t) (length a.calls) ≡ Some (command_by order a.command)
-order_of_turn scripts t a m order e first = by_rest (is_at_rest m.spot) refl e
+order_of_turn scripts t a m order e first = by_rest (is_between_calls m.spot) refl e
   where
     begun : (o : Option Command) → option_map (λ command. Begin command) o ≡ Some order → o ≡ Some (command_by order a.command)
     begun None is = absurd cc
     begun (Some k) is = ap (λ (x : Order). Some (command_by x a.command)) (same_Some (Begin k) order is)
 
-    by_rest : (b : Bool) → is_at_rest m.spot ≡ b → (if b then option_map (λ command. Begin command) (slice_get (script_of scripts t) (length a.calls)) else Some Nothing) ≡ Some order
+    by_rest : (b : Bool) → is_between_calls m.spot ≡ b → (if b then option_map (λ command. Begin command) (slice_get (script_of scripts t) (length a.calls)) else Some Nothing) ≡ Some order
         → slice_get (script_of scripts t) (length a.calls) ≡ Some (command_by order a.command)
     by_rest true rest is = begun (slice_get (script_of scripts t) (length a.calls)) is
     by_rest false busy is = first.doing busy ∙ ap (λ (x : Order). Some (command_by x a.command)) (same_Some Nothing order is)
@@ -66,11 +67,11 @@ took_first : (c : Config) (script : List Command) (a : Actor) (m : Mutating) (or
     → AreFirst script (took_of c a order got (mutating m)) (next_of c m order got).spot
 took_first c script a m order got first now = by_given (given_at m.spot) refl
   where
-    leaves : (r : Reply) → m.spot ≡ Leave r → is_at_rest (next_of c m order got).spot ≡ true
-    leaves r is = ap (λ (spot : Spot). is_at_rest (next_at c m order got spot).spot) is
+    leaves : (r : Reply) → m.spot ≡ Leave r → is_between_calls (next_of c m order got).spot ≡ true
+    leaves r is = ap (λ (spot : Spot). is_between_calls (next_at c m order got spot).spot) is
 
-    busy_at : (r : Reply) → m.spot ≡ Leave r → is_at_rest m.spot ≡ false
-    busy_at r is = ap is_at_rest is
+    busy_at : (r : Reply) → m.spot ≡ Leave r → is_between_calls m.spot ≡ false
+    busy_at r is = ap is_between_calls is
 
     by_given : (o : Option Reply) → given_at m.spot ≡ o → AreFirst script (record { machine = mutating (next_of c m order got); command = command_by order a.command; calls = a.calls ++ entries_of m.seat a.command o }) (next_of c m order got).spot
     by_given None none = record {
@@ -145,7 +146,7 @@ all_call_first c scripts t below = record {
   is = record {
     here = slice_get-get_or (opening c).machines t (opening_actor c t) (let long = length-map-range_with_len (opening_actor c) 0 (seat_count c.mutators c.helpers) in omega arith)
         ∙ ap (λ a. Some a) (get_or-map-range_with_len (opening_actor c) 0 (seat_count c.mutators c.helpers) t t (opening_actor c t) (omega arith) (omega arith));
-    is = ap (λ b. if b then mutating (fresh_mutator t) else (if nat_lt t (c.mutators + c.helpers) then helping else controlling)) (lt-ltb t c.mutators below);
+    is = ap (λ b. if b then mutating (fresh_mutator t) else (if nat_lt t (c.mutators + c.helpers) then fresh_helper else fresh_control)) (lt-ltb t c.mutators below);
   };
   done = refl;
   doing = λ busy. absurd (false≢true (sym busy));
@@ -155,7 +156,7 @@ all_call_first c scripts t below = record {
 
 -- a mutator without a turn has called its whole script
 idle_has_called : (scripts : Scripts) (s : Stage Actor) (t : ℕ) → CallsScript scripts s t → turn scripts s t ≡ None → HasCalled scripts s t
-idle_has_called scripts s t calls idle = by_rest (is_at_rest calls.mutator.spot) refl
+idle_has_called scripts s t calls idle = by_rest (is_between_calls calls.mutator.spot) refl
     (nothing_of (λ order. event t order) (order_on_turn scripts t calls.actor (mutating calls.mutator)) (sym (actor_turn scripts s t calls.actor (mutating calls.mutator) calls.is.here calls.is.is) ∙ idle))
   where
     nothing_of : {A B : Type 0} (f : A → B) (o : Option A) → option_map f o ≡ None → o ≡ None
@@ -168,7 +169,7 @@ idle_has_called scripts s t calls idle = by_rest (is_at_rest calls.mutator.spot)
     past_end (x ∷ xs) zero e = absurd cc
     past_end (x ∷ xs) (suc n) e = ap (λ ys. x ∷ ys) (past_end xs n e)
 
-    by_rest : (b : Bool) → is_at_rest calls.mutator.spot ≡ b → ◌≡◌ {A = Option Order} (if b then option_map (λ command. Begin command) (slice_get (script_of scripts t) (length calls.actor.calls)) else Some Nothing) None → HasCalled scripts s t
+    by_rest : (b : Bool) → is_between_calls calls.mutator.spot ≡ b → ◌≡◌ {A = Option Order} (if b then option_map (λ command. Begin command) (slice_get (script_of scripts t) (length calls.actor.calls)) else Some Nothing) None → HasCalled scripts s t
     by_rest true rest none = record {
       actor = calls.actor;
       mutator = calls.mutator;

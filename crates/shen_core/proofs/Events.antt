@@ -12,10 +12,11 @@ use Rattle.steps_base.proofs.Runs.{go-step}
 use Rattle.steps_base.proofs.Laws.{act-event}
 use Rattle.shen_graph.specs.declared.command.Command.{Command}
 use Rattle.shen_graph.specs.History.{Entry}
-use Rattle.mutator.specs.declared.spot.Order.{Order}
+use Rattle.shen_graph.specs.declared.order.Order.{Order}
 use Rattle.mutator.specs.Orders.{takes_at}
 use Rattle.mutator.specs.Rows.{Mutating, touch_of, next_of}
-use Rattle.step_core.specs.Actor.{Machine, mutating, Actor, takes_of, kind}
+use Rattle.step_core.specs.Actor.{Machine, mutating, Actor}
+use Rattle.step_core.specs.Machines.{takes_of, kind}
 use Rattle.shen_core.specs.Runs.{Shows, event, IsOneEvent}
 
 -- where a map of an option is a value, there is one before it

@@ -13,14 +13,14 @@ use Rattle.heap_words.specs.Ranges.{seat_count}
 use Rattle.shen_graph.specs.declared.command.Command.{Command}
 use Rattle.shen_graph.specs.Valid.{IsValid}
 use Rattle.shen_graph.specs.Work as work
-use Rattle.mutator.specs.declared.spot.Order.TheVariants.{Nothing}
+use Rattle.shen_graph.specs.declared.order.Order.TheVariants.{Nothing}
 use Rattle.mutator.specs.Rows.{fresh_mutator}
-use Rattle.step_core.specs.Actor.{Machine, mutating, helping, controlling}
+use Rattle.step_core.specs.Actor.{Machine, mutating, fresh_helper, fresh_control}
 use Rattle.step_core.specs.Opening.{opening_machine, opening_actor, opening}
 use Rattle.step_core.specs.Schedule.{Scripts, script_of}
 use Rattle.shen_core.specs.declared.plain.Plain.{Plain}
 use Rattle.shen_core.specs.State.{config_of, orders_of, machines_of, Shows}
-use Rattle.shen_core.specs.Answer.{is_resting, made_of_machine}
+use Rattle.step_core.specs.Machines.{is_resting, made_of_machine}
 use Rattle.shen_core.specs.Progress.{CanRun, Tells, IsRunnable}
 use Rattle.std.proofs.lemmas.Simd.{map-map}
 
@@ -36,29 +36,29 @@ unfolding opening
 machines_first c machines is = sym is ∙ map-map (λ a. a.machine) (opening_actor c) (range_with_len 0 (seat_count c.mutators c.helpers))
 
 -- no machine of the opening has made an object
-made_none : (c : Config) (k : ℕ) (a b : Bool) → made_of_machine (if a then mutating (fresh_mutator k) else (if b then helping else controlling)) ≡ 0
+made_none : (c : Config) (k : ℕ) (a b : Bool) → made_of_machine (if a then mutating (fresh_mutator k) else (if b then fresh_helper else fresh_control)) ≡ 0
 made_none c k true b = refl
 made_none c k false true = refl
 made_none c k false false = refl
 
 -- a machine is that of the opening
-machine_first : (c : Config) (machines : List Machine) (k : ℕ) → map (λ a. a.machine) (opening c).machines ≡ machines → k < seat_count c.mutators c.helpers → get_or machines k controlling ≡ opening_machine c k
-machine_first c machines k is below = ap (λ ms. get_or ms k controlling) (machines_first c machines is) ∙ get_or-map-range_with_len (opening_machine c) 0 (seat_count c.mutators c.helpers) k k controlling below (omega arith)
+machine_first : (c : Config) (machines : List Machine) (k : ℕ) → map (λ a. a.machine) (opening c).machines ≡ machines → k < seat_count c.mutators c.helpers → get_or machines k fresh_control ≡ opening_machine c k
+machine_first c machines k is below = ap (λ ms. get_or ms k fresh_control) (machines_first c machines is) ∙ get_or-map-range_with_len (opening_machine c) 0 (seat_count c.mutators c.helpers) k k fresh_control below (omega arith)
 
 -- it has made no object
-made_first : (c : Config) (machines : List Machine) (k : ℕ) → map (λ a. a.machine) (opening c).machines ≡ machines → made_of_machine (get_or machines k controlling) ≡ 0
+pub made_first : (c : Config) (machines : List Machine) (k : ℕ) → map (λ a. a.machine) (opening c).machines ≡ machines → made_of_machine (get_or machines k fresh_control) ≡ 0
 made_first c machines k is = ⊎_elim
     (λ (below : k < seat_count c.mutators c.helpers). ap made_of_machine (machine_first c machines k is below) ∙ made_none c k (nat_lt k c.mutators) (nat_lt k (c.mutators + c.helpers)))
     (λ (past : seat_count c.mutators c.helpers ≤ k).
-    ap (λ ms. made_of_machine (get_or ms k controlling)) (machines_first c machines is)
-    ∙ ap made_of_machine (get_or_past _ k controlling (let count = length-map-range_with_len (opening_machine c) 0 (seat_count c.mutators c.helpers) in omega arith)))
+    ap (λ ms. made_of_machine (get_or ms k fresh_control)) (machines_first c machines is)
+    ∙ ap made_of_machine (get_or_past _ k fresh_control (let count = length-map-range_with_len (opening_machine c) 0 (seat_count c.mutators c.helpers) in omega arith)))
     (cases_lt k (seat_count c.mutators c.helpers))
 
 -- a mutator rests
-rests_first : (c : Config) (machines : List Machine) (t : ℕ) → map (λ a. a.machine) (opening c).machines ≡ machines → t < c.mutators → is_resting (get_or machines t controlling) ≡ true
+pub rests_first : (c : Config) (machines : List Machine) (t : ℕ) → map (λ a. a.machine) (opening c).machines ≡ machines → t < c.mutators → is_resting (get_or machines t fresh_control) ≡ true
 rests_first c machines t is below =
     ap is_resting (machine_first c machines t is (omega arith))
-    ∙ ap (λ b. is_resting (if b then mutating (fresh_mutator t) else (if nat_lt t (c.mutators + c.helpers) then helping else controlling))) (lt-ltb t c.mutators below)
+    ∙ ap (λ b. is_resting (if b then mutating (fresh_mutator t) else (if nat_lt t (c.mutators + c.helpers) then fresh_helper else fresh_control))) (lt-ltb t c.mutators below)
 
 -- a heap that was just opened can run scripts of commands that can be given
 pub can_run_first : (p : Plain) (scripts : Scripts) → Shows p (opening (config_of p)) → All (λ order. order ≡ Nothing) (orders_of p) → (config_of p).mutators ≡ length scripts → length scripts ≤ 8 → All IsRunnable scripts → CanRun p (work.opened scripts)

@@ -5,8 +5,9 @@ use Rattle.std.proofs.lemmas.Option.{same_Some}
 use Rattle.heap_words.specs.declared.config.Config.{Config}
 use Rattle.steps_base.specs.Steps.{Stage, Event, act, go}
 use Rattle.steps_base.proofs.Runs.{go-none, go-first}
-use Rattle.mutator.specs.declared.spot.Order.{Order}
-use Rattle.step_core.specs.Actor.{Actor, kind}
+use Rattle.shen_graph.specs.declared.order.Order.{Order}
+use Rattle.step_core.specs.Actor.{Actor}
+use Rattle.step_core.specs.Machines.{kind}
 use Rattle.step_core.specs.Schedule.{Scripts, turn, stands_at, given, Task, steps, until, replies, control, Move, moves, move_of, or_else, first_turn, numbers_from, Agenda, Next, round_of, after_move, next_by, next, and_then, scheduled}
 
 -- a move has the event that it is of

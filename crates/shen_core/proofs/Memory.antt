@@ -3,18 +3,18 @@ use Rattle.std.proofs.Common.{◌≡◌, ◌<◌, ℕ, true, List, [], ◌∷◌
 use Rattle.std.specs.Prelude.{slice_get, slice_set, slice_index, slice_index_or}
 use Rattle.std.specs.Option.{option_map}
 use Rattle.std.proofs.lemmas.Option.{slice_get-map, slice_get_read, slice_get_within, get_or_from_slice_get}
-use Rattle.std.proofs.lemmas.List.{set-get_or}
+use Rattle.std.proofs.lemmas.List.{set-get_or, map-set}
 use Rattle.std.proofs.lemmas.List.Elements.{All-set}
-use Rattle.std.proofs.lemmas.List.{map-set}
 use Rattle.heap_words.specs.declared.config.Config.{Config}
 use Rattle.heap_words.specs.Access.{place_of}
 use Rattle.mutator.specs.declared.thread.Mutator.{Mutator}
-use Rattle.mutator.specs.declared.spot.Order.{Order}
-use Rattle.mutator.specs.declared.spot.Order.TheVariants.{Nothing}
+use Rattle.shen_graph.specs.declared.order.Order.{Order}
+use Rattle.shen_graph.specs.declared.order.Order.TheVariants.{Nothing}
 use Rattle.mutator.specs.Orders.{takes_at}
 use Rattle.mutator.specs.Rows.{next_of}
 use Rattle.mutator.specs.Seen.{seen, order_of, config_of}
 use Rattle.step_core.specs.Actor as actors
+use Rattle.step_core.specs.Machines.{takes_of}
 use Rattle.step_core.specs.Opening.{opening}
 use Rattle.shen_core.specs.declared.machine.Machine.{Machine}
 use Rattle.shen_core.specs.declared.machine.Machine.TheVariants as machine
@@ -94,12 +94,20 @@ module _ (config : Config) (words new_words : List ℕ) (machines : List Machine
   made_heap same one_heap = All-set (λ y. heap_of config y ≡ config) machines number (machine.Mutator n) (same ∙ made.heap) one_heap
 
 -- the machine of a number, in memory
-pub machine_here : (machines : List Machine) (number : ℕ) (m : Mutator) → slice_get machines number ≡ Some (machine.Mutator m) → slice_index_or (map shown machines) number actors.controlling ≡ actors.mutating (seen m)
-machine_here machines number m here = get_or_from_slice_get (map shown machines) number (actors.mutating (seen m)) actors.controlling (shown_here machines number m here)
+pub machine_here : (machines : List Machine) (number : ℕ) (m : Mutator) → slice_get machines number ≡ Some (machine.Mutator m) → slice_index_or (map shown machines) number actors.fresh_control ≡ actors.mutating (seen m)
+machine_here machines number m here = get_or_from_slice_get (map shown machines) number (actors.mutating (seen m)) actors.fresh_control (shown_here machines number m here)
+
+-- it has a turn
+pub turn_here : (machines : List Machine) (number : ℕ) (m : Mutator) → slice_get machines number ≡ Some (machine.Mutator m) → takes_at (seen m).spot (seen m).made (order_of m) ≡ true
+    → takes_of (slice_index_or (map shown machines) number actors.fresh_control) (slice_index_or (map order_of_machine machines) number Nothing) ≡ true
+turn_here machines number m here takes =
+    ap (λ x. takes_of x (slice_index_or (map order_of_machine machines) number Nothing)) (machine_here machines number m here)
+    ∙ ap (λ order. takes_at (seen m).spot (seen m).made order) (order_here machines number m here)
+    ∙ takes
 
 -- all that holds of the machines after the step
 pub made_machines : (config : Config) (words new_words : List ℕ) (machines : List Machine) (number : ℕ) (m n : Mutator) → IsMade config words new_words machines number m n
-    → map shown (slice_set machines number (machine.Mutator n)) ≡ slice_set (map shown machines) number (next_by config words (slice_index_or (map order_of_machine machines) number Nothing) (slice_index_or (map shown machines) number actors.controlling))
+    → map shown (slice_set machines number (machine.Mutator n)) ≡ slice_set (map shown machines) number (next_by config words (slice_index_or (map order_of_machine machines) number Nothing) (slice_index_or (map shown machines) number actors.fresh_control))
 made_machines config words new_words machines number m n made =
     map-set shown machines number (machine.Mutator n)
     ∙ ap (λ x. slice_set (map shown machines) number x)

@@ -1,7 +1,7 @@
 -- After a turn: the machines, the orders and the work.
 use Rattle.std.proofs.Common.{◌≡◌, ◌≢◌, ◌<◌, ◌≤◌, ⊎_elim, ℕ, true, false, List, [], ◌∷◌, ◌++◌, length, get_or, map, All, Option, Some, None, refl, sym, ap, ◌∙◌, subst, arith}
-use Rattle.std.specs.Prelude.{◌+◌, ◌==◌, Bool, if◌then◌else◌, slice_get, slice_set, slice_index, IsSome, unwrap_or}
-use Rattle.std.proofs.lemmas.List.{length-append, map-append, get_or-set_same, get_or-set_other, get_or_past}
+use Rattle.std.specs.Prelude.{◌+◌, slice_get, slice_set, slice_index, IsSome, unwrap_or}
+use Rattle.std.proofs.lemmas.List.{length-append, map-append, get_or-set_same, get_or-set_other, get_or_past, append-nil, set-set}
 use Rattle.std.proofs.lemmas.List.Elements.{All-set}
 use Rattle.std.proofs.lemmas.Option.{same_Some}
 use Rattle.std.proofs.lemmas.Bool.{false≢true, cases_eq, cases_lt}
@@ -16,25 +16,23 @@ use Rattle.shen_graph.specs.declared.command.Command.{Command}
 use Rattle.shen_graph.specs.declared.command.Reply.{Reply}
 use Rattle.shen_graph.specs.Work as work
 use Rattle.mutator.specs.declared.spot.Spot.{Spot}
-use Rattle.alloc_buffers.specs.declared.spot.Taken.TheVariants.{At, NoRoom}
-use Rattle.alloc_buffers.specs.declared.spot.TakeSpot.{TakeSpot}
-use Rattle.alloc_buffers.specs.declared.spot.TakeSpot.TheVariants as take_spot
-use Rattle.mutator.specs.declared.spot.Spot.TheVariants.{Rest, ExchangeField, Taking, StoreFresh, Leave}
-use Rattle.mutator.specs.declared.spot.Order.{Order}
-use Rattle.mutator.specs.declared.spot.Order.TheVariants.{Nothing}
-use Rattle.mutator.specs.Orders.{is_at_rest}
-use Rattle.mutator.specs.Rows.{Mutating, given_at, take_next, take_says, answer_at, reply_at, next_at}
-use Rattle.step_core.specs.Actor.{Machine, mutating, helping, controlling, Actor, entries_of, takes_of, plan_of, took_of, kind}
-use Rattle.step_core.specs.Schedule.{Scripts, waits, waits_of, waits_in, is_again}
+use Rattle.mutator.specs.declared.spot.Spot.TheVariants.{Rest, StoreFresh, Leave}
+use Rattle.shen_graph.specs.declared.order.Order.{Order}
+use Rattle.shen_graph.specs.declared.order.Order.TheVariants.{Nothing}
+use Rattle.mutator.specs.Orders.{is_between_calls}
+use Rattle.mutator.specs.Rows.{Mutating, given_at, answer_at, reply_at, next_at}
+use Rattle.mutator.proofs.Done.{done_gives}
+use Rattle.step_core.specs.Actor.{Machine, mutating, fresh_control, Actor, entries_of}
+use Rattle.step_core.specs.Machines.{takes_of, plan_of, kind, is_again, is_resting, reply_in, made_of_machine, at_hand, at_hand_of, ended_by}
+use Rattle.step_core.specs.Schedule.{Scripts, waits, waits_of, waits_in}
 use Rattle.shen_core.specs.declared.step.Stepped.{Stepped}
 use Rattle.shen_core.specs.declared.step.Stepped.TheVariants as stepped
 use Rattle.shen_core.specs.declared.plain.Plain.{Plain}
 use Rattle.shen_core.specs.Runs.{Shows, event, next_by}
-use Rattle.shen_core.specs.Answer.{stepped_of, says, is_resting, reply_in, made_of_machine, at_hand, at_hand_of}
+use Rattle.shen_core.specs.Answer.{stepped_of, says}
 use Rattle.shen_core.specs.Progress.{Jobs, Tells, CanRun, IsTurn, Turned, IsMoved, HasTurned}
 use Rattle.shen_core.specs.State.{config_of, words_of, orders_of, machines_of, machine_at, order_at, has_turn, next_machine, IsStep}
 use Rattle.shen_graph.specs.Valid.{IsValid}
-use Rattle.std.proofs.lemmas.List.{append-nil, set-set}
 use Rattle.shen_core.proofs.Events.{shown_actor}
 use Rattle.shen_core.proofs.Turns.{machine_within}
 
@@ -85,8 +83,7 @@ script_stays jobs number reply t has here = ⊎_elim
 -- the reply that a machine's step gives
 abbrev pub given_in : Machine → Option Reply
 given_in (mutating m) = given_at m.spot
-given_in helping = None
-given_in controlling = None
+given_in _ = None
 
 -- a reply as a list
 abbrev pub listed : Option Reply → List Reply
@@ -99,12 +96,11 @@ replies_of_entries seat command None = refl
 replies_of_entries seat command (Some r) = refl
 
 -- the replies of an actor after its step
-took_replies : (c : Config) (a : Actor) (order : Order) (got : ℕ) (machine : Machine) → takes_of machine order ≡ true → map (λ e. e.reply) (took_of c a order got machine).calls ≡ map (λ e. e.reply) a.calls ++ listed (given_in machine)
-took_replies c a order got helping takes = cc
-took_replies c a order got controlling takes = cc
-took_replies c a order got (mutating m) takes =
+took_replies : (a : Actor) (order : Order) (machine : Machine) → takes_of machine order ≡ true → map (λ e. e.reply) (a.calls ++ ended_by a.command machine) ≡ map (λ e. e.reply) a.calls ++ listed (given_in machine)
+took_replies a order (mutating m) takes =
     map-append (λ e. e.reply) a.calls (entries_of m.seat a.command (given_at m.spot))
     ∙ ap (λ rs. map (λ e. e.reply) a.calls ++ rs) (replies_of_entries m.seat a.command (given_at m.spot))
+took_replies a order _ takes = cc
 
 -- the replies of the machine's actor after its event
 pub acted_replies : (c : Config) (s : Stage Actor) (number : ℕ) (order : Order) (a : Actor) (machine : Machine) → slice_get s.machines number ≡ Some a → a.machine ≡ machine → takes_of machine order ≡ true
@@ -116,7 +112,7 @@ acted_replies c s number order a machine here is takes b there =
     let found = ap (λ x. slice_get x.machines number) (act-event (kind c) s (event number order) a one) ∙ slice_get-set_same s.machines number a _ here in
     let same = same_Some _ b (sym found ∙ there) in
     ap (λ x. map (λ e. e.reply) x.calls) (sym same)
-    ∙ took_replies c a order _ a.machine taken
+    ∙ took_replies a order a.machine taken
     ∙ ap (λ x. map (λ e. e.reply) a.calls ++ listed (given_in x)) is
 
 -- the work tells the replies after an event that gives none
@@ -174,28 +170,11 @@ never_idle took.More is = cc
 never_idle took.Again is = cc
 never_idle took.Done is = cc
 
--- a step that ends a call gives its reply, and no other step does
-pub done_gives : (c : Config) (spot : Spot) (got : ℕ) → stepped_of (answer_at c spot got) ≡ stepped.Done → (r : Reply) × (given_at spot ≡ Some r)
-done_gives c (Leave r) got is = (r, refl)
-done_gives c (ExchangeField object field found expect value) got is = absurd (not_done (got == found) is)
-  where
-    not_done : (b : Bool) → stepped_of (if b then took.More else took.Again) ≡ stepped.Done → ⊥
-    not_done true is = cc
-    not_done false is = cc
-done_gives c (Taking dst refs nums take) got is = absurd (not_done take (take_next c refs nums take got) is)
-  where
-    not_done : (take next : TakeSpot) → stepped_of (take_says take next) ≡ stepped.Done → ⊥
-    not_done take (take_spot.Ended (At address)) is = cc
-    not_done take (take_spot.Ended NoRoom) is = cc
-    not_done (take_spot.TakeRegion region) take_spot.LoadFree is = cc
-    not_done (take_spot.TakeRegion region) next is = cc
-    not_done take_spot.LoadCurrent next is = cc
-    not_done (take_spot.LoadTop region) next is = cc
-    not_done take_spot.LoadFree next is = cc
-    not_done (take_spot.StoreCurrent region) next is = cc
-    not_done (take_spot.StoreTop region top) next is = cc
-    not_done (take_spot.Ended taken) next is = cc
-done_gives c _ got is = absurd (cc)
+-- a step that ends a call says so
+done_of : (t : Took) → stepped_of t ≡ stepped.Done → t ≡ took.Done
+done_of took.More is = cc
+done_of took.Again is = cc
+done_of took.Done is = refl
 
 -- a step that is not done gives no reply
 pub other_gives : (c : Config) (spot : Spot) (got : ℕ) → (stepped_of (answer_at c spot got) ≡ stepped.Done → ⊥) → given_at spot ≡ None
@@ -208,7 +187,7 @@ next_reply c m order got (Leave q) r is = is
 next_reply c m order got _ r is = absurd (cc)
 
 -- and is between two calls
-pub next_rests : (c : Config) (m : Mutating) (order : Order) (got : ℕ) (spot : Spot) (r : Reply) → given_at spot ≡ Some r → is_at_rest (next_at c m order got spot).spot ≡ true
+pub next_rests : (c : Config) (m : Mutating) (order : Order) (got : ℕ) (spot : Spot) (r : Reply) → given_at spot ≡ Some r → is_between_calls (next_at c m order got spot).spot ≡ true
 next_rests c m order got (Leave q) r is = refl
 next_rests c m order got _ r is = absurd (cc)
 
@@ -227,8 +206,7 @@ given_made c m order got _ r is = absurd (cc)
 -- a machine that takes its order is a mutator
 pub takes_mutator : (machine : Machine) (order : Order) → takes_of machine order ≡ true → (m : Mutating) × (machine ≡ mutating m)
 takes_mutator (mutating m) order takes = (m, refl)
-takes_mutator helping order takes = absurd (cc)
-takes_mutator controlling order takes = absurd (cc)
+takes_mutator _ order takes = absurd (cc)
 
 -- One `Plain` and its work after a turn of a machine in another.
 pub record IsAfter (p q : Plain) (jobs later : Jobs) (number : ℕ) (next : Machine) : Type 0 where
@@ -245,11 +223,11 @@ pub record IsAfter (p q : Plain) (jobs later : Jobs) (number : ℕ) (next : Mach
 module _ (p q : Plain) (jobs later : Jobs) (number : ℕ) (next : Machine) (after : IsAfter p q jobs later number next) where
   -- the machine of the turn is the next one
   at_number : machine_at q number ≡ next
-  at_number = ap (λ ms. get_or ms number controlling) after.machines ∙ get_or-set_same (machines_of p) number next controlling after.within
+  at_number = ap (λ ms. get_or ms number fresh_control) after.machines ∙ get_or-set_same (machines_of p) number next fresh_control after.within
 
   -- all others stay
   at_other : (t : ℕ) → t ≢ number → machine_at q t ≡ machine_at p t
-  at_other t other = ap (λ ms. get_or ms t controlling) after.machines ∙ get_or-set_other (machines_of p) number t next controlling other
+  at_other t other = ap (λ ms. get_or ms t fresh_control) after.machines ∙ get_or-set_other (machines_of p) number t next fresh_control other
 
   -- the heap can go on with the work
   pub can_run_after : CanRun p jobs → CanRun q later
@@ -279,14 +257,12 @@ module _ (p q : Plain) (jobs later : Jobs) (number : ℕ) (next : Machine) (afte
 -- the same of a machine
 next_by_made : (c : Config) (words : List ℕ) (order : Order) (machine : Machine) → given_in machine ≡ None → (made_of_machine (next_by c words order machine) ≤ made_of_machine machine + at_hand_of (next_by c words order machine)) × (at_hand_of machine ≡ 0)
 next_by_made c words order (mutating m) none = next_made c m order _ m.spot none
-next_by_made c words order helping none = (omega arith, refl)
-next_by_made c words order controlling none = (omega arith, refl)
+next_by_made c words order _ none = (omega arith, refl)
 
 -- a step that gives a reply makes no object
 given_by_made : (c : Config) (words : List ℕ) (order : Order) (machine : Machine) (r : Reply) → given_in machine ≡ Some r → (made_of_machine (next_by c words order machine) ≡ made_of_machine machine) × (at_hand_of machine ≡ 1)
 given_by_made c words order (mutating m) r is = given_made c m order _ m.spot r is
-given_by_made c words order helping r is = absurd (cc)
-given_by_made c words order controlling r is = absurd (cc)
+given_by_made c words order _ r is = absurd (cc)
 
 -- A `Plain`, with the order for a machine, and after that machine's step, which said so.
 pub record IsStepped (p mid q : Plain) (jobs : Jobs) (number : ℕ) (said : Stepped) : Type 0 where
@@ -297,8 +273,8 @@ pub record IsStepped (p mid q : Plain) (jobs : Jobs) (number : ℕ) (said : Step
   pub mid_orders : orders_of mid ≡ slice_set (orders_of p) number (order_at mid number)
   pub turn : IsTurn p jobs number true (order_at mid number)
   pub has : has_turn mid number ≡ true
-  pub more : number < (config_of p).mutators → length (work.replies_of jobs number) < length (work.script_of jobs number)
-  pub below : number < (config_of mid).mutators
+  pub more : length (work.replies_of jobs number) < length (work.script_of jobs number)
+  pub below : number < (config_of p).mutators
   pub event : IsStep mid q number
   pub says : said ≡ says (config_of mid) (machine_at mid number) (slice_index (words_of mid) (place_of (plan_of (config_of mid) (machine_at mid number))))
   pub machines : machines_of q ≡ slice_set (machines_of mid) number (next_machine mid number)
@@ -308,11 +284,11 @@ pub record IsStepped (p mid q : Plain) (jobs : Jobs) (number : ℕ) (said : Step
 module _ (p mid q : Plain) (jobs : Jobs) (number : ℕ) (said : Stepped) (facts : IsStepped p mid q jobs number said) where
   -- the order changes nothing of the machine
   same_machine : machine_at mid number ≡ machine_at p number
-  same_machine = ap (λ ms. get_or ms number controlling) facts.mid_machines
+  same_machine = ap (λ ms. get_or ms number fresh_control) facts.mid_machines
 
   -- its number is one of a mutator
   pub below_now : number < (config_of p).mutators
-  below_now = subst (λ c. number < c.mutators) facts.mid_config facts.below
+  below_now = facts.below
 
   -- the heap can go on with work in which others stay
   after_turn : (later : Jobs) → CanRun p jobs → ((t : ℕ) → work.HasScript jobs t → work.HasScript later t) → ((t : ℕ) → work.script_of later t ≡ work.script_of jobs t) → ((t : ℕ) → t ≢ number → work.replies_of later t ≡ work.replies_of jobs t)
@@ -336,13 +312,12 @@ module _ (p mid q : Plain) (jobs : Jobs) (number : ℕ) (said : Stepped) (facts 
       let step = next_by_made (config_of mid) (words_of mid) (order_at mid number) (machine_at mid number) none in
       let now = subst (λ machine. made_of_machine machine + length (work.script_of jobs number) < 4294967295 + (length (work.replies_of jobs number) + at_hand_of machine)) (sym same_machine) (before.made number below_now) in
       can_run_after p q jobs jobs number (next_machine mid number)
-      (after_turn jobs before (λ t h. h) (λ t. refl) (λ t other. refl) (λ busy. facts.more below_now) (omega (arith, step.0, step.1, now))) before
+      (after_turn jobs before (λ t h. h) (λ t. refl) (λ t other. refl) (λ busy. facts.more) (omega (arith, step.0, step.1, now))) before
 
   -- a mutator that gave a reply rests
   next_is_resting : (machine : Machine) (r : Reply) (c : Config) (words : List ℕ) (order : Order) → given_in machine ≡ Some r → is_resting (next_by c words order machine) ≡ true
   next_is_resting (mutating m) r c words order gives = next_rests c m order _ m.spot r gives
-  next_is_resting helping r c words order gives = absurd (cc)
-  next_is_resting controlling r c words order gives = absurd (cc)
+  next_is_resting _ r c words order gives = absurd (cc)
 
   -- the reply is noted
   pub can_run_noted : (r : Reply) → given_in (machine_at mid number) ≡ Some r → CanRun p jobs → CanRun q (work.with_reply jobs number r)
@@ -395,8 +370,7 @@ module _ (p mid q : Plain) (jobs : Jobs) (number : ℕ) (said : Stepped) (facts 
   -- a step that is not done gives no reply, by its machine
   given_by : (machine : Machine) → said ≡ says (config_of mid) machine (slice_index (words_of mid) (place_of (plan_of (config_of mid) machine))) → (said ≡ stepped.Done → ⊥) → given_in machine ≡ None
   given_by (mutating m) is other = other_gives (config_of mid) m.spot _ (λ e. other (is ∙ e))
-  given_by helping is other = refl
-  given_by controlling is other = refl
+  given_by _ is other = refl
 
   -- nor does the turn
   pub none_given : (said ≡ stepped.Done → ⊥) → given_in (machine_at mid number) ≡ None
@@ -405,17 +379,16 @@ module _ (p mid q : Plain) (jobs : Jobs) (number : ℕ) (said : Stepped) (facts 
   -- a step that is done gives a reply, by its machine
   reply_by : (machine : Machine) → said ≡ says (config_of mid) machine (slice_index (words_of mid) (place_of (plan_of (config_of mid) machine))) → said ≡ stepped.Done → (r : Reply) × (given_in machine ≡ Some r) × (reply_in (next_by (config_of mid) (words_of mid) (order_at mid number) machine) ≡ Some r)
   reply_by (mutating m) is done =
-      let gives = done_gives (config_of mid) m.spot _ (sym is ∙ done) in
+      let gives = done_gives (config_of mid) m.spot _ (done_of _ (sym is ∙ done)) in
       (gives.0, gives.1, next_reply (config_of mid) m (order_at mid number) _ m.spot gives.0 gives.1)
-  reply_by helping is done = absurd (cc)
-  reply_by controlling is done = absurd (cc)
+  reply_by _ is done = absurd (cc)
 
   -- after a step that ends a call memory has a reply
   pub has_reply : said ≡ stepped.Done → reply_in (machine_at q number) ≢ None
   has_reply done none =
       let found = reply_by (machine_at mid number) facts.says done in
       let now : machine_at q number ≡ next_machine mid number =
-      ap (λ ms. get_or ms number controlling) facts.machines ∙ get_or-set_same (machines_of mid) number (next_machine mid number) controlling (subst (λ ms. number < length ms) (sym facts.mid_machines) facts.within) in
+      ap (λ ms. get_or ms number fresh_control) facts.machines ∙ get_or-set_same (machines_of mid) number (next_machine mid number) fresh_control (subst (λ ms. number < length ms) (sym facts.mid_machines) facts.within) in
       let both : None ≡ Some found.0 = sym none ∙ ap reply_in now ∙ found.2 in
       cc
 
@@ -424,5 +397,5 @@ module _ (p mid q : Plain) (jobs : Jobs) (number : ℕ) (said : Stepped) (facts 
   reply_given r done has =
       let found = reply_by (machine_at mid number) facts.says done in
       let now : machine_at q number ≡ next_machine mid number =
-      ap (λ ms. get_or ms number controlling) facts.machines ∙ get_or-set_same (machines_of mid) number (next_machine mid number) controlling (subst (λ ms. number < length ms) (sym facts.mid_machines) facts.within) in
+      ap (λ ms. get_or ms number fresh_control) facts.machines ∙ get_or-set_same (machines_of mid) number (next_machine mid number) fresh_control (subst (λ ms. number < length ms) (sym facts.mid_machines) facts.within) in
       found.1 ∙ sym found.2 ∙ ap reply_in (sym now) ∙ has

@@ -9,7 +9,7 @@ use Rattle.heap_words.specs.Ranges.{seat_count}
 use Rattle.step_core.specs.Actor as actors
 use Rattle.step_core.specs.Opening.{opening_words, opening_machine, opening_actor, opening}
 use Rattle.steps_base.proofs.Runs.{go-none}
-use Rattle.step_core.specs.Actor.{kind}
+use Rattle.step_core.specs.Machines.{kind}
 use Rattle.shen_core.specs.declared.machine.Machine.{Machine}
 use Rattle.shen_core.specs.Shown.{shown}
 use Rattle.shen_core.specs.Runs.{Shows, IsShownBySome}

@@ -1,28 +1,24 @@
 -- Rounds: the machines take turns by their numbers.
-use Rattle.std.proofs.Common.{◌≡◌, ◌<◌, ◌≤◌, ⊎_elim, ℕ, zero, suc, ◌+◌, ◌-◌, List, [], ◌∷◌, ◌++◌, length, map, Option, Some, None, refl, sym, ap, ◌∙◌, subst, arith, append_assoc}
+use Rattle.std.proofs.Common.{◌≡◌, ◌<◌, ◌≤◌, ⊎_elim, ℕ, zero, suc, ◌+◌, ◌-◌, List, [], ◌∷◌, ◌++◌, length, map, Option, Some, None, refl, sym, ap, ◌∙◌, subst, arith, append_assoc, drop, get_or}
 use Rattle.std.specs.List.{range_with_len}
 use Rattle.std.proofs.lemmas.Bool.{cases_eq}
-use Rattle.std.proofs.Common.{drop, get_or}
-use Rattle.std.proofs.lemmas.List.{drop_more}
+use Rattle.std.proofs.lemmas.List.{drop_more, length-append, append-nil}
 use Rattle.heap_words.specs.declared.schedule.Item.{Item}
-use Rattle.step_core.specs.Schedule.{task_of}
-use Rattle.shen_core.specs.Progress.{DoesTask}
+use Rattle.step_core.specs.Schedule.{task_of, Scripts, turn, Agenda, next, numbers_from, first_turn, or_else, round_of, and_then, scheduled}
+use Rattle.shen_core.specs.Progress.{DoesTask, Jobs, Tells, Runs, agenda, Turned, HasTurned, IsPassed, AreIdle, AllIdle, SomeBusy}
 use Rattle.heap_words.specs.declared.config.Config.{Config}
 use Rattle.heap_words.specs.Ranges.{seat_count}
 use Rattle.steps_base.specs.Steps.{Stage, Event, act, go}
 use Rattle.steps_base.proofs.Runs.{go-none, go-append}
-use Rattle.std.proofs.lemmas.List.{length-append}
-use Rattle.mutator.specs.declared.spot.Order.{Order}
-use Rattle.step_core.specs.Actor.{Actor, kind}
-use Rattle.step_core.specs.Schedule.{Scripts, turn, Agenda, next, numbers_from, first_turn, or_else, round_of, and_then, scheduled}
-use Rattle.std.proofs.lemmas.List.{append-nil}
+use Rattle.shen_graph.specs.declared.order.Order.{Order}
+use Rattle.step_core.specs.Actor.{Actor}
+use Rattle.step_core.specs.Machines.{kind}
 use Rattle.shen_core.specs.declared.plain.Plain.{Plain}
 use Rattle.shen_core.specs.declared.run.Ran.{Ran}
 use Rattle.shen_core.specs.declared.run.Ran.TheVariants.{Finished, Unfinished}
 use Rattle.shen_core.specs.declared.step.Stepped.{Stepped}
 use Rattle.shen_core.specs.declared.step.Stepped.TheVariants.{Idle}
 use Rattle.shen_core.specs.State.{config_of, Shows, IsUnchanged}
-use Rattle.shen_core.specs.Progress.{Jobs, Tells, Runs, agenda, Turned, HasTurned, IsPassed, AreIdle, AllIdle, SomeBusy}
 use Rattle.shen_core.specs.Ending.{HasEnded, HasRun, EndsRun}
 use Rattle.shen_core.proofs.Going.{goes_same, goes_next, moved_of}
 use Rattle.shen_core.proofs.Turns.{turn_number}

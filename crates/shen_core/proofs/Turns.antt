@@ -11,17 +11,17 @@ use Rattle.std.proofs.lemmas.Bool.{lt-ltb, ltb-true}
 use Rattle.heap_words.specs.declared.config.Config.{Config}
 use Rattle.steps_base.specs.Steps.{Stage, Event}
 use Rattle.shen_graph.specs.Work as work
-use Rattle.mutator.specs.declared.spot.Order.TheVariants.{Begin}
-use Rattle.mutator.specs.declared.spot.Order.{Order}
+use Rattle.shen_graph.specs.declared.order.Order.TheVariants.{Begin}
+use Rattle.shen_graph.specs.declared.order.Order.{Order}
 use Rattle.mutator.specs.Orders.{takes_at}
 use Rattle.mutator.specs.Rows.{Mutating}
 use Rattle.mutator.specs.Fit.{IsFit}
-use Rattle.step_core.specs.Actor.{Machine, mutating, helping, controlling, Actor, plan_of}
-use Rattle.step_core.specs.Follows.{reached, past}
+use Rattle.step_core.specs.Actor.{Machine, mutating, fresh_control, Actor}
+use Rattle.step_core.specs.Machines.{plan_of, is_resting}
+use Rattle.step_core.specs.Begins.{reached}
 use Rattle.step_core.specs.Schedule.{Scripts, script_of, turn, turn_of, order_on_turn}
-use Rattle.step_core.proofs.Theorem.{follows_reached, thread_of, every_list}
+use Rattle.step_core.proofs.Theorem.{every_list}
 use Rattle.shen_core.specs.Runs.{Shows, access_of, IsShownBySome, event}
-use Rattle.shen_core.specs.Answer.{is_resting}
 use Rattle.shen_core.specs.Progress.{Jobs, Tells}
 use Rattle.shen_core.proofs.Events.{shown_actor}
 
@@ -29,8 +29,7 @@ use Rattle.shen_core.proofs.Events.{shown_actor}
 pub seat_below : (c : Config) (words : List ℕ) (machines : List Machine) (number : ℕ) (m : Mutating) → IsShownBySome c words machines → slice_get machines number ≡ Some (mutating m) → number < c.mutators
 seat_below c words machines number m some here =
     let found = shown_actor words machines (reached c some.events) number (mutating m) some.shows here in
-    let thread = thread_of c (reached c some.events) (past c some.events) (follows_reached c some.events) number found.0 m (record { here = found.1; is = found.2 }) in
-    subst (λ k. k < c.mutators) thread.number_is thread.mine.seat
+    ((every_list c some.events).of_heap.numbers number found.0 m (record { here = found.1; is = found.2 })).1
 
 -- the same where it is only known that some events led there
 pub seat_below_some : (c : Config) (words : List ℕ) (machines : List Machine) (number : ℕ) (m : Mutating) → ∥ IsShownBySome c words machines ∥₁ → slice_get machines number ≡ Some (mutating m) → number < c.mutators
@@ -74,8 +73,7 @@ turn_number scripts s k e is = by_actor (slice_get s.machines k) is
 -- a machine that rests begins its next command
 pub resting_order : (scripts : Scripts) (number : ℕ) (a : Actor) (machine : Machine) → is_resting machine ≡ true → order_on_turn scripts number a machine ≡ option_map (λ command. Begin command) (slice_get (script_of scripts number) (length a.calls))
 resting_order scripts number a (mutating m) rest = rw rest refl
-resting_order scripts number a helping rest = cc
-resting_order scripts number a controlling rest = cc
+resting_order scripts number a _ rest = cc
 
 -- a mutator between two calls begins the next command of its script
 pub turn_by_next : (c : Config) (words : List ℕ) (machines : List Machine) (jobs : Jobs) (number : ℕ) (machine : Machine) → slice_get machines number ≡ Some machine → is_resting machine ≡ true → number < c.mutators
@@ -91,5 +89,5 @@ turn_by_next c words machines jobs number machine here rest below scripts s show
     (sym (ap length (tells.replies number a below found.1) ∙ length-map a.calls (λ e. e.reply)))
 
 -- there is a machine at each number
-pub machine_within : (machines : List Machine) (number : ℕ) → number < length machines → slice_get machines number ≡ Some (slice_index_or machines number controlling)
-machine_within machines number below = slice_get-get_or machines number controlling below
+pub machine_within : (machines : List Machine) (number : ℕ) → number < length machines → slice_get machines number ≡ Some (slice_index_or machines number fresh_control)
+machine_within machines number below = slice_get-get_or machines number fresh_control below

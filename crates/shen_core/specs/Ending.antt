@@ -3,7 +3,8 @@ use Rattle.std.specs.Prelude.{ℕ, ◌≡◌, List, length}
 use Rattle.heap_words.specs.declared.config.Config.{Config}
 use Rattle.heap_words.specs.declared.schedule.Item.{Item}
 use Rattle.steps_base.specs.Steps.{Stage, go}
-use Rattle.step_core.specs.Actor.{Actor, kind}
+use Rattle.step_core.specs.Actor.{Actor}
+use Rattle.step_core.specs.Machines.{kind}
 use Rattle.step_core.specs.Schedule.{Scripts, Agenda, scheduled, agenda_of}
 use Rattle.shen_core.specs.declared.plain.Plain.{Plain}
 use Rattle.shen_core.specs.declared.run.Ran.{Ran}

@@ -8,16 +8,16 @@ use Rattle.steps_base.specs.Steps.{Stage, Event, act, go}
 use Rattle.shen_graph.specs.declared.command.Command.{Command}
 use Rattle.shen_graph.specs.Valid.{IsValid}
 use Rattle.shen_graph.specs.Work as work
-use Rattle.mutator.specs.declared.spot.Order.{Order}
-use Rattle.mutator.specs.declared.spot.Order.TheVariants.{Nothing}
-use Rattle.step_core.specs.Actor.{Actor, kind}
+use Rattle.shen_graph.specs.declared.order.Order.{Order}
+use Rattle.shen_graph.specs.declared.order.Order.TheVariants.{Nothing}
+use Rattle.step_core.specs.Actor.{Actor}
+use Rattle.step_core.specs.Machines.{kind, made_of_machine, at_hand_of, is_resting}
 use Rattle.step_core.specs.Schedule.{Scripts, script_of, turn, waits, Task, Agenda, scheduled}
 use Rattle.shen_core.specs.declared.plain.Plain.{Plain}
 use Rattle.shen_core.specs.declared.step.Stepped.{Stepped}
 use Rattle.shen_core.specs.declared.step.Stepped.TheVariants.{More, Again, Done, Idle}
 use Rattle.shen_core.specs.Runs.{event}
 use Rattle.shen_core.specs.State.{config_of, orders_of, machine_at, Shows}
-use Rattle.shen_core.specs.Answer.{made_of_machine, at_hand_of, is_resting}
 
 -- the work of the threads, as contracts see it
 abbrev pub Jobs : Type 0

@@ -3,12 +3,13 @@ use Rattle.std.specs.Prelude.{ℕ, ◌≡◌, List, [], ◌∷◌, ◌++◌, map
 use Rattle.heap_words.specs.declared.access.Access.{Access}
 use Rattle.heap_words.specs.Access.{place_of}
 use Rattle.steps_base.specs.Touch.{placed}
-use Rattle.mutator.specs.Rows.{Mutating, touch_of, next_of}
+use Rattle.mutator.specs.Rows.{Mutating, touch_of}
 use Rattle.heap_words.specs.declared.config.Config.{Config}
 use Rattle.steps_base.specs.Steps.{Stage, Event, act, go, IsEvent}
-use Rattle.mutator.specs.declared.spot.Order.{Order}
-use Rattle.step_core.specs.Actor.{Machine, mutating, helping, controlling, Actor, kind}
-use Rattle.step_core.specs.Follows.{reached}
+use Rattle.shen_graph.specs.declared.order.Order.{Order}
+use Rattle.step_core.specs.Actor.{Machine, Actor}
+use Rattle.step_core.specs.Machines.{plan_of, machine_after, kind}
+use Rattle.step_core.specs.Begins.{reached}
 
 -- these words and machines are those of the stage, whose machines have their calls besides
 pub record Shows (words : List ℕ) (machines : List Machine) (s : Stage Actor) : Type 0 where
@@ -37,6 +38,4 @@ pub record IsOneEvent (c : Config) (words : List ℕ) (machines : List Machine) 
 
 -- a machine after the step that it makes on these words
 abbrev pub next_by : Config → List ℕ → Order → Machine → Machine
-next_by c words order (mutating m) = mutating (next_of c m order (slice_index words (place_of (access_of c m))))
-next_by c words order helping = helping
-next_by c words order controlling = controlling
+next_by c words order machine = machine_after c order (slice_index words (place_of (plan_of c machine))) machine

@@ -1,7 +1,7 @@
 -- What the events see of the machines in memory.
 use Rattle.heap_words.specs.declared.config.Config.{Config}
-use Rattle.mutator.specs.declared.spot.Order.{Order}
-use Rattle.mutator.specs.declared.spot.Order.TheVariants.{Nothing}
+use Rattle.shen_graph.specs.declared.order.Order.{Order}
+use Rattle.shen_graph.specs.declared.order.Order.TheVariants.{Nothing}
 use Rattle.mutator.specs.Seen.{seen, order_of, config_of}
 use Rattle.step_core.specs.Actor as actors
 use Rattle.shen_core.specs.declared.machine.Machine.{Machine}
@@ -9,8 +9,8 @@ use Rattle.shen_core.specs.declared.machine.Machine.TheVariants.{Mutator, Helper
 
 abbrev pub shown : Machine → actors.Machine
 shown (Mutator m) = actors.mutating (seen m)
-shown Helper = actors.helping
-shown Control = actors.controlling
+shown Helper = actors.fresh_helper
+shown Control = actors.fresh_control
 
 -- the order that the machine was given
 abbrev pub order_of_machine : Machine → Order

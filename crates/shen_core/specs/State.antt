@@ -1,11 +1,13 @@
 -- What callers know of a `Plain`.
-use Rattle.std.specs.Prelude.{ℕ, ◌≡◌, Bool, List, map, slice_index_or}
+use Rattle.std.specs.Prelude.{ℕ, ◌≡◌, Bool, List, map, slice_index, slice_index_or}
 use Rattle.heap_words.specs.declared.config.Config.{Config}
+use Rattle.heap_words.specs.Access.{place_of}
 use Rattle.heap_words.specs.Ranges.{seat_count}
 use Rattle.steps_base.specs.Steps.{Stage}
-use Rattle.mutator.specs.declared.spot.Order.{Order}
-use Rattle.mutator.specs.declared.spot.Order.TheVariants.{Nothing}
+use Rattle.shen_graph.specs.declared.order.Order.{Order}
+use Rattle.shen_graph.specs.declared.order.Order.TheVariants.{Nothing}
 use Rattle.step_core.specs.Actor as actors
+use Rattle.step_core.specs.Machines.{takes_of, plan_of}
 use Rattle.shen_core.specs.declared.plain.Plain.{Plain}
 use Rattle.shen_core.specs.Shown.{shown, order_of_machine}
 use Rattle.shen_core.specs.Runs as runs
@@ -36,14 +38,18 @@ Shows p s = runs.Shows (words_of p) (machines_of p) s
 
 -- one machine, and the order that it was given
 abbrev pub machine_at : Plain → ℕ → actors.Machine
-machine_at p number = slice_index_or (machines_of p) number actors.controlling
+machine_at p number = slice_index_or (machines_of p) number actors.fresh_control
 
 abbrev pub order_at : Plain → ℕ → Order
 order_at p number = slice_index_or (orders_of p) number Nothing
 
 -- whether the machine makes a step: it takes the order that it was given
 abbrev pub has_turn : Plain → ℕ → Bool
-has_turn p number = actors.takes_of (machine_at p number) (order_at p number)
+has_turn p number = takes_of (machine_at p number) (order_at p number)
+
+-- the word that the machine's next access finds
+abbrev pub found_by : Plain → ℕ → ℕ
+found_by p number = slice_index (words_of p) (place_of (plan_of p.config (machine_at p number)))
 
 -- one event of the machine, under its order, leads from the one to the other
 abbrev pub IsStep : Plain → Plain → ℕ → Type 0

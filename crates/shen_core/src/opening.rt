@@ -1,6 +1,6 @@
 ghost use Rattle.std.specs.Prelude.{◌≡◌, ◌≤◌, length, map, All, IfOk};
 ghost use Rattle.heap_words.specs.Ranges.{seat_count};
-ghost use Rattle.mutator.specs.declared.spot.Order.TheVariants.{Nothing};
+ghost use Rattle.shen_graph.specs.declared.order.Order.TheVariants.{Nothing};
 ghost use Rattle.step_core.specs.Opening.{opening_machine};
 ghost use Rattle.std.specs.List.{range_with_len};
 ghost use Rattle.shen_core.specs.Shown.{shown, order_of_machine, heap_of};

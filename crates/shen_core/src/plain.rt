@@ -8,9 +8,8 @@ use crate::machine::Machine;
 use crate::opening::open_machines;
 use crate::step::{Stepped, make_step};
 use heap_graph::write_graph;
-use heap_words::{Config, NoMemory, Place};
+use heap_words::{Config, NoMemory, Place, heap_in, roots_in};
 use shen_graph::{Command, GraphText, Reply};
-use stage_graph::{heap_in, heap_size, roots_in};
 use std::alloc::Global;
 use step_core::open_words;
 
@@ -32,21 +31,19 @@ pub struct Plain {
 }
 
 impl Plain {
-    ghost use Rattle.std.specs.Prelude.{◌<◌, ◌↔◌, ◌≢◌, true, false, slice_set, slice_index, Some, None, IfOk, IfSome};
+    ghost use Rattle.std.specs.Prelude.{◌<◌, ◌↔◌, ◌≢◌, true, false, slice_set, slice_index, Some, None, IfOk, IfSome, List, ℕ};
     ghost use Rattle.heap_words.specs.Access.{place_of};
-    ghost use Rattle.mutator.specs.declared.spot.Order.TheVariants.{Nothing, Begin};
+    ghost use Rattle.shen_graph.specs.declared.order.Order.TheVariants.{Nothing, Begin};
     ghost use Rattle.shen_graph.specs.Valid.{IsValid};
-    ghost use Rattle.step_core.specs.Actor.{takes_of, plan_of};
-    ghost use Rattle.step_core.specs.Schedule.{stands_in};
+    ghost use Rattle.step_core.specs.Machines.{takes_of, plan_of, stands_in, reply_in, place_in, is_resting, may_begin, WaitsIn, made_of_machine};
     ghost use Rattle.step_core.specs.Opening.{opening};
-    ghost use Rattle.std.specs.Prelude.{List, ℕ};
     ghost use Rattle.shen_graph.specs.History.{after};
-    ghost use Rattle.mutator.specs.declared.spot.Order.{Order};
+    ghost use Rattle.shen_graph.specs.declared.order.Order.{Order};
     ghost use Rattle.steps_base.specs.Steps.{Event};
-    ghost use Rattle.step_core.specs.Follows.{first_graph, reached, past};
+    ghost use Rattle.step_core.specs.Begins.{first_graph, reached, past};
     ghost use Rattle.heap_graph.specs.Shows as texts;
-    ghost use Rattle.shen_core.specs.State.{config_of, words_of, machines_of, orders_of, seats_of, Shows, machine_at, has_turn, next_machine, IsStep, IsUnchanged};
-    ghost use Rattle.shen_core.specs.Answer.{says, reply_in, place_in, is_resting, made_of_machine};
+    ghost use Rattle.shen_core.specs.State.{config_of, words_of, machines_of, orders_of, seats_of, Shows, machine_at, has_turn, found_by, next_machine, IsStep, IsUnchanged};
+    ghost use Rattle.shen_core.specs.Answer.{says};
     ghost use Rattle.shen_core.specs.Progress.{AllRest};
 
     /// The heap of this configuration before the first event, whose mutators have not begun a call.
@@ -57,10 +54,10 @@ impl Plain {
     {
         let words = open_words(alloc, config)?;
         let machines = open_machines(alloc, config)?;
-        let Ok(marks) = vec![in alloc; false; heap_size(config)] else {
+        let Ok(marks) = vec![in alloc; false; config.heap_size()] else {
             return Err(NoMemory);
         };
-        let Ok(addresses) = Vec::with_capacity(alloc, heap_size(config)) else {
+        let Ok(addresses) = Vec::with_capacity(alloc, config.heap_size()) else {
             return Err(NoMemory);
         };
         Ok(Plain {
@@ -75,7 +72,7 @@ impl Plain {
     /// Orders the command, which the mutator's next step begins. Between two calls only.
     pub fn begin(&mut self, number: usize, command: Command)
         requires number { number < seats_of self.old }
-        requires rest { is_resting (machine_at self.old number) ≡ true }
+        requires rest { may_begin (machine_at self.old number) ≡ true }
         requires valid { IsValid command }
         requires made { made_of_machine (machine_at self.old number) < 4294967295 }
         ensures order { orders_of self.new ≡ slice_set (orders_of self.old) number (Begin command) }
@@ -96,11 +93,15 @@ impl Plain {
         ensures idle { (result ≡ Stepped.Idle) ↔ (has_turn self.old number ≡ false) }
         ensures unchanged { has_turn self.old number ≡ false → IsUnchanged self.old self.new }
         ensures event { has_turn self.old number ≡ true → IsStep self.old self.new number }
-        ensures says { has_turn self.old number ≡ true → result ≡ says (config_of self.old) (machine_at self.old number) (slice_index (words_of self.old) (place_of (plan_of (config_of self.old) (machine_at self.old number)))) }
-        ensures below { has_turn self.old number ≡ true → number < (config_of self.old).mutators }
+        ensures says { has_turn self.old number ≡ true → result ≡ says (config_of self.old) (machine_at self.old number) (found_by self.old number) }
         ensures machines { has_turn self.old number ≡ true → machines_of self.new ≡ slice_set (machines_of self.old) number (next_machine self.old number) }
         ensures orders { has_turn self.old number ≡ true → orders_of self.new ≡ slice_set (orders_of self.old) number Nothing }
         ensures config { config_of self.new ≡ config_of self.old }
+
+        // A call ends exactly where its mutator leaves the heap, and its reply is at hand then.
+        ensures done { (result ≡ Stepped.Done) ↔ ((has_turn self.old number ≡ true) × (place_in (machine_at self.old number) ≡ Place.LV)) }
+        ensures replied { result ≡ Stepped.Done → reply_in (machine_at self.new number) ≢ None }
+        ensures again { (result ≡ Stepped.Again) ↔ ((has_turn self.old number ≡ true) × WaitsIn (config_of self.old) (machine_at self.old number) (found_by self.old number)) }
     {
         let Machine::Mutator(mutator) = &mut self.machines[number] else {
             return Stepped::Idle;
@@ -137,19 +138,16 @@ impl Plain {
         ensures { result ≡ stands_in place (machine_at self.now number) }
     {
         match &self.machines[number] {
-            Machine::Mutator(mutator) => {
-                let [first, second] = mutator.place().code();
-                let [wanted_first, wanted_second] = place.code();
-                first == wanted_first && second == wanted_second
-            }
+            Machine::Mutator(mutator) => mutator.place().is(place),
             Machine::Helper | Machine::Control => false,
         }
     }
 
-    /// Whether the machine has a step to make.
+    /// Whether the machine has a step to make. Helpers and the control rest.
     pub(crate) fn has_turn(&self, number: usize) -> bool
         requires { number < seats_of self.now }
-        ensures { result ≡ has_turn self.now number }
+        ensures turn { result ≡ has_turn self.now number }
+        ensures below { result ≡ true → number < (config_of self.now).mutators }
     {
         match &self.machines[number] {
             Machine::Mutator(mutator) => !mutator.is_idle(),

@@ -27,7 +27,8 @@ impl Plain {
         requires run { CanRun self.old work.now }
         ensures turn { IsTurn self.old work.now number result (order_at self.new number) }
         ensures has { has_turn self.new number ≡ result }
-        ensures more { result ≡ true → number < (config_of self.old).mutators → length (replies_of work.now number) < length (script_of work.now number) }
+        ensures below { result ≡ true → number < (config_of self.old).mutators }
+        ensures more { result ≡ true → length (replies_of work.now number) < length (script_of work.now number) }
         ensures orders { orders_of self.new ≡ slice_set (orders_of self.old) number (order_at self.new number) }
         ensures unchanged { result ≡ false → orders_of self.new ≡ orders_of self.old }
         ensures words { words_of self.new ≡ words_of self.old }

@@ -1,10 +1,12 @@
-ghost use Rattle.std.specs.Prelude.{◌≡◌, false, vec_len, slice_index};
+ghost use Rattle.std.specs.Prelude.{◌≡◌, ◌≢◌, ◌↔◌, None, false, vec_len, slice_index};
 ghost use Rattle.heap_words.specs.Access.{place_of};
 ghost use Rattle.heap_words.specs.Words.{table_words};
-ghost use Rattle.mutator.specs.Rows.{next_of, answer_at};
+ghost use Rattle.heap_words.specs.declared.place.Place.TheVariants as places;
+ghost use Rattle.mutator.specs.Rows.{next_of, place_at, answer_at, reply_at};
 ghost use Rattle.mutator.specs.Fit.{IsFit};
+ghost use Rattle.mutator.specs.Waits.{WaitsAt};
 ghost use Rattle.mutator.specs.Seen.{seen, config_of, order_of, is_idle};
-ghost use Rattle.mutator.specs.declared.spot.Order.TheVariants.{Nothing};
+ghost use Rattle.shen_graph.specs.declared.order.Order.TheVariants.{Nothing};
 ghost use Rattle.steps_base.specs.Steps.{accessed};
 ghost use Rattle.shen_core.specs.Runs.{access_of};
 ghost use Rattle.shen_core.specs.Answer.{stepped_of};
@@ -36,6 +38,9 @@ pub(crate) fn make_step(words: &mut Vec<u64>, mutator: &mut Mutator) -> Stepped
     ensures order { order_of mutator.new ≡ Nothing }
     ensures config { config_of mutator.new ≡ config_of mutator.old }
     ensures says { result ≡ stepped_of (answer_at (config_of mutator.old) (seen mutator.old).spot (slice_index words.old.items (place_of (access_of (config_of mutator.old) (seen mutator.old))))) }
+    ensures done { (result ≡ Stepped.Done) ↔ (place_at (seen mutator.old).spot ≡ places.LV) }
+    ensures replied { result ≡ Stepped.Done → reply_at (seen mutator.new).spot ≢ None }
+    ensures again { (result ≡ Stepped.Again) ↔ WaitsAt (config_of mutator.old) (seen mutator.old).spot (slice_index words.old.items (place_of (access_of (config_of mutator.old) (seen mutator.old)))) }
 {
     let found = make_access(words, mutator.plan());
     match mutator.took(found) {

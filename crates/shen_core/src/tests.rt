@@ -1,10 +1,12 @@
-ghost use Rattle.std.specs.Prelude.{◌≡◌, ◌<◌, ◌≤◌, ℕ, length, IfOk};
+ghost use Rattle.std.specs.Prelude.{◌≡◌, ◌<◌, ◌≤◌, ℕ, true, length, Some, IfOk, IfSome};
+ghost use Rattle.shen_graph.specs.Valid.{IsValid};
 ghost use Rattle.shen_graph.specs.Work.{HasScript};
 ghost use Rattle.shen_core.specs.Progress.{CanRun, IsRunnable};
 ghost use Rattle.heap_words.specs.Words.{heap_size};
-ghost use Rattle.shen_core.specs.State.{config_of};
+ghost use Rattle.shen_core.specs.State.{config_of, seats_of, machine_at};
+ghost use Rattle.step_core.specs.Machines.{may_begin, made_of_machine, reply_in};
 
-use crate::{Plain, Ran};
+use crate::{Plain, Ran, Stepped};
 use heap_words::{Config, Item, Place, Schedule};
 use shen_graph::{Command, GraphText, Name, Reply, Script, Work};
 use std::alloc::Global;
@@ -306,5 +308,47 @@ fn one_step_settles_a_race(rt: HostRuntime) -> Result<(), Fail> {
             }
         }
     }
+    Ok(())
+}
+
+// A call by what `begin`, `step` and `reply` promise alone: steps are made until one says that the call has ended, and the
+// reply is there then. None where so many steps do not end it.
+fn call(plain: &mut Plain, number: usize, command: Command, limit: usize) -> Option<Reply>
+    requires number { number < seats_of plain.old }
+    requires rest { may_begin (machine_at plain.old number) ≡ true }
+    requires valid { IsValid command }
+    requires made { made_of_machine (machine_at plain.old number) < 4294967295 }
+    ensures replied { IfSome result (λ reply. reply_in (machine_at plain.new number) ≡ Some reply) }
+    ensures config { config_of plain.new ≡ config_of plain.old }
+{
+    plain.begin(number, command);
+    for _ in 0..limit {
+        if let Stepped::Done = plain.step(number) {
+            return Some(plain.reply(number));
+        }
+    }
+    None
+}
+
+// A heap whose first mutator may be given a command.
+fn fresh(alloc: Global, config: Config) -> Result<Plain, Fail>
+    requires { 0 < config.mutators }
+    ensures config { IfOk result (λ plain. config_of plain ≡ config) }
+    ensures rest { IfOk result (λ plain. may_begin (machine_at plain 0) ≡ true) }
+    ensures made { IfOk result (λ plain. made_of_machine (machine_at plain 0) ≡ 0) }
+{
+    let plain = Plain::open(alloc, config)?;
+    Ok(plain)
+}
+
+// A thread asks for a cycle, and needs four steps for it: it loads the phase and the set, asks, and leaves.
+#[test]
+fn a_call_step_by_step(rt: HostRuntime) -> Result<(), Fail> {
+    let config = Config::new(4, 64, 1, 0, 0)?;
+    let mut plain = fresh(rt.alloc(), config)?;
+    assert_eq!(rt; plain.word(config.ask_at()), 0);
+    assert!(rt; call(&mut plain, 0, Command::Gc, 4) == Some(Reply::Ok));
+    assert_eq!(rt; plain.word(config.ask_at()), 1);
+    assert!(rt; plain.place(0) == None);
     Ok(())
 }

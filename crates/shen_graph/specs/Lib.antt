@@ -1,4 +1,5 @@
 pub mod Valid
+pub mod Order
 pub mod Graph
 pub mod Step
 pub mod History

@@ -3,7 +3,7 @@ use Rattle.std.proofs.Common.{◌≡◌, ℕ, ◌<◌, List, length, All, refl, 
 use Rattle.heap_words.specs.declared.config.Config.{Config}
 use Rattle.heap_words.specs.declared.schedule.Item.{Item}
 use Rattle.shen_graph.specs.Work as work
-use Rattle.mutator.specs.declared.spot.Order.TheVariants.{Nothing}
+use Rattle.shen_graph.specs.declared.order.Order.TheVariants.{Nothing}
 use Rattle.step_core.specs.Opening.{opening}
 use Rattle.step_core.specs.Schedule.{Scripts, agenda_of}
 use Rattle.shen_core.specs.declared.plain.Plain.{Plain}

@@ -18,18 +18,17 @@ use Rattle.shen_graph.specs.GraphText.{Text, Row, names_of, root_of}
 use Rattle.shen_graph.specs.History.{Entry, after, of_thread, commands_of}
 use Rattle.shen_graph.specs.History as history
 use Rattle.shen_graph.specs.Work as work
-use Rattle.mutator.specs.declared.spot.Order.{Order}
-use Rattle.step_core.specs.Actor.{Machine, controlling, Actor, entries_of}
+use Rattle.shen_graph.specs.declared.order.Order.{Order}
+use Rattle.step_core.specs.Actor.{Machine, fresh_control, Actor, entries_of}
 use Rattle.step_core.specs.Schedule.{Scripts}
-use Rattle.step_core.specs.Follows.{first_graph, reached, past}
+use Rattle.step_core.specs.Begins.{first_graph, reached, past}
 use Rattle.step_core.proofs.Theorem.{every_list}
-use Rattle.stage_graph.specs.Settled.{IsSettled}
-use Rattle.stage_graph.proofs.Entries.{past_settled}
+use Rattle.step_core.specs.Threads.{IsSettled}
 use Rattle.heap_graph.specs.Shows as texts
 use Rattle.heap_graph.specs.Rows.{root_rows}
 use Rattle.shen_core.specs.declared.plain.Plain.{Plain}
 use Rattle.shen_core.specs.State.{machine_at, Shows}
-use Rattle.shen_core.specs.Answer.{is_resting}
+use Rattle.step_core.specs.Machines.{is_resting}
 use Rattle.shen_core.specs.Progress.{Jobs, AreIdle, AllRest}
 use Rattle.shen_core.specs.Calls.{HasCalled, AllHaveCalled}
 use Rattle.trace_text.specs.Grammar.{Reads}
@@ -44,7 +43,7 @@ use Rattle.shenrun.specs.Running.{HasFinished}
 entries_called : (c : Config) (scripts : Scripts) (events : List (Event Order)) (t : ℕ) → (called : HasCalled scripts (reached c events) t) → of_thread (past c events) (t + 1) ≡ called.actor.calls
 entries_called c scripts events t called =
     let thread = (every_list c events).threads t called.actor called.mutator called.is in
-    thread.entries_are ∙ ap (λ (o : Option Reply). called.actor.calls ++ entries_of t called.actor.command o) (thread.at_rest called.rest) ∙ append-nil called.actor.calls
+    thread.entries_are ∙ ap (λ (o : Option Reply). called.actor.calls ++ entries_of t called.actor.command o) (thread.between_calls called.rest) ∙ append-nil called.actor.calls
 
 -- a thread that is none has no entry
 none_of : (threads : ℕ) (h : List Entry) (t : ℕ) → All (IsSettled threads) h → (t ≡ 0) ⊎ (threads < t) → of_thread h t ≡ []
@@ -59,7 +58,7 @@ pub whole : (c : Config) (scripts : Scripts) (items : List Item) (limit : ℕ) �
 whole c scripts items limit count idle all_called = record { idle = idle; follows = follows; legal = (every_list c (events_of c scripts items limit)).legal; without_full = (every_list c (events_of c scripts items limit)).without_full }
   where
     follows : (thread : ℕ) → commands_of (of_thread (history_of c scripts items limit) thread) ≡ history.script_of scripts thread
-    follows zero = ap commands_of (none_of c.mutators (history_of c scripts items limit) 0 (past_settled c (events_of c scripts items limit)) (inl refl))
+    follows zero = ap commands_of (none_of c.mutators (history_of c scripts items limit) 0 (every_list c (events_of c scripts items limit)).entries (inl refl))
     follows (suc t) = by_thread (cases_lt t c.mutators)
       where
         by_thread : (t < c.mutators) ⊎ (c.mutators ≤ t) → commands_of (of_thread (history_of c scripts items limit) (suc t)) ≡ slice_index_or scripts t []
@@ -68,14 +67,14 @@ whole c scripts items limit count idle all_called = record { idle = idle; follow
             let next : suc t ≡ t + 1 = omega arith in
             ap (λ (n : ℕ). commands_of (of_thread (history_of c scripts items limit) n)) next ∙ ap commands_of (entries_called c scripts (events_of c scripts items limit) t called) ∙ called.commands
         by_thread (inr past_all) =
-            ap commands_of (none_of c.mutators (history_of c scripts items limit) (suc t) (past_settled c (events_of c scripts items limit)) (inr (omega arith))) ∙ sym (get_or_past scripts t [] (omega arith))
+            ap commands_of (none_of c.mutators (history_of c scripts items limit) (suc t) (every_list c (events_of c scripts items limit)).entries (inr (omega arith))) ∙ sym (get_or_past scripts t [] (omega arith))
 
 -- ---- memory in the end
 
 machine_shown : (p : Plain) (s : Stage Actor) (t : ℕ) (a : Actor) → Shows p s → slice_get s.machines t ≡ Some a → machine_at p t ≡ a.machine
 machine_shown p s t a shows here =
-    sym (ap (λ (ms : List Machine). get_or ms t controlling) shows.machines_are)
-    ∙ get_or_from_slice_get (map (λ (b : Actor). b.machine) s.machines) t a.machine controlling (slice_get-map (λ (b : Actor). b.machine) s.machines t ∙ ap (option_map (λ (b : Actor). b.machine)) here)
+    sym (ap (λ (ms : List Machine). get_or ms t fresh_control) shows.machines_are)
+    ∙ get_or_from_slice_get (map (λ (b : Actor). b.machine) s.machines) t a.machine fresh_control (slice_get-map (λ (b : Actor). b.machine) s.machines t ∙ ap (option_map (λ (b : Actor). b.machine)) here)
 
 pub all_rest : (c : Config) (scripts : Scripts) (items : List Item) (limit : ℕ) (jobs : Jobs) (p : Plain) → HasFinished c scripts items limit jobs p → AllRest p
 all_rest c scripts items limit jobs p done t below =

@@ -5,11 +5,11 @@ use Rattle.heap_words.specs.declared.schedule.Item.{Item}
 use Rattle.steps_base.specs.Steps.{Stage, Event}
 use Rattle.shen_graph.specs.Graph.{opening as first_graph}
 use Rattle.shen_graph.specs.History.{Entry, EachIsLegal, Follows, IsWithoutFull}
-use Rattle.mutator.specs.declared.spot.Order.{Order}
+use Rattle.shen_graph.specs.declared.order.Order.{Order}
 use Rattle.step_core.specs.Actor.{Actor}
 use Rattle.step_core.specs.Opening.{opening}
 use Rattle.step_core.specs.Schedule.{Scripts, schedule_events}
-use Rattle.step_core.specs.Follows.{reached, past}
+use Rattle.step_core.specs.Begins.{reached, past}
 use Rattle.shen_core.specs.Progress.{AreIdle}
 use Rattle.trace_text.specs.Grammar.{Reads}
 use Rattle.trace_text.specs.Answer.{IsAnswerText}

@@ -8,11 +8,11 @@ use Rattle.shen_graph.specs.declared.command.Reply.TheVariants as reply
 use Rattle.shen_graph.specs.Step.{outcome}
 use Rattle.mutator.specs.declared.spot.Spot.{Spot}
 use Rattle.mutator.specs.declared.spot.Spot.TheVariants.{Rest, Ended, AskCycle, Leave}
-use Rattle.mutator.specs.declared.spot.Order.{Order}
-use Rattle.mutator.specs.declared.spot.Order.TheVariants.{Nothing, Begin}
+use Rattle.shen_graph.specs.declared.order.Order.{Order}
+use Rattle.shen_graph.specs.declared.order.Order.TheVariants.{Nothing, Begin}
 use Rattle.mutator.specs.Rows.{Mutating}
 use Rattle.heap_world.specs.World.{World}
-use Rattle.step_core.specs.Stepped.{Row}
+use Rattle.step_core.specs.Stepped.{Row, OrderedRow}
 use Rattle.step_core.proofs.Spots.{mutator_at, accessed}
 use Rattle.step_core.proofs.Ready.{leaving}
 use Rattle.step_core.proofs.Settling.{legal_answer, graph_answer}
@@ -22,7 +22,7 @@ module _ (c : Config) (u : World) (seat made phase cset : ℕ) (command : Comman
   at_spot spot = mutator_at seat made phase cset spot
 
   -- a call begins after the opening
-  pub at_rest : (order : Order) → Row c u (at_spot Rest) command order fixed
+  pub at_rest : (order : Order) → OrderedRow c u (at_spot Rest) command order fixed
   at_rest Nothing shared mine takes = cc
   at_rest (Begin k) shared mine takes = record {
     world = accessed c u (at_spot Rest);
@@ -32,9 +32,8 @@ module _ (c : Config) (u : World) (seat made phase cset : ℕ) (command : Comman
     settles = λ r e. cc;
     shared = shared;
     mine = record {
-      seat = mine.seat;
+      seated = mine.seated;
       ready = refl;
-      made = mine.made;
       roots = mine.roots;
       hands = mine.hands;
       facts = record { unsettled = mine.facts; is = refl; next = takes };
@@ -43,7 +42,7 @@ module _ (c : Config) (u : World) (seat made phase cset : ℕ) (command : Comman
   }
 
   -- a call begins after another
-  pub at_ended : (r : Reply) (order : Order) → Row c u (at_spot (Ended r)) command order fixed
+  pub at_ended : (r : Reply) (order : Order) → OrderedRow c u (at_spot (Ended r)) command order fixed
   at_ended r Nothing shared mine takes = cc
   at_ended r (Begin k) shared mine takes = record {
     world = accessed c u (at_spot (Ended r));
@@ -53,9 +52,8 @@ module _ (c : Config) (u : World) (seat made phase cset : ℕ) (command : Comman
     settles = λ r e. cc;
     shared = shared;
     mine = record {
-      seat = mine.seat;
+      seated = mine.seated;
       ready = refl;
-      made = mine.made;
       roots = mine.roots;
       hands = mine.hands;
       facts = record { unsettled = mine.facts; is = refl; next = takes };
@@ -64,9 +62,8 @@ module _ (c : Config) (u : World) (seat made phase cset : ℕ) (command : Comman
   }
 
   -- the step that asks for a cycle settles Ok
-  pub at_ask : (order : Order) → Row c u (at_spot AskCycle) command order fixed
-  at_ask (Begin k) shared mine takes = cc
-  at_ask Nothing shared mine takes =
+  pub at_ask : Row c u (at_spot AskCycle) command fixed
+  at_ask shared mine =
       let gc : (outcome u.graph (seat + 1) command).reply ≡ reply.Ok = ap (λ k. (outcome u.graph (seat + 1) k).reply) mine.facts.1 in
       record {
         world = accessed c u (at_spot AskCycle);
@@ -75,20 +72,19 @@ module _ (c : Config) (u : World) (seat made phase cset : ℕ) (command : Comman
         legal = legal_answer u.graph seat command reply.Ok refl gc;
         settles = λ r e. (mine.facts.0, refl);
         shared = shared;
-        mine = leaving c _ seat made phase cset command reply.Ok mine.seat mine.made mine.roots mine.hands;
+        mine = leaving c _ seat made phase cset command reply.Ok mine.seated mine.roots mine.hands;
         others = λ j d. search (arith, nat_tests);
       }
 
   -- the last step of a call gives its reply
-  pub at_leave : (r : Reply) (order : Order) → Row c u (at_spot (Leave r)) command order fixed
-  at_leave r (Begin k) shared mine takes = cc
-  at_leave r Nothing shared mine takes = record {
+  pub at_leave : (r : Reply) → Row c u (at_spot (Leave r)) command fixed
+  at_leave r shared mine = record {
     world = accessed c u (at_spot (Leave r));
     memory = refl;
     graph = refl;
     legal = tt;
     settles = λ q e. cc;
     shared = shared;
-    mine = record { seat = mine.seat; ready = refl; made = mine.made; roots = mine.roots; hands = mine.hands; facts = refl };
+    mine = record { seated = mine.seated; ready = refl; roots = mine.roots; hands = mine.hands; facts = refl };
     others = λ j d. search (arith, nat_tests);
   }

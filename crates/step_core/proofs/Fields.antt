@@ -13,8 +13,6 @@ use Rattle.shen_graph.specs.Graph.{with_root, same_reference}
 use Rattle.shen_graph.specs.Step.{shown, answers, outcome}
 use Rattle.mutator.specs.declared.spot.Spot.{Spot}
 use Rattle.mutator.specs.declared.spot.Spot.TheVariants.{LoadField, LoadExpected, LoadNumber, LoadName}
-use Rattle.mutator.specs.declared.spot.Order.{Order}
-use Rattle.mutator.specs.declared.spot.Order.TheVariants.{Nothing, Begin}
 use Rattle.mutator.specs.Rows.{Mutating, name_in}
 use Rattle.mutator.specs.Told.{name_the_same}
 use Rattle.heap_world.specs.World.{World}
@@ -31,9 +29,8 @@ module _ (c : Config) (u : World) (seat made phase cset : ℕ) (command : Comman
   at_spot spot = mutator_at seat made phase cset spot
 
   -- the load of a field settles the reference that it stands for
-  pub at_load_field : (object field dst : ℕ) (order : Order) → Row c u (at_spot (LoadField object field dst)) command order fixed
-  at_load_field object field dst (Begin l) shared mine takes = cc
-  at_load_field object field dst Nothing shared mine takes =
+  pub at_load_field : (object field dst : ℕ) → Row c u (at_spot (LoadField object field dst)) command fixed
+  at_load_field object field dst shared mine =
       let get = mine.facts.1 in
       let here = field_in c u shared seat get.src object field get.of get.below in
       let got : ℕ = u.memory (Heap (object + 3 + field)) in
@@ -44,14 +41,13 @@ module _ (c : Config) (u : World) (seat made phase cset : ℕ) (command : Comman
       (ap (λ k. outcome u.graph (seat + 1) k) get.is ∙ rw here.1 refl)
       shared
       (field_mine c (record { memory = u.memory; block = u.block; owner = u.owner; graph = with_root u.graph (seat + 1) dst here.0 }) seat made phase cset command dst got here.0
-      shared mine.seat mine.made get.small
+      shared mine.seated get.small
       (roots_then u.block (λ i. u.memory (Root seat i)) u.graph.root (seat + 1) dst got here.0 mine.roots here.2)
       mine.hands here.2)
 
   -- the load of a field that is to change only from an expected reference settles No where it has another
-  pub at_load_expected : (object field expect value : ℕ) (order : Order) → Row c u (at_spot (LoadExpected object field expect value)) command order fixed
-  at_load_expected object field expect value (Begin l) shared mine takes = cc
-  at_load_expected object field expect value Nothing shared mine takes =
+  pub at_load_expected : (object field expect value : ℕ) → Row c u (at_spot (LoadExpected object field expect value)) command fixed
+  at_load_expected object field expect value shared mine =
       let cas = mine.facts.1 in
       let here = field_in c u shared seat cas.obj object field cas.of cas.below in
       let got : ℕ = u.memory (Heap (object + 3 + field)) in
@@ -62,10 +58,9 @@ module _ (c : Config) (u : World) (seat made phase cset : ℕ) (command : Comman
       (λ (same : (got == expect) ≡ true).
       looks c u (at_spot (LoadExpected object field expect value)) (Heap (object + 3 + field)) command fixed refl (cond-true _ _ _ (agree ∙ same)) refl shared
       (rw same (record {
-        seat = mine.seat;
+        seated = mine.seated;
         ready = ready_of _ (is_number got && is_number value) (word_in c u shared seat cas.obj object (object + 3 + field) (3 + field) cas.of (omega arith) (omega arith))
             (and_from _ _ (number_small got (points_small c _ u.block shared.plotted got here.0 here.2)) (number_small value (points_small c _ u.block shared.plotted value _ cas.value_is)));
-        made = mine.made;
         roots = mine.roots;
         hands = mine.hands;
         facts = (mine.facts.0, cas, eqb-true _ _ same);
@@ -74,35 +69,32 @@ module _ (c : Config) (u : World) (seat made phase cset : ℕ) (command : Comman
       replies c u (at_spot (LoadExpected object field expect value)) (Heap (object + 3 + field)) command fixed reply.No refl (cond-false _ _ _ (agree ∙ differs)) refl mine.facts.0 refl
       (ap (λ k. outcome u.graph (seat + 1) k) cas.is ∙ rw here.1 (cond-false _ _ _ (sym words ∙ differs)))
       shared
-      (rw differs (leaving c _ seat made phase cset command reply.No mine.seat mine.made mine.roots mine.hands)))
+      (rw differs (leaving c _ seat made phase cset command reply.No mine.seated mine.roots mine.hands)))
       (cases_Bool (got == expect))
 
   -- the load of a number settles it
-  pub at_load_number : (object refs index : ℕ) (order : Order) → Row c u (at_spot (LoadNumber object refs index)) command order fixed
-  at_load_number object refs index (Begin l) shared mine takes = cc
-  at_load_number object refs index Nothing shared mine takes =
+  pub at_load_number : (object refs index : ℕ) → Row c u (at_spot (LoadNumber object refs index)) command fixed
+  at_load_number object refs index shared mine =
       let rd = mine.facts.1 in
       let here = number_in c u shared seat rd.obj object index rd.of rd.below in
       let got : ℕ = u.memory (Heap (object + 3 + refs + index)) in
       replies c u (at_spot (LoadNumber object refs index)) (Heap (object + 3 + refs + index)) command fixed (reply.Number got) refl refl refl mine.facts.0 refl
       (ap (λ k. outcome u.graph (seat + 1) k) rd.is ∙ rw here (ap (λ n. answers (reply.Number (u.memory (Heap (object + 3 + n + index)))) u.graph) (sym rd.refs_are)))
       shared
-      (leaving c _ seat made phase cset command (reply.Number got) mine.seat mine.made mine.roots mine.hands)
+      (leaving c _ seat made phase cset command (reply.Number got) mine.seated mine.roots mine.hands)
 
   -- the load of a name: it is the one that was settled
-  pub at_load_name : (value dst : ℕ) (order : Order) → Row c u (at_spot (LoadName value dst)) command order fixed
-  at_load_name value dst (Begin l) shared mine takes = cc
-  at_load_name value dst Nothing shared mine takes =
+  pub at_load_name : (value dst : ℕ) → Row c u (at_spot (LoadName value dst)) command fixed
+  at_load_name value dst shared mine =
       let found = mine.facts in
       let word = name_there c u shared value found.name found.is in
       let read : name_in (u.memory (Heap (value + 2))) ≡ found.name = ap name_in word.0 ∙ name_read found.name word.1 in
-      let below = mine.seat in
+      let below = mine.seated.below in
       let small = found.small in
       looks c u (at_spot (LoadName value dst)) (Heap (value + 2)) command fixed refl refl refl shared
       (record {
-        seat = mine.seat;
+        seated = mine.seated;
         ready = ready_of _ _ (grind (arith, nat_tests)) (number_small value (points_small c _ u.block shared.plotted value (Some found.name) found.is));
-        made = mine.made;
         roots = mine.roots;
         hands = mine.hands;
         facts = (found.settled ∙ ap (λ n. Some (reply.Ref n)) (sym read), found.small);

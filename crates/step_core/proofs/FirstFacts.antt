@@ -7,7 +7,7 @@ use Rattle.std.specs.Int.{bit_at}
 use Rattle.std.proofs.lemmas.Nat.Bits.{bit_at_lowest}
 use Rattle.std.proofs.lemmas.Nat.{pow_pos}
 use Rattle.std.proofs.Math.Nat.{pow-succ'}
-use Rattle.std.proofs.lemmas.Bool.{cases_eq, and_right, cond-false, ne_eqb, eqb-true, ltb-true}
+use Rattle.std.proofs.lemmas.Bool.{cases_eq, and_right, cond-false, ne_eqb, eqb-true, ltb-true, ltb-false}
 use Rattle.std.proofs.lemmas.Bool.Decides.{nat_tests}
 use Rattle.heap_words.specs.declared.config.Config.{Config}
 use Rattle.heap_words.specs.Ranges.{seat_count}
@@ -17,11 +17,12 @@ use Rattle.shen_graph.specs.declared.name.Name.{Name}
 use Rattle.shen_graph.specs.declared.command.Command.TheVariants.{Gc}
 use Rattle.shen_graph.specs.Graph.{Object, hub, same_name, blank}
 use Rattle.mutator.specs.Rows.{fresh_mutator}
-use Rattle.step_core.specs.Actor.{mutating, helping, controlling}
-use Rattle.step_core.specs.Opening.{opening_machine, opening_actor, opening, first_free}
-use Rattle.heap_world.specs.World.{World, Plot, Block, thing, hand, words_of, name_at, Points, IsInUse, IsPlotted, IsFilled, IsObject, IsGiven, AreObjects, IsFreeWord, Shared}
-use Rattle.step_core.specs.Stepped.{Mine}
-use Rattle.step_core.specs.Follows.{first_graph, IsMachine, Follows}
+use Rattle.step_core.specs.Actor.{mutating, fresh_helper, fresh_control}
+use Rattle.step_core.specs.Opening.{opening_actor, opening, first_free}
+use Rattle.heap_world.specs.World.{World, Plot, Block, thing, hand, words_of, name_at, Points, IsInUse, IsPlotted, IsFilled, IsThing, IsGiven, AreObjects, IsFreeWord, Shared}
+use Rattle.heap_world.specs.Represents.{Represents}
+use Rattle.step_core.specs.Begins.{IsNew, Begins, first_graph}
+use Rattle.step_core.proofs.Roots.{no_more_opening}
 use Rattle.shen_graph.proofs.PlainLemmas.{same_name-true}
 use Rattle.step_core.proofs.NewObject.{all_alike}
 use Rattle.step_core.proofs.OpeningStands.{rooted_memory, first_memory, view-opening, length-opening}
@@ -122,7 +123,7 @@ first_filled c = record {
 }
 
 -- the words of the hub are those of a blank object
-hub_object : (c : Config) → IsObject (λ a. first_memory c (Heap a)) (first_block c) c.region_words 16 0 hub (blank 16 0)
+hub_object : (c : Config) → IsThing (λ a. first_memory c (Heap a)) (first_block c) c.region_words 16 0 hub (blank 16 0)
 hub_object c = record {
   header = heap_first c;
   shape = heap_second c;
@@ -148,10 +149,10 @@ first_objects c = record {
       let none : 0 ≡ nums = cc in (
         blank 16 0,
         ap (λ n. (first_graph c).object n) (sym names),
-        subst (λ n. IsObject (λ b. first_memory c (Heap b)) (first_block c) a refs nums n (blank 16 0)) names
-            (subst (λ b. IsObject (λ b. first_memory c (Heap b)) (first_block c) b refs nums hub (blank 16 0)) at
-            (subst (λ r. IsObject (λ b. first_memory c (Heap b)) (first_block c) c.region_words r nums hub (blank 16 0)) sizes
-            (subst (λ m. IsObject (λ b. first_memory c (Heap b)) (first_block c) c.region_words 16 m hub (blank 16 0)) none (hub_object c)))),
+        subst (λ n. IsThing (λ b. first_memory c (Heap b)) (first_block c) a refs nums n (blank 16 0)) names
+            (subst (λ b. IsThing (λ b. first_memory c (Heap b)) (first_block c) b refs nums hub (blank 16 0)) at
+            (subst (λ r. IsThing (λ b. first_memory c (Heap b)) (first_block c) c.region_words r nums hub (blank 16 0)) sizes
+            (subst (λ m. IsThing (λ b. first_memory c (Heap b)) (first_block c) c.region_words 16 m hub (blank 16 0)) none (hub_object c)))),
       );
   once = λ a b refs nums more_refs more_nums name is_a is_b. (block_only c a _ is_a).0 ∙ sym (block_only c b _ is_b).0;
 }
@@ -218,34 +219,40 @@ first_roots c k i below = ⊎_elim
         ap (λ a. name_at (first_block c a)) (rooted_root c c.mutators k below) ∙ ap name_at (block_hub c) in
         subst (λ r. Points (first_block c) (first_memory c (Root k 0)) r) (sym named) at_hub
 
--- what a mutator knows holds of the opening
-first_mine : (c : Config) (k : ℕ) → k < c.mutators → Mine c (first_world c) (fresh_mutator k) Gc None
-first_mine c k below = record { seat = below; ready = refl; made = refl; roots = λ i small. first_roots c k i below; hands = λ a words is. (let no = (block_only c a (hand k words) is).1 in cc); facts = refl }
-
--- each machine of the opening follows the empty history
-first_machine : (c : Config) (k : ℕ) → IsMachine c (first_world c) [] k (opening_actor c k) (opening_machine c k)
-first_machine c k = by_test (nat_lt k c.mutators) (nat_lt k (c.mutators + c.helpers)) refl
-  where
-    by_test : (b d : Bool) → nat_lt k c.mutators ≡ b → IsMachine c (first_world c) [] k (opening_actor c k) (if b then mutating (fresh_mutator k) else (if d then helping else controlling))
-    by_test true d is = record { fixed = None; number_is = refl; mine = first_mine c k (ltb-true _ _ is); entries_are = refl }
-    by_test false true is = tt
-    by_test false false is = tt
-
--- the opening follows the empty history
-pub follows_first : (c : Config) → Follows c (opening c) []
-unfolding opening
-follows_first c = record {
+-- its words stand for the graph of the opening
+first_stands : (c : Config) → Represents c (first_memory c) (first_graph c)
+first_stands c = record {
   block = first_block c;
   owner = λ _. None;
+  shared = first_shared c;
+  roots = λ t i below small. first_roots c t i below;
+  none = λ a seat words is. (let no = (block_only c a (hand seat words) is).1 in cc);
+}
+
+-- each machine of the opening is idle
+first_new : (c : Config) (k : ℕ) → k < seat_count c.mutators c.helpers → IsNew c (first_graph c) k (opening_actor c k)
+first_new c k within = by_test (nat_lt k c.mutators) (nat_lt k (c.mutators + c.helpers)) refl refl
+  where
+    by_test : (b d : Bool) → nat_lt k c.mutators ≡ b → nat_lt k (c.mutators + c.helpers) ≡ d
+        → IsNew c (first_graph c) k (record { machine = if b then mutating (fresh_mutator k) else (if d then fresh_helper else fresh_control); command = Gc; calls = [] })
+    by_test true d is more = record { number_is = (refl, ltb-true _ _ is); idle = (refl, refl); calls = refl; valid = refl }
+    by_test false true is more = record { number_is = (ltb-false _ _ is, ltb-true _ _ more); idle = tt; calls = refl; valid = refl }
+    by_test false false is more = record { number_is = (let past = ltb-false _ _ more in omega (arith, past, within)); idle = tt; calls = refl; valid = refl }
+
+-- the opening begins its graph
+pub opening_begins : (c : Config) → Begins c (opening c) (first_graph c)
+unfolding opening
+opening_begins c = record {
   words = length-opening c;
-  legal = tt;
-  shared = subst (λ m. Shared c (record { memory = m; block = first_block c; owner = λ _. None; graph = first_graph c })) (sym (view-opening c)) (first_shared c);
+  seats = length-map-range_with_len (opening_actor c) 0 (seat_count c.mutators c.helpers);
+  stands = subst (λ m. Represents c m (first_graph c)) (sym (view-opening c)) (first_stands c);
+  no_more = no_more_opening c.mutators;
   machines = λ k a there.
       let within = slice_get_within _ k a there in
       let count : length (opening c).machines ≡ seat_count c.mutators c.helpers = length-map-range_with_len (opening_actor c) 0 (seat_count c.mutators c.helpers) in
+      let below : k < seat_count c.mutators c.helpers = omega (arith, within, count) in
       let is : opening_actor c k ≡ a =
-      sym (get_or-map-range_with_len (opening_actor c) 0 (seat_count c.mutators c.helpers) k k a (omega (arith, within, count)) (omega arith))
+      sym (get_or-map-range_with_len (opening_actor c) 0 (seat_count c.mutators c.helpers) k k a below (omega arith))
       ∙ get_or_from_slice_get (opening c).machines k a a there in
-      subst (λ m. IsMachine c (record { memory = m; block = first_block c; owner = λ _. None; graph = first_graph c }) [] k a a.machine) (sym (view-opening c))
-      (subst (λ b. IsMachine c (first_world c) [] k b b.machine) is (first_machine c k));
+      subst (λ b. IsNew c (first_graph c) k b) is (first_new c k below);
 }

@@ -12,11 +12,9 @@ use Rattle.shen_graph.specs.Graph.{Object, blank, fresh, with_root, with_fresh}
 use Rattle.shen_graph.specs.Step.{outcome}
 use Rattle.mutator.specs.declared.spot.Spot.{Spot}
 use Rattle.mutator.specs.declared.spot.Spot.TheVariants.{StoreWord, StoreFresh, Leave}
-use Rattle.mutator.specs.declared.spot.Order.{Order}
-use Rattle.mutator.specs.declared.spot.Order.TheVariants.{Nothing, Begin}
 use Rattle.mutator.specs.Rows.{Mutating, fresh_word, touch_of}
 use Rattle.steps_base.specs.Touch.{touched}
-use Rattle.heap_world.specs.World.{World, Block, thing, hand, words_of, name_at, IsObject, IsGiven, Shared}
+use Rattle.heap_world.specs.World.{World, Block, thing, hand, words_of, name_at, IsThing, IsGiven, Shared}
 use Rattle.step_core.specs.Stepped.{IsFilling, Mine, Row}
 use Rattle.heap_world.specs.Rely.{Rely}
 use Rattle.heap_world.proofs.Updates.{updated, updated_there}
@@ -89,17 +87,15 @@ module _ (c : Config) (u : World) (seat made phase cset : ℕ) (command : Comman
     mine_stored : (b : Bool) → nat_lt (done + 1) (3 + refs + nums) ≡ b
         → Mine c stored_world (at_spot (if b then StoreWord dst refs nums address (done + 1) else StoreFresh dst refs nums address)) command fixed
     mine_stored true more = record {
-      seat = mine.seat;
-      ready = word_ready c seat made command fixed dst refs nums mine.facts.0 (λ r. u.memory (Top r)) u.block shared.plotted address mine.facts.1.room mine.seat (done + 1) (ltb-true _ _ more);
-      made = mine.made;
+      seated = mine.seated;
+      ready = word_ready c seat made command fixed dst refs nums mine.facts.0 (λ r. u.memory (Top r)) u.block shared.plotted address mine.facts.1.room mine.seated.below (done + 1) (ltb-true _ _ more);
       roots = mine.roots;
       hands = mine.hands;
       facts = (mine.facts.0, filling, ltb-true _ _ more);
     }
     mine_stored false all = record {
-      seat = mine.seat;
-      ready = fresh_ready c seat made command fixed dst refs nums mine.facts.0 (λ r. u.memory (Top r)) u.block shared.plotted address mine.facts.1.room mine.seat;
-      made = mine.made;
+      seated = mine.seated;
+      ready = fresh_ready c seat made command fixed dst refs nums mine.facts.0 (λ r. u.memory (Top r)) u.block shared.plotted address mine.facts.1.room mine.seated.below;
       roots = mine.roots;
       hands = mine.hands;
       facts = (
@@ -130,9 +126,8 @@ module _ (c : Config) (u : World) (seat made phase cset : ℕ) (command : Comman
     }
 
   -- the step that stores a word of a new object
-  pub at_store_word : (dst refs nums address done : ℕ) (order : Order) → Row c u (at_spot (StoreWord dst refs nums address done)) command order fixed
-  at_store_word dst refs nums address done (Begin l) shared mine takes = cc
-  at_store_word dst refs nums address done Nothing shared mine takes = record {
+  pub at_store_word : (dst refs nums address done : ℕ) → Row c u (at_spot (StoreWord dst refs nums address done)) command fixed
+  at_store_word dst refs nums address done shared mine = record {
     world = stored_world dst refs nums address done shared mine;
     memory = refl;
     graph = refl;
@@ -169,17 +164,17 @@ module _ (c : Config) (u : World) (seat made phase cset : ℕ) (command : Comman
 
     -- the thread's fresh name is the one that the mutator writes
     name_is : name ≡ next_name (seat + 1) made
-    name_is = ap (next_name (seat + 1)) mine.made
+    name_is = ap (next_name (seat + 1)) mine.seated.counted
 
     -- no object has it
     not_given : (o : Object) → u.graph.object name ≡ Some o → ⊥
     not_given o is = let given = shared.given name o is in let most = given.by_thread (omega arith) in omega (arith, most)
 
     -- its words are those of a blank object
-    new_is : IsObject (λ a. u.memory (Heap a)) made_world.block address refs nums name (blank refs nums)
+    new_is : IsThing (λ a. u.memory (Heap a)) made_world.block address refs nums name (blank refs nums)
     new_is =
         let making = mine.facts.0 in
-        subst (λ n. IsObject (λ a. u.memory (Heap a)) made_world.block address refs nums n (blank refs nums)) (sym name_is)
+        subst (λ n. IsThing (λ a. u.memory (Heap a)) made_world.block address refs nums n (blank refs nums)) (sym name_is)
         (new_object (λ a. u.memory (Heap a)) made_world.block address seat made refs nums making.few_refs making.few_nums mine.facts.1.stored)
 
     -- its name is given then
@@ -187,8 +182,8 @@ module _ (c : Config) (u : World) (seat made phase cset : ℕ) (command : Comman
     is_given =
         let own = count_own u.graph.count (seat + 1) in
         let few = mine.facts.0.few in
-        let counted = mine.made in
-        let within = mine.seat in
+        let counted = mine.seated.counted in
+        let within = mine.seated.below in
         record { thread = omega (arith, within); made = omega (arith, own); by_thread = λ one. omega (arith, own); small = omega (arith, few, counted) }
 
     -- machines share what they should
@@ -208,7 +203,7 @@ module _ (c : Config) (u : World) (seat made phase cset : ℕ) (command : Comman
     -- the mutator has only to leave
     mine_made : Mine c made_world (mutator_at seat (made + 1) phase cset (Leave (reply.Ref (next_name (seat + 1) made)))) command (Some (reply.Ref (next_name (seat + 1) made)))
     mine_made =
-        leaving c made_world seat (made + 1) phase cset command (reply.Ref (next_name (seat + 1) made)) mine.seat (count_own u.graph.count (seat + 1) ∙ ap (λ k. k + 1) mine.made)
+        leaving c made_world seat (made + 1) phase cset command (reply.Ref (next_name (seat + 1) made)) (record { below = mine.seated.below; counted = count_own u.graph.count (seat + 1) ∙ ap (λ k. k + 1) mine.seated.counted })
         (roots_written made_world.block u.memory u.graph.root seat dst address (Some name)
         (λ i below. points_stay u.block made_world.block names (u.memory (Root seat i)) (u.graph.root (seat + 1) i) (mine.roots i below))
         (ap name_at (updated_there u.block address (Some (thing name refs nums)))))
@@ -234,9 +229,8 @@ module _ (c : Config) (u : World) (seat made phase cset : ℕ) (command : Comman
     }
 
   -- the step that stores a new object into a root settles its name
-  pub at_store_fresh : (dst refs nums address : ℕ) (order : Order) → Row c u (at_spot (StoreFresh dst refs nums address)) command order fixed
-  at_store_fresh dst refs nums address (Begin l) shared mine takes = cc
-  at_store_fresh dst refs nums address Nothing shared mine takes =
+  pub at_store_fresh : (dst refs nums address : ℕ) → Row c u (at_spot (StoreFresh dst refs nums address)) command fixed
+  at_store_fresh dst refs nums address shared mine =
       let making = mine.facts.0 in
       let answer : Reply = reply.Ref (next_name (seat + 1) made) in
       let replied : (outcome u.graph (seat + 1) command).reply ≡ answer =

@@ -11,7 +11,7 @@ use Rattle.shen_graph.specs.Step.{shown}
 use Rattle.shen_graph.specs.History.{is_full}
 use Rattle.mutator.specs.Rows.{after_field}
 use Rattle.heap_world.specs.World.{World, hand, thing, Points, Shared}
-use Rattle.step_core.specs.Stepped.{Mine}
+use Rattle.step_core.specs.Stepped.{IsSeated, Mine}
 use Rattle.step_core.proofs.Spots.{mutator_at}
 use Rattle.heap_world.proofs.Pointing.{named_thing, piece_word, null_if_0, named_if_not_0}
 use Rattle.step_core.proofs.Ready.{ready_of}
@@ -23,18 +23,18 @@ shown_not_full (Some n) = refl
 
 -- With the reference of a field in hand for a root, and settled, a call goes on: it stores null, or loads the name first.
 pub field_mine : (c : Config) (w : World) (seat made phase cset : ℕ) (command : Command) (dst got : ℕ) (v : Reference)
-    → Shared c w → seat < c.mutators → w.graph.count (seat + 1) ≡ made → dst < 16
+    → Shared c w → IsSeated c.mutators seat (w.graph.count (seat + 1)) made → dst < 16
     → ((i : ℕ) → i < 16 → Points w.block (if i == dst then got else w.memory (Root seat i)) (w.graph.root (seat + 1) i))
     → ((a words : ℕ) → w.block a ≡ Some (hand seat words) → ⊥)
     → Points w.block got v
     → Mine c w (mutator_at seat made phase cset (after_field dst got)) command (Some (shown v))
-field_mine c w seat made phase cset command dst got v shared below count small roots hands is = ⊎_elim
+field_mine c w seat made phase cset command dst got v shared seated small roots hands is = ⊎_elim
     (λ (none : (got == 0) ≡ true).
+    let below = seated.below in
     let zero_got : got ≡ 0 = eqb-true _ _ none in
     rw none (record {
-      seat = below;
+      seated = seated;
       ready = ready_of _ true (grind (arith, nat_tests)) refl;
-      made = count;
       roots = λ i few. subst (λ word. Points w.block (if i == dst then word else w.memory (Root seat i)) (w.graph.root (seat + 1) i)) zero_got (roots i few);
       hands = hands;
       facts = (ap (λ r. Some (shown r)) (null_if_0 c _ w.block shared.plotted got v is zero_got), small);
@@ -43,9 +43,8 @@ field_mine c w seat made phase cset command dst got v shared below count small r
     let named = named_if_not_0 c _ w.block shared.plotted got v is (eqb-false _ _ some) in
     let piece = named_thing (w.block got) named.0 named.2 in
     rw some (record {
-      seat = below;
+      seated = seated;
       ready = ready_of _ true (piece_word c _ w.block shared.plotted got 2 (thing named.0 piece.0 piece.1) piece.2 (omega arith)) refl;
-      made = count;
       roots = roots;
       hands = hands;
       facts = record { name = named.0; settled = ap (λ r. Some (shown r)) named.1; is = named.2; small = small };

@@ -14,7 +14,12 @@ mod Ready
 mod Takes
 mod Fresh
 mod Places
+pub mod Facts
+mod Roles
 mod Entries
+mod Owing
+mod Roots
+mod Beginning
 pub mod Induction
 pub mod OpeningStands
 pub mod FirstFacts

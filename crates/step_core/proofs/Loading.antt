@@ -11,7 +11,7 @@ use Rattle.shen_graph.specs.declared.command.Reply.{Reply}
 use Rattle.shen_graph.specs.Graph.{Reference, with_root}
 use Rattle.shen_graph.specs.Step.{answers, outcome}
 use Rattle.shen_graph.specs.History.{is_full}
-use Rattle.mutator.specs.declared.spot.Order.TheVariants.{Nothing}
+use Rattle.shen_graph.specs.declared.order.Order.TheVariants.{Nothing}
 use Rattle.mutator.specs.Rows.{Mutating, touch_of, next_of, given_at}
 use Rattle.mutator.specs.Told.{told_of}
 use Rattle.heap_world.specs.World.{World, Plot, Points, Shared}

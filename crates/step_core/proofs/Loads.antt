@@ -15,8 +15,7 @@ use Rattle.shen_graph.specs.Step.{yes_or_no, answers, outcome}
 use Rattle.shen_graph.specs.History.{is_full}
 use Rattle.mutator.specs.declared.spot.Spot.{Spot}
 use Rattle.mutator.specs.declared.spot.Spot.TheVariants.{LoadSet, LoadRoot, LoadSecond, LoadThird, LoadShape, Leave}
-use Rattle.mutator.specs.declared.spot.Order.{Order}
-use Rattle.mutator.specs.declared.spot.Order.TheVariants.{Nothing, Begin}
+use Rattle.shen_graph.specs.declared.order.Order.TheVariants.{Nothing}
 use Rattle.mutator.specs.Orders.{is_next}
 use Rattle.mutator.specs.Rows.{Mutating, roots_of, root_of, is_on_object, lacks_object, has_part, first_spot, after_first, with_part}
 use Rattle.mutator.specs.Told.{name_the_same}
@@ -80,19 +79,18 @@ module _ (c : Config) (u : World) (seat made phase cset : ℕ) (command : Comman
   -- it can go on with the command's first root
   root_mine : (k : Command) (now : ℕ) → 0 < length (roots_of k) → HasBegun cset k → HasSpot now fixed (LoadRoot k)
   root_mine k now some mine =
-      let below = mine.seat in
+      let below = mine.seated.below in
       let small = root_small made k 0 mine.facts.next some in
-      record { seat = mine.seat; ready = grind (arith, nat_tests); made = mine.made; roots = mine.roots; hands = mine.hands; facts = (mine.facts, some) }
+      record { seated = mine.seated; ready = grind (arith, nat_tests); roots = mine.roots; hands = mine.hands; facts = (mine.facts, some) }
 
   -- where it goes on after the collection set
   set_mine : (k : Command) (now : ℕ) → HasBegun cset k → HasSpot now fixed (first_spot k)
   set_mine (New dst refs nums) now mine =
-      let below = mine.seat in
+      let below = mine.seated.below in
       let next = mine.facts.next in
       record {
-        seat = mine.seat;
+        seated = mine.seated;
         ready = grind (arith, nat_tests);
-        made = mine.made;
         roots = mine.roots;
         hands = mine.hands;
         facts = (
@@ -108,18 +106,17 @@ module _ (c : Config) (u : World) (seat made phase cset : ℕ) (command : Comman
         );
       }
   set_mine (Drop dst) now mine =
-      let below = mine.seat in
+      let below = mine.seated.below in
       let next = mine.facts.next in
       let small : dst < 16 = grind (arith, nat_tests) in
       record {
-        seat = mine.seat;
+        seated = mine.seated;
         ready = grind (arith, nat_tests);
-        made = mine.made;
         roots = mine.roots;
         hands = mine.hands;
         facts = (mine.facts.unsettled, small, inr (record { is = mine.facts.is; value_is = refl }));
       }
-  set_mine Gc now mine = record { seat = mine.seat; ready = refl; made = mine.made; roots = mine.roots; hands = mine.hands; facts = (mine.facts.unsettled, mine.facts.is) }
+  set_mine Gc now mine = record { seated = mine.seated; ready = refl; roots = mine.roots; hands = mine.hands; facts = (mine.facts.unsettled, mine.facts.is) }
   set_mine (Get dst src field) now mine = root_mine (Get dst src field) now (omega arith) mine
   set_mine (Set obj field val) now mine = root_mine (Set obj field val) now (omega arith) mine
   set_mine (Cas obj field expect val) now mine = root_mine (Cas obj field expect val) now (omega arith) mine
@@ -131,16 +128,15 @@ module _ (c : Config) (u : World) (seat made phase cset : ℕ) (command : Comman
 
   -- it leaves with the reply that is settled
   leave_mine : (k : Command) (r : Reply) → HasBegun cset k → HasSpot cset (Some r) (Leave r)
-  leave_mine k r mine = leaving c _ seat made phase cset command r mine.seat mine.made mine.roots mine.hands
+  leave_mine k r mine = leaving c _ seat made phase cset command r mine.seated mine.roots mine.hands
 
   -- it can go on with the shape of the command's object
   shape_mine : (k : Command) (object second third : ℕ) → Shared c u → HasBegun cset k → is_on_object k ≡ true → HasRoots u seat k object second third → HasSpot cset fixed (LoadShape k object second third)
   shape_mine k object second third shared mine on has =
       let of : HasObject u seat (root_of k 0) object = object_of c u seat k object shared on has.first_is in
       record {
-        seat = mine.seat;
+        seated = mine.seated;
         ready = ready_of _ true (word_in c u shared seat (root_of k 0) object (object + 1) 1 of (omega arith) refl) refl;
-        made = mine.made;
         roots = mine.roots;
         hands = mine.hands;
         facts = (mine.facts, on, has);
@@ -153,16 +149,16 @@ module _ (c : Config) (u : World) (seat made phase cset : ℕ) (command : Comman
   -- it can go on with the second root, and with the third
   second_mine : (k : Command) (first : ℕ) → HasBegun cset k → 1 < length (roots_of k) → HasFirst u seat k first → HasSpot cset fixed (LoadSecond k first)
   second_mine k first mine more has =
-      let below = mine.seat in
+      let below = mine.seated.below in
       let small = root_small made k 1 mine.facts.next more in
-      record { seat = mine.seat; ready = grind (arith, nat_tests); made = mine.made; roots = mine.roots; hands = mine.hands; facts = (mine.facts, more, has) }
+      record { seated = mine.seated; ready = grind (arith, nat_tests); roots = mine.roots; hands = mine.hands; facts = (mine.facts, more, has) }
 
   -- it can go on with the third root
   third_mine : (k : Command) (first second : ℕ) → HasBegun cset k → 2 < length (roots_of k) → HasFirst u seat k first → HasRoot u seat k 1 second → HasSpot cset fixed (LoadThird k first second)
   third_mine k first second mine more has has_second =
-      let below = mine.seat in
+      let below = mine.seated.below in
       let small = root_small made k 2 mine.facts.next more in
-      record { seat = mine.seat; ready = grind (arith, nat_tests); made = mine.made; roots = mine.roots; hands = mine.hands; facts = (mine.facts, more, has, has_second) }
+      record { seated = mine.seated; ready = grind (arith, nat_tests); roots = mine.roots; hands = mine.hands; facts = (mine.facts, more, has, has_second) }
 
   -- where it goes on after the first root
   first_mine : (k : Command) (first : ℕ) → Shared c u → HasBegun cset k → HasFirst u seat k first → HasSpot cset fixed (after_first k first)
@@ -177,14 +173,13 @@ module _ (c : Config) (u : World) (seat made phase cset : ℕ) (command : Comman
   first_mine (Xchg dst obj field val) first shared mine has = second_mine (Xchg dst obj field val) first mine (omega arith) has
   first_mine (Same a b) first shared mine has = second_mine (Same a b) first mine (omega arith) has
   first_mine (Copy dst src) first shared mine has =
-      let below = mine.seat in
+      let below = mine.seated.below in
       let next = mine.facts.next in
       let small : dst < 16 = grind (arith, nat_tests) in
       let value_is : Points u.block first (u.graph.root (seat + 1) src) = has.first_is has.some in
       record {
-        seat = mine.seat;
+        seated = mine.seated;
         ready = ready_of _ _ (grind (arith, nat_tests)) (number_small first (points_small c _ u.block shared.plotted first _ value_is));
-        made = mine.made;
         roots = mine.roots;
         hands = mine.hands;
         facts = (mine.facts.unsettled, small, inl (record { src = src; is = mine.facts.is; value_is = value_is }));
@@ -192,9 +187,8 @@ module _ (c : Config) (u : World) (seat made phase cset : ℕ) (command : Comman
   first_mine _ first shared mine has = let some = has.some in absurd (omega arith)
 
   -- the load of the collection set
-  pub at_load_set : (k : Command) (order : Order) → Row c u (at_spot (LoadSet k)) command order fixed
-  at_load_set k (Begin l) shared mine takes = cc
-  at_load_set k Nothing shared mine takes = looks c u (at_spot (LoadSet k)) Cset command fixed refl refl refl shared (set_mine k (u.memory Cset) mine)
+  pub at_load_set : (k : Command) → Row c u (at_spot (LoadSet k)) command fixed
+  at_load_set k shared mine = looks c u (at_spot (LoadSet k)) Cset command fixed refl refl refl shared (set_mine k (u.memory Cset) mine)
 
   -- the first root of a command is null, and there is no object
   root_lacks : (k : Command) → Shared c u → HasBegun cset k → 0 < length (roots_of k) → lacks_object k (u.memory (Root seat (root_of k 0))) ≡ true → Stepped c u (at_spot (LoadRoot k)) command Nothing fixed
@@ -217,10 +211,9 @@ module _ (c : Config) (u : World) (seat made phase cset : ℕ) (command : Comman
       })))
 
   -- the load of the first root
-  pub at_load_root : (k : Command) (order : Order) → Row c u (at_spot (LoadRoot k)) command order fixed
-  at_load_root k (Begin l) shared mine takes = cc
-  at_load_root k Nothing shared mine takes =
-      let base : HasBegun cset k = record { seat = mine.seat; ready = refl; made = mine.made; roots = mine.roots; hands = mine.hands; facts = mine.facts.0 } in
+  pub at_load_root : (k : Command) → Row c u (at_spot (LoadRoot k)) command fixed
+  at_load_root k shared mine =
+      let base : HasBegun cset k = record { seated = mine.seated; ready = refl; roots = mine.roots; hands = mine.hands; facts = mine.facts.0 } in
       ⊎_elim (root_lacks k shared base mine.facts.1) (root_goes k shared base mine.facts.1) (cases_Bool (lacks_object k (u.memory (Root seat (root_of k 0)))))
 
   -- where it goes on after the second root; for a Same it is settled here whether the roots are the same
@@ -247,10 +240,9 @@ module _ (c : Config) (u : World) (seat made phase cset : ℕ) (command : Comman
   second_step _ first shared mine more has = absurd (omega arith)
 
   -- the load of the second root
-  pub at_load_second : (k : Command) (first : ℕ) (order : Order) → Row c u (at_spot (LoadSecond k first)) command order fixed
-  at_load_second k first (Begin l) shared mine takes = cc
-  at_load_second k first Nothing shared mine takes =
-      second_step k first shared (record { seat = mine.seat; ready = refl; made = mine.made; roots = mine.roots; hands = mine.hands; facts = mine.facts.0 }) mine.facts.1 mine.facts.2
+  pub at_load_second : (k : Command) (first : ℕ) → Row c u (at_spot (LoadSecond k first)) command fixed
+  at_load_second k first shared mine =
+      second_step k first shared (record { seated = mine.seated; ready = refl; roots = mine.roots; hands = mine.hands; facts = mine.facts.0 }) mine.facts.1 mine.facts.2
 
   -- where it goes on after the third root: only a Cas has one
   third_step : (k : Command) (first second : ℕ) → Shared c u → HasBegun cset k → 2 < length (roots_of k) → HasFirst u seat k first → HasRoot u seat k 1 second → Stepped c u (at_spot (LoadThird k first second)) command Nothing fixed
@@ -260,10 +252,9 @@ module _ (c : Config) (u : World) (seat made phase cset : ℕ) (command : Comman
   third_step _ first second shared mine more has has_second = absurd (omega arith)
 
   -- the load of the third root
-  pub at_load_third : (k : Command) (first second : ℕ) (order : Order) → Row c u (at_spot (LoadThird k first second)) command order fixed
-  at_load_third k first second (Begin l) shared mine takes = cc
-  at_load_third k first second Nothing shared mine takes =
-      third_step k first second shared (record { seat = mine.seat; ready = refl; made = mine.made; roots = mine.roots; hands = mine.hands; facts = mine.facts.0 }) mine.facts.1 mine.facts.2 mine.facts.3
+  pub at_load_third : (k : Command) (first second : ℕ) → Row c u (at_spot (LoadThird k first second)) command fixed
+  at_load_third k first second shared mine =
+      third_step k first second shared (record { seated = mine.seated; ready = refl; roots = mine.roots; hands = mine.hands; facts = mine.facts.0 }) mine.facts.1 mine.facts.2 mine.facts.3
 
   -- where it goes on with a part of the object that there is
   part_mine : (k : Command) (object second third shape : ℕ) → Shared c u → HasBegun cset k → HasRoots u seat k object second third → (of : HasObject u seat (root_of k 0) object)
@@ -272,9 +263,8 @@ module _ (c : Config) (u : World) (seat made phase cset : ℕ) (command : Comman
       let next = mine.facts.next in
       let below : field < of.refs = let lt = ltb-true _ _ part in omega arith in
       record {
-        seat = mine.seat;
+        seated = mine.seated;
         ready = ready_of _ true (word_in c u shared seat src object (object + 3 + field) (3 + field) of (omega arith) (omega arith)) refl;
-        made = mine.made;
         roots = mine.roots;
         hands = mine.hands;
         facts = (mine.facts.unsettled, record { src = src; is = mine.facts.is; small = grind (arith, nat_tests); of = of; below = below });
@@ -283,9 +273,8 @@ module _ (c : Config) (u : World) (seat made phase cset : ℕ) (command : Comman
       let below : field < of.refs = let lt = ltb-true _ _ part in omega arith in
       let value_is : Points u.block second (u.graph.root (seat + 1) val) = has.second_is (omega arith) in
       record {
-        seat = mine.seat;
+        seated = mine.seated;
         ready = ready_of _ _ (word_in c u shared seat obj object (object + 3 + field) (3 + field) of (omega arith) (omega arith)) (number_small second (points_small c _ u.block shared.plotted second _ value_is));
-        made = mine.made;
         roots = mine.roots;
         hands = mine.hands;
         facts = (mine.facts.unsettled, record { obj = obj; val = val; is = mine.facts.is; of = of; below = below; value_is = value_is });
@@ -293,9 +282,8 @@ module _ (c : Config) (u : World) (seat made phase cset : ℕ) (command : Comman
   part_mine (Cas obj field expect val) object second third shape shared mine has of refs nums on part =
       let below : field < of.refs = let lt = ltb-true _ _ part in omega arith in
       record {
-        seat = mine.seat;
+        seated = mine.seated;
         ready = ready_of _ true (word_in c u shared seat obj object (object + 3 + field) (3 + field) of (omega arith) (omega arith)) refl;
-        made = mine.made;
         roots = mine.roots;
         hands = mine.hands;
         facts = (
@@ -308,9 +296,8 @@ module _ (c : Config) (u : World) (seat made phase cset : ℕ) (command : Comman
       let below : field < of.refs = let lt = ltb-true _ _ part in omega arith in
       let value_is : Points u.block second (u.graph.root (seat + 1) val) = has.second_is (omega arith) in
       record {
-        seat = mine.seat;
+        seated = mine.seated;
         ready = ready_of _ _ (word_in c u shared seat obj object (object + 3 + field) (3 + field) of (omega arith) (omega arith)) (number_small second (points_small c _ u.block shared.plotted second _ value_is));
-        made = mine.made;
         roots = mine.roots;
         hands = mine.hands;
         facts = (mine.facts.unsettled, record { obj = obj; val = val; is = mine.facts.is; small = grind (arith, nat_tests); of = of; below = below; value_is = value_is });
@@ -318,9 +305,8 @@ module _ (c : Config) (u : World) (seat made phase cset : ℕ) (command : Comman
   part_mine (Rd obj index) object second third shape shared mine has of refs nums on part =
       let below : index < of.nums = let lt = ltb-true _ _ part in omega arith in
       record {
-        seat = mine.seat;
+        seated = mine.seated;
         ready = ready_of _ true (word_in c u shared seat obj object (object + 3 + refs_in shape + index) (3 + refs_in shape + index) of (omega arith) (omega arith)) refl;
-        made = mine.made;
         roots = mine.roots;
         hands = mine.hands;
         facts = (mine.facts.unsettled, record { obj = obj; is = mine.facts.is; of = of; refs_are = refs; below = below });
@@ -330,9 +316,8 @@ module _ (c : Config) (u : World) (seat made phase cset : ℕ) (command : Comman
       let below : index < of.nums = let lt = ltb-true _ _ part in omega arith in
       let small : is_number value ≡ true = grind (arith, nat_tests) in
       record {
-        seat = mine.seat;
+        seated = mine.seated;
         ready = ready_of _ _ (word_in c u shared seat obj object (object + 3 + refs_in shape + index) (3 + refs_in shape + index) of (omega arith) (omega arith)) small;
-        made = mine.made;
         roots = mine.roots;
         hands = mine.hands;
         facts = (mine.facts.unsettled, record { obj = obj; is = mine.facts.is; of = of; refs_are = refs; below = below });
@@ -340,10 +325,9 @@ module _ (c : Config) (u : World) (seat made phase cset : ℕ) (command : Comman
   part_mine _ object second third shape shared mine has of refs nums on part = cc
 
   -- the load of the shape settles Bad where the object has no such part
-  pub at_load_shape : (k : Command) (object second third : ℕ) (order : Order) → Row c u (at_spot (LoadShape k object second third)) command order fixed
-  at_load_shape k object second third (Begin l) shared mine takes = cc
-  at_load_shape k object second third Nothing shared mine takes =
-      let base : HasBegun cset k = record { seat = mine.seat; ready = refl; made = mine.made; roots = mine.roots; hands = mine.hands; facts = mine.facts.0 } in
+  pub at_load_shape : (k : Command) (object second third : ℕ) → Row c u (at_spot (LoadShape k object second third)) command fixed
+  at_load_shape k object second third shared mine =
+      let base : HasBegun cset k = record { seated = mine.seated; ready = refl; roots = mine.roots; hands = mine.hands; facts = mine.facts.0 } in
       let of : HasObject u seat (root_of k 0) object = object_of c u seat k object shared mine.facts.1 mine.facts.2.first_is in
       let sizes = shape_in c u shared seat (root_of k 0) object of in
       ⊎_elim

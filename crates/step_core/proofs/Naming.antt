@@ -16,7 +16,7 @@ use Rattle.shen_graph.specs.Step.{shown, answers, outcome}
 use Rattle.shen_graph.proofs.PlainLemmas.{same_name-true, same_name-itself}
 use Rattle.mutator.specs.Rows.{root_of, is_on_object, has_part, name_in}
 use Rattle.mutator.specs.Told.{name_the_same, shown_word}
-use Rattle.heap_world.specs.World.{World, thing, name_at, Points, IsObject, Shared}
+use Rattle.heap_world.specs.World.{World, thing, name_at, Points, IsThing, Shared}
 use Rattle.step_core.specs.Stepped.{HasObject}
 use Rattle.heap_world.proofs.Pointing.{named_thing, piece_word, null_if_0}
 
@@ -104,7 +104,7 @@ module _ (c : Config) (u : World) (shared : Shared c u) where
 
   -- the graph's object of an object in hand
   pub object_in : (seat root object : ℕ) (has : HasObject u seat root object)
-      → (o : Object) × (u.graph.object has.name ≡ Some o) × IsObject (λ a. u.memory (Heap a)) u.block object has.refs has.nums has.name o
+      → (o : Object) × (u.graph.object has.name ≡ Some o) × IsThing (λ a. u.memory (Heap a)) u.block object has.refs has.nums has.name o
   object_in seat root object has = shared.objects.each object has.refs has.nums has.name has.target.piece
 
   -- a reference field of an object in hand

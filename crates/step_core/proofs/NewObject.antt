@@ -11,7 +11,7 @@ use Rattle.shen_graph.specs.declared.name.Name.{Name}
 use Rattle.shen_graph.specs.Graph.{Object, same_name, blank}
 use Rattle.shen_graph.proofs.PlainLemmas.{same_name-true, same_name-itself}
 use Rattle.mutator.specs.Rows.{fresh_word}
-use Rattle.heap_world.specs.World.{Block, thing, hand, words_of, Plot, name_at, Points, IsInUse, IsPlotted, IsFilled, IsObject, IsGiven, AreObjects, AreRooms}
+use Rattle.heap_world.specs.World.{Block, thing, hand, words_of, Plot, name_at, Points, IsInUse, IsPlotted, IsFilled, IsThing, IsGiven, AreObjects, AreRooms}
 use Rattle.heap_world.proofs.Updates.{updated, updated_there, updated_else}
 use Rattle.heap_world.proofs.Pointing.{named_thing}
 use Rattle.heap_world.proofs.Objects.{two_names, where_object}
@@ -30,7 +30,7 @@ zero_word seat made refs nums k past = grind (arith, nat_tests)
 -- words that were stored in room in hand are those of a new object
 pub new_object : (heap : ℕ → ℕ) (block : Plot) (address seat made refs nums : ℕ) → refs ≤ 16 → nums ≤ 16
     → ((k : ℕ) → k < 3 + refs + nums → heap (address + k) ≡ fresh_word seat made refs nums k)
-    → IsObject heap block address refs nums (record { thread = seat + 1; count = made + 1 }) (blank refs nums)
+    → IsThing heap block address refs nums (record { thread = seat + 1; count = made + 1 }) (blank refs nums)
 new_object heap block address seat made refs nums few_refs few_nums stored = record {
   header = ap heap (omega arith) ∙ stored 0 (omega arith);
   shape = stored 1 (omega arith);
@@ -132,7 +132,7 @@ module _ (c : Config) (top : ℕ → ℕ) (block : Plot) (address seat refs nums
     not_old a more_refs more_nums n is same = let old = objects.each a more_refs more_nums n is in fresh old.0 (ap object same ∙ old.1)
 
     -- the words are those of the graph's objects
-    pub objects_again : IsObject heap new_block address refs nums name o → AreObjects heap new_block (where_object object name o)
+    pub objects_again : IsThing heap new_block address refs nums name o → AreObjects heap new_block (where_object object name o)
     objects_again new_is = record {
       each = λ a more_refs more_nums n is. ⊎_elim
           (λ (new : (a ≡ address) × (new_thing ≡ thing n more_refs more_nums)).
@@ -142,10 +142,10 @@ module _ (c : Config) (top : ℕ → ℕ) (block : Plot) (address seat refs nums
           let all_nums : nums ≡ more_nums = cc in (
             o,
             ap (where_object object name o) (sym names) ∙ own_object,
-            subst (λ b. IsObject heap new_block b more_refs more_nums n o) (sym new.0)
-                (subst (λ m. IsObject heap new_block address more_refs more_nums m o) names
-                (subst (λ k. IsObject heap new_block address k more_nums name o) all_refs
-                (subst (λ k. IsObject heap new_block address refs k name o) all_nums new_is))),
+            subst (λ b. IsThing heap new_block b more_refs more_nums n o) (sym new.0)
+                (subst (λ m. IsThing heap new_block address more_refs more_nums m o) names
+                (subst (λ k. IsThing heap new_block address k more_nums name o) all_refs
+                (subst (λ k. IsThing heap new_block address refs k name o) all_nums new_is))),
           ))
           (λ (old : (a ≢ address) × (block a ≡ Some (thing n more_refs more_nums))).
           let was = objects.each a more_refs more_nums n old.1 in (

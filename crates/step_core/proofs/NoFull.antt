@@ -4,7 +4,7 @@ use Rattle.std.specs.Prelude.{◌==◌, slice_get, if◌then◌else◌}
 use Rattle.std.proofs.lemmas.Option.{same_Some}
 use Rattle.std.proofs.lemmas.List.Elements.{All-nil, All-cons, All-append}
 use Rattle.heap_words.specs.declared.config.Config.{Config}
-use Rattle.heap_words.specs.Words.{Word, Root, Heap, view}
+use Rattle.heap_words.specs.Words.{Word, Root, Heap}
 use Rattle.steps_base.specs.Steps.{Stage, Event, act}
 use Rattle.shen_graph.specs.declared.command.Command.{Command}
 use Rattle.shen_graph.specs.declared.command.Reply.{Reply}
@@ -12,15 +12,15 @@ use Rattle.shen_graph.specs.declared.command.Reply.TheVariants.{Ref, Null, Yes, 
 use Rattle.shen_graph.specs.declared.command.Command.TheVariants.{Same}
 use Rattle.shen_graph.specs.Step.{yes_or_no}
 use Rattle.shen_graph.specs.History.{Entry, IsWithoutFull}
-use Rattle.mutator.specs.declared.spot.Order.{Order}
+use Rattle.shen_graph.specs.declared.order.Order.{Order}
 use Rattle.mutator.specs.declared.spot.Spot.{Spot}
 use Rattle.mutator.specs.declared.spot.Spot.TheVariants.{LoadRoot, LoadSecond, LoadShape, LoadField, LoadExpected, StoreField, SwapField, ExchangeField, LoadNumber, StoreNumber, StoreRoot, StoreFresh, AskCycle}
 use Rattle.mutator.specs.Rows.{root_of, lacks_object, has_part, name_in}
 use Rattle.mutator.specs.Told.{name_of_object, name_the_same, shown_word, told_second, told_at}
-use Rattle.step_core.specs.Actor.{Machine, mutating, helping, controlling, Actor, entries_of, command_by, takes_of, kind}
-use Rattle.step_core.specs.History.{told_by, told_of_machine, told, history}
-use Rattle.step_core.specs.Follows.{past}
-use Rattle.step_core.specs.Opening.{opening}
+use Rattle.step_core.specs.Actor.{Machine, mutating, Actor, entries_of, command_by}
+use Rattle.step_core.specs.Machines.{takes_of, kind, told_by}
+use Rattle.step_core.specs.History.{told_of_machine, told, history}
+use Rattle.step_core.specs.Settled.{settled}
 
 abbrev IsNotFull : Entry → Type 0
 IsNotFull e = e.reply ≢ Full
@@ -72,27 +72,23 @@ entries_not_full : (seat : ℕ) (command : Command) (o : Option Reply) → o ≢
 entries_not_full seat command None not = All-nil IsNotFull
 entries_not_full seat command (Some r) not = All-cons IsNotFull _ [] (λ e. not (ap (λ (x : Reply). Some x) e)) (All-nil IsNotFull)
 
-machine_not_full : (memory : Word → ℕ) (a : Actor) (order : Order) (machine : Machine) → All IsNotFull (told_by memory a order machine)
-machine_not_full memory a order (mutating m) = entries_not_full m.seat (command_by order a.command) _ (told_not_full memory m.seat m.made m.spot)
-machine_not_full memory a order helping = All-nil IsNotFull
-machine_not_full memory a order controlling = All-nil IsNotFull
+machine_not_full : (c : Config) (s : Stage Actor) (a : Actor) (order : Order) (machine : Machine) → All IsNotFull (told_by c s a order machine)
+machine_not_full c s a order (mutating m) = entries_not_full m.seat (command_by order a.command) _ (told_not_full (settled c s) m.seat m.made m.spot)
+machine_not_full c s a order _ = All-nil IsNotFull
 
 event_not_full : (c : Config) (s : Stage Actor) (e : Event Order) → All IsNotFull (told c s e)
 unfolding told
 event_not_full c s e = by_machine (slice_get s.machines e.number)
   where
-    by_order : (a : Actor) (b : Bool) → All IsNotFull (if b then told_by (view c s.words) a e.order a.machine else [])
-    by_order a true = machine_not_full (view c s.words) a e.order a.machine
+    by_order : (a : Actor) (b : Bool) → All IsNotFull (if b then told_by c s a e.order a.machine else [])
+    by_order a true = machine_not_full c s a e.order a.machine
     by_order a false = All-nil IsNotFull
 
     by_machine : (o : Option Actor) → All IsNotFull (told_of_machine c s e o)
     by_machine None = All-nil IsNotFull
     by_machine (Some a) = by_order a (takes_of a.machine e.order)
 
-history_not_full : (c : Config) (s : Stage Actor) (es : List (Event Order)) → All IsNotFull (history c s es)
+pub history_not_full : (c : Config) (s : Stage Actor) (es : List (Event Order)) → IsWithoutFull (history c s es)
 unfolding history
 history_not_full c s [] = All-nil IsNotFull
 history_not_full c s (e ∷ es) = All-append IsNotFull (told c s e) (history c (act (kind c) s e) es) (event_not_full c s e) (history_not_full c (act (kind c) s e) es)
-
-pub past_without_full : (c : Config) (events : List (Event Order)) → IsWithoutFull (past c events)
-past_without_full c events = history_not_full c (opening c) events

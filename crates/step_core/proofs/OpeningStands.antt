@@ -1,5 +1,5 @@
 -- The opening follows the empty history.
-use Rattle.std.proofs.Common.{◌≡◌, ℕ, zero, suc, ◌+◌, ◌*◌, ◌<◌, ◌≤◌, ⊎_elim, true, false, List, length, refl, ap, ◌∙◌, subst, arith, replicate}
+use Rattle.std.proofs.Common.{◌≡◌, ℕ, zero, suc, ◌+◌, ◌*◌, ◌<◌, ◌≤◌, ⊎_elim, true, false, List, length, refl, ap, ◌∙◌, subst, arith, replicate, add-zero}
 use Rattle.std.proofs.Math.Path.{fun_ext}
 use Rattle.std.proofs.lemmas.List.{length-set, get_or-replicate, length-replicate}
 use Rattle.std.proofs.lemmas.Bool.{cases_Bool}
@@ -8,7 +8,6 @@ use Rattle.heap_words.specs.Words.{Word, Left, Free, Top, Root, Heap, IsWord, is
 use Rattle.heap_words.proofs.Stores.{is_word_true, view_set_all}
 use Rattle.heap_words.proofs.Rows.{word_inside}
 use Rattle.std.proofs.Math.Nat.{mul-le-mul_right}
-use Rattle.std.proofs.Common.{add-zero}
 use Rattle.step_core.specs.Opening.{stored, rooted, first_free, opening_words}
 
 -- a number stored at a word, by names

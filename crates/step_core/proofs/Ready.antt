@@ -14,7 +14,7 @@ use Rattle.mutator.specs.declared.spot.Spot.TheVariants.{Taking, StoreWord, Stor
 use Rattle.mutator.specs.Rows.{fresh_word}
 use Rattle.mutator.specs.Fit.{is_ready, is_next_object, is_going}
 use Rattle.heap_world.specs.World.{World, hand, Plot, Points, IsPlotted}
-use Rattle.step_core.specs.Stepped.{IsMaking, Mine}
+use Rattle.step_core.specs.Stepped.{IsMaking, IsSeated, Mine}
 use Rattle.step_core.proofs.Spots.{mutator_at}
 use Rattle.heap_world.proofs.Pointing.{piece_word, piece_small}
 
@@ -31,10 +31,10 @@ leave_ready : (c : Config) (seat made : ℕ) (reply : Reply) → seat < c.mutato
 leave_ready c seat made reply below = grind (arith, nat_tests)
 
 -- with its reply settled, a mutator has only to leave
-pub leaving : (c : Config) (w : World) (seat made phase cset : ℕ) (command : Command) (r : Reply) → seat < c.mutators → w.graph.count (seat + 1) ≡ made
+pub leaving : (c : Config) (w : World) (seat made phase cset : ℕ) (command : Command) (r : Reply) → IsSeated c.mutators seat (w.graph.count (seat + 1)) made
     → ((i : ℕ) → i < 16 → Points w.block (w.memory (Root seat i)) (w.graph.root (seat + 1) i)) → ((a words : ℕ) → w.block a ≡ Some (hand seat words) → ⊥)
     → Mine c w (mutator_at seat made phase cset (Leave r)) command (Some r)
-leaving c w seat made phase cset command r below count roots hands = record { seat = below; ready = leave_ready c seat made r below; made = count; roots = roots; hands = hands; facts = refl }
+leaving c w seat made phase cset command r seated roots hands = record { seated = seated; ready = leave_ready c seat made r seated.below; roots = roots; hands = hands; facts = refl }
 
 -- the words of a new object are words of 64 bits
 fresh_small : (seat made refs nums k : ℕ) → seat < 8 → made < 4294967295 → refs ≤ 16 → nums ≤ 16 → fresh_word seat made refs nums k < 2 ^ 64

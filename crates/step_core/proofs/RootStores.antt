@@ -13,8 +13,7 @@ use Rattle.shen_graph.specs.Graph.{Reference, with_root}
 use Rattle.shen_graph.specs.Step.{answers, outcome}
 use Rattle.mutator.specs.declared.spot.Spot.{Spot}
 use Rattle.mutator.specs.declared.spot.Spot.TheVariants.{StoreLoaded, StoreRoot}
-use Rattle.mutator.specs.declared.spot.Order.{Order}
-use Rattle.mutator.specs.declared.spot.Order.TheVariants.{Nothing, Begin}
+use Rattle.shen_graph.specs.declared.order.Order.TheVariants.{Nothing}
 use Rattle.mutator.specs.Rows.{Mutating, touch_of}
 use Rattle.heap_world.specs.World.{World, Plot, Points, Shared}
 use Rattle.step_core.specs.Stepped.{Mine, Stepped, Row}
@@ -42,9 +41,8 @@ module _ (c : Config) (u : World) (seat made phase cset : ℕ) (command : Comman
   at_spot spot = mutator_at seat made phase cset spot
 
   -- the store of a loaded reference, which is settled, into a root
-  pub at_store_loaded : (dst value : ℕ) (r : Reply) (order : Order) → Row c u (at_spot (StoreLoaded dst value r)) command order fixed
-  at_store_loaded dst value r (Begin l) shared mine takes = cc
-  at_store_loaded dst value r Nothing shared mine takes = record {
+  pub at_store_loaded : (dst value : ℕ) (r : Reply) → Row c u (at_spot (StoreLoaded dst value r)) command fixed
+  at_store_loaded dst value r shared mine = record {
     world = accessed c u (at_spot (StoreLoaded dst value r));
     memory = refl;
     graph = refl;
@@ -53,7 +51,7 @@ module _ (c : Config) (u : World) (seat made phase cset : ℕ) (command : Comman
     shared = shared;
     mine =
         rw mine.facts.0
-        (leaving c _ seat made phase cset command r mine.seat mine.made
+        (leaving c _ seat made phase cset command r mine.seated
         (λ i below. subst (λ word. Points u.block word (u.graph.root (seat + 1) i)) (root_written u.memory seat dst value i) (mine.roots i below)) mine.hands);
     others = λ j d. search (arith, nat_tests);
   }
@@ -69,14 +67,13 @@ module _ (c : Config) (u : World) (seat made phase cset : ℕ) (command : Comman
     legal = legal_answer u.graph seat command reply.Ok refl (ap (λ o. o.reply) is);
     settles = λ r e. (mine.facts.0, refl);
     shared = shared;
-    mine = leaving c _ seat made phase cset command reply.Ok mine.seat mine.made (roots_written u.block u.memory u.graph.root seat dst value v mine.roots stands) mine.hands;
+    mine = leaving c _ seat made phase cset command reply.Ok mine.seated (roots_written u.block u.memory u.graph.root seat dst value v mine.roots stands) mine.hands;
     others = λ j d. search (arith, nat_tests);
   }
 
   -- the store of a reference into a root settles Ok
-  pub at_store_root : (dst value : ℕ) (order : Order) → Row c u (at_spot (StoreRoot dst value)) command order fixed
-  at_store_root dst value (Begin l) shared mine takes = cc
-  at_store_root dst value Nothing shared mine takes = ⊎_elim
+  pub at_store_root : (dst value : ℕ) → Row c u (at_spot (StoreRoot dst value)) command fixed
+  at_store_root dst value shared mine = ⊎_elim
       (λ copy. root_step dst value (u.graph.root (seat + 1) copy.src) shared mine (ap (λ k. outcome u.graph (seat + 1) k) copy.is) copy.value_is)
       (λ drop. root_step dst value None shared mine (ap (λ k. outcome u.graph (seat + 1) k) drop.is) drop.value_is)
       mine.facts.2

@@ -1,23 +1,24 @@
 -- What a mutator knows stays true while another machine makes a step.
-use Rattle.std.proofs.Common.{◌≡◌, ℕ, ◌+◌, inl, inr, ⊎_elim, Option, Some, refl, sym, ◌∙◌, arith}
+use Rattle.std.proofs.Common.{◌≡◌, ℕ, ◌+◌, inl, inr, ⊎_elim, Option, refl, ◌∙◌, arith}
 use Rattle.heap_words.specs.declared.config.Config.{Config}
-use Rattle.heap_words.specs.Words.{Current}
 use Rattle.shen_graph.specs.declared.command.Command.{Command}
 use Rattle.shen_graph.specs.declared.command.Reply.{Reply}
 use Rattle.alloc_buffers.specs.declared.spot.TakeSpot.{TakeSpot}
-use Rattle.alloc_buffers.specs.declared.spot.TakeSpot.TheVariants as take_spot
 use Rattle.mutator.specs.declared.spot.Spot.{Spot}
 use Rattle.mutator.specs.declared.spot.Spot.TheVariants.{Rest, Ended, LoadSet, LoadRoot, AskCycle, Leave, LoadSecond, LoadThird, LoadShape, LoadField, LoadExpected, StoreField, SwapField, ExchangeField, LoadNumber, StoreNumber, LoadName, StoreLoaded, StoreRoot, Taking, StoreWord, StoreFresh}
 use Rattle.mutator.specs.Rows.{Mutating, root_of}
 use Rattle.heap_world.specs.World.{World, Points, Shared}
-use Rattle.step_core.specs.Stepped.{HasRoot, HasObject, HasFirst, IsGet, IsSet, IsCas, IsXchg, IsRd, IsWr, IsFound, IsCopy, HasLess, TakeFacts, IsFilling, SpotFacts, root_now, Mine}
-use Rattle.heap_world.specs.Rely.{Rely}
-use Rattle.heap_world.proofs.Keeping.{points_stay}
+use Rattle.step_core.specs.Stepped.{HasRoot, HasObject, HasFirst, IsGet, IsSet, IsCas, IsXchg, IsRd, IsWr, IsFound, IsCopy, IsFilling, SpotFacts, Mine}
+use Rattle.step_core.specs.Own.{root_now}
+use Rattle.heap_world.specs.Rely.{Keeps, Rely}
+use Rattle.alloc_buffers.specs.Facts.{TakeFacts}
+use Rattle.alloc_buffers.proofs.TakeStays.{take_stays}
+use Rattle.heap_world.proofs.Keeping.{points_stay, keeps_of}
 
-module _ (c : Config) (u w : World) (seat : ℕ) (rely : Rely seat u w) where
+module _ (c : Config) (u w : World) (seat : ℕ) (keeps : Keeps seat u w) where
   -- so it does for a root
-  root_stays : (word index : ℕ) → Points u.block word (u.graph.root (seat + 1) index) → Points w.block word (w.graph.root (seat + 1) index)
-  root_stays word index is = rw (rely.roots index) (points_stay u.block w.block rely.names word _ is)
+  pub root_stays : (word index : ℕ) → Points u.block word (u.graph.root (seat + 1) index) → Points w.block word (w.graph.root (seat + 1) index)
+  root_stays word index is = rw (keeps.roots index) (points_stay u.block w.block keeps.names word _ is)
 
   -- so does the word of a root that was loaded
   loaded_stays : (k : Command) (i word : ℕ) → HasRoot u seat k i word → HasRoot w seat k i word
@@ -33,41 +34,20 @@ module _ (c : Config) (u w : World) (seat : ℕ) (rely : Rely seat u w) where
     name = has.name;
     refs = has.refs;
     nums = has.nums;
-    root_is = rely.roots root ∙ has.root_is;
-    target = rely.targets object has.refs has.nums has.name has.target;
+    root_is = keeps.roots root ∙ has.root_is;
+    target = keeps.targets object has.refs has.nums has.name has.target;
   }
-
-  -- that there was less room stays
-  less_stays : (words : ℕ) → ((r : ℕ) → u.memory (Current seat) ≡ r + 1 → u.owner r ≡ Some seat) → HasLess c u seat words → HasLess c w seat words
-  less_stays words own less r is =
-      let is_now : u.memory (Current seat) ≡ r + 1 = sym rely.current ∙ is in
-      rw (rely.tops r (own r is_now)) (less r is_now)
-
-  -- what a taking of room counts on stays
-  take_stays : (words : ℕ) → ((r : ℕ) → u.memory (Current seat) ≡ r + 1 → u.owner r ≡ Some seat) → (take : TakeSpot) → TakeFacts c u seat words take → TakeFacts c w seat words take
-  take_stays words own take_spot.LoadCurrent facts = tt
-  take_stays words own (take_spot.LoadTop region) facts = rely.current ∙ facts
-  take_stays words own take_spot.LoadFree facts = less_stays words own facts
-  take_stays words own (take_spot.TakeRegion region) facts = (less_stays words own facts.0, facts.1)
-  take_stays words own (take_spot.StoreCurrent region) facts = record { within = facts.within; own = rely.owners region facts.own; empty = rely.tops region facts.own ∙ facts.empty }
-  take_stays words own (take_spot.StoreTop region top) facts = record {
-    within = facts.within;
-    is_current = rely.current ∙ facts.is_current;
-    top_is = rely.tops region (own region facts.is_current) ∙ facts.top_is;
-    room = facts.room;
-  }
-  take_stays words own (take_spot.Ended taken) facts = facts
 
   -- the words of a new object stay
   filling_stays : (made refs nums address done : ℕ) → IsFilling u seat made refs nums address done → IsFilling w seat made refs nums address done
   filling_stays made refs nums address done facts = record {
-    room = rely.hands address (3 + refs + nums) facts.room;
+    room = keeps.hands address (3 + refs + nums) facts.room;
     within = facts.within;
-    stored = λ k below. rely.hand_words address (3 + refs + nums) k facts.room (let within = facts.within in omega arith) ∙ facts.stored k below;
+    stored = λ k below. keeps.hand_words address (3 + refs + nums) k facts.room (let within = facts.within in omega arith) ∙ facts.stored k below;
   }
 
   -- what a Get counts on stays
-  get_stays : (command : Command) (object field dst : ℕ) → IsGet u seat command object field dst → IsGet w seat command object field dst
+  pub get_stays : (command : Command) (object field dst : ℕ) → IsGet u seat command object field dst → IsGet w seat command object field dst
   get_stays command object field dst is = record { src = is.src; is = is.is; small = is.small; of = object_stays is.src object is.of; below = is.below }
 
   -- what a Set counts on stays
@@ -116,54 +96,53 @@ module _ (c : Config) (u w : World) (seat : ℕ) (rely : Rely seat u w) where
 
   -- a reference that was found stays
   found_stays : (fixed : Option Reply) (value dst : ℕ) → IsFound u fixed value dst → IsFound w fixed value dst
-  found_stays fixed value dst is = record { name = is.name; settled = is.settled; is = rely.names value is.name is.is; small = is.small }
+  found_stays fixed value dst is = record { name = is.name; settled = is.settled; is = keeps.names value is.name is.is; small = is.small }
 
   -- what a Copy counts on stays
   copy_stays : (command : Command) (dst value : ℕ) → IsCopy u seat command dst value → IsCopy w seat command dst value
   copy_stays command dst value is = record { src = is.src; is = is.is; value_is = root_stays value is.src is.value_is }
 
-  -- what a mutator counts on at its spot stays
-  facts_stay : (made : ℕ) (command : Command) (fixed : Option Reply) → ((r : ℕ) → u.memory (Current seat) ≡ r + 1 → u.owner r ≡ Some seat) → (spot : Spot) → SpotFacts c u seat made command fixed spot → SpotFacts c w seat made command fixed spot
-  facts_stay made command fixed own Rest facts = facts
-  facts_stay made command fixed own (Ended reply) facts = facts
-  facts_stay made command fixed own (LoadSet k) facts = facts
-  facts_stay made command fixed own (LoadRoot k) facts = facts
-  facts_stay made command fixed own (LoadSecond k first) facts = (facts.0, facts.1, first_stays k first facts.2)
-  facts_stay made command fixed own (LoadThird k first second) facts = (facts.0, facts.1, first_stays k first facts.2, loaded_stays k 1 second facts.3)
-  facts_stay made command fixed own (LoadShape k object second third) facts = (
+  -- what a mutator counts on at its spot stays, if that of a taking does
+  facts_stay : (made : ℕ) (command : Command) (fixed : Option Reply) → ((words : ℕ) (take : TakeSpot) → TakeFacts c u seat words take → TakeFacts c w seat words take) → (spot : Spot) → SpotFacts c u seat made command fixed spot → SpotFacts c w seat made command fixed spot
+  facts_stay made command fixed taking Rest facts = facts
+  facts_stay made command fixed taking (Ended reply) facts = facts
+  facts_stay made command fixed taking (LoadSet k) facts = facts
+  facts_stay made command fixed taking (LoadRoot k) facts = facts
+  facts_stay made command fixed taking (LoadSecond k first) facts = (facts.0, facts.1, first_stays k first facts.2)
+  facts_stay made command fixed taking (LoadThird k first second) facts = (facts.0, facts.1, first_stays k first facts.2, loaded_stays k 1 second facts.3)
+  facts_stay made command fixed taking (LoadShape k object second third) facts = (
     facts.0,
     facts.1,
     record { first_is = first_stays k object facts.2.first_is; second_is = loaded_stays k 1 second facts.2.second_is; third_is = loaded_stays k 2 third facts.2.third_is },
   )
-  facts_stay made command fixed own (LoadField object field dst) facts = (facts.0, get_stays command object field dst facts.1)
-  facts_stay made command fixed own (LoadExpected object field expect value) facts = (facts.0, cas_stays command object field expect value facts.1)
-  facts_stay made command fixed own (StoreField object field value) facts = (facts.0, set_stays command object field value facts.1)
-  facts_stay made command fixed own (SwapField object field value dst) facts = (facts.0, xchg_stays command object field value dst facts.1)
-  facts_stay made command fixed own (ExchangeField object field found expect value) facts = (facts.0, cas_stays command object field expect value facts.1, facts.2)
-  facts_stay made command fixed own (LoadNumber object refs index) facts = (facts.0, rd_stays command object refs index facts.1)
-  facts_stay made command fixed own (StoreNumber object refs index value) facts = (facts.0, wr_stays command object refs index value facts.1)
-  facts_stay made command fixed own (LoadName value dst) facts = found_stays fixed value dst facts
-  facts_stay made command fixed own (StoreLoaded dst value reply) facts = facts
-  facts_stay made command fixed own (StoreRoot dst value) facts = (facts.0, facts.1, ⊎_elim (λ is. inl (copy_stays command dst value is)) (λ is. inr is) facts.2)
-  facts_stay made command fixed own (Taking dst refs nums take) facts = (facts.0, take_stays (3 + refs + nums) own take facts.1)
-  facts_stay made command fixed own (StoreWord dst refs nums address done) facts = (facts.0, filling_stays made refs nums address done facts.1, facts.2)
-  facts_stay made command fixed own (StoreFresh dst refs nums address) facts = (facts.0, filling_stays made refs nums address (3 + refs + nums) facts.1)
-  facts_stay made command fixed own AskCycle facts = facts
-  facts_stay made command fixed own (Leave reply) facts = facts
+  facts_stay made command fixed taking (LoadField object field dst) facts = (facts.0, get_stays command object field dst facts.1)
+  facts_stay made command fixed taking (LoadExpected object field expect value) facts = (facts.0, cas_stays command object field expect value facts.1)
+  facts_stay made command fixed taking (StoreField object field value) facts = (facts.0, set_stays command object field value facts.1)
+  facts_stay made command fixed taking (SwapField object field value dst) facts = (facts.0, xchg_stays command object field value dst facts.1)
+  facts_stay made command fixed taking (ExchangeField object field found expect value) facts = (facts.0, cas_stays command object field expect value facts.1, facts.2)
+  facts_stay made command fixed taking (LoadNumber object refs index) facts = (facts.0, rd_stays command object refs index facts.1)
+  facts_stay made command fixed taking (StoreNumber object refs index value) facts = (facts.0, wr_stays command object refs index value facts.1)
+  facts_stay made command fixed taking (LoadName value dst) facts = found_stays fixed value dst facts
+  facts_stay made command fixed taking (StoreLoaded dst value reply) facts = facts
+  facts_stay made command fixed taking (StoreRoot dst value) facts = (facts.0, facts.1, ⊎_elim (λ is. inl (copy_stays command dst value is)) (λ is. inr is) facts.2)
+  facts_stay made command fixed taking (Taking dst refs nums take) facts = (facts.0, taking (3 + refs + nums) take facts.1)
+  facts_stay made command fixed taking (StoreWord dst refs nums address done) facts = (facts.0, filling_stays made refs nums address done facts.1, facts.2)
+  facts_stay made command fixed taking (StoreFresh dst refs nums address) facts = (facts.0, filling_stays made refs nums address (3 + refs + nums) facts.1)
+  facts_stay made command fixed taking AskCycle facts = facts
+  facts_stay made command fixed taking (Leave reply) facts = facts
 
   -- a root that counts stays
   now_stays : (spot : Spot) (index : ℕ) → root_now w seat spot index ≡ root_now u seat spot index
-  now_stays (LoadName value dst) index = rw (rely.root_words index) refl
-  now_stays (StoreLoaded dst value reply) index = rw (rely.root_words index) refl
-  now_stays _ index = rely.root_words index
+  now_stays (LoadName value dst) index = rw (keeps.root_words index) refl
+  now_stays (StoreLoaded dst value reply) index = rw (keeps.root_words index) refl
+  now_stays _ index = keeps.root_words index
 
 -- all that it knows stays
 pub mine_stays : (c : Config) (u w : World) (m : Mutating) (command : Command) (fixed : Option Reply) → Shared c u → Rely m.seat u w → Mine c u m command fixed → Mine c w m command fixed
-mine_stays c u w m command fixed shared rely mine = record {
-  seat = mine.seat;
+mine_stays c u w m command fixed shared rely mine = let keeps : Keeps m.seat u w = keeps_of m.seat u w rely in record {
+  seated = record { below = mine.seated.below; counted = rely.count ∙ mine.seated.counted };
   ready = mine.ready;
-  made = rely.count ∙ mine.made;
-  roots = λ i below. rw (now_stays c u w m.seat rely m.spot i) (root_stays c u w m.seat rely _ i (mine.roots i below));
+  roots = λ i below. rw (now_stays c u w m.seat keeps m.spot i) (root_stays c u w m.seat keeps _ i (mine.roots i below));
   hands = λ a words is. mine.hands a words (rely.no_hands a words is);
-  facts = facts_stay c u w m.seat rely m.made command fixed (λ r is. shared.currents.own m.seat r is) m.spot mine.facts;
+  facts = facts_stay c u w m.seat keeps m.made command fixed (take_stays c u w m.seat rely (λ r is. shared.currents.own m.seat r is)) m.spot mine.facts;
 }

@@ -16,11 +16,10 @@ use Rattle.shen_graph.specs.Step.{outcome, answers, shown}
 use Rattle.shen_graph.specs.History.{is_full}
 use Rattle.mutator.specs.declared.spot.Spot.{Spot}
 use Rattle.mutator.specs.declared.spot.Spot.TheVariants.{StoreField, SwapField, ExchangeField, StoreNumber}
-use Rattle.mutator.specs.declared.spot.Order.{Order}
-use Rattle.mutator.specs.declared.spot.Order.TheVariants.{Nothing, Begin}
+use Rattle.shen_graph.specs.declared.order.Order.TheVariants.{Nothing}
 use Rattle.mutator.specs.Rows.{Mutating, touch_of, next_of, given_at}
 use Rattle.mutator.specs.Told.{told_of}
-use Rattle.heap_world.specs.World.{World, Points, Target, IsObject, Shared}
+use Rattle.heap_world.specs.World.{World, Points, Target, IsThing, Shared}
 use Rattle.step_core.specs.Stepped.{HasObject, Mine, Stepped, Row}
 use Rattle.heap_world.proofs.Updates.{updated}
 use Rattle.step_core.proofs.Ready.{leaving}
@@ -69,7 +68,7 @@ module _ (c : Config) (u : World) (m : Mutating) (object refs nums at value : �
   -- the step is as it should be
   store_settles : touched u.memory (touch_of c m) ≡ write u.memory (Heap at) value → told_of u.memory m ≡ Some r → given_at m.spot ≡ None → fixed ≡ None → is_full r ≡ false
       → Shared c u → Target u object refs nums name → object ≤ at → at < object + (3 + refs + nums)
-      → IsObject (updated (λ a. u.memory (Heap a)) at value) u.block object refs nums name o
+      → IsThing (updated (λ a. u.memory (Heap a)) at value) u.block object refs nums name o
       → outcome u.graph (m.seat + 1) command ≡ answers r (changed u.graph name o root)
       → ((seat i : ℕ) → seat ≢ m.seat → root (seat + 1) i ≡ u.graph.root (seat + 1) i)
       → Mine c (stored u at value (changed u.graph name o root)) (next_of c m Nothing (u.memory (touch_of c m).word)) command (Some r)
@@ -96,7 +95,7 @@ module _ (c : Config) (u : World) (m : Mutating) (object field value obj val : �
   world_then = stored u (object + 3 + field) value (changed u.graph of.name object_then root)
 
   -- the words are those of the object
-  object_stands : IsObject (updated (λ a. u.memory (Heap a)) (object + 3 + field) value) u.block object of.refs of.nums of.name object_then
+  object_stands : IsThing (updated (λ a. u.memory (Heap a)) (object + 3 + field) value) u.block object of.refs of.nums of.name object_then
   object_stands = field_stored (λ a. u.memory (Heap a)) u.block object of.refs of.nums of.name _ (object_in c u shared m.seat obj object of).2 field value (u.graph.root (m.seat + 1) val) below value_is
 
   -- machines share what they should
@@ -118,21 +117,19 @@ module _ (c : Config) (u : World) (seat made phase cset : ℕ) (command : Comman
   at_spot spot = mutator_at seat made phase cset spot
 
   -- the store into a field settles Ok
-  pub at_store_field : (object field value : ℕ) (order : Order) → Row c u (at_spot (StoreField object field value)) command order fixed
-  at_store_field object field value (Begin l) shared mine takes = cc
-  at_store_field object field value Nothing shared mine takes =
+  pub at_store_field : (object field value : ℕ) → Row c u (at_spot (StoreField object field value)) command fixed
+  at_store_field object field value shared mine =
       let is = mine.facts.1 in
       let o = object_in c u shared seat is.obj object is.of in
       let v = field_in c u shared seat is.obj object field is.of is.below in
       let answered = set_outcome u.graph (seat + 1) is.obj is.of.name o.0 is.of.root_is o.1 field is.val v.0 v.1 in
       field_settles c u (at_spot (StoreField object field value)) object field value is.obj is.val shared is.of is.below is.value_is u.graph.root command fixed reply.Ok
       refl refl refl mine.facts.0 refl (ap (λ k. outcome u.graph (seat + 1) k) is.is ∙ answered) (λ j i d. refl)
-      (leaving c _ seat made phase cset command reply.Ok mine.seat mine.made mine.roots mine.hands)
+      (leaving c _ seat made phase cset command reply.Ok mine.seated mine.roots mine.hands)
 
   -- the swap of a field settles the reference that it had
-  pub at_swap_field : (object field value dst : ℕ) (order : Order) → Row c u (at_spot (SwapField object field value dst)) command order fixed
-  at_swap_field object field value dst (Begin l) shared mine takes = cc
-  at_swap_field object field value dst Nothing shared mine takes =
+  pub at_swap_field : (object field value dst : ℕ) → Row c u (at_spot (SwapField object field value dst)) command fixed
+  at_swap_field object field value dst shared mine =
       let is = mine.facts.1 in
       let o = object_in c u shared seat is.obj object is.of in
       let v = field_in c u shared seat is.obj object field is.of is.below in
@@ -144,11 +141,11 @@ module _ (c : Config) (u : World) (seat made phase cset : ℕ) (command : Comman
       (λ j i d. cond-false ((j + 1 == seat + 1) && (i == dst)) v.0 (u.graph.root (j + 1) i) (grind (arith, nat_tests)))
       (field_mine c _ seat made phase cset command dst got v.0
       (shared_then c u (at_spot (SwapField object field value dst)) object field value is.obj is.val shared is.of is.below is.value_is root)
-      mine.seat mine.made is.small (roots_then u.block (λ i. u.memory (Root seat i)) u.graph.root (seat + 1) dst got v.0 mine.roots v.2) mine.hands v.2)
+      mine.seated is.small (roots_then u.block (λ i. u.memory (Root seat i)) u.graph.root (seat + 1) dst got v.0 mine.roots v.2) mine.hands v.2)
 
   -- the field has the word that was found in it: it changes
-  exchange_done : (object field found expect value : ℕ) → (u.memory (Heap (object + 3 + field)) == found) ≡ true → Row c u (at_spot (ExchangeField object field found expect value)) command Nothing fixed
-  exchange_done object field found expect value same shared mine takes =
+  exchange_done : (object field found expect value : ℕ) → (u.memory (Heap (object + 3 + field)) == found) ≡ true → Row c u (at_spot (ExchangeField object field found expect value)) command fixed
+  exchange_done object field found expect value same shared mine =
       let is = mine.facts.1 in
       let o = object_in c u shared seat is.obj object is.of in
       let v = field_in c u shared seat is.obj object field is.of is.below in
@@ -158,11 +155,11 @@ module _ (c : Config) (u : World) (seat made phase cset : ℕ) (command : Comman
       let answered = cas_outcome u.graph (seat + 1) is.obj is.of.name o.0 is.of.root_is o.1 field is.expected is.val v.0 v.1 references in
       field_settles c u (at_spot (ExchangeField object field found expect value)) object field value is.obj is.val shared is.of is.below is.value_is u.graph.root command fixed reply.Yes
       (rw same refl) (rw same refl) refl mine.facts.0 refl (ap (λ k. outcome u.graph (seat + 1) k) is.is ∙ answered) (λ j i d. refl)
-      (rw same (leaving c _ seat made phase cset command reply.Yes mine.seat mine.made mine.roots mine.hands))
+      (rw same (leaving c _ seat made phase cset command reply.Yes mine.seated mine.roots mine.hands))
 
   -- it has another: nothing changes, and the field is loaded again
-  exchange_again : (object field found expect value : ℕ) → (u.memory (Heap (object + 3 + field)) == found) ≡ false → Row c u (at_spot (ExchangeField object field found expect value)) command Nothing fixed
-  exchange_again object field found expect value other shared mine takes = record {
+  exchange_again : (object field found expect value : ℕ) → (u.memory (Heap (object + 3 + field)) == found) ≡ false → Row c u (at_spot (ExchangeField object field found expect value)) command fixed
+  exchange_again object field found expect value other shared mine = record {
     world = u;
     memory = rw other (load_keeps u.memory (Heap (object + 3 + field)));
     graph = rw other refl;
@@ -170,9 +167,8 @@ module _ (c : Config) (u : World) (seat made phase cset : ℕ) (command : Comman
     settles = λ q e. (mine.facts.0, refl);
     shared = shared;
     mine = rw other (record {
-      seat = mine.seat;
+      seated = mine.seated;
       ready = let ready = mine.ready in grind (arith, nat_tests);
-      made = mine.made;
       roots = mine.roots;
       hands = mine.hands;
       facts = (mine.facts.0, mine.facts.1);
@@ -181,17 +177,15 @@ module _ (c : Config) (u : World) (seat made phase cset : ℕ) (command : Comman
   }
 
   -- the exchange of a field settles Yes where it has the word that was found
-  pub at_exchange_field : (object field found expect value : ℕ) (order : Order) → Row c u (at_spot (ExchangeField object field found expect value)) command order fixed
-  at_exchange_field object field found expect value (Begin l) shared mine takes = cc
-  at_exchange_field object field found expect value Nothing shared mine takes = ⊎_elim
-      (λ same. exchange_done object field found expect value same shared mine takes)
-      (λ other. exchange_again object field found expect value other shared mine takes)
+  pub at_exchange_field : (object field found expect value : ℕ) → Row c u (at_spot (ExchangeField object field found expect value)) command fixed
+  at_exchange_field object field found expect value shared mine = ⊎_elim
+      (λ same. exchange_done object field found expect value same shared mine)
+      (λ other. exchange_again object field found expect value other shared mine)
       (cases_Bool (u.memory (Heap (object + 3 + field)) == found))
 
   -- the store of a number settles Ok
-  pub at_store_number : (object refs index value : ℕ) (order : Order) → Row c u (at_spot (StoreNumber object refs index value)) command order fixed
-  at_store_number object refs index value (Begin l) shared mine takes = cc
-  at_store_number object refs index value Nothing shared mine takes =
+  pub at_store_number : (object refs index value : ℕ) → Row c u (at_spot (StoreNumber object refs index value)) command fixed
+  at_store_number object refs index value shared mine =
       let is = mine.facts.1 in
       let o = object_in c u shared seat is.obj object is.of in
       let at = object + 3 + refs + index in
@@ -199,6 +193,6 @@ module _ (c : Config) (u : World) (seat made phase cset : ℕ) (command : Comman
       let answered = wr_outcome u.graph (seat + 1) is.obj is.of.name o.0 is.of.root_is o.1 index value _ (number_in c u shared seat is.obj object index is.of is.below) in
       store_settles c u (at_spot (StoreNumber object refs index value)) object is.of.refs is.of.nums at value is.of.name (with_value o.0 index value) u.graph.root command fixed reply.Ok
       refl refl refl mine.facts.0 refl shared is.of.target (omega arith) (omega (arith, is.below, is.refs_are))
-      (subst (λ (x : ℕ). IsObject (updated (λ a. u.memory (Heap a)) (object + 3 + x + index) value) u.block object is.of.refs is.of.nums is.of.name (with_value o.0 index value)) (sym is.refs_are) stands)
+      (subst (λ (x : ℕ). IsThing (updated (λ a. u.memory (Heap a)) (object + 3 + x + index) value) u.block object is.of.refs is.of.nums is.of.name (with_value o.0 index value)) (sym is.refs_are) stands)
       (ap (λ k. outcome u.graph (seat + 1) k) is.is ∙ answered) (λ j i d. refl)
-      (leaving c _ seat made phase cset command reply.Ok mine.seat mine.made mine.roots mine.hands)
+      (leaving c _ seat made phase cset command reply.Ok mine.seated mine.roots mine.hands)

@@ -1,99 +1,149 @@
 -- The theorem over every list of events.
-use Rattle.std.proofs.Common.{◌≡◌, ℕ, ◌+◌, ◌<◌, true, List, [], Option, Some, None, sym, ap, ◌∙◌, subst}
-use Rattle.std.specs.Prelude.{slice_get, slice_index}
+use Rattle.std.proofs.Common.{◌≡◌, ℕ, ◌+◌, ◌<◌, true, List, [], Option, Some, None, sym, ap, ◌∙◌, subst, arith}
+use Rattle.std.specs.Prelude.{get_or, slice_get, slice_index}
 use Rattle.std.proofs.lemmas.Bool.{and_parts}
 use Rattle.heap_words.specs.declared.config.Config.{Config}
 use Rattle.heap_words.specs.Access.{place_of}
 use Rattle.heap_words.specs.Words.{table_words}
-use Rattle.steps_base.specs.Steps.{Stage, Event, HasReached, Finds}
+use Rattle.steps_base.specs.Steps.{Stage, Event, go, HasReached, Finds}
 use Rattle.steps_base.proofs.Runs.{reached_has}
 use Rattle.shen_graph.specs.declared.command.Reply.{Reply}
 use Rattle.shen_graph.specs.declared.command.Command.{Command}
+use Rattle.shen_graph.specs.declared.command.Command.TheVariants.{Gc}
+use Rattle.shen_graph.specs.Graph.{Graph}
 use Rattle.shen_graph.specs.History.{Entry, IsWithoutFull, after, of_thread}
-use Rattle.mutator.specs.declared.spot.Order.{Order}
+use Rattle.shen_graph.specs.declared.order.Order.{Order}
 use Rattle.mutator.specs.declared.spot.Spot.{Spot}
-use Rattle.mutator.specs.declared.spot.Spot.TheVariants.{Rest, Ended}
-use Rattle.mutator.specs.Orders.{is_at_rest}
+use Rattle.mutator.specs.declared.spot.Spot.TheVariants.{Rest, Ended, Taking}
+use Rattle.mutator.specs.Orders.{is_between_calls}
 use Rattle.mutator.specs.Rows.{Mutating, touch_of}
 use Rattle.mutator.specs.Fit.{IsFit}
-use Rattle.step_core.specs.Actor.{mutating, Actor, plan_of, takes_of, kind}
 use Rattle.heap_world.specs.World.{World}
-use Rattle.step_core.specs.Opening.{opening}
-use Rattle.step_core.specs.Follows.{first_graph, world_of, reached, past, IsMutator, IsThread, IsMachine, Follows, FindsFit, IsSound}
-use Rattle.step_core.specs.Stepped.{SpotFacts, Stepped}
 use Rattle.mutator.proofs.Ready.{word_of_ready, ready_inside}
-use Rattle.step_core.proofs.Induction.{follows_run, found-placed}
-use Rattle.step_core.proofs.NoFull.{past_without_full}
+use Rattle.std.proofs.lemmas.Option.{slice_get-get_or}
+use Rattle.alloc_buffers.specs.declared.spot.TakeSpot.TheVariants.{LoadFree}
+use Rattle.alloc_buffers.specs.Facts.{HasLess}
+use Rattle.step_core.specs.Actor.{mutating, Actor, fresh_control}
+use Rattle.step_core.specs.Machines.{plan_of, takes_of, kind}
+use Rattle.step_core.specs.Settled.{settled}
+use Rattle.step_core.specs.Opening.{opening}
+use Rattle.step_core.specs.History.{history}
+use Rattle.step_core.specs.Begins.{Begins, first_graph, reached, past}
+use Rattle.step_core.specs.Sound.{world_of, IsMutator, IsOfHeap, FindsFit, IsSound}
+use Rattle.heap_world.specs.Roots.{HasNoMore}
+use Rattle.step_core.specs.Stepped.{SpotFacts, Stepped}
+use Rattle.step_core.proofs.Facts.{IsThread, IsMachine, Follows}
+use Rattle.step_core.proofs.Roles.{number_of, mutator_of}
+use Rattle.step_core.proofs.Beginning.{follows_begins}
+use Rattle.step_core.proofs.FirstFacts.{opening_begins}
+use Rattle.step_core.proofs.Induction.{follows_run, found-placed, gives_settled}
+use Rattle.step_core.proofs.NoFull.{history_not_full}
+use Rattle.step_core.proofs.Roots.{no_more_after}
 use Rattle.step_core.proofs.Places.{each_step}
-use Rattle.step_core.proofs.FirstFacts.{follows_first}
-
--- each stage that events lead to follows the history of the events
-pub follows_reached : (c : Config) (events : List (Event Order)) → Follows c (reached c events) (past c events)
-follows_reached c events = follows_run c (opening c) [] events (follows_first c)
-
--- what a stage that follows its history says of a mutator
-pub thread_of : (c : Config) (s : Stage Actor) (h : List Entry) (follows : Follows c s h) (number : ℕ) (a : Actor) (m : Mutating) → IsMutator s number a m
-    → IsThread c (world_of c s follows.block follows.owner (after (first_graph c) h)) (of_thread h (number + 1)) number a m
-thread_of c s h follows number a m here =
-    subst (λ machine. IsMachine c (world_of c s follows.block follows.owner (after (first_graph c) h)) (of_thread h (number + 1)) number a machine) here.is (follows.machines number a here.here)
 
 -- between two calls no reply is settled that is not given
-unsettled_at_rest : (c : Config) (w : World) (seat made : ℕ) (command : Command) (fixed : Option Reply) (spot : Spot) → is_at_rest spot ≡ true → SpotFacts c w seat made command fixed spot → fixed ≡ None
+unsettled_at_rest : (c : Config) (w : World) (seat made : ℕ) (command : Command) (fixed : Option Reply) (spot : Spot) → is_between_calls spot ≡ true → SpotFacts c w seat made command fixed spot → fixed ≡ None
 unsettled_at_rest c w seat made command fixed Rest rest facts = facts
 unsettled_at_rest c w seat made command fixed (Ended reply) rest facts = facts
 unsettled_at_rest c w seat made command fixed _ rest facts = absurd cc
 
--- the word that a mutator finds is fit
-finds_fit : (c : Config) (s : Stage Actor) (h : List Entry) (follows : Follows c s h) (number : ℕ) (a : Actor) (m : Mutating) → IsMutator s number a m → FindsFit c s a m
-finds_fit c s h follows number a m here =
-    let thread = thread_of c s h follows number a m here in
-    record {
-      ready = thread.mine.ready;
-      inside = subst (λ machine. place_of (plan_of c machine) < table_words c) (sym here.is) (ready_inside c (touch_of c m) (and_parts _ _ thread.mine.ready).0);
-      fit = λ order takes.
-          let step : Stepped c (world_of c s follows.block follows.owner (after (first_graph c) h)) m a.command order thread.fixed =
-          each_step c (world_of c s follows.block follows.owner (after (first_graph c) h)) m a.command order thread.fixed follows.shared thread.mine takes in
-          subst (λ machine. IsFit c m order (slice_index s.words (place_of (plan_of c machine)))) (sym here.is)
-          (subst (λ got. IsFit c m order got) (sym (found-placed c s.words (touch_of c m) (word_of_ready c (touch_of c m) (and_parts _ _ thread.mine.ready).0))) step.mine.ready);
-    }
+-- What a stage that follows its history says.
+module _ (c : Config) (g : Graph) (s : Stage Actor) (h : List Entry) (follows : Follows c g s h) where
+  abbrev the_world : World
+  the_world = world_of c s follows.block follows.owner (after g h)
 
--- a stage that follows its history is sound
-sound : (c : Config) (s : Stage Actor) (h : List Entry) → IsWithoutFull h → Follows c s h → IsSound c s h
-sound c s h without_full follows = record {
-  stands = record {
-    block = follows.block;
-    owner = follows.owner;
-    shared = follows.shared;
-    mutators = λ number a m here. let thread = thread_of c s h follows number a m here in (thread.fixed, thread.mine);
-  };
-  legal = follows.legal;
-  without_full = without_full;
-  numbers = λ number a m here. (thread_of c s h follows number a m here).number_is;
-  threads = λ number a m here.
-      let thread = thread_of c s h follows number a m here in
+  -- of a mutator
+  thread_of : (number : ℕ) (a : Actor) (m : Mutating) → IsMutator s number a m → IsThread c the_world (of_thread h (number + 1)) number a m
+  thread_of number a m here = subst (λ machine. IsMachine c the_world (of_thread h (number + 1)) number a machine) here.is (follows.machines number a here.here)
+
+  -- of the word that a mutator finds
+  finds_fit : (number : ℕ) (a : Actor) (m : Mutating) → IsMutator s number a m → FindsFit c s a m
+  finds_fit number a m here =
+      let thread = thread_of number a m here in
       record {
-        entries_are = thread.entries_are;
-        at_rest = λ rest. unsettled_at_rest c (world_of c s follows.block follows.owner (after (first_graph c) h)) m.seat m.made a.command thread.fixed m.spot rest thread.mine.facts;
-      };
-  fit = λ number a m here. finds_fit c s h follows number a m here;
-}
+        ready = thread.mine.ready;
+        inside = subst (λ machine. place_of (plan_of c machine) < table_words c) (sym here.is) (ready_inside c (touch_of c m) (and_parts _ _ thread.mine.ready).0);
+        fit = λ order takes.
+            let step : Stepped c the_world m a.command order thread.fixed = each_step c the_world m a.command order thread.fixed follows.shared thread.mine takes in
+            subst (λ machine. IsFit c m order (slice_index s.words (place_of (plan_of c machine)))) (sym here.is)
+            (subst (λ got. IsFit c m order got) (sym (found-placed c s.words (touch_of c m) (word_of_ready c (touch_of c m) (and_parts _ _ thread.mine.ready).0))) step.mine.ready);
+      }
 
--- so is each list of events
-pub every_list : (c : Config) (events : List (Event Order)) → IsSound c (reached c events) (past c events)
-every_list c events = sound c (reached c events) (past c events) (past_without_full c events) (follows_reached c events)
+  -- of its machines
+  of_heap : IsOfHeap c s
+  of_heap = record {
+    words = follows.words;
+    machines = follows.seats;
+    mutators = λ number below.
+        let there : slice_get s.machines number ≡ Some (get_or s.machines number (record { machine = fresh_control; command = Gc; calls = [] })) =
+        slice_get-get_or s.machines number _ (let seats = follows.seats in omega (arith, below, seats)) in
+        let a = get_or s.machines number (record { machine = fresh_control; command = Gc; calls = [] }) in
+        let role = mutator_of c number a.machine (number_of c the_world (of_thread h (number + 1)) number a a.machine (follows.machines number a there)) below in
+        record { actor = a; mutator = role.0; here = record { here = there; is = role.1 } };
+    numbers = λ number a m here. let thread = thread_of number a m here in (thread.number_is, subst (λ k. k < c.mutators) thread.number_is thread.mine.seated.below);
+  }
+
+  -- of all: it is sound
+  sound : IsWithoutFull h → HasNoMore c.mutators g → IsSound c g s h
+  sound without_full no_more = record {
+    of_heap = of_heap;
+    stands = record {
+      block = follows.block;
+      owner = follows.owner;
+      shared = follows.shared;
+      mutators = λ number a m here. let mine = (thread_of number a m here).mine in record { made = mine.seated.counted; roots = mine.roots; hands = mine.hands };
+    };
+    legal = follows.legal;
+    without_full = without_full;
+    entries = follows.entries;
+    no_more = no_more_after c.mutators g h follows.entries no_more;
+    threads = λ number a m here.
+        let thread = thread_of number a m here in
+        record {
+          fixed = thread.fixed;
+          entries_are = thread.entries_are;
+          between_calls = λ rest. unsettled_at_rest c the_world m.seat m.made a.command thread.fixed m.spot rest thread.mine.facts;
+          gives = λ reply is. gives_settled c the_world m.seat a.command thread.fixed m.spot m.made reply thread.mine.facts is;
+        };
+    fit = λ number a m here. finds_fit number a m here;
+  }
+
+  -- of a mutator that is about to look for a free region
+  lacks_room : (number : ℕ) (a : Actor) (m : Mutating) (dst refs nums : ℕ) → IsMutator s number a m → m.spot ≡ Taking dst refs nums LoadFree → HasLess c (settled c s) m.seat (3 + refs + nums)
+  lacks_room number a m dst refs nums here at =
+      let thread = thread_of number a m here in
+      (subst (λ spot. SpotFacts c the_world m.seat m.made a.command thread.fixed spot) at thread.mine.facts).1
+
+-- each stage that events lead to follows the history of the events
+follows_all : (c : Config) (s : Stage Actor) (g : Graph) → Begins c s g → (events : List (Event Order)) → Follows c g (go (kind c) s events) (history c s events)
+follows_all c s g begins events = follows_run c g s [] events (follows_begins c s g begins)
+
+-- and is sound
+pub every_run : (c : Config) (s : Stage Actor) (g : Graph) → Begins c s g → (events : List (Event Order)) → IsSound c g (go (kind c) s events) (history c s events)
+every_run c s g begins events =
+    sound c g (go (kind c) s events) (history c s events) (follows_all c s g begins events) (history_not_full c s events) begins.no_more
+
+-- so it is from the opening on
+pub every_list : (c : Config) (events : List (Event Order)) → IsSound c (first_graph c) (reached c events) (past c events)
+every_list c events = every_run c (opening c) (first_graph c) (opening_begins c) events
 
 -- a mutator that is reached makes an access of the table
-pub reached_inside : (c : Config) (number : ℕ) (a : Actor) (m : Mutating) → HasReached (kind c) (opening c) number a → a.machine ≡ mutating m → place_of (plan_of c a.machine) < table_words c
-reached_inside c number a m has is =
-    (reached_has (kind c) (λ s. slice_get s.machines number ≡ Some a → place_of (plan_of c a.machine) < table_words c) (opening c) has.stage
-    (λ events here. (finds_fit c (reached c events) (past c events) (follows_reached c events) number a m (record { here = here; is = is })).inside) has.reached) has.here
+pub reached_inside : (c : Config) (s : Stage Actor) (g : Graph) → Begins c s g → (number : ℕ) (a : Actor) (m : Mutating) → HasReached (kind c) s number a → a.machine ≡ mutating m → place_of (plan_of c a.machine) < table_words c
+reached_inside c s g begins number a m has is =
+    (reached_has (kind c) (λ t. slice_get t.machines number ≡ Some a → place_of (plan_of c a.machine) < table_words c) s has.stage
+    (λ events here. ((every_run c s g begins events).fit number a m (record { here = here; is = is })).inside) has.reached) has.here
 
 -- a word that a mutator finds in some run is fit
-pub found_fit : (c : Config) (number : ℕ) (a : Actor) (m : Mutating) (order : Order) (told : ℕ) → Finds (kind c) (opening c) number a order told → a.machine ≡ mutating m → IsFit c m order told
+pub found_fit : (c : Config) (s : Stage Actor) (g : Graph) → Begins c s g → (number : ℕ) (a : Actor) (m : Mutating) (order : Order) (told : ℕ) → Finds (kind c) s number a order told → a.machine ≡ mutating m → IsFit c m order told
 unfolding kind
-found_fit c number a m order told f is =
-    (reached_has (kind c) (λ s. slice_get s.machines number ≡ Some a → told ≡ slice_index s.words (place_of (plan_of c a.machine)) → IsFit c m order told) (opening c) f.stage
+found_fit c s g begins number a m order told f is =
+    (reached_has (kind c) (λ t. slice_get t.machines number ≡ Some a → told ≡ slice_index t.words (place_of (plan_of c a.machine)) → IsFit c m order told) s f.stage
     (λ events here found.
     subst (λ n. IsFit c m order n) (sym found)
-    ((finds_fit c (reached c events) (past c events) (follows_reached c events) number a m (record { here = here; is = is })).fit order (ap (λ machine. takes_of machine order) (sym is) ∙ f.takes)))
+    (((every_run c s g begins events).fit number a m (record { here = here; is = is })).fit order (ap (λ machine. takes_of machine order) (sym is) ∙ f.takes)))
     f.reached) f.here f.found
+
+-- a mutator that is about to look for a free region lacks room
+pub run_lacks_room : (c : Config) (s : Stage Actor) (g : Graph) → Begins c s g → (events : List (Event Order)) (number : ℕ) (a : Actor) (m : Mutating) (dst refs nums : ℕ)
+    → IsMutator (go (kind c) s events) number a m → m.spot ≡ Taking dst refs nums LoadFree → HasLess c (settled c (go (kind c) s events)) m.seat (3 + refs + nums)
+run_lacks_room c s g begins events = lacks_room c g (go (kind c) s events) (history c s events) (follows_all c s g begins events)

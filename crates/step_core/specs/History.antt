@@ -1,24 +1,18 @@
 -- The history of a run: the entries that its events settle, in the order of the events.
-use Rattle.std.specs.Prelude.{ℕ, List, [], ◌∷◌, ◌++◌, Option, Some, None, slice_get, if◌then◌else◌}
+use Rattle.std.specs.Prelude.{List, [], ◌∷◌, ◌++◌, Option, Some, None, slice_get, if◌then◌else◌}
 use Rattle.heap_words.specs.declared.config.Config.{Config}
-use Rattle.heap_words.specs.Words.{Word, view}
 use Rattle.steps_base.specs.Steps.{Stage, Event, act}
+use Rattle.shen_graph.specs.declared.order.Order.{Order}
 use Rattle.shen_graph.specs.History.{Entry}
-use Rattle.mutator.specs.declared.spot.Order.{Order}
-use Rattle.mutator.specs.Told.{told_of}
-use Rattle.step_core.specs.Actor.{Machine, mutating, helping, controlling, Actor, entries_of, command_by, takes_of, kind}
+use Rattle.step_core.specs.Actor.{Actor}
+use Rattle.step_core.specs.Machines.{takes_of, told_by, kind}
 
--- what an event of this machine settles, by the memory that it finds
-abbrev pub told_by : (Word → ℕ) → Actor → Order → Machine → List Entry
-told_by memory a order (mutating m) = entries_of m.seat (command_by order a.command) (told_of memory m)
-told_by memory a order helping = []
-told_by memory a order controlling = []
-
+-- the entries that an event of this machine settles
 abbrev pub told_of_machine : Config → Stage Actor → Event Order → Option Actor → List Entry
 told_of_machine c s e None = []
-told_of_machine c s e (Some a) = if takes_of a.machine e.order then told_by (view c s.words) a e.order a.machine else []
+told_of_machine c s e (Some a) = if takes_of a.machine e.order then told_by c s a e.order a.machine else []
 
--- the entries that an event settles: one or none
+-- the entries that an event settles
 unfoldable pub told : Config → Stage Actor → Event Order → List Entry
 told c s e = told_of_machine c s e (slice_get s.machines e.number)
 

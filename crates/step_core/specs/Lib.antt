@@ -2,5 +2,10 @@ pub mod Actor
 pub mod Opening
 pub mod History
 pub mod Stepped
-pub mod Follows
+pub mod Settled
+pub mod Machines
+pub mod Threads
+pub mod Own
+pub mod Begins
+pub mod Sound
 pub mod Schedule

@@ -8,7 +8,7 @@ use Rattle.heap_words.specs.Encoding.{plain_header, shape_word, name_code}
 use Rattle.steps_base.specs.Steps.{Stage}
 use Rattle.shen_graph.specs.declared.command.Command.TheVariants.{Gc}
 use Rattle.mutator.specs.Rows.{fresh_mutator}
-use Rattle.step_core.specs.Actor.{Machine, mutating, helping, controlling, Actor}
+use Rattle.step_core.specs.Actor.{Machine, mutating, fresh_helper, fresh_control, Actor}
 
 -- the table after a number was stored at a word
 abbrev pub stored : Config → Word → ℕ → List ℕ → List ℕ
@@ -38,7 +38,7 @@ opening_words c =
 abbrev pub opening_machine : Config → ℕ → Machine
 opening_machine c number =
     if nat_lt number c.mutators then mutating (fresh_mutator number)
-    else (if nat_lt number (c.mutators + c.helpers) then helping else controlling)
+    else (if nat_lt number (c.mutators + c.helpers) then fresh_helper else fresh_control)
 
 abbrev pub opening_actor : Config → ℕ → Actor
 opening_actor c number = record { machine = opening_machine c number; command = Gc; calls = [] }

@@ -1,24 +1,19 @@
 -- The events of a schedule: whose turn it is, event by event. After the items of the schedule the machines take turns
 -- by their numbers, and idle ones are passed over.
-use Rattle.std.specs.Prelude.{ℕ, zero, suc, ◌+◌, ◌-◌, ◌==◌, Bool, true, false, ◌&&◌, nat_le, List, [], ◌∷◌, ◌++◌, length, map, Option, Some, None, slice_get, slice_index, slice_index_or, if◌then◌else◌}
+use Rattle.std.specs.Prelude.{ℕ, zero, suc, ◌+◌, ◌-◌, Bool, true, false, nat_le, List, [], ◌∷◌, ◌++◌, length, map, Option, Some, None, slice_get, slice_index, slice_index_or, if◌then◌else◌}
 use Rattle.std.specs.Option.{option_map}
 use Rattle.std.specs.List.{range_with_len}
 use Rattle.heap_words.specs.declared.config.Config.{Config}
 use Rattle.heap_words.specs.declared.place.Place.{Place}
-use Rattle.heap_words.specs.declared.access.Took.{Took}
-use Rattle.heap_words.specs.declared.access.Took.TheVariants.{Again}
 use Rattle.heap_words.specs.declared.schedule.Item.{Item}
 use Rattle.heap_words.specs.declared.schedule.Item.TheVariants.{Steps, Until, Replies}
 use Rattle.heap_words.specs.Access.{place_of}
 use Rattle.heap_words.specs.Ranges.{seat_count}
-use Rattle.heap_words.specs.Place.{code_of}
 use Rattle.steps_base.specs.Steps.{Stage, Event, act}
 use Rattle.shen_graph.specs.declared.command.Command.{Command}
-use Rattle.mutator.specs.declared.spot.Order.{Order}
-use Rattle.mutator.specs.declared.spot.Order.TheVariants.{Nothing, Begin}
-use Rattle.mutator.specs.Orders.{is_at_rest}
-use Rattle.mutator.specs.Rows.{place_at, answer_at}
-use Rattle.step_core.specs.Actor.{Machine, mutating, helping, controlling, Actor, plan_of, kind}
+use Rattle.shen_graph.specs.declared.order.Order.{Order}
+use Rattle.step_core.specs.Actor.{Machine, Actor}
+use Rattle.step_core.specs.Machines.{plan_of, order_by, answer_of, again_by, stands_in, kind}
 
 -- the commands of each mutator
 abbrev pub Scripts : Type 0
@@ -27,13 +22,9 @@ Scripts = List (List Command)
 abbrev pub script_of : Scripts → ℕ → List Command
 script_of scripts number = slice_index_or scripts number []
 
--- What a machine does on its turn: in a call it goes on, and between two calls it begins the command of its script that
--- follows those of its calls. It is idle where there is none.
+-- what a machine does on its turn: nothing where it is idle
 abbrev pub order_on_turn : Scripts → ℕ → Actor → Machine → Option Order
-order_on_turn scripts number a (mutating m) =
-    if is_at_rest m.spot then option_map (λ command. Begin command) (slice_get (script_of scripts number) (length a.calls)) else Some Nothing
-order_on_turn scripts number a helping = None
-order_on_turn scripts number a controlling = None
+order_on_turn scripts number a machine = order_by (script_of scripts number) a.calls machine
 
 abbrev pub turn_of : Scripts → ℕ → Option Actor → Option (Event Order)
 turn_of scripts number None = None
@@ -43,14 +34,8 @@ turn_of scripts number (Some a) = option_map (λ order. record { number = number
 abbrev pub turn : Scripts → Stage Actor → ℕ → Option (Event Order)
 turn scripts s number = turn_of scripts number (slice_get s.machines number)
 
-abbrev pub is_again : Took → Bool
-is_again Again = true
-is_again _ = false
-
 abbrev pub waits_in : Stage Actor → Config → Machine → Bool
-waits_in s c (mutating m) = is_again (answer_at c m.spot (slice_index s.words (place_of (plan_of c (mutating m)))))
-waits_in s c helping = false
-waits_in s c controlling = false
+waits_in s c machine = again_by (answer_of c machine (slice_index s.words (place_of (plan_of c machine))))
 
 abbrev pub waits_of : Config → Stage Actor → Option Actor → Bool
 waits_of c s None = false
@@ -59,14 +44,6 @@ waits_of c s (Some a) = waits_in s c a.machine
 -- whether the next step of a machine says that it waits
 abbrev pub waits : Config → Stage Actor → ℕ → Bool
 waits c s number = waits_of c s (slice_get s.machines number)
-
-abbrev pub same_place : Place → Place → Bool
-same_place p q = (slice_index (code_of p) 0 == slice_index (code_of q) 0) && (slice_index (code_of p) 1 == slice_index (code_of q) 1)
-
-abbrev pub stands_in : Place → Machine → Bool
-stands_in place (mutating m) = same_place (place_at m.spot) place
-stands_in place helping = false
-stands_in place controlling = false
 
 abbrev pub stands_of : Place → Option Actor → Bool
 stands_of place None = false

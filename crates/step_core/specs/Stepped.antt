@@ -1,7 +1,7 @@
 -- What one machine knows of a world, and what each step of a place owes.
-use Rattle.std.specs.Prelude.{ℕ, ◌≡◌, ◌≢◌, ◌⊎◌, ◌+◌, ◌<◌, ◌≤◌, ◌==◌, true, length, Option, Some, None, if◌then◌else◌}
+use Rattle.std.specs.Prelude.{ℕ, ◌≡◌, ◌≢◌, ◌⊎◌, ◌+◌, ◌<◌, ◌≤◌, true, length, Option, Some, None}
 use Rattle.heap_words.specs.declared.config.Config.{Config}
-use Rattle.heap_words.specs.Words.{Root, Top, Current, Heap}
+use Rattle.heap_words.specs.Words.{Heap}
 use Rattle.steps_base.specs.Touch.{touched}
 use Rattle.shen_graph.specs.declared.name.Name.{Name}
 use Rattle.shen_graph.specs.declared.command.Command.{Command}
@@ -11,16 +11,17 @@ use Rattle.shen_graph.specs.declared.command.Reply.TheVariants as reply
 use Rattle.shen_graph.specs.Graph.{Graph}
 use Rattle.shen_graph.specs.Step.{IsLegal}
 use Rattle.shen_graph.specs.History.{after_entry}
-use Rattle.alloc_buffers.specs.declared.spot.TakeSpot.{TakeSpot}
-use Rattle.alloc_buffers.specs.declared.spot.TakeSpot.TheVariants as take_spot
+use Rattle.alloc_buffers.specs.Facts.{TakeFacts}
 use Rattle.mutator.specs.declared.spot.Spot.{Spot}
 use Rattle.mutator.specs.declared.spot.Spot.TheVariants.{Rest, Ended, LoadSet, LoadRoot, LoadSecond, LoadThird, LoadShape, LoadField, LoadExpected, StoreField, SwapField, ExchangeField, LoadNumber, StoreNumber, LoadName, StoreLoaded, StoreRoot, Taking, StoreWord, StoreFresh, AskCycle, Leave}
-use Rattle.mutator.specs.declared.spot.Order.{Order}
+use Rattle.shen_graph.specs.declared.order.Order.{Order}
+use Rattle.shen_graph.specs.declared.order.Order.TheVariants.{Nothing}
 use Rattle.mutator.specs.Orders.{takes_at, is_next}
 use Rattle.mutator.specs.Rows.{Mutating, touch_of, next_of, given_at, roots_of, root_of, is_on_object, fresh_word}
 use Rattle.mutator.specs.Told.{told_of}
 use Rattle.mutator.specs.Fit.{IsReady}
 use Rattle.step_core.specs.Actor.{entry_of, command_by}
+use Rattle.step_core.specs.Own.{root_now, IsInHand}
 use Rattle.heap_world.specs.World.{World, hand, name_at, Points, Target, Shared}
 use Rattle.heap_world.specs.Rely.{Rely}
 
@@ -130,33 +131,6 @@ pub record IsMaking (made : ℕ) (command : Command) (fixed : Option Reply) (dst
   pub few_nums : nums ≤ 16
   pub few : made < 4294967295
 
--- the current region of a seat, if it has one, has less room than so many words
-abbrev pub HasLess : Config → World → ℕ → ℕ → Type 0
-HasLess c w seat words = (r : ℕ) → w.memory (Current seat) ≡ r + 1 → c.region_words < w.memory (Top r) + words
-
--- a region that a seat has taken and not made its current one yet
-pub record IsTaken (c : Config) (w : World) (seat region : ℕ) : Type 0 where
-  pub within : region < c.regions
-  pub own : w.owner region ≡ Some seat
-  pub empty : w.memory (Top region) ≡ 0
-
--- a top of the current region that has room for so many words
-pub record IsRoomy (c : Config) (w : World) (seat words region top : ℕ) : Type 0 where
-  pub within : region < c.regions
-  pub is_current : w.memory (Current seat) ≡ region + 1
-  pub top_is : w.memory (Top region) ≡ top
-  pub room : top + words ≤ c.region_words
-
--- what holds while a seat takes room for so many words
-abbrev pub TakeFacts : Config → World → ℕ → ℕ → TakeSpot → Type 0
-TakeFacts c w seat words take_spot.LoadCurrent = Unit {0}
-TakeFacts c w seat words (take_spot.LoadTop region) = w.memory (Current seat) ≡ region + 1
-TakeFacts c w seat words take_spot.LoadFree = HasLess c w seat words
-TakeFacts c w seat words (take_spot.TakeRegion region) = HasLess c w seat words × (region < c.regions)
-TakeFacts c w seat words (take_spot.StoreCurrent region) = IsTaken c w seat region
-TakeFacts c w seat words (take_spot.StoreTop region top) = IsRoomy c w seat words region top
-TakeFacts c w seat words (take_spot.Ended taken) = ⊥
-
 -- room in hand, in which so many words of the new object stand
 pub record IsFilling (w : World) (seat made refs nums address done : ℕ) : Type 0 where
   pub room : w.block address ≡ Some (hand seat (3 + refs + nums))
@@ -189,23 +163,19 @@ SpotFacts c w seat made command fixed (StoreFresh dst refs nums address) = IsMak
 SpotFacts c w seat made command fixed AskCycle = (fixed ≡ None) × (command ≡ Gc)
 SpotFacts c w seat made command fixed (Leave reply) = fixed ≡ Some reply
 
--- the word that counts as a root of the mutator: while a call has the root's new value in hand, that value
-abbrev pub root_now : World → ℕ → Spot → ℕ → ℕ
-root_now w seat (LoadName value dst) index = if index == dst then value else w.memory (Root seat index)
-root_now w seat (StoreLoaded dst value reply) index = if index == dst then value else w.memory (Root seat index)
-root_now w seat _ index = w.memory (Root seat index)
+-- The facts of a seat that all places share, over the words and numbers that they read: it is a mutator's, and it has made
+-- as many objects as the graph says.
+pub record IsSeated (mutators seat count made : ℕ) : Type 0 where
+  pub below : seat < mutators
+  pub counted : count ≡ made
 
--- room is in hand at a spot: these words from this address on
-abbrev pub IsInHand : Spot → ℕ → ℕ → Type 0
-IsInHand (StoreWord dst refs nums address done) a words = (a ≡ address) × (words ≡ 3 + refs + nums)
-IsInHand (StoreFresh dst refs nums address) a words = (a ≡ address) × (words ≡ 3 + refs + nums)
-IsInHand _ a words = ⊥
+abbrev pub Seated : Config → World → Mutating → Type 0
+Seated c w m = IsSeated c.mutators m.seat (w.graph.count (m.seat + 1)) m.made
 
 -- what a mutator counts on
 pub record Mine (c : Config) (w : World) (m : Mutating) (command : Command) (fixed : Option Reply) : Type 0 where
-  pub seat : m.seat < c.mutators
+  pub seated : Seated c w m
   pub ready : IsReady c m
-  pub made : w.graph.count (m.seat + 1) ≡ m.made
   pub roots : (i : ℕ) → i < 16 → Points w.block (root_now w m.seat m.spot i) (w.graph.root (m.seat + 1) i)
   pub hands : (a words : ℕ) → w.block a ≡ Some (hand m.seat words) → IsInHand m.spot a words
   pub facts : SpotFacts c w m.seat m.made command fixed m.spot
@@ -239,7 +209,12 @@ pub record Stepped (c : Config) (u : World) (m : Mutating) (command : Command) (
   pub mine : Mine c world (next_of c m order (u.memory (touch_of c m).word)) (command_by order command) (fixed_by fixed (told_of u.memory m) (given_at m.spot))
   pub others : (seat : ℕ) → seat ≢ m.seat → Rely seat u world
 
--- what is proved of each spot: from the shared facts and the mutator's own its step is as it should be
-abbrev pub Row : Config → World → Mutating → Command → Order → Option Reply → Type 0
-Row c u m command order fixed =
+-- What is proved of each spot: from the shared facts and the mutator's own its step is as it should be, under each order
+-- that it takes.
+abbrev pub OrderedRow : Config → World → Mutating → Command → Order → Option Reply → Type 0
+OrderedRow c u m command order fixed =
     Shared c u → Mine c u m command fixed → takes_at m.spot m.made order ≡ true → Stepped c u m command order fixed
+
+-- in a call there is no order
+abbrev pub Row : Config → World → Mutating → Command → Option Reply → Type 0
+Row c u m command fixed = Shared c u → Mine c u m command fixed → Stepped c u m command Nothing fixed

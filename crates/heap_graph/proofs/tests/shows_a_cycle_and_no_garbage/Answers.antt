@@ -6,7 +6,8 @@ use Rattle.std.proofs.lemmas.Bool.{cases_lt, cases_Bool, eqb-true, cond-true, co
 use Rattle.shen_graph.specs.declared.name.Name.{Name}
 use Rattle.shen_graph.specs.Graph.{Graph, Object, Reference, hub, same_name}
 use Rattle.shen_graph.specs.Reach.{size}
-use Rattle.heap_graph.specs.Stands.{Refers, IsAt}
+use Rattle.heap_graph.specs.Stands.{IsAt}
+use Rattle.heap_world.specs.Objects.{Refers}
 use Rattle.heap_graph.specs.Rows.{root_word}
 use Rattle.heap_graph.proofs.tests.shows_a_cycle_and_no_garbage.Goals as goal
 
@@ -68,13 +69,15 @@ hub_there = record {
   words = (record {
     header = refl;
     shape = refl;
-    name = refl;
-    refs = λ i r got. refers 1 (Some second) r i refl got;
-    nums = λ i x got. cc;
+    name_word = refl;
+    refs_are = refl;
+    nums_are = refl;
+    references = λ i r got. refers 1 (Some second) r i refl got;
+    numbers = λ i x got. cc;
     few_refs = omega arith;
     few_nums = omega arith;
-    short_count = omega arith;
   });
+  short_count = omega arith;
   above = omega arith;
   below = omega arith;
 }
@@ -85,13 +88,15 @@ second_there = record {
   words = (record {
     header = refl;
     shape = refl;
-    name = refl;
-    refs = λ i r got. refers 5 (Some hub) r i refl got;
-    nums = (λ i x got. let k = the_one 42 x i got in ap (λ j. word (9 + j)) k.0 ∙ k.1);
+    name_word = refl;
+    refs_are = refl;
+    nums_are = refl;
+    references = λ i r got. refers 5 (Some hub) r i refl got;
+    numbers = (λ i x got. let k = the_one 42 x i got in ap (λ j. word (9 + j)) k.0 ∙ k.1);
     few_refs = omega arith;
     few_nums = omega arith;
-    short_count = omega arith;
   });
+  short_count = omega arith;
   above = omega arith;
   below = omega arith;
 }

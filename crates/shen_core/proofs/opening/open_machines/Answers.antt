@@ -1,6 +1,6 @@
 use Rattle.std.proofs.Common.{◌≡◌, ap, sym, ◌∙◌, map, All, subst}
 use Rattle.std.proofs.lemmas.List.Elements.{All-push}
-use Rattle.mutator.specs.declared.spot.Order.TheVariants.{Nothing}
+use Rattle.shen_graph.specs.declared.order.Order.TheVariants.{Nothing}
 use Rattle.shen_core.specs.Shown.{shown, order_of_machine, heap_of}
 use Rattle.shen_core.proofs.Opened.{machines_more}
 use Rattle.shen_core.proofs.opening.open_machines.Goals as goal

@@ -1,6 +1,6 @@
 use Rattle.std.proofs.Common.{◌≡◌, map, All}
 use Rattle.std.specs.List.{range_with_len}
-use Rattle.mutator.specs.declared.spot.Order.TheVariants.{Nothing}
+use Rattle.shen_graph.specs.declared.order.Order.TheVariants.{Nothing}
 use Rattle.step_core.specs.Opening.{opening_machine}
 use Rattle.shen_core.specs.Shown.{shown, order_of_machine, heap_of}
 use Rattle.shen_core.proofs.opening.open_machines.Given as goal

@@ -1,10 +1,10 @@
 use Rattle.std.proofs.Common.{◌≡◌, map, length, replicate}
-use Rattle.evac_room.specs.Spot.{outside}
+use Rattle.evac_room.specs.declared.spot.RoomSpot.TheVariants.{Outside}
 use Rattle.evac_room.specs.Copier.{spot_of}
 use Rattle.evac_room.proofs.copiers.Copiers.open.Given as goal
 
 abbrev pub invariant-loop : goal.invariant-loop
 invariant-loop l = record {
   all : length l.copiers.items ≡ l.counter;
-  are : map spot_of l.copiers.items ≡ replicate l.counter outside;
+  are : map spot_of l.copiers.items ≡ replicate l.counter Outside;
 }

@@ -1,6 +1,6 @@
 use Rattle.std.proofs.Common.{◌≡◌, ◌<◌, ℕ, true}
 use Rattle.shen_core.specs.State.{machine_at}
-use Rattle.shen_core.specs.Answer.{is_resting}
+use Rattle.step_core.specs.Machines.{is_resting}
 use Rattle.shen_core.proofs.plain.Plain.all_rest.Given as goal
 
 abbrev pub invariant-loop-number : goal.invariant-loop-number

@@ -2,9 +2,9 @@ use Rattle.std.proofs.Common.{sym, ap, ◌∙◌, subst, arith}
 use Rattle.std.proofs.lemmas.List.{length-set}
 use Rattle.shen_core.specs.Runs.{IsShownBySome}
 use Rattle.std.proofs.Math.Logic.{∥∥₁_map}
-use Rattle.mutator.specs.declared.spot.Order.TheVariants.{Begin}
+use Rattle.shen_graph.specs.declared.order.Order.TheVariants.{Begin}
 use Rattle.mutator.specs.Orders.{takes_at}
-use Rattle.step_core.specs.Actor.{takes_of}
+use Rattle.step_core.specs.Machines.{takes_of}
 use Rattle.shen_core.proofs.Memory.{from_read, machine_here, ordered_machines, ordered_orders, ordered_heap}
 use Rattle.shen_core.proofs.plain.Plain.begin.Goals as goal
 

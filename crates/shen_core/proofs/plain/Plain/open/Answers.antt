@@ -1,5 +1,5 @@
 use Rattle.std.proofs.Common.{◌≡◌, ap, ◌∙◌, length}
-use Rattle.mutator.specs.declared.spot.Order.TheVariants.{Nothing}
+use Rattle.shen_graph.specs.declared.order.Order.TheVariants.{Nothing}
 use Rattle.step_core.proofs.OpeningStands.{length-opening}
 use Rattle.shen_core.specs.Shown.{order_of_machine}
 use Rattle.std.proofs.lemmas.List.Elements.{All-map}

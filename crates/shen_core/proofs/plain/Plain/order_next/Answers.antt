@@ -1,13 +1,13 @@
-use Rattle.std.proofs.Common.{◌≡◌, sym, ap, ◌∙◌, get_or, arith}
+use Rattle.std.proofs.Common.{◌≡◌, sym, ap, ◌∙◌, get_or, arith, Some}
 use Rattle.std.proofs.lemmas.List.{length-map, get_or-set_same}
-use Rattle.mutator.specs.declared.spot.Order.TheVariants.{Nothing, Begin}
+use Rattle.shen_graph.specs.declared.order.Order.TheVariants.{Nothing, Begin}
 use Rattle.std.specs.Option.{option_map}
-use Rattle.std.proofs.Common.{Some}
 use Rattle.shen_core.specs.Shown.{shown, order_of_machine}
 use Rattle.shen_core.specs.Runs.{event}
 use Rattle.shen_core.specs.State.{config_of, words_of, machines_of, orders_of, machine_at, order_at}
 use Rattle.shen_core.proofs.Turns.{turn_by_next, machine_within}
-use Rattle.step_core.specs.Actor.{takes_of, controlling}
+use Rattle.step_core.specs.Actor.{fresh_control}
+use Rattle.step_core.specs.Machines.{takes_of}
 use Rattle.shen_core.proofs.plain.Plain.order_next.Goals as goal
 
 pub returns-in-Some-clause-turn : goal.returns-in-Some-clause-turn
@@ -29,7 +29,7 @@ returns-in-Some-clause-has c =
     let order : order_at c.begin.new.self c.args.number ≡ Begin c.in-Some.command =
     ap (λ orders. get_or orders c.args.number Nothing) c.begin.ensures.order
     ∙ get_or-set_same (orders_of c.args.self.now) c.args.number (Begin c.in-Some.command) Nothing (omega (arith, length-map c.args.self.now.machines.items order_of_machine, c.args.self.now.all_machines, c.requires.number)) in
-    ap (λ machines. takes_of (get_or machines c.args.number controlling) (order_at c.begin.new.self c.args.number)) c.begin.ensures.machines
+    ap (λ machines. takes_of (get_or machines c.args.number fresh_control) (order_at c.begin.new.self c.args.number)) c.begin.ensures.machines
     ∙ ap (takes_of (machine_at c.args.self.now c.args.number)) order
     ∙ c.begin.ensures.takes
 

@@ -1,0 +1,166 @@
+-- The words of heap and roots in a table stand for the graph that the table stands for.
+use Rattle.std.proofs.Common.{ℕ, ◌≡◌, ◌+◌, ◌-◌, ◌*◌, ◌<◌, ◌≤◌, ◌^◌, ⊎_elim, true, false, Option, Some, List, length, get_or, drop, refl, sym, ap, ◌∙◌, subst, arith}
+use Rattle.std.specs.Prelude.{slice_index, slice_range, nat_le, nat_lt, ◌&&◌}
+use Rattle.std.proofs.lemmas.List.{get_or-take, get_or-drop, get_or_past, length-take-le, length-drop}
+use Rattle.std.proofs.lemmas.Option.{same_Some, slice_get_within}
+use Rattle.std.proofs.lemmas.Bool.{cases_Bool, cond-true, cond-false, and_parts, and_from, leb-true, ltb-true}
+use Rattle.std.proofs.lemmas.Bool.Decides.{nat_tests}
+use Rattle.heap_words.specs.declared.config.Config.{Config}
+use Rattle.heap_words.specs.Words.{Top, Root, Heap, view, roots_start, heap_start, table_words, heap_in, roots_in}
+use Rattle.heap_words.proofs.Stores.{view_word}
+use Rattle.shen_graph.specs.declared.name.Name.{Name}
+use Rattle.shen_graph.specs.Graph.{Graph, Object}
+use Rattle.shen_graph.specs.Reach.{size}
+use Rattle.heap_world.specs.Objects.{Refers}
+use Rattle.heap_world.specs.World.{Plot, Block, thing, words_of, name_at, Points, IsThing, Shared}
+use Rattle.heap_world.specs.Roots.{is_root_of, HasNoMore}
+use Rattle.heap_world.proofs.Pointing.{named_thing, piece_inside as words_inside}
+use Rattle.heap_graph.specs.Stands.{IsAt}
+use Rattle.heap_graph.specs.Rows.{root_word}
+use Rattle.heap_graph.specs.Shows.{WordsStand}
+
+-- a word of a part of a list
+get_or-part : (xs : List ℕ) (a b i : ℕ) → i < b - a → get_or (slice_range xs a b) i 0 ≡ get_or xs (a + i) 0
+get_or-part xs a b i within = get_or-take (b - a) (drop a xs) i 0 within ∙ get_or-drop a xs i 0
+
+-- its length
+length-part : (xs : List ℕ) (a b : ℕ) → b ≤ length xs → length (slice_range xs a b) ≡ b - a
+length-part xs a b within = length-take-le (b - a) (drop a xs) (omega (arith, length-drop a xs))
+
+module _ (c : Config) (words : List ℕ) (block : Plot) (owner : ℕ → Option ℕ) (g : Graph) (long : length words ≡ table_words c)
+    (shared : Shared c (record { memory = view c words; block = block; owner = owner; graph = g })) where
+  abbrev heap : List ℕ
+  heap = heap_in c words
+
+  abbrev roots : List ℕ
+  roots = roots_in c words
+
+  abbrev first : ℕ
+  first = c.region_words
+
+  abbrev at : ℕ → Option Name
+  at a = name_at (block a)
+
+  -- the length of the heap
+  length-heap : length heap ≡ c.regions * c.region_words
+  length-heap = let e : length heap ≡ table_words c - heap_start c = length-part words (heap_start c) (table_words c) (omega (arith, long)) in omega (arith, e)
+
+  -- the words of a piece lie in the heap
+  piece_inside : (a : ℕ) (b : Block) → block a ≡ Some b → (first ≤ a) × (a + words_of b ≤ first + length heap)
+  piece_inside a b is =
+      let inside = words_inside c (λ r. view c words (Top r)) block shared.plotted a b is in
+      let size : (c.regions + 1) * c.region_words ≡ c.regions * c.region_words + c.region_words = omega arith in
+      (inside.0, omega (arith, inside.1, size, length-heap))
+
+  -- a word of the heap by its name
+  heap_word : (a : ℕ) → first ≤ a → a < first + length heap → slice_index heap (a - first) ≡ view c words (Heap a)
+  heap_word a low high =
+      get_or-part words (heap_start c) (table_words c) (a - first) (omega (arith, low, high, length-heap))
+      ∙ ap (λ k. get_or words k 0) (let e : heap_start c + (a - first) ≡ heap_start c + a - first = omega (arith, low) in e)
+      ∙ sym (view_word c words (Heap a) (low, let e : (c.regions + 1) * c.region_words ≡ c.regions * c.region_words + c.region_words = omega arith in omega (arith, e, high, length-heap)))
+
+  -- an object has the words that its piece has
+  object_stands : (a refs nums : ℕ) (n : Name) (o : Object) → block a ≡ Some (thing n refs nums) → g.object n ≡ Some o
+      → IsThing (λ k. view c words (Heap k)) block a refs nums n o → n.count < 2 ^ 32
+      → IsAt first (first + length heap) (λ k. slice_index heap (k - first)) at g a n o
+  object_stands a refs nums n o is object facts small =
+      let inside : (first ≤ a) × (a + (3 + refs + nums) ≤ first + length heap) = piece_inside a (thing n refs nums) is in
+      record {
+        object = object;
+        words = record {
+          header = heap_word a inside.0 (omega (arith, inside.1)) ∙ facts.header;
+          shape = heap_word (a + 1) (omega (arith, inside.0)) (omega (arith, inside.1)) ∙ (rw (facts.refs_are, facts.nums_are) facts.shape);
+          name_word = heap_word (a + 2) (omega (arith, inside.0)) (omega (arith, inside.1)) ∙ facts.name_word;
+          refs_are = refl;
+          nums_are = refl;
+          references = λ i r there.
+              let below : i < length o.refs = slice_get_within o.refs i r there in
+              subst (λ word. Refers at word r) (sym (heap_word (a + 3 + i) (omega (arith, inside.0)) (omega (arith, inside.1, below, facts.refs_are))))
+              (facts.references i r there);
+          numbers = λ i x there.
+              let below : i < length o.nums = slice_get_within o.nums i x there in
+              heap_word (a + 3 + length o.refs + i) (omega (arith, inside.0)) (omega (arith, inside.1, below, facts.refs_are, facts.nums_are))
+              ∙ ap (λ k. view c words (Heap (a + 3 + k + i))) facts.refs_are ∙ facts.numbers i x there;
+          few_refs = omega (arith, facts.refs_are, facts.few_refs);
+          few_nums = omega (arith, facts.nums_are, facts.few_nums);
+        };
+        short_count = small;
+        above = inside.0;
+        below = omega (arith, inside.1, facts.refs_are, facts.nums_are);
+      }
+
+  -- so has each name that stands somewhere
+  each : (a : ℕ) (n : Name) → at a ≡ Some n → (o : Object) × IsAt first (first + length heap) (λ k. slice_index heap (k - first)) at g a n o
+  each a n is =
+      let piece = named_thing (block a) n is in
+      let object = shared.objects.each a piece.0 piece.1 n piece.2 in
+      (object.0, object_stands a piece.0 piece.1 n object.0 piece.2 object.1 object.2 (shared.given n object.0 object.1).small)
+
+  -- objects lie apart
+  apart : (a b : ℕ) (n m : Name) (o : Object) → at a ≡ Some n → at b ≡ Some m → g.object n ≡ Some o → a < b → a + size o ≤ b
+  apart a b n m o is_a is_b object before =
+      let one = named_thing (block a) n is_a in
+      let other = named_thing (block b) m is_b in
+      let found = shared.objects.each a one.0 one.1 n one.2 in
+      let same : found.0 ≡ o = same_Some found.0 o (sym found.1 ∙ object) in
+      let behind : a + (3 + one.0 + one.1) ≤ b = shared.plotted.apart a b (thing n one.0 one.1) (thing m other.0 other.1) one.2 other.2 before in
+      let refs : length o.refs ≡ one.0 = ap (λ x. length x.refs) (sym same) ∙ found.2.refs_are in
+      let nums : length o.nums ≡ one.1 = ap (λ x. length x.nums) (sym same) ∙ found.2.nums_are in
+      omega (arith, behind, refs, nums)
+
+  -- a name stands at one address
+  once : (a b : ℕ) (n : Name) → at a ≡ Some n → at b ≡ Some n → a ≡ b
+  once a b n is_a is_b =
+      let one = named_thing (block a) n is_a in
+      let other = named_thing (block b) n is_b in
+      shared.objects.once a b one.0 one.1 other.0 other.1 n one.2 other.2
+
+  -- there are 16 roots for each mutator
+  length-roots : length roots ≡ 16 * c.mutators
+  length-roots = let e : length roots ≡ roots_start c + 16 * c.mutators - roots_start c = length-part words (roots_start c) (roots_start c + 16 * c.mutators) (omega (arith, long)) in omega (arith, e)
+
+  module _ (own : (t i : ℕ) → t < c.mutators → i < 16 → Points block (view c words (Root t i)) (g.root (t + 1) i)) (no_more : HasNoMore c.mutators g) where
+    -- a root of a mutator
+    own_root : (seat index : ℕ) → seat < c.mutators → index < 16 → Refers at (slice_index roots (16 * seat + index)) (g.root (seat + 1) index)
+    own_root seat index below small =
+        let counts : view c words (Root seat index) ≡ slice_index roots (16 * seat + index) =
+        view_word c words (Root seat index) (below, small)
+        ∙ ap (λ k. get_or words k 0) (let e : roots_start c + 16 * seat + index ≡ roots_start c + (16 * seat + index) = omega arith in e)
+        ∙ sym (get_or-part words (roots_start c) (roots_start c + 16 * c.mutators) (16 * seat + index) (omega (arith, below, small))) in
+        subst (λ word. Refers at word (g.root (seat + 1) index)) counts (own seat index below small)
+
+    -- a root that no mutator has
+    no_root : (t i : ℕ) → is_root_of c.mutators t i ≡ false → root_word roots t i ≡ 0
+    no_root t i none = ⊎_elim
+        (λ (yes : (nat_le 1 t && nat_lt i 16) ≡ true).
+        cond-true (nat_le 1 t && nat_lt i 16) _ _ yes ∙ get_or_past roots (16 * (t - 1) + i) 0 (let far : c.mutators < t = grind (arith, nat_tests) in omega (arith, far, length-roots)))
+        (λ (is : (nat_le 1 t && nat_lt i 16) ≡ false). cond-false (nat_le 1 t && nat_lt i 16) _ _ is)
+        (cases_Bool (nat_le 1 t && nat_lt i 16))
+
+    -- each root's word refers to it
+    root_stands : (t i : ℕ) → Refers at (root_word roots t i) (g.root t i)
+    root_stands t i = ⊎_elim
+        (λ (yes : is_root_of c.mutators t i ≡ true).
+        let one : 1 ≤ t = leb-true 1 t (and_parts _ _ yes).0 in
+        let rest : (nat_le t c.mutators ≡ true) × (nat_lt i 16 ≡ true) = and_parts _ _ (and_parts (nat_le 1 t) (nat_le t c.mutators && nat_lt i 16) yes).1 in
+        let most : t ≤ c.mutators = leb-true t c.mutators rest.0 in
+        let small : i < 16 = ltb-true i 16 rest.1 in
+        let seat : t - 1 + 1 ≡ t = omega (arith, one) in
+        let word : root_word roots t i ≡ slice_index roots (16 * (t - 1) + i) = cond-true (nat_le 1 t && nat_lt i 16) _ _ (and_from _ _ (and_parts _ _ yes).0 rest.1) in
+        subst (λ w. Refers at w (g.root t i)) (sym word)
+        (subst (λ k. Refers at (slice_index roots (16 * (t - 1) + i)) (g.root k i)) seat (own_root (t - 1) i (omega (arith, one, most)) small)))
+        (λ (none : is_root_of c.mutators t i ≡ false).
+        subst (λ r. Refers at (root_word roots t i) r) (sym (no_more t i none)) (no_root t i none))
+        (cases_Bool (is_root_of c.mutators t i))
+
+-- the words stand for the graph
+pub table_stands : (c : Config) (words : List ℕ) (block : Plot) (owner : ℕ → Option ℕ) (g : Graph) → length words ≡ table_words c
+    → Shared c (record { memory = view c words; block = block; owner = owner; graph = g })
+    → ((t i : ℕ) → t < c.mutators → i < 16 → Points block (view c words (Root t i)) (g.root (t + 1) i)) → HasNoMore c.mutators g
+    → WordsStand c.region_words (heap_in c words) (roots_in c words) (λ a. name_at (block a)) g
+table_stands c words block owner g long shared own no_more = record {
+  each = each c words block owner g long shared;
+  once = once c words block owner g long shared;
+  apart = apart c words block owner g long shared;
+  roots = root_stands c words block owner g long shared own no_more;
+}

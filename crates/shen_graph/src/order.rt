@@ -1,0 +1,10 @@
+use crate::command::Command;
+
+/// What a machine of a heap is to do next, beside what it does by itself.
+#[derive(Clone, Copy, Debug, PartialEq, Eq)]
+pub enum Order {
+    /// Nothing: it goes on with what it does, or rests.
+    Nothing,
+    /// Of a mutator that takes commands: it begins this one.
+    Begin(Command),
+}
