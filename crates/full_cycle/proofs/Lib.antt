@@ -8,3 +8,4 @@ pub mod Places
 pub mod Holding
 pub mod Slices
 pub mod Whole
+pub mod Result

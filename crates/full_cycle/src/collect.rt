@@ -4,6 +4,7 @@ ghost use Rattle.std.specs.Prelude.{◌≡◌};
 ghost use Rattle.image_laws.specs.Full.{full};
 ghost use Rattle.image_graph.specs.State.{config_of, memory_of};
 ghost use Rattle.image_graph.specs.Holds.{HoldsSome};
+ghost use Rattle.full_cycle.specs.Result.{KeepsTheGraph, KeepsTheReachable, RefusesTheLeft};
 
 use crate::calm::{clear_collection, free_empty};
 use crate::pack::pack_held;
@@ -20,6 +21,11 @@ pub fn full(image: &mut Image)
     requires { HoldsSome (config_of image.old) (memory_of image.old) }
     ensures config { config_of image.new ≡ config_of image.old }
     ensures words { memory_of image.new ≡ full (config_of image.old) (memory_of image.old) }
+
+    // The graph stays, what is kept is exactly what it reaches, and who is refused finds no room.
+    ensures graph { KeepsTheGraph (config_of image.old) (memory_of image.old) (memory_of image.new) }
+    ensures kept { KeepsTheReachable (config_of image.old) (memory_of image.old) }
+    ensures refused { RefusesTheLeft (config_of image.old) (memory_of image.old) (memory_of image.new) }
 {
     find_held(image);
     pack_held(image);

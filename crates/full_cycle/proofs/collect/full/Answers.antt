@@ -7,6 +7,7 @@ use Rattle.full_cycle.specs.Collect.{CanCollect}
 use Rattle.full_cycle.proofs.State.{carried}
 use Rattle.full_cycle.proofs.Holding.{can_collect_some}
 use Rattle.full_cycle.proofs.Whole.{roots_in_table, answers_in_table, five_config, five_words, five_within}
+use Rattle.full_cycle.proofs.Result.{keeps_graph, keeps_reachable, refuses_left}
 use Rattle.full_cycle.proofs.collect.full.Goals as goal
 
 pub find_held-requires : goal.find_held-requires
@@ -59,3 +60,12 @@ returns-clause-words c =
     ∙ ap refused (c.give_turns.ensures.words
     ∙ ap (λ (k : Config). served k (memory_of five) k.mutators) config
     ∙ ap (λ (n : Word → ℕ). served (config_of old) n (config_of old).mutators) words)
+
+pub returns-clause-graph : goal.returns-clause-graph
+returns-clause-graph c = keeps_graph (config_of c.args.image.now) (memory_of c.args.image.now) (memory_of c.refuse.new.image) (returns-clause-words c)
+
+pub returns-clause-kept : goal.returns-clause-kept
+returns-clause-kept c = keeps_reachable (config_of c.args.image.now) (memory_of c.args.image.now)
+
+pub returns-clause-refused : goal.returns-clause-refused
+returns-clause-refused c = refuses_left (config_of c.args.image.now) (memory_of c.args.image.now) (memory_of c.refuse.new.image) (returns-clause-words c)
