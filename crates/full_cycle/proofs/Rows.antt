@@ -59,5 +59,6 @@ changed_more from at value change before now low inside value_is is k = ⊎_elim
   where
     in_range : (x y : ℕ) → k ≡ at → cond (nat_le from k && nat_lt k (at + 1)) x y ≡ x
     in_range x y here = grind (arith, nat_tests)
+
     same_range : (x y : ℕ) → k ≢ at → cond (nat_le from k && nat_lt k at) x y ≡ cond (nat_le from k && nat_lt k (at + 1)) x y
     same_range x y other = grind (arith, nat_tests)
