@@ -37,7 +37,7 @@ keeps_reachable c m block owner p g holds =
     }
 
 -- packing changes no request
-waits_still : (c : Config) (m : Word → ℕ) (t : ℕ) → packed_in c m (Wait t) ≡ m (Wait t)
+pub waits_still : (c : Config) (m : Word → ℕ) (t : ℕ) → packed_in c m (Wait t) ≡ m (Wait t)
 unfolding packed
 waits_still c m t = refl
 

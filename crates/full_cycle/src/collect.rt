@@ -22,7 +22,8 @@ pub fn full(image: &mut Image)
     ensures config { config_of image.new ≡ config_of image.old }
     ensures words { memory_of image.new ≡ full (config_of image.old) (memory_of image.old) }
 
-    // The graph stays, what is kept is exactly what it reaches, and who is refused finds no room.
+    // The image holds a graph again, and the same one; what is kept is exactly what it reaches, and who is refused finds no room.
+    ensures holds { HoldsSome (config_of image.old) (memory_of image.new) }
     ensures graph { KeepsTheGraph (config_of image.old) (memory_of image.old) (memory_of image.new) }
     ensures kept { KeepsTheReachable (config_of image.old) (memory_of image.old) }
     ensures refused { RefusesTheLeft (config_of image.old) (memory_of image.old) (memory_of image.new) }

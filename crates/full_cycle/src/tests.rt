@@ -84,3 +84,24 @@ fn refuses_whom_no_region_has_room_for(rt: HostRuntime) -> Result<(), Fail> {
     assert_eq!(rt; image.edge(3), 35);
     Ok(())
 }
+
+// Eight threads get an object of 32 words each, two to a region, and nobody has taken one yet when the heap is collected
+// again: all objects live, every region is full to its last word, and nothing moves.
+#[test]
+fn keeps_a_heap_full_to_the_last_word(rt: HostRuntime) -> Result<(), Fail> {
+    let mut image = opened(rt.alloc(), 8)?;
+    let config = image.config();
+    for mutator in 0..8 {
+        ask(&mut image, mutator, 16, 13);
+    }
+    full(&mut image);
+    full(&mut image);
+    assert_eq!(rt; image.word(config.answer_at(0)), 64);
+    assert_eq!(rt; image.word(config.answer_at(1)), 96);
+    assert_eq!(rt; image.word(config.answer_at(2)), 128);
+    assert_eq!(rt; image.word(config.answer_at(7)), 288);
+    assert_eq!(rt; image.edge(0), 64);
+    assert_eq!(rt; image.edge(3), 64);
+    assert_eq!(rt; image.word(config.free_at()), 0);
+    Ok(())
+}

@@ -1,4 +1,4 @@
-use Rattle.std.proofs.Common.{◌≡◌, ℕ, ap, ◌∙◌}
+use Rattle.std.proofs.Common.{◌≡◌, ℕ, sym, ap, ◌∙◌, subst}
 use Rattle.heap_words.specs.declared.config.Config.{Config}
 use Rattle.heap_words.specs.Words.{Word}
 use Rattle.image_laws.specs.Full.{served, refused}
@@ -7,6 +7,8 @@ use Rattle.full_cycle.specs.Collect.{CanCollect}
 use Rattle.full_cycle.proofs.State.{carried}
 use Rattle.full_cycle.proofs.Holding.{can_collect_some}
 use Rattle.full_cycle.proofs.Whole.{roots_in_table, answers_in_table, five_config, five_words, five_within}
+use Rattle.image_graph.specs.Holds.{HoldsSome}
+use Rattle.full_cycle.proofs.Again.{holds_full}
 use Rattle.full_cycle.proofs.Result.{keeps_graph, keeps_reachable, refuses_left}
 use Rattle.full_cycle.proofs.collect.full.Goals as goal
 
@@ -60,6 +62,12 @@ returns-clause-words c =
     ∙ ap refused (c.give_turns.ensures.words
     ∙ ap (λ (k : Config). served k (memory_of five) k.mutators) config
     ∙ ap (λ (n : Word → ℕ). served (config_of old) n (config_of old).mutators) words)
+
+pub returns-clause-holds : goal.returns-clause-holds
+returns-clause-holds c =
+    let g = config_of c.args.image.now in
+    let m : Word → ℕ = memory_of c.args.image.now in
+    subst (HoldsSome g) (sym (returns-clause-words c)) (holds_full g m c.requires)
 
 pub returns-clause-graph : goal.returns-clause-graph
 returns-clause-graph c = keeps_graph (config_of c.args.image.now) (memory_of c.args.image.now) (memory_of c.refuse.new.image) (returns-clause-words c)
