@@ -1,5 +1,5 @@
 -- Where an image holds a graph, what its roots and answers lead to can be packed.
-use Rattle.std.proofs.Common.{◌≡◌, ◌≢◌, ℕ, ◌+◌, ◌*◌, ◌<◌, ◌≤◌, ◌==◌, true, cond, List, get_or, slice_get, Option, Some, None, refl, sym, ap, ◌∙◌, arith}
+use Rattle.std.proofs.Common.{◌≡◌, ℕ, ◌+◌, ◌<◌, ◌≤◌, get_or, slice_get, Option, Some, None, ap, ◌∙◌, arith}
 use Rattle.std.proofs.lemmas.Bool.{cond-false}
 use Rattle.std.proofs.lemmas.Option.{slice_get-get_or}
 use Rattle.std.proofs.Math.Logic.{∥∥₁_elim}
@@ -7,13 +7,12 @@ use Rattle.std.proofs.Math.Bridge.{le_prop}
 use Rattle.std.proofs.Math.Nat.{ℕ_set}
 use Rattle.heap_words.specs.declared.config.Config.{Config}
 use Rattle.heap_words.specs.Words.{Word, Top, Root, Answer, Heap}
-use Rattle.heap_words.specs.Encoding.{is_forwarded, forwardee_in, refs_in, object_words}
-use Rattle.heap_graph.specs.Walk.{has}
+use Rattle.heap_words.specs.Encoding.{is_forwarded, forwardee_in, refs_in}
 use Rattle.shen_graph.specs.declared.name.Name.{Name}
 use Rattle.shen_graph.specs.Graph.{Graph, Reference}
 use Rattle.heap_world.specs.World.{Plot, thing, name_at}
 use Rattle.heap_world.proofs.Pointing.{piece_inside, named_thing, named_if_not_0}
-use Rattle.image_laws.specs.Held.{IsHeld, from_root, from_field, IsAmong, AreKept, HoldsGraph}
+use Rattle.image_laws.specs.Held.{IsHeld, from_root, from_field, IsAmong, AreKept}
 use Rattle.image_laws.specs.Pack.{CanPack}
 use Rattle.image_laws.specs.Plot.{heap_end}
 use Rattle.image_laws.specs.Full.{now_in, root_words, copies_of, field_words, kept_in}

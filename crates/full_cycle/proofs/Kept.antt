@@ -1,5 +1,5 @@
 -- What is known of an object that is kept, and of words that lead to one.
-use Rattle.std.proofs.Common.{◌≡◌, ◌≢◌, ℕ, ◌+◌, ◌*◌, ◌<◌, ◌≤◌, ◌==◌, true, false, cond, map, ⊎_elim, refl, sym, ap, ◌∙◌, subst, arith}
+use Rattle.std.proofs.Common.{◌≡◌, ◌≢◌, ℕ, ◌+◌, ◌<◌, ◌≤◌, ◌==◌, true, false, map, ⊎_elim, sym, ap, ◌∙◌, arith}
 use Rattle.std.specs.List.{range_with_len}
 use Rattle.std.proofs.lemmas.Bool.{cond-true, cond-false, cases_Bool, ne_eqb}
 use Rattle.heap_words.specs.declared.config.Config.{Config}
@@ -9,7 +9,7 @@ use Rattle.heap_graph.specs.Walk.{has, with_address, with_addresses}
 use Rattle.image_laws.specs.Plot.{heap_end}
 use Rattle.image_laws.specs.Full.{now_in, held_in, kept_in, copies_of}
 use Rattle.image_graph.specs.declared.image.Image.{Image}
-use Rattle.image_graph.specs.State.{config_of, memory_of, found_of, IsUnchanged}
+use Rattle.image_graph.specs.State.{memory_of, found_of, IsUnchanged}
 use Rattle.full_cycle.specs.Collect.{copy_in, CanCollect, LeadsToHeld}
 use Rattle.full_cycle.proofs.State.{memory_same}
 use Rattle.full_cycle.proofs.Listed.{noted_more}

@@ -1,16 +1,15 @@
 -- What is noted of rows of words.
-use Rattle.std.proofs.Common.{◌≡◌, ◌≢◌, ℕ, ◌+◌, ◌-◌, ◌*◌, ◌<◌, ◌≤◌, ◌==◌, true, false, cond, nat_le, zero, suc, List, [], ◌∷◌, ◌++◌, length, slice_get, map, Option, Some, None, ⊎_elim, refl, sym, ap, ◌∙◌, subst, arith}
+use Rattle.std.proofs.Common.{◌≡◌, ℕ, ◌+◌, ◌-◌, ◌<◌, ◌≤◌, cond, nat_le, zero, suc, List, [], ◌∷◌, ◌++◌, length, slice_get, map, Option, Some, None, refl, sym, ap, ◌∙◌, arith}
 use Rattle.std.specs.List.{range_with_len}
-use Rattle.std.proofs.lemmas.Bool.{cond-true, cond-false, cases_Bool, leb-true, le-leb, lt-leb}
+use Rattle.std.proofs.lemmas.Bool.{cond-true, cond-false, le-leb, lt-leb}
 use Rattle.std.proofs.lemmas.List.{map-append}
 use Rattle.std.proofs.lemmas.List.FromFn.{map-range_with_len_more}
-use Rattle.std.proofs.Math.Path.{fun_ext}
 use Rattle.heap_words.specs.declared.config.Config.{Config}
-use Rattle.heap_words.specs.Words.{Word, Root, Answer, Heap, heap_size}
+use Rattle.heap_words.specs.Words.{Word, Root, Answer, heap_size}
 use Rattle.heap_graph.specs.Walk.{with_address, with_addresses}
 use Rattle.heap_graph.proofs.Marks.{with_addresses-push}
 use Rattle.image_laws.specs.Held.{with_fields, found_in}
-use Rattle.image_laws.specs.Full.{copies_of, roots_below, answers_below, root_words, field_words, held_in}
+use Rattle.image_laws.specs.Full.{copies_of, roots_below, answers_below, field_words, held_in}
 use Rattle.full_cycle.specs.Collect.{copy_in, found_by}
 
 pub noted_both : (order xs ys : List ℕ) → with_addresses (with_addresses order xs) ys ≡ with_addresses order (xs ++ ys)

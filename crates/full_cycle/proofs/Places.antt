@@ -1,8 +1,8 @@
 -- The words at a range of places, by their names; and sets of empty regions.
-use Rattle.std.proofs.Common.{◌≡◌, ℕ, ◌+◌, ◌-◌, ◌*◌, ◌/◌, ◌%◌, ◌^◌, ◌<◌, ◌≤◌, ◌==◌, ◌&&◌, nat_le, nat_lt, cond, suc, List, get_or, refl, sym, ap, ◌∙◌, subst, arith}
+use Rattle.std.proofs.Common.{◌≡◌, ℕ, ◌+◌, ◌-◌, ◌*◌, ◌/◌, ◌%◌, ◌^◌, ◌<◌, ◌≤◌, ◌==◌, ◌&&◌, nat_le, nat_lt, cond, suc, List, get_or, refl, ap, ◌∙◌, subst, arith}
 use Rattle.std.proofs.lemmas.Bool.Decides.{nat_tests}
 use Rattle.heap_words.specs.declared.config.Config.{Config}
-use Rattle.heap_words.specs.Words.{Word, Root, Count, Answer, Grey, Wait, Top, IsWord, word_at, view}
+use Rattle.heap_words.specs.Words.{Root, Count, Answer, Grey, Wait, word_at, view}
 use Rattle.heap_words.proofs.Stores.{view_word, view_none}
 use Rattle.image_laws.specs.Full.{empty_regions}
 use Rattle.full_cycle.specs.Steps.{IsChanged}

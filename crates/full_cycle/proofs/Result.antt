@@ -1,14 +1,12 @@
 -- What a full collection does to the graph, and to who waits.
-use Rattle.std.proofs.Common.{◌≡◌, ◌≢◌, ℕ, ◌+◌, ◌<◌, ◌↔◌, Option, ⊎_elim, refl, sym, ap, ◌∙◌, subst, arith}
+use Rattle.std.proofs.Common.{◌≡◌, ◌≢◌, ℕ, ◌<◌, ◌↔◌, ⊎_elim, refl, sym, ap, ◌∙◌, subst, arith}
 use Rattle.heap_words.specs.declared.config.Config.{Config}
 use Rattle.heap_words.specs.Words.{Word, Top, Wait, Answer, Heap}
-use Rattle.shen_graph.specs.Graph.{Graph}
 use Rattle.packing.specs.Rooms.{HasNoRoom, IsLowestRoom}
-use Rattle.heap_world.specs.World.{Plot}
 use Rattle.image_laws.specs.Held.{IsAmong}
 use Rattle.image_laws.specs.Full.{now_in, root_words, kept_in, asked_in, packed, full}
 use Rattle.image_laws.specs.Plot.{packed_block}
-use Rattle.image_laws.specs.Promised.{Promises, with_promised}
+use Rattle.image_laws.specs.Promised.{with_promised}
 use Rattle.image_laws.specs.Image.{ImageStands}
 use Rattle.image_laws.specs.Serving.{served_block, served_promises}
 use Rattle.image_laws.specs.Served.{tops_at_turn}
@@ -16,9 +14,8 @@ use Rattle.image_laws.proofs.Reached.{held_are_reachable}
 use Rattle.image_laws.proofs.Walked.{walk_keeps}
 use Rattle.image_laws.proofs.Served.{requests_are_answered}
 use Rattle.image_laws.proofs.Serving.{full_stands}
-use Rattle.image_graph.specs.Holds.{HoldsBy}
 use Rattle.image_graph.specs.Left.{IsLeft}
-use Rattle.full_cycle.specs.Result.{packed_in, KeepsTheGraph, KeptAreReachable, KeepsTheReachable, RefusesTheLeft}
+use Rattle.full_cycle.specs.Result.{packed_in, KeepsTheGraph, KeepsTheReachable, RefusesTheLeft}
 
 pub keeps_graph : (c : Config) (m after : Word → ℕ) → after ≡ full c m → KeepsTheGraph c m after
 keeps_graph c m after is block owner p g holds =

@@ -1,6 +1,6 @@
 -- The heap of a table as a slice, and by the names of words.
-use Rattle.std.proofs.Common.{◌≡◌, ◌≢◌, ℕ, ◌+◌, ◌-◌, ◌*◌, ◌/◌, ◌^◌, ◌<◌, ◌≤◌, ◌⊎◌, ◌==◌, ◌&&◌, Bool, true, false, nat_le, nat_lt, cond, zero, suc, List, length, drop, get_or, slice_index_or, inl, inr, ⊎_elim, refl, sym, ap, ◌∙◌, subst, arith, length-drop}
-use Rattle.std.proofs.lemmas.Bool.{cond-true, cond-false, cases_Bool, cases_lt, cases_eq, and_from, and_left, and_right, le-leb, lt-leb, eq-eqb, ne_eqb, true≢false}
+use Rattle.std.proofs.Common.{◌≡◌, ◌≢◌, ℕ, ◌+◌, ◌-◌, ◌/◌, ◌<◌, ◌≤◌, ◌⊎◌, ◌==◌, Bool, true, false, nat_le, nat_lt, cond, zero, suc, List, length, get_or, inl, inr, ⊎_elim, sym, ap, ◌∙◌, subst, arith, length-drop}
+use Rattle.std.proofs.lemmas.Bool.{cond-true, cond-false, cases_Bool, cases_lt, cases_eq, and_left, lt-leb, eq-eqb, ne_eqb}
 use Rattle.std.proofs.lemmas.Bool.Decides.{nat_tests}
 use Rattle.std.proofs.lemmas.List.{get_or-drop, get_or_past}
 use Rattle.std.proofs.Math.Path.{fun_ext}
@@ -14,9 +14,9 @@ use Rattle.packing.specs.Places.{new_place, LieApart}
 use Rattle.packing.specs.Tops.{top_before, words_in}
 use Rattle.packing.proofs.Places.{stays_above}
 use Rattle.packing.proofs.Sums.{sum_of_none}
-use Rattle.packing.proofs.Tops.{added, place_in_range, in_region, region_of_place}
+use Rattle.packing.proofs.Tops.{added, place_in_range}
 use Rattle.sliding.specs.Slide.{IsSlidTo, renewed, slid, slid_word, is_covered}
-use Rattle.sliding.specs.Table.{word_of, kept_of, now_of, LeadsToKept, IsMarkedHeap, CanCompact, IsRenewedBy, from_table}
+use Rattle.sliding.specs.Table.{word_of, kept_of, now_of, LeadsToKept, CanCompact}
 use Rattle.sliding.proofs.Slid.{slid_word-same, slid_next, slid_none, slid_only, renewed_alike}
 use Rattle.sliding.proofs.Flags.{kept_marked, kept_unmarked, kept_below}
 use Rattle.image_laws.specs.Plot.{heap_end, packed_top}

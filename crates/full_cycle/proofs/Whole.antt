@@ -1,15 +1,15 @@
 -- The steps of a full collection, one after the other.
-use Rattle.std.proofs.Common.{◌≡◌, ◌≢◌, ℕ, ◌+◌, ◌<◌, ◌≤◌, ◌==◌, true, false, nat_le, cond, ⊎_elim, refl, sym, ap, ◌∙◌, subst, arith}
+use Rattle.std.proofs.Common.{◌≡◌, ◌≢◌, ℕ, ◌<◌, ◌≤◌, ◌==◌, true, false, nat_le, ⊎_elim, refl, sym, ap, ◌∙◌, subst, arith}
 use Rattle.std.proofs.lemmas.Bool.{cond-true, cond-false, cases_Bool, cases_lt, cases_eq, ne_eqb, le-leb, lt-leb}
 use Rattle.std.proofs.Math.Path.{fun_ext}
 use Rattle.heap_words.specs.declared.config.Config.{Config}
-use Rattle.heap_words.specs.Words.{Word, Pause, Left, End, State, Phase, Cset, Free, Evac, Claim, Ask, Top, Tams, Limit, Current, Root, Count, Buffer, Wait, Answer, Grey, Black, Heap, is_word, view, write}
+use Rattle.heap_words.specs.Words.{Word, Pause, Left, End, State, Phase, Cset, Free, Evac, Claim, Ask, Top, Tams, Limit, Current, Root, Count, Buffer, Wait, Answer, Grey, Black, Heap, is_word, write}
 use Rattle.heap_words.proofs.Stores.{is_word_true, view_none}
 use Rattle.packing.specs.Places.{new_place}
 use Rattle.packing.proofs.Tops.{top_within}
 use Rattle.sliding.specs.Slide.{renewed}
 use Rattle.sliding.specs.Table.{IsInTable, from_table}
-use Rattle.image_laws.specs.Plot.{heap_end, packed_top}
+use Rattle.image_laws.specs.Plot.{heap_end}
 use Rattle.image_laws.specs.Full.{now_in, kept_in, renewed_answer, empty_regions, packed}
 use Rattle.image_graph.specs.declared.image.Image.{Image}
 use Rattle.image_graph.specs.State.{config_of, words_of, memory_of, places_of, IsUnchanged}

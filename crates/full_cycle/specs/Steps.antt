@@ -1,5 +1,5 @@
 -- What each step of a full collection makes of the words of an image.
-use Rattle.std.specs.Prelude.{ℕ, ◌≡◌, ◌<◌, ◌≤◌, ◌==◌, ◌&&◌, nat_le, nat_lt, if◌then◌else◌, List, slice_index}
+use Rattle.std.specs.Prelude.{ℕ, ◌≡◌, ◌==◌, ◌&&◌, nat_le, nat_lt, if◌then◌else◌, List, slice_index}
 use Rattle.heap_words.specs.declared.config.Config.{Config}
 use Rattle.heap_words.specs.Words.{Word, Phase, Cset, Evac, Claim, Ask, Top, Tams, Limit, Current, Root, Count, Wait, Answer, Grey, Black, Heap}
 use Rattle.sliding.specs.Slide.{renewed, slid}

@@ -1,5 +1,5 @@
 -- A table after its heap was packed and its tops were written.
-use Rattle.std.proofs.Common.{◌≡◌, ℕ, ◌+◌, ◌-◌, ◌<◌, ◌≤◌, ◌⊎◌, ◌++◌, Bool, zero, suc, List, [], ◌∷◌, length, take, drop, get_or, slice_index, inl, inr, refl, sym, ap, ◌∙◌, subst, arith, length-append, length-drop}
+use Rattle.std.proofs.Common.{◌≡◌, ℕ, ◌+◌, ◌<◌, ◌≤◌, ◌⊎◌, ◌++◌, Bool, zero, suc, List, [], ◌∷◌, length, take, drop, get_or, slice_index, inl, inr, refl, sym, ap, ◌∙◌, subst, arith, length-append, length-drop}
 use Rattle.std.specs.List.{between}
 use Rattle.std.proofs.lemmas.List.{get_or-take, get_or-drop, get_or_append_left, length-take-le}
 use Rattle.std.proofs.lemmas.List.Edits.{get_or-between}

@@ -1,4 +1,4 @@
-use Rattle.std.proofs.Common.{◌≡◌, ℕ, sym, ap, ◌∙◌}
+use Rattle.std.proofs.Common.{◌≡◌, ℕ, ap, ◌∙◌}
 use Rattle.heap_words.specs.declared.config.Config.{Config}
 use Rattle.heap_words.specs.Words.{Phase, Free, Evac, Top, Tams, Root, Count, Buffer, Grey, word_at, view, heap_start}
 use Rattle.image_graph.specs.State.{config_of, words_of}

@@ -1,4 +1,4 @@
-use Rattle.std.proofs.Common.{◌≡◌, ◌≤◌, ℕ}
+use Rattle.std.proofs.Common.{◌≡◌, ℕ}
 use Rattle.image_graph.specs.State.{config_of, words_of}
 use Rattle.full_cycle.specs.Steps.{IsChanged}
 use Rattle.full_cycle.proofs.calm.clear_words.Given as goal

@@ -1,7 +1,7 @@
-use Rattle.std.proofs.Common.{◌≡◌, ◌≤◌, ◌<◌, ◌+◌, ◌^◌, ℕ, sym, ap, ◌∙◌, subst, arith}
+use Rattle.std.proofs.Common.{◌≡◌, ◌≤◌, ◌+◌, ◌^◌, ℕ, sym, ap, ◌∙◌, arith}
 use Rattle.std.proofs.Math.Nat.{pow-le-pow_right}
 use Rattle.heap_words.specs.declared.config.Config.{Config}
-use Rattle.heap_words.specs.Words.{Word, Top, Free, word_at, write}
+use Rattle.heap_words.specs.Words.{Top, Free, write}
 use Rattle.image_laws.specs.Full.{empty_regions}
 use Rattle.image_laws.proofs.FreeWord.{empty_small}
 use Rattle.image_graph.specs.State.{config_of, memory_of}

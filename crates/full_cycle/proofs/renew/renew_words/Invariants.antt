@@ -1,4 +1,4 @@
-use Rattle.std.proofs.Common.{◌≡◌, ◌≤◌, ℕ}
+use Rattle.std.proofs.Common.{◌≡◌}
 use Rattle.image_graph.specs.State.{config_of, words_of, places_of}
 use Rattle.full_cycle.specs.Steps.{renewed_by, IsChanged}
 use Rattle.full_cycle.proofs.renew.renew_words.Given as goal

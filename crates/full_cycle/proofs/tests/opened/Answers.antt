@@ -1,7 +1,7 @@
-use Rattle.std.proofs.Common.{ℕ, ◌<◌, ◌^◌, sym, subst}
+use Rattle.std.proofs.Common.{◌<◌, ◌^◌, sym, subst}
 use Rattle.std.proofs.lemmas.Nat.{pow_pos}
-use Rattle.heap_words.specs.Words.{Word, Free, Top, Current, Root, Wait, Answer}
-use Rattle.image_graph.specs.State.{config_of, memory_of}
+use Rattle.heap_words.specs.Words.{Free, Top, Current, Root, Wait, Answer}
+use Rattle.image_graph.specs.State.{config_of}
 use Rattle.full_cycle.proofs.tests.opened.Goals as goal
 
 pub returns-clause-blank : goal.returns-clause-blank

@@ -1,8 +1,6 @@
-use Rattle.std.proofs.Common.{◌≡◌, ◌+◌, map}
-use Rattle.std.specs.List.{range_with_len}
-use Rattle.heap_words.specs.Words.{Root, Heap}
+use Rattle.std.proofs.Common.{◌≡◌}
 use Rattle.heap_graph.specs.Walk.{with_addresses}
-use Rattle.image_laws.specs.Full.{copies_of, roots_below, answers_below}
+use Rattle.image_laws.specs.Full.{copies_of, roots_below}
 use Rattle.image_graph.specs.State.{memory_of, found_of, AreFound, IsUnchanged}
 use Rattle.full_cycle.proofs.walk.find_all_roots.Given as goal
 

@@ -1,8 +1,7 @@
-use Rattle.std.proofs.Common.{◌≡◌, ◌<◌, ◌≤◌, ◌+◌, ℕ, ⊎_elim, ap, sym, ◌∙◌, arith}
+use Rattle.std.proofs.Common.{◌≡◌, ◌<◌, ◌≤◌, ℕ, ⊎_elim, ap, ◌∙◌, arith}
 use Rattle.std.proofs.lemmas.Bool.{cases_lt}
 use Rattle.heap_words.specs.Words.{Word, Answer}
-use Rattle.heap_graph.specs.Walk.{with_address, with_addresses}
-use Rattle.image_laws.specs.Full.{copies_of, answers_below}
+use Rattle.heap_graph.specs.Walk.{with_address}
 use Rattle.image_graph.specs.State.{memory_of, found_of}
 use Rattle.full_cycle.specs.Collect.{copy_in}
 use Rattle.full_cycle.proofs.State.{memory_same, both}

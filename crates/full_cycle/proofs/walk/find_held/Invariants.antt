@@ -1,4 +1,4 @@
-use Rattle.std.proofs.Common.{◌≡◌, ◌≤◌, ◌-◌, length}
+use Rattle.std.proofs.Common.{◌≡◌, ◌≤◌, ◌-◌}
 use Rattle.heap_words.specs.Words.{heap_size}
 use Rattle.image_graph.specs.State.{config_of, memory_of, found_of, AreFound, IsUnchanged}
 use Rattle.full_cycle.specs.Collect.{found_by}

@@ -1,6 +1,6 @@
-use Rattle.std.proofs.Common.{◌≡◌, ◌+◌, ◌-◌, ℕ, List, ◌++◌, length, take, drop, arith, refl, sym, ap, ◌∙◌, subst}
+use Rattle.std.proofs.Common.{◌≡◌, ◌+◌, ◌-◌, ◌++◌, take, drop, arith, sym, ap, ◌∙◌, subst}
 use borrow.Rule.Slice.PartMut.{put_mid}
-use Rattle.heap_words.specs.Words.{Top, word_at, heap_start}
+use Rattle.heap_words.specs.Words.{Top, word_at}
 use Rattle.image_graph.specs.Pack.{IsPacked}
 use Rattle.image_graph.proofs.Packed.{packed_from}
 use Rattle.image_graph.proofs.pack.pack_words.Goals as goal

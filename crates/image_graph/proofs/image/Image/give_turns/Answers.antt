@@ -5,11 +5,8 @@ use Rattle.heap_words.specs.Words.{Word, Top, Wait}
 use Rattle.heap_words.specs.Encoding.{object_words, request_shape_in}
 use Rattle.packing.specs.Rooms.{HasNoRoom}
 use Rattle.image_laws.specs.Full.{served, served_in, room_for}
-use Rattle.image_laws.specs.Image.{ImageStands}
-use Rattle.image_laws.specs.Serving.{served_block, served_promises}
-use Rattle.image_laws.proofs.Serving.{served_stands}
 use Rattle.image_graph.specs.State.{config_of, memory_of}
-use Rattle.image_graph.proofs.Turns.{holds_within, served_none, turned, left_at, left_from, IsTold, told_left, told_served}
+use Rattle.image_graph.proofs.Turns.{served_none, turned, left_at, left_from, IsTold, told_left, told_served}
 use Rattle.image_graph.proofs.image.Image.give_turns.Goals as goal
 use Rattle.image_graph.proofs.image.Image.give_turns.Goals.{then-not-serve_one, else-not-serve_one}
 
