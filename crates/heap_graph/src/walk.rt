@@ -5,8 +5,9 @@ ghost use Rattle.heap_graph.specs.Walk.{refs_at, words_at, IsSound, IsAmong, IsM
 
 use heap_words::refs_of;
 
-// Takes an address down, unless it is null or was taken down before.
-fn take_down(first: u64, address: u64, marks: &mut [bool], order: &mut Vec<u64>)
+/// Takes an address down, unless it is null or was taken down before. `marks` has a flag for each address from `first` on,
+/// and says which of them `order` has.
+pub fn take_down(first: u64, address: u64, marks: &mut [bool], order: &mut Vec<u64>)
     requires marked { IsMarked first marks.old order.old.items }
     requires among { IsAmong first (length marks.old) address }
     requires room { length marks.old ≤ vec_capacity order.old }

@@ -3,3 +3,4 @@ pub mod Room
 pub mod Turns
 pub mod Blank
 pub mod Empty
+pub mod Packed

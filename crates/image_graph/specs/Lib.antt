@@ -2,3 +2,4 @@ pub mod State
 pub mod Holds
 pub mod Left
 pub mod Make
+pub mod Pack

@@ -1,8 +1,9 @@
 -- What callers know of an image.
-use Rattle.std.specs.Prelude.{ℕ, ◌≡◌, ◌+◌, ◌<◌, List}
+use Rattle.std.specs.Prelude.{ℕ, ◌≡◌, ◌+◌, ◌<◌, Bool, List}
 use Rattle.heap_words.specs.declared.config.Config.{Config}
 use Rattle.heap_words.specs.Words.{Word, Current, view}
 use Rattle.heap_words.specs.Ranges.{seat_count}
+use Rattle.heap_graph.specs.Walk.{IsMarked}
 use Rattle.image_graph.specs.declared.image.Image.{Image}
 
 -- its heap
@@ -25,3 +26,19 @@ pub record IsUnchanged (old new : Image) : Type 0 where
 -- a seat has the region as its current one
 abbrev pub IsSomeSeats : Config → (Word → ℕ) → ℕ → Type 0
 IsSomeSeats c memory region = (seat : ℕ) × (seat < seat_count c.mutators c.helpers) × (memory (Current seat) ≡ region + 1)
+
+-- a flag for each word of the heap: whether an object begins there that was found
+abbrev pub marks_of : Image → List Bool
+marks_of i = i.marks.items
+
+-- the addresses of the objects that were found, in the order in which they were
+abbrev pub found_of : Image → List ℕ
+found_of i = i.addresses.items
+
+-- a word for each word of the heap: the new place of what begins there, once the objects were packed
+abbrev pub places_of : Image → List ℕ
+places_of i = i.places.items
+
+-- flags and list say the same
+abbrev pub AreFound : Image → Type 0
+AreFound i = IsMarked i.config.region_words i.marks.items i.addresses.items

@@ -9,12 +9,12 @@ use std::alloc::Global;
 /// The words of a heap, and where a collection of all of it works. Only `open` takes memory.
 #[derive(Drop)]
 pub struct Image {
-    config: Config,
-    words: Vec<u64>,
+    pub(crate) config: Config,
+    pub(crate) words: Vec<u64>,
     // For each word of the heap a word of a second heap and a flag, and room for as many addresses: the mark stack.
-    places: Vec<u64>,
-    marks: Vec<bool>,
-    addresses: Vec<u64>,
+    pub(crate) places: Vec<u64>,
+    pub(crate) marks: Vec<bool>,
+    pub(crate) addresses: Vec<u64>,
     ghost all_words: { length words.items ≡ table_words config },
     ghost all_places: { length places.items ≡ heap_size config },
     ghost all_marks: { length marks.items ≡ heap_size config },
@@ -28,7 +28,7 @@ impl Image {
     ghost use Rattle.shen_graph.specs.Graph.{Graph};
     ghost use Rattle.heap_graph.specs.Shows.{Shows, WordsStand, StandForSome};
     ghost use Rattle.image_laws.specs.Full.{now_in};
-    ghost use Rattle.image_graph.specs.State.{config_of, words_of, memory_of, IsUnchanged, IsSomeSeats};
+    ghost use Rattle.image_graph.specs.State.{config_of, words_of, memory_of, places_of, IsUnchanged, IsSomeSeats};
 
     /// An image of this configuration whose words are all 0. The error is that memory was refused.
     pub fn open(alloc: Global, config: Config) -> Result<Image, NoMemory>
@@ -72,11 +72,12 @@ impl Image {
         self.words[at]
     }
 
-    /// Puts a value at a place of the table. No other word changes.
+    /// Puts a value at a place of the table. No other word changes, and no new place of an object.
     pub fn set_word(&mut self, at: usize, value: u64)
         requires { at < table_words (config_of self.old) }
         ensures config { config_of self.new ≡ config_of self.old }
         ensures words { words_of self.new ≡ slice_set (words_of self.old) at value }
+        ensures places { places_of self.new ≡ places_of self.old }
         ensures named { (word : Word) → IsWord (config_of self.old) word → word_at (config_of self.old) word ≡ at → memory_of self.new ≡ write (memory_of self.old) word value }
     {
         self.words[at] = value;

@@ -84,6 +84,25 @@ impl Image {
         }
     }
 
+    /// Gives each mutator that waits its turn, one after the other: its object is made in the lowest region that has room
+    /// for it, whatever is kept in reserve. A request that finds no room is left as it is, and the later ones have their
+    /// turns all the same. False where a request was left.
+    pub fn give_turns(&mut self) -> bool
+        requires { AreWithin (config_of self.old) (memory_of self.old) }
+        ensures config { config_of self.new ≡ config_of self.old }
+        ensures words { memory_of self.new ≡ served (config_of self.old) (memory_of self.old) (config_of self.old).mutators }
+        ensures left { result ≡ false → (t : ℕ) × IsLeft (config_of self.old) (memory_of self.old) t }
+        ensures served { result ≡ true → (t : ℕ) → IsLeft (config_of self.old) (memory_of self.old) t → ⊥ }
+    {
+        let mut all = true;
+        for mutator in 0..self.config().mutators() {
+            if !self.serve_one(mutator) {
+                all = false;
+            }
+        }
+        all
+    }
+
     /// Gives each mutator that waits its object, one after the other: in the lowest region that has room for it, whatever
     /// is kept in reserve. A request that finds no room is left as it is, and the later ones are served all the same.
     /// False where a request was left. The image holds a graph, and no region is in the collection set. The words stand
@@ -97,12 +116,6 @@ impl Image {
         ensures left { result ≡ false → (t : ℕ) × IsLeft (config_of self.old) (memory_of self.old) t }
         ensures served { result ≡ true → (t : ℕ) → IsLeft (config_of self.old) (memory_of self.old) t → ⊥ }
     {
-        let mut all = true;
-        for mutator in 0..self.config().mutators() {
-            if !self.serve_one(mutator) {
-                all = false;
-            }
-        }
-        all
+        self.give_turns()
     }
 }

@@ -17,7 +17,7 @@ use Rattle.image_laws.specs.Promised.{Promises, with_promised, AreFresh, words_i
 use Rattle.image_laws.proofs.Live.{KeptOne, kept_one, one_name}
 
 -- two references that are a name's are one
-same_reference-true : (r : Reference) (n : Name) → same_reference r (Some n) ≡ true → r ≡ Some n
+pub same_reference-true : (r : Reference) (n : Name) → same_reference r (Some n) ≡ true → r ≡ Some n
 same_reference-true None n is = absurd (false≢true is)
 same_reference-true (Some m) n is = ap Some (same_name-true m n is)
 
@@ -42,7 +42,7 @@ module _ (threads : ℕ) (g : Graph) (p : Promises) (fresh : AreFresh threads g 
       (cond-true (is_promised n) (Some (blank (p.refs n.thread) (p.nums n.thread))) (g.object n) test)
 
   -- an object that the graph reaches is no promised one
-  old_object : (n : Name) → IsReachable g n → named more (Some n) ≡ named g (Some n)
+  pub old_object : (n : Name) → IsReachable g n → named more (Some n) ≡ named g (Some n)
   old_object n reached = ⊎_elim
       (λ (is : is_promised n ≡ true). absurd (fresh.fresh n.thread n (same_reference-true (p.ref n.thread) n is) reached))
       (λ (other : is_promised n ≡ false). ap (λ (o : Option Object). unwrap_or o (record { refs = []; nums = [] }))

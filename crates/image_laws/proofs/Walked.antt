@@ -56,13 +56,13 @@ module _ (c : Config) (memory : Word → ℕ) (block : Plot) (g : Graph)
   abbrev field : ℕ → ℕ → ℕ
   field a i = heap (a + 3 + i)
 
-  root_held : (q : ℕ) → q ≢ 0 → has roots q ≡ true → Held q
+  pub root_held : (q : ℕ) → q ≢ 0 → has roots q ≡ true → Held q
   root_held q other is =
       let root = has_map copy (root_words c memory) q is in
       let at = copy_of root.0 q other root.2 in
       subst Held at.1 (from_root root.0 root.1 at.0)
 
-  field_held : (a q : ℕ) → Held a → q ≢ 0 → has (fields a) q ≡ true → Held q
+  pub field_held : (a q : ℕ) → Held a → q ≢ 0 → has (fields a) q ≡ true → Held q
   field_held a q held other is =
       let word = has_map copy (field_words memory a) q is in
       let index = has_map (field a) (range_with_len 0 (refs_in (heap (a + 1)))) word.0 word.1 in

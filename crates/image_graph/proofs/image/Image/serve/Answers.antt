@@ -1,77 +1,18 @@
-use Rattle.std.proofs.Common.{◌≡◌, ◌≢◌, ◌<◌, ◌+◌, ℕ, true, false, refl, sym, ap, ◌∙◌, subst, arith}
-use Rattle.std.proofs.lemmas.Bool.{true≢false}
-use Rattle.heap_words.specs.declared.config.Config.{Config}
-use Rattle.heap_words.specs.Words.{Word, Top, Wait}
-use Rattle.heap_words.specs.Encoding.{object_words, request_shape_in}
-use Rattle.packing.specs.Rooms.{HasNoRoom}
-use Rattle.image_laws.specs.Full.{served, served_in, room_for}
+use Rattle.std.proofs.Common.{ℕ, sym, subst, arith}
+use Rattle.heap_words.specs.Words.{Word}
 use Rattle.image_laws.specs.Image.{ImageStands}
 use Rattle.image_laws.specs.Serving.{served_block, served_promises}
 use Rattle.image_laws.proofs.Serving.{served_stands}
 use Rattle.image_graph.specs.State.{config_of, memory_of}
-use Rattle.image_graph.proofs.Turns.{holds_within, served_none, turned, left_at, left_from, IsTold, told_left, told_served}
+use Rattle.image_graph.proofs.Turns.{holds_within}
 use Rattle.image_graph.proofs.image.Image.serve.Goals as goal
-use Rattle.image_graph.proofs.image.Image.serve.Goals.{then-not-serve_one, else-not-serve_one}
 
-pub loop-mutator-init : goal.loop-mutator-init
-loop-mutator-init c = record {
-  config = refl;
-  words = served_none (config_of c.args.self.now) (memory_of c.args.self.now);
-  within = holds_within (config_of c.args.self.now) (memory_of c.args.self.now) c.requires.holds;
-  told = record { left = λ never. absurd (true≢false never); served = λ _ u below left. absurd (omega (arith, below)) };
-}
-
-pub serve_one-requires-clause-mutator : goal.serve_one-requires-clause-mutator
-serve_one-requires-clause-mutator c =
-    omega (arith, c.loop-mutator-test.true, c.mutators-mutator-end.ensures, ap (λ (k : Config). k.mutators) (c.config.ensures ∙ sym c.loop-mutator.invariant.config))
-
-pub loop-mutator-preserved : goal.loop-mutator-preserved
-loop-mutator-preserved c =
-    let g = config_of c.args.self.now in
-    let m : Word → ℕ = memory_of c.args.self.now in
-    let t = c.loop-mutator.mutator in
-    let before : Word → ℕ = memory_of c.loop-mutator.self in
-    let same : config_of c.loop-mutator.self ≡ g = c.loop-mutator.invariant.config in
-    let so_far : before ≡ served g m t = c.loop-mutator.invariant.words in
-    let below : t < g.mutators = omega (arith, c.loop-mutator-test.true, c.mutators-mutator-end.ensures, ap (λ (k : Config). k.mutators) c.config.ensures) in
-    let after : memory_of c.serve_one.new.self ≡ served g m (t + 1) =
-    turned g m (memory_of c.serve_one.new.self) t
-    (λ none. c.serve_one.ensures.idle (ap (λ k. k (Wait t)) so_far ∙ none) ∙ so_far)
-    (λ some. c.serve_one.ensures.waits (λ e. some (ap (λ k. k (Wait t)) (sym so_far) ∙ e))
-    ∙ ap (λ (k : Config). served_in k before t (room_for k before t)) same
-    ∙ ap (λ k. served_in g k t (room_for g k t)) so_far) in
-    -- what a turn without room says, over the words by the definition
-    let no_room : (before (Wait t) ≢ 0) × HasNoRoom (config_of c.loop-mutator.self).region_words (λ r. before (Top r)) (object_words (request_shape_in (before (Wait t)))) (config_of c.loop-mutator.self).regions
-    → (served g m t (Wait t) ≢ 0) × HasNoRoom g.region_words (λ r. served g m t (Top r)) (object_words (request_shape_in (served g m t (Wait t)))) g.regions =
-    λ h. subst (λ (k : Word → ℕ). (k (Wait t) ≢ 0) × HasNoRoom g.region_words (λ r. k (Top r)) (object_words (request_shape_in (k (Wait t)))) g.regions) so_far
-    (subst (λ (k : Config). (before (Wait t) ≢ 0) × HasNoRoom k.region_words (λ r. before (Top r)) (object_words (request_shape_in (before (Wait t)))) k.regions) same h) in
-    let and_back : (served g m t (Wait t) ≢ 0) × HasNoRoom g.region_words (λ r. served g m t (Top r)) (object_words (request_shape_in (served g m t (Wait t)))) g.regions
-    → (before (Wait t) ≢ 0) × HasNoRoom (config_of c.loop-mutator.self).region_words (λ r. before (Top r)) (object_words (request_shape_in (before (Wait t)))) (config_of c.loop-mutator.self).regions =
-    λ h. subst (λ (k : Config). (before (Wait t) ≢ 0) × HasNoRoom k.region_words (λ r. before (Top r)) (object_words (request_shape_in (before (Wait t)))) k.regions) (sym same)
-    (subst (λ (k : Word → ℕ). (k (Wait t) ≢ 0) × HasNoRoom g.region_words (λ r. k (Top r)) (object_words (request_shape_in (k (Wait t)))) g.regions) (sym so_far) h) in
-    record {
-      config = c.serve_one.ensures.config ∙ same;
-      words = after;
-      within = c.serve_one.ensures.within;
-      told = elim c.if-not-serve_one.branch [
-        | then-not-serve_one w ↦
-            let no : c.serve_one.result ≡ false = cc in
-            let left = no_room (c.serve_one.ensures.left.0 no) in
-            subst (IsTold g m (t + 1)) (sym w.all-is) (told_left g m t (left_at g m t below left.0 left.1))
-        | else-not-serve_one w ↦
-            let yes : c.serve_one.result ≡ true = cc in
-            subst (IsTold g m (t + 1)) (sym w.all-is)
-            (told_served g m t c.loop-mutator.all
-            (λ left. true≢false (sym yes ∙ c.serve_one.ensures.left.1 (and_back (left_from g m t left)))) c.loop-mutator.invariant.told)
-      ];
-    }
+pub give_turns-requires : goal.give_turns-requires
+give_turns-requires c = holds_within (config_of c.args.self.now) (memory_of c.args.self.now) c.requires.holds
 
 pub returns-clause-graph : goal.returns-clause-graph
 returns-clause-graph c = λ block g p stands asking.
     let config = config_of c.args.self.now in
     let m : Word → ℕ = memory_of c.args.self.now in
-    let all : c.loop-mutator.mutator ≡ config.mutators =
-    omega (arith, c.loop-mutator-test.false, c.loop-mutator.auto.mutator-end, c.mutators-mutator-end.ensures, ap (λ (k : Config). k.mutators) c.config.ensures) in
-    let words : memory_of c.loop-mutator.self ≡ served config m config.mutators = c.loop-mutator.invariant.words ∙ ap (λ n. served config m n) all in
-    subst (λ (k : Word → ℕ). ImageStands config k (served_block config m block config.mutators) g (served_promises config m p config.mutators)) (sym words)
+    subst (λ (k : Word → ℕ). ImageStands config k (served_block config m block config.mutators) g (served_promises config m p config.mutators)) (sym c.give_turns.ensures.words)
     (served_stands config g m block p stands asking config.mutators (omega arith))

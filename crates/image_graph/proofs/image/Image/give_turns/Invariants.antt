@@ -3,7 +3,7 @@ use Rattle.image_laws.specs.Full.{served}
 use Rattle.image_graph.specs.State.{config_of, memory_of}
 use Rattle.image_graph.specs.Make.{AreWithin}
 use Rattle.image_graph.proofs.Turns.{IsTold}
-use Rattle.image_graph.proofs.image.Image.serve.Given as goal
+use Rattle.image_graph.proofs.image.Image.give_turns.Given as goal
 
 abbrev pub invariant-loop-mutator : goal.invariant-loop-mutator
 invariant-loop-mutator l = record {

@@ -1,0 +1,12 @@
+pub mod Listed
+pub mod Rows
+pub mod Steps
+pub mod State
+pub mod Refused
+pub mod Kept
+pub mod Places
+pub mod Holding
+pub mod Slices
+pub mod Whole
+pub mod Result
+pub mod Again

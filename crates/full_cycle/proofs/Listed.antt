@@ -1,0 +1,113 @@
+-- What is noted of rows of words.
+use Rattle.std.proofs.Common.{◌≡◌, ℕ, ◌+◌, ◌-◌, ◌<◌, ◌≤◌, cond, nat_le, zero, suc, List, [], ◌∷◌, ◌++◌, length, slice_get, map, Option, Some, None, refl, sym, ap, ◌∙◌, arith}
+use Rattle.std.specs.List.{range_with_len}
+use Rattle.std.proofs.lemmas.Bool.{cond-true, cond-false, le-leb, lt-leb}
+use Rattle.std.proofs.lemmas.List.{map-append}
+use Rattle.std.proofs.lemmas.List.FromFn.{map-range_with_len_more}
+use Rattle.heap_words.specs.declared.config.Config.{Config}
+use Rattle.heap_words.specs.Words.{Word, Root, Answer, heap_size}
+use Rattle.heap_graph.specs.Walk.{with_address, with_addresses}
+use Rattle.heap_graph.proofs.Marks.{with_addresses-push}
+use Rattle.image_laws.specs.Held.{with_fields, found_in}
+use Rattle.image_laws.specs.Full.{copies_of, roots_below, answers_below, field_words, held_in}
+use Rattle.full_cycle.specs.Collect.{copy_in, found_by}
+
+pub noted_both : (order xs ys : List ℕ) → with_addresses (with_addresses order xs) ys ≡ with_addresses order (xs ++ ys)
+noted_both order [] ys = refl
+noted_both order (x ∷ xs) ys = noted_both (with_address order x) xs ys
+
+-- one word more of a row
+pub noted_more : (m : Word → ℕ) (f : ℕ → ℕ) (i : ℕ) (order : List ℕ)
+    → with_address (with_addresses order (copies_of m (map f (range_with_len 0 i)))) (copy_in m (f i))
+    ≡ with_addresses order (copies_of m (map f (range_with_len 0 (i + 1))))
+noted_more m f i order =
+    sym (with_addresses-push order (copies_of m (map f (range_with_len 0 i))) (copy_in m (f i)))
+    ∙ ap (with_addresses order) (sym (ap (copies_of m) (map-range_with_len_more f 0 i i (omega arith)) ∙ map-append (copy_in m) (map f (range_with_len 0 i)) (f i ∷ [])))
+
+-- the roots of one mutator more
+pub roots_more : (m : Word → ℕ) (t : ℕ) (order : List ℕ)
+    → with_addresses (with_addresses order (copies_of m (roots_below m t))) (copies_of m (map (λ i. m (Root t i)) (range_with_len 0 16)))
+    ≡ with_addresses order (copies_of m (roots_below m (t + 1)))
+roots_more m t order =
+    let next : suc t ≡ t + 1 = omega arith in
+    let row : List ℕ = map (λ i. m (Root t i)) (range_with_len 0 16) in
+    noted_both order (copies_of m (roots_below m t)) (copies_of m row)
+    ∙ ap (with_addresses order) (sym (map-append (copy_in m) (roots_below m t) row))
+    ∙ ap (λ n. with_addresses order (copies_of m (roots_below m n))) next
+
+-- the answer of one mutator more, if it is an address
+pub answer_more : (m : Word → ℕ) (t : ℕ) (order : List ℕ) → 1 < m (Answer t)
+    → with_address (with_addresses order (copies_of m (answers_below m t))) (copy_in m (m (Answer t)))
+    ≡ with_addresses order (copies_of m (answers_below m (t + 1)))
+answer_more m t order some =
+    let next : suc t ≡ t + 1 = omega arith in
+    let one : cond (nat_le (m (Answer t)) 1) [] (m (Answer t) ∷ []) ≡ m (Answer t) ∷ [] = cond-false (nat_le (m (Answer t)) 1) [] (m (Answer t) ∷ []) (lt-leb (m (Answer t)) 1 some) in
+    sym (with_addresses-push order (copies_of m (answers_below m t)) (copy_in m (m (Answer t))))
+    ∙ ap (with_addresses order) (sym (ap (λ xs. copies_of m (answers_below m t ++ xs)) one ∙ map-append (copy_in m) (answers_below m t) (m (Answer t) ∷ [])))
+    ∙ ap (λ n. with_addresses order (copies_of m (answers_below m n))) next
+
+pub answer_none : (m : Word → ℕ) (t : ℕ) (order : List ℕ) → m (Answer t) ≤ 1
+    → with_addresses order (copies_of m (answers_below m t)) ≡ with_addresses order (copies_of m (answers_below m (t + 1)))
+answer_none m t order none =
+    let next : suc t ≡ t + 1 = omega arith in
+    let empty : cond (nat_le (m (Answer t)) 1) [] (m (Answer t) ∷ []) ≡ [] = cond-true (nat_le (m (Answer t)) 1) [] (m (Answer t) ∷ []) (le-leb (m (Answer t)) 1 none) in
+    ap (with_addresses order) (sym (ap (λ xs. copies_of m (answers_below m t ++ xs)) empty ∙ map-append (copy_in m) (answers_below m t) [] ∙ nothing (copies_of m (answers_below m t))))
+    ∙ ap (λ n. with_addresses order (copies_of m (answers_below m n))) next
+  where
+    nothing : (xs : List ℕ) → xs ++ [] ≡ xs
+    nothing [] = refl
+    nothing (x ∷ xs) = ap (λ ys. x ∷ ys) (nothing xs)
+
+-- Turns.
+
+-- what is nothing
+pub is_none : (o : Option ℕ) → ((x : ℕ) → o ≡ Some x → ⊥) → o ≡ None
+is_none None never = refl
+is_none (Some x) never = absurd (never x refl)
+
+-- past the end of a list there is nothing
+pub none_left : (xs : List ℕ) (n : ℕ) → slice_get xs n ≡ None → length xs ≤ n
+none_left [] n none = omega arith
+none_left (x ∷ xs) zero none = absurd (cc)
+none_left (x ∷ xs) (suc n) none = omega (arith, none_left xs n none)
+
+module _ (c : Config) (m : Word → ℕ) where
+  abbrev found : ℕ → List ℕ
+  found = found_by c m
+
+  abbrev fields : ℕ → List ℕ
+  fields a = copies_of m (field_words m a)
+
+  pub no_turn : with_addresses (with_addresses [] (copies_of m (roots_below m c.mutators))) (copies_of m (answers_below m c.mutators)) ≡ found 0
+  unfolding found_in
+  no_turn =
+      noted_both [] (copies_of m (roots_below m c.mutators)) (copies_of m (answers_below m c.mutators))
+      ∙ ap (with_addresses []) (sym (map-append (copy_in m) (roots_below m c.mutators) (answers_below m c.mutators)))
+
+  turn : (n : ℕ) → found (suc n) ≡ with_fields fields (found n) (slice_get (found n) n)
+  unfolding found_in
+  turn n = refl
+
+  pub next_turn : (n a : ℕ) → slice_get (found n) n ≡ Some a → with_addresses (found n) (fields a) ≡ found (n + 1)
+  next_turn n a at =
+      let next : suc n ≡ n + 1 = omega arith in
+      sym (turn n ∙ ap (with_fields fields (found n)) at) ∙ ap found next
+
+  -- where no turn is left, further turns find nothing
+  stays : (n k : ℕ) → length (found n) ≤ n → found (k + n) ≡ found n
+  stays n zero short = let here : zero + n ≡ n = omega arith in ap found here
+  stays n (suc k) short =
+      let next : suc k + n ≡ suc (k + n) = omega arith in
+      let before : found (k + n) ≡ found n = stays n k short in
+      let none : slice_get (found (k + n)) (k + n) ≡ None = ap (λ xs. slice_get xs (k + n)) before ∙ get_none (found n) (k + n) (omega (arith, short)) in
+      ap found next ∙ turn (k + n) ∙ ap (with_fields fields (found (k + n))) none ∙ before
+    where
+      get_none : (xs : List ℕ) (j : ℕ) → length xs ≤ j → slice_get xs j ≡ None
+      get_none [] j past = refl
+      get_none (x ∷ xs) zero past = absurd (omega (arith, past))
+      get_none (x ∷ xs) (suc j) past = get_none xs j (omega (arith, past))
+
+  pub last_turn : (n : ℕ) → length (found n) ≤ n → n ≤ heap_size c → found n ≡ held_in c m
+  last_turn n short few =
+      let all : (heap_size c - n) + n ≡ heap_size c = omega (arith, few) in
+      sym (stays n (heap_size c - n) short) ∙ ap found all

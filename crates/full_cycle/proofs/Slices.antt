@@ -1,0 +1,255 @@
+-- The heap of a table as a slice, and by the names of words.
+use Rattle.std.proofs.Common.{◌≡◌, ◌≢◌, ℕ, ◌+◌, ◌-◌, ◌/◌, ◌<◌, ◌≤◌, ◌⊎◌, ◌==◌, Bool, true, false, nat_le, nat_lt, cond, zero, suc, List, length, get_or, inl, inr, ⊎_elim, sym, ap, ◌∙◌, subst, arith, length-drop}
+use Rattle.std.proofs.lemmas.Bool.{cond-true, cond-false, cases_Bool, cases_lt, cases_eq, and_left, lt-leb, eq-eqb, ne_eqb}
+use Rattle.std.proofs.lemmas.Bool.Decides.{nat_tests}
+use Rattle.std.proofs.lemmas.List.{get_or-drop, get_or_past}
+use Rattle.std.proofs.Math.Path.{fun_ext}
+use Rattle.heap_words.specs.declared.config.Config.{Config}
+use Rattle.heap_words.specs.Words.{Word, Pause, Left, End, State, Phase, Cset, Free, Evac, Claim, Ask, Top, Tams, Limit, Current, Root, Count, Buffer, Wait, Answer, Grey, Black, Heap, IsWord, is_word, word_at, table_words, heap_size, heap_start, heap_in, view}
+use Rattle.heap_words.specs.Encoding.{refs_in, object_words, is_forwarded, forwardee_in}
+use Rattle.heap_words.proofs.Bounds.{heap_size_le}
+use Rattle.heap_words.proofs.Stores.{is_word_true, view_word, view_none}
+use Rattle.heap_graph.specs.Walk.{has, IsMarked}
+use Rattle.packing.specs.Places.{new_place, LieApart}
+use Rattle.packing.specs.Tops.{top_before, words_in}
+use Rattle.packing.proofs.Places.{stays_above}
+use Rattle.packing.proofs.Sums.{sum_of_none}
+use Rattle.packing.proofs.Tops.{added, place_in_range}
+use Rattle.sliding.specs.Slide.{IsSlidTo, renewed, slid, slid_word, is_covered}
+use Rattle.sliding.specs.Table.{word_of, kept_of, now_of, LeadsToKept, CanCompact}
+use Rattle.sliding.proofs.Slid.{slid_word-same, slid_next, slid_none, slid_only, renewed_alike}
+use Rattle.sliding.proofs.Flags.{kept_marked, kept_unmarked, kept_below}
+use Rattle.image_laws.specs.Plot.{heap_end, packed_top}
+use Rattle.image_laws.specs.Full.{now_in, held_in, kept_in}
+use Rattle.image_graph.specs.Pack.{IsPacked}
+use Rattle.image_graph.proofs.Packed.{heap_behind}
+use Rattle.full_cycle.specs.Collect.{CanCollect, LeadsToHeld}
+use Rattle.full_cycle.specs.Steps.{moved_in, IsRenewedAs}
+
+-- a word of the heap
+pub heap_word : (c : Config) (words : List ℕ) → length words ≡ table_words c → (a : ℕ) → c.region_words ≤ a → word_of c.region_words (heap_in c words) a ≡ view c words (Heap a)
+heap_word c words whole a above =
+    let at : heap_start c + (a - c.region_words) ≡ word_at c (Heap a) = omega (arith, above) in
+    ap (λ xs. get_or xs (a - c.region_words) 0) (heap_behind c words whole)
+    ∙ get_or-drop (heap_start c) words (a - c.region_words) 0
+    ∙ ap (λ k. get_or words k 0) at
+    ∙ ⊎_elim
+    (λ (below : a < heap_end c). sym (view_word c words (Heap a) (above, below)))
+    (λ (past : heap_end c ≤ a).
+    get_or_past words (word_at c (Heap a)) 0 (omega (arith, whole, past, above)) ∙ sym (view_none c words (Heap a) (grind (arith, nat_tests))))
+    (cases_lt a (heap_end c))
+
+-- below the heap there is no word
+pub no_heap_word : (c : Config) (words : List ℕ) (a : ℕ) → a < c.region_words → view c words (Heap a) ≡ 0
+no_heap_word c words a below = view_none c words (Heap a) (and_left (nat_le c.region_words a) (nat_lt a (heap_end c)) (lt-leb c.region_words a below))
+
+pub heap_length : (c : Config) (words : List ℕ) → length words ≡ table_words c → length (heap_in c words) ≡ heap_size c
+heap_length c words whole = omega (arith, ap length (heap_behind c words whole), length-drop (heap_start c) words, whole)
+
+module _ (c : Config) (words : List ℕ) (marks : List Bool) (found : List ℕ) (whole : length words ≡ table_words c) (flags : length marks ≡ heap_size c)
+    (marked : IsMarked c.region_words marks found) (held : found ≡ held_in c (view c words)) (can : CanCollect c (view c words)) where
+  abbrev w : ℕ
+  w = c.region_words
+
+  abbrev m : Word → ℕ
+  m = view c words
+
+  abbrev heap : List ℕ
+  heap = heap_in c words
+
+  abbrev kept : ℕ → ℕ
+  kept = kept_in c m
+
+  not_held : (a : ℕ) → has found a ≡ false → kept a ≡ 0
+  not_held a none = cond-false (has (held_in c m) a) (object_words (m (Heap (a + 1)))) 0 (ap (λ xs. has xs a) (sym held) ∙ none)
+
+  is_held : (a : ℕ) → has found a ≡ true → kept a ≡ object_words (m (Heap (a + 1)))
+  is_held a there = cond-true (has (held_in c m) a) (object_words (m (Heap (a + 1)))) 0 (ap (λ xs. has xs a) (sym held) ∙ there)
+
+  -- the flags say what is kept
+  kept_at : (k : ℕ) → kept_of w heap marks (w + k) ≡ kept (w + k)
+  kept_at k = ⊎_elim
+      (λ (yes : has found (w + k) ≡ true).
+      let inside = (marked.among (w + k) yes).1 in
+      let flag = marked.flags k (omega (arith, inside)) ∙ yes in
+      let index : w + k + 1 - w ≡ k + 1 = omega arith in
+      kept_marked w heap marks k flag
+      ∙ ap object_words (ap (λ j. get_or heap j 0) (sym index) ∙ heap_word c words whole (w + k + 1) (omega arith))
+      ∙ sym (is_held (w + k) yes))
+      (λ (no : has found (w + k) ≡ false). kept_unmarked w heap marks k (unset no) ∙ sym (not_held (w + k) no))
+      (cases_Bool (has found (w + k)))
+    where
+      unset : has found (w + k) ≡ false → get_or marks k false ≡ false
+      unset none = ⊎_elim
+          (λ (below : k < length marks). marked.flags k below ∙ none)
+          (λ (past : length marks ≤ k). get_or_past marks k false past)
+          (cases_lt k (length marks))
+
+  kept_same_at : (a : ℕ) → kept_of w heap marks a ≡ kept a
+  kept_same_at a = ⊎_elim
+      (λ (below : a < w). kept_below w heap marks a below ∙ sym (not_held a (⊎_elim
+      (λ (yes : has found a ≡ true). absurd (let above = (marked.among a yes).0 in omega (arith, above, below)))
+      (λ (no : has found a ≡ false). no)
+      (cases_Bool (has found a)))))
+      (λ (above : w ≤ a). let sum : w + (a - w) ≡ a = omega (arith, above) in subst (λ b. kept_of w heap marks b ≡ kept b) sum (kept_at (a - w)))
+      (cases_lt a w)
+
+  kept_same : kept_of w heap marks ≡ kept
+  kept_same = fun_ext kept_same_at
+
+  now_same : (a : ℕ) → w ≤ a → now_of w heap a ≡ now_in m a
+  now_same a above = ap (λ h. cond (is_forwarded h) (forwardee_in h) a) (heap_word c words whole a above)
+
+  -- what leads to what is kept
+  leads_to : (word : ℕ) → LeadsToHeld c m word → LeadsToKept w heap marks word
+  leads_to word leads other =
+      let to = leads other in
+      let copy : 0 < kept_of w heap marks (now_of w heap word) =
+      subst (λ a. 0 < kept_of w heap marks a) (sym (now_same word to.0)) (omega (arith, to.2, kept_same_at (now_in m word))) in
+      (to.0, omega (arith, to.1, heap_length c words whole), copy)
+
+  pub can_compact : CanCompact w heap marks
+  can_compact = record {
+    marked = record {
+      apart = subst (LieApart w) (sym kept_same) can.apart;
+      flags = flags ∙ sym (heap_length c words whole);
+      inside = λ a some. (let some_kept : 0 < kept a = omega (arith, some, kept_same_at a) in let end = can.inside a some_kept in omega (arith, end, kept_same_at a, heap_length c words whole));
+      small = omega (arith, heap_length c words whole, heap_size_le c, c.in_range.most_words);
+    };
+    current = λ a some. (let some_kept : 0 < kept a = omega (arith, some, kept_same_at a) in now_same a (can.apart.above a some_kept) ∙ can.current a some_kept);
+    closed = λ a i some few.
+        let some_kept : 0 < kept a = omega (arith, some, kept_same_at a) in
+        let above = can.apart.above a some_kept in
+        let shape = heap_word c words whole (a + 1) (omega (arith, above)) in
+        let index : a + 3 + i ≡ a + (3 + i) = omega arith in
+        let few_fields : i < refs_in (m (Heap (a + 1))) = subst (λ x. i < refs_in x) shape few in
+        let field : m (Heap (a + 3 + i)) ≡ word_of w heap (a + (3 + i)) = ap (λ x. m (Heap x)) index ∙ sym (heap_word c words whole (a + (3 + i)) (omega (arith, above))) in
+        subst (LeadsToKept w heap marks) field (leads_to (m (Heap (a + 3 + i))) (can.fields a i some_kept few_fields));
+  }
+
+  -- which way a word is renewed
+  renewed_same : (word : ℕ) → LeadsToHeld c m word → renewed w (now_of w heap) (kept_of w heap marks) word ≡ renewed w (now_in m) kept word
+  renewed_same word leads = ⊎_elim
+      (λ (null : word ≡ 0).
+      cond-true (word == 0) 0 (new_place w (kept_of w heap marks) (now_of w heap word)) (eq-eqb word 0 null)
+      ∙ sym (cond-true (word == 0) 0 (new_place w kept (now_in m word)) (eq-eqb word 0 null)))
+      (λ (some : word ≢ 0).
+      cond-false (word == 0) 0 (new_place w (kept_of w heap marks) (now_of w heap word)) (ne_eqb word 0 some)
+      ∙ ap (λ (k : ℕ → ℕ). new_place w k (now_of w heap word)) kept_same
+      ∙ ap (new_place w kept) (now_same word (leads some).0)
+      ∙ sym (cond-false (word == 0) 0 (new_place w kept (now_in m word)) (ne_eqb word 0 some)))
+      (cases_eq word 0)
+
+  module _ (after places : List ℕ) (long : length after ≡ table_words c) (packed : IsPacked c marks words after places) where
+    abbrev renew : ℕ → ℕ
+    renew = renewed w (now_in m) kept
+
+    abbrev old_heap : ℕ → ℕ
+    old_heap x = m (Heap x)
+
+    abbrev new_heap : ℕ → ℕ
+    new_heap x = view c after (Heap x)
+
+    -- the slide, over the heap as a slice, ..
+    slid_slice : IsSlidTo (heap_end c) w kept renew (word_of w heap) (word_of w (heap_in c after))
+    slid_slice =
+        let end : w + heap_size c ≡ heap_end c = omega arith in
+        let by_kept : IsSlidTo (heap_end c) w kept (renewed w (now_of w heap) (kept_of w heap marks)) (word_of w heap) (word_of w (heap_in c after)) =
+        subst (λ (k : ℕ → ℕ). IsSlidTo (heap_end c) w k (renewed w (now_of w heap) (kept_of w heap marks)) (word_of w heap) (word_of w (heap_in c after))) kept_same
+        (subst (λ e. IsSlidTo e w (kept_of w heap marks) (renewed w (now_of w heap) (kept_of w heap marks)) (word_of w heap) (word_of w (heap_in c after))) end packed.slid) in
+        renewed_alike w kept (renewed w (now_of w heap) (kept_of w heap marks)) (word_of w heap) can.apart renew (heap_end c) (word_of w (heap_in c after))
+        (λ a i some few.
+        let above = can.apart.above a some in
+        let shape = heap_word c words whole (a + 1) (omega (arith, above)) in
+        let index : a + 3 + i ≡ a + (3 + i) = omega arith in
+        let field : m (Heap (a + 3 + i)) ≡ word_of w heap (a + (3 + i)) = ap (λ x. m (Heap x)) index ∙ sym (heap_word c words whole (a + (3 + i)) (omega (arith, above))) in
+        renewed_same (word_of w heap (a + (3 + i))) (subst (LeadsToHeld c m) field (can.fields a i some (subst (λ x. i < refs_in x) shape few))))
+        by_kept
+
+    -- .. and by names
+    slid_named : IsSlidTo (heap_end c) w kept renew old_heap new_heap
+    slid_named = record {
+      moved = λ a i below inside.
+          let above = can.apart.above a (omega (arith, inside)) in
+          let place = stays_above w kept can.apart a in
+          sym (heap_word c after long (new_place w kept a + i) (omega (arith, place)))
+          ∙ slid_slice.moved a i below inside
+          ∙ slid_word-same renew (word_of w heap) old_heap a a i (heap_word c words whole (a + 1) (omega (arith, above))) (heap_word c words whole (a + i) (omega (arith, above)));
+      others = λ x above none.
+          sym (heap_word c after long x above) ∙ slid_slice.others x above none ∙ heap_word c words whole x above;
+    }
+
+    -- below the heap nothing was slid
+    slid_below : (e x : ℕ) → x < w → slid w kept renew old_heap e x ≡ old_heap x
+    slid_below zero x below = slid_none w kept renew old_heap x
+    slid_below (suc e) x below =
+        slid_next w kept renew old_heap e x
+        ∙ cond-false (is_covered w kept e x) (slid_word renew old_heap e (x - new_place w kept e)) (slid w kept renew old_heap e x)
+        (and_left (nat_le (new_place w kept e) x) (nat_lt x (new_place w kept e + kept e)) (lt-leb (new_place w kept e) x (let above = stays_above w kept can.apart e in omega (arith, above, below))))
+        ∙ slid_below e x below
+
+    heap_moved : (x : ℕ) → new_heap x ≡ slid w kept renew old_heap (heap_end c) x
+    heap_moved x = ⊎_elim
+        (λ (below : x < w). no_heap_word c after x below ∙ sym (no_heap_word c words x below) ∙ sym (slid_below (heap_end c) x below))
+        (λ (above : w ≤ x). slid_only w kept renew old_heap can.apart (heap_end c) new_heap slid_named x above)
+        (cases_lt x w)
+
+    -- the tops
+    no_top : (r : ℕ) → c.regions ≤ r → packed_top c kept r ≡ 0
+    no_top r past = sum_of_none (words_in w kept r) (heap_end c) (λ a below. ⊎_elim
+        (λ (none : words_in w kept r a ≡ 0). none)
+        (λ (there : (0 < kept a) × (new_place w kept a / w ≡ r + 1)).
+        absurd (let few = place_in_range w kept can.apart c.regions a there.0 below in let here = there.1 in omega (arith, few, here, past)))
+        (added w kept can.apart r a))
+
+    top_moved : (r : ℕ) → view c after (Top r) ≡ packed_top c kept r
+    top_moved r = ⊎_elim
+        (λ (inside : r < c.regions).
+        let end : w + heap_size c ≡ heap_end c = omega arith in
+        view_word c after (Top r) inside ∙ packed.tops r inside
+        ∙ ap (λ (k : ℕ → ℕ). top_before w k r (w + heap_size c)) kept_same ∙ ap (top_before w kept r) end)
+        (λ (past : c.regions ≤ r). view_none c after (Top r) (grind (arith, nat_tests)) ∙ sym (no_top r past))
+        (cases_lt r c.regions)
+
+    -- and no other word
+    other_word : (v : Word) → (IsWord c v → (word_at c v < heap_start c) × ((word_at c v < word_at c (Top 0)) ⊎ (word_at c (Top 0) + c.regions ≤ word_at c v))) → view c after v ≡ m v
+    other_word v place = ⊎_elim
+        (λ (yes : is_word c v ≡ true).
+        let is = is_word_true c v yes in
+        let at = place is in
+        view_word c after v is ∙ packed.others (word_at c v) at.0 at.1 ∙ sym (view_word c words v is))
+        (λ (no : is_word c v ≡ false). view_none c after v no ∙ sym (view_none c words v no))
+        (cases_Bool (is_word c v))
+
+    moved_at : (v : Word) → view c after v ≡ moved_in c (now_in m) kept m v
+    moved_at (Heap a) = heap_moved a
+    moved_at (Top r) = top_moved r
+    moved_at Pause = other_word Pause (λ is. (omega (arith, is), inl (omega (arith, is))))
+    moved_at Left = other_word Left (λ is. (omega (arith, is), inl (omega (arith, is))))
+    moved_at End = other_word End (λ is. (omega (arith, is), inl (omega (arith, is))))
+    moved_at (State s) = other_word (State s) (λ is. (omega (arith, is), inl (omega (arith, is))))
+    moved_at Phase = other_word Phase (λ is. (omega (arith, is), inl (omega (arith, is))))
+    moved_at Cset = other_word Cset (λ is. (omega (arith, is), inl (omega (arith, is))))
+    moved_at Free = other_word Free (λ is. (omega (arith, is), inl (omega (arith, is))))
+    moved_at Evac = other_word Evac (λ is. (omega (arith, is), inl (omega (arith, is))))
+    moved_at Claim = other_word Claim (λ is. (omega (arith, is), inl (omega (arith, is))))
+    moved_at Ask = other_word Ask (λ is. (omega (arith, is), inl (omega (arith, is))))
+    moved_at (Tams r) = other_word (Tams r) (λ is. (omega (arith, is), inr (omega (arith, is))))
+    moved_at (Limit r) = other_word (Limit r) (λ is. (omega (arith, is), inr (omega (arith, is))))
+    moved_at (Current s) = other_word (Current s) (λ is. (omega (arith, is), inr (omega (arith, is))))
+    moved_at (Root t i) = other_word (Root t i) (λ is. (omega (arith, is), inr (omega (arith, is))))
+    moved_at (Count t) = other_word (Count t) (λ is. (omega (arith, is), inr (omega (arith, is))))
+    moved_at (Buffer t i) = other_word (Buffer t i) (λ is. (omega (arith, is), inr (omega (arith, is))))
+    moved_at (Wait t) = other_word (Wait t) (λ is. (omega (arith, is), inr (omega (arith, is))))
+    moved_at (Answer t) = other_word (Answer t) (λ is. (omega (arith, is), inr (omega (arith, is))))
+    moved_at (Grey n) = other_word (Grey n) (λ is. (omega (arith, is), inr (omega (arith, is))))
+    moved_at (Black n) = other_word (Black n) (λ is. (omega (arith, is), inr (omega (arith, is))))
+
+    pub moved : view c after ≡ moved_in c (now_in m) kept m
+    moved = fun_ext moved_at
+
+    -- each word that led to a kept object can be renewed
+    pub renews : (word : ℕ) → LeadsToHeld c m word → IsRenewedAs w (now_in m) kept places word
+    renews word leads =
+        let by = packed.renews word (leads_to word leads) in
+        record { in_table = by.in_table; renewed_as = by.renewed_as ∙ renewed_same word leads }

@@ -1,0 +1,8 @@
+use Rattle.std.proofs.Common.{◌≡◌}
+use Rattle.heap_words.specs.Words.{Top}
+use Rattle.image_laws.specs.Full.{empty_regions}
+use Rattle.image_graph.specs.State.{memory_of}
+use Rattle.full_cycle.proofs.calm.free_empty.Given as goal
+
+abbrev pub invariant-loop-region : goal.invariant-loop-region
+invariant-loop-region l = l.free ≡ empty_regions (λ r. memory_of l.image (Top r)) l.region

@@ -1,0 +1,86 @@
+use Rattle.std.proofs.Common.{◌≡◌, ◌<◌, ℕ, [], slice_get, Some, None, sym, ap, ◌∙◌, arith}
+use Rattle.std.proofs.lemmas.Option.{slice_get_within}
+use Rattle.heap_words.specs.declared.config.Config.{Config}
+use Rattle.heap_words.specs.Words.{Word, heap_size}
+use Rattle.heap_graph.specs.Walk.{with_addresses}
+use Rattle.heap_graph.proofs.Marks as marks
+use Rattle.image_laws.specs.Full.{copies_of, roots_below, answers_below, field_words, kept_in}
+use Rattle.image_graph.specs.State.{config_of, memory_of, found_of, marks_of}
+use Rattle.full_cycle.specs.Collect.{found_by}
+use Rattle.full_cycle.proofs.State.{memory_same, carried, both}
+use Rattle.full_cycle.proofs.Listed.{no_turn, next_turn, last_turn, is_none, none_left}
+use Rattle.full_cycle.proofs.walk.find_held.Goals as goal
+
+pub loop-address-init : goal.loop-address-init
+loop-address-init c =
+    let old = c.args.image.now in
+    let g = config_of old in
+    let m : Word → ℕ = memory_of old in
+    let one = c.forget_found.new.self in
+    let two = c.find_all_roots.new.image in
+    let three = c.find_answers.new.image in
+    let to_one = c.forget_found.ensures.unchanged in
+    let to_two = both old one two to_one c.find_all_roots.ensures.unchanged in
+    let to_three = both old two three to_two c.find_answers.ensures.unchanged in
+    let roots : found_of two ≡ with_addresses [] (copies_of m (roots_below m g.mutators)) =
+    c.find_all_roots.ensures.noted
+    ∙ ap (λ (k : Word → ℕ). with_addresses (found_of one) (copies_of k (roots_below k (config_of one).mutators))) (memory_same old one to_one)
+    ∙ ap (λ (k : Config). with_addresses (found_of one) (copies_of m (roots_below m k.mutators))) to_one.config
+    ∙ ap (λ xs. with_addresses xs (copies_of m (roots_below m g.mutators))) c.forget_found.ensures.none in
+    record {
+      unchanged = to_three;
+      found = c.find_answers.ensures.found;
+      turns = c.find_answers.ensures.noted
+          ∙ ap (λ (k : Word → ℕ). with_addresses (found_of two) (copies_of k (answers_below k (config_of two).mutators))) (memory_same old two to_two)
+          ∙ ap (λ (k : Config). with_addresses (found_of two) (copies_of m (answers_below m k.mutators))) to_two.config
+          ∙ ap (λ xs. with_addresses xs (copies_of m (answers_below m g.mutators))) roots
+          ∙ no_turn g m;
+      few = omega arith;
+    }
+
+pub find_fields-requires-clause-kept : goal.find_fields-requires-clause-kept
+find_fields-requires-clause-kept c =
+    let old = c.args.image.now in
+    let now = c.loop-address.image in
+    let a = c.in-Some.address in
+    let n = c.loop-address.turn in
+    let at : slice_get (found_by (config_of old) (memory_of old) n) n ≡ Some a =
+    sym (ap (λ xs. slice_get xs n) c.loop-address.invariant.turns) ∙ sym c.in-Some.ensures in
+    carried (λ k m. 0 < kept_in k m a) old now c.loop-address.invariant.unchanged (c.requires.found n a at)
+
+pub loop-address-smaller : goal.loop-address-smaller
+loop-address-smaller c =
+    let now = c.loop-address.image in
+    let within = slice_get_within (found_of now) c.loop-address.turn c.in-Some.address (sym c.in-Some.ensures) in
+    let few = marks.few (config_of now).region_words (marks_of now) (found_of now) c.loop-address.invariant.found in
+    omega (arith, within, few, now.all_marks, ap heap_size c.loop-address.invariant.unchanged.config)
+
+pub loop-address-preserved : goal.loop-address-preserved
+loop-address-preserved c =
+    let old = c.args.image.now in
+    let now = c.loop-address.image in
+    let a = c.in-Some.address in
+    let n = c.loop-address.turn in
+    let m : Word → ℕ = memory_of old in
+    let same = c.loop-address.invariant.unchanged in
+    let at : slice_get (found_by (config_of old) m n) n ≡ Some a = sym (ap (λ xs. slice_get xs n) c.loop-address.invariant.turns) ∙ sym c.in-Some.ensures in
+    let within = slice_get_within (found_of now) n a (sym c.in-Some.ensures) in
+    let few = marks.few (config_of now).region_words (marks_of now) (found_of now) c.loop-address.invariant.found in
+    record {
+      unchanged = both old now c.find_fields.new.image same c.find_fields.ensures.unchanged;
+      found = c.find_fields.ensures.found;
+      turns = c.find_fields.ensures.noted
+          ∙ ap (λ (k : Word → ℕ). with_addresses (found_of now) (copies_of k (field_words k a))) (memory_same old now same)
+          ∙ ap (λ xs. with_addresses xs (copies_of m (field_words m a))) c.loop-address.invariant.turns
+          ∙ next_turn (config_of old) m n a at;
+      few = omega (arith, within, few, now.all_marks, ap heap_size same.config);
+    }
+
+pub returns-clause-held : goal.returns-clause-held
+returns-clause-held c =
+    let old = c.args.image.now in
+    let m : Word → ℕ = memory_of old in
+    let n = c.loop-address.turn in
+    let turns = c.loop-address.invariant.turns in
+    let none : slice_get (found_of c.loop-address.image) n ≡ None = sym c.found_at.ensures ∙ is_none c.found_at.result c.in_default.not-Some in
+    turns ∙ last_turn (config_of old) m n (none_left (found_by (config_of old) m n) n (ap (λ xs. slice_get xs n) (sym turns) ∙ none)) c.loop-address.invariant.few

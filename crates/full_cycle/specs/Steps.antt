@@ -1,0 +1,54 @@
+-- What each step of a full collection makes of the words of an image.
+use Rattle.std.specs.Prelude.{ℕ, ◌≡◌, ◌==◌, ◌&&◌, nat_le, nat_lt, if◌then◌else◌, List, slice_index}
+use Rattle.heap_words.specs.declared.config.Config.{Config}
+use Rattle.heap_words.specs.Words.{Word, Phase, Cset, Evac, Claim, Ask, Top, Tams, Limit, Current, Root, Count, Wait, Answer, Grey, Black, Heap}
+use Rattle.sliding.specs.Slide.{renewed, slid}
+use Rattle.sliding.specs.Table.{from_table, IsInTable}
+use Rattle.image_laws.specs.Plot.{heap_end, packed_top}
+
+-- the words after the kept objects were packed: the heap and the tops
+abbrev pub moved_in : Config → (now kept : ℕ → ℕ) → (Word → ℕ) → Word → ℕ
+moved_in c now kept memory (Heap a) = slid c.region_words kept (renewed c.region_words now kept) (λ x. memory (Heap x)) (heap_end c) a
+moved_in c now kept memory (Top r) = packed_top c kept r
+moved_in c now kept memory word = memory word
+
+-- a word is renewed by the table of new places as it should be
+pub record IsRenewedAs (first : ℕ) (now kept : ℕ → ℕ) (places : List ℕ) (word : ℕ) : Type 0 where
+  pub in_table : IsInTable first places word
+  pub renewed_as : from_table first places word ≡ renewed first now kept word
+
+-- what a root or an answer becomes: 0 and 1 are no address
+abbrev pub renewed_by : (first : ℕ) (places : List ℕ) → ℕ → ℕ
+renewed_by first places word = if nat_le word 1 then word else from_table first places word
+
+-- the words after roots and answers were renewed
+abbrev pub roots_renewed : Config → List ℕ → (Word → ℕ) → Word → ℕ
+roots_renewed c places memory (Root t i) = renewed_by c.region_words places (memory (Root t i))
+roots_renewed c places memory (Answer t) = renewed_by c.region_words places (memory (Answer t))
+roots_renewed c places memory word = memory word
+
+-- the words when nothing is left of a collection in progress
+abbrev pub calm : (Word → ℕ) → Word → ℕ
+calm memory Phase = 0
+calm memory Cset = 0
+calm memory Evac = 0
+calm memory Claim = 0
+calm memory Ask = 0
+calm memory (Tams r) = 0
+calm memory (Limit r) = 0
+calm memory (Current seat) = 0
+calm memory (Count t) = 0
+calm memory (Grey n) = 0
+calm memory (Black n) = 0
+calm memory word = memory word
+
+-- the words after each request of so many threads that was left was refused
+abbrev pub refused_below : ℕ → (Word → ℕ) → Word → ℕ
+refused_below n memory (Answer t) = if nat_lt t n then (if memory (Wait t) == 0 then memory (Answer t) else 1) else memory (Answer t)
+refused_below n memory (Wait t) = if nat_lt t n then 0 else memory (Wait t)
+refused_below n memory word = memory word
+
+-- a list after each number of a range of places was changed
+abbrev pub IsChanged : (from to : ℕ) → (ℕ → ℕ) → (before after : List ℕ) → Type 0
+IsChanged from to change before after =
+    (k : ℕ) → slice_index after k ≡ (if nat_le from k && nat_lt k to then change (slice_index before k) else slice_index before k)

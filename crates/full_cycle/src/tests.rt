@@ -1,0 +1,107 @@
+ghost use Rattle.std.specs.Prelude.{◌≡◌, ◌<◌, ◌≤◌, IfOk};
+ghost use Rattle.image_graph.proofs.Blank.{IsBlank};
+ghost use Rattle.image_graph.specs.State.{config_of, memory_of};
+
+use crate::full;
+use heap_words::{Config, request_word, shape_of};
+use image_graph::Image;
+use std::alloc::Global;
+use std::test::Fail;
+
+// An image of four regions of 64 words, whose addresses are 64 to 319. All words are 0.
+fn opened(alloc: Global, mutators: usize) -> Result<Image, Fail>
+    ensures mutators { IfOk result (λ image. (config_of image).mutators ≡ mutators) }
+    ensures blank { IfOk result (λ image. IsBlank (config_of image) (memory_of image)) }
+{
+    let config = Config::new(4, 64, mutators, 0, 0)?;
+    Ok(Image::open(alloc, config)?)
+}
+
+// A mutator waits for its first object.
+fn ask(image: &mut Image, mutator: usize, refs: u64, nums: u64)
+    requires mutator { mutator < (config_of image.old).mutators }
+    requires refs { refs ≤ 16 }
+    requires nums { nums ≤ 16 }
+    requires blank { IsBlank (config_of image.old) (memory_of image.old) }
+    ensures config { config_of image.new ≡ config_of image.old }
+    ensures blank { IsBlank (config_of image.new) (memory_of image.new) }
+{
+    let config = image.config();
+    image.set_word(
+        config.wait_at(mutator),
+        request_word(1, shape_of(refs, nums)),
+    );
+}
+
+// Words as a collection leaves them that was in progress.
+fn leave_marks(image: &mut Image)
+    requires blank { IsBlank (config_of image.old) (memory_of image.old) }
+    ensures config { config_of image.new ≡ config_of image.old }
+    ensures blank { IsBlank (config_of image.new) (memory_of image.new) }
+{
+    let config = image.config();
+    image.set_word(config.phase_at(), 1);
+    image.set_word(config.grey_at(0), 7);
+}
+
+// Nothing lives. Thread 1 waits for an object of one reference and two numbers, and thread 2 for the largest.
+#[test]
+fn serves_an_empty_heap(rt: HostRuntime) -> Result<(), Fail> {
+    let mut image = opened(rt.alloc(), 2)?;
+    let config = image.config();
+    ask(&mut image, 0, 1, 2);
+    ask(&mut image, 1, 16, 16);
+    leave_marks(&mut image);
+    full(&mut image);
+    assert_eq!(rt; image.word(config.answer_at(0)), 64);
+    assert_eq!(rt; image.word(config.answer_at(1)), 70);
+    assert_eq!(rt; image.word(config.wait_at(0)), 0);
+    assert_eq!(rt; image.word(config.wait_at(1)), 0);
+    assert_eq!(rt; image.word(config.free_at()), 14);
+    assert_eq!(rt; image.word(config.phase_at()), 0);
+    assert_eq!(rt; image.word(config.grey_at(0)), 0);
+    assert_eq!(rt; image.edge(0), 41);
+    Ok(())
+}
+
+// Eight threads wait for the largest object, of 35 words. One fits into each region, and the last four threads are refused.
+#[test]
+fn refuses_whom_no_region_has_room_for(rt: HostRuntime) -> Result<(), Fail> {
+    let mut image = opened(rt.alloc(), 8)?;
+    let config = image.config();
+    for mutator in 0..8 {
+        ask(&mut image, mutator, 16, 16);
+    }
+    full(&mut image);
+    assert_eq!(rt; image.word(config.answer_at(0)), 64);
+    assert_eq!(rt; image.word(config.answer_at(1)), 128);
+    assert_eq!(rt; image.word(config.answer_at(2)), 192);
+    assert_eq!(rt; image.word(config.answer_at(3)), 256);
+    assert_eq!(rt; image.word(config.answer_at(4)), 1);
+    assert_eq!(rt; image.word(config.answer_at(7)), 1);
+    assert_eq!(rt; image.word(config.wait_at(7)), 0);
+    assert_eq!(rt; image.word(config.free_at()), 0);
+    assert_eq!(rt; image.edge(3), 35);
+    Ok(())
+}
+
+// Eight threads get an object of 32 words each, two to a region, and nobody has taken one yet when the heap is collected
+// again: all objects live, every region is full to its last word, and nothing moves.
+#[test]
+fn keeps_a_heap_full_to_the_last_word(rt: HostRuntime) -> Result<(), Fail> {
+    let mut image = opened(rt.alloc(), 8)?;
+    let config = image.config();
+    for mutator in 0..8 {
+        ask(&mut image, mutator, 16, 13);
+    }
+    full(&mut image);
+    full(&mut image);
+    assert_eq!(rt; image.word(config.answer_at(0)), 64);
+    assert_eq!(rt; image.word(config.answer_at(1)), 96);
+    assert_eq!(rt; image.word(config.answer_at(2)), 128);
+    assert_eq!(rt; image.word(config.answer_at(7)), 288);
+    assert_eq!(rt; image.edge(0), 64);
+    assert_eq!(rt; image.edge(3), 64);
+    assert_eq!(rt; image.word(config.free_at()), 0);
+    Ok(())
+}

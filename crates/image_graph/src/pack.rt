@@ -1,0 +1,47 @@
+//! Packs the objects of an image that were found.
+
+ghost use Rattle.std.specs.Prelude.{ℕ, ◌≡◌, ◌+◌, ◌<◌, ◌≤◌, ◌⊎◌, length, slice_index};
+ghost use Rattle.heap_words.specs.Words.{Top, word_at, table_words, heap_size, heap_start, heap_in};
+ghost use Rattle.packing.specs.Tops.{top_before};
+ghost use Rattle.sliding.specs.Slide.{IsSlidTo, renewed};
+ghost use Rattle.sliding.specs.Table.{word_of, kept_of, now_of, LeadsToKept, CanCompact, IsRenewedBy, IsInTable, from_table};
+ghost use Rattle.image_graph.specs.State.{config_of, words_of, marks_of, places_of};
+ghost use Rattle.image_graph.specs.Pack.{IsPacked};
+
+use crate::image::Image;
+use heap_words::Config;
+use sliding::{compact_marked, renew};
+
+// Packs the marked objects of a table. `marks` and `places` have an entry for each word of the heap.
+fn pack_words(config: Config, marks: &[bool], words: &mut [u64], places: &mut [u64])
+    requires table { length words.old ≡ table_words config }
+    requires places { length places.old ≡ heap_size config }
+    requires compact { CanCompact config.region_words (heap_in config words.old) marks.now }
+    ensures { IsPacked config marks.now words.old words.new places.new }
+{
+    let top = config.top_at(0);
+    let (low, heap) = words.split_at_mut(config.heap_start());
+    let tops = &mut low[top..top + config.regions()];
+    compact_marked(config.region_words() as u64, marks, heap, places, tops);
+}
+
+impl Image {
+    /// Packs the objects that were found: each goes to its new place, in the order of addresses, with its references
+    /// renewed, and the tops follow. No other word changes.
+    pub fn pack_found(&mut self)
+        requires { CanCompact (config_of self.old).region_words (heap_in (config_of self.old) (words_of self.old)) (marks_of self.old) }
+        ensures config { config_of self.new ≡ config_of self.old }
+        ensures packed { IsPacked (config_of self.old) (marks_of self.old) (words_of self.old) (words_of self.new) (places_of self.new) }
+    {
+        pack_words(self.config, &self.marks, &mut self.words, &mut self.places);
+    }
+
+    /// What a word becomes that led to an object that was packed: the address of the object's new place, and null, 0, for
+    /// null.
+    pub fn renewed(&self, word: u64) -> u64
+        requires { IsInTable (config_of self.now).region_words (places_of self.now) word }
+        ensures { result ≡ from_table (config_of self.now).region_words (places_of self.now) word }
+    {
+        renew(self.config.region_words() as u64, &self.places, word)
+    }
+}
