@@ -491,8 +491,21 @@ fn outcome(
 fn answers(rt: &impl Abort, alloc: Global, rows: &[Row]) -> Result<(), Fail> {
     for (row, case) in rows.iter().enumerate() {
         for piece in [7, 4096] {
-            let (_, written) = outcome(alloc, case.words, case.trace.as_bytes(), piece, &[], &[])?;
+            let (status, written) = outcome(
+                alloc,
+                case.words,
+                case.trace.as_bytes(),
+                piece,
+                &[],
+                &[],
+            )?;
             assert_eq!(rt; written.as_slice(), case.answer.as_bytes(), "row {row}");
+            let wanted = if case.answer.as_bytes().starts_with(b"unfinished after ") {
+                Status::Unfinished
+            } else {
+                Status::Ok
+            };
+            assert_eq!(rt; status, wanted, "row {row}");
         }
     }
     Ok(())
