@@ -6,6 +6,8 @@ pub mod Settled
 pub mod Machines
 pub mod Threads
 pub mod Own
+pub mod Fit
+pub mod Begun
 pub mod Begins
 pub mod Sound
 pub mod Schedule
