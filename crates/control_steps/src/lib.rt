@@ -1,0 +1,6 @@
+//! The control's steps.
+#![tactic(auto)]
+
+mod spot;
+
+pub use spot::ControlSpot;
