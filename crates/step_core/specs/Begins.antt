@@ -12,7 +12,6 @@ use Rattle.mutator.specs.Orders.{is_valid}
 use Rattle.heap_world.specs.Asking.{nothing}
 use Rattle.heap_world.specs.Represents.{Represents}
 use Rattle.heap_world.specs.Change.{Change}
-use Rattle.heap_world.specs.Roots.{HasNoMore}
 use Rattle.step_core.specs.Actor.{Actor}
 use Rattle.step_core.specs.Machines.{HasNumber, IsIdle, kind}
 use Rattle.step_core.specs.Opening.{opening}
@@ -31,13 +30,11 @@ pub record IsCalmOutside (c : Config) (memory : Word → ℕ) : Type 0 where
   pub states : (seat : ℕ) → seat < c.mutators + c.helpers → memory (State seat) ≡ 0
   pub left : memory Left ≡ c.mutators
 
--- A stage in which runs may begin: its words stand for a graph, in which there are the roots of its threads alone, nobody
--- waits, and each machine is idle.
+-- A stage in which runs may begin: its words stand for a graph, nobody waits, and each machine is idle.
 pub record Begins (c : Config) (s : Stage Actor) (g : Graph) : Type 0 where
   pub words : length s.words ≡ table_words c
   pub seats : length s.machines ≡ seat_count c.mutators c.helpers
   pub stands : Represents c (view c s.words) g (λ t. nothing)
-  pub no_more : HasNoMore c.mutators g
   pub outside : IsCalmOutside c (view c s.words)
   pub machines : (number : ℕ) (a : Actor) → slice_get s.machines number ≡ Some a → IsNew c g number a
 

@@ -9,7 +9,7 @@ use Rattle.heap_words.specs.declared.place.Place.{Place}
 use Rattle.heap_words.specs.declared.place.Place.TheVariants as place
 use Rattle.heap_words.specs.Place.{same_place}
 use Rattle.heap_words.specs.Words.{Word, Pause, Answer, image_start}
-use Rattle.heap_words.specs.Names.{name_of}
+use Rattle.heap_words.specs.Rows.{name_of}
 use Rattle.heap_world.specs.Change.{Change}
 use Rattle.steps_base.specs.Touch.{touch, loads, placed}
 use Rattle.steps_base.specs.Steps.{Kind, Stage}
