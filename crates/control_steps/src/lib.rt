@@ -1,6 +1,0 @@
-//! The control's steps.
-#![tactic(auto)]
-
-mod spot;
-
-pub use spot::ControlSpot;
