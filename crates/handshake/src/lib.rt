@@ -9,6 +9,7 @@
 #![tactic(auto)]
 
 mod enter_spot;
+pub mod laws;
 mod out;
 mod stop_spot;
 
