@@ -1,5 +1,5 @@
 -- The handshake over any kind of machine: each event that obeys keeps it, so each run does.
-use Rattle.std.proofs.Common.{◌≡◌, ◌≢◌, ℕ, ◌+◌, ◌<◌, ◌≤◌, Bool, List, [], ◌∷◌, length, true, false, Some, refl, sym, ap, ◌∙◌, subst, arith, inl, inr}
+use Rattle.std.proofs.Common.{◌≡◌, ◌≢◌, ℕ, ◌+◌, ◌<◌, ◌≤◌, Bool, List, [], ◌∷◌, true, false, Some, refl, sym, ap, ◌∙◌, subst, arith, inl, inr}
 use Rattle.std.specs.Prelude.{slice_get, slice_set, slice_index, nat_eq, nat_lt, ◌⊎◌, if◌then◌else◌}
 use Rattle.std.proofs.lemmas.Bool.{lt-ltb, ltb-true}
 use Rattle.std.proofs.lemmas.Bool.Decides.{nat_tests}
@@ -7,18 +7,18 @@ use Rattle.std.proofs.lemmas.List.{length-set}
 use Rattle.heap_words.specs.declared.config.Config.{Config}
 use Rattle.heap_words.specs.declared.access.Access.{Access}
 use Rattle.heap_words.specs.Access.{place_of}
-use Rattle.heap_words.specs.Words.{Pause, State, word_at, image_start, table_words, view}
+use Rattle.heap_words.specs.Words.{Pause, State, view}
 use Rattle.heap_words.proofs.Stores.{view_word}
-use Rattle.steps_base.specs.Touch.{touch, loads, stores, placed}
-use Rattle.steps_base.specs.Steps.{Kind, Stage, Event, IsEvent, act, go, accessed, moved}
+use Rattle.steps_base.specs.Touch.{touch, stores, placed}
+use Rattle.steps_base.specs.Steps.{Kind, Stage, Event, act, go, accessed}
 use Rattle.steps_base.proofs.Runs.{go-none, go-first}
-use Rattle.steps_base.proofs.Laws.{act_cases, act-event}
+use Rattle.steps_base.proofs.Laws.{act_cases}
 use Rattle.handshake.specs.declared.stop_spot.StopSpot.TheVariants.{Check, Stopped}
 use Rattle.handshake.specs.Rows.{after_seat}
 use Rattle.handshake.specs.Standing.{Standing, outside, looks, backs, inside, leaves, idle, stops, checks, works, goes, state_word, pause_word, is_within, is_pausing, is_free, is_checked, IsSeated, control_seat, stop_standing}
-use Rattle.handshake.specs.Obeys.{IsElsewhere, is_load, IsHarmless, Enters, StaysOut, Looks, GoesOut, GoesOn, Stops, Checks, EndsPause, Obeys}
-use Rattle.handshake.specs.Shaken.{IsShaken, EventObeys, EachObeys, IsPausing, IsStill}
-use Rattle.handshake.proofs.Words.{KeepsWords, elsewhere_keeps, load_keeps, accessed-load, pause_stored, pause_stored_states, state_stored, state_stored_pause, state_stored_other}
+use Rattle.handshake.specs.Obeys.{is_load, IsHarmless, Enters, StaysOut, Looks, GoesOut, GoesOn, Stops, Checks, EndsPause, Obeys}
+use Rattle.handshake.specs.Shaken.{IsShaken, EventObeys, EachObeys}
+use Rattle.handshake.proofs.Words.{KeepsWords, elsewhere_keeps, load_keeps, pause_stored, pause_stored_states, state_stored, state_stored_pause, state_stored_other}
 use Rattle.handshake.proofs.Steps.{seat_keeps, control_keeps}
 
 -- a machine in the heap has a state word of 1

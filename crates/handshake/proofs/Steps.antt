@@ -1,9 +1,9 @@
 -- One step keeps the handshake: that of a mutator or helper, and that of the control.
-use Rattle.std.proofs.Common.{◌≡◌, ◌≢◌, ℕ, ◌+◌, ◌<◌, Bool, List, length, true, false, Some, refl, sym, ap, ◌∙◌, subst, arith}
-use Rattle.std.specs.Prelude.{slice_get, slice_set, slice_index, nat_eq, if◌then◌else◌}
+use Rattle.std.proofs.Common.{◌≡◌, ◌≢◌, ℕ, ◌<◌, Bool, List, length, true, false, Some, refl, sym, ◌∙◌, subst, arith}
+use Rattle.std.specs.Prelude.{slice_get, slice_set, nat_eq}
 use Rattle.std.proofs.lemmas.Bool.Decides.{nat_tests}
 use Rattle.heap_words.specs.declared.config.Config.{Config}
-use Rattle.heap_words.specs.Words.{Pause, State, table_words, view}
+use Rattle.heap_words.specs.Words.{Pause, State, view}
 use Rattle.steps_base.specs.Steps.{Stage}
 use Rattle.steps_base.proofs.Places.{slice_get-set_same, slice_get-set_other}
 use Rattle.handshake.specs.Standing.{Standing, state_word, pause_word, is_within, is_checked, IsSeated, control_seat}

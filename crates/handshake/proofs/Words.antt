@@ -1,18 +1,15 @@
 -- The pause word and the state words after an access.
-use Rattle.std.proofs.Common.{◌≡◌, ◌≢◌, ℕ, ◌+◌, ◌<◌, List, length, true, false, refl, sym, ap, ◌∙◌, subst, arith, get_or-set_other}
-use Rattle.std.specs.Prelude.{slice_index, slice_set}
+use Rattle.std.proofs.Common.{◌≡◌, ◌≢◌, ℕ, ◌<◌, List, length, true, refl, sym, ap, ◌∙◌, get_or-set_other}
 use Rattle.std.proofs.lemmas.Bool.{ne_eqb, eq-eqb, cond-true, cond-false}
 use Rattle.std.proofs.lemmas.List.{length-set, set-get_or}
 use Rattle.heap_words.specs.declared.config.Config.{Config}
 use Rattle.heap_words.specs.declared.access.Access.{Access}
-use Rattle.heap_words.specs.declared.access.Access.TheVariants.{Load, Store, Swap, Add, Sub, And, Or, Exchange}
-use Rattle.heap_words.specs.Access.{place_of, made_of}
-use Rattle.heap_words.specs.Words.{Word, Pause, State, IsWord, is_word, is_image, word_at, image_start, table_words, view}
+use Rattle.heap_words.specs.declared.access.Access.TheVariants.{Load}
+use Rattle.heap_words.specs.Access.{place_of}
+use Rattle.heap_words.specs.Words.{Pause, State, word_at, table_words, view}
 use Rattle.heap_words.proofs.Stores.{view_word, view_set}
-use Rattle.heap_words.proofs.Rows.{words_differ}
-use Rattle.steps_base.specs.Touch.{Form, touch, stores, placed}
+use Rattle.steps_base.specs.Touch.{touch, stores, placed}
 use Rattle.steps_base.specs.Steps.{accessed}
-use Rattle.steps_base.proofs.Touches.{place_of-access_at}
 use Rattle.handshake.specs.Standing.{control_seat}
 use Rattle.handshake.specs.Obeys.{IsElsewhere, is_load}
 
@@ -67,4 +64,3 @@ pub state_stored_other : (c : Config) (words : List ℕ) (value seat other : ℕ
     → view c (accessed (placed c (touch (State seat) (stores value))) words) (State other) ≡ view c words (State other)
 state_stored_other c words value seat other long below apart =
     view_set c words (State seat) value (State other) long below ∙ cond-false _ _ _ (ne_eqb seat other (λ e. apart (sym e)))
-

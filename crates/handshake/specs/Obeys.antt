@@ -1,14 +1,16 @@
 -- What a step has to obey, by where its machine stands: the access that it makes, and where the machine stands after it, by
 -- the word that it finds.
-use Rattle.std.specs.Prelude.{ℕ, ◌≡◌, ◌≢◌, ◌+◌, ◌<◌, Bool, true, false, ◌⊎◌}
+use Rattle.std.specs.Prelude.{ℕ, ◌≡◌, ◌≢◌, ◌<◌, Bool, true, false, ◌⊎◌}
 use Rattle.heap_words.specs.declared.config.Config.{Config}
 use Rattle.heap_words.specs.declared.access.Access.{Access}
 use Rattle.heap_words.specs.declared.access.Access.TheVariants.{Load}
 use Rattle.heap_words.specs.Access.{place_of}
 use Rattle.heap_words.specs.Words.{Pause, State, word_at, image_start}
 use Rattle.steps_base.specs.Touch.{touch, loads, stores, placed}
-use Rattle.handshake.specs.Rows.{leave_touch, go_touch, after_seat}
-use Rattle.handshake.specs.Standing.{Standing, outside, looks, backs, inside, leaves, idle, stops, checks, works, goes, is_within, is_pausing, is_free, control_seat, stop_standing}
+use Rattle.handshake.specs.declared.enter_spot.EnterSpot.{EnterSpot}
+use Rattle.handshake.specs.declared.stop_spot.StopSpot.{StopSpot}
+use Rattle.handshake.specs.Rows.{enter_touch, enter_next, is_entered, leave_touch, stop_touch, stop_next, is_stopped, after_seat, go_touch}
+use Rattle.handshake.specs.Standing.{Standing, outside, looks, backs, inside, leaves, idle, stops, checks, works, goes, is_within, is_pausing, is_free, control_seat, enter_standing, stop_standing}
 
 -- the access is of no state word and not of the pause word
 pub record IsElsewhere (c : Config) (access : Access) : Type 0 where
@@ -79,3 +81,10 @@ Obeys c seat stops access next = Stops c access next
 Obeys c seat (checks other) access next = Checks c other access next
 Obeys c seat works access next = GoesOn c access next is_pausing
 Obeys c seat goes access next = EndsPause c access next
+
+-- The rows obey: those of entering and leaving in the seat of a mutator or helper, and those of stopping and ending a pause.
+pub record RowsObey (c : Config) : Type 0 where
+  pub enter : (seat : ℕ) (spot : EnterSpot) → is_entered spot ≡ false → Obeys c seat (enter_standing spot) (placed c (enter_touch seat spot)) (λ got. enter_standing (enter_next spot got))
+  pub leave : (seat : ℕ) → Obeys c seat leaves (placed c (leave_touch seat)) (λ got. outside)
+  pub stop : (seat : ℕ) (spot : StopSpot) → is_stopped spot ≡ false → Obeys c seat (stop_standing spot) (placed c (stop_touch spot)) (λ got. stop_standing (stop_next c spot got))
+  pub go : (seat : ℕ) → Obeys c seat goes (placed c go_touch) (λ got. idle)

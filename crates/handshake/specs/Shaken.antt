@@ -1,5 +1,5 @@
 -- The handshake over any kind of machine, of whose records one says where they stand. It looks at no object.
-use Rattle.std.specs.Prelude.{ℕ, ◌≡◌, ◌≢◌, ◌<◌, Bool, true, false, List, [], ◌∷◌, length, Some, slice_get, ◌⊎◌}
+use Rattle.std.specs.Prelude.{ℕ, ◌≡◌, ◌<◌, true, false, List, [], ◌∷◌, length, Some, slice_get, ◌⊎◌}
 use Rattle.heap_words.specs.declared.config.Config.{Config}
 use Rattle.heap_words.specs.Access.{place_of}
 use Rattle.heap_words.specs.Words.{Pause, State, image_start, table_words, view}

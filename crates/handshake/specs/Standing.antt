@@ -1,5 +1,5 @@
 -- Where a machine stands, as far as entering, leaving and stopping go.
-use Rattle.std.specs.Prelude.{ℕ, ◌≡◌, ◌+◌, ◌<◌, Bool, true, false, nat_lt, if◌then◌else◌}
+use Rattle.std.specs.Prelude.{ℕ, ◌≡◌, ◌+◌, ◌<◌, Bool, true, false, nat_lt}
 use Rattle.heap_words.specs.declared.config.Config.{Config}
 use Rattle.handshake.specs.declared.enter_spot.EnterSpot.{EnterSpot}
 use Rattle.handshake.specs.declared.enter_spot.EnterSpot.TheVariants as enter
@@ -8,16 +8,16 @@ use Rattle.handshake.specs.declared.stop_spot.StopSpot.TheVariants as stop
 
 -- The first five are those of a mutator or a helper, the others those of the control.
 pub data Standing : Type 0 where
-  outside : Standing                    -- not in the heap: between calls, waiting to enter or for an answer, or ended
-  looks : Standing                      -- it looks at the pause word, now that its state word says that it is in
-  backs : Standing                      -- it takes its state word back, since a pause is wanted
-  inside : Standing                     -- in the heap
-  leaves : Standing                     -- in the heap, and leaves it next
-  idle : Standing                       -- no pause is wanted
-  stops : Standing                      -- a pause is wanted, and it says so next
-  checks : (seat : ℕ) → Standing        -- it waits for this seat; those below it are out
-  works : Standing                      -- all are out, and it does the work of the pause
-  goes : Standing                       -- the work is done, and it ends the pause next
+  outside : Standing  -- not in the heap: between calls, waiting to enter or for an answer, or ended
+  looks : Standing  -- it looks at the pause word, now that its state word says that it is in
+  backs : Standing  -- it takes its state word back, since a pause is wanted
+  inside : Standing  -- in the heap
+  leaves : Standing  -- in the heap, and leaves it next
+  idle : Standing  -- no pause is wanted
+  stops : Standing  -- a pause is wanted, and it says so next
+  checks : (seat : ℕ) → Standing  -- it waits for this seat; those below it are out
+  works : Standing  -- all are out, and it does the work of the pause
+  goes : Standing  -- the work is done, and it ends the pause next
 
 -- the state word of a machine that stands so: 1 from before it looks until it is out
 abbrev pub state_word : Standing → ℕ

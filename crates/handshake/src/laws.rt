@@ -5,6 +5,7 @@ ghost use Rattle.std.specs.Prelude.{List};
 ghost use Rattle.heap_words.specs.declared.config.Config.{Config};
 ghost use Rattle.steps_base.specs.Steps.{Kind, Stage, Event, go};
 ghost use Rattle.handshake.specs.Standing.{Standing};
+ghost use Rattle.handshake.specs.Obeys.{RowsObey};
 ghost use Rattle.handshake.specs.Shaken.{IsShaken, EachObeys, IsPausing, IsStill};
 
 /// The law of the handshake: whatever list of events is made of which each one obeys, state words and pause word go on to say
@@ -15,4 +16,9 @@ pub fn every_list_of_events<R, O>()
         → IsShaken c standing s → EachObeys c kind standing s events → IsShaken c standing (go kind s events) }
     ensures still { (c : Config) (kind : Kind R O) (standing : R → Standing) (s : Stage R)
         → IsShaken c standing s → IsPausing c standing s → IsStill c kind standing s }
+{}
+
+/// A law: the rows of entering, leaving, stopping and ending a pause are steps that obey.
+pub fn rows_obey()
+    ensures { (c : Config) → RowsObey c }
 {}
