@@ -1,0 +1,5 @@
+pub mod Words
+pub mod Steps
+pub mod Shaking
+pub mod Still
+pub mod Parts
