@@ -6,12 +6,18 @@ use Rattle.heap_words.specs.declared.place.Place.{Place}
 use Rattle.heap_words.specs.declared.place.Place.TheVariants as place
 use Rattle.heap_words.specs.declared.access.Took.{Took}
 use Rattle.heap_words.specs.declared.access.Took.TheVariants.{More, Again, Done}
+<<<<<<< HEAD
 use Rattle.heap_words.specs.Words.{Left, State, Phase, Cset, Ask, Root, Heap}
 use Rattle.heap_words.specs.Encoding.{plain_header, shape_word, refs_in, name_code, thread_in, count_in}
 use Rattle.steps_base.specs.Touch.{Touch, touch, loads, stores, swaps, subtracts, sets_bits, exchanges}
 use Rattle.handshake.specs.declared.enter.EnterSpot.{EnterSpot}
 use Rattle.handshake.specs.declared.enter.EnterSpot.TheVariants.{Raise, Look}
 use Rattle.handshake.specs.Rows as enters
+=======
+use Rattle.heap_words.specs.Words.{State, Phase, Cset, Ask, Root, Heap}
+use Rattle.heap_words.specs.Encoding.{refs_in, thread_in, count_in, fresh_word}
+use Rattle.steps_base.specs.Touch.{Touch, touch, loads, stores, swaps, sets_bits, exchanges}
+>>>>>>> origin/world
 use Rattle.alloc_buffers.specs.Rows as takes
 use Rattle.alloc_buffers.specs.declared.spot.Kind.TheVariants.{Fresh}
 use Rattle.alloc_buffers.specs.declared.spot.Taken.TheVariants.{At, NoRoom}

@@ -24,5 +24,5 @@ follows_begins c s g begins = record {
   promised_to = begins.stands.promised_to;
   machines = λ k a there.
       let new = begins.machines k a there in
-      machine_begins c (world_of c s begins.stands.block begins.stands.owner g) k a a.machine new.number_is new.idle new.calls new.valid begins.stands.roots begins.stands.none;
+      machine_begins c (world_of c s begins.stands.block begins.stands.owner g) k a a.machine new.number_is new.idle new.calls new.valid begins.stands.roots begins.stands.none begins.stands.asked;
 }
