@@ -14,7 +14,6 @@ use Rattle.shen_graph.specs.Crowd.{words_asked}
 use Rattle.shen_graph.specs.Graph.{Graph, named}
 use Rattle.shen_graph.specs.Reach.{IsReach, size}
 use Rattle.shen_graph.specs.History.{Entry, after, EachIsLegal, of_thread}
-use Rattle.handshake.specs.declared.stop_spot.StopSpot.TheVariants as stop
 use Rattle.mutator.specs.Orders.{is_valid}
 use Rattle.mutator.specs.Rows.{Mutating}
 use Rattle.heap_world.specs.World.{World, Plot, hand, promised, Shared}
@@ -22,8 +21,9 @@ use Rattle.heap_world.specs.Asking.{HasNoPromise}
 use Rattle.heap_world.specs.Change.{image_words}
 use Rattle.heap_world.specs.Roots.{HasNoMore}
 use Rattle.control_steps.specs.declared.spot.ControlSpot.{ControlSpot}
-use Rattle.control_steps.specs.declared.spot.ControlSpot.TheVariants.{Stopping, LoadWord, StoreWord}
+use Rattle.control_steps.specs.declared.spot.ControlSpot.TheVariants.{LoadWord, StoreWord}
 use Rattle.control_steps.specs.Rows.{Controlling}
+use Rattle.control_steps.specs.Ready.{is_ready}
 use Rattle.step_core.specs.Actor.{Helping, Machine, mutating, helping, controlling, Actor, entries_of}
 use Rattle.step_core.specs.Threads.{IsSettled}
 use Rattle.step_core.specs.Stepped.{Mine}
@@ -67,18 +67,17 @@ pub record IsHelper (c : Config) (w : World) (number : ℕ) (h : Helping) : Type
 abbrev pub AreRead : Config → List ℕ → List ℕ → ℕ → Type 0
 AreRead c words image n = (i : ℕ) → i < n → slice_index image i ≡ slice_index words (image_start c + i)
 
--- what the control knows: the seat that it checks is one, and which words of the image it has read or written
+-- what the control knows in a pause: which words of the image it has read or written
 abbrev pub IsAim : Config → List ℕ → ControlSpot → List ℕ → Type 0
-IsAim c words (Stopping (stop.Check seat)) image = seat < c.mutators + c.helpers
-IsAim c words (Stopping stop.Stopped) image = ⊥
-IsAim c words (LoadWord index) image = (index < image_words c) × (length image ≡ index) × AreRead c words image index
-IsAim c words (StoreWord index) image = (index < image_words c) × (length image ≡ image_words c) × AreRead c words image index
+IsAim c words (LoadWord index) image = (length image ≡ index) × AreRead c words image index
+IsAim c words (StoreWord index) image = (length image ≡ image_words c) × AreRead c words image index
 IsAim c words _ image = Unit {0}
 
--- What holds of the control: it has no room in hand. Between pauses it keeps no image, and loads the first word into an empty one.
+-- what holds of the control: it has no room in hand, and can make its next access
 pub record IsControl (c : Config) (words : List ℕ) (w : World) (number : ℕ) (k : Controlling) : Type 0 where
   pub number_is : number ≡ c.mutators + c.helpers
   pub hands : (a words : ℕ) → w.block a ≡ Some (hand number words) → ⊥
+  pub ready : is_ready c k.spot ≡ true
   pub aims : IsAim c words k.spot k.image
 
 -- what holds of a machine, by the words of the table and the world

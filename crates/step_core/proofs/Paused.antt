@@ -2,7 +2,7 @@
 -- is where it should be in it.
 use Rattle.std.proofs.Common.{◌≡◌, ◌≢◌, ℕ, ◌+◌, ◌<◌, ◌≤◌, ◌⊎◌, inl, inr, ⊎_elim, Bool, true, false, List, [], ◌∷◌, ◌++◌, length, Option, Some, None, refl, sym, ap, ◌∙◌, subst, arith}
 use Rattle.std.specs.Prelude.{◌==◌, slice_get, slice_index, if◌then◌else◌}
-use Rattle.std.proofs.lemmas.Bool.{false≢true}
+use Rattle.std.proofs.lemmas.Bool.{false≢true, lt-ltb}
 use Rattle.std.proofs.lemmas.List.{append-nil, length-append}
 use Rattle.std.proofs.lemmas.List.Elements.{All-nil}
 use Rattle.std.proofs.lemmas.Option.{slice_get-get_or}
@@ -11,6 +11,7 @@ use Rattle.heap_words.specs.declared.config.Config.{Config}
 use Rattle.heap_words.specs.Ranges.{seat_count}
 use Rattle.heap_words.specs.Words.{Word, Root, Answer, view, image_start}
 use Rattle.packing.specs.Tops.{sum_below}
+use Rattle.packing.proofs.Sums.{sum_same}
 use Rattle.shen_graph.specs.declared.command.Command.{Command}
 use Rattle.shen_graph.specs.declared.command.Command.TheVariants.{Gc}
 use Rattle.shen_graph.specs.declared.command.Reply.{Reply}
@@ -48,14 +49,8 @@ use Rattle.step_core.proofs.Facts.{IsSeen, IsShort, AreRead, IsThread, IsMachine
 use Rattle.step_core.proofs.Asked.{asking_by, asking_asks, asking_refused, asking_given, asking_at, asking_in, asking_of, polling_asked, answered_asked, nothing_then, refused_then, given_then, asks_then, promised_given}
 use Rattle.step_core.proofs.Images.{mixed_whole}
 use Rattle.step_core.proofs.Pauses.{open_world}
-use Rattle.step_core.proofs.Roles.{full_settled, number_of, mutator_of}
+use Rattle.step_core.proofs.Roles.{full_settled, machine_there, mutator_there}
 use Rattle.step_core.proofs.Spots.{mutator_at}
-
--- sums of the same numbers are one
-sum_same : (n : ℕ) (f h : ℕ → ℕ) → ((k : ℕ) → k < n → f k ≡ h k) → sum_below f n ≡ sum_below h n
-unfolding sum_below
-sum_same zero f h same = refl
-sum_same (suc n) f h same = cong2 (sum_same n f h (λ k below. same k (omega (arith, below)))) (same n (omega arith))
 
 -- an image has words
 some_words : (c : Config) → 0 < image_words c
@@ -240,10 +235,6 @@ module _ (c : Config) (words : List ℕ) (block : Plot) (owner : ℕ → Option 
   abbrev pub AllOutside : Type 0
   AllOutside = (k : ℕ) (b : Actor) → slice_get machines k ≡ Some b → k ≢ control_number c → is_within (standing_of b.machine) ≡ false
 
-  -- a machine of a seat
-  machine_there : (k : ℕ) → k < seat_count c.mutators c.helpers → (b : Actor) × (slice_get machines k ≡ Some b)
-  machine_there k below = (get_or machines k (record { machine = fresh_helper; command = Gc; calls = [] }), slice_get-get_or machines k _ (omega (arith, below, seats)))
-
   -- nobody has room in hand
   none_of : (k : ℕ) (b : Actor) (machine : Machine) → (k ≢ control_number c → is_within (standing_of machine) ≡ false) → IsMachine c words before (of_thread past (k + 1)) k b machine
       → (a more : ℕ) → block a ≡ Some (hand k more) → ⊥
@@ -255,20 +246,13 @@ module _ (c : Config) (words : List ℕ) (block : Plot) (owner : ℕ → Option 
 
   pub no_hands : Shared c before → AllKnown → AllOutside → (a seat more : ℕ) → block a ≡ Some (hand seat more) → ⊥
   no_hands shared known outside a seat more here =
-      let there = machine_there seat (shared.rooms a seat more here).seated in
+      let there = machine_there c words before past machines seats seat (shared.rooms a seat more here).seated in
       none_of seat there.0 there.0.machine (outside seat there.0 there.1) (known seat there.0 there.1) a more here
-
-  -- the mutator of a number
-  mutator_there : AllKnown → (t : ℕ) → t < c.mutators → (b : Actor) × (m : Mutating) × (slice_get machines t ≡ Some b) × (b.machine ≡ mutating m) × IsThread c words before (of_thread past (t + 1)) t b m
-  mutator_there known t below =
-      let there = machine_there t (omega (arith, below)) in
-      let role = mutator_of c t there.0.machine (number_of c words before (of_thread past (t + 1)) t there.0 there.0.machine (known t there.0 there.1)) below in
-      (there.0, role.0, there.1, role.1, subst (λ machine. IsMachine c words before (of_thread past (t + 1)) t there.0 machine) role.1 (known t there.0 there.1))
 
   -- what it has asked for stands in the words
   asked_there : AllKnown → AllOutside → (t : ℕ) → t < c.mutators → IsAsked (view c words) block g.count t (asking t)
   asked_there known outside t below =
-      let there = mutator_there known t below in
+      let there = mutator_there c words before past machines seats known t below in
       let m = there.1 in
       let thread = there.4 in
       let out : is_within (standing_at m.spot) ≡ false = ap (λ machine. is_within (standing_of machine)) (sym there.3) ∙ outside t there.0 there.2 (λ e. omega (arith, below, e)) in
@@ -286,7 +270,7 @@ module _ (c : Config) (words : List ℕ) (block : Plot) (owner : ℕ → Option 
         owner = owner;
         shared = subst (λ memory. Shared c (record { memory = memory; block = block; owner = owner; graph = g })) whole shared;
         roots = λ t i below small.
-            let there = mutator_there known t below in
+            let there = mutator_there c words before past machines seats known t below in
             let m = there.1 in
             let thread = there.4 in
             let out : is_within (standing_at m.spot) ≡ false = ap (λ machine. is_within (standing_of machine)) (sym there.3) ∙ outside t there.0 there.2 (λ e. omega (arith, below, e)) in
@@ -311,7 +295,7 @@ module _ (c : Config) (words : List ℕ) (block : Plot) (owner : ℕ → Option 
 
     -- the words that are promised then
     promised_sum : (t : ℕ) → sum_below (λ v. if v == t then 0 else words_given (paused.asked_then v)) c.mutators ≡ sum_below (λ v. if v == t then 0 else words_promised then_world.memory v) c.mutators
-    promised_sum t = sum_same c.mutators _ _ (λ v below.
+    promised_sum t = sum_same _ _ c.mutators (λ v below.
         ap (λ n. if v == t then 0 else n) (sym (promised_given then_world.memory paused.stands.block g.count v (paused.asked_then v) (paused.stands.asked v below))))
 
     -- who is refused is crowded out
@@ -353,7 +337,8 @@ module _ (c : Config) (words : List ℕ) (block : Plot) (owner : ℕ → Option 
       own = record {
         number_is = refl;
         hands = λ a more. paused.stands.none a (control_number c) more;
-        aims = (some_words c, law.long c image long, λ i below. absurd (omega (arith, below)));
+        ready = lt-ltb _ _ (some_words c);
+        aims = (law.long c image long, λ i below. absurd (omega (arith, below)));
       };
       others = λ k b other there is.
           subst (λ es. IsMachine c words then_world es k b b.machine) (ap (λ es. of_thread es (k + 1)) (sym (append-nil past)))

@@ -1,15 +1,18 @@
 -- What holds of machines, by their roles: each lemma has one clause a role.
 use Rattle.std.proofs.Common.{◌≡◌, ◌≢◌, ℕ, ◌+◌, ◌<◌, ◌⊎◌, ⊎_elim, true, List, [], Option, Some, None, refl, sym, ap, ◌∙◌, subst, arith}
-use Rattle.std.specs.Prelude.{◌==◌, if◌then◌else◌}
+use Rattle.std.specs.Prelude.{◌==◌, get_or, length, slice_get, if◌then◌else◌}
+use Rattle.std.proofs.lemmas.Option.{slice_get-get_or}
 use Rattle.std.proofs.Math.Path.{fun_ext}
 use Rattle.std.proofs.lemmas.List.{append-nil}
 use Rattle.heap_words.specs.declared.config.Config.{Config}
 use Rattle.heap_words.specs.Words.{Word, Root, Answer, view}
+use Rattle.heap_words.specs.Ranges.{seat_count}
 use Rattle.shen_graph.specs.declared.command.Command.{Command}
+use Rattle.shen_graph.specs.declared.command.Command.TheVariants.{Gc}
 use Rattle.shen_graph.specs.declared.command.Reply.{Reply}
 use Rattle.shen_graph.specs.declared.command.Reply.TheVariants.{Full}
 use Rattle.packing.specs.Tops.{sum_below}
-use Rattle.shen_graph.specs.History.{Entry}
+use Rattle.shen_graph.specs.History.{Entry, of_thread}
 use Rattle.shen_graph.specs.Crowd.{words_asked}
 use Rattle.mutator.specs.declared.spot.Kept.{Kept}
 use Rattle.mutator.specs.declared.spot.Spot.{Spot}
@@ -23,13 +26,14 @@ use Rattle.heap_world.specs.Rely.{Rely}
 use Rattle.control_steps.specs.declared.spot.ControlSpot.{ControlSpot}
 use Rattle.control_steps.specs.declared.spot.ControlSpot.TheVariants.{LookLeft}
 use Rattle.control_steps.specs.Rows.{Controlling}
+use Rattle.control_steps.specs.Ready.{is_ready}
 =======
 use Rattle.heap_world.specs.Asking.{nothing, IsAsked}
 >>>>>>> origin/world
-use Rattle.step_core.specs.Actor.{Machine, mutating, helping, controlling, Actor}
+use Rattle.step_core.specs.Actor.{Machine, mutating, helping, controlling, Actor, fresh_helper}
 use Rattle.step_core.specs.Machines.{HasNumber, IsIdle}
 use Rattle.step_core.specs.Stepped.{Mine}
-use Rattle.step_core.proofs.Facts.{IsSeen, IsShort, IsAim, IsMachine, words_promised}
+use Rattle.step_core.proofs.Facts.{IsSeen, IsShort, IsThread, IsAim, IsMachine, words_promised}
 use Rattle.step_core.proofs.Spots.{mutator_at}
 use Rattle.step_core.proofs.Ready.{rest_ready}
 use Rattle.step_core.proofs.Stable.{mine_stays}
@@ -55,11 +59,11 @@ pub record StaysWith (c : Config) (words words_then : List ℕ) (u w : World) (k
   pub aims : (control : Controlling) → machine ≡ controlling control → IsAim c words control.spot control.image → IsAim c words_then control.spot control.image
 
 -- an answer stays with what is settled of it
-seen_stays : (raw raw_then now now_then : ℕ) (fixed : Option Reply) → raw_then ≡ raw → now_then ≡ now → IsSeen raw now fixed → IsSeen raw_then now_then fixed
+pub seen_stays : (raw raw_then now now_then : ℕ) (fixed : Option Reply) → raw_then ≡ raw → now_then ≡ now → IsSeen raw now fixed → IsSeen raw_then now_then fixed
 seen_stays raw raw_then now now_then fixed raws nows seen = subst (λ n. IsSeen n now_then fixed) (sym raws) (subst (λ n. IsSeen raw n fixed) (sym nows) seen)
 
 -- an answer that the heap is full, which counts and stands in the table, is settled
-full_settled : (raw now : ℕ) (fixed : Option Reply) → IsSeen raw now fixed → raw ≡ now → now ≡ 1 → fixed ≡ None → ⊥
+pub full_settled : (raw now : ℕ) (fixed : Option Reply) → IsSeen raw now fixed → raw ≡ now → now ≡ 1 → fixed ≡ None → ⊥
 full_settled raw now fixed seen same full unsettled = ⊎_elim
     (λ (both : (raw ≡ 1) × (fixed ≡ Some Full)). absurd (let it = sym unsettled ∙ both.1 in cc))
     (λ (none : (raw ≡ 0) × (fixed ≡ None)). omega (arith, none.0, same, full))
@@ -82,7 +86,7 @@ machine_stays c words words_then u w entries more k b (mutating n) shared with s
 machine_stays c words words_then u w entries more k b (helping h) shared with same is =
     record { least = is.least; below = is.below; hands = λ a more is_hand. is.hands a more (with.rely.no_hands a more is_hand) }
 machine_stays c words words_then u w entries more k b (controlling h) shared with same is =
-    record { number_is = is.number_is; hands = λ a more is_hand. is.hands a more (with.rely.no_hands a more is_hand); aims = with.aims h refl is.aims }
+    record { number_is = is.number_is; hands = λ a more is_hand. is.hands a more (with.rely.no_hands a more is_hand); ready = is.ready; aims = with.aims h refl is.aims }
 
 -- a machine has a number of its role
 pub number_of : (c : Config) (words : List ℕ) (w : World) (entries : List Entry) (k : ℕ) (b : Actor) (machine : Machine) → IsMachine c words w entries k b machine → HasNumber c k machine
@@ -154,7 +158,7 @@ machine_begins c w k b (mutating m) number idle calls valid roots none asked =
     }
 machine_begins c words w k b (helping h) whole number idle calls valid roots none asked = record { least = number.0; below = number.1; hands = λ a more is. none a k more is }
 machine_begins c words w k b (controlling h) whole number idle calls valid roots none asked =
-    record { number_is = number; hands = λ a more is. none a k more is; aims = subst (λ spot. IsAim c words spot h.image) (sym idle.0) tt }
+    record { number_is = number; hands = λ a more is. none a k more is; ready = subst (λ spot. is_ready c spot ≡ true) (sym idle.0) refl; aims = subst (λ spot. IsAim c words spot h.image) (sym idle.0) tt }
 =======
           (asked m.seat below) (λ i small. roots m.seat i below small) (λ a words is. none a m.seat words is);
       entries_are = sym (append-nil b.calls ∙ calls);
@@ -162,3 +166,17 @@ machine_begins c words w k b (controlling h) whole number idle calls valid roots
 machine_begins c w k b (helping h) number idle calls valid roots none asked = record { least = number.0; below = number.1; hands = λ a words is. none a k words is }
 machine_begins c w k b (controlling h) number idle calls valid roots none asked = record { number_is = number; hands = λ a words is. none a k words is }
 >>>>>>> origin/world
+
+-- The machines of a stage, by their numbers.
+module _ (c : Config) (words : List ℕ) (w : World) (past : List Entry) (machines : List Actor) (seats : length machines ≡ seat_count c.mutators c.helpers) where
+  -- there is one of each number
+  pub machine_there : (k : ℕ) → k < seat_count c.mutators c.helpers → (b : Actor) × (slice_get machines k ≡ Some b)
+  machine_there k below = (get_or machines k (record { machine = fresh_helper; command = Gc; calls = [] }), slice_get-get_or machines k _ (omega (arith, below, seats)))
+
+  -- and the first of them are mutators
+  pub mutator_there : ((k : ℕ) (b : Actor) → slice_get machines k ≡ Some b → IsMachine c words w (of_thread past (k + 1)) k b b.machine) → (t : ℕ) → t < c.mutators
+      → (b : Actor) × (m : Mutating) × (slice_get machines t ≡ Some b) × (b.machine ≡ mutating m) × IsThread c words w (of_thread past (t + 1)) t b m
+  mutator_there known t below =
+      let there = machine_there t (omega (arith, below)) in
+      let role = mutator_of c t there.0.machine (number_of c words w (of_thread past (t + 1)) t there.0 there.0.machine (known t there.0 there.1)) below in
+      (there.0, role.0, there.1, role.1, subst (λ machine. IsMachine c words w (of_thread past (t + 1)) t there.0 machine) role.1 (known t there.0 there.1))
