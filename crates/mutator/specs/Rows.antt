@@ -7,7 +7,7 @@ use Rattle.heap_words.specs.declared.place.Place.TheVariants as place
 use Rattle.heap_words.specs.declared.access.Took.{Took}
 use Rattle.heap_words.specs.declared.access.Took.TheVariants.{More, Again, Done}
 use Rattle.heap_words.specs.Words.{Left, State, Phase, Cset, Ask, Root, Heap}
-use Rattle.heap_words.specs.Encoding.{plain_header, shape_word, refs_in, name_code, thread_in, count_in}
+use Rattle.heap_words.specs.Encoding.{refs_in, thread_in, count_in, fresh_word}
 use Rattle.steps_base.specs.Touch.{Touch, touch, loads, stores, swaps, subtracts, sets_bits, exchanges}
 use Rattle.handshake.specs.declared.enter_spot.EnterSpot.TheVariants.{Raise, Look}
 use Rattle.handshake.specs.Rows as enters
@@ -105,11 +105,6 @@ place_at order AskCycle = place.AK
 place_at order (Waiting at) = wait_place at
 place_at order (Leave reply) = place.LV
 place_at order Gone = place.ML
-
--- the words of a new object of a mutator, in order: header, shape, name, and zeros
-abbrev pub fresh_word : ℕ → ℕ → ℕ → ℕ → ℕ → ℕ
-fresh_word seat made refs nums k =
-    if k == 0 then plain_header else (if k == 1 then shape_word refs nums else (if k == 2 then name_code (seat + 1) (made + 1) else 0))
 
 -- how many words the object has that a command makes
 abbrev pub words_of : Command → ℕ

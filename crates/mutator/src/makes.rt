@@ -1,6 +1,7 @@
 ghost use Rattle.std.specs.Prelude.{◌≡◌, ◌<◌, true};
 ghost use Rattle.steps_base.specs.Touch.{placed};
 ghost use Rattle.steps_base.specs.Fits.{touch_fits};
+ghost use Rattle.heap_words.specs.Encoding as encoding;
 ghost use Rattle.mutator.specs.Rows as rows;
 ghost use Rattle.mutator.specs.WaitRows.{next_name};
 ghost use Rattle.mutator.specs.Fit.{can_make, make_fits, make_goes, is_next_object};
@@ -154,7 +155,7 @@ fn after_word(words: u64, address: u64, done: u64) -> Spot
 fn fresh_word(seat: usize, made: u32, refs: u32, nums: u32, place: u64) -> u64
     requires seat { seat < 8 }
     requires new { is_next_object made refs nums ≡ true }
-    ensures { result ≡ rows.fresh_word seat made refs nums place }
+    ensures { result ≡ encoding.fresh_word seat made refs nums place }
 {
     match place {
         0 => 1,
