@@ -6,18 +6,11 @@ use Rattle.heap_words.specs.declared.place.Place.{Place}
 use Rattle.heap_words.specs.declared.place.Place.TheVariants as place
 use Rattle.heap_words.specs.declared.access.Took.{Took}
 use Rattle.heap_words.specs.declared.access.Took.TheVariants.{More, Again, Done}
-<<<<<<< HEAD
 use Rattle.heap_words.specs.Words.{Left, State, Phase, Cset, Ask, Root, Heap}
-use Rattle.heap_words.specs.Encoding.{plain_header, shape_word, refs_in, name_code, thread_in, count_in}
-use Rattle.steps_base.specs.Touch.{Touch, touch, loads, stores, swaps, subtracts, sets_bits, exchanges}
-use Rattle.handshake.specs.declared.enter.EnterSpot.{EnterSpot}
-use Rattle.handshake.specs.declared.enter.EnterSpot.TheVariants.{Raise, Look}
-use Rattle.handshake.specs.Rows as enters
-=======
-use Rattle.heap_words.specs.Words.{State, Phase, Cset, Ask, Root, Heap}
 use Rattle.heap_words.specs.Encoding.{refs_in, thread_in, count_in, fresh_word}
-use Rattle.steps_base.specs.Touch.{Touch, touch, loads, stores, swaps, sets_bits, exchanges}
->>>>>>> origin/world
+use Rattle.steps_base.specs.Touch.{Touch, touch, loads, stores, swaps, subtracts, sets_bits, exchanges}
+use Rattle.handshake.specs.declared.enter_spot.EnterSpot.TheVariants.{Raise, Look}
+use Rattle.handshake.specs.Rows as enters
 use Rattle.alloc_buffers.specs.Rows as takes
 use Rattle.alloc_buffers.specs.declared.spot.Kind.TheVariants.{Fresh}
 use Rattle.alloc_buffers.specs.declared.spot.Taken.TheVariants.{At, NoRoom}
@@ -47,7 +40,7 @@ use Rattle.mutator.specs.declared.makes.MakeSpot.{MakeSpot}
 use Rattle.mutator.specs.declared.makes.MakeSpot.TheVariants as make
 use Rattle.mutator.specs.declared.waits.WaitSpot.TheVariants as wait
 use Rattle.mutator.specs.Commands.{roots_of, root_of, dst_of, index_of, number_of, refs_of, nums_of, lacks_object, has_part}
-use Rattle.mutator.specs.WaitRows.{after_enter, next_name, wait_place, wait_touch, wait_next, wait_made, wait_says}
+use Rattle.mutator.specs.WaitRows.{call_says, after_enter, next_name, wait_place, wait_touch, wait_next, wait_made, wait_says}
 
 -- A mutator between two accesses: its number, how many objects it has made, what its call has kept, and where it stands.
 pub record Mutating : Type 0 where
@@ -99,7 +92,7 @@ first_place order = enters.enter_place Raise
 abbrev pub place_at : Order → Spot → Place
 place_at order Rest = first_place order
 place_at order (Ended reply) = first_place order
-place_at order (Entering at then) = enters.enter_place at
+place_at order (Entering at next) = enters.enter_place at
 place_at order LoadPhase = place.PH
 place_at order LoadSet = place.CS
 place_at order (Loading at) = load_place at
@@ -153,7 +146,7 @@ first_touch seat order = enters.enter_touch seat Raise
 abbrev pub touch_at : Config → ℕ → ℕ → Kept → Order → Spot → Touch
 touch_at c seat made kept order Rest = first_touch seat order
 touch_at c seat made kept order (Ended reply) = first_touch seat order
-touch_at c seat made kept order (Entering at then) = enters.enter_touch seat at
+touch_at c seat made kept order (Entering at next) = enters.enter_touch seat at
 touch_at c seat made kept order LoadPhase = touch Phase loads
 touch_at c seat made kept order LoadSet = touch Cset loads
 touch_at c seat made kept order (Loading at) = load_touch seat kept.command at
@@ -280,7 +273,7 @@ begun End m = record m { spot = Gone }
 abbrev pub next_at : Config → Mutating → Order → ℕ → Spot → Mutating
 next_at c m order got Rest = begun order m
 next_at c m order got (Ended reply) = begun order m
-next_at c m order got (Entering at then) = record m { spot = after_enter then (enters.enter_next at got) }
+next_at c m order got (Entering at next) = record m { spot = after_enter next (enters.enter_next at got) }
 next_at c m order got LoadPhase = record m { kept = record m.kept { phase = got }; spot = LoadSet }
 next_at c m order got LoadSet = record m { kept = record m.kept { cset = got }; spot = first_spot m.kept.command }
 next_at c m order got (Loading at) = record m { spot = load_next m.kept.command at got }
@@ -297,11 +290,6 @@ next_at c m order got Gone = m
 abbrev pub next_of : Config → Mutating → Order → ℕ → Mutating
 next_of c m order got = next_at c m order got m.spot
 
--- what a step of a taking of room says: once it has its answer, that the call goes on
-abbrev pub take_says : TakeSpot → TakeSpot → Took
-take_says take (take_spot.Ended taken) = More
-take_says take next = takes.says take next
-
 -- what the step says: of an exchange, that it was lost; of the making of an object, what its taking of room says; and that a
 -- mutator waits to enter, or for an object
 abbrev pub field_says : FieldSpot → ℕ → Took
@@ -309,11 +297,11 @@ field_says (fields.Exchange found expect value) got = if got == found then More 
 field_says _ got = More
 
 abbrev pub make_says : Config → Command → MakeSpot → ℕ → Took
-make_says c command (make.Taking take) got = take_says take (take_next c command take got)
+make_says c command (make.Taking take) got = call_says (takes.says take (take_next c command take got))
 make_says c command _ got = More
 
 abbrev pub answer_at : Config → Kept → Spot → ℕ → Took
-answer_at c kept (Entering at then) got = enters.enter_says at got
+answer_at c kept (Entering at next) got = call_says (enters.enter_says at got)
 answer_at c kept (OnField object at) got = field_says at got
 answer_at c kept (Making at) got = make_says c kept.command at got
 answer_at c kept (Waiting at) got = wait_says at got

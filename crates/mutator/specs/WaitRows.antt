@@ -11,8 +11,8 @@ use Rattle.steps_base.specs.Touch.{Touch, touch, loads, stores, sets_bits}
 use Rattle.shen_graph.specs.declared.name.Name.{Name}
 use Rattle.shen_graph.specs.declared.command.Command.{Command}
 use Rattle.shen_graph.specs.declared.command.Reply.TheVariants as reply
-use Rattle.handshake.specs.declared.enter.EnterSpot.{EnterSpot}
-use Rattle.handshake.specs.declared.enter.EnterSpot.TheVariants.{Raise, Inside}
+use Rattle.handshake.specs.declared.enter_spot.EnterSpot.{EnterSpot}
+use Rattle.handshake.specs.declared.enter_spot.EnterSpot.TheVariants.{Raise, Inside}
 use Rattle.mutator.specs.declared.spot.Entered.{Entered}
 use Rattle.mutator.specs.declared.spot.Entered.TheVariants.{Call, Waited}
 use Rattle.mutator.specs.declared.spot.Spot.{Spot}
@@ -21,11 +21,16 @@ use Rattle.mutator.specs.declared.waits.WaitSpot.{WaitSpot}
 use Rattle.mutator.specs.declared.waits.WaitSpot.TheVariants as wait
 use Rattle.mutator.specs.Commands.{dst_of, refs_of, nums_of}
 
+-- what a step of a call says where its part says so: once a part is done, the call goes on
+abbrev pub call_says : Took → Took
+call_says Again = Again
+call_says _ = More
+
 -- where a mutator stands that enters: once it is inside, a call begins with the phase, and one that has waited has its answer
 abbrev pub after_enter : Entered → EnterSpot → Spot
 after_enter Call Inside = LoadPhase
 after_enter Waited Inside = Waiting wait.LoadAnswer
-after_enter then at = Entering at then
+after_enter next at = Entering at next
 
 -- the place of the next access
 abbrev pub wait_place : WaitSpot → Place
