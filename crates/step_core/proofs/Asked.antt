@@ -4,7 +4,7 @@ use Rattle.std.specs.Prelude.{◌==◌, nat_le, if◌then◌else◌}
 use Rattle.std.proofs.lemmas.Bool.{cond-true, cond-false, eq-eqb, ne_eqb, le-leb, false≢true}
 use Rattle.std.proofs.lemmas.Bool.Decides.{nat_tests}
 use Rattle.heap_words.specs.declared.config.Config.{Config}
-use Rattle.heap_words.specs.Words.{Word, Root, Answer, Heap}
+use Rattle.heap_words.specs.Words.{Word, Wait, Answer, Heap}
 use Rattle.heap_words.specs.Encoding.{object_words, shape_word}
 use Rattle.shen_graph.specs.declared.command.Command.{Command}
 use Rattle.shen_graph.specs.declared.command.Reply.{Reply}
@@ -14,7 +14,7 @@ use Rattle.mutator.specs.declared.spot.Spot.{Spot}
 use Rattle.mutator.specs.Commands.{refs_of, nums_of}
 use Rattle.mutator.specs.Orders.{is_waiting}
 use Rattle.heap_world.specs.World.{World, Plot}
-use Rattle.heap_world.specs.Asking.{Asking, nothing, asks, refused, given, IsAsked}
+use Rattle.heap_world.specs.Asking.{Asking, nothing, asks, refused, given, IsPromise, IsAsked}
 use Rattle.heap_world.specs.Change.{Answers, words_given}
 use Rattle.step_core.specs.Actor.{Machine, mutating, helping, controlling, Actor}
 use Rattle.step_core.specs.Stepped.{IsPolling, IsAnswered}
@@ -88,6 +88,26 @@ asks_then memory block count t refs nums (asks more_refs more_nums) answers aske
 asks_then memory block count t refs nums refused answers asked = inl (asked, refl)
 asks_then memory block count t refs nums (given more_refs more_nums) answers asked =
     inr (subst (λ r. IsAsked memory block count t (given r nums)) (sym answers.0) (subst (λ n. IsAsked memory block count t (given more_refs n)) (sym answers.1) asked))
+
+-- what was asked for stands in two memories that have the same requests, answers and objects
+pub asked_same : (m n : Word → ℕ) (block : Plot) (count : ℕ → ℕ) (t : ℕ) (x : Asking) → n (Wait t) ≡ m (Wait t) → n (Answer t) ≡ m (Answer t) → ((a : ℕ) → n (Heap a) ≡ m (Heap a))
+    → IsAsked m block count t x → IsAsked n block count t x
+asked_same m n block count t nothing wait answer heap asked = (wait ∙ asked.0, answer ∙ asked.1, asked.2)
+asked_same m n block count t (asks refs nums) wait answer heap asked =
+    (record { wait_is = wait ∙ asked.0.wait_is; few_refs = asked.0.few_refs; few_nums = asked.0.few_nums; few = asked.0.few }, answer ∙ asked.1, asked.2)
+asked_same m n block count t refused wait answer heap asked = (wait ∙ asked.0, answer ∙ asked.1, asked.2)
+asked_same m n block count t (given refs nums) wait answer heap asked = (
+  wait ∙ asked.0,
+  subst (λ k. 1 < k) (sym answer) asked.1,
+  subst (λ k. IsPromise n block count t refs nums k) (sym answer) (record {
+    here = asked.2.here;
+    words = λ k below. heap (m (Answer t) + k) ∙ asked.2.words k below;
+    only = asked.2.only;
+    few_refs = asked.2.few_refs;
+    few_nums = asked.2.few_nums;
+    few = asked.2.few;
+  }),
+)
 
 shape_words : (refs nums : ℕ) → refs ≤ 16 → nums ≤ 16 → object_words (shape_word refs nums) ≡ 3 + refs + nums
 shape_words refs nums few less = omega (arith, few, less)

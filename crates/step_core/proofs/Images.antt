@@ -42,7 +42,7 @@ pub outside_at : (c : Config) (w : Word) → is_word c w ≡ true → is_image w
 outside_at c w is image = leb-false _ _ (sym (is_image-word_at c w (is_word_true c w is)) ∙ image)
 
 -- what a word of an image reads
-image_reads : (c : Config) (image : List ℕ) (w : Word) → is_word c w ≡ true → is_image w ≡ true → image_view c image w ≡ slice_index image (word_at c w - image_start c)
+pub image_reads : (c : Config) (image : List ℕ) (w : Word) → is_word c w ≡ true → is_image w ≡ true → image_view c image w ≡ slice_index image (word_at c w - image_start c)
 image_reads c image w is in_image =
     cond-true (is_word c w) _ _ is
     ∙ get_or-append_right (replicate (image_start c) 0) image (image_start c) (word_at c w) 0 (length-replicate (image_start c) 0) (image_at c w is in_image)

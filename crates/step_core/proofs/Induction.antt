@@ -3,10 +3,12 @@
 use Rattle.std.proofs.Common.{◌≡◌, ◌≢◌, ℕ, ◌+◌, ◌<◌, ◌⊎◌, inl, inr, ⊎_elim, Bool, true, false, List, [], ◌∷◌, ◌++◌, length, Option, Some, None, refl, sym, ap, ◌∙◌, subst, append_assoc, arith}
 use Rattle.std.specs.Prelude.{◌==◌, nat_lt, slice_get, slice_set, slice_index, if◌then◌else◌}
 use Rattle.std.proofs.lemmas.List.{append-nil, length-set, set-get_or, length-append}
-use Rattle.std.proofs.lemmas.Bool.{and_parts, ltb-true, ltb-false}
+use Rattle.std.proofs.lemmas.Option.{same_Some, slice_get_within}
+use Rattle.std.proofs.lemmas.Bool.{and_parts, lt-ltb, ltb-true, ltb-false}
 use Rattle.heap_words.specs.declared.config.Config.{Config}
 use Rattle.heap_words.specs.Access.{place_of, made_of}
-use Rattle.heap_words.specs.Words.{Word, Answer, is_word, is_image, image_start, view, table_words}
+use Rattle.heap_words.specs.Ranges.{seat_count}
+use Rattle.heap_words.specs.Words.{Word, Free, Answer, is_word, is_image, image_start, view, table_words}
 use Rattle.heap_words.specs.Rows.{name_of}
 use Rattle.steps_base.specs.Touch.{touch, loads, placed, touched}
 use Rattle.steps_base.specs.Steps.{Stage, Event, accessed, moved, act_of, act, go}
@@ -28,22 +30,22 @@ use Rattle.mutator.specs.declared.spot.Spot.TheVariants.{Entering, Waiting}
 use Rattle.mutator.specs.declared.spot.Entered.TheVariants.{Waited}
 use Rattle.mutator.specs.declared.waits.WaitSpot.TheVariants as wait
 use Rattle.mutator.specs.Orders.{takes_at}
-use Rattle.mutator.specs.Rows.{Mutating, touch_of}
+use Rattle.mutator.specs.Rows.{Mutating, touch_at, touch_of}
 use Rattle.mutator.specs.Told.{told_of as settled_by_step}
 use Rattle.mutator.proofs.Orders.{in_call}
 use Rattle.heap_world.specs.World.{World, Plot, hand, Shared}
-use Rattle.heap_world.specs.Change.{Change, IsPause, image_words}
+use Rattle.heap_world.specs.Change.{Change, IsPause, image_view, image_words}
 use Rattle.control_steps.specs.declared.spot.ControlSpot.{ControlSpot}
 use Rattle.control_steps.specs.declared.spot.ControlSpot.TheVariants.{LookLeft, StoreEnd, LookAsked, LookFree, Stopping, LoadWord, StoreWord, Go, Gone}
-use Rattle.control_steps.specs.Rows.{Controlling, control_access, control_touch, control_next}
+use Rattle.control_steps.specs.Rows.{Controlling, control_access, is_gone}
 use Rattle.control_steps.specs.Ready.{is_ready}
 use Rattle.control_steps.proofs.Ready.{stays_ready}
 use Rattle.step_core.specs.Actor.{Machine, mutating, helping, controlling, Actor, entries_of, command_by}
-use Rattle.step_core.specs.Machines.{takes_of, took_of, kind, told_by, told_word}
+use Rattle.step_core.specs.Machines.{takes_of, took_of, kind, told_by, told_storing, HasNumber}
 use Rattle.step_core.specs.History.{told_of_machine, told, history}
 use Rattle.step_core.specs.Settled.{mixed, stored_image, settled, settled_by, image_in, image_of, control_number}
 use Rattle.step_core.specs.Sound.{world_of}
-use Rattle.step_core.specs.Standing.{standing_at, standing_of}
+use Rattle.step_core.specs.Standing.{standing_at, control_standing, standing_of}
 use Rattle.step_core.proofs.Adapter.{owes_stepped}
 use Rattle.step_core.proofs.Facts.{IsThread, IsAim, IsControl, IsMachine, PromisedToMutators, Follows, Owes, AreRead}
 use Rattle.step_core.proofs.Images.{words_after, words_loaded, found-placed, settled_touched, settled_found, image_grows, image_kept}
@@ -55,10 +57,19 @@ use Rattle.step_core.proofs.Pauses as pauses
 use Rattle.step_core.proofs.Places.{each_step}
 use Rattle.step_core.proofs.Polling.{polls_owes}
 use Rattle.step_core.proofs.Reading.{read_owes}
-use Rattle.step_core.proofs.Ready.{order_word}
+use Rattle.step_core.proofs.Ordered.{order_word}
 use Rattle.step_core.proofs.Roles.{machine_there, control_of, number_of}
 use Rattle.step_core.proofs.Spots.{mutator_at}
 use Rattle.step_core.proofs.Storing.{stored_owes}
+
+-- a list with one more at its end
+length-snoc : (xs : List ℕ) (x : ℕ) → length (xs ++ x ∷ []) ≡ length xs + 1
+length-snoc xs x = length-append xs (x ∷ [])
+
+-- an order that the control takes finds it not gone
+not_gone : (b : Bool) → (if b then false else true) ≡ true → b ≡ false
+not_gone true takes = absurd (cc (takes))
+not_gone false takes = refl
 
 -- the handshake is kept in a stage
 abbrev pub IsKept : Config → Stage Actor → Type 0
@@ -108,7 +119,7 @@ module _ (change : Change) (c : Config) (g : Graph) (s : Stage Actor) (past : Li
   not_control = λ e. (let less = below in omega (arith, less, e))
 
   word : is_word c (touch_of c m order).word ≡ true
-  word = order_word c m order thread.mine.seated.below thread.mine.ready takes
+  word = order_word c m.seat m.made m.kept order m.spot thread.mine.seated.below thread.mine.ready takes
 
   -- while an image counts it is outside
   outside_now : (image : List ℕ) → held_image c s ≡ Some image → is_within (standing_at m.spot) ≡ false
@@ -206,16 +217,246 @@ module _ (change : Change) (c : Config) (g : Graph) (s : Stage Actor) (past : Li
   abbrev Goal : Type 0
   Goal = Follows c g (moved (kind change c) s number (record { machine = mutating m; command = command; calls = calls }) order) (past ++ entries_of m.seat (command_by order command) (settled_by_step (settled c s) m))
 
-  -- a poll
-  by_poll : (n : ℕ) (spot : Spot) (o : Order) → n ≡ number → m ≡ mutator_at n m.made m.kept spot → spot ≡ Waiting wait.Poll → o ≡ order → o ≡ Nothing → (image : List ℕ) → held_image c s ≡ Some image → Goal
-  by_poll n spot o number_is m_is polls order_is nothing_is image held = {!!}
+  -- the same at a spot, a number and under an order
+  abbrev At : ℕ → Order → Spot → Type 0
+  At n o spot = Follows c g (moved (kind change c) s n (record { machine = mutating (mutator_at m.seat m.made m.kept spot); command = command; calls = calls }) o)
+      (past ++ entries_of m.seat (command_by o command) (settled_by_step (settled c s) (mutator_at m.seat m.made m.kept spot)))
 
-  follows_mutator : Goal
+  -- it looks for its answer
+  by_poll : m.spot ≡ Waiting wait.Poll → (image : List ℕ) → held_image c s ≡ Some image → Goal
+  by_poll polls image held =
+      let thread = follows.machines number (record { machine = mutating m; command = command; calls = calls }) here in
+      let less : m.seat < c.mutators = thread.mine.seated.below in
+      let nothing : order ≡ Nothing = in_call (Waiting wait.Poll) m.made order refl (subst (λ spot. takes_at spot m.made order ≡ true) polls takes) in
+      let there : slice_get s.machines m.seat ≡ Some (record { machine = mutating (mutator_at m.seat m.made m.kept (Waiting wait.Poll)); command = command; calls = calls }) =
+      ap (slice_get s.machines) thread.number_is ∙ here ∙ ap (λ spot. Some (record { machine = mutating (mutator_at m.seat m.made m.kept spot); command = command; calls = calls })) polls in
+      subst (λ spot. At number order spot) (sym polls)
+      (subst (λ o. At number o (Waiting wait.Poll)) (sym nothing)
+      (subst (λ n. At n Nothing (Waiting wait.Poll)) thread.number_is
+      (follows_poll change c g s past m.seat m.made m.kept command calls follows there image held (λ e. omega (arith, less, e)))))
+
+  pub follows_mutator : Goal
   follows_mutator = by_image (held_image c s) refl
     where
       by_image : (o : Option (List ℕ)) → held_image c s ≡ o → Goal
       by_image None none = follows_plain change c g s past number order m command calls follows shaken here takes (λ image held. absurd (let clash = sym none ∙ held in cc))
       by_image (Some image) held = ⊎_elim
           (λ (outside : is_image (touch_of c m order).word ≡ false). follows_plain change c g s past number order m command calls follows shaken here takes (λ other other_held. outside))
-          (λ (polls : m.spot ≡ Waiting wait.Poll). {!!})
+          (λ (polls : m.spot ≡ Waiting wait.Poll). by_poll polls image held)
           (outside_touch c m.seat m.made m.kept order m.spot (outside_now change c g s past number order m command calls follows shaken here takes image held) takes)
+
+-- A step of the control.
+module _ (change : Change) (law : IsPause change) (c : Config) (g : Graph) (s : Stage Actor) (past : List Entry) (number : ℕ) (k : Controlling) (command : Command) (calls : List Entry)
+    (follows : Follows c g s past) (shaken : IsKept c s) (here : slice_get s.machines number ≡ Some (record { machine = controlling k; command = command; calls = calls })) where
+  abbrev control_before : Actor
+  control_before = record { machine = controlling k; command = command; calls = calls }
+
+  facts : IsControl c s.words (world_of c s follows.block follows.owner (after g past)) number k
+  facts = follows.machines number control_before here
+
+  -- the image that counts is its
+  held_is : held_image c s ≡ stored_image k.spot k.image
+  held_is = ap (λ n. image_of (slice_get s.machines n)) (sym facts.number_is) ∙ ap image_of here
+
+  abbrev words_after_access : List ℕ
+  words_after_access = accessed (control_access c k) s.words
+
+  abbrev control_after : Actor
+  control_after = took_of change c control_before Nothing (slice_index s.words (place_of (control_access c k))) (controlling k)
+
+  -- the world in which an image counts, or none
+  abbrev world_held : Option (List ℕ) → World
+  world_held o = record { memory = settled_by c s.words o; block = follows.block; owner = follows.owner; graph = after g past }
+
+  world_is : world_of c s follows.block follows.owner (after g past) ≡ world_held (stored_image k.spot k.image)
+  world_is = ap world_held held_is
+
+  -- what the control owes is owed as an event
+  from_owes : (settles : List Entry) → Owes c s.words words_after_access (world_held (stored_image k.spot k.image)) past (control_number c) s.machines
+      (settled_by c words_after_access (image_in control_after.machine)) settles control_after → Follows c g (moved (kind change c) s number control_before Nothing) (past ++ settles)
+  unfolding kind
+  from_owes settles owes =
+      let there : image_of (slice_get (slice_set s.machines number control_after) (control_number c)) ≡ image_in control_after.machine =
+      ap (λ n. image_of (slice_get (slice_set s.machines number control_after) n)) (sym facts.number_is) ∙ ap image_of (slice_get-set_same s.machines number control_before control_after here) in
+      follows_owes c g s past number control_before control_after words_after_access settles follows
+      (subst (λ memory. Owes c s.words words_after_access (world_of c s follows.block follows.owner (after g past)) past number s.machines memory settles control_after) (ap (settled_by c words_after_access) (sym there))
+      (subst (λ w. Owes c s.words words_after_access w past number s.machines (settled_by c words_after_access (image_in control_after.machine)) settles control_after) (sym world_is)
+      (subst (λ n. Owes c s.words words_after_access (world_held (stored_image k.spot k.image)) past n s.machines (settled_by c words_after_access (image_in control_after.machine)) settles control_after) (sym facts.number_is) owes)))
+      here (length-set s.words _ _ ∙ follows.words)
+
+  -- what holds of all machines, in that world
+  shared_held : Shared c (world_held (stored_image k.spot k.image))
+  shared_held = subst (λ w. Shared c w) world_is follows.shared
+
+  hands_held : (a more : ℕ) → follows.block a ≡ Some (hand (control_number c) more) → ⊥
+  hands_held a more is = facts.hands a more (subst (λ n. follows.block a ≡ Some (hand n more)) (sym facts.number_is) is)
+
+  known_held : (j : ℕ) (b : Actor) → slice_get s.machines j ≡ Some b → IsMachine c s.words (world_held (stored_image k.spot k.image)) (of_thread past (j + 1)) j b b.machine
+  known_held j b there = subst (λ w. IsMachine c s.words w (of_thread past (j + 1)) j b b.machine) world_is (follows.machines j b there)
+
+  -- in a pause every other machine is outside
+  all_outside : is_pausing (standing_of (controlling k)) ≡ true → (j : ℕ) (b : Actor) → slice_get s.machines j ≡ Some b → j ≢ control_number c → is_within (standing_of b.machine) ≡ false
+  all_outside pausing j b there other =
+      let same : control_before ≡ shaken.control = same_Some control_before shaken.control (sym here ∙ ap (slice_get s.machines) facts.number_is ∙ shaken.there) in
+      let less : j < seat_count c.mutators c.helpers = (let within = slice_get_within s.machines j b there in let seats = follows.seats in omega (arith, within, seats)) in
+      pause_empty c (λ a. standing_of a.machine) s shaken (ap (λ a. is_pausing (standing_of a.machine)) (sym same) ∙ pausing) j b (omega (arith, less, other)) there
+
+-- by its spot
+module _ (change : Change) (law : IsPause change) (c : Config) (g : Graph) (s : Stage Actor) (past : List Entry) (number seen : ℕ) (image : List ℕ) (command : Command) (calls : List Entry)
+    (follows : Follows c g s past) (shaken : IsKept c s) where
+  abbrev control_at : ControlSpot → Controlling
+  control_at spot = record { spot = spot; seen = seen; image = image }
+
+  abbrev Here : ControlSpot → Type 0
+  Here spot = slice_get s.machines number ≡ Some (record { machine = controlling (control_at spot); command = command; calls = calls })
+
+  abbrev ControlGoal : ControlSpot → Type 0
+  ControlGoal spot = Follows c g (moved (kind change c) s number (record { machine = controlling (control_at spot); command = command; calls = calls }) Nothing)
+      (past ++ told_storing c s spot image)
+
+  ready_at : (spot : ControlSpot) → Here spot → is_ready c spot ≡ true
+  ready_at spot here = (facts change law c g s past number (control_at spot) command calls follows shaken here).ready
+
+  -- the word that it finds
+  abbrev got : ControlSpot → ℕ
+  got spot = slice_index s.words (place_of (control_access c (control_at spot)))
+
+  -- a spot outside the image
+  quiet : (spot : ControlSpot) (here : Here spot) → stored_image spot image ≡ None → told_storing c s spot image ≡ []
+      → ((shared : Shared c (pauses.open_world c s.words follows.block follows.owner (after g past))) (hands : (a more : ℕ) → follows.block a ≡ Some (hand (control_number c) more) → ⊥) → is_ready c spot ≡ true
+      → Owes c s.words (accessed (control_access c (control_at spot)) s.words) (pauses.open_world c s.words follows.block follows.owner (after g past)) past (control_number c) s.machines
+          (settled_by c (accessed (control_access c (control_at spot)) s.words) (image_in (control_after change law c g s past number (control_at spot) command calls follows shaken here).machine)) []
+          (control_after change law c g s past number (control_at spot) command calls follows shaken here))
+      → ControlGoal spot
+  quiet spot here none told_none owes =
+      let k = control_at spot in
+      let world_open : world_held change law c g s past number k command calls follows shaken here (stored_image spot image) ≡ pauses.open_world c s.words follows.block follows.owner (after g past) =
+      ap (world_held change law c g s past number k command calls follows shaken here) none in
+      subst (λ es. Follows c g (moved (kind change c) s number (record { machine = controlling k; command = command; calls = calls }) Nothing) (past ++ es)) (sym told_none)
+      (from_owes change law c g s past number k command calls follows shaken here []
+      (subst (λ w. Owes c s.words (accessed (control_access c k) s.words) w past (control_number c) s.machines
+          (settled_by c (accessed (control_access c k) s.words) (image_in (control_after change law c g s past number k command calls follows shaken here).machine)) []
+          (control_after change law c g s past number k command calls follows shaken here)) (sym world_open)
+      (owes (subst (λ w. Shared c w) world_open (shared_held change law c g s past number k command calls follows shaken here)) (hands_held change law c g s past number k command calls follows shaken here) (ready_at spot here))))
+
+  -- a word of the image that is loaded
+  load_word : (index : ℕ) → Here (LoadWord index) → ControlGoal (LoadWord index)
+  load_word index here =
+      let k = control_at (LoadWord index) in
+      let known = facts change law c g s past number k command calls follows shaken here in
+      let same_words : accessed (control_access c k) s.words ≡ s.words = set-get_or s.words (image_start c + index) 0 in
+      quiet (LoadWord index) here refl refl (λ shared hands ready.
+      subst (λ ws. Owes c s.words ws (pauses.open_world c s.words follows.block follows.owner (after g past)) past (control_number c) s.machines
+          (settled_by c ws (image_in (control_after change law c g s past number k command calls follows shaken here).machine)) []
+          (control_after change law c g s past number k command calls follows shaken here)) (sym same_words)
+      (by_last shared hands (nat_lt (index + 1) (image_words c)) refl known.aims))
+    where
+      abbrev open : World
+      open = pauses.open_world c s.words follows.block follows.owner (after g past)
+
+      abbrev word : ℕ
+      word = slice_index s.words (image_start c + index)
+
+      abbrev after_word : Bool → Actor
+      after_word b = record {
+        machine = controlling (record {
+          spot = if b then LoadWord (index + 1) else StoreWord 0;
+          seen = if b then seen else image_view c (change c (image ++ word ∷ [])) Free;
+          image = if b then image ++ word ∷ [] else change c (image ++ word ∷ []);
+        });
+        command = command;
+        calls = calls ++ [];
+      }
+
+      by_last : Shared c open → ((a more : ℕ) → follows.block a ≡ Some (hand (control_number c) more) → ⊥) → (b : Bool) → nat_lt (index + 1) (image_words c) ≡ b → (length image ≡ index) × AreRead c s.words image index
+          → Owes c s.words s.words open past (control_number c) s.machines (settled_by c s.words (image_in (after_word b).machine)) [] (after_word b)
+      by_last shared hands true more known =
+          read_owes c s.words follows.block follows.owner (after g past) past s.machines command calls
+          (record { spot = LoadWord (index + 1); seen = seen; image = image ++ word ∷ [] }) shared follows.promised_to hands more
+          (length-snoc image word ∙ ap (λ n. n + 1) known.0, image_grows c s.words image index known.0 known.1) refl
+      by_last shared hands false all known =
+          let less : index + 1 ≡ image_words c = (let last = ltb-false _ _ all in let ready = ltb-true _ _ (ready_at (LoadWord index) here) in omega (arith, last, ready)) in
+          paused_owes c s.words follows.block follows.owner (after g past) past s.machines (image ++ word ∷ [])
+          (λ i below. image_grows c s.words image index known.0 known.1 i (omega (arith, below, less))) follows.seats change law
+          (length-snoc image word ∙ ap (λ n. n + 1) known.0 ∙ less) shared follows.promised_to follows.no_more
+          (known_held change law c g s past number (control_at (LoadWord index)) command calls follows shaken here)
+          (all_outside change law c g s past number (control_at (LoadWord index)) command calls follows shaken here refl)
+          (image_view c (change c (image ++ word ∷ [])) Free) command calls
+
+  -- a word of the new image that is stored
+  store_word : (index : ℕ) → Here (StoreWord index) → ControlGoal (StoreWord index)
+  store_word index here =
+      let k = control_at (StoreWord index) in
+      let known = facts change law c g s past number k command calls follows shaken here in
+      from_owes change law c g s past number k command calls follows shaken here (told_storing c s (StoreWord index) image)
+      (stored_owes change c s.words follows.block follows.owner (after g past) past s.machines image index seen command calls known.ready follows.words known.aims.0 known.aims.1 follows.seats
+      (shared_held change law c g s past number k command calls follows shaken here) follows.promised_to (hands_held change law c g s past number k command calls follows shaken here)
+      (known_held change law c g s past number k command calls follows shaken here))
+
+  -- wherever it stands
+  by_spot : (spot : ControlSpot) → is_gone spot ≡ false → Here spot → ControlGoal spot
+  by_spot LookLeft going here = quiet LookLeft here refl refl (λ shared hands ready.
+      pauses.look_left c s.words follows.block follows.owner (after g past) past s.machines command calls change seen (got LookLeft) image follows.words shared follows.promised_to hands ready)
+  by_spot StoreEnd going here = quiet StoreEnd here refl refl (λ shared hands ready.
+      pauses.store_end c s.words follows.block follows.owner (after g past) past s.machines command calls change seen (got StoreEnd) image follows.words shared follows.promised_to hands ready)
+  by_spot LookAsked going here = quiet LookAsked here refl refl (λ shared hands ready.
+      pauses.look_asked c s.words follows.block follows.owner (after g past) past s.machines command calls change seen (got LookAsked) image follows.words shared follows.promised_to hands ready)
+  by_spot LookFree going here = quiet LookFree here refl refl (λ shared hands ready.
+      pauses.look_free c s.words follows.block follows.owner (after g past) past s.machines command calls change seen (got LookFree) image follows.words shared follows.promised_to hands ready)
+  by_spot (Stopping stop.Raise) going here = quiet (Stopping stop.Raise) here refl refl (λ shared hands ready.
+      pauses.raise_pause c s.words follows.block follows.owner (after g past) past s.machines command calls change seen (got (Stopping stop.Raise)) image follows.words shared follows.promised_to hands ready)
+  by_spot (Stopping (stop.Check seat)) going here = quiet (Stopping (stop.Check seat)) here refl refl (λ shared hands ready.
+      pauses.check_seat c s.words follows.block follows.owner (after g past) past s.machines command calls change seen (got (Stopping (stop.Check seat))) image follows.words shared follows.promised_to hands seat ready)
+  by_spot (Stopping stop.Stopped) going here = absurd (let ready = ready_at (Stopping stop.Stopped) here in cc (ready))
+  by_spot (LoadWord index) going here = load_word index here
+  by_spot (StoreWord index) going here = store_word index here
+  by_spot Go going here = quiet Go here refl refl (λ shared hands ready.
+      pauses.let_go c s.words follows.block follows.owner (after g past) past s.machines command calls change seen (got Go) image follows.words shared follows.promised_to hands ready)
+  by_spot Gone going here = absurd (cc (going))
+
+-- an event of a machine, by its role
+follows_order : (change : Change) → IsPause change → (c : Config) (g : Graph) (s : Stage Actor) (past : List Entry) (number : ℕ) (order : Order) (command : Command) (calls : List Entry) (machine : Machine)
+    → slice_get s.machines number ≡ Some (record { machine = machine; command = command; calls = calls })
+    → takes_of machine order ≡ true → Follows c g s past → IsKept c s
+    → Follows c g (moved (kind change c) s number (record { machine = machine; command = command; calls = calls }) order)
+    (past ++ told_by c s (record { machine = machine; command = command; calls = calls }) order machine)
+follows_order change law c g s past number order command calls (mutating m) here takes follows shaken = follows_mutator change c g s past number order m command calls follows shaken here takes
+follows_order change law c g s past number order command calls (helping h) here takes follows shaken = absurd (cc (takes))
+follows_order change law c g s past number Nothing command calls (controlling k) here takes follows shaken =
+    by_spot change law c g s past number k.seen k.image command calls follows shaken k.spot (not_gone (is_gone k.spot) takes) here
+follows_order change law c g s past number (Begin begun) command calls (controlling k) here takes follows shaken = absurd (cc (takes))
+follows_order change law c g s past number End command calls (controlling k) here takes follows shaken = absurd (cc (takes))
+
+-- both hold of a stage
+pub record Goes (c : Config) (g : Graph) (s : Stage Actor) (past : List Entry) : Type 0 where
+  pub follows : Follows c g s past
+  pub shaken : IsKept c s
+
+-- an event, of a machine that is there or not
+pub goes_event : (change : Change) → IsPause change → (c : Config) (g : Graph) (s : Stage Actor) (past : List Entry) (e : Event Order) → Goes c g s past → Goes c g (act (kind change c) s e) (past ++ told c s e)
+unfolding act told kind
+goes_event change law c g s past e goes = record {
+  follows = by_machine (slice_get s.machines e.number) refl;
+  shaken = shaken_step c (kind change c) (λ a. standing_of a.machine) s e goes.shaken
+      (λ a is. machine_obeys change c s.words (world_of c s goes.follows.block goes.follows.owner (after g past)) (of_thread past (e.number + 1)) e.number a e.order a.machine is.takes (goes.follows.machines e.number a is.here));
+}
+  where
+    same : Follows c g s (past ++ [])
+    same = subst (λ es. Follows c g s es) (sym (append-nil past)) goes.follows
+
+    by_order : (a : Actor) (b : Bool) → slice_get s.machines e.number ≡ Some a → takes_of a.machine e.order ≡ b
+        → Follows c g (if b then moved (kind change c) s e.number a e.order else s) (past ++ (if b then told_by c s a e.order a.machine else []))
+    by_order a true here takes = follows_order change law c g s past e.number e.order a.command a.calls a.machine here takes goes.follows goes.shaken
+    by_order a false here takes = same
+
+    by_machine : (o : Option Actor) → slice_get s.machines e.number ≡ o → Follows c g (act_of (kind change c) s e o) (past ++ told_of_machine c s e o)
+    by_machine None here = same
+    by_machine (Some a) here = by_order a (takes_of a.machine e.order) here refl
+
+-- a run
+pub goes_run : (change : Change) → IsPause change → (c : Config) (g : Graph) (s : Stage Actor) (past : List Entry) (es : List (Event Order)) → Goes c g s past → Goes c g (go (kind change c) s es) (past ++ history change c s es)
+unfolding go history
+goes_run change law c g s past [] goes = subst (λ h. Goes c g s h) (sym (append-nil past)) goes
+goes_run change law c g s past (e ∷ es) goes =
+    subst (λ h. Goes c g (go (kind change c) (act (kind change c) s e) es) h) (append_assoc past (told c s e) (history change c (act (kind change c) s e) es))
+    (goes_run change law c g (act (kind change c) s e) (past ++ told c s e) es (goes_event change law c g s past e goes))

@@ -1,26 +1,8 @@
-mod Stable
-mod Settling
-mod Naming
-mod Loading
-mod InHand
-mod Spots
-mod Calls
-mod Loads
-mod Fields
-mod RootStores
-mod Stores
-mod Ready
-mod Takes
-mod Fresh
-mod Places
 pub mod Facts
-mod Roles
-mod Entries
-mod Owing
-mod Roots
-mod Beginning
-pub mod Induction
-pub mod OpeningStands
-pub mod FirstFacts
-pub mod NoFull
-pub mod Theorem
+pub mod Spots
+pub mod Ordered
+pub mod Images
+pub mod Asked
+pub mod Refusing
+pub mod Outside
+pub mod Within

@@ -134,7 +134,7 @@ refused_quiet c w seat made kept command fixed (Waiting wait.AskRoom) full mine 
 refused_quiet c w seat made kept command fixed (Waiting wait.StepOut) full mine = (refl, refl)
 refused_quiet c w seat made kept command fixed (Waiting wait.Poll) full mine = (refl, refl)
 refused_quiet c w seat made kept command fixed (Waiting wait.LoadAnswer) full mine = (refl, refl)
-refused_quiet c w seat made kept command fixed (Waiting (wait.StoreRoot address)) full mine = absurd (let more = mine.facts.1.1 in omega (arith, full, more))
+refused_quiet c w seat made kept command fixed (Waiting (wait.StoreRoot address)) full mine = absurd (let more = mine.facts.0.1.1 in omega (arith, full, more))
 refused_quiet c w seat made kept command fixed (Waiting (wait.ClearAnswer reply)) full mine = (refl, refl)
 refused_quiet c w seat made kept command fixed (Entering at then_on) full mine = (refl, refl)
 refused_quiet c w seat made kept command fixed _ full mine = absurd (let none = (mine.seated.unasked refl).1 in omega (arith, full, none))

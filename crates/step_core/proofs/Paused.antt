@@ -1,7 +1,7 @@
 -- The step by which the control has read the last word of an image: the new image counts from here on, all at once, and each machine
 -- is where it should be in it.
 use Rattle.std.proofs.Common.{◌≡◌, ◌≢◌, ℕ, ◌+◌, ◌<◌, ◌≤◌, ◌⊎◌, inl, inr, ⊎_elim, Bool, true, false, List, [], ◌∷◌, ◌++◌, length, Option, Some, None, refl, sym, ap, ◌∙◌, subst, arith}
-use Rattle.std.specs.Prelude.{◌==◌, slice_get, slice_index, if◌then◌else◌}
+use Rattle.std.specs.Prelude.{◌*◌, ◌-◌, ◌==◌, sum_by, slice_get, slice_index, if◌then◌else◌}
 use Rattle.std.proofs.lemmas.Bool.{false≢true, lt-ltb}
 use Rattle.std.proofs.lemmas.List.{append-nil, length-append}
 use Rattle.std.proofs.lemmas.List.Elements.{All-nil}
@@ -17,7 +17,8 @@ use Rattle.shen_graph.specs.declared.command.Command.TheVariants.{Gc}
 use Rattle.shen_graph.specs.declared.command.Reply.{Reply}
 use Rattle.shen_graph.specs.declared.command.Reply.TheVariants.{Full}
 use Rattle.shen_graph.specs.Crowd.{words_asked}
-use Rattle.shen_graph.specs.Graph.{Graph}
+use Rattle.shen_graph.specs.Graph.{Graph, named}
+use Rattle.shen_graph.specs.Reach.{size}
 use Rattle.shen_graph.specs.History.{Entry, of_thread}
 use Rattle.handshake.specs.declared.enter_spot.EnterSpot.{EnterSpot}
 use Rattle.handshake.specs.declared.enter_spot.EnterSpot.TheVariants as enter
@@ -46,7 +47,7 @@ use Rattle.step_core.specs.Standing.{standing_at, standing_of}
 use Rattle.step_core.specs.Stepped.{IsMaking, IsRefused, IsPolling, IsAnswered, SpotFacts, Mine}
 use Rattle.step_core.specs.Threads.{IsSettled}
 use Rattle.step_core.proofs.Facts.{IsSeen, IsShort, AreRead, IsThread, IsMachine, PromisedToMutators, Owes, words_promised}
-use Rattle.step_core.proofs.Asked.{asking_by, asking_asks, asking_refused, asking_given, asking_at, asking_in, asking_of, polling_asked, answered_asked, nothing_then, refused_then, given_then, asks_then, promised_given}
+use Rattle.step_core.proofs.Asked.{asking_by, asking_asks, asking_refused, asking_given, asking_at, asking_in, asking_of, asked_same, polling_asked, answered_asked, nothing_then, refused_then, given_then, asks_then, promised_given}
 use Rattle.step_core.proofs.Images.{mixed_whole}
 use Rattle.step_core.proofs.Pauses.{open_world}
 use Rattle.step_core.proofs.Roles.{full_settled, machine_there, mutator_there}
@@ -278,7 +279,7 @@ module _ (c : Config) (words : List ℕ) (block : Plot) (owner : ℕ → Option 
             (subst (λ j. Points block (view c words (Root j i)) (g.root (j + 1) i)) thread.number_is
             (subst (λ word. Points block word (g.root (m.seat + 1) i)) (root_outside before m.seat m.kept m.spot i out) (thread.mine.roots i small)));
         none = no_hands shared known outside;
-        asked = λ t below. subst (λ memory. IsAsked memory block g.count t (asking t)) whole (asked_there known outside t below);
+        asked = λ t below. asked_same (mixed c words image) (image_view c image) block g.count t (asking t) refl refl (λ a. refl) (subst (λ memory. IsAsked memory block g.count t (asking t)) whole (asked_there known outside t below));
         promised_to = promised_to;
         no_more = no_more;
       }
@@ -293,10 +294,15 @@ module _ (c : Config) (words : List ℕ) (block : Plot) (owner : ℕ → Option 
     abbrev then_world : World
     then_world = record { memory = mixed c words (change c image); block = paused.stands.block; owner = paused.stands.owner; graph = g }
 
+    -- what each mutator has asked for stands in its words
+    asked_in_it : (t : ℕ) → t < c.mutators → IsAsked then_world.memory paused.stands.block g.count t (paused.asked_then t)
+    asked_in_it t below =
+        asked_same (image_view c (change c image)) then_world.memory paused.stands.block g.count t (paused.asked_then t) refl refl (λ a. refl) (paused.stands.asked t below)
+
     -- the words that are promised then
     promised_sum : (t : ℕ) → sum_below (λ v. if v == t then 0 else words_given (paused.asked_then v)) c.mutators ≡ sum_below (λ v. if v == t then 0 else words_promised then_world.memory v) c.mutators
     promised_sum t = sum_same _ _ c.mutators (λ v below.
-        ap (λ n. if v == t then 0 else n) (sym (promised_given then_world.memory paused.stands.block g.count v (paused.asked_then v) (paused.stands.asked v below))))
+        ap (λ n. if v == t then 0 else n) (sym (promised_given then_world.memory paused.stands.block g.count v (paused.asked_then v) (asked_in_it v below))))
 
     -- who is refused is crowded out
     crowded_then : (t : ℕ) → t < c.mutators → (refs nums : ℕ) → asking t ≡ asks refs nums → paused.asked_then t ≡ refused → IsShort c then_world.memory g t (3 + refs + nums)
@@ -311,7 +317,7 @@ module _ (c : Config) (words : List ℕ) (block : Plot) (owner : ℕ → Option 
         let below : k < c.mutators = subst (λ j. j < c.mutators) thread.number_is thread.mine.seated.below in
         let asks_so : asking k ≡ asking_at m.spot (view c words (Answer k)) m.kept.command = ap (λ o. asking_of o (view c words (Answer k))) there ∙ ap (λ machine. asking_in machine (view c words (Answer k))) is in
         subst (λ j. IsThread c words then_world (of_thread past (k + 1)) k b (mutator_at j m.made m.kept m.spot)) (sym thread.number_is)
-        (thread_then c words before then_world k m.made m.kept b (paused.asked_then k) (paused.stands.asked k below) refl (λ i small. paused.stands.roots k i below small) (λ a more. paused.stands.none a k more)
+        (thread_then c words before then_world k m.made m.kept b (paused.asked_then k) (asked_in_it k below) refl (λ i small. paused.stands.roots k i below small) (λ a more. paused.stands.none a k more)
         (of_thread past (k + 1)) refl (λ refs nums asks_by. crowded_then k below refs nums (asks_so ∙ asks_by)) m.spot out
         (subst (λ y. Answers y (paused.asked_then k)) asks_so (paused.answers k below))
         (subst (λ j. IsThread c words before (of_thread past (k + 1)) k b (mutator_at j m.made m.kept m.spot)) thread.number_is thread))

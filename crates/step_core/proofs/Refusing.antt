@@ -37,7 +37,7 @@ module _ (c : Config) (w : World) (seat made : ℕ) (kept : Kept) (command : Com
       by_facts : SpotFacts c w seat made kept command None (Waiting wait.LoadAnswer) → ⊥
       by_facts (inl has) = (let more = has.1.1 in omega (arith, full, more))
       by_facts (inr is) = (let settled = is.0.settled in cc)
-  polls (Waiting (wait.StoreRoot address)) mine = absurd (let more = mine.facts.1.1 in omega (arith, full, more))
+  polls (Waiting (wait.StoreRoot address)) mine = absurd (let more = mine.facts.0.1.1 in omega (arith, full, more))
   polls (Waiting (wait.ClearAnswer reply)) mine = absurd (let settled = mine.facts.0 in cc)
   polls (Entering at Waited) mine = absurd (by_facts mine.facts)
     where

@@ -22,20 +22,16 @@ use Rattle.mutator.specs.Rows.{Mutating}
 use Rattle.heap_world.specs.World.{World, hand, Points, Shared}
 use Rattle.heap_world.specs.Asking.{IsAsked, nothing}
 use Rattle.heap_world.specs.Rely.{Rely}
-<<<<<<< HEAD
 use Rattle.control_steps.specs.declared.spot.ControlSpot.{ControlSpot}
 use Rattle.control_steps.specs.declared.spot.ControlSpot.TheVariants.{LookLeft}
 use Rattle.control_steps.specs.Rows.{Controlling}
 use Rattle.control_steps.specs.Ready.{is_ready}
-=======
-use Rattle.heap_world.specs.Asking.{nothing, IsAsked}
->>>>>>> origin/world
 use Rattle.step_core.specs.Actor.{Machine, mutating, helping, controlling, Actor, fresh_helper}
 use Rattle.step_core.specs.Machines.{HasNumber, IsIdle}
 use Rattle.step_core.specs.Stepped.{Mine}
 use Rattle.step_core.proofs.Facts.{IsSeen, IsShort, IsThread, IsAim, IsMachine, words_promised}
 use Rattle.step_core.proofs.Spots.{mutator_at}
-use Rattle.step_core.proofs.Ready.{rest_ready}
+use Rattle.step_core.proofs.Ordered.{rest_ready}
 use Rattle.step_core.proofs.Stable.{mine_stays}
 
 -- what counts of answers and of the graph is the same in two worlds
@@ -71,22 +67,22 @@ full_settled raw now fixed seen same full unsettled = ⊎_elim
 
 pub machine_stays : (c : Config) (words words_then : List ℕ) (u w : World) (entries more : List Entry) (k : ℕ) (b : Actor) (machine : Machine) → Shared c u
     → StaysWith c words words_then u w k machine → more ≡ entries → IsMachine c words u entries k b machine → IsMachine c words_then w more k b machine
-machine_stays c words words_then u w entries more k b (mutating n) shared with same is = record {
+machine_stays c words words_then u w entries more k b (mutating n) shared stays same is = record {
   fixed = is.fixed;
   number_is = is.number_is;
   valid = is.valid;
-  mine = mine_stays c u w n b.command is.fixed shared (subst (λ j. Rely j u w) (sym is.number_is) with.rely) is.mine;
-  seen = seen_stays _ _ _ _ is.fixed with.answer with.rely.answer is.seen;
+  mine = mine_stays c u w n b.command is.fixed shared (subst (λ j. Rely j u w) (sym is.number_is) stays.rely) is.mine;
+  seen = seen_stays _ _ _ _ is.fixed stays.answer stays.rely.answer is.seen;
   short = λ full unsettled. ⊎_elim
-      (λ (whole : view c words (Answer k) ≡ u.memory (Answer k)). absurd (full_settled _ _ is.fixed is.seen whole (sym with.rely.answer ∙ full) unsettled))
-      (λ (counts : CountsTheSame u w). short_stays c u w k (words_asked (Some b.command)) counts (is.short (sym with.rely.answer ∙ full) unsettled))
-      with.counts;
+      (λ (whole : view c words (Answer k) ≡ u.memory (Answer k)). absurd (full_settled _ _ is.fixed is.seen whole (sym stays.rely.answer ∙ full) unsettled))
+      (λ (counts : CountsTheSame u w). short_stays c u w k (words_asked (Some b.command)) counts (is.short (sym stays.rely.answer ∙ full) unsettled))
+      stays.counts;
   entries_are = same ∙ is.entries_are;
 }
-machine_stays c words words_then u w entries more k b (helping h) shared with same is =
-    record { least = is.least; below = is.below; hands = λ a more is_hand. is.hands a more (with.rely.no_hands a more is_hand) }
-machine_stays c words words_then u w entries more k b (controlling h) shared with same is =
-    record { number_is = is.number_is; hands = λ a more is_hand. is.hands a more (with.rely.no_hands a more is_hand); ready = is.ready; aims = with.aims h refl is.aims }
+machine_stays c words words_then u w entries more k b (helping h) shared stays same is =
+    record { least = is.least; below = is.below; hands = λ a more is_hand. is.hands a more (stays.rely.no_hands a more is_hand) }
+machine_stays c words words_then u w entries more k b (controlling h) shared stays same is =
+    record { number_is = is.number_is; hands = λ a more is_hand. is.hands a more (stays.rely.no_hands a more is_hand); ready = is.ready; aims = stays.aims h refl is.aims }
 
 -- a machine has a number of its role
 pub number_of : (c : Config) (words : List ℕ) (w : World) (entries : List Entry) (k : ℕ) (b : Actor) (machine : Machine) → IsMachine c words w entries k b machine → HasNumber c k machine
@@ -100,7 +96,6 @@ mutator_of c k (mutating m) number below = (m, refl)
 mutator_of c k (helping h) number below = absurd (omega (arith, number.0, below))
 mutator_of c k (controlling h) number below = absurd (omega (arith, number, below))
 
-<<<<<<< HEAD
 -- and that of the control's number is the control
 pub control_of : (c : Config) (machine : Machine) → HasNumber c (c.mutators + c.helpers) machine → (k : Controlling) × (machine ≡ controlling k)
 control_of c (mutating m) number = absurd (omega (arith, number.1))
@@ -122,23 +117,6 @@ pub machine_begins : (c : Config) (words : List ℕ) (w : World) (k : ℕ) (b : 
     → is_valid b.command ≡ true → ((t i : ℕ) → t < c.mutators → i < 16 → Points w.block (w.memory (Root t i)) (w.graph.root (t + 1) i)) → ((a seat words : ℕ) → w.block a ≡ Some (hand seat words) → ⊥)
     → ((t : ℕ) → t < c.mutators → IsAsked w.memory w.block w.graph.count t nothing) → IsMachine c words w [] k b machine
 machine_begins c words w k b (mutating m) whole number idle calls valid roots none asked =
-=======
--- what a mutator counts on between two calls
-rest_mine : (c : Config) (w : World) (seat made : ℕ) (kept : Kept) (command : Command) (spot : Spot) → is_between_calls spot ≡ true → seat < c.mutators → w.graph.count (seat + 1) ≡ made
-    → IsAsked w.memory w.block w.graph.count seat nothing → ((i : ℕ) → i < 16 → Points w.block (w.memory (Root seat i)) (w.graph.root (seat + 1) i)) → ((a words : ℕ) → w.block a ≡ Some (hand seat words) → ⊥)
-    → Mine c w (mutator_at seat made kept spot) command None
-rest_mine c w seat made kept command Rest rest below counted asked roots none =
-    record { seated = record { below = below; counted = counted; unasked = λ calm. asked }; ready = refl; roots = roots; hands = none; facts = refl }
-rest_mine c w seat made kept command (Ended r) rest below counted asked roots none =
-    record { seated = record { below = below; counted = counted; unasked = λ calm. asked }; ready = refl; roots = roots; hands = none; facts = refl }
-rest_mine c w seat made kept command _ rest below counted asked roots none = absurd cc
-
--- an idle machine that has ended no call, in a world in which nobody has room in hand or has asked for an object
-pub machine_begins : (c : Config) (w : World) (k : ℕ) (b : Actor) (machine : Machine) → HasNumber c k machine → IsIdle w.graph k machine → b.calls ≡ [] → is_valid b.command ≡ true
-    → ((t i : ℕ) → t < c.mutators → i < 16 → Points w.block (w.memory (Root t i)) (w.graph.root (t + 1) i)) → ((a seat words : ℕ) → w.block a ≡ Some (hand seat words) → ⊥)
-    → ((t : ℕ) → t < c.mutators → IsAsked w.memory w.block w.graph.count t nothing) → IsMachine c w [] k b machine
-machine_begins c w k b (mutating m) number idle calls valid roots none asked =
->>>>>>> origin/world
     let below : m.seat < c.mutators = subst (λ j. j < c.mutators) (sym number.0) number.1 in
     let unasked = asked k number.1 in
     record {
@@ -146,7 +124,6 @@ machine_begins c w k b (mutating m) number idle calls valid roots none asked =
       number_is = number.0;
       valid = valid;
       mine = rest_mine c w m.seat m.made m.kept b.command m.spot idle.1 below (subst (λ j. w.graph.count (j + 1) ≡ m.made) (sym number.0) idle.0)
-<<<<<<< HEAD
           (λ i small. roots m.seat i below small) (λ a words is. none a m.seat words is) (asked m.seat below);
       seen = record {
         null = λ now. ap (λ memory. memory (Answer k)) whole ∙ now;
@@ -159,13 +136,6 @@ machine_begins c w k b (mutating m) number idle calls valid roots none asked =
 machine_begins c words w k b (helping h) whole number idle calls valid roots none asked = record { least = number.0; below = number.1; hands = λ a more is. none a k more is }
 machine_begins c words w k b (controlling h) whole number idle calls valid roots none asked =
     record { number_is = number; hands = λ a more is. none a k more is; ready = subst (λ spot. is_ready c spot ≡ true) (sym idle.0) refl; aims = subst (λ spot. IsAim c words spot h.image) (sym idle.0) tt }
-=======
-          (asked m.seat below) (λ i small. roots m.seat i below small) (λ a words is. none a m.seat words is);
-      entries_are = sym (append-nil b.calls ∙ calls);
-    }
-machine_begins c w k b (helping h) number idle calls valid roots none asked = record { least = number.0; below = number.1; hands = λ a words is. none a k words is }
-machine_begins c w k b (controlling h) number idle calls valid roots none asked = record { number_is = number; hands = λ a words is. none a k words is }
->>>>>>> origin/world
 
 -- The machines of a stage, by their numbers.
 module _ (c : Config) (words : List ℕ) (w : World) (past : List Entry) (machines : List Actor) (seats : length machines ≡ seat_count c.mutators c.helpers) where

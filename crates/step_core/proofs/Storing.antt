@@ -222,13 +222,13 @@ module _ (change : Change) (c : Config) (words : List ℕ) (block : Plot) (owner
       -- the two cases
       by_test : (b : Actor) (m : Mutating) → slice_get machines t ≡ Some b → b.machine ≡ mutating m → IsThread c words u (of_thread past (t + 1)) t b m
           → (q : Bool) → ((raw == 0) && (value == 1)) ≡ q → Stored (entries_of t b.command (if q then Some Full else None))
-      by_test b m there is thread false no = quiet_store (λ k d other there_k known_k. ⊎_elim
+      by_test b m there is thread false not_both = quiet_store (λ k d other there_k known_k. ⊎_elim
           (λ (same : k ≡ t).
           let one : d ≡ b = same_Some d b (sym there_k ∙ ap (slice_get machines) same ∙ there) in
           subst (λ j. IsMachine c words_then u (of_thread (past ++ []) (j + 1)) j d d.machine) (sym same)
           (subst (λ a. IsMachine c words_then u (of_thread (past ++ []) (t + 1)) t a a.machine) (sym one)
           (subst (λ machine. IsMachine c words_then u (of_thread (past ++ []) (t + 1)) t b machine) (sym is)
-          (thread_then b m (λ both. false≢true (sym no ∙ and_from _ _ (eq-eqb raw 0 both.0) (eq-eqb value 1 both.1))) thread))))
+          (thread_then b m (λ both. false≢true (sym not_both ∙ and_from _ _ (eq-eqb raw 0 both.0) (eq-eqb value 1 both.1))) thread))))
           (λ (differs : k ≡ t → ⊥). other_then [] k d other (same_entries k) (other_answer k differs) shared known_k)
           (cases_eq k t))
       by_test b m there is thread true yes_so =

@@ -123,7 +123,7 @@ may_begin _ = false
 
 -- where its step that finds this word says that it waits
 abbrev pub WaitsIn : Config → Machine → ℕ → Type 0
-WaitsIn c (mutating m) got = WaitsAt c m.spot got
+WaitsIn c (mutating m) got = WaitsAt m.spot got
 WaitsIn c (helping h) got = ⊥
 WaitsIn c (controlling k) got = control.WaitsAt c k got
 
