@@ -13,7 +13,7 @@ use Rattle.steps_base.specs.Steps.{Kind, Stage, Event, act, go, accessed}
 use Rattle.steps_base.proofs.Runs.{go-none, go-first}
 use Rattle.steps_base.proofs.Laws.{act_cases}
 use Rattle.handshake.specs.Obeys.{is_load}
-use Rattle.handshake.specs.Left.{Ends, LeavesCount, EventCounts, EachCounts, IsCounted}
+use Rattle.handshake.specs.Left.{Counts, EventCounts, EachCounts, IsCounted}
 use Rattle.handshake.proofs.Words.{accessed-load}
 
 -- what a machine adds to the count
@@ -70,7 +70,7 @@ module _ {R : Type 0} (c : Config) (left : R → Bool) (s : Stage R) (counted : 
   })
 
   -- a step that counts keeps the count
-  pub counts_step : (access : Access) (next : ℕ → Bool) (got : ℕ) → Ends c (left old) access next ⊎ LeavesCount c (left old) access next → left new ≡ next got → IsStep access
+  pub counts_step : (access : Access) (next : ℕ → Bool) (got : ℕ) → Counts c (left old) access next → left new ≡ next got → IsStep access
   counts_step access next got (inl ends) is = one_less access ends.access_is ends.was_left (is ∙ ends.has_ended got)
   counts_step access next got (inr leaves) is = same_count access (unwritten leaves.not_written) (is ∙ leaves.same got)
     where

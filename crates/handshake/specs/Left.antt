@@ -19,10 +19,13 @@ pub record LeavesCount (c : Config) (before : Bool) (access : Access) (after : �
   pub not_written : (is_load access ≡ true) ⊎ (place_of access ≢ word_at c Left)
   pub same : (got : ℕ) → after got ≡ before
 
--- what an event has to obey, if it is one
+-- what a step has to obey: by its access, and by whether its machine is a mutator that has not ended before and after it
+abbrev pub Counts : Config → Bool → Access → (ℕ → Bool) → Type 0
+Counts c before access after = Ends c before access after ⊎ LeavesCount c before access after
+
+-- an event does so, if it is one
 abbrev pub EventCounts : {R O : Type 0} → Config → Kind R O → (R → Bool) → Stage R → Event O → Type 0
-EventCounts {R} c kind left s e = (r : R) → IsEvent kind s e r
-    → Ends c (left r) (kind.plan r e.order) (λ got. left (kind.took r e.order got)) ⊎ LeavesCount c (left r) (kind.plan r e.order) (λ got. left (kind.took r e.order got))
+EventCounts {R} c kind left s e = (r : R) → IsEvent kind s e r → Counts c (left r) (kind.plan r e.order) (λ got. left (kind.took r e.order got))
 
 -- each event of a run does so, where it is made
 abbrev pub EachCounts : {R O : Type 0} → Config → Kind R O → (R → Bool) → Stage R → List (Event O) → Type 0
