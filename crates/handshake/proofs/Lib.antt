@@ -3,3 +3,4 @@ pub mod Steps
 pub mod Shaking
 pub mod Still
 pub mod Parts
+pub mod Counting

@@ -1,12 +1,12 @@
 -- The rows obey, and what a user of them needs: accesses elsewhere, and a next spot that stands as another.
-use Rattle.std.proofs.Common.{◌≡◌, ◌≢◌, ℕ, ◌≤◌, Bool, true, false, refl, sym, ap, ◌∙◌, arith, inl, inr}
+use Rattle.std.proofs.Common.{◌≡◌, ◌≢◌, ℕ, ◌≤◌, Bool, true, false, refl, sym, ap, ◌∙◌, subst, arith, inl, inr}
 use Rattle.std.specs.Prelude.{nat_eq, if◌then◌else◌}
-use Rattle.std.proofs.lemmas.Bool.{cond-false, ne_eqb}
+use Rattle.std.proofs.lemmas.Bool.{cond-false, ne_eqb, leb-true}
 use Rattle.heap_words.specs.declared.config.Config.{Config}
 use Rattle.heap_words.specs.declared.access.Access.{Access}
 use Rattle.heap_words.specs.Access.{place_of}
-use Rattle.heap_words.specs.Words.{Word, Pause, State, IsWord, word_at, image_start}
-use Rattle.heap_words.proofs.Rows.{words_differ}
+use Rattle.heap_words.specs.Words.{Word, Pause, Left, State, IsWord, is_image, word_at, image_start}
+use Rattle.heap_words.proofs.Rows.{words_differ, is_image-word_at}
 use Rattle.steps_base.specs.Touch.{Touch, placed}
 use Rattle.steps_base.proofs.Touches.{place_of-access_at}
 use Rattle.handshake.specs.declared.enter_spot.EnterSpot.{EnterSpot}
@@ -23,6 +23,15 @@ image_elsewhere c access above = record {
   not_pause = λ e. omega (arith, above, e);
   not_state = λ seat below e. omega (arith, above, below, e);
 }
+
+-- an access by the name of a word of the image is of the image
+pub placed_above : (c : Config) (t : Touch) → IsWord c t.word → is_image t.word ≡ true → image_start c ≤ place_of (placed c t)
+placed_above c t is_word image =
+    subst (λ n. image_start c ≤ n) (sym (place_of-access_at (word_at c t.word) t.form)) (leb-true _ _ (sym (is_image-word_at c t.word is_word) ∙ image))
+
+-- and is not of the count of mutators
+pub image_not_left : (c : Config) (access : Access) → image_start c ≤ place_of access → place_of access ≢ word_at c Left
+image_not_left c access above e = omega (arith, above, e)
 
 -- whether a word is not one of the handshake
 abbrev pub is_other : Word → Bool

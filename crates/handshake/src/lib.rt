@@ -29,3 +29,6 @@ pub use leave::Leave;
 pub use out::{go_access, leave_access};
 pub use stop::Stop;
 pub use stop_spot::StopSpot;
+
+#[cfg(test)]
+mod tests;
