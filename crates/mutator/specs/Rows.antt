@@ -89,11 +89,6 @@ place_at (Making at) = make_place at
 place_at AskCycle = place.AK
 place_at (Leave reply) = place.LV
 
--- the words of a new object of a mutator, in order: header, shape, name, and zeros
-abbrev pub fresh_word : ℕ → ℕ → ℕ → ℕ → ℕ → ℕ
-fresh_word seat made refs nums k =
-    if k == 0 then plain_header else (if k == 1 then shape_word refs nums else (if k == 2 then name_code (seat + 1) (made + 1) else 0))
-
 -- how many words the object has that a command makes
 abbrev pub words_of : Command → ℕ
 words_of command = 3 + refs_of command + nums_of command

@@ -9,7 +9,6 @@ mod Loads
 mod Fields
 mod RootStores
 mod Stores
-mod NewObject
 mod Ready
 mod Takes
 mod Fresh

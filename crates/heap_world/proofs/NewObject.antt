@@ -1,17 +1,18 @@
--- Room in hand becomes an object: the piece keeps its words, and the graph has the object under a fresh name.
+-- A piece that is no object yet, room in hand or a promised object, becomes one: it keeps its words, and the graph has the object
+-- under a fresh name.
 use Rattle.std.proofs.Common.{◌≡◌, ◌≢◌, ℕ, zero, suc, ◌+◌, ◌<◌, ◌≤◌, true, false, replicate, Option, Some, None, ⊎_elim, refl, sym, ap, ◌∙◌, subst, arith}
 use Rattle.std.specs.Prelude.{◌==◌, if◌then◌else◌, slice_get}
 use Rattle.std.proofs.lemmas.Bool.{cases_eq, cases_Bool, cond-true, cond-false, eq-eqb}
 use Rattle.std.proofs.lemmas.Bool.Decides.{nat_tests}
-use Rattle.std.proofs.lemmas.Option.{same_Some, slice_get_within}
+use Rattle.std.proofs.lemmas.Option.{none-some, same_Some, slice_get_within}
 use Rattle.std.proofs.lemmas.List.{length-replicate}
 use Rattle.heap_words.specs.declared.config.Config.{Config}
 use Rattle.regions.specs.Place.{base_of}
 use Rattle.shen_graph.specs.declared.name.Name.{Name}
 use Rattle.shen_graph.specs.Graph.{Object, same_name, blank}
 use Rattle.shen_graph.proofs.PlainLemmas.{same_name-true, same_name-itself}
-use Rattle.mutator.specs.Rows.{fresh_word}
-use Rattle.heap_world.specs.World.{Block, thing, hand, words_of, Plot, name_at, Points, IsInUse, IsPlotted, IsFilled, IsThing, IsGiven, AreObjects, AreRooms}
+use Rattle.heap_words.specs.Encoding.{fresh_word}
+use Rattle.heap_world.specs.World.{Block, thing, hand, promised, words_of, Plot, name_at, Points, IsInUse, IsPlotted, IsFilled, IsThing, IsGiven, AreObjects, AreRooms, ArePromises}
 use Rattle.heap_world.proofs.Updates.{updated, updated_there, updated_else}
 use Rattle.heap_world.proofs.Pointing.{named_thing}
 use Rattle.heap_world.proofs.Objects.{two_names, where_object}
@@ -27,7 +28,7 @@ all_alike (suc n) (suc i) x y is = all_alike n i x y is
 zero_word : (seat made refs nums k : ℕ) → 3 ≤ k → fresh_word seat made refs nums k ≡ 0
 zero_word seat made refs nums k past = grind (arith, nat_tests)
 
--- words that were stored in room in hand are those of a new object
+-- words that were stored so are those of a new object
 pub new_object : (heap : ℕ → ℕ) (block : Plot) (address seat made refs nums : ℕ) → refs ≤ 16 → nums ≤ 16
     → ((k : ℕ) → k < 3 + refs + nums → heap (address + k) ≡ fresh_word seat made refs nums k)
     → IsThing heap block address refs nums (record { thread = seat + 1; count = made + 1 }) (blank refs nums)
@@ -49,7 +50,7 @@ new_object heap block address seat made refs nums few_refs few_nums stored = rec
       word ∙ sym (all_alike nums i 0 n there);
 }
 
-module _ (c : Config) (top : ℕ → ℕ) (block : Plot) (address seat refs nums : ℕ) (name : Name) (room : block address ≡ Some (hand seat (3 + refs + nums))) where
+module _ (c : Config) (top : ℕ → ℕ) (block : Plot) (address refs nums : ℕ) (name : Name) (piece : Block) (unnamed : name_at (Some piece) ≡ None) (long : words_of piece ≡ 3 + refs + nums) (room : block address ≡ Some piece) where
   -- the new object
   abbrev new_thing : Block
   new_thing = thing name refs nums
@@ -58,41 +59,46 @@ module _ (c : Config) (top : ℕ → ℕ) (block : Plot) (address seat refs nums
   abbrev new_block : Plot
   new_block = updated block address (Some new_thing)
 
-  -- an old piece, but the room, stands where it stood
-  stays : (a : ℕ) (b : Block) → block a ≡ Some b → (hand seat (3 + refs + nums) ≡ b → ⊥) → new_block a ≡ Some b
+  -- another old piece stands where it stood
+  pub stays : (a : ℕ) (b : Block) → block a ≡ Some b → (piece ≡ b → ⊥) → new_block a ≡ Some b
   stays a b is differs = updated_else block address (Some new_thing) a (λ same. differs (same_Some _ b (sym room ∙ ap block same ∙ is))) ∙ is
 
   -- so does each object
   pub things_stay : (a more_refs more_nums : ℕ) (n : Name) → block a ≡ Some (thing n more_refs more_nums) → new_block a ≡ Some (thing n more_refs more_nums)
-  things_stay a more_refs more_nums n is = stays a (thing n more_refs more_nums) is (λ same. cc)
+  things_stay a more_refs more_nums n is =
+      stays a (thing n more_refs more_nums) is (λ same. none-some n (sym unnamed ∙ ap (λ b. name_at (Some b)) same))
 
   -- what a word stands for it still stands for
   pub names_stay : (a : ℕ) (n : Name) → name_at (block a) ≡ Some n → name_at (new_block a) ≡ Some n
-  names_stay a n is = let piece = named_thing (block a) n is in ap name_at (things_stay a piece.0 piece.1 n piece.2)
+  names_stay a n is = let old = named_thing (block a) n is in ap name_at (things_stay a old.0 old.1 n old.2)
 
-  -- so does room in the hand of another seat
-  pub hands_stay : (a other words : ℕ) → other ≢ seat → block a ≡ Some (hand other words) → new_block a ≡ Some (hand other words)
-  hands_stay a other words differs is = stays a (hand other words) is (λ same. let seats : other ≡ seat = cc in differs seats)
+  -- a piece that is no object was there before, elsewhere
+  pub old_unnamed : (a : ℕ) (b : Block) → name_at (Some b) ≡ None → new_block a ≡ Some b → (a ≢ address) × (block a ≡ Some b)
+  old_unnamed a b none is = ⊎_elim
+      (λ (new : (a ≡ address) × (new_thing ≡ b)). absurd (none-some name (sym none ∙ ap (λ x. name_at (Some x)) (sym new.1))))
+      (λ (old : (a ≢ address) × (block a ≡ Some b)). old)
+      (piece_cases block address new_thing a b is)
 
-  -- room in hand was there before, elsewhere
+  -- so was room in hand
   pub old_hand : (a other words : ℕ) → new_block a ≡ Some (hand other words) → (a ≢ address) × (block a ≡ Some (hand other words))
-  old_hand a other words is = ⊎_elim
-      (λ (new : (a ≡ address) × (new_thing ≡ hand other words)). let differ = new.1 in absurd (cc))
-      (λ (old : (a ≢ address) × (block a ≡ Some (hand other words))). old)
-      (piece_cases block address new_thing a (hand other words) is)
+  old_hand a other words is = old_unnamed a (hand other words) refl is
+
+  -- and a promised object
+  pub old_promise : (a other words : ℕ) → new_block a ≡ Some (promised other words) → (a ≢ address) × (block a ≡ Some (promised other words))
+  old_promise a other words is = old_unnamed a (promised other words) refl is
 
   -- where a piece stands, one of the same words stood, and the other way round
   old_piece : (a : ℕ) (b : Block) → new_block a ≡ Some b → (x : Block) × (block a ≡ Some x) × (words_of x ≡ words_of b)
   old_piece a b is = ⊎_elim
-      (λ (new : (a ≡ address) × (new_thing ≡ b)). (hand seat (3 + refs + nums), ap block new.0 ∙ room, ap words_of new.1))
+      (λ (new : (a ≡ address) × (new_thing ≡ b)). (piece, ap block new.0 ∙ room, long ∙ ap words_of new.1))
       (λ (old : (a ≢ address) × (block a ≡ Some b)). (b, old.1, refl))
       (piece_cases block address new_thing a b is)
 
   -- where a piece stood, one stands
   some_piece : (a : ℕ) → (b : Block) × (block a ≡ Some b) → (b : Block) × (new_block a ≡ Some b)
-  some_piece a piece = ⊎_elim
+  some_piece a old = ⊎_elim
       (λ (same : a ≡ address). (new_thing, ap new_block same ∙ updated_there block address (Some new_thing)))
-      (λ (other : a ≢ address). (piece.0, updated_else block address (Some new_thing) a (λ e. other (sym e)) ∙ piece.1))
+      (λ (other : a ≢ address). (old.0, updated_else block address (Some new_thing) a (λ e. other (sym e)) ∙ old.1))
       (cases_eq a address)
 
   -- pieces lie where they should
@@ -169,6 +175,10 @@ module _ (c : Config) (top : ℕ → ℕ) (block : Plot) (address seat refs nums
   -- rooms in hand are as they should be
   pub rooms_again : (current : ℕ → ℕ) → AreRooms c top current block → AreRooms c top current new_block
   rooms_again current rooms a other words is = rooms a other words (old_hand a other words is).1
+
+  -- promised objects are as long as before
+  pub promises_again : ArePromises block → ArePromises new_block
+  promises_again promises a other words is = promises a other words (old_promise a other words is).1
 
 -- the counts with one more for a thread
 abbrev pub with_count : (ℕ → ℕ) → ℕ → ℕ → ℕ
