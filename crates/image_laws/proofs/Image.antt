@@ -1,15 +1,14 @@
 -- The image after packing stands for the same graph.
-use Rattle.std.proofs.Common.{◌≡◌, ℕ, nat_le, Some, List, refl, sym, ◌∙◌, arith}
-use Rattle.std.proofs.lemmas.Bool.{cond-true, le-leb}
+use Rattle.std.proofs.Common.{◌≡◌, ◌≢◌, ℕ, Some, None, List, refl, sym, ap, ◌∙◌, arith}
+use Rattle.std.proofs.lemmas.Option.{none-some}
 use Rattle.heap_words.specs.declared.config.Config.{Config}
-use Rattle.heap_words.specs.Words.{Word, Top, Heap, Wait, Answer}
-use Rattle.packing.specs.Places.{new_place}
+use Rattle.heap_words.specs.Words.{Word, Top, Heap}
 use Rattle.packing.proofs.Tops.{tops_are_words}
 use Rattle.sliding.specs.Slide.{renewed, slid}
 use Rattle.sliding.proofs.Slid.{slid_is}
 use Rattle.shen_graph.specs.declared.name.Name.{Name}
 use Rattle.shen_graph.specs.Graph.{Graph, Object}
-use Rattle.heap_world.specs.World.{Plot, thing, hand, AreObjects, IsGiven, AreUnasked, Shared}
+use Rattle.heap_world.specs.World.{Block, Plot, thing, hand, promised, name_at, AreObjects, IsGiven, Shared}
 use Rattle.image_laws.specs.Held.{from_root, IsAmong}
 use Rattle.image_laws.specs.Plot.{heap_end, packed_block, packed_top}
 use Rattle.image_laws.specs.Pack.{CanPack}
@@ -31,23 +30,19 @@ module _ (c : Config) (memory : Word → ℕ) (block : Plot) (g : Graph) (now ke
   can : CanPack c top heap block g.object now kept
   can = can_pack c top heap block now (IsAmong roots) g before.holds kept before.kept_are
 
-  -- no piece is room in hand
-  no_hands : (a seat words : ℕ) → packed_block c kept block a ≡ Some (hand seat words) → ⊥
-  no_hands a seat words is =
-      let from = block_from c top heap block g.object now kept can a (hand seat words) is in
+  -- each piece is an object
+  has_name : (a : ℕ) (b : Block) → packed_block c kept block a ≡ Some b → name_at (Some b) ≢ None
+  has_name a b is none =
+      let from = block_from c top heap block g.object now kept can a b is in
       let piece = can.things from.0 from.1 in
-      let differ : Some (thing piece.0 piece.1 piece.2) ≡ Some (hand seat words) = sym piece.3 ∙ from.4 in
-      cc
+      none-some piece.0 (sym none ∙ ap name_at (sym from.4 ∙ piece.3))
 
-  -- who had no answer has none
-  unasked : AreUnasked c (λ t. memory (Wait t)) (λ t. memory (Answer t)) → AreUnasked c (λ t. packed c now kept memory (Wait t)) (λ t. packed c now kept memory (Answer t))
-  unfolding packed
-  unasked none = record {
-    waits = none.waits;
-    answers = λ t inside.
-        let zero' = none.answers t inside in
-        cond-true (nat_le (memory (Answer t)) 1) (memory (Answer t)) (new_place c.region_words kept (now (memory (Answer t)))) (le-leb (memory (Answer t)) 1 (omega (arith, zero'))) ∙ zero';
-  }
+  -- and none is room in hand or a promised object
+  no_hands : (a seat words : ℕ) → packed_block c kept block a ≡ Some (hand seat words) → ⊥
+  no_hands a seat words is = has_name a (hand seat words) is refl
+
+  no_promised : (a seat words : ℕ) → packed_block c kept block a ≡ Some (promised seat words) → ⊥
+  no_promised a seat words is = has_name a (promised seat words) is refl
 
   -- the pieces are the graph's objects
   objects_again : AreObjects (λ a. packed c now kept memory (Heap a)) (packed_block c kept block) g.object
@@ -56,10 +51,9 @@ module _ (c : Config) (memory : Word → ℕ) (block : Plot) (g : Graph) (now ke
       slid_are_objects c top heap block g.object now kept can (slid c.region_words kept (renewed c.region_words now kept) heap (heap_end c))
       (slid_is c.region_words kept (renewed c.region_words now kept) heap (lie_apart c top heap block g.object now kept can) (heap_end c))
 
-  packed_shared : ((name : Name) (o : Object) → g.object name ≡ Some o → IsGiven c g.count name) → AreUnasked c (λ t. memory (Wait t)) (λ t. memory (Answer t))
-      → Shared c (packed_world c now kept memory block g)
+  packed_shared : ((name : Name) (o : Object) → g.object name ≡ Some o → IsGiven c g.count name) → Shared c (packed_world c now kept memory block g)
   unfolding packed
-  packed_shared given none = record {
+  packed_shared given = record {
     plotted = slid_is_plotted c top heap block g.object now kept can;
     filled = slid_is_filled c top heap block g.object now kept can;
     objects = objects_again;
@@ -68,7 +62,7 @@ module _ (c : Config) (memory : Word → ℕ) (block : Plot) (g : Graph) (now ke
     free_word = free_again c (packed_top c kept);
     currents = record { within = λ seat r is. absurd (omega (arith, is)); own = λ seat r is. absurd (omega (arith, is)) };
     rooms = λ a seat words is. absurd (no_hands a seat words is);
-    unasked = unasked none;
+    promises = λ a seat words is. absurd (no_promised a seat words is);
   }
 
   pub keeps_graph : KeepsGraph c memory block g now kept roots
@@ -81,6 +75,7 @@ module _ (c : Config) (memory : Word → ℕ) (block : Plot) (g : Graph) (now ke
         let size = before.kept_are.words (now word) (from_root word is other) in omega (arith, size));
     free_word = free_again c (packed_top c kept);
     no_hands = no_hands;
+    no_promised = no_promised;
     tops_sum = tops_are_words c.region_words kept (lie_apart c top heap block g.object now kept can) c.regions
         (λ a some. (let inside = kept_inside c top heap block g.object now kept can a some in omega (arith, inside.1, some))) (heap_end c);
     shared = packed_shared;

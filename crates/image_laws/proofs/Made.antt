@@ -14,7 +14,7 @@ use Rattle.regions.specs.Sets.{all_but}
 use Rattle.shen_graph.specs.declared.name.Name.{Name}
 use Rattle.shen_graph.specs.Graph.{Graph, Object, Reference, blank, same_name, same_reference}
 use Rattle.shen_graph.proofs.PlainLemmas.{same_name-true, same_name-itself}
-use Rattle.heap_world.specs.World.{Block, thing, hand, words_of, Plot, name_at, Points, IsThing, AreObjects, IsFreeWord}
+use Rattle.heap_world.specs.World.{Block, thing, hand, promised, words_of, Plot, name_at, Points, IsThing, AreObjects, IsFreeWord}
 use Rattle.heap_world.proofs.Updates.{updated, updated_else, updated_there}
 use Rattle.heap_world.proofs.Keeping.{points_stay}
 use Rattle.heap_world.proofs.Pieces.{beside, piece_cases, object_reads}
@@ -79,7 +79,7 @@ differ a b other = ⊎_elim (λ (is : same_name a b ≡ true). absurd (other (sa
 -- what the words at an address are as a piece
 abbrev PieceAt : (ℕ → ℕ) → Plot → (Name → Option Object) → ℕ → Block → Type 0
 PieceAt heap block object a (thing name refs nums) = (o : Object) × (object name ≡ Some o) × IsThing heap block a refs nums name o
-PieceAt heap block object a (hand seat words) = Unit {0}
+PieceAt heap block object a _ = Unit {0}
 
 module _ (c : Config) (m : Word → ℕ) (block : Plot) (g : Graph) (p : Promises) (stands : ImageStands c m block g p) (t r : ℕ) (inside : t < c.mutators)
     (asking : IsAsking m g p t) (within : r < c.regions) (room : m (Top r) + object_words (asked_shape m t) ≤ c.region_words) where
@@ -120,6 +120,7 @@ module _ (c : Config) (m : Word → ℕ) (block : Plot) (g : Graph) (p : Promise
       long : (a : ℕ) (b : Block) → block a ≡ Some b → 3 ≤ words_of b
       long a (thing name refs nums) is = omega arith
       long a (hand seat words) is = absurd (stands.no_hands a seat words is)
+      long a (promised seat words) is = absurd (stands.no_promised a seat words is)
 
   names_stay : (a : ℕ) (name : Name) → name_at (block a) ≡ Some name → name_at (new_block a) ≡ Some name
   names_stay = joined.names_stay c top block r (m (Top r)) piece can
@@ -249,6 +250,12 @@ module _ (c : Config) (m : Word → ℕ) (block : Plot) (g : Graph) (p : Promise
       (λ (old : (a ≢ address) × (block a ≡ Some (hand seat words))). stands.no_hands a seat words old.1)
       (cases a (hand seat words) is)
 
+  nothing_promised : (a seat words : ℕ) → new_block a ≡ Some (promised seat words) → ⊥
+  nothing_promised a seat words is = ⊎_elim
+      (λ (made : (a ≡ address) × (piece ≡ promised seat words)). let differs = made.1 in cc)
+      (λ (old : (a ≢ address) × (block a ≡ Some (promised seat words))). stands.no_promised a seat words old.1)
+      (cases a (promised seat words) is)
+
   free_less : IsFreeWord c (bit_and (m Free) (all_but r)) (updated top r (m (Top r) + words_of piece)) (λ q. None)
   free_less =
       let less = free_without c (m Free) r top (λ q. None) (λ q. None) within (λ q other. refl) stands.free_word in
@@ -306,6 +313,7 @@ module _ (c : Config) (m : Word → ℕ) (block : Plot) (g : Graph) (p : Promise
     filled = joined.filled_more c top block r (m (Top r)) piece can stands.filled;
     objects = objects_more;
     no_hands = nobody_has_room;
+    no_promised = nothing_promised;
     free_word = free_less;
     rooted = record { roots = roots_more; answers = answers_more; no_more_roots = stands.rooted.no_more_roots; no_more_promised = promised_to };
   }

@@ -100,6 +100,7 @@ refused_stands c m block g p stands unanswered = record {
   filled = stands.filled;
   objects = stands.objects;
   no_hands = stands.no_hands;
+  no_promised = stands.no_promised;
   free_word = stands.free_word;
   rooted = record {
     roots = stands.rooted.roots;

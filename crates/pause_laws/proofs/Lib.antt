@@ -1,1 +1,4 @@
 pub mod Sorted
+pub mod Promises
+pub mod Mapped
+pub mod Before
