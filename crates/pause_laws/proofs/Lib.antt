@@ -2,3 +2,4 @@ pub mod Sorted
 pub mod Promises
 pub mod Mapped
 pub mod Before
+pub mod Holding
