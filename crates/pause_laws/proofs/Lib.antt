@@ -3,3 +3,4 @@ pub mod Promises
 pub mod Mapped
 pub mod Before
 pub mod Holding
+pub mod Turned
