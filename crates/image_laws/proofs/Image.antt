@@ -1,5 +1,5 @@
 -- The image after packing stands for the same graph.
-use Rattle.std.proofs.Common.{◌≡◌, ◌≢◌, ℕ, Some, None, List, refl, sym, ap, ◌∙◌, arith}
+use Rattle.std.proofs.Common.{◌≡◌, ℕ, Some, List, refl, sym, ap, ◌∙◌, arith}
 use Rattle.std.proofs.lemmas.Option.{none-some}
 use Rattle.heap_words.specs.declared.config.Config.{Config}
 use Rattle.heap_words.specs.Words.{Word, Top, Heap}
@@ -8,9 +8,9 @@ use Rattle.sliding.specs.Slide.{renewed, slid}
 use Rattle.sliding.proofs.Slid.{slid_is}
 use Rattle.shen_graph.specs.declared.name.Name.{Name}
 use Rattle.shen_graph.specs.Graph.{Graph, Object}
-use Rattle.heap_world.specs.World.{Block, Plot, thing, hand, promised, name_at, AreObjects, IsGiven, Shared}
+use Rattle.heap_world.specs.World.{Plot, hand, promised, name_at, AreObjects, IsGiven, Shared}
 use Rattle.image_laws.specs.Held.{from_root, IsAmong}
-use Rattle.image_laws.specs.Plot.{heap_end, packed_block, packed_top}
+use Rattle.image_laws.specs.Plot.{AreThings, heap_end, packed_block, packed_top}
 use Rattle.image_laws.specs.Pack.{CanPack}
 use Rattle.image_laws.specs.Full.{packed}
 use Rattle.image_laws.specs.Laws.{packed_world, IsBeforePacking, KeepsGraph}
@@ -31,18 +31,11 @@ module _ (c : Config) (memory : Word → ℕ) (block : Plot) (g : Graph) (now ke
   can = can_pack c top heap block now (IsAmong roots) g before.holds kept before.kept_are
 
   -- each piece is an object
-  has_name : (a : ℕ) (b : Block) → packed_block c kept block a ≡ Some b → name_at (Some b) ≢ None
-  has_name a b is none =
-      let from = block_from c top heap block g.object now kept can a b is in
-      let piece = can.things from.0 from.1 in
-      none-some piece.0 (sym none ∙ ap name_at (sym from.4 ∙ piece.3))
-
-  -- and none is room in hand or a promised object
-  no_hands : (a seat words : ℕ) → packed_block c kept block a ≡ Some (hand seat words) → ⊥
-  no_hands a seat words is = has_name a (hand seat words) is refl
-
-  no_promised : (a seat words : ℕ) → packed_block c kept block a ≡ Some (promised seat words) → ⊥
-  no_promised a seat words is = has_name a (promised seat words) is refl
+  are_things : AreThings (packed_block c kept block)
+  are_things a piece is =
+      let from = block_from c top heap block g.object now kept can a piece is in
+      let thing = can.things from.0 from.1 in
+      (thing.0, ap name_at (sym from.4 ∙ thing.3))
 
   -- the pieces are the graph's objects
   objects_again : AreObjects (λ a. packed c now kept memory (Heap a)) (packed_block c kept block) g.object
@@ -61,8 +54,8 @@ module _ (c : Config) (memory : Word → ℕ) (block : Plot) (g : Graph) (now ke
     calm = record { phase_is = refl; cset_is = refl; evac_is = refl };
     free_word = free_again c (packed_top c kept);
     currents = record { within = λ seat r is. absurd (omega (arith, is)); own = λ seat r is. absurd (omega (arith, is)) };
-    rooms = λ a seat words is. absurd (no_hands a seat words is);
-    promises = λ a seat words is. absurd (no_promised a seat words is);
+    rooms = λ a seat words is. absurd (none-some _ (are_things a (hand seat words) is).1);
+    promises = λ a seat words is. absurd (none-some _ (are_things a (promised seat words) is).1);
   }
 
   pub keeps_graph : KeepsGraph c memory block g now kept roots
@@ -74,8 +67,7 @@ module _ (c : Config) (memory : Word → ℕ) (block : Plot) (g : Graph) (now ke
     root_words = λ word r is points. renewed_points c top heap block g.object now kept can word r points (λ other.
         let size = before.kept_are.words (now word) (from_root word is other) in omega (arith, size));
     free_word = free_again c (packed_top c kept);
-    no_hands = no_hands;
-    no_promised = no_promised;
+    things = are_things;
     tops_sum = tops_are_words c.region_words kept (lie_apart c top heap block g.object now kept can) c.regions
         (λ a some. (let inside = kept_inside c top heap block g.object now kept can a some in omega (arith, inside.1, some))) (heap_end c);
     shared = packed_shared;

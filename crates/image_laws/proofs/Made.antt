@@ -21,6 +21,7 @@ use Rattle.heap_world.proofs.Pieces.{beside, piece_cases, object_reads}
 use Rattle.heap_world.proofs.FreeRegions.{free_without}
 use Rattle.heap_world.proofs.Joined as joined
 use Rattle.heap_world.proofs.Joined.{CanJoin}
+use Rattle.image_laws.specs.Plot.{AreThings}
 use Rattle.image_laws.specs.Full.{fresh_word, made_in}
 use Rattle.image_laws.specs.Promised.{Promises, with_promised}
 use Rattle.image_laws.specs.Image.{AnswerStands, ImageStands}
@@ -119,8 +120,8 @@ module _ (c : Config) (m : Word → ℕ) (block : Plot) (g : Graph) (p : Promise
     where
       long : (a : ℕ) (b : Block) → block a ≡ Some b → 3 ≤ words_of b
       long a (thing name refs nums) is = omega arith
-      long a (hand seat words) is = absurd (stands.no_hands a seat words is)
-      long a (promised seat words) is = absurd (stands.no_promised a seat words is)
+      long a (hand seat words) is = absurd (none-some _ (stands.things a (hand seat words) is).1)
+      long a (promised seat words) is = absurd (none-some _ (stands.things a (promised seat words) is).1)
 
   names_stay : (a : ℕ) (name : Name) → name_at (block a) ≡ Some name → name_at (new_block a) ≡ Some name
   names_stay = joined.names_stay c top block r (m (Top r)) piece can
@@ -244,17 +245,11 @@ module _ (c : Config) (m : Word → ℕ) (block : Plot) (g : Graph) (p : Promise
           let o = stands.objects.each a refs nums name is in
           none-some o.0 (sym asking.new ∙ ap (with_promised g p).object same ∙ o.1)
 
-  nobody_has_room : (a seat words : ℕ) → new_block a ≡ Some (hand seat words) → ⊥
-  nobody_has_room a seat words is = ⊎_elim
-      (λ (made : (a ≡ address) × (piece ≡ hand seat words)). let differs = made.1 in cc)
-      (λ (old : (a ≢ address) × (block a ≡ Some (hand seat words))). stands.no_hands a seat words old.1)
-      (cases a (hand seat words) is)
-
-  nothing_promised : (a seat words : ℕ) → new_block a ≡ Some (promised seat words) → ⊥
-  nothing_promised a seat words is = ⊎_elim
-      (λ (made : (a ≡ address) × (piece ≡ promised seat words)). let differs = made.1 in cc)
-      (λ (old : (a ≢ address) × (block a ≡ Some (promised seat words))). stands.no_promised a seat words old.1)
-      (cases a (promised seat words) is)
+  are_things : AreThings new_block
+  are_things a other is = ⊎_elim
+      (λ (made : (a ≡ address) × (piece ≡ other)). (new, ap (λ b. name_at (Some b)) (sym made.1)))
+      (λ (old : (a ≢ address) × (block a ≡ Some other)). stands.things a other old.1)
+      (cases a other is)
 
   free_less : IsFreeWord c (bit_and (m Free) (all_but r)) (updated top r (m (Top r) + words_of piece)) (λ q. None)
   free_less =
@@ -312,8 +307,7 @@ module _ (c : Config) (m : Word → ℕ) (block : Plot) (g : Graph) (p : Promise
     plotted = joined.plotted_more c top block r (m (Top r)) piece can;
     filled = joined.filled_more c top block r (m (Top r)) piece can stands.filled;
     objects = objects_more;
-    no_hands = nobody_has_room;
-    no_promised = nothing_promised;
+    things = are_things;
     free_word = free_less;
     rooted = record { roots = roots_more; answers = answers_more; no_more_roots = stands.rooted.no_more_roots; no_more_promised = promised_to };
   }
