@@ -7,7 +7,7 @@ use Rattle.heap_words.specs.declared.place.Place.TheVariants as place
 use Rattle.heap_words.specs.declared.access.Took.{Took}
 use Rattle.heap_words.specs.declared.access.Took.TheVariants.{More, Again, Done}
 use Rattle.heap_words.specs.Words.{State, Phase, Cset, Ask, Root, Heap}
-use Rattle.heap_words.specs.Encoding.{plain_header, shape_word, refs_in, name_code, thread_in, count_in}
+use Rattle.heap_words.specs.Encoding.{refs_in, thread_in, count_in, fresh_word}
 use Rattle.steps_base.specs.Touch.{Touch, touch, loads, stores, swaps, sets_bits, exchanges}
 use Rattle.alloc_buffers.specs.Rows as takes
 use Rattle.alloc_buffers.specs.declared.spot.Kind.TheVariants.{Fresh}

@@ -1,5 +1,6 @@
 ghost use Rattle.std.specs.Prelude.{◌≡◌, ◌<◌, true};
 ghost use Rattle.steps_base.specs.Touch.{placed};
+ghost use Rattle.heap_words.specs.Encoding as encoding;
 ghost use Rattle.mutator.specs.Rows as rows;
 ghost use Rattle.mutator.specs.Fit.{is_ready, is_next_object};
 
@@ -164,7 +165,7 @@ fn after_word(words: u64, address: u64, done: u64) -> Spot
 fn fresh_word(seat: usize, made: u32, refs: u32, nums: u32, place: u64) -> u64
     requires seat { seat < 8 }
     requires new { is_next_object made refs nums ≡ true }
-    ensures { result ≡ rows.fresh_word seat made refs nums place }
+    ensures { result ≡ encoding.fresh_word seat made refs nums place }
 {
     match place {
         0 => 1,

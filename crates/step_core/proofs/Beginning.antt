@@ -22,5 +22,5 @@ follows_begins c s g begins = record {
   shared = begins.stands.shared;
   machines = λ k a there.
       let new = begins.machines k a there in
-      machine_begins c (world_of c s begins.stands.block begins.stands.owner g) k a a.machine new.number_is new.idle new.calls new.valid begins.stands.roots begins.stands.none;
+      machine_begins c (world_of c s begins.stands.block begins.stands.owner g) k a a.machine new.number_is new.idle new.calls new.valid begins.stands.roots begins.stands.none begins.stands.asked;
 }

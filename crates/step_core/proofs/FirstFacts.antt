@@ -22,12 +22,13 @@ use Rattle.shen_graph.specs.Graph.{Object, hub, same_name, blank}
 use Rattle.mutator.specs.Rows.{fresh_mutator}
 use Rattle.step_core.specs.Actor.{mutating, fresh_helper, fresh_control}
 use Rattle.step_core.specs.Opening.{opening_actor, opening, first_free}
-use Rattle.heap_world.specs.World.{World, Plot, Block, thing, hand, words_of, name_at, Points, IsInUse, IsPlotted, IsFilled, IsThing, IsGiven, AreObjects, IsFreeWord, Shared}
+use Rattle.heap_world.specs.World.{World, Plot, Block, thing, hand, promised, words_of, name_at, Points, IsInUse, IsPlotted, IsFilled, IsThing, IsGiven, AreObjects, IsFreeWord, Shared}
+use Rattle.heap_world.specs.Asking.{nothing}
 use Rattle.heap_world.specs.Represents.{Represents}
 use Rattle.step_core.specs.Begins.{IsNew, Begins, Run, first_graph}
 use Rattle.step_core.proofs.Roots.{no_more_opening}
 use Rattle.shen_graph.proofs.PlainLemmas.{same_name-true}
-use Rattle.step_core.proofs.NewObject.{all_alike}
+use Rattle.heap_world.proofs.NewObject.{all_alike}
 use Rattle.step_core.proofs.OpeningStands.{rooted_memory, first_memory, view-opening, length-opening}
 
 -- the hub alone
@@ -186,6 +187,10 @@ first_free_word c = record {
   nobodys = λ r within bit. refl;
 }
 
+-- nothing is promised
+none_promised : (c : Config) (a seat words : ℕ) → first_block c a ≡ Some (promised seat words) → ⊥
+none_promised c a seat words is = let no = (block_only c a (promised seat words) is).1 in cc
+
 -- what machines share holds of the opening
 first_shared : (c : Config) → Shared c (first_world c)
 first_shared c = record {
@@ -202,7 +207,7 @@ first_shared c = record {
     own = λ seat r is. let none = rooted_else c (Current seat) (λ k. refl) c.mutators in absurd (omega (arith, none, is));
   };
   rooms = λ a seat words is. absurd (let no = (block_only c a (hand seat words) is).1 in cc);
-  unasked = record { waits = λ t within. rooted_else c (Wait t) (λ k. refl) c.mutators; answers = λ t within. rooted_else c (Answer t) (λ k. refl) c.mutators };
+  promises = λ a seat words is. absurd (none_promised c a seat words is);
 }
 
 -- the words of the roots stand for the graph's
@@ -222,14 +227,17 @@ first_roots c k i below = ⊎_elim
         ap (λ a. name_at (first_block c a)) (rooted_root c c.mutators k below) ∙ ap name_at (block_hub c) in
         subst (λ r. Points (first_block c) (first_memory c (Root k 0)) r) (sym named) at_hub
 
--- its words stand for the graph of the opening
-first_stands : (c : Config) → Represents c (first_memory c) (first_graph c)
+-- its words stand for the graph of the opening, and nothing is asked
+first_stands : (c : Config) → Represents c (first_memory c) (first_graph c) (λ t. nothing)
 first_stands c = record {
   block = first_block c;
   owner = λ _. None;
   shared = first_shared c;
   roots = λ t i below small. first_roots c t i below;
   none = λ a seat words is. (let no = (block_only c a (hand seat words) is).1 in cc);
+  asked = λ t below. (rooted_else c (Wait t) (λ k. refl) c.mutators, rooted_else c (Answer t) (λ k. refl) c.mutators, λ a words is. none_promised c a t words is);
+  promised_to = λ a seat words is. absurd (none_promised c a seat words is);
+  no_more = no_more_opening c.mutators;
 }
 
 -- each machine of the opening is idle
@@ -248,8 +256,7 @@ unfolding opening
 opening_begins c = record {
   words = length-opening c;
   seats = length-map-range_with_len (opening_actor c) 0 (seat_count c.mutators c.helpers);
-  stands = subst (λ m. Represents c m (first_graph c)) (sym (view-opening c)) (first_stands c);
-  no_more = no_more_opening c.mutators;
+  stands = subst (λ m. Represents c m (first_graph c) (λ t. nothing)) (sym (view-opening c)) (first_stands c);
   machines = λ k a there.
       let within = slice_get_within _ k a there in
       let count : length (opening c).machines ≡ seat_count c.mutators c.helpers = length-map-range_with_len (opening_actor c) 0 (seat_count c.mutators c.helpers) in

@@ -3,6 +3,7 @@ use Rattle.std.proofs.Common.{◌≡◌, ◌≢◌, ℕ, ◌+◌, ◌<◌, Bool,
 use Rattle.std.specs.Prelude.{◌==◌, ◌&&◌, nat_lt, if◌then◌else◌}
 use Rattle.std.proofs.lemmas.Bool.{cases_eq, cond-true, cond-false, eq-eqb, ne_eqb, and_left, ltb-true, ltb-false}
 use Rattle.heap_words.specs.declared.config.Config.{Config}
+use Rattle.heap_words.specs.Encoding.{fresh_word}
 use Rattle.heap_words.specs.Words.{Root, Top, Heap, Current}
 use Rattle.shen_graph.specs.declared.name.Name.{Name}
 use Rattle.shen_graph.specs.declared.command.Command.{Command}
@@ -15,9 +16,9 @@ use Rattle.mutator.specs.declared.spot.Spot.TheVariants.{Making, Leave}
 use Rattle.mutator.specs.declared.makes.MakeSpot.TheVariants as make
 use Rattle.mutator.specs.declared.spot.Kept.{Kept}
 use Rattle.mutator.specs.Commands.{dst_of, refs_of, nums_of}
-use Rattle.mutator.specs.Rows.{Mutating, fresh_word, touch_of}
+use Rattle.mutator.specs.Rows.{Mutating, touch_of}
 use Rattle.steps_base.specs.Touch.{touched}
-use Rattle.heap_world.specs.World.{World, Block, thing, hand, words_of, name_at, IsThing, IsGiven, Shared}
+use Rattle.heap_world.specs.World.{World, Block, thing, hand, promised, words_of, name_at, IsThing, IsGiven, Shared}
 use Rattle.step_core.specs.Stepped.{IsFilling, Mine, Row}
 use Rattle.heap_world.specs.Rely.{Rely}
 use Rattle.heap_world.proofs.Updates.{updated, updated_there}
@@ -28,7 +29,7 @@ use Rattle.step_core.proofs.Ready.{leaving, word_ready, fresh_ready}
 use Rattle.step_core.proofs.RootStores.{roots_written}
 use Rattle.heap_world.proofs.Apart.{far}
 use Rattle.heap_world.proofs.Pieces.{object_reads}
-use Rattle.step_core.proofs.NewObject.{new_object, names_stay, things_stay, hands_stay, old_hand, plotted_again, filled_again, objects_again, rooms_again, given_again, with_count, count_own}
+use Rattle.heap_world.proofs.NewObject.{new_object, stays, names_stay, things_stay, old_hand, old_promise, plotted_again, filled_again, objects_again, rooms_again, promises_again, given_again, with_count, count_own}
 
 -- the name of a thread's next object
 abbrev next_name : ℕ → ℕ → Name
@@ -80,7 +81,7 @@ module _ (c : Config) (u : World) (seat made : ℕ) (kept : Kept) (command : Com
       free_word = shared.free_word;
       currents = shared.currents;
       rooms = shared.rooms;
-      unasked = shared.unasked;
+      promises = shared.promises;
     }
 
     -- one word more of the new object stands in the room
@@ -129,12 +130,19 @@ module _ (c : Config) (u : World) (seat made : ℕ) (kept : Kept) (command : Com
       hand_words = λ a words k is below.
           let other : a ≢ address = λ same. (let clash : Some (hand j words) ≡ Some (hand seat (3 + refs + nums)) = sym is ∙ ap u.block same ∙ mine.facts.1.room in let seats : j ≡ seat = cc in differs seats) in
           else_stays a k (hand j words) is other below;
+      promises = λ a words is. is;
+      no_promises = λ a words is. is;
+      promise_words = λ a words k is below.
+          let other : a ≢ address = λ same. (let clash : Some (promised j words) ≡ Some (hand seat (3 + refs + nums)) = sym is ∙ ap u.block same ∙ mine.facts.1.room in cc) in
+          else_stays a k (promised j words) is other below;
       current = refl;
       owners = λ r is. is;
       tops = λ r is. refl;
       root_words = λ i. refl;
       roots = λ i. refl;
       count = refl;
+      wait = refl;
+      answer = refl;
       state = refl;
       phase = refl;
       cset = refl;
@@ -175,7 +183,7 @@ module _ (c : Config) (u : World) (seat made : ℕ) (kept : Kept) (command : Com
 
     -- what a word stands for it still stands for
     names : (a : ℕ) (n : Name) → name_at (u.block a) ≡ Some n → name_at (made_world.block a) ≡ Some n
-    names = names_stay c top u.block address seat refs nums name room
+    names = names_stay c top u.block address refs nums name (hand seat (3 + refs + nums)) refl refl room
 
     -- the thread's fresh name is the one that the mutator writes
     name_is : name ≡ next_name (seat + 1) made
@@ -204,40 +212,53 @@ module _ (c : Config) (u : World) (seat made : ℕ) (kept : Kept) (command : Com
     -- machines share what they should
     shared_made : Shared c made_world
     shared_made = record {
-      plotted = plotted_again c top u.block address seat refs nums name room shared.plotted;
-      filled = filled_again c top u.block address seat refs nums name room shared.filled;
-      objects = objects_again c top u.block address seat refs nums name room (λ a. u.memory (Heap a)) u.graph.object shared.objects not_given (blank refs nums) new_is;
+      plotted = plotted_again c top u.block address refs nums name (hand seat (3 + refs + nums)) refl refl room shared.plotted;
+      filled = filled_again c top u.block address refs nums name (hand seat (3 + refs + nums)) refl refl room shared.filled;
+      objects = objects_again c top u.block address refs nums name (hand seat (3 + refs + nums)) refl refl room (λ a. u.memory (Heap a)) u.graph.object shared.objects not_given (blank refs nums) new_is;
       given = given_again c u.graph.count u.graph.object name (blank refs nums) shared.given is_given;
       calm = shared.calm;
       free_word = shared.free_word;
       currents = shared.currents;
-      rooms = rooms_again c top u.block address seat refs nums name room (λ s. u.memory (Current s)) shared.rooms;
-      unasked = shared.unasked;
+      rooms = rooms_again c top u.block address refs nums name (hand seat (3 + refs + nums)) refl refl room (λ s. u.memory (Current s)) shared.rooms;
+      promises = promises_again c top u.block address refs nums name (hand seat (3 + refs + nums)) refl refl room shared.promises;
     }
+
+    -- what is promised was promised before
+    promised_before : (a j words : ℕ) → made_world.block a ≡ Some (promised j words) → u.block a ≡ Some (promised j words)
+    promised_before a j words is = (old_promise c top u.block address refs nums name (hand seat (3 + refs + nums)) refl refl room a j words is).1
 
     -- the mutator has only to leave
     mine_made : Mine c made_world (mutator_at seat (made + 1) kept (Leave (reply.Ref (next_name (seat + 1) made)))) command (Some (reply.Ref (next_name (seat + 1) made)))
     mine_made =
-        leaving c made_world seat (made + 1) kept command (reply.Ref (next_name (seat + 1) made)) (record { below = mine.seated.below; counted = count_own u.graph.count (seat + 1) ∙ ap (λ k. k + 1) mine.seated.counted })
+        leaving c made_world seat (made + 1) kept command (reply.Ref (next_name (seat + 1) made)) (record {
+          below = mine.seated.below;
+          counted = count_own u.graph.count (seat + 1) ∙ ap (λ k. k + 1) mine.seated.counted;
+          unasked = λ calm. let was = mine.seated.unasked calm in (was.0, was.1, λ a words is. was.2 a words (promised_before a seat words is));
+        })
         (roots_written made_world.block u.memory u.graph.root seat dst address (Some name)
         (λ i below. points_stay u.block made_world.block names (u.memory (Root seat i)) (u.graph.root (seat + 1) i) (mine.roots i below))
         (ap name_at (updated_there u.block address (Some (thing name refs nums)))))
-        (λ a words is. let old = old_hand c top u.block address seat refs nums name room a seat words is in old.0 (mine.hands a words old.1).0)
+        (λ a words is. let old = old_hand c top u.block address refs nums name (hand seat (3 + refs + nums)) refl refl room a seat words is in old.0 (mine.hands a words old.1).0)
 
     -- others can rely on what they knew
     others_made : (j : ℕ) → j ≢ seat → Rely j u made_world
     others_made j differs = record {
       names = names;
-      targets = λ a more_refs more_nums n has. record { piece = things_stay c top u.block address seat refs nums name room a more_refs more_nums n has.piece };
-      hands = λ a words is. hands_stay c top u.block address seat refs nums name room a j words differs is;
-      no_hands = λ a words is. (old_hand c top u.block address seat refs nums name room a j words is).1;
+      targets = λ a more_refs more_nums n has. record { piece = things_stay c top u.block address refs nums name (hand seat (3 + refs + nums)) refl refl room a more_refs more_nums n has.piece };
+      hands = λ a words is. stays c top u.block address refs nums name (hand seat (3 + refs + nums)) refl refl room a (hand j words) is (λ same. let seats : j ≡ seat = cc in differs seats);
+      no_hands = λ a words is. (old_hand c top u.block address refs nums name (hand seat (3 + refs + nums)) refl refl room a j words is).1;
       hand_words = λ a words k is below. refl;
+      promises = λ a words is. stays c top u.block address refs nums name (hand seat (3 + refs + nums)) refl refl room a (promised j words) is (λ same. cc);
+      no_promises = λ a words is. promised_before a j words is;
+      promise_words = λ a words k is below. refl;
       current = refl;
       owners = λ r is. is;
       tops = λ r is. refl;
       root_words = λ i. cond-false ((seat == j) && (dst == i)) _ _ (and_left _ _ (ne_eqb seat j (λ e. differs (sym e))));
       roots = λ i. cond-false (((j + 1) == (seat + 1)) && (i == dst)) _ _ (and_left _ _ (ne_eqb (j + 1) (seat + 1) (λ e. differs (omega (arith, e)))));
       count = cond-false ((j + 1) == (seat + 1)) _ _ (ne_eqb (j + 1) (seat + 1) (λ e. differs (omega (arith, e))));
+      wait = refl;
+      answer = refl;
       state = refl;
       phase = refl;
       cset = refl;

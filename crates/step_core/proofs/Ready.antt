@@ -1,9 +1,10 @@
 -- Accesses that can be made.
-use Rattle.std.proofs.Common.{◌≡◌, ℕ, ◌+◌, ◌<◌, ◌≤◌, Bool, true, Option, Some, refl, arith}
+use Rattle.std.proofs.Common.{◌≡◌, ℕ, ◌+◌, ◌<◌, ◌≤◌, Bool, true, false, Option, Some, refl, arith}
 use Rattle.std.specs.Prelude.{◌&&◌, ◌^◌}
 use Rattle.std.proofs.lemmas.Bool.{and_from, lt-ltb, le-leb}
 use Rattle.std.proofs.lemmas.Bool.Decides.{nat_tests}
 use Rattle.heap_words.specs.declared.config.Config.{Config}
+use Rattle.heap_words.specs.Encoding.{fresh_word}
 use Rattle.heap_words.specs.Words.{Root}
 use Rattle.steps_base.specs.Fits.{touch_fits, is_number}
 use Rattle.shen_graph.specs.declared.command.Command.{Command}
@@ -14,10 +15,9 @@ use Rattle.mutator.specs.declared.spot.Spot.TheVariants.{Making, Leave}
 use Rattle.mutator.specs.declared.makes.MakeSpot.TheVariants as make
 use Rattle.mutator.specs.declared.spot.Kept.{Kept}
 use Rattle.mutator.specs.Commands.{dst_of, refs_of, nums_of}
-use Rattle.mutator.specs.Rows.{fresh_word}
 use Rattle.mutator.specs.Fit.{is_ready, is_next_object, is_going}
 use Rattle.heap_world.specs.World.{World, hand, Plot, Points, IsPlotted}
-use Rattle.step_core.specs.Stepped.{IsMaking, IsSeated, Mine}
+use Rattle.step_core.specs.Stepped.{IsMaking, IsSeatedIn, Mine}
 use Rattle.step_core.proofs.Spots.{mutator_at}
 use Rattle.heap_world.proofs.Pointing.{piece_word, piece_small}
 
@@ -34,7 +34,7 @@ leave_ready : (c : Config) (seat made : ℕ) (kept : Kept) (reply : Reply) → s
 leave_ready c seat made kept reply below = grind (arith, nat_tests)
 
 -- with its reply settled, a mutator has only to leave
-pub leaving : (c : Config) (w : World) (seat made : ℕ) (kept : Kept) (command : Command) (r : Reply) → IsSeated c.mutators seat (w.graph.count (seat + 1)) made
+pub leaving : (c : Config) (w : World) (seat made : ℕ) (kept : Kept) (command : Command) (r : Reply) → IsSeatedIn c w seat made false
     → ((i : ℕ) → i < 16 → Points w.block (w.memory (Root seat i)) (w.graph.root (seat + 1) i)) → ((a words : ℕ) → w.block a ≡ Some (hand seat words) → ⊥)
     → Mine c w (mutator_at seat made kept (Leave r)) command (Some r)
 leaving c w seat made kept command r seated roots hands = record { seated = seated; ready = leave_ready c seat made kept r seated.below; roots = roots; hands = hands; facts = refl }

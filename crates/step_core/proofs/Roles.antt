@@ -12,6 +12,7 @@ use Rattle.mutator.specs.Orders.{is_between_calls, is_valid}
 use Rattle.mutator.specs.Rows.{Mutating}
 use Rattle.heap_world.specs.World.{World, hand, Points, Shared}
 use Rattle.heap_world.specs.Rely.{Rely}
+use Rattle.heap_world.specs.Asking.{nothing, IsAsked}
 use Rattle.step_core.specs.Actor.{Machine, mutating, helping, controlling, Actor}
 use Rattle.step_core.specs.Machines.{HasNumber, IsIdle}
 use Rattle.step_core.specs.Stepped.{Mine}
@@ -46,27 +47,27 @@ mutator_of c k (controlling h) number below = absurd (omega (arith, number, belo
 
 -- what a mutator counts on between two calls
 rest_mine : (c : Config) (w : World) (seat made : ℕ) (kept : Kept) (command : Command) (spot : Spot) → is_between_calls spot ≡ true → seat < c.mutators → w.graph.count (seat + 1) ≡ made
-    → ((i : ℕ) → i < 16 → Points w.block (w.memory (Root seat i)) (w.graph.root (seat + 1) i)) → ((a words : ℕ) → w.block a ≡ Some (hand seat words) → ⊥)
+    → IsAsked w.memory w.block w.graph.count seat nothing → ((i : ℕ) → i < 16 → Points w.block (w.memory (Root seat i)) (w.graph.root (seat + 1) i)) → ((a words : ℕ) → w.block a ≡ Some (hand seat words) → ⊥)
     → Mine c w (mutator_at seat made kept spot) command None
-rest_mine c w seat made kept command Rest rest below counted roots none =
-    record { seated = record { below = below; counted = counted }; ready = refl; roots = roots; hands = none; facts = refl }
-rest_mine c w seat made kept command (Ended r) rest below counted roots none =
-    record { seated = record { below = below; counted = counted }; ready = refl; roots = roots; hands = none; facts = refl }
-rest_mine c w seat made kept command _ rest below counted roots none = absurd cc
+rest_mine c w seat made kept command Rest rest below counted asked roots none =
+    record { seated = record { below = below; counted = counted; unasked = λ calm. asked }; ready = refl; roots = roots; hands = none; facts = refl }
+rest_mine c w seat made kept command (Ended r) rest below counted asked roots none =
+    record { seated = record { below = below; counted = counted; unasked = λ calm. asked }; ready = refl; roots = roots; hands = none; facts = refl }
+rest_mine c w seat made kept command _ rest below counted asked roots none = absurd cc
 
--- an idle machine that has ended no call, in a world in which nobody has room in hand
+-- an idle machine that has ended no call, in a world in which nobody has room in hand or has asked for an object
 pub machine_begins : (c : Config) (w : World) (k : ℕ) (b : Actor) (machine : Machine) → HasNumber c k machine → IsIdle w.graph k machine → b.calls ≡ [] → is_valid b.command ≡ true
     → ((t i : ℕ) → t < c.mutators → i < 16 → Points w.block (w.memory (Root t i)) (w.graph.root (t + 1) i)) → ((a seat words : ℕ) → w.block a ≡ Some (hand seat words) → ⊥)
-    → IsMachine c w [] k b machine
-machine_begins c w k b (mutating m) number idle calls valid roots none =
+    → ((t : ℕ) → t < c.mutators → IsAsked w.memory w.block w.graph.count t nothing) → IsMachine c w [] k b machine
+machine_begins c w k b (mutating m) number idle calls valid roots none asked =
     let below : m.seat < c.mutators = subst (λ j. j < c.mutators) (sym number.0) number.1 in
     record {
       fixed = None;
       number_is = number.0;
       valid = valid;
       mine = rest_mine c w m.seat m.made m.kept b.command m.spot idle.1 below (subst (λ j. w.graph.count (j + 1) ≡ m.made) (sym number.0) idle.0)
-          (λ i small. roots m.seat i below small) (λ a words is. none a m.seat words is);
+          (asked m.seat below) (λ i small. roots m.seat i below small) (λ a words is. none a m.seat words is);
       entries_are = sym (append-nil b.calls ∙ calls);
     }
-machine_begins c w k b (helping h) number idle calls valid roots none = record { least = number.0; below = number.1; hands = λ a words is. none a k words is }
-machine_begins c w k b (controlling h) number idle calls valid roots none = record { number_is = number; hands = λ a words is. none a k words is }
+machine_begins c w k b (helping h) number idle calls valid roots none asked = record { least = number.0; below = number.1; hands = λ a words is. none a k words is }
+machine_begins c w k b (controlling h) number idle calls valid roots none asked = record { number_is = number; hands = λ a words is. none a k words is }

@@ -1,5 +1,5 @@
 -- What a mutator knows stays true while another machine makes a step.
-use Rattle.std.proofs.Common.{◌≡◌, ℕ, ◌+◌, inl, inr, ⊎_elim, Option, refl, ◌∙◌, arith}
+use Rattle.std.proofs.Common.{◌≡◌, ℕ, ◌+◌, inl, inr, ⊎_elim, Bool, false, Option, refl, ◌∙◌, arith}
 use Rattle.heap_words.specs.declared.config.Config.{Config}
 use Rattle.shen_graph.specs.declared.command.Command.{Command}
 use Rattle.shen_graph.specs.declared.command.Reply.{Reply}
@@ -20,7 +20,7 @@ use Rattle.mutator.specs.declared.makes.MakeSpot.TheVariants as make
 use Rattle.mutator.specs.Commands.{root_of, dst_of, index_of, number_of, refs_of, nums_of}
 use Rattle.mutator.specs.Rows.{Mutating, words_of}
 use Rattle.heap_world.specs.World.{World, Points, Shared}
-use Rattle.step_core.specs.Stepped.{HasRoot, HasObject, HasFirst, IsGet, IsSet, IsCas, IsXchg, IsRd, IsWr, IsFound, IsCopy, IsFilling, LoadFacts, FieldFacts, NumberFacts, ShowFacts, MakeFacts, SpotFacts, Mine}
+use Rattle.step_core.specs.Stepped.{HasRoot, HasObject, HasFirst, IsGet, IsSet, IsCas, IsXchg, IsRd, IsWr, IsFound, IsCopy, IsFilling, LoadFacts, FieldFacts, NumberFacts, ShowFacts, MakeFacts, SpotFacts, IsSeatedIn, Mine}
 use Rattle.step_core.specs.Own.{root_now}
 use Rattle.heap_world.specs.Rely.{Keeps, Rely}
 use Rattle.alloc_buffers.specs.Facts.{TakeFacts}
@@ -161,6 +161,14 @@ module _ (c : Config) (u w : World) (seat : ℕ) (keeps : Keeps seat u w) where
   facts_stay made kept command fixed taking AskCycle facts = facts
   facts_stay made kept command fixed taking (Leave reply) facts = facts
 
+  -- what a mutator knows of its seat stays
+  pub seated_stays : (made : ℕ) (waiting : Bool) → IsSeatedIn c u seat made waiting → IsSeatedIn c w seat made waiting
+  seated_stays made waiting seated = record {
+    below = seated.below;
+    counted = keeps.count ∙ seated.counted;
+    unasked = λ calm. let was = seated.unasked calm in (keeps.wait ∙ was.0, keeps.answer ∙ was.1, λ a words is. was.2 a words (keeps.no_promises a words is));
+  }
+
   -- a root that counts stays
   now_stays : (kept : Kept) (spot : Spot) (index : ℕ) → root_now w seat kept spot index ≡ root_now u seat kept spot index
   now_stays kept (Showing value at) index = rw (keeps.root_words index) refl
@@ -169,7 +177,7 @@ module _ (c : Config) (u w : World) (seat : ℕ) (keeps : Keeps seat u w) where
 -- all that it knows stays
 pub mine_stays : (c : Config) (u w : World) (m : Mutating) (command : Command) (fixed : Option Reply) → Shared c u → Rely m.seat u w → Mine c u m command fixed → Mine c w m command fixed
 mine_stays c u w m command fixed shared rely mine = let keeps : Keeps m.seat u w = keeps_of m.seat u w rely in record {
-  seated = record { below = mine.seated.below; counted = rely.count ∙ mine.seated.counted };
+  seated = seated_stays c u w m.seat keeps m.made false mine.seated;
   ready = mine.ready;
   roots = λ i below. rw (now_stays c u w m.seat keeps m.kept m.spot i) (root_stays c u w m.seat keeps _ i (mine.roots i below));
   hands = λ a words is. mine.hands a words (rely.no_hands a words is);

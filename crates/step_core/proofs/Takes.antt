@@ -1,5 +1,5 @@
 -- The steps of a mutator that takes room for an object: what taking room owes is what its place owes.
-use Rattle.std.proofs.Common.{◌≡◌, ℕ, ◌+◌, true, false, Option, Some, refl, ◌∙◌, arith}
+use Rattle.std.proofs.Common.{◌≡◌, ℕ, ◌+◌, true, false, Option, Some, refl, arith}
 use Rattle.std.specs.Prelude.{◌&&◌}
 use Rattle.std.proofs.lemmas.Bool.{and_from, and_parts, lt-ltb, false≢true}
 use Rattle.heap_words.specs.declared.config.Config.{Config}
@@ -26,7 +26,7 @@ use Rattle.mutator.specs.Commands.{refs_of, nums_of}
 use Rattle.mutator.specs.Rows.{Mutating, after_take}
 use Rattle.mutator.specs.Fit.{is_next_object, is_going}
 use Rattle.step_core.specs.Stepped.{Mine, Row, Stepped}
-use Rattle.step_core.proofs.Stable.{root_stays}
+use Rattle.step_core.proofs.Stable.{root_stays, seated_stays}
 use Rattle.step_core.proofs.Spots.{mutator_at}
 use Rattle.step_core.proofs.Ready.{taking_ready, word_ready}
 
@@ -77,7 +77,7 @@ module _ (c : Config) (u : World) (seat made : ℕ) (kept : Kept) (command : Com
     mine_at : (next : TakeSpot) (w : World) → is_going next ≡ true → Keeps seat u w → CanTake c w seat words next → ((a more : ℕ) → w.block a ≡ Some (hand seat more) → ⊥)
         → Mine c w (at_spot (Making (make.Taking next))) command fixed
     mine_at next w going keeps can none = record {
-      seated = record { below = mine.seated.below; counted = keeps.count ∙ mine.seated.counted };
+      seated = seated_stays c u w seat keeps made false mine.seated;
       ready = (let both = and_parts _ _ can.ready in taking_ready c seat made kept command fixed mine.facts.0 next both.0 going both.1);
       roots = λ i below. rw (keeps.root_words i) (root_stays c u w seat keeps _ i (mine.roots i below));
       hands = none;
@@ -92,7 +92,7 @@ module _ (c : Config) (u : World) (seat made : ℕ) (kept : Kept) (command : Com
         (record { seated = can.seated; least = can.least; most = can.most; ready = and_from _ _ (and_from _ _ (lt-ltb _ _ can.seated) refl) refl; facts = tt; hands = can.hands })
         can.hands
     mine_then (Ended (At address)) w shared keeps can = record {
-      seated = record { below = mine.seated.below; counted = keeps.count ∙ mine.seated.counted };
+      seated = seated_stays c u w seat keeps made false mine.seated;
       ready = word_ready c seat made kept command fixed mine.facts.0 (λ r. w.memory (Top r)) w.block shared.plotted address can.facts mine.seated.below 0 (omega arith);
       roots = λ i below. rw (keeps.root_words i) (root_stays c u w seat keeps _ i (mine.roots i below));
       hands = can.hands;

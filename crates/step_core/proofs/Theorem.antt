@@ -177,7 +177,7 @@ follows_all c s g begins events = follows_run c g s [] events (follows_begins c 
 -- and is sound
 pub every_run : (c : Config) (s : Stage Actor) (g : Graph) → Begins c s g → (events : List (Event Order)) → IsSound c g (go (kind c) s events) (history c s events)
 every_run c s g begins events =
-    sound c g (go (kind c) s events) (history c s events) (follows_all c s g begins events) (history_not_full c s events) begins.no_more
+    sound c g (go (kind c) s events) (history c s events) (follows_all c s g begins events) (history_not_full c s events) begins.stands.no_more
 
 -- so is where a run leads
 pub run_sound : (c : Config) (run : Run c) → IsSound c run.graph (ending c run) (history_in c run)

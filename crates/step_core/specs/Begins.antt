@@ -9,11 +9,11 @@ use Rattle.shen_graph.specs.Graph as graphs
 use Rattle.shen_graph.specs.Graph.{Graph}
 use Rattle.shen_graph.specs.History.{Entry, after}
 use Rattle.mutator.specs.Orders.{is_valid}
+use Rattle.heap_world.specs.Asking.{nothing}
 use Rattle.heap_world.specs.Represents.{Represents}
 use Rattle.step_core.specs.Actor.{Actor}
 use Rattle.step_core.specs.Machines.{HasNumber, IsIdle, kind}
 use Rattle.step_core.specs.Settled.{settled}
-use Rattle.heap_world.specs.Roots.{HasNoMore}
 use Rattle.step_core.specs.Opening.{opening}
 use Rattle.step_core.specs.History.{history}
 
@@ -24,13 +24,11 @@ pub record IsNew (c : Config) (g : Graph) (number : ℕ) (a : Actor) : Type 0 wh
   pub calls : a.calls ≡ []
   pub valid : is_valid a.command ≡ true
 
--- A stage in which runs may begin: its words stand for a graph, in which there are the roots of its threads alone, and each
--- machine is idle.
+-- A stage in which runs may begin: its words stand for a graph, no mutator has asked for an object, and each machine is idle.
 pub record Begins (c : Config) (s : Stage Actor) (g : Graph) : Type 0 where
   pub words : length s.words ≡ table_words c
   pub seats : length s.machines ≡ seat_count c.mutators c.helpers
-  pub stands : Represents c (settled c s) g
-  pub no_more : HasNoMore c.mutators g
+  pub stands : Represents c (settled c s) g (λ t. nothing)
   pub machines : (number : ℕ) (a : Actor) → slice_get s.machines number ≡ Some a → IsNew c g number a
 
 -- a run: a stage that begins a graph, and what happens from there

@@ -1,7 +1,8 @@
 -- What one machine knows of a world, and what each step of a place owes.
-use Rattle.std.specs.Prelude.{ℕ, ◌≡◌, ◌≢◌, ◌⊎◌, ◌+◌, ◌<◌, ◌≤◌, true, length, Option, Some, None}
+use Rattle.std.specs.Prelude.{ℕ, ◌≡◌, ◌≢◌, ◌⊎◌, ◌+◌, ◌<◌, ◌≤◌, Bool, true, false, length, Option, Some, None}
 use Rattle.heap_words.specs.declared.config.Config.{Config}
-use Rattle.heap_words.specs.Words.{Heap}
+use Rattle.heap_words.specs.Encoding.{fresh_word}
+use Rattle.heap_words.specs.Words.{Heap, Wait, Answer}
 use Rattle.steps_base.specs.Touch.{touched}
 use Rattle.shen_graph.specs.declared.name.Name.{Name}
 use Rattle.shen_graph.specs.declared.command.Command.{Command}
@@ -29,12 +30,13 @@ use Rattle.mutator.specs.declared.makes.MakeSpot.{MakeSpot}
 use Rattle.mutator.specs.declared.makes.MakeSpot.TheVariants as make
 use Rattle.mutator.specs.Orders.{takes_at, is_next}
 use Rattle.mutator.specs.Commands.{roots_of, root_of, dst_of, index_of, number_of, refs_of, nums_of, is_on_object}
-use Rattle.mutator.specs.Rows.{Mutating, words_of, touch_of, next_of, given_at, fresh_word}
+use Rattle.mutator.specs.Rows.{Mutating, words_of, touch_of, next_of, given_at}
 use Rattle.mutator.specs.Told.{told_of}
 use Rattle.mutator.specs.Fit.{IsReady}
 use Rattle.step_core.specs.Actor.{entry_of, command_by}
 use Rattle.step_core.specs.Own.{root_now, IsInHand}
-use Rattle.heap_world.specs.World.{World, hand, name_at, Points, Target, Shared}
+use Rattle.heap_world.specs.World.{World, Plot, hand, name_at, Points, Target, Shared}
+use Rattle.heap_world.specs.Asking.{HasNoPromise}
 use Rattle.heap_world.specs.Rely.{Rely}
 
 -- A word is that of a root which the command loads: it stands for the root's reference. Of a root that the command does
@@ -194,14 +196,20 @@ SpotFacts c w seat made kept command fixed (Making at) = MakeFacts c w seat made
 SpotFacts c w seat made kept command fixed AskCycle = (fixed ≡ None) × (command ≡ Gc)
 SpotFacts c w seat made kept command fixed (Leave reply) = fixed ≡ Some reply
 
--- The facts of a seat that all places share, over the words and numbers that they read: it is a mutator's, and it has made
--- as many objects as the graph says.
-pub record IsSeated (mutators seat count made : ℕ) : Type 0 where
+-- The facts of a seat that all places share, over the words and numbers that they read: it is a mutator's, it has made as many
+-- objects as the graph says, and while it does not wait for an object it has asked for none, and none is promised to it.
+pub record IsSeated (mutators seat count made : ℕ) (waiting : Bool) (wait answer : ℕ) (block : Plot) : Type 0 where
   pub below : seat < mutators
   pub counted : count ≡ made
+  pub unasked : waiting ≡ false → (wait ≡ 0) × (answer ≡ 0) × HasNoPromise block seat
 
+-- those of a seat in a world, by the objects that its mutator has made and whether it waits
+abbrev pub IsSeatedIn : Config → World → ℕ → ℕ → Bool → Type 0
+IsSeatedIn c w seat made waiting = IsSeated c.mutators seat (w.graph.count (seat + 1)) made waiting (w.memory (Wait seat)) (w.memory (Answer seat)) w.block
+
+-- and those of a mutator: no mutator waits yet
 abbrev pub Seated : Config → World → Mutating → Type 0
-Seated c w m = IsSeated c.mutators m.seat (w.graph.count (m.seat + 1)) m.made
+Seated c w m = IsSeatedIn c w m.seat m.made false
 
 -- what a mutator counts on
 pub record Mine (c : Config) (w : World) (m : Mutating) (command : Command) (fixed : Option Reply) : Type 0 where
