@@ -17,6 +17,7 @@ use Rattle.heap_world.proofs.Pointing.{named_thing}
 use Rattle.heap_world.proofs.Pieces.{object_reads}
 use Rattle.heap_world.proofs.Keeping.{points_stay}
 use Rattle.heap_world.proofs.NewObject.{new_object}
+use Rattle.image_laws.specs.Plot.{AreThings}
 use Rattle.image_laws.specs.Promised.{Promises, with_promised}
 use Rattle.image_laws.specs.Image.{AnswerStands, RootsStand, ImageStands}
 use Rattle.image_laws.proofs.Promised.{same_reference-true}
@@ -177,16 +178,17 @@ module _ (c : Config) (m : Word → ℕ) (g : Graph) (asking : ℕ → Asking) (
     once = once_each;
   }
 
-  -- no piece is room in hand or promised
-  as_named : (a : ℕ) (b : Block) → r.block a ≡ Some b → name_at (Some (as_object g asking b)) ≡ None → ⊥
-  as_named a (thing name refs nums) is none = none-some name (sym none)
-  as_named a (hand seat words) is none = r.none a seat words is
-  as_named a (promised seat words) is none = none-some (fresh g (seat + 1)) (sym none)
+  -- each piece is an object
+  has_name : (a : ℕ) (b : Block) → r.block a ≡ Some b → (name : Name) × (name_at (Some (as_object g asking b)) ≡ Some name)
+  has_name a (thing name refs nums) is = (name, refl)
+  has_name a (hand seat words) is = absurd (r.none a seat words is)
+  has_name a (promised seat words) is = (fresh g (seat + 1), refl)
 
-  plain_named : (a : ℕ) (b : Block) → plain a ≡ Some b → name_at (Some b) ≡ None → ⊥
-  plain_named a b is none =
+  things_plain : AreThings plain
+  things_plain a b is =
       let was = mapped_from (as_object g asking) r.block a b is in
-      as_named a was.0 was.1 (ap (λ x. name_at (Some x)) was.2 ∙ none)
+      let named = has_name a was.0 was.1 in
+      (named.0, ap (λ x. name_at (Some x)) (sym was.2) ∙ named.1)
 
   -- an answer stands for what was promised
   answer_of : (t : ℕ) (x : Asking) → asking t ≡ x → IsAsked m r.block g.count t x → AnswerStands plain (m (Answer t)) (promised_ref g (t + 1) x)
@@ -218,8 +220,7 @@ module _ (c : Config) (m : Word → ℕ) (g : Graph) (asking : ℕ → Asking) (
     plotted = plotted_alike c (λ q. m (Top q)) r.block (as_object g asking) same_words r.shared.plotted;
     filled = filled_alike c (λ q. m (Top q)) r.block (as_object g asking) same_words r.shared.filled;
     objects = objects_plain;
-    no_hands = λ a seat words is. plain_named a (hand seat words) is refl;
-    no_promised = λ a seat words is. plain_named a (promised seat words) is refl;
+    things = things_plain;
     free_word = record {
       no_more = r.shared.free_word.no_more;
       empty = r.shared.free_word.empty;

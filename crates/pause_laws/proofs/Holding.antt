@@ -117,8 +117,7 @@ module _ (c : Config) (m : Word → ℕ) (g : Graph) (asking : ℕ → Asking) (
             let object = stands.objects.each a refs nums name is in
             absurd (true≢false (sym forwarded ∙ ap is_forwarded object.2.header));
         filled = stands.filled;
-        no_hands = stands.no_hands;
-        no_promised = stands.no_promised;
+        things = stands.things;
         free_word = r.shared.free_word;
         currents = r.shared.currents;
         asking = λ t from inside waits. are_asking t inside waits;

@@ -4,3 +4,4 @@ pub mod Mapped
 pub mod Before
 pub mod Holding
 pub mod Turned
+pub mod After
