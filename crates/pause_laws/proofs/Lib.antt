@@ -5,3 +5,4 @@ pub mod Before
 pub mod Holding
 pub mod Turned
 pub mod After
+pub mod Made
