@@ -6,3 +6,6 @@ pub mod Holding
 pub mod Turned
 pub mod After
 pub mod Made
+pub mod Still
+pub mod Paused
+pub mod Answered

@@ -63,14 +63,25 @@ module _ (c : Config) (m : Word → ℕ) (block : Plot) (g : Graph) (p : Promise
       let thread : x.name.thread ≡ t + 1 = omega (arith, at.2, x.seat_is) in
       (thread, ap p.ref (sym thread) ∙ x.named)
 
+  -- an answer that is an address is that of something promised, and the other way round
+  pub promised_if_some : (t : ℕ) → t < c.mutators → 1 < m (Answer t) → (name : Name) × (p.ref (t + 1) ≡ Some name)
+  promised_if_some t inside some = ⊎_elim
+      (λ (nothing : (m (Answer t) ≤ 1) × (p.ref (t + 1) ≡ None)). absurd (omega (arith, nothing.0, some)))
+      (λ (one : (1 < m (Answer t)) × (name : Name) × (p.ref (t + 1) ≡ Some name) × (name_at (block (m (Answer t))) ≡ Some name)). (one.1, one.2))
+      (is_after.stands.rooted.answers t inside)
+
+  pub some_if_promised : (t : ℕ) (n : Name) → t < c.mutators → p.ref (t + 1) ≡ Some n → 1 < m (Answer t)
+  some_if_promised t n inside is = ⊎_elim
+      (λ (nothing : (m (Answer t) ≤ 1) × (p.ref (t + 1) ≡ None)). absurd (none-some n (sym nothing.1 ∙ is)))
+      (λ (one : (1 < m (Answer t)) × (name : Name) × (p.ref (t + 1) ≡ Some name) × (name_at (block (m (Answer t))) ≡ Some name)). one.0)
+      (is_after.stands.rooted.answers t inside)
+
   -- an answer that is no address promises nothing
   pub no_promise : (t : ℕ) → t < c.mutators → m (Answer t) ≤ 1 → HasNoPromise (taken c m block g p is_after) t
-  no_promise t inside none a words is = ⊎_elim
-      (λ (nothing : (m (Answer t) ≤ 1) × (p.ref (t + 1) ≡ None)).
+  no_promise t inside none a words is =
       let x = gone c m block g p is_after a t words is in
-      none-some x.name (sym nothing.1 ∙ (ref_of_thread t a words x).1))
-      (λ (some : (1 < m (Answer t)) × (name : Name) × (p.ref (t + 1) ≡ Some name) × (name_at (block (m (Answer t))) ≡ Some name)). omega (arith, some.0, none))
-      (is_after.stands.rooted.answers t inside)
+      let some = some_if_promised t x.name inside (ref_of_thread t a words x).1 in
+      omega (arith, some, none)
 
   module _ (t refs nums : ℕ) (inside : t < c.mutators) (some : 1 < m (Answer t)) (refs_are : p.refs (t + 1) ≡ refs) (nums_are : p.nums (t + 1) ≡ nums)
       (few_refs : refs ≤ 16) (few_nums : nums ≤ 16) (few : g.count (t + 1) < 4294967295) where
@@ -82,10 +93,7 @@ module _ (c : Config) (m : Word → ℕ) (block : Plot) (g : Graph) (p : Promise
 
     -- the thread's next object
     ref : p.ref (t + 1) ≡ Some n
-    ref = ⊎_elim
-        (λ (nothing : (m (Answer t) ≤ 1) × (p.ref (t + 1) ≡ None)). absurd (omega (arith, nothing.0, some)))
-        (λ (one : (1 < m (Answer t)) × (name : Name) × (p.ref (t + 1) ≡ Some name) × (name_at (block (m (Answer t))) ≡ Some name)). one.2 ∙ ap Some (is_after.next (t + 1) one.1 one.2))
-        (is_after.stands.rooted.answers t inside)
+    ref = let one = promised_if_some t inside some in one.1 ∙ ap Some (is_after.next (t + 1) one.0 one.1)
 
     named_there : name_at (block a) ≡ Some n
     named_there = ⊎_elim
