@@ -152,7 +152,7 @@ module _ (c : Config) (m : Word → ℕ) (g : Graph) (asking : ℕ → Asking) (
       kind_of a refs nums name was.0 was.1 was.2
 
   -- an object has another name than a promised one
-  names_differ : (a refs nums seat : ℕ) (name : Name) → r.block a ≡ Some (thing name refs nums) → name ≡ fresh g (seat + 1) → ⊥
+  pub names_differ : (a refs nums seat : ℕ) (name : Name) → r.block a ≡ Some (thing name refs nums) → name ≡ fresh g (seat + 1) → ⊥
   names_differ a refs nums seat name is next = let o = r.shared.objects.each a refs nums name is in not_next name o.0 seat o.1 next
 
   -- no two have one name

@@ -9,3 +9,4 @@ pub mod Made
 pub mod Still
 pub mod Paused
 pub mod Answered
+pub mod Reached
