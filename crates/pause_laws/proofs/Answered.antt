@@ -4,16 +4,16 @@ use Rattle.std.proofs.lemmas.Bool.{cond-true, cond-false, cases_eq, eq-eqb, ne_e
 use Rattle.std.proofs.lemmas.Option.{none-some}
 use Rattle.heap_words.specs.declared.config.Config.{Config}
 use Rattle.heap_words.specs.Words.{Word, Phase, Cset, Evac, Current, Wait, Answer}
-use Rattle.heap_words.specs.Encoding.{shape_word, request_code, request_shape_in, refs_in, nums_in}
+use Rattle.heap_words.specs.Encoding.{request_shape_in, refs_in, nums_in}
 use Rattle.shen_graph.specs.Graph.{Graph, fresh}
-use Rattle.heap_world.specs.Asking.{Asking, nothing, asks, refused, given, IsAsked, IsRequest}
+use Rattle.heap_world.specs.Asking.{Asking, nothing, asks, refused, given, IsAsked}
 use Rattle.heap_world.specs.Represents.{Represents}
 use Rattle.heap_world.specs.Change.{Answers}
 use Rattle.image_laws.specs.Full.{full}
 use Rattle.image_laws.specs.Promised.{Promises}
 use Rattle.image_laws.specs.Serving.{served_promises}
 use Rattle.pause_laws.proofs.Promises.{promised_ref, promised_refs, promised_nums, promises_of, ref_of, refs_of, nums_of}
-use Rattle.pause_laws.proofs.Holding.{request_reads}
+use Rattle.pause_laws.proofs.Holding.{request_reads, waits_for}
 use Rattle.pause_laws.proofs.Turned.{SamePromise, IsPromisedAsAsked, promise_after}
 use Rattle.pause_laws.proofs.After.{IsPromisedThing, gone, no_hands, shared_facts, roots_left}
 use Rattle.pause_laws.proofs.Made.{promised_if_some, some_if_promised, no_promise, promise}
@@ -96,12 +96,7 @@ module _ (c : Config) (m : Word → ℕ) (g : Graph) (asking : ℕ → Asking) (
       subst (IsAsked (full c m) (plot_then c m g asking r) g.count t)
       (sym (cond-true (full c m (Answer t) == 1) refused (given refs nums) (eq-eqb (full c m (Answer t)) 1 one)))
       (full_wait c m t, one, no_promise c (full c m) (plot c m g asking r) g q (is_after c m g asking r) t inside (omega (arith, one))))
-      (answer_found c m g asking r t inside (waits_for t refs nums request))
-    where
-      waits_for : (u more less : ℕ) → IsRequest m g.count u more less → m (Wait u) ≢ 0
-      waits_for u more less ask none =
-          let zero' : request_code (g.count (u + 1) + 1) (shape_word more less) ≡ 0 = sym ask.wait_is ∙ none in
-          omega (arith, zero')
+      (answer_found c m g asking r t inside (waits_for m g.count t refs nums request))
 
   -- the words represent the graph again
   pub represents_again : Represents c (full c m) g (asked_then c m g asking r)

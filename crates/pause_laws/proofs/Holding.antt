@@ -41,6 +41,12 @@ request_reads memory count t refs nums request =
     reads_count : (n more less : ℕ) → more ≤ 16 → less ≤ 16 → request_count_in (request_code n (shape_word more less)) ≡ n
     reads_count n more less few_refs few_nums = omega (arith, few_refs, few_nums)
 
+-- and is not 0
+pub waits_for : (memory : Word → ℕ) (count : ℕ → ℕ) (t refs nums : ℕ) → IsRequest memory count t refs nums → memory (Wait t) ≢ 0
+waits_for memory count t refs nums request none =
+    let zero' : request_code (count (t + 1) + 1) (shape_word refs nums) ≡ 0 = sym request.wait_is ∙ none in
+    omega (arith, zero')
+
 -- who waits has asked, and is promised nothing
 pub record HasAsked (memory : Word → ℕ) (g : Graph) (asking : ℕ → Asking) (t : ℕ) : Type 0 where
   pub refs : ℕ

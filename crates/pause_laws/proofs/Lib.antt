@@ -10,3 +10,4 @@ pub mod Still
 pub mod Paused
 pub mod Answered
 pub mod Reached
+pub mod Crowds
