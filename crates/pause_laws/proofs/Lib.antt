@@ -11,3 +11,4 @@ pub mod Paused
 pub mod Answered
 pub mod Reached
 pub mod Crowds
+pub mod Outside
