@@ -12,3 +12,5 @@ pub mod Answered
 pub mod Reached
 pub mod Crowds
 pub mod Outside
+pub mod Images
+pub mod Pauses

@@ -1,2 +1,22 @@
-//! What a full collection does to a heap in a pause: it keeps the graph and answers who waits. Laws, and no code.
+//! What a full collection does to a heap in a pause: it keeps the graph, and answers who waits. Laws, as theorems and no
+//! code.
 #![tactic(auto)]
+
+ghost use Rattle.pause_laws.specs.Laws.{RepresentingHolds, ImageIsFull, FullIsPause};
+
+/// A law: words that represent a graph, with what mutators have asked for, hold a graph in the sense of the full collection.
+pub fn representing_holds()
+    ensures { RepresentingHolds }
+{}
+
+/// A law: the words of an image after a full collection are, by their names, those that a full collection makes of its
+/// words.
+pub fn image_is_full()
+    ensures { ImageIsFull }
+{}
+
+/// A law: a full collection is a pause. It keeps the graph that the words represent, answers each mutator that asks, and
+/// refuses an object only where live objects and objects made for other mutators crowd the heap.
+pub fn full_is_pause()
+    ensures { FullIsPause }
+{}
