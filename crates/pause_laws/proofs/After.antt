@@ -1,5 +1,5 @@
 -- Words that stand for a graph with promised objects represent it: the promised objects are no objects of the graph any more.
-use Rattle.std.proofs.Common.{◌≡◌, ◌≢◌, ℕ, ◌+◌, ◌-◌, ◌<◌, ◌≤◌, Bool, true, false, cond, slice_get, Option, Some, None, ⊎_elim, refl, sym, ap, ◌∙◌, subst, arith}
+use Rattle.std.proofs.Common.{◌≡◌, ℕ, ◌+◌, ◌-◌, ◌<◌, Bool, true, false, slice_get, Some, None, ⊎_elim, refl, sym, ap, ◌∙◌, arith}
 use Rattle.std.specs.Prelude.{if◌then◌else◌}
 use Rattle.std.proofs.lemmas.Bool.{cond-true, cond-false, cases_Bool}
 use Rattle.std.proofs.lemmas.Option.{none-some, same_Some}
@@ -7,9 +7,7 @@ use Rattle.heap_words.specs.declared.config.Config.{Config}
 use Rattle.heap_words.specs.Words.{Word, Free, Top, Root, Heap}
 use Rattle.shen_graph.specs.declared.name.Name.{Name}
 use Rattle.shen_graph.specs.Graph.{Graph, Object, Reference, blank, fresh, same_reference}
-use Rattle.shen_graph.proofs.PlainLemmas.{same_name-itself}
-use Rattle.heap_world.specs.Objects.{Refers}
-use Rattle.heap_world.specs.World.{Block, thing, hand, promised, words_of, Plot, name_at, Points, IsThing, IsGiven, AreObjects, SharedFacts}
+use Rattle.heap_world.specs.World.{Block, thing, hand, promised, words_of, Plot, name_at, Points, IsGiven, AreObjects, SharedFacts}
 use Rattle.heap_world.proofs.Pointing.{named_thing}
 use Rattle.image_laws.specs.Promised.{Promises, with_promised}
 use Rattle.image_laws.specs.Image.{ImageStands}
@@ -160,19 +158,22 @@ module _ (c : Config) (m : Word → ℕ) (block : Plot) (g : Graph) (p : Promise
     each = λ a refs nums n is.
         let old = left a refs nums n is in
         let o = stands.objects.each a refs nums n old.0 in
-        let object : g.object n ≡ Some o.0 = old_object n o.0 old.1 o.1 in
-        (o.0, object, record {
-          header = o.2.header;
-          shape = o.2.shape;
-          name_word = o.2.name_word;
-          few_refs = o.2.few_refs;
-          few_nums = o.2.few_nums;
-          refs_are = o.2.refs_are;
-          nums_are = o.2.nums_are;
-          references = λ i reference there.
-              points_on (heap (a + 3 + i)) reference (λ f same. is_after.fields a refs nums i n f o.0 old.0 object (there ∙ ap Some same)) (o.2.references i reference there);
-          numbers = o.2.numbers;
-        });
+        let object : g.object n ≡ Some o.0 = old_object n o.0 old.1 o.1 in (
+          o.0,
+          object,
+          record {
+            header = o.2.header;
+            shape = o.2.shape;
+            name_word = o.2.name_word;
+            few_refs = o.2.few_refs;
+            few_nums = o.2.few_nums;
+            refs_are = o.2.refs_are;
+            nums_are = o.2.nums_are;
+            references = λ i reference there.
+                points_on (heap (a + 3 + i)) reference (λ f same. is_after.fields a refs nums i n f o.0 old.0 object (there ∙ ap Some same)) (o.2.references i reference there);
+            numbers = o.2.numbers;
+          },
+        );
     once = λ a b refs nums more_refs more_nums n is_a is_b.
         stands.objects.once a b refs nums more_refs more_nums n (left a refs nums n is_a).0 (left b more_refs more_nums n is_b).0;
   }

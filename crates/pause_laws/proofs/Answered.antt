@@ -1,5 +1,5 @@
 -- What each mutator has been answered after a full collection.
-use Rattle.std.proofs.Common.{◌≡◌, ◌≢◌, ℕ, ◌+◌, ◌<◌, ◌≤◌, ◌==◌, ◌⊎◌, cond, true, false, Option, Some, None, ⊎_elim, refl, sym, ap, ◌∙◌, subst, arith}
+use Rattle.std.proofs.Common.{◌≡◌, ◌≢◌, ℕ, ◌+◌, ◌<◌, ◌≤◌, ◌==◌, None, ⊎_elim, refl, sym, ap, ◌∙◌, subst, arith}
 use Rattle.std.proofs.lemmas.Bool.{cond-true, cond-false, cases_eq, eq-eqb, ne_eqb}
 use Rattle.std.proofs.lemmas.Option.{none-some}
 use Rattle.heap_words.specs.declared.config.Config.{Config}
@@ -15,7 +15,7 @@ use Rattle.image_laws.specs.Serving.{served_promises}
 use Rattle.pause_laws.proofs.Promises.{promised_ref, promised_refs, promised_nums, promises_of, ref_of, refs_of, nums_of}
 use Rattle.pause_laws.proofs.Holding.{request_reads, waits_for}
 use Rattle.pause_laws.proofs.Turned.{SamePromise, IsPromisedAsAsked, promise_after}
-use Rattle.pause_laws.proofs.After.{IsPromisedThing, gone, no_hands, shared_facts, roots_left}
+use Rattle.pause_laws.proofs.After.{gone, no_hands, shared_facts, roots_left}
 use Rattle.pause_laws.proofs.Made.{promised_if_some, some_if_promised, no_promise, promise}
 use Rattle.pause_laws.proofs.Still.{packed_in, full_phase, full_cset, full_evac, full_current, full_wait, packed_wait}
 use Rattle.pause_laws.proofs.Paused.{then_of, packed_answer, asked_then, plot, is_after, plot_then, answer_left, answer_found}
@@ -75,10 +75,13 @@ module _ (c : Config) (m : Word → ℕ) (g : Graph) (asking : ℕ → Asking) (
       (full_wait c m t, answer, no_promise c (full c m) (plot c m g asking r) g q (is_after c m g asking r) t inside (omega (arith, answer)))
   asked_by t (given refs nums) inside is asked =
       let some = still_given t refs nums inside is asked.0 in
-      let same = same_promise t asked.0 in
-      (full_wait c m t, some, promise c (full c m) (plot c m g asking r) g q (is_after c m g asking r) t refs nums inside some
-      (same.refs ∙ refs_of c g asking t ∙ ap promised_refs is) (same.nums ∙ nums_of c g asking t ∙ ap promised_nums is)
-      asked.2.few_refs asked.2.few_nums asked.2.few)
+      let same = same_promise t asked.0 in (
+        full_wait c m t,
+        some,
+        promise c (full c m) (plot c m g asking r) g q (is_after c m g asking r) t refs nums inside some
+            (same.refs ∙ refs_of c g asking t ∙ ap promised_refs is) (same.nums ∙ nums_of c g asking t ∙ ap promised_nums is)
+            asked.2.few_refs asked.2.few_nums asked.2.few,
+      )
   asked_by t (asks refs nums) inside is asked =
       let request = asked.0 in
       let reads = request_reads m g.count t refs nums request in

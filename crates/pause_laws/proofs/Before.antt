@@ -1,15 +1,15 @@
 -- The words of an image before a pause: promised objects are objects of a larger graph, and the words stand for it.
-use Rattle.std.proofs.Common.{◌≡◌, ◌≢◌, ℕ, ◌+◌, ◌-◌, ◌<◌, ◌≤◌, ◌⊎◌, ◌&&◌, inl, inr, true, false, nat_le, nat_lt, slice_get, Option, Some, None, ⊎_elim, refl, sym, ap, ◌∙◌, subst, arith}
+use Rattle.std.proofs.Common.{◌≡◌, ℕ, ◌+◌, ◌-◌, ◌<◌, ◌⊎◌, ◌&&◌, inl, inr, true, false, nat_le, nat_lt, slice_get, Option, Some, ⊎_elim, refl, sym, ap, ◌∙◌, subst, arith}
 use Rattle.std.proofs.lemmas.Bool.{cond-true, cond-false, cases_Bool, and_parts, leb-true, ltb-true}
 use Rattle.std.proofs.lemmas.Option.{none-some, same_Some}
 use Rattle.heap_words.specs.declared.config.Config.{Config}
-use Rattle.heap_words.specs.Words.{Word, Top, Root, Wait, Answer, Heap}
+use Rattle.heap_words.specs.Words.{Word, Top, Root, Answer, Heap}
 use Rattle.shen_graph.specs.declared.name.Name.{Name}
 use Rattle.shen_graph.specs.Graph.{Graph, Object, blank, fresh, same_reference}
 use Rattle.shen_graph.specs.Reach.{IsReachable}
 use Rattle.shen_graph.specs.Reach as reach
 use Rattle.shen_graph.proofs.PlainLemmas.{same_name-itself}
-use Rattle.heap_world.specs.World.{Block, thing, hand, promised, words_of, Plot, name_at, Points, IsThing, IsGiven, AreObjects}
+use Rattle.heap_world.specs.World.{Block, thing, hand, promised, words_of, Plot, name_at, Points, IsThing, AreObjects}
 use Rattle.heap_world.specs.Asking.{Asking, nothing, asks, refused, given, IsPromise, IsAsked}
 use Rattle.heap_world.specs.Represents.{Represents}
 use Rattle.heap_world.specs.Roots.{is_root_of}

@@ -1,5 +1,5 @@
 -- Who is refused was crowded out by live objects and by what was made for other mutators.
-use Rattle.std.proofs.Common.{◌≡◌, ◌≢◌, ℕ, ◌+◌, ◌-◌, ◌*◌, ◌<◌, ◌≤◌, ◌==◌, ◌⊎◌, cond, zero, suc, nat_lt, true, false, List, sum_by, Option, Some, None, ⊎_elim, refl, sym, ap, ◌∙◌, subst, arith, add-zero}
+use Rattle.std.proofs.Common.{◌≡◌, ◌≢◌, ℕ, ◌+◌, ◌-◌, ◌*◌, ◌<◌, ◌≤◌, ◌==◌, cond, zero, suc, nat_lt, Option, Some, None, ⊎_elim, refl, sym, ap, ◌∙◌, subst, arith, add-zero}
 use Rattle.std.proofs.lemmas.Bool.{cond-true, cond-false, cases_lt, cases_eq, eq-eqb, ne_eqb, lt-ltb, le-ltb}
 use Rattle.std.proofs.Math.Nat.{mul-le-mul_right}
 use Rattle.heap_words.specs.declared.config.Config.{Config}
@@ -7,11 +7,9 @@ use Rattle.heap_words.specs.Words.{Word, Top, Wait, Answer}
 use Rattle.heap_words.specs.Encoding.{object_words, request_shape_in}
 use Rattle.packing.specs.Tops.{sum_below}
 use Rattle.packing.specs.Rooms.{HasNoRoom, IsLowestRoom, tops_served, given_by, room_at_turn}
-use Rattle.packing.proofs.Sums.{sum_next, sum_none, sum_same, sum_both, sum_of_none, sum_front, sum_of_two_rows}
+use Rattle.packing.proofs.Sums.{sum_next, sum_none, sum_both, sum_of_none, sum_front, sum_of_two_rows}
 use Rattle.packing.proofs.Rooms.{all_full}
-use Rattle.shen_graph.specs.declared.name.Name.{Name}
-use Rattle.shen_graph.specs.Graph.{Graph, named}
-use Rattle.shen_graph.specs.Reach.{IsReach, size}
+use Rattle.shen_graph.specs.Graph.{Graph}
 use Rattle.heap_world.specs.Asking.{Asking, nothing, asks, refused, given, IsRequest, IsAsked}
 use Rattle.heap_world.specs.Represents.{Represents}
 use Rattle.heap_world.specs.Change.{words_given, IsCrowded}
@@ -22,7 +20,7 @@ use Rattle.image_laws.proofs.Served.{tops_are_served, requests_are_answered}
 use Rattle.image_laws.proofs.Crowded.{full_is_crowded}
 use Rattle.pause_laws.proofs.Promises.{promised_ref, promised_refs, promised_nums, promises_of, ref_of, refs_of, nums_of}
 use Rattle.pause_laws.proofs.Before.{plain}
-use Rattle.pause_laws.proofs.Holding.{ReadsAs, request_reads, waits_for, are_fresh, holds_by}
+use Rattle.pause_laws.proofs.Holding.{request_reads, waits_for, are_fresh, holds_by}
 use Rattle.pause_laws.proofs.Still.{packed_in, packed_wait}
 use Rattle.pause_laws.proofs.Paused.{then_of, asked_then}
 use Rattle.pause_laws.proofs.Reached.{reach_list}

@@ -1,22 +1,20 @@
 -- Words that represent a graph hold it: the condition of a full collection.
-use Rattle.std.proofs.Common.{◌≡◌, ◌≢◌, ℕ, ◌+◌, ◌<◌, ◌≤◌, true, false, Option, Some, None, ⊎_elim, refl, sym, ap, ◌∙◌, subst, arith}
+use Rattle.std.proofs.Common.{◌≡◌, ◌≢◌, ℕ, ◌+◌, ◌<◌, ◌≤◌, Option, Some, None, refl, sym, ap, ◌∙◌, arith}
 use Rattle.std.proofs.lemmas.Bool.{cond-false, true≢false}
 use Rattle.heap_words.specs.declared.config.Config.{Config}
 use Rattle.heap_words.specs.Words.{Word, Wait, Answer}
 use Rattle.heap_words.specs.Encoding.{is_forwarded, shape_word, refs_in, nums_in, request_code, request_count_in, request_shape_in}
 use Rattle.heap_words.proofs.Shapes.{refs_in-shape_word, nums_in-shape_word}
 use Rattle.shen_graph.specs.declared.name.Name.{Name}
-use Rattle.shen_graph.specs.Graph.{Graph, Object, Reference, blank, fresh, same_reference}
-use Rattle.shen_graph.specs.Reach.{IsReachable}
-use Rattle.heap_world.specs.World.{IsGiven}
+use Rattle.shen_graph.specs.Graph.{Graph, Object, blank, fresh, same_reference}
 use Rattle.heap_world.specs.Asking.{Asking, nothing, asks, refused, given, IsRequest, IsAsked}
 use Rattle.heap_world.specs.Represents.{Represents}
-use Rattle.image_laws.specs.Promised.{Promises, with_promised, AreFresh}
+use Rattle.image_laws.specs.Promised.{Promises, AreFresh}
 use Rattle.image_laws.specs.Serving.{asked_shape, asked_name, IsAsking}
 use Rattle.image_laws.proofs.Standing.{standing_holds}
 use Rattle.image_graph.specs.Holds.{HoldsBy, HoldsSome}
 use Rattle.pause_laws.proofs.Promises.{promised_ref, promises_of, ref_of, promised_one}
-use Rattle.pause_laws.proofs.Before.{plain, not_next, rooted_plain, plain_stands, reached_at}
+use Rattle.pause_laws.proofs.Before.{plain, not_next, plain_stands, reached_at}
 
 -- A request reads as what it was made of.
 pub record ReadsAs (memory : Word → ℕ) (t count refs nums : ℕ) : Type 0 where

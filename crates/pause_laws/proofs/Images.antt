@@ -1,23 +1,20 @@
 -- The words of an image after a full collection, by their names.
-use Rattle.std.proofs.Common.{◌≡◌, ◌≢◌, ℕ, ◌+◌, ◌-◌, ◌<◌, ◌≤◌, ◌++◌, true, false, nat_le, zero, suc, List, length, get_or, map, replicate, ⊎_elim, refl, sym, ap, ◌∙◌, arith}
-use Rattle.std.specs.List.{range_with_len}
-use Rattle.std.proofs.lemmas.Bool.{cases_Bool, cases_lt, le-leb, lt-leb, true≢false}
+use Rattle.std.proofs.Common.{◌≡◌, ℕ, ◌+◌, ◌-◌, ◌<◌, ◌≤◌, ◌++◌, true, false, List, length, get_or, replicate, ⊎_elim, refl, sym, ap, ◌∙◌, arith, length-append}
+use Rattle.std.proofs.lemmas.Bool.{cases_Bool, cases_lt, lt-leb, true≢false}
 use Rattle.std.proofs.lemmas.List.{get_or_append_left, get_or-append_right, get_or-replicate, length-replicate}
 use Rattle.std.proofs.lemmas.List.FromFn.{get_or-map-range_with_len, length-map-range_with_len}
 use Rattle.std.proofs.Math.Logic.{∥∥₁_elim}
 use Rattle.std.proofs.Math.Nat.{ℕ_set}
 use Rattle.std.proofs.Math.Path.{fun_ext}
 use Rattle.heap_words.specs.declared.config.Config.{Config}
-use Rattle.heap_words.specs.Words.{Word, Pause, Left, End, State, Top, Heap, IsWord, is_word, is_image, word_at, image_start, table_words, view}
+use Rattle.heap_words.specs.Words.{Word, Pause, Left, End, State, Top, Heap, is_word, is_image, word_at, image_start, table_words, view}
 use Rattle.heap_words.specs.Rows.{name_of}
-use Rattle.heap_words.proofs.Named.{name_of-word_at}
+use Rattle.heap_words.proofs.Named.{name_of-word_at, are_read_whole}
 use Rattle.heap_words.proofs.Rows.{word_inside, is_image-word_at}
 use Rattle.heap_words.proofs.Stores.{is_word_true, view_word, view_none}
 use Rattle.heap_world.specs.Change.{image_words, image_view}
-use Rattle.packing.specs.Places.{LieApart}
 use Rattle.shen_graph.specs.Graph.{Graph}
 use Rattle.image_laws.specs.Held.{IsAmong}
-use Rattle.image_laws.specs.Plot.{heap_end}
 use Rattle.image_laws.specs.Full.{now_in, root_words, kept_in, packed, made_in, refused, full}
 use Rattle.image_laws.specs.Promised.{with_promised}
 use Rattle.image_laws.proofs.Reached.{can_pack}
@@ -92,3 +89,12 @@ holds_outside c words g holds =
 pub image_is_full : (c : Config) (image : List ℕ) → HoldsSome c (image_view c image) → image_view c (full_image c image) ≡ full c (image_view c image)
 image_is_full c image holds =
     view_full c image (λ word other. ∥∥₁_elim holds (hlevel ℕ_set) (λ h. holds_outside c (replicate (image_start c) 0 ++ image) h.0 h.1 word other))
+
+-- a table that reads so is the image, behind zeros
+pub table_is_full : (c : Config) (image table : List ℕ) → length table ≡ table_words c → HoldsSome c (image_view c image) → view c table ≡ full c (image_view c image)
+    → table ≡ replicate (image_start c) 0 ++ full_image c image
+table_is_full c image table long holds is =
+    let none : ℕ = 0 in
+    are_read_whole c table (replicate (image_start c) none ++ full_image c image) long
+    (omega (arith, length-append (replicate (image_start c) none) (full_image c image), length-replicate (image_start c) none, image_length c image))
+    (λ word inside. ap (λ (m : Word → ℕ). m word) (is ∙ sym (image_is_full c image holds)))

@@ -1,5 +1,5 @@
 -- An answer that is an address is that of the object that was promised, and one that is none promises nothing.
-use Rattle.std.proofs.Common.{◌≡◌, ◌≢◌, ℕ, ◌+◌, ◌-◌, ◌<◌, ◌≤◌, ◌⊎◌, zero, suc, true, length, replicate, slice_get, Option, Some, None, ⊎_elim, refl, sym, ap, ◌∙◌, subst, arith}
+use Rattle.std.proofs.Common.{◌≡◌, ℕ, ◌+◌, ◌-◌, ◌<◌, ◌≤◌, zero, suc, true, length, replicate, slice_get, Some, None, ⊎_elim, refl, sym, ap, ◌∙◌, subst, arith}
 use Rattle.std.proofs.lemmas.Bool.{cond-true, cases_lt}
 use Rattle.std.proofs.lemmas.Bool.Decides.{nat_tests}
 use Rattle.std.proofs.lemmas.List.{length-replicate}
@@ -10,11 +10,10 @@ use Rattle.heap_words.specs.Encoding.{name_code, fresh_word}
 use Rattle.shen_graph.specs.declared.name.Name.{Name}
 use Rattle.shen_graph.specs.Graph.{Graph, Object, Reference, blank, fresh, same_reference}
 use Rattle.shen_graph.proofs.PlainLemmas.{same_name-itself}
-use Rattle.heap_world.specs.World.{Block, thing, promised, Plot, name_at, IsThing}
+use Rattle.heap_world.specs.World.{thing, promised, Plot, name_at, IsThing}
 use Rattle.heap_world.specs.Asking.{HasNoPromise, IsPromise}
 use Rattle.heap_world.proofs.Pointing.{named_thing}
 use Rattle.image_laws.specs.Promised.{Promises, with_promised}
-use Rattle.image_laws.specs.Image.{AnswerStands}
 use Rattle.pause_laws.proofs.Mapped.{mapped_at}
 use Rattle.pause_laws.proofs.After.{is_promised, as_promised, IsAfter, IsPromisedThing, taken, gone}
 

@@ -1,28 +1,27 @@
 -- After a full collection the words represent the same graph, and each mutator that asks is answered.
-use Rattle.std.proofs.Common.{◌≡◌, ◌≢◌, ℕ, ◌+◌, ◌-◌, ◌<◌, ◌≤◌, ◌==◌, ◌⊎◌, ◌*◌, inl, inr, nat_le, true, false, slice_get, List, Option, Some, None, ⊎_elim, refl, sym, ap, ◌∙◌, subst, arith}
+use Rattle.std.proofs.Common.{◌≡◌, ◌≢◌, ℕ, ◌+◌, ◌<◌, ◌≤◌, ◌==◌, ◌⊎◌, ◌*◌, inl, inr, nat_le, slice_get, Some, ⊎_elim, sym, ap, ◌∙◌, arith}
 use Rattle.std.specs.Prelude.{if◌then◌else◌}
-use Rattle.std.proofs.lemmas.Bool.{cond-true, cond-false, le-leb, eq-eqb, ne_eqb}
-use Rattle.std.proofs.lemmas.Option.{none-some, same_Some}
+use Rattle.std.proofs.lemmas.Bool.{cond-true, le-leb}
+use Rattle.std.proofs.lemmas.Option.{same_Some}
 use Rattle.std.proofs.Math.Nat.{mul-le-mul_right}
 use Rattle.heap_words.specs.declared.config.Config.{Config}
-use Rattle.heap_words.specs.Words.{Word, Phase, Cset, Evac, Top, Current, Wait, Answer, Heap}
-use Rattle.heap_words.specs.Encoding.{request_count_in, request_shape_in, refs_in, nums_in}
+use Rattle.heap_words.specs.Words.{Word, Top, Wait, Answer, Heap}
+use Rattle.heap_words.specs.Encoding.{request_count_in}
 use Rattle.packing.specs.Rooms.{HasNoRoom, IsLowestRoom}
 use Rattle.packing.specs.Places.{new_place}
 use Rattle.shen_graph.specs.declared.name.Name.{Name}
 use Rattle.shen_graph.specs.Graph.{Graph, Object, fresh}
 use Rattle.shen_graph.specs.Reach as reach
-use Rattle.heap_world.specs.World.{Block, thing, promised, Plot, name_at}
-use Rattle.heap_world.specs.Asking.{Asking, nothing, asks, refused, given, IsAsked, IsPromise}
+use Rattle.heap_world.specs.World.{thing, promised, Plot, name_at}
+use Rattle.heap_world.specs.Asking.{Asking, nothing, asks, refused, given}
 use Rattle.heap_world.specs.Represents.{Represents}
-use Rattle.heap_world.specs.Change.{Answers}
 use Rattle.heap_world.proofs.Pointing.{named_thing}
-use Rattle.image_laws.specs.Held.{IsAmong, IsHeld, AreKept, HoldsGraph}
+use Rattle.image_laws.specs.Held.{IsAmong}
 use Rattle.image_laws.specs.Pack.{CanPack}
 use Rattle.image_laws.specs.Plot.{packed_block}
-use Rattle.image_laws.specs.Full.{now_in, root_words, kept_in, asked_in, packed, renewed_answer, full}
+use Rattle.image_laws.specs.Full.{now_in, root_words, kept_in, asked_in, packed, full}
 use Rattle.image_laws.specs.Promised.{Promises, with_promised}
-use Rattle.image_laws.specs.Image.{AnswerStands, ImageStands}
+use Rattle.image_laws.specs.Image.{ImageStands}
 use Rattle.image_laws.specs.Serving.{asked_name, served_block, served_promises}
 use Rattle.image_laws.specs.Served.{tops_at_turn}
 use Rattle.image_laws.proofs.Reached.{can_pack}
@@ -30,13 +29,12 @@ use Rattle.image_laws.proofs.Origin.{block_from}
 use Rattle.image_laws.proofs.Served.{requests_are_answered}
 use Rattle.image_laws.proofs.Serving.{full_stands}
 use Rattle.image_laws.proofs.Walked.{walk_keeps}
-use Rattle.pause_laws.proofs.Promises.{promised_ref, promised_refs, promised_nums, promises_of, ref_of, refs_of, nums_of, promised_one}
+use Rattle.pause_laws.proofs.Promises.{promises_of, promised_one}
 use Rattle.pause_laws.proofs.Before.{plain, not_next, kind_at, reached_at}
-use Rattle.pause_laws.proofs.Holding.{request_reads, HasAsked, who_waits, next_asked, holds_by}
+use Rattle.pause_laws.proofs.Holding.{next_asked, holds_by}
 use Rattle.pause_laws.proofs.Turned.{SamePromise, IsPromisedAsAsked, promise_after, piece_after}
-use Rattle.pause_laws.proofs.After.{IsKnown, IsAfter, IsPromisedThing, taken, gone, no_hands, shared_facts, roots_left}
-use Rattle.pause_laws.proofs.Made.{no_promise, promise}
-use Rattle.pause_laws.proofs.Still.{packed_in, full_phase, full_cset, full_evac, full_current, full_wait, packed_wait}
+use Rattle.pause_laws.proofs.After.{IsKnown, IsAfter, taken}
+use Rattle.pause_laws.proofs.Still.{packed_in, packed_wait}
 
 -- what a mutator that asked has been answered
 abbrev pub then_of : Asking → (answer : ℕ) → Asking

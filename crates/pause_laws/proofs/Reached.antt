@@ -1,5 +1,5 @@
 -- The names that a graph reaches, as a list in their order: those of the pieces that the words of an image hold.
-use Rattle.std.proofs.Common.{◌≡◌, ◌≢◌, ℕ, ◌+◌, ◌<◌, ◌≤◌, ◌==◌, ◌⊎◌, ◌||◌, inl, inr, Bool, true, false, nat_eq, slice_get, List, [], ◌∷◌, ◌++◌, Option, Some, None, ⊎_elim, refl, sym, ap, ◌∙◌, subst, arith}
+use Rattle.std.proofs.Common.{◌≡◌, ◌≢◌, ℕ, ◌+◌, ◌==◌, ◌⊎◌, inl, inr, true, false, nat_eq, slice_get, List, [], ◌∷◌, Option, Some, None, ⊎_elim, refl, sym, ap, ◌∙◌, subst, arith}
 use Rattle.std.specs.Prelude.{Contains}
 use Rattle.std.proofs.lemmas.Bool.{cond-true, cond-false, cases_Bool, or_cases, or_left, or_right, eqb-true, eq-eqb, ne_eqb, false≢true}
 use Rattle.std.proofs.lemmas.List.Elements.{Contains-append_right}
@@ -23,9 +23,9 @@ use Rattle.image_laws.specs.Promised.{Promises, with_promised}
 use Rattle.image_laws.proofs.Reached.{held_is_reached, reached_is_held}
 use Rattle.image_laws.proofs.Walked.{walk_keeps}
 use Rattle.image_laws.proofs.Promised.{old_object, reaches_promised}
-use Rattle.pause_laws.proofs.Sorted.{IsSortOf, sorted_names}
+use Rattle.pause_laws.proofs.Sorted.{sorted_names}
 use Rattle.pause_laws.proofs.Promises.{promises_of, promised_one}
-use Rattle.pause_laws.proofs.Before.{plain, names_stay, not_next, kind_at, names_differ, rooted_plain, reached_at}
+use Rattle.pause_laws.proofs.Before.{plain, names_stay, kind_at, names_differ, rooted_plain, reached_at}
 use Rattle.pause_laws.proofs.Holding.{are_fresh, holds_by}
 
 -- the names of the addresses of a list that have one
@@ -142,9 +142,11 @@ module _ (c : Config) (m : Word → ℕ) (g : Graph) (asking : ℕ → Asking) (
   -- so there is a list of them in their order
   pub reach_list : (names : List Name) × IsReach g names
   reach_list =
-      let sorted = sorted_names found in
-      (sorted.0, record {
-        in_order = sorted.1.in_order;
-        all = λ n reached. sorted.1.all n (all_found n reached);
-        only = λ n there. only_found n (sorted.1.only n there);
-      })
+      let sorted = sorted_names found in (
+        sorted.0,
+        record {
+          in_order = sorted.1.in_order;
+          all = λ n reached. sorted.1.all n (all_found n reached);
+          only = λ n there. only_found n (sorted.1.only n there);
+        },
+      )

@@ -1,12 +1,12 @@
 -- A list of names in their order that has the same names as another list.
-use Rattle.std.proofs.Common.{◌≡◌, ℕ, ◌+◌, ◌<◌, ◌⊎◌, inl, inr, ⊎_elim, List, [], ◌∷◌, ◌++◌, sym, ◌∙◌, arith, refl, subst}
+use Rattle.std.proofs.Common.{◌≡◌, ◌<◌, ◌⊎◌, inl, inr, ⊎_elim, List, [], ◌∷◌, sym, arith, refl, subst}
 use Rattle.std.specs.Prelude.{Contains, ◌==◌}
-use Rattle.std.proofs.lemmas.Bool.{cases_lt, cases_eq, and_from, eq-eqb}
+use Rattle.std.proofs.lemmas.Bool.{cases_lt, and_from, eq-eqb}
 use Rattle.std.proofs.lemmas.List.Elements.{Contains-append_right}
 use Rattle.shen_graph.specs.declared.name.Name.{Name}
 use Rattle.shen_graph.specs.Reach.{IsBefore, InOrder}
 use Rattle.shen_graph.proofs.PlainLemmas.{same_name-true}
-use Rattle.shen_graph.proofs.ReachLemmas.{Contains-cons_cases, Contains-nil}
+use Rattle.shen_graph.proofs.ReachLemmas.{Contains-cons_cases}
 
 -- of two names that differ one is before the other
 before_cases : (a b : Name) → (a ≡ b) ⊎ (IsBefore a b ⊎ IsBefore b a)
@@ -101,15 +101,17 @@ pub sorted_names : (names : List Name) → (sorted : List Name) × IsSortOf name
 sorted_names [] = ([], record { in_order = tt; all = λ x there. there; only = λ x there. there })
 sorted_names (n ∷ ns) =
     let rest = sorted_names ns in
-    let out = inserted n rest.0 rest.1.in_order in
-    (out.0, record {
-      in_order = out.1;
-      all = λ x there. ⊎_elim
-          (λ (is : n ≡ x). subst (Contains out.0) is out.2.here)
-          (λ (old : Contains ns x). out.2.keeps x (rest.1.all x old))
-          (Contains-cons_cases n ns x there);
-      only = λ x there. ⊎_elim
-          (λ (is : n ≡ x). (0, omega arith, is))
-          (λ (old : Contains rest.0 x). later n ns x (rest.1.only x old))
-          (out.2.only x there);
-    })
+    let out = inserted n rest.0 rest.1.in_order in (
+      out.0,
+      record {
+        in_order = out.1;
+        all = λ x there. ⊎_elim
+            (λ (is : n ≡ x). subst (Contains out.0) is out.2.here)
+            (λ (old : Contains ns x). out.2.keeps x (rest.1.all x old))
+            (Contains-cons_cases n ns x there);
+        only = λ x there. ⊎_elim
+            (λ (is : n ≡ x). (0, omega arith, is))
+            (λ (old : Contains rest.0 x). later n ns x (rest.1.only x old))
+            (out.2.only x there);
+      },
+    )

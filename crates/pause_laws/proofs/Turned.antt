@@ -1,13 +1,12 @@
 -- What the turns of waiting threads make of promises and of pieces.
-use Rattle.std.proofs.Common.{◌≡◌, ◌≢◌, ℕ, ◌+◌, ◌<◌, ◌≤◌, ◌⊎◌, ◌==◌, inl, inr, zero, suc, Option, Some, None, ⊎_elim, refl, sym, ap, ◌∙◌, subst, arith}
+use Rattle.std.proofs.Common.{◌≡◌, ◌≢◌, ℕ, ◌+◌, ◌<◌, ◌⊎◌, ◌==◌, inl, inr, zero, suc, Option, Some, None, ⊎_elim, refl, sym, ap, ◌∙◌, arith}
 use Rattle.std.proofs.lemmas.Bool.{cond-true, cond-false, cases_eq, eq-eqb, ne_eqb}
-use Rattle.std.proofs.lemmas.Option.{none-some, same_Some}
+use Rattle.std.proofs.lemmas.Option.{none-some}
 use Rattle.heap_words.specs.declared.config.Config.{Config}
 use Rattle.heap_words.specs.Words.{Word, Top, Wait}
 use Rattle.heap_words.specs.Encoding.{refs_in, nums_in, request_count_in, request_shape_in}
 use Rattle.regions.specs.Place.{base_of}
-use Rattle.shen_graph.specs.declared.name.Name.{Name}
-use Rattle.heap_world.specs.World.{Block, thing, name_at, Plot}
+use Rattle.heap_world.specs.World.{Block, name_at, Plot}
 use Rattle.heap_world.proofs.Pieces.{piece_cases}
 use Rattle.image_laws.specs.Full.{served, room_for}
 use Rattle.image_laws.specs.Promised.{Promises}
@@ -85,8 +84,12 @@ module _ (c : Config) (m : Word → ℕ) (block : Plot) where
   turn_piece n w plot None same is before a b there = later n a b (before a b there)
   turn_piece n w plot (Some r) same is before a b there = ⊎_elim
       (λ (new : (a ≡ base_of c r + w (Top r)) × (asked_piece w n ≡ b)).
-      inr (n, omega arith, (λ none. room_waits c w n r is (same ∙ none)),
-      ap (λ k. name_at (Some k)) (sym new.1) ∙ ap (λ (k : ℕ). Some (record { thread = n + 1; count = request_count_in k })) same))
+      inr (
+        n,
+        omega arith,
+        (λ none. room_waits c w n r is (same ∙ none)),
+        ap (λ k. name_at (Some k)) (sym new.1) ∙ ap (λ (k : ℕ). Some (record { thread = n + 1; count = request_count_in k })) same,
+      ))
       (λ (old : (a ≢ base_of c r + w (Top r)) × (plot a ≡ Some b)). later n a b (before a b old.1))
       (piece_cases plot (base_of c r + w (Top r)) (asked_piece w n) a b there)
 

@@ -1,5 +1,5 @@
 -- A full collection as what a pause makes of the words of an image.
-use Rattle.std.specs.Prelude.{ℕ, ◌+◌, List, map}
+use Rattle.std.specs.Prelude.{◌+◌, map}
 use Rattle.std.specs.List.{range_with_len}
 use Rattle.heap_words.specs.Words.{image_start}
 use Rattle.heap_words.specs.Rows.{name_of}
