@@ -53,7 +53,7 @@ orders_unsettled : (c : Config) (w : World) (seat : ℕ) (kept : Kept) (command 
 orders_unsettled c w seat kept command fixed Rest made order given takes facts = (facts, refl)
 orders_unsettled c w seat kept command fixed (Ended r) made order given takes facts = (facts, refl)
 orders_unsettled c w seat kept command fixed Gone made order given takes facts = absurd (cc (takes))
-orders_unsettled c w seat kept command fixed _ made order given takes facts = absurd (given (in_call _ made order refl takes))
+orders_unsettled c w seat kept command fixed spot made order given takes facts = absurd (given (in_call spot made order refl takes))
 
 -- a reply that is given is the settled one, of a call that goes on
 pub gives_settled : (c : Config) (w : World) (seat : ℕ) (kept : Kept) (command : Command) (fixed : Option Reply) (spot : Spot) (made : ℕ) (reply : Reply) → SpotFacts c w seat made kept command fixed spot → given_at spot ≡ Some reply → fixed ≡ Some reply

@@ -24,6 +24,8 @@ use Rattle.handshake.specs.Standing.{is_within, is_pausing}
 use Rattle.handshake.specs.Shaken.{IsShaken}
 use Rattle.handshake.proofs.Still.{pause_empty}
 use Rattle.handshake.proofs.Shaking.{shaken_step}
+use Rattle.handshake.proofs.Counting.{counted_step}
+use Rattle.handshake.specs.Left.{IsCounted}
 use Rattle.mutator.specs.declared.spot.Kept.{Kept}
 use Rattle.mutator.specs.declared.spot.Spot.{Spot}
 use Rattle.mutator.specs.declared.spot.Spot.TheVariants.{Entering, Waiting}
@@ -49,7 +51,7 @@ use Rattle.step_core.specs.Standing.{standing_at, control_standing, standing_of}
 use Rattle.step_core.proofs.Adapter.{owes_stepped}
 use Rattle.step_core.proofs.Facts.{IsThread, IsAim, IsControl, IsMachine, PromisedToMutators, Follows, Owes, AreRead}
 use Rattle.step_core.proofs.Images.{words_after, words_loaded, found-placed, settled_touched, settled_found, image_grows, image_kept}
-use Rattle.step_core.proofs.Obeying.{machine_obeys}
+use Rattle.step_core.proofs.MachinesObey.{CanGo, standing, is_left, event_obeys, event_counts}
 use Rattle.step_core.proofs.Outside.{outside_touch}
 use Rattle.step_core.proofs.Owing.{follows_owes}
 use Rattle.step_core.proofs.Paused.{paused_owes}
@@ -73,7 +75,7 @@ not_gone false takes = refl
 
 -- the handshake is kept in a stage
 abbrev pub IsKept : Config → Stage Actor → Type 0
-IsKept c s = IsShaken c (λ a. standing_of a.machine) s
+IsKept c s = IsShaken c standing s
 
 -- while an image counts the control works in a pause
 holding_pauses : (machine : Machine) (image : List ℕ) → image_in machine ≡ Some image → is_pausing (standing_of machine) ≡ true
@@ -339,49 +341,53 @@ module _ (change : Change) (law : IsPause change) (c : Config) (g : Graph) (s : 
           (control_after change law c g s past number k command calls follows shaken here)) (sym world_open)
       (owes (subst (λ w. Shared c w) world_open (shared_held change law c g s past number k command calls follows shaken here)) (hands_held change law c g s past number k command calls follows shaken here) (ready_at spot here))))
 
+  -- the world while no image counts
+  abbrev open_now : World
+  open_now = pauses.open_world c s.words follows.block follows.owner (after g past)
+
+  -- the word of the image that is loaded
+  abbrev loaded : ℕ → ℕ
+  loaded index = slice_index s.words (image_start c + index)
+
+  -- the control after it loaded a word: it loads the next one, or it was the last one
+  abbrev after_word : ℕ → Bool → Actor
+  after_word index more = record {
+    machine = controlling (record {
+      spot = if more then LoadWord (index + 1) else StoreWord 0;
+      seen = if more then seen else image_view c (change c (image ++ loaded index ∷ [])) Free;
+      image = if more then image ++ loaded index ∷ [] else change c (image ++ loaded index ∷ []);
+    });
+    command = command;
+    calls = calls ++ [];
+  }
+
+  -- what it owes then
+  loaded_owes : (index : ℕ) → Here (LoadWord index) → Shared c open_now → ((a more : ℕ) → follows.block a ≡ Some (hand (control_number c) more) → ⊥) → (more : Bool) → nat_lt (index + 1) (image_words c) ≡ more
+      → (length image ≡ index) × AreRead c s.words image index
+      → Owes c s.words s.words open_now past (control_number c) s.machines (settled_by c s.words (image_in (after_word index more).machine)) [] (after_word index more)
+  loaded_owes index here shared hands true more known =
+      read_owes c s.words follows.block follows.owner (after g past) past s.machines command calls
+      (record { spot = LoadWord (index + 1); seen = seen; image = image ++ loaded index ∷ [] }) shared follows.promised_to hands more
+      (length-snoc image (loaded index) ∙ ap (λ n. n + 1) known.0, image_grows c s.words image index known.0 known.1) refl
+  loaded_owes index here shared hands false all known =
+      let less : index + 1 ≡ image_words c = (let last = ltb-false _ _ all in let ready = ltb-true _ _ (ready_at (LoadWord index) here) in omega (arith, last, ready)) in
+      paused_owes c s.words follows.block follows.owner (after g past) past s.machines (image ++ loaded index ∷ [])
+      (λ i below. image_grows c s.words image index known.0 known.1 i (omega (arith, below, less))) follows.seats change law
+      (length-snoc image (loaded index) ∙ ap (λ n. n + 1) known.0 ∙ less) shared follows.promised_to follows.no_more
+      (known_held change law c g s past number (control_at (LoadWord index)) command calls follows shaken here)
+      (all_outside change law c g s past number (control_at (LoadWord index)) command calls follows shaken here refl)
+      (image_view c (change c (image ++ loaded index ∷ [])) Free) command calls
+
   -- a word of the image that is loaded
   load_word : (index : ℕ) → Here (LoadWord index) → ControlGoal (LoadWord index)
   load_word index here =
-      let k = control_at (LoadWord index) in
-      let known = facts change law c g s past number k command calls follows shaken here in
-      let same_words : accessed (control_access c k) s.words ≡ s.words = set-get_or s.words (image_start c + index) 0 in
+      let known = facts change law c g s past number (control_at (LoadWord index)) command calls follows shaken here in
+      let same_words : accessed (control_access c (control_at (LoadWord index))) s.words ≡ s.words = set-get_or s.words (image_start c + index) 0 in
       quiet (LoadWord index) here refl refl (λ shared hands ready.
-      subst (λ ws. Owes c s.words ws (pauses.open_world c s.words follows.block follows.owner (after g past)) past (control_number c) s.machines
-          (settled_by c ws (image_in (control_after change law c g s past number k command calls follows shaken here).machine)) []
-          (control_after change law c g s past number k command calls follows shaken here)) (sym same_words)
-      (by_last shared hands (nat_lt (index + 1) (image_words c)) refl known.aims))
-    where
-      abbrev open : World
-      open = pauses.open_world c s.words follows.block follows.owner (after g past)
-
-      abbrev word : ℕ
-      word = slice_index s.words (image_start c + index)
-
-      abbrev after_word : Bool → Actor
-      after_word b = record {
-        machine = controlling (record {
-          spot = if b then LoadWord (index + 1) else StoreWord 0;
-          seen = if b then seen else image_view c (change c (image ++ word ∷ [])) Free;
-          image = if b then image ++ word ∷ [] else change c (image ++ word ∷ []);
-        });
-        command = command;
-        calls = calls ++ [];
-      }
-
-      by_last : Shared c open → ((a more : ℕ) → follows.block a ≡ Some (hand (control_number c) more) → ⊥) → (b : Bool) → nat_lt (index + 1) (image_words c) ≡ b → (length image ≡ index) × AreRead c s.words image index
-          → Owes c s.words s.words open past (control_number c) s.machines (settled_by c s.words (image_in (after_word b).machine)) [] (after_word b)
-      by_last shared hands true more known =
-          read_owes c s.words follows.block follows.owner (after g past) past s.machines command calls
-          (record { spot = LoadWord (index + 1); seen = seen; image = image ++ word ∷ [] }) shared follows.promised_to hands more
-          (length-snoc image word ∙ ap (λ n. n + 1) known.0, image_grows c s.words image index known.0 known.1) refl
-      by_last shared hands false all known =
-          let less : index + 1 ≡ image_words c = (let last = ltb-false _ _ all in let ready = ltb-true _ _ (ready_at (LoadWord index) here) in omega (arith, last, ready)) in
-          paused_owes c s.words follows.block follows.owner (after g past) past s.machines (image ++ word ∷ [])
-          (λ i below. image_grows c s.words image index known.0 known.1 i (omega (arith, below, less))) follows.seats change law
-          (length-snoc image word ∙ ap (λ n. n + 1) known.0 ∙ less) shared follows.promised_to follows.no_more
-          (known_held change law c g s past number (control_at (LoadWord index)) command calls follows shaken here)
-          (all_outside change law c g s past number (control_at (LoadWord index)) command calls follows shaken here refl)
-          (image_view c (change c (image ++ word ∷ [])) Free) command calls
+      subst (λ ws. Owes c s.words ws open_now past (control_number c) s.machines
+          (settled_by c ws (image_in (control_after change law c g s past number (control_at (LoadWord index)) command calls follows shaken here).machine)) []
+          (control_after change law c g s past number (control_at (LoadWord index)) command calls follows shaken here)) (sym same_words)
+      (loaded_owes index here shared hands (nat_lt (index + 1) (image_words c)) refl known.aims))
 
   -- a word of the new image that is stored
   store_word : (index : ℕ) → Here (StoreWord index) → ControlGoal (StoreWord index)
@@ -427,20 +433,36 @@ follows_order change law c g s past number Nothing command calls (controlling k)
 follows_order change law c g s past number (Begin begun) command calls (controlling k) here takes follows shaken = absurd (cc (takes))
 follows_order change law c g s past number End command calls (controlling k) here takes follows shaken = absurd (cc (takes))
 
--- both hold of a stage
+-- Of a stage: it follows the history, the handshake is kept in it, and Left counts the mutators that have not ended.
 pub record Goes (c : Config) (g : Graph) (s : Stage Actor) (past : List Entry) : Type 0 where
   pub follows : Follows c g s past
   pub shaken : IsKept c s
+  pub counted : IsCounted c is_left s
+
+-- a machine that is where it should be has its number, and can make its next access
+has_number : (c : Config) (words : List ℕ) (w : World) (entries : List Entry) (number : ℕ) (a : Actor) (machine : Machine) → IsMachine c words w entries number a machine → HasNumber c number machine
+has_number c words w es number a (mutating m) is = (is.number_is, subst (λ n. n < c.mutators) is.number_is is.mine.seated.below)
+has_number c words w es number a (helping h) is = (is.least, is.below)
+has_number c words w es number a (controlling k) is = is.number_is
+
+pub can_go : (c : Config) (words : List ℕ) (w : World) (entries : List Entry) (number : ℕ) (a : Actor) (machine : Machine) → IsMachine c words w entries number a machine → CanGo c machine
+can_go c words w es number a (mutating m) is = is.mine.ready
+can_go c words w es number a (helping h) is = tt
+can_go c words w es number a (controlling k) is = is.ready
 
 -- an event, of a machine that is there or not
 pub goes_event : (change : Change) → IsPause change → (c : Config) (g : Graph) (s : Stage Actor) (past : List Entry) (e : Event Order) → Goes c g s past → Goes c g (act (kind change c) s e) (past ++ told c s e)
 unfolding act told kind
 goes_event change law c g s past e goes = record {
   follows = by_machine (slice_get s.machines e.number) refl;
-  shaken = shaken_step c (kind change c) (λ a. standing_of a.machine) s e goes.shaken
-      (λ a is. machine_obeys change c s.words (world_of c s goes.follows.block goes.follows.owner (after g past)) (of_thread past (e.number + 1)) e.number a e.order a.machine is.takes (goes.follows.machines e.number a is.here));
+  shaken = shaken_step c (kind change c) standing s e goes.shaken (event_obeys change c s e (λ a is. has_number c s.words _ _ e.number a a.machine (known a is)) (λ a is. can_go c s.words _ _ e.number a a.machine (known a is)));
+  counted = counted_step c (kind change c) is_left s e goes.counted (event_counts change c s e (λ a is. can_go c s.words _ _ e.number a a.machine (known a is)));
 }
   where
+    known : (a : Actor) → slice_get s.machines e.number ≡ Some a
+        → IsMachine c s.words (world_of c s goes.follows.block goes.follows.owner (after g past)) (of_thread past (e.number + 1)) e.number a a.machine
+    known = goes.follows.machines e.number
+
     same : Follows c g s (past ++ [])
     same = subst (λ es. Follows c g s es) (sym (append-nil past)) goes.follows
 

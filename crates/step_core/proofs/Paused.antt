@@ -109,8 +109,10 @@ module _ (c : Config) (words : List ℕ) (u w : World) (t made : ℕ) (kept : Ke
   }
 
   -- What holds of it then. The answer that it had was that of the table, and if it is refused now, the heap is crowded.
-  module _ (entries : List Entry) (whole : view c words (Answer t) ≡ u.memory (Answer t))
-      (short : (refs nums : ℕ) → asking_by (u.memory (Answer t)) kept.command ≡ asks refs nums → x ≡ refused → IsShort c w.memory w.graph t (3 + refs + nums)) where
+  module _ (entries : List Entry) (whole : view c words (Answer t) ≡ u.memory (Answer t)) where
+    abbrev IsCrowdedOut : Asking → Type 0
+    IsCrowdedOut before = (refs nums : ℕ) → before ≡ asks refs nums → x ≡ refused → IsShort c w.memory w.graph t (3 + refs + nums)
+
     abbrev Thread : World → Spot → Type 0
     Thread v spot = IsThread c words v entries t b (mutator_at t made kept spot)
 
@@ -160,9 +162,9 @@ module _ (c : Config) (words : List ℕ) (u w : World) (t made : ℕ) (kept : Ke
     }
 
     -- where it waits, and is refused now
-    refused_first : u.memory (Answer t) ≡ 0 → IsAsked w.memory w.block w.graph.count t refused → x ≡ refused → (old : Thread u (Waiting wait.Poll))
+    refused_first : IsCrowdedOut (asking_by (u.memory (Answer t)) kept.command) → u.memory (Answer t) ≡ 0 → IsAsked w.memory w.block w.graph.count t refused → x ≡ refused → (old : Thread u (Waiting wait.Poll))
         → IsMaking made b.command old.fixed (dst_of kept.command) (refs_of kept.command) (nums_of kept.command) → Thread w (Waiting wait.Poll)
-    refused_first before now is old making = record {
+    refused_first short before now is old making = record {
       fixed = old.fixed;
       number_is = refl;
       valid = old.valid;
@@ -179,16 +181,16 @@ module _ (c : Config) (words : List ℕ) (u w : World) (t made : ℕ) (kept : Ke
     }
 
     -- where it polls
-    poll_then : Answers (asking_by (u.memory (Answer t)) kept.command) x → (old : Thread u (Waiting wait.Poll)) → IsPolling u t made kept.command b.command old.fixed → Thread w (Waiting wait.Poll)
-    poll_then answers old (inl waits) = ⊎_elim
-        (λ (none_left : IsAsked w.memory w.block w.graph.count t refused × (x ≡ refused)). refused_first waits.1.1 none_left.0 none_left.1 old waits.0)
+    poll_then : IsCrowdedOut (asking_by (u.memory (Answer t)) kept.command) → Answers (asking_by (u.memory (Answer t)) kept.command) x → (old : Thread u (Waiting wait.Poll)) → IsPolling u t made kept.command b.command old.fixed → Thread w (Waiting wait.Poll)
+    poll_then short answers old (inl waits) = ⊎_elim
+        (λ (none_left : IsAsked w.memory w.block w.graph.count t refused × (x ≡ refused)). refused_first short waits.1.1 none_left.0 none_left.1 old waits.0)
         (λ (has : IsAsked w.memory w.block w.graph.count t (given (refs_of kept.command) (nums_of kept.command))).
         given_now (Waiting wait.Poll) refl refl (λ e. (let before = waits.1.1 in omega (arith, sym whole ∙ e, before))) has.1 old (inr (inl (waits.0, has))))
         (asks_then w.memory w.block w.graph.count t (refs_of kept.command) (nums_of kept.command) x (subst (λ y. Answers y x) (asking_asks _ kept.command waits.1.1) answers) asked)
-    poll_then answers old (inr (inl has)) =
+    poll_then short answers old (inr (inl has)) =
         let still = given_then w.memory w.block w.graph.count t (refs_of kept.command) (nums_of kept.command) x (subst (λ y. Answers y x) (asking_given _ kept.command has.1.1) answers) asked in
         given_now (Waiting wait.Poll) refl refl (λ e. (let before = has.1.1 in omega (arith, sym whole ∙ e, before))) still.1 old (inr (inl (has.0, still)))
-    poll_then answers old (inr (inr is)) =
+    poll_then short answers old (inr (inr is)) =
         let still = refused_then w.memory w.block w.graph.count t x (subst (λ y. Answers y x) (asking_refused _ kept.command is.1.1) answers) asked in
         refused_now (Waiting wait.Poll) refl refl is.1.1 still.1 old (inr (inr (is.0, still)))
 
@@ -203,20 +205,20 @@ module _ (c : Config) (words : List ℕ) (u w : World) (t made : ℕ) (kept : Ke
         refused_now (Entering at Waited) out refl is.1.1 still.1 old (inr (is.0, still))
 
     -- wherever it is outside
-    pub thread_then : (spot : Spot) → is_within (standing_at spot) ≡ false → Answers (asking_at spot (u.memory (Answer t)) kept.command) x → Thread u spot → Thread w spot
-    thread_then Rest out answers old = quiet_then Rest out refl answers old old.mine.facts
-    thread_then (Ended reply) out answers old = quiet_then (Ended reply) out refl answers old old.mine.facts
-    thread_then Gone out answers old = quiet_then Gone out refl answers old old.mine.facts
-    thread_then (Entering at Call) out answers old = quiet_then (Entering at Call) out refl answers old old.mine.facts
-    thread_then (Entering at Waited) out answers old = enter_then at out answers old old.mine.facts
-    thread_then (Waiting wait.Poll) out answers old = poll_then answers old old.mine.facts
-    thread_then (Waiting wait.StoreRequest) out answers old = cc
-    thread_then (Waiting wait.AskRoom) out answers old = cc
-    thread_then (Waiting wait.StepOut) out answers old = cc
-    thread_then (Waiting wait.LoadAnswer) out answers old = cc
-    thread_then (Waiting (wait.StoreRoot address)) out answers old = cc
-    thread_then (Waiting (wait.ClearAnswer reply)) out answers old = cc
-    thread_then _ out answers old = cc
+    pub thread_then : (spot : Spot) → is_within (standing_at spot) ≡ false → IsCrowdedOut (asking_at spot (u.memory (Answer t)) kept.command) → Answers (asking_at spot (u.memory (Answer t)) kept.command) x → Thread u spot → Thread w spot
+    thread_then Rest out short answers old = quiet_then Rest out refl answers old old.mine.facts
+    thread_then (Ended reply) out short answers old = quiet_then (Ended reply) out refl answers old old.mine.facts
+    thread_then Gone out short answers old = quiet_then Gone out refl answers old old.mine.facts
+    thread_then (Entering at Call) out short answers old = quiet_then (Entering at Call) out refl answers old old.mine.facts
+    thread_then (Entering at Waited) out short answers old = enter_then at out answers old old.mine.facts
+    thread_then (Waiting wait.Poll) out short answers old = poll_then short answers old old.mine.facts
+    thread_then (Waiting wait.StoreRequest) out short answers old = cc
+    thread_then (Waiting wait.AskRoom) out short answers old = cc
+    thread_then (Waiting wait.StepOut) out short answers old = cc
+    thread_then (Waiting wait.LoadAnswer) out short answers old = cc
+    thread_then (Waiting (wait.StoreRoot address)) out short answers old = cc
+    thread_then (Waiting (wait.ClearAnswer reply)) out short answers old = cc
+    thread_then _ out short answers old = cc
 
 -- A stage in which the control works in a pause, and every machine but it is outside.
 module _ (c : Config) (words : List ℕ) (block : Plot) (owner : ℕ → Option ℕ) (g : Graph) (past : List Entry) (machines : List Actor) (image : List ℕ)
@@ -318,7 +320,7 @@ module _ (c : Config) (words : List ℕ) (block : Plot) (owner : ℕ → Option 
         let asks_so : asking k ≡ asking_at m.spot (view c words (Answer k)) m.kept.command = ap (λ o. asking_of o (view c words (Answer k))) there ∙ ap (λ machine. asking_in machine (view c words (Answer k))) is in
         subst (λ j. IsThread c words then_world (of_thread past (k + 1)) k b (mutator_at j m.made m.kept m.spot)) (sym thread.number_is)
         (thread_then c words before then_world k m.made m.kept b (paused.asked_then k) (asked_in_it k below) refl (λ i small. paused.stands.roots k i below small) (λ a more. paused.stands.none a k more)
-        (of_thread past (k + 1)) refl (λ refs nums asks_by. crowded_then k below refs nums (asks_so ∙ asks_by)) m.spot out
+        (of_thread past (k + 1)) refl m.spot out (λ refs nums asks_by. crowded_then k below refs nums (asks_so ∙ asks_by))
         (subst (λ y. Answers y (paused.asked_then k)) asks_so (paused.answers k below))
         (subst (λ j. IsThread c words before (of_thread past (k + 1)) k b (mutator_at j m.made m.kept m.spot)) thread.number_is thread))
 

@@ -40,7 +40,8 @@ use Rattle.mutator.specs.Fit.{IsReady}
 use Rattle.step_core.specs.Actor.{entry_of, command_by}
 use Rattle.step_core.specs.Own.{root_now, IsInHand}
 use Rattle.heap_world.specs.World.{World, Plot, hand, name_at, Points, Target, Shared}
-use Rattle.heap_world.specs.Asking.{Asking, nothing, asks, refused, given, HasNoPromise, IsAsked}
+use Rattle.heap_world.specs.Asking as asking
+use Rattle.heap_world.specs.Asking.{Asking, HasNoPromise, IsAsked}
 use Rattle.heap_world.specs.Rely.{Rely}
 
 -- A word is that of a root which the command loads: it stands for the root's reference. Of a root that the command does
@@ -173,20 +174,19 @@ pub record IsFull (command : Command) (fixed : Option Reply) : Type 0 where
 
 -- the command makes an object, and the mutator has asked so for it
 abbrev pub IsAsking : World → ℕ → ℕ → Command → Command → Option Reply → Asking → Type 0
-IsAsking w seat made k command fixed asking =
-    IsMaking made command fixed (dst_of k) (refs_of k) (nums_of k) × IsAsked w.memory w.block w.graph.count seat asking
+IsAsking w seat made k command fixed what = IsMaking made command fixed (dst_of k) (refs_of k) (nums_of k) × IsAsked w.memory w.block w.graph.count seat what
 
 -- Where a mutator polls, it asks for its object, was given it, or was refused it. The words that count may say so before the
 -- word of the table does that it polls: then the history does not have yet that the heap is full.
 abbrev pub IsPolling : World → ℕ → ℕ → Command → Command → Option Reply → Type 0
 IsPolling w seat made k command fixed =
-    IsAsking w seat made k command fixed (asks (refs_of k) (nums_of k))
-    ⊎ (IsAsking w seat made k command fixed (given (refs_of k) (nums_of k)) ⊎ (IsRefused command fixed × IsAsked w.memory w.block w.graph.count seat refused))
+    IsAsking w seat made k command fixed (asking.asks (refs_of k) (nums_of k))
+    ⊎ (IsAsking w seat made k command fixed (asking.given (refs_of k) (nums_of k)) ⊎ (IsRefused command fixed × IsAsked w.memory w.block w.graph.count seat asking.refused))
 
 -- and once it has found that it is answered, it was given its object, or the heap is full
 abbrev pub IsAnswered : World → ℕ → ℕ → Command → Command → Option Reply → Type 0
 IsAnswered w seat made k command fixed =
-    IsAsking w seat made k command fixed (given (refs_of k) (nums_of k)) ⊎ (IsFull command fixed × IsAsked w.memory w.block w.graph.count seat refused)
+    IsAsking w seat made k command fixed (asking.given (refs_of k) (nums_of k)) ⊎ (IsFull command fixed × IsAsked w.memory w.block w.graph.count seat asking.refused)
 
 -- What holds in each part of a call of this command, of which the mutator keeps k. `fixed` is the reply that the history has
 -- for the call, once it is settled.
@@ -223,13 +223,13 @@ EnterFacts w seat made k command fixed Call = IsBegun made command fixed k
 EnterFacts w seat made k command fixed Waited = IsAnswered w seat made k command fixed
 
 abbrev pub WaitFacts : World → ℕ → ℕ → Command → Command → Option Reply → WaitSpot → Type 0
-WaitFacts w seat made k command fixed wait.StoreRequest = IsAsking w seat made k command fixed nothing
-WaitFacts w seat made k command fixed wait.AskRoom = IsAsking w seat made k command fixed (asks (refs_of k) (nums_of k))
-WaitFacts w seat made k command fixed wait.StepOut = IsAsking w seat made k command fixed (asks (refs_of k) (nums_of k))
+WaitFacts w seat made k command fixed wait.StoreRequest = IsAsking w seat made k command fixed asking.nothing
+WaitFacts w seat made k command fixed wait.AskRoom = IsAsking w seat made k command fixed (asking.asks (refs_of k) (nums_of k))
+WaitFacts w seat made k command fixed wait.StepOut = IsAsking w seat made k command fixed (asking.asks (refs_of k) (nums_of k))
 WaitFacts w seat made k command fixed wait.Poll = IsPolling w seat made k command fixed
 WaitFacts w seat made k command fixed wait.LoadAnswer = IsAnswered w seat made k command fixed
 WaitFacts w seat made k command fixed (wait.StoreRoot address) =
-    IsAsking w seat made k command fixed (given (refs_of k) (nums_of k)) × (w.memory (Answer seat) ≡ address)
+    IsAsking w seat made k command fixed (asking.given (refs_of k) (nums_of k)) × (w.memory (Answer seat) ≡ address)
 WaitFacts w seat made k command fixed (wait.ClearAnswer reply) = (fixed ≡ Some reply) × (w.memory (Wait seat) ≡ 0) × HasNoPromise w.block seat
 
 -- and at each spot
@@ -286,8 +286,8 @@ LegalBy g seat command (Some reply) = IsLegal g (seat + 1) command reply (after_
 
 -- the settled reply after a step that settles one, gives it, or does neither
 abbrev pub fixed_by : Option Reply → Option Reply → Option Reply → Option Reply
-fixed_by fixed (Some told) gives = Some told
-fixed_by fixed None (Some gives) = None
+fixed_by fixed (Some told) given = Some told
+fixed_by fixed None (Some given) = None
 fixed_by fixed None None = fixed
 
 -- What a step of a mutator owes: the world after it, whose memory is that after the access and whose graph is that after
