@@ -1,0 +1,5 @@
+use Rattle.step_core.proofs.FirstFacts.{opening_begins}
+use Rattle.step_core.proofs.opening_begins.Goals as goal
+
+pub returns : goal.returns
+returns c = opening_begins
