@@ -87,6 +87,13 @@ impl Mutator {
         matches!(self.spot, Spot::Rest | Spot::Ended { .. })
     }
 
+    /// The order that it was given.
+    pub fn order(&self) -> Order
+        ensures { result ≡ order_of self.now }
+    {
+        self.order
+    }
+
     /// The place of its next access; between two calls, that of the first access of a call.
     pub fn place(&self) -> Place
         ensures { result ≡ place_at (seen self.now).spot }

@@ -1,5 +1,5 @@
 -- The theorem over every list of events.
-use Rattle.std.proofs.Common.{◌≡◌, ◌≢◌, false, ℕ, ◌+◌, ◌<◌, true, List, [], Option, Some, None, sym, ap, ◌∙◌, subst, arith}
+use Rattle.std.proofs.Common.{◌≡◌, ◌≢◌, false, ℕ, ◌+◌, ◌<◌, true, List, [], Option, Some, None, refl, sym, ap, ◌∙◌, subst, arith}
 use Rattle.std.specs.Prelude.{get_or, slice_get, slice_index}
 use Rattle.std.proofs.lemmas.Bool.{and_parts}
 use Rattle.heap_words.specs.declared.config.Config.{Config}
@@ -31,7 +31,7 @@ use Rattle.std.proofs.lemmas.Option.{slice_get-get_or}
 use Rattle.alloc_buffers.specs.declared.spot.TakeSpot.TheVariants.{LoadFree}
 use Rattle.alloc_buffers.specs.Facts.{HasLess}
 use Rattle.step_core.specs.Actor.{Machine, mutating, helping, controlling, Actor, fresh_control}
-use Rattle.step_core.specs.Machines.{plan_of, takes_of, kind}
+use Rattle.step_core.specs.Machines.{plan_of, takes_of, IsFitIn, kind}
 use Rattle.step_core.specs.Settled.{settled}
 use Rattle.step_core.specs.History.{history}
 use Rattle.step_core.specs.Begins.{Begins, Run, ending, history_in, first_graph, reached, past}
@@ -187,21 +187,31 @@ run_sound c run = every_run c run.start run.graph run.begins run.events
 pub every_list : (c : Config) (events : List (Event Order)) → IsSound c (first_graph c) (reached c events) (past c events)
 every_list c events = run_sound c (opening_run c events)
 
--- a mutator that is reached makes an access of the table
-pub reached_inside : (c : Config) (s : Stage Actor) (g : Graph) → Begins c s g → (number : ℕ) (a : Actor) (m : Mutating) → HasReached (kind c) s number a → a.machine ≡ mutating m → place_of (plan_of c a.machine) < table_words c
-reached_inside c s g begins number a m has is =
+-- a machine that is reached makes an access of the table
+pub reached_inside : (c : Config) (s : Stage Actor) (g : Graph) → Begins c s g → (number : ℕ) (a : Actor) → HasReached (kind c) s number a → place_of (plan_of c a.machine) < table_words c
+reached_inside c s g begins number a has =
     (reached_has (kind c) (λ t. slice_get t.machines number ≡ Some a → place_of (plan_of c a.machine) < table_words c) s has.stage
-    (λ events here. ((every_run c s g begins events).fit number a m (record { here = here; is = is })).inside) has.reached) has.here
+    (λ events here. by_role events here a.machine refl) has.reached) has.here
+  where
+    by_role : (events : List (Event Order)) → slice_get (go (kind c) s events).machines number ≡ Some a → (machine : Machine) → a.machine ≡ machine → place_of (plan_of c machine) < table_words c
+    by_role events here (mutating m) is = subst (λ machine. place_of (plan_of c machine) < table_words c) is ((every_run c s g begins events).fit number a m (record { here = here; is = is })).inside
+    by_role events here (helping h) is = omega arith
+    by_role events here (controlling k) is = omega arith
 
--- a word that a mutator finds in some run is fit
-pub found_fit : (c : Config) (s : Stage Actor) (g : Graph) → Begins c s g → (number : ℕ) (a : Actor) (m : Mutating) (order : Order) (told : ℕ) → Finds (kind c) s number a order told → a.machine ≡ mutating m → IsFit c m order told
+-- a word that a machine finds in some run is fit
+pub found_fit : (c : Config) (s : Stage Actor) (g : Graph) → Begins c s g → (number : ℕ) (a : Actor) (order : Order) (told : ℕ) → Finds (kind c) s number a order told → IsFitIn c order told a.machine
 unfolding kind
-found_fit c s g begins number a m order told f is =
-    (reached_has (kind c) (λ t. slice_get t.machines number ≡ Some a → told ≡ slice_index t.words (place_of (plan_of c a.machine)) → IsFit c m order told) s f.stage
-    (λ events here found.
-    subst (λ n. IsFit c m order n) (sym found)
-    (((every_run c s g begins events).fit number a m (record { here = here; is = is })).fit order (ap (λ machine. takes_of machine order) (sym is) ∙ f.takes)))
+found_fit c s g begins number a order told f =
+    (reached_has (kind c) (λ t. slice_get t.machines number ≡ Some a → told ≡ slice_index t.words (place_of (plan_of c a.machine)) → IsFitIn c order told a.machine) s f.stage
+    (λ events here found. by_role events here found a.machine refl)
     f.reached) f.here f.found
+  where
+    by_role : (events : List (Event Order)) → slice_get (go (kind c) s events).machines number ≡ Some a → told ≡ slice_index (go (kind c) s events).words (place_of (plan_of c a.machine)) → (machine : Machine) → a.machine ≡ machine → IsFitIn c order told machine
+    by_role events here found (mutating m) is =
+        subst (λ n. IsFit c m order n) (sym found)
+        (((every_run c s g begins events).fit number a m (record { here = here; is = is })).fit order (ap (λ machine. takes_of machine order) (sym is) ∙ f.takes))
+    by_role events here found (helping h) is = tt
+    by_role events here found (controlling k) is = tt
 
 -- a mutator that is about to look for a free region lacks room
 pub run_lacks_room : (c : Config) (s : Stage Actor) (g : Graph) → Begins c s g → (events : List (Event Order)) (number : ℕ) (a : Actor) (m : Mutating)

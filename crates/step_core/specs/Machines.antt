@@ -24,6 +24,7 @@ use Rattle.mutator.specs.Orders.{is_between_calls, takes_commands, takes_at}
 use Rattle.mutator.specs.Rows.{touch_of, next_of, given_at, answer_at, reply_at, place_at}
 use Rattle.mutator.specs.Told.{told_of}
 use Rattle.mutator.specs.Waits.{WaitsAt}
+use Rattle.mutator.specs.Fit.{IsFit}
 use Rattle.step_core.specs.Actor.{Machine, mutating, helping, controlling, Actor, entries_of, command_by}
 use Rattle.step_core.specs.Settled.{settled}
 
@@ -57,6 +58,12 @@ answer_of c (mutating m) got = Some (answer_at c m.kept m.spot got)
 answer_of c (helping h) got = None
 answer_of c (controlling k) got = None
 
+-- the reply that its step gives, if it ends a call
+abbrev pub given_in : Machine → Option Reply
+given_in (mutating m) = given_at m.spot
+given_in (helping h) = None
+given_in (controlling k) = None
+
 -- the calls that its step ends, in a call of this command
 abbrev pub ended_by : Command → Machine → List Entry
 ended_by command (mutating m) = entries_of m.seat command (given_at m.spot)
@@ -69,12 +76,16 @@ told_by c s a order (mutating m) = entries_of m.seat (command_by order a.command
 told_by c s a order (helping h) = []
 told_by c s a order (controlling k) = []
 
--- What it does on its turn, by its script and the calls that it has ended: in a call it goes on, and between two calls it
--- begins the command that follows. It is idle where there is none.
+-- What it does on its turn, by the command that would follow: in a call it goes on, and between two calls it begins that
+-- command. It is idle where there is none.
+abbrev pub order_for : Option Command → Machine → Option Order
+order_for next (mutating m) = if takes_commands m.spot then option_map (λ command. Begin command) next else Some Nothing
+order_for next (helping h) = None
+order_for next (controlling k) = None
+
+-- the same, by its script and the calls that it has ended
 abbrev pub order_by : List Command → List Entry → Machine → Option Order
-order_by script calls (mutating m) = if takes_commands m.spot then option_map (λ command. Begin command) (slice_get script (length calls)) else Some Nothing
-order_by script calls (helping h) = None
-order_by script calls (controlling k) = None
+order_by script calls machine = order_for (slice_get script (length calls)) machine
 
 -- whether its next access stands at a place. Machines that have none stand nowhere
 abbrev pub stands_in : Place → Machine → Bool
@@ -104,6 +115,12 @@ WaitsIn c (mutating m) got = WaitsAt c m.spot got
 WaitsIn c (helping h) got = ⊥
 WaitsIn c (controlling k) got = ⊥
 
+-- whether it can go on from a word that it finds
+abbrev pub IsFitIn : Config → Order → ℕ → Machine → Type 0
+IsFitIn c order got (mutating m) = IsFit c m order got
+IsFitIn c order got (helping h) = Unit {0}
+IsFitIn c order got (controlling k) = Unit {0}
+
 -- how many objects it has made
 abbrev pub made_of_machine : Machine → ℕ
 made_of_machine (mutating m) = m.made
@@ -119,6 +136,12 @@ abbrev pub at_hand_of : Machine → ℕ
 at_hand_of (mutating m) = at_hand m.spot
 at_hand_of (helping h) = 0
 at_hand_of (controlling k) = 0
+
+-- whether it is a mutator
+abbrev pub is_mutating : Machine → Bool
+is_mutating (mutating m) = true
+is_mutating (helping h) = false
+is_mutating (controlling k) = false
 
 -- which numbers have machines of the role: the mutators come first, then the helpers, then the control
 abbrev pub HasNumber : Config → ℕ → Machine → Type 0

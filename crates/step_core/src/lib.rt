@@ -16,9 +16,8 @@ ghost use Rattle.alloc_buffers.specs.Facts.{HasLess};
 ghost use Rattle.mutator.specs.declared.spot.Spot.TheVariants.{Making};
 ghost use Rattle.mutator.specs.declared.makes.MakeSpot.TheVariants.{Taking};
 ghost use Rattle.mutator.specs.Rows.{Mutating, words_of};
-ghost use Rattle.mutator.specs.Fit.{IsFit};
 ghost use Rattle.step_core.specs.Actor.{Actor, mutating};
-ghost use Rattle.step_core.specs.Machines.{plan_of, kind};
+ghost use Rattle.step_core.specs.Machines.{plan_of, IsFitIn, kind};
 ghost use Rattle.step_core.specs.Settled.{settled};
 ghost use Rattle.step_core.specs.History.{history};
 ghost use Rattle.step_core.specs.Opening.{opening};
@@ -40,14 +39,14 @@ pub fn opening_begins()
     ensures { (c : Config) → Begins c (opening c) (first_graph c) }
 {}
 
-/// A law: a mutator that is reached by some steps makes its next access inside the table.
+/// A law: a machine that is reached by some steps makes its next access inside the table.
 pub fn accesses_are_inside()
-    ensures { (c : Config) (s : Stage Actor) (g : Graph) → Begins c s g → (number : ℕ) (a : Actor) (m : Mutating) → HasReached (kind c) s number a → a.machine ≡ mutating m → place_of (plan_of c a.machine) < table_words c }
+    ensures { (c : Config) (s : Stage Actor) (g : Graph) → Begins c s g → (number : ℕ) (a : Actor) → HasReached (kind c) s number a → place_of (plan_of c a.machine) < table_words c }
 {}
 
-/// A law: a word that a mutator finds after some steps is fit.
+/// A law: a word that a machine finds after some steps is fit.
 pub fn found_words_are_fit()
-    ensures { (c : Config) (s : Stage Actor) (g : Graph) → Begins c s g → (number : ℕ) (a : Actor) (m : Mutating) (order : Order) (told : ℕ) → Finds (kind c) s number a order told → a.machine ≡ mutating m → IsFit c m order told }
+    ensures { (c : Config) (s : Stage Actor) (g : Graph) → Begins c s g → (number : ℕ) (a : Actor) (order : Order) (told : ℕ) → Finds (kind c) s number a order told → IsFitIn c order told a.machine }
 {}
 
 /// A law: a mutator that is about to look for a free region has a current region with less room than it wants, or none.
