@@ -112,6 +112,13 @@ impl Mutator {
         matches!(self.spot, Spot::Rest | Spot::Ended { .. } | Spot::Gone)
     }
 
+    /// The order that it was given.
+    pub fn order(&self) -> Order
+        ensures { result ≡ order_of self.now }
+    {
+        self.order
+    }
+
     /// The place of its next access; between two calls, that of the first access of a call, or of the access by which it ends.
     pub fn place(&self) -> Place
         ensures { result ≡ place_at (order_of self.now) (seen self.now).spot }
