@@ -1,20 +1,19 @@
 -- The image after a full collection, by its words.
-use Rattle.std.proofs.Common.{◌≡◌, ℕ, ◌+◌, ◌-◌, ◌<◌, ◌≤◌, false, leb, List, ◌++◌, length, get_or, drop, map, replicate, refl, sym, ap, ◌∙◌, arith, length-drop}
-use Rattle.std.specs.List.{range_with_len}
+use Rattle.std.proofs.Common.{◌≡◌, ℕ, ◌+◌, ◌<◌, false, leb, List, ◌++◌, length, get_or, drop, replicate, sym, ap, ◌∙◌, arith, length-drop}
 use Rattle.std.proofs.lemmas.Bool.{lt-leb}
 use Rattle.std.proofs.lemmas.Grind.{same_number_lists}
 use Rattle.std.proofs.lemmas.List.{get_or-drop, get_or-replicate, length-replicate}
 use Rattle.std.proofs.lemmas.List.FromFn.{get_or-map-range_with_len, length-map-range_with_len}
 use Rattle.std.proofs.Math.ListN.{get_or-append}
 use Rattle.heap_words.specs.declared.config.Config.{Config}
-use Rattle.heap_words.specs.Words.{Word, IsWord, is_image, word_at, image_start, table_words, view}
+use Rattle.heap_words.specs.Words.{is_image, image_start, table_words, view}
 use Rattle.heap_words.specs.Rows.{name_of}
 use Rattle.heap_words.proofs.Rows.{is_image-word_at}
 use Rattle.heap_words.proofs.Stores.{view_word}
 use Rattle.heap_words.proofs.Named.{StandsAt, name_of-stands}
 use Rattle.heap_world.specs.Change.{image_view, image_words}
 use Rattle.image_laws.specs.Full.{full}
-use Rattle.control.specs.FullImage.{image_from, full_image}
+use Rattle.control.specs.FullImage.{full_image}
 use Rattle.control.proofs.Outside.{full-outside}
 
 -- it has as many words as before

@@ -3,3 +3,4 @@ pub mod Outside
 pub mod FullImages
 pub mod Cleared
 pub mod Images
+pub mod Loading

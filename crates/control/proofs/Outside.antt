@@ -1,6 +1,6 @@
 -- A full collection leaves the words before the image.
-use Rattle.std.proofs.Common.{◌≡◌, ℕ, zero, suc, false, true, cond, eqb, Option, Some, None, refl, sym, ap, ◌∙◌, ⊎_elim}
-use Rattle.std.proofs.lemmas.Bool.{cases_Bool, cond-true, cond-false, false≢true}
+use Rattle.std.proofs.Common.{◌≡◌, ℕ, zero, suc, false, true, eqb, Option, Some, None, refl, ◌∙◌, ⊎_elim}
+use Rattle.std.proofs.lemmas.Bool.{cases_Bool, cond-true, cond-false}
 use Rattle.heap_words.specs.declared.config.Config.{Config}
 use Rattle.heap_words.specs.Words.{Word, Pause, Left, End, State, Wait, is_image}
 use Rattle.image_laws.specs.Full.{now_in, kept_in, packed, made_in, served_in, room_for, served, refused, full}
