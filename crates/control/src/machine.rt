@@ -29,7 +29,7 @@ impl Control {
     ghost use Rattle.image_graph.specs.State.{memory_of};
     ghost use Rattle.control_steps.specs.Rows.{is_gone, control_place, control_access, control_next, control_says};
     ghost use Rattle.control_steps.specs.Waits.{WaitsAt};
-    ghost use Rattle.control.specs.FullImage.{full_image};
+    ghost use Rattle.pause_laws.specs.Image.{full_image};
     ghost use Rattle.control.specs.Fit.{IsFit};
     ghost use Rattle.control.specs.Seen.{config_in, seen_control};
 

@@ -7,7 +7,7 @@ ghost use Rattle.image_graph.specs.State.{config_of};
 ghost use Rattle.image_graph.specs.Holds.{HoldsSome};
 ghost use Rattle.control_steps.specs.declared.spot.ControlSpot.TheVariants.{LoadWord};
 ghost use Rattle.control_steps.specs.Rows.{next_spot, next_image, next_seen};
-ghost use Rattle.control.specs.FullImage.{full_image};
+ghost use Rattle.pause_laws.specs.Image.{full_image};
 ghost use Rattle.control.specs.Clear.{IsClear};
 ghost use Rattle.control.specs.Fit.{holds_with};
 ghost use Rattle.control.specs.Image.{image_in, words_seen};
