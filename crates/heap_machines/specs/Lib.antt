@@ -1,3 +1,4 @@
 pub mod Shown
 pub mod Answer
+pub mod Turn
 pub mod Scripts

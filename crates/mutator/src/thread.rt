@@ -112,6 +112,13 @@ impl Mutator {
         matches!(self.spot, Spot::Rest | Spot::Ended { .. } | Spot::Gone)
     }
 
+    /// Whether it may be given a command, or be told to end: no call is in progress, and it has not ended.
+    pub fn takes_commands(&self) -> bool
+        ensures { result ≡ takes_commands (seen self.now).spot }
+    {
+        matches!(self.spot, Spot::Rest | Spot::Ended { .. })
+    }
+
     /// The order that it was given.
     pub fn order(&self) -> Order
         ensures { result ≡ order_of self.now }
