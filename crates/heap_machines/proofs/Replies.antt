@@ -1,5 +1,5 @@
 -- The replies that machines give, by their roles.
-use Rattle.std.proofs.Common.{◌≡◌, ℕ, ◌+◌, ◌<◌, ◌≤◌, true, false, List, [], ◌∷◌, Option, Some, None, refl, sym, ap, ◌∙◌, arith}
+use Rattle.std.proofs.Common.{◌≡◌, ℕ, ◌+◌, ◌≤◌, true, false, List, [], ◌∷◌, map, Option, Some, None, refl, ap, arith}
 use Rattle.heap_words.specs.declared.config.Config.{Config}
 use Rattle.heap_words.specs.declared.access.Took.TheVariants.{Done}
 use Rattle.shen_graph.specs.declared.command.Command.{Command}
@@ -9,12 +9,11 @@ use Rattle.shen_graph.specs.History.{Entry}
 use Rattle.mutator.specs.declared.spot.Spot.{Spot}
 use Rattle.mutator.specs.declared.spot.Spot.TheVariants.{Rest, Making, Leave}
 use Rattle.mutator.specs.declared.makes.MakeSpot.TheVariants as make
-use Rattle.mutator.specs.declared.spot.Kept.{Kept}
 use Rattle.mutator.specs.Orders.{is_between_calls}
-use Rattle.mutator.specs.Rows.{Mutating, given_at, answer_at, reply_at, next_at}
+use Rattle.mutator.specs.Rows.{given_at, answer_at, reply_at, next_at}
 use Rattle.mutator.proofs.Done as ends
 use Rattle.step_core.specs.Actor.{Machine, mutating, helping, controlling, entries_of}
-use Rattle.step_core.specs.Machines.{machine_after, answer_of, given_in, ended_by, reply_in, is_resting, made_of_machine, at_hand, at_hand_of}
+use Rattle.step_core.specs.Machines.{machine_after, answer_of, given_in, ended_by, reply_in, is_resting, is_mutating, made_of_machine, at_hand, at_hand_of}
 
 -- a step that ends a call gives a reply
 pub done_gives : (c : Config) (machine : Machine) (got : ℕ) → answer_of c machine got ≡ Some Done → (r : Reply) × (given_in machine ≡ Some r)
@@ -37,6 +36,7 @@ pub record HasGiven (machine next : Machine) (r : Reply) : Type 0 where
   pub replied : reply_in next ≡ Some r
   pub rest : is_resting next ≡ true
   pub busy : is_resting machine ≡ false
+  pub role : is_mutating machine ≡ true
   pub made : made_of_machine next ≡ made_of_machine machine
   pub was_at_hand : at_hand_of machine ≡ 1
 
@@ -45,6 +45,7 @@ given_after c order got (mutating m) r gives = record {
   replied = replied m.spot gives;
   rest = rest m.spot gives;
   busy = busy m.spot gives;
+  role = refl;
   made = made m.spot gives;
   was_at_hand = at_hand_then m.spot gives;
 }
@@ -71,6 +72,16 @@ given_after c order got (mutating m) r gives = record {
 given_after c order got (helping h) r gives = absurd cc
 given_after c order got (controlling k) r gives = absurd cc
 
+-- between two calls no reply is at hand
+pub rest_at_hand : (machine : Machine) → is_resting machine ≡ true → at_hand_of machine ≡ 0
+rest_at_hand (mutating m) rest = by_spot m.spot rest
+  where
+    by_spot : (spot : Spot) → is_between_calls spot ≡ true → at_hand spot ≡ 0
+    by_spot (Leave q) is = absurd cc
+    by_spot _ is = refl
+rest_at_hand (helping h) rest = refl
+rest_at_hand (controlling k) rest = refl
+
 -- A machine that gives no reply makes at most one object in a step, and then a reply is at hand. None was before.
 pub none_after : (c : Config) (order : Order) (got : ℕ) (machine : Machine) → given_in machine ≡ None
     → (made_of_machine (machine_after c order got machine) ≤ made_of_machine machine + at_hand_of (machine_after c order got machine)) × (at_hand_of machine ≡ 0)
@@ -95,3 +106,18 @@ pub ended_some : (command : Command) (machine : Machine) (r : Reply) → given_i
 ended_some command (mutating m) r gives = (record { thread = m.seat + 1; command = command; reply = r }, ap (entries_of m.seat command) gives, refl, refl)
 ended_some command (helping h) r gives = absurd cc
 ended_some command (controlling k) r gives = absurd cc
+
+-- a reply as a list
+abbrev pub listed : Option Reply → List Reply
+listed None = []
+listed (Some r) = r ∷ []
+
+-- the replies of the calls that a step ends
+pub ended_replies : (command : Command) (machine : Machine) → map (λ e. e.reply) (ended_by command machine) ≡ listed (given_in machine)
+ended_replies command (mutating m) = by_given (given_at m.spot)
+  where
+    by_given : (o : Option Reply) → map (λ e. e.reply) (entries_of m.seat command o) ≡ listed o
+    by_given None = refl
+    by_given (Some r) = refl
+ended_replies command (helping h) = refl
+ended_replies command (controlling k) = refl

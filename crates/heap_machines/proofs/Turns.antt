@@ -1,18 +1,20 @@
 -- Whether machines have a turn, by their roles.
-use Rattle.std.proofs.Common.{◌≡◌, ℕ, ◌+◌, ◌<◌, ◌≤◌, Bool, true, false, not, ◌&&◌, nat_lt, Option, Some, None, refl, sym, ap, ◌∙◌, subst, arith}
-use Rattle.std.specs.Prelude.{if◌then◌else◌, is_some}
+use Rattle.std.proofs.Common.{◌≡◌, ℕ, true, false, not, ◌&&◌, nat_lt, Option, Some, None, refl, arith}
+use Rattle.std.specs.Prelude.{if◌then◌else◌}
 use Rattle.std.specs.Option.{option_map}
 use Rattle.std.proofs.lemmas.Bool.Decides.{nat_tests}
 use Rattle.heap_words.specs.declared.config.Config.{Config}
+use Rattle.heap_words.specs.declared.access.Took.{Took}
 use Rattle.shen_graph.specs.declared.command.Command.{Command}
 use Rattle.shen_graph.specs.declared.order.Order.{Order}
 use Rattle.shen_graph.specs.declared.order.Order.TheVariants.{Nothing, Begin}
 use Rattle.shen_graph.specs.Order.{is_nothing}
 use Rattle.mutator.specs.declared.spot.Spot.{Spot}
 use Rattle.mutator.specs.declared.spot.Spot.TheVariants.{Rest, Ended}
+use Rattle.mutator.specs.Rows.{answer_at}
 use Rattle.mutator.specs.Orders.{is_between_calls, takes_at, is_pending}
 use Rattle.step_core.specs.Actor.{Machine, mutating, helping, controlling}
-use Rattle.step_core.specs.Machines.{takes_of, machine_after, order_for, is_resting, is_mutating, HasNumber}
+use Rattle.step_core.specs.Machines.{takes_of, answer_of, machine_after, order_for, is_resting, is_mutating, HasNumber}
 
 -- a mutator makes a step under an order that may stand, but where it is idle
 pub turn_idle : (spot : Spot) (made : ℕ) (order : Order) → is_pending spot made order ≡ true → takes_at spot made order ≡ not (is_between_calls spot && is_nothing order)
@@ -74,3 +76,9 @@ rest_takes (mutating m) rest = by_spot m.spot rest
     by_spot _ rest = absurd cc
 rest_takes (helping h) rest = refl
 rest_takes (controlling k) rest = refl
+
+-- a machine that makes a step says something
+pub says_some : (c : Config) (machine : Machine) (order : Order) (got : ℕ) → takes_of machine order ≡ true → (said : Took) × (answer_of c machine got ≡ Some said)
+says_some c (mutating m) order got takes = (answer_at c m.kept m.spot got, refl)
+says_some c (helping h) order got takes = absurd cc
+says_some c (controlling k) order got takes = absurd cc

@@ -1,5 +1,5 @@
 -- From one moment of a run of a schedule to a later one.
-use Rattle.std.specs.Prelude.{ℕ, ◌≡◌, ◌+◌, ◌<◌, Bool, true, false, List, ◌∷◌, ◌++◌, length, map, All, Option, Some, None, is_some, slice_get}
+use Rattle.std.specs.Prelude.{ℕ, ◌≡◌, ◌+◌, ◌<◌, Bool, true, false, List, ◌∷◌, ◌++◌, length, map, All, Option, Some, None, is_some, slice_get, nat_lt, if◌then◌else◌}
 use Rattle.heap_words.specs.declared.config.Config.{Config}
 use Rattle.heap_words.specs.Ranges.{seat_count}
 use Rattle.heap_words.specs.declared.schedule.Item.{Item}
@@ -11,11 +11,11 @@ use Rattle.shen_graph.specs.Work as work
 use Rattle.shen_graph.specs.declared.order.Order.{Order}
 use Rattle.shen_graph.specs.declared.order.Order.TheVariants.{Nothing}
 use Rattle.step_core.specs.Actor.{Actor}
-use Rattle.step_core.specs.Machines.{kind, made_of_machine, at_hand_of, is_resting}
+use Rattle.step_core.specs.Machines.{kind, made_of_machine, at_hand_of, is_resting, order_for}
 use Rattle.step_core.specs.Schedule.{Scripts, script_of, turn, waits, Task, Agenda, scheduled}
 use Rattle.shen_core.specs.declared.plain.Plain.{Plain}
-use Rattle.shen_core.specs.declared.step.Stepped.{Stepped}
-use Rattle.shen_core.specs.declared.step.Stepped.TheVariants.{More, Again, Done, Idle}
+use Rattle.heap_machines.specs.declared.stepped.Stepped.{Stepped}
+use Rattle.heap_machines.specs.declared.stepped.Stepped.TheVariants.{More, Again, Done, Idle}
 use Rattle.shen_core.specs.Runs.{event}
 use Rattle.shen_core.specs.State.{config_of, orders_of, machine_at, Shows}
 
@@ -47,6 +47,14 @@ pub record CanRun (p : Plain) (jobs : Jobs) : Type 0 where
   pub commands : (t : ℕ) → t < (config_of p).mutators → All IsValid (work.script_of jobs t)
   pub busy : (t : ℕ) → t < (config_of p).mutators → is_resting (machine_at p t) ≡ false → length (work.replies_of jobs t) < length (work.script_of jobs t)
   pub made : (t : ℕ) → t < (config_of p).mutators → made_of_machine (machine_at p t) + length (work.script_of jobs t) < 4294967295 + (length (work.replies_of jobs t) + at_hand_of (machine_at p t))
+
+-- the next command of a machine's script, which only a mutator has
+abbrev pub next_for : Config → Jobs → ℕ → Option Command
+next_for c jobs number = if nat_lt number c.mutators then work.next_of jobs number else None
+
+-- whether a machine has a turn, and the order that it has then
+abbrev pub IsNextTurn : Plain → Jobs → ℕ → Bool → Order → Type 0
+IsNextTurn p jobs number has order = order_for (next_for (config_of p) jobs number) (machine_at p number) ≡ (if has then Some order else None)
 
 -- the event of a machine under an order, if it makes one
 abbrev pub event_if : Bool → ℕ → Order → Option (Event Order)

@@ -1,9 +1,6 @@
 -- Words and machines in memory, and the stages of runs that they show.
 use Rattle.std.specs.Prelude.{ℕ, ◌≡◌, List, [], ◌∷◌, ◌++◌, map, slice_index}
-use Rattle.heap_words.specs.declared.access.Access.{Access}
 use Rattle.heap_words.specs.Access.{place_of}
-use Rattle.steps_base.specs.Touch.{placed}
-use Rattle.mutator.specs.Rows.{Mutating, touch_of}
 use Rattle.heap_words.specs.declared.config.Config.{Config}
 use Rattle.steps_base.specs.Steps.{Stage, Event, act, go, IsEvent}
 use Rattle.shen_graph.specs.declared.order.Order.{Order}
@@ -15,10 +12,6 @@ use Rattle.step_core.specs.Begins.{Run, ending}
 pub record Shows (words : List ℕ) (machines : List Machine) (s : Stage Actor) : Type 0 where
   pub words_are : s.words ≡ words
   pub machines_are : map (λ a. a.machine) s.machines ≡ machines
-
--- the access of a mutator
-abbrev pub access_of : Config → Mutating → Access
-access_of c m = placed c (touch_of c m)
 
 -- some run leads to these words and machines
 pub record IsShownBySome (c : Config) (words : List ℕ) (machines : List Machine) : Type 0 where

@@ -9,7 +9,7 @@ use Rattle.shen_graph.specs.declared.order.Order.TheVariants.{Nothing}
 use Rattle.step_core.specs.Actor as actors
 use Rattle.step_core.specs.Machines.{takes_of, plan_of}
 use Rattle.shen_core.specs.declared.plain.Plain.{Plain}
-use Rattle.shen_core.specs.Shown.{shown, order_of_machine}
+use Rattle.heap_machines.specs.Shown.{shown, order_of}
 use Rattle.shen_core.specs.Runs as runs
 
 -- its heap
@@ -26,7 +26,7 @@ machines_of p = map shown p.machines.items
 
 -- the orders that its machines were given
 abbrev pub orders_of : Plain → List Order
-orders_of p = map order_of_machine p.machines.items
+orders_of p = map order_of p.machines.items
 
 -- the machines of its heap
 abbrev pub seats_of : Plain → ℕ

@@ -1,17 +1,16 @@
 ghost use Rattle.std.specs.Prelude.{◌≡◌, ◌≤◌, length, map, All, vec_capacity};
 ghost use Rattle.heap_words.specs.Words.{table_words, heap_size};
 ghost use Rattle.heap_words.specs.Ranges.{seat_count};
-ghost use Rattle.shen_core.specs.Shown.{shown, heap_of};
+ghost use Rattle.heap_machines.specs.Shown.{shown, heap_of};
 ghost use Rattle.shen_core.specs.Runs.{IsShownBySome};
 
-use crate::machine::Machine;
-use crate::opening::open_machines;
-use crate::step::{Stepped, make_step};
 use heap_graph::write_graph;
+use heap_machines::{Machine, Stepped, open_machines};
 use heap_words::{Config, NoMemory, Place, heap_in, roots_in};
-use shen_graph::{Command, GraphText, Reply};
+use shen_graph::{Command, GraphText, Reply, Work};
 use std::alloc::Global;
 use step_core::open_words;
+use steps_base::make_access;
 
 /// A heap and its machines, on one thread.
 #[derive(Drop)]
@@ -26,7 +25,7 @@ pub struct Plain {
     ghost all_machines: { length machines.items ≡ seat_count config.mutators config.helpers },
     ghost all_marks: { length marks.items ≡ heap_size config },
     ghost enough_addresses: { heap_size config ≤ vec_capacity addresses },
-    ghost one_heap: { All (λ m. heap_of config m ≡ config) machines.items },
+    ghost one_heap: { All (λ m. heap_of m ≡ config) machines.items },
     ghost reached: { ∥ IsShownBySome config words.items (map shown machines.items) ∥₁ },
 }
 
@@ -38,9 +37,9 @@ impl Plain {
     ghost use Rattle.step_core.specs.Opening.{opening};
     ghost use Rattle.step_core.specs.Begins.{Run, ending, graph_after};
     ghost use Rattle.heap_graph.specs.Shows as texts;
-    ghost use Rattle.shen_core.specs.State.{config_of, words_of, machines_of, orders_of, seats_of, Shows, machine_at, has_turn, found_by, next_machine, IsStep, IsUnchanged};
-    ghost use Rattle.shen_core.specs.Answer.{says};
-    ghost use Rattle.shen_core.specs.Progress.{AllRest};
+    ghost use Rattle.shen_core.specs.State.{config_of, words_of, machines_of, orders_of, order_at, seats_of, Shows, machine_at, has_turn, found_by, next_machine, IsStep, IsUnchanged};
+    ghost use Rattle.heap_machines.specs.Answer.{says};
+    ghost use Rattle.shen_core.specs.Progress.{CanRun, IsTurn, IsNextTurn, HasNext, AllRest, next_for};
 
     /// The heap of this configuration before the first event, whose mutators have not begun a call.
     pub fn open(alloc: Global, config: Config) -> Result<Plain, NoMemory>
@@ -77,10 +76,7 @@ impl Plain {
         ensures machines { machines_of self.new ≡ machines_of self.old }
         ensures config { config_of self.new ≡ config_of self.old }
     {
-        let Machine::Mutator(mutator) = &mut self.machines[number] else {
-            unreachable!()
-        };
-        mutator.begin(command);
+        self.machines[number].begin(command);
     }
 
     /// Gives the machine of this number one step.
@@ -99,14 +95,12 @@ impl Plain {
         ensures replied { result ≡ Stepped.Done → reply_in (machine_at self.new number) ≢ None }
         ensures again { (result ≡ Stepped.Again) ↔ ((has_turn self.old number ≡ true) × WaitsIn (config_of self.old) (machine_at self.old number) (found_by self.old number)) }
     {
-        let Machine::Mutator(mutator) = &mut self.machines[number] else {
+        let machine = &mut self.machines[number];
+        if machine.is_idle() {
             return Stepped::Idle;
-        };
-        if mutator.is_idle() {
-            Stepped::Idle
-        } else {
-            make_step(&mut self.words, mutator)
         }
+        let found = make_access(&mut self.words, machine.plan());
+        Stepped::of(machine.took(found))
     }
 
     /// Its mutators, its helpers and its control.
@@ -116,16 +110,12 @@ impl Plain {
         self.config.seats()
     }
 
-    /// Whether the machine is a mutator between two calls.
-    pub(crate) fn is_resting(&self, number: usize) -> bool
+    // Whether the machine is a mutator between two calls.
+    fn is_resting(&self, number: usize) -> bool
         requires { number < seats_of self.now }
-        ensures rest { result ≡ is_resting (machine_at self.now number) }
-        ensures below { result ≡ true → number < (config_of self.now).mutators }
+        ensures { result ≡ is_resting (machine_at self.now number) }
     {
-        match &self.machines[number] {
-            Machine::Mutator(mutator) => mutator.is_resting(),
-            Machine::Helper | Machine::Control => false,
-        }
+        self.machines[number].is_resting()
     }
 
     /// Whether the next access of the machine stands at the place.
@@ -133,22 +123,46 @@ impl Plain {
         requires { number < seats_of self.now }
         ensures { result ≡ stands_in place (machine_at self.now number) }
     {
-        match &self.machines[number] {
-            Machine::Mutator(mutator) => mutator.place().is(place),
-            Machine::Helper | Machine::Control => false,
+        self.machines[number].stands_at(place)
+    }
+
+    // The next command of the machine's script, if it is a mutator.
+    fn next_command(&self, work: &Work, number: usize) -> Option<Command>
+        requires { CanRun self.now work.now }
+        ensures { result ≡ next_for (config_of self.now) work.now number }
+    {
+        if number < self.config.mutators() {
+            work.next(number)
+        } else {
+            None
         }
     }
 
-    /// Whether the machine has a step to make. Helpers and the control rest.
-    pub(crate) fn has_turn(&self, number: usize) -> bool
-        requires { number < seats_of self.now }
-        ensures turn { result ≡ has_turn self.now number }
-        ensures below { result ≡ true → number < (config_of self.now).mutators }
+    /// Gives the machine its order for its turn, if it has one: a mutator between two calls begins the next command of its
+    /// script.
+    pub(crate) fn order_next(&mut self, work: &Work, number: usize) -> bool
+        requires number { number < seats_of self.old }
+        requires run { CanRun self.old work.now }
+        ensures turn { IsTurn self.old work.now number result (order_at self.new number) }
+        ensures has { has_turn self.new number ≡ result }
+        ensures next { IsNextTurn self.old work.now number result (order_at self.new number) }
+        ensures orders { orders_of self.new ≡ slice_set (orders_of self.old) number (order_at self.new number) }
+        ensures unchanged { result ≡ false → orders_of self.new ≡ orders_of self.old }
+        ensures words { words_of self.new ≡ words_of self.old }
+        ensures machines { machines_of self.new ≡ machines_of self.old }
+        ensures config { config_of self.new ≡ config_of self.old }
     {
-        match &self.machines[number] {
-            Machine::Mutator(mutator) => !mutator.is_idle(),
-            Machine::Helper | Machine::Control => false,
-        }
+        let next = self.next_command(work, number);
+        self.machines[number].order_next(next)
+    }
+
+    /// Whether the machine would make a step on its turn.
+    pub(crate) fn has_next(&self, work: &Work, number: usize) -> bool
+        requires number { number < seats_of self.now }
+        requires run { CanRun self.now work.now }
+        ensures { HasNext self.now work.now number result }
+    {
+        self.machines[number].has_next(self.next_command(work, number))
     }
 
     /// The reply of the last call that the mutator has ended, until the next one is begun.
@@ -157,10 +171,7 @@ impl Plain {
         requires ended { reply_in (machine_at self.now number) ≢ None }
         ensures { reply_in (machine_at self.now number) ≡ Some result }
     {
-        let Machine::Mutator(mutator) = &self.machines[number] else {
-            unreachable!()
-        };
-        mutator.reply()
+        self.machines[number].reply()
     }
 
     /// The word at a place of the table.
@@ -177,9 +188,11 @@ impl Plain {
         ensures none { (result ≡ None) ↔ (has_turn self.now number ≡ false) }
         ensures place { IfSome result (λ place. place ≡ place_in (machine_at self.now number)) }
     {
-        match &self.machines[number] {
-            Machine::Mutator(mutator) if !mutator.is_idle() => Some(mutator.place()),
-            _ => None,
+        let machine = &self.machines[number];
+        if machine.is_idle() {
+            None
+        } else {
+            Some(machine.place())
         }
     }
 

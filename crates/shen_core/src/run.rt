@@ -5,7 +5,7 @@ ghost use Rattle.shen_core.specs.Progress.{CanRun, IsTurn, HasTurned, Runs, Does
 ghost use Rattle.step_core.specs.Schedule.{steps, until, replies, control, task_of};
 
 use crate::plain::Plain;
-use crate::step::Stepped;
+use heap_machines::Stepped;
 use heap_words::{Item, Place, Schedule};
 use shen_graph::Work;
 
@@ -20,32 +20,6 @@ pub enum Ran {
 
 impl Plain {
     ghost use Rattle.shen_core.specs.Ending.{EndsRun, RunsSchedule};
-
-    // Whether the machine has a turn. A mutator between two calls is ordered the next command of its script.
-    fn order_next(&mut self, work: &Work, number: usize) -> bool
-        requires number { number < seats_of self.old }
-        requires run { CanRun self.old work.now }
-        ensures turn { IsTurn self.old work.now number result (order_at self.new number) }
-        ensures has { has_turn self.new number ≡ result }
-        ensures below { result ≡ true → number < (config_of self.old).mutators }
-        ensures more { result ≡ true → length (replies_of work.now number) < length (script_of work.now number) }
-        ensures orders { orders_of self.new ≡ slice_set (orders_of self.old) number (order_at self.new number) }
-        ensures unchanged { result ≡ false → orders_of self.new ≡ orders_of self.old }
-        ensures words { words_of self.new ≡ words_of self.old }
-        ensures machines { machines_of self.new ≡ machines_of self.old }
-        ensures config { config_of self.new ≡ config_of self.old }
-    {
-        if !self.is_resting(number) {
-            return self.has_turn(number);
-        }
-        match work.next(number) {
-            Some(command) => {
-                self.begin(number, command);
-                true
-            }
-            None => false,
-        }
-    }
 
     // One turn of a machine: it goes on with its call, or begins the next command of its script.
     fn turn(&mut self, work: &mut Work, number: usize) -> Stepped
@@ -155,19 +129,6 @@ impl Plain {
             Item::Steps { number, count } => self.run_steps(work, number, count, left),
             Item::Until { number, place } => self.run_until(work, number, place, left),
             Item::Replies { number, count } => self.run_replies(work, number, count, left),
-        }
-    }
-
-    // Whether the machine would make a step on its turn.
-    fn has_next(&self, work: &Work, number: usize) -> bool
-        requires number { number < seats_of self.now }
-        requires run { CanRun self.now work.now }
-        ensures { HasNext self.now work.now number result }
-    {
-        if self.is_resting(number) {
-            work.next(number).is_some()
-        } else {
-            self.has_turn(number)
         }
     }
 

@@ -15,7 +15,7 @@ mod Takes
 mod Fresh
 mod Places
 pub mod Facts
-mod Roles
+pub mod Roles
 mod Entries
 mod Owing
 mod Roots

@@ -1,9 +1,11 @@
 -- What holds of machines, by their roles: each lemma has one clause a role.
 use Rattle.std.proofs.Common.{◌≡◌, ℕ, ◌+◌, ◌<◌, true, List, [], Some, None, refl, sym, ◌∙◌, subst, arith}
+use Rattle.std.proofs.Math.Bool.{Bool-set}
 use Rattle.std.proofs.lemmas.List.{append-nil}
 use Rattle.heap_words.specs.declared.config.Config.{Config}
 use Rattle.heap_words.specs.Words.{Root}
 use Rattle.shen_graph.specs.declared.command.Command.{Command}
+use Rattle.shen_graph.specs.declared.order.Order.{Order}
 use Rattle.shen_graph.specs.History.{Entry}
 use Rattle.mutator.specs.declared.spot.Kept.{Kept}
 use Rattle.mutator.specs.declared.spot.Spot.{Spot}
@@ -13,7 +15,7 @@ use Rattle.mutator.specs.Rows.{Mutating}
 use Rattle.heap_world.specs.World.{World, hand, Points, Shared}
 use Rattle.heap_world.specs.Rely.{Rely}
 use Rattle.step_core.specs.Actor.{Machine, mutating, helping, controlling, Actor}
-use Rattle.step_core.specs.Machines.{HasNumber, IsIdle}
+use Rattle.step_core.specs.Machines.{HasNumber, IsIdle, IsFitIn}
 use Rattle.step_core.specs.Stepped.{Mine}
 use Rattle.step_core.proofs.Facts.{IsMachine}
 use Rattle.step_core.proofs.Spots.{mutator_at}
@@ -70,3 +72,9 @@ machine_begins c w k b (mutating m) number idle calls valid roots none =
     }
 machine_begins c w k b (helping h) number idle calls valid roots none = record { least = number.0; below = number.1; hands = λ a words is. none a k words is }
 machine_begins c w k b (controlling h) number idle calls valid roots none = record { number_is = number; hands = λ a words is. none a k words is }
+
+-- that a word is fit is one fact
+pub fit_is_prop : (c : Config) (order : Order) (got : ℕ) (machine : Machine) → IsProp (IsFitIn c order got machine)
+fit_is_prop c order got (mutating m) = hlevel (Bool-set)
+fit_is_prop c order got (helping h) = hlevel
+fit_is_prop c order got (controlling k) = hlevel
