@@ -1,5 +1,5 @@
 -- The replies that machines give, by their roles.
-use Rattle.std.proofs.Common.{◌≡◌, ℕ, ◌+◌, ◌<◌, ◌≤◌, true, false, List, [], ◌∷◌, map, Option, Some, None, refl, sym, ap, ◌∙◌, arith}
+use Rattle.std.proofs.Common.{◌≡◌, ℕ, ◌+◌, ◌≤◌, true, false, List, [], ◌∷◌, map, Option, Some, None, refl, ap, arith}
 use Rattle.heap_words.specs.declared.config.Config.{Config}
 use Rattle.heap_words.specs.declared.access.Took.TheVariants.{Done}
 use Rattle.shen_graph.specs.declared.command.Command.{Command}
@@ -9,9 +9,8 @@ use Rattle.shen_graph.specs.History.{Entry}
 use Rattle.mutator.specs.declared.spot.Spot.{Spot}
 use Rattle.mutator.specs.declared.spot.Spot.TheVariants.{Rest, Making, Leave}
 use Rattle.mutator.specs.declared.makes.MakeSpot.TheVariants as make
-use Rattle.mutator.specs.declared.spot.Kept.{Kept}
 use Rattle.mutator.specs.Orders.{is_between_calls}
-use Rattle.mutator.specs.Rows.{Mutating, given_at, answer_at, reply_at, next_at}
+use Rattle.mutator.specs.Rows.{given_at, answer_at, reply_at, next_at}
 use Rattle.mutator.proofs.Done as ends
 use Rattle.step_core.specs.Actor.{Machine, mutating, helping, controlling, entries_of}
 use Rattle.step_core.specs.Machines.{machine_after, answer_of, given_in, ended_by, reply_in, is_resting, is_mutating, made_of_machine, at_hand, at_hand_of}

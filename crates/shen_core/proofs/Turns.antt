@@ -129,7 +129,7 @@ next_fits p jobs number can within role rest =
     by_next below (Some command) here = (
       one_of_these IsValid (work.script_of jobs number) (length (work.replies_of jobs number)) command (can.commands number below) here,
       (let few = can.made number below in
-      let more = slice_get_within (work.script_of jobs number) (length (work.replies_of jobs number)) command here in
-      let none = rest_at_hand (machine_at p number) rest in
-      omega (arith, few, more, none)),
+          let more = slice_get_within (work.script_of jobs number) (length (work.replies_of jobs number)) command here in
+          let none = rest_at_hand (machine_at p number) rest in
+          omega (arith, few, more, none)),
     )

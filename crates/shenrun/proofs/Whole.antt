@@ -12,16 +12,17 @@ use Rattle.std.proofs.lemmas.Option.{slice_get-map, get_or_from_slice_get}
 use Rattle.heap_words.specs.declared.config.Config.{Config}
 use Rattle.heap_words.specs.declared.schedule.Item.{Item}
 use Rattle.steps_base.specs.Steps.{Stage, Event}
-use Rattle.shen_graph.specs.declared.command.Reply.{Reply}
 use Rattle.shen_graph.specs.Graph.{Reference, Graph, opening as graph_opening}
 use Rattle.shen_graph.specs.GraphText.{Text, Row, names_of, root_of, row_in}
 use Rattle.shen_graph.specs.History.{Entry, after, of_thread, commands_of}
 use Rattle.shen_graph.specs.History as history
 use Rattle.shen_graph.specs.Work as work
 use Rattle.shen_graph.specs.declared.order.Order.{Order}
-use Rattle.step_core.specs.Actor.{Machine, fresh_control, Actor, entries_of}
+use Rattle.heap_machines.proofs.Standing.{entries_at_rest}
+use Rattle.step_core.specs.Actor.{Machine, fresh_control, Actor}
 use Rattle.step_core.specs.Schedule.{Scripts}
 use Rattle.step_core.specs.Begins.{first_graph, reached, past}
+use Rattle.step_core.proofs.FirstFacts.{opening_run}
 use Rattle.step_core.proofs.Theorem.{every_list}
 use Rattle.step_core.specs.Threads.{IsSettled}
 use Rattle.heap_graph.specs.Shows as texts
@@ -41,9 +42,7 @@ use Rattle.shenrun.specs.Running.{HasFinished}
 
 -- the entries of a mutator that has called its script are its calls
 entries_called : (c : Config) (scripts : Scripts) (events : List (Event Order)) (t : ℕ) → (called : HasCalled scripts (reached c events) t) → of_thread (past c events) (t + 1) ≡ called.actor.calls
-entries_called c scripts events t called =
-    let thread = (every_list c events).threads t called.actor called.mutator called.is in
-    thread.entries_are ∙ ap (λ (o : Option Reply). called.actor.calls ++ entries_of t called.actor.command o) (thread.between_calls called.rest) ∙ append-nil called.actor.calls
+entries_called c scripts events t called = entries_at_rest c (opening_run c events) t called.actor called.here called.called.rest
 
 -- a thread that is none has no entry
 none_of : (threads : ℕ) (h : List Entry) (t : ℕ) → All (IsSettled threads) h → (t ≡ 0) ⊎ (threads < t) → of_thread h t ≡ []
@@ -65,7 +64,7 @@ whole c scripts items limit count idle all_called = record { idle = idle; follow
         by_thread (inl below) =
             let called = all_called t below in
             let next : suc t ≡ t + 1 = omega arith in
-            ap (λ (n : ℕ). commands_of (of_thread (history_of c scripts items limit) n)) next ∙ ap commands_of (entries_called c scripts (events_of c scripts items limit) t called) ∙ called.commands
+            ap (λ (n : ℕ). commands_of (of_thread (history_of c scripts items limit) n)) next ∙ ap commands_of (entries_called c scripts (events_of c scripts items limit) t called) ∙ called.called.commands
         by_thread (inr past_all) =
             ap commands_of (none_of c.mutators (history_of c scripts items limit) (suc t) (every_list c (events_of c scripts items limit)).entries (inr (omega arith))) ∙ sym (get_or_past scripts t [] (omega arith))
 
@@ -79,7 +78,7 @@ machine_shown p s t a shows here =
 pub all_rest : (c : Config) (scripts : Scripts) (items : List Item) (limit : ℕ) (jobs : Jobs) (p : Plain) → HasFinished c scripts items limit jobs p → AllRest p
 all_rest c scripts items limit jobs p done t below =
     let called = done.called t (subst (λ (e : Config). t < e.mutators) done.config below) in
-    ap is_resting (machine_shown p (end_of c scripts items limit) t called.actor done.shows called.is.here ∙ called.is.is) ∙ called.rest
+    ap is_resting (machine_shown p (end_of c scripts items limit) t called.actor done.shows called.here) ∙ called.called.rest
 
 -- the work has the replies of the history
 replies_shown : (c : Config) (scripts : Scripts) (items : List Item) (limit : ℕ) (jobs : Jobs) (p : Plain) → HasFinished c scripts items limit jobs p → (t : ℕ) → 1 ≤ t → t ≤ c.mutators
@@ -88,7 +87,7 @@ replies_shown c scripts items limit jobs p done t low high =
     let below : t - 1 < c.mutators = omega arith in
     let called = done.called (t - 1) below in
     let same : t - 1 + 1 ≡ t = omega arith in
-    done.tells.replies (t - 1) called.actor below called.is.here
+    done.tells.replies (t - 1) called.actor below called.here
     ∙ sym (ap history.replies_of (ap (of_thread (history_of c scripts items limit)) (sym same) ∙ entries_called c scripts (events_of c scripts items limit) (t - 1) called))
 
 -- ---- the text
