@@ -5,13 +5,16 @@ mod Loading
 mod InHand
 mod Spots
 mod Calls
+mod Entering
 mod Loads
 mod Fields
 mod RootStores
 mod Stores
 mod Ready
 mod Takes
+mod FreshRoot
 mod Fresh
+mod Waiting
 mod Places
 pub mod Facts
 mod Roles
