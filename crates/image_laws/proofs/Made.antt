@@ -28,7 +28,7 @@ use Rattle.image_laws.specs.Image.{AnswerStands, ImageStands}
 use Rattle.image_laws.specs.Serving.{asked_shape, asked_name, asked_piece, made_block, made_promise, IsAsking}
 
 -- the words of a new object, and the others
-outside_fresh : (a shape name before x : ℕ) → (x < a) ⊎ (a + object_words shape ≤ x) → fresh_word a shape name before x ≡ before
+pub outside_fresh : (a shape name before x : ℕ) → (x < a) ⊎ (a + object_words shape ≤ x) → fresh_word a shape name before x ≡ before
 outside_fresh a shape name before x outside =
     cond-false (nat_le a x && nat_lt x (a + object_words shape)) (cond (a == x) plain_header (cond (a + 1 == x) shape (cond (a + 2 == x) name 0))) before
     (⊎_elim

@@ -19,7 +19,9 @@ follows_begins c s g begins = record {
   seats = begins.seats;
   legal = tt;
   entries = All-nil (IsSettled c.mutators);
+  no_more = begins.stands.no_more;
   shared = begins.stands.shared;
+  promised_to = begins.stands.promised_to;
   machines = λ k a there.
       let new = begins.machines k a there in
       machine_begins c (world_of c s begins.stands.block begins.stands.owner g) k a a.machine new.number_is new.idle new.calls new.valid begins.stands.roots begins.stands.none begins.stands.asked;

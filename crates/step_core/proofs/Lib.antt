@@ -1,29 +1,44 @@
-mod Stable
-mod Settling
-mod Naming
-mod Loading
-mod InHand
-mod Spots
-mod Calls
-mod Entering
-mod Loads
-mod Fields
-mod RootStores
-mod Stores
-mod Ready
-mod Takes
-mod FreshRoot
-mod Fresh
-mod Waiting
-mod Places
+pub mod Adapter
+pub mod Asked
+pub mod Beginning
+pub mod Calls
+pub mod ControlObeys
+pub mod Entering
+pub mod Entries
 pub mod Facts
-mod Roles
-mod Entries
-mod Owing
-mod Roots
-mod Beginning
-pub mod Induction
-pub mod OpeningStands
+pub mod Fields
 pub mod FirstFacts
+pub mod Fresh
+pub mod FreshRoot
+pub mod Images
+pub mod InHand
+pub mod Induction
+pub mod Loading
+pub mod Loads
+pub mod MachinesObey
+pub mod MutatorObeys
+pub mod Naming
 pub mod NoFull
+pub mod OpeningStands
+pub mod Ordered
+pub mod Outside
+pub mod Owing
+pub mod Paused
+pub mod Pauses
+pub mod Places
+pub mod Polling
+pub mod Reading
+pub mod Ready
+pub mod Refusing
+pub mod Roles
+pub mod RootStores
+pub mod Roots
+pub mod Settling
+pub mod Spots
+pub mod Stable
+pub mod Stores
+pub mod Storing
+pub mod Takes
 pub mod Theorem
+pub mod Waiting
+pub mod Within
