@@ -17,6 +17,12 @@ get_below [] k x here = absurd (cc (here))
 get_below (y ∷ xs) zero x here = omega arith
 get_below (y ∷ xs) (suc k) x here = omega (arith, get_below xs k x here)
 
+-- and there is one below it
+pub there_is : {A : Type 0} (xs : List A) (k : ℕ) → k < length xs → (x : A) × (slice_get xs k ≡ Some x)
+there_is [] k below = absurd (omega (arith, below))
+there_is (y ∷ xs) zero below = (y, refl)
+there_is (y ∷ xs) (suc k) below = there_is xs k (omega (arith, below))
+
 -- all are outside, the control is idle, and the words say so
 pub shaken_begins : {R : Type 0} (c : Config) (standing : R → Standing) (s : Stage R) (control : R) → length s.words ≡ table_words c → length s.machines ≡ seat_count c.mutators c.helpers
     → slice_get s.machines (control_seat c) ≡ Some control → standing control ≡ idle
