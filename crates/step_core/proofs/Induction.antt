@@ -342,8 +342,8 @@ module _ (change : Change) (law : IsPause change) (c : Config) (g : Graph) (s : 
   quiet : (spot : ControlSpot) (here : Here spot) → stored_image spot image ≡ None → told_storing c s spot image ≡ []
       → ((shared : Shared c (pauses.open_world c s.words follows.block follows.owner (after g past))) (hands : (a more : ℕ) → follows.block a ≡ Some (hand (control_number c) more) → ⊥) → is_ready c spot ≡ true
       → Owes c s.words (accessed (control_access c (control_at spot)) s.words) (pauses.open_world c s.words follows.block follows.owner (after g past)) past (control_number c) s.machines
-      (settled_by c (accessed (control_access c (control_at spot)) s.words) (image_in (control_after change law c g s past number (control_at spot) command calls follows shaken here).machine)) []
-      (control_after change law c g s past number (control_at spot) command calls follows shaken here))
+          (settled_by c (accessed (control_access c (control_at spot)) s.words) (image_in (control_after change law c g s past number (control_at spot) command calls follows shaken here).machine)) []
+          (control_after change law c g s past number (control_at spot) command calls follows shaken here))
       → ControlGoal spot
   quiet spot here none told_none owes =
       let k = control_at spot in
@@ -352,8 +352,8 @@ module _ (change : Change) (law : IsPause change) (c : Config) (g : Graph) (s : 
       subst (λ es. Follows c g (moved (kind change c) s number (record { machine = controlling k; command = command; calls = calls }) Nothing) (past ++ es)) (sym told_none)
       (from_owes change law c g s past number k command calls follows shaken here []
       (subst (λ w. Owes c s.words (accessed (control_access c k) s.words) w past (control_number c) s.machines
-      (settled_by c (accessed (control_access c k) s.words) (image_in (control_after change law c g s past number k command calls follows shaken here).machine)) []
-      (control_after change law c g s past number k command calls follows shaken here)) (sym world_open)
+          (settled_by c (accessed (control_access c k) s.words) (image_in (control_after change law c g s past number k command calls follows shaken here).machine)) []
+          (control_after change law c g s past number k command calls follows shaken here)) (sym world_open)
       (owes (subst (λ w. Shared c w) world_open (shared_held change law c g s past number k command calls follows shaken here)) (hands_held change law c g s past number k command calls follows shaken here) (ready_at spot here))))
 
   -- the world while no image counts
@@ -400,8 +400,8 @@ module _ (change : Change) (law : IsPause change) (c : Config) (g : Graph) (s : 
       let same_words : accessed (control_access c (control_at (LoadWord index))) s.words ≡ s.words = set-get_or s.words (image_start c + index) 0 in
       quiet (LoadWord index) here refl refl (λ shared hands ready.
       subst (λ ws. Owes c s.words ws open_now past (control_number c) s.machines
-      (settled_by c ws (image_in (control_after change law c g s past number (control_at (LoadWord index)) command calls follows shaken here).machine)) []
-      (control_after change law c g s past number (control_at (LoadWord index)) command calls follows shaken here)) (sym same_words)
+          (settled_by c ws (image_in (control_after change law c g s past number (control_at (LoadWord index)) command calls follows shaken here).machine)) []
+          (control_after change law c g s past number (control_at (LoadWord index)) command calls follows shaken here)) (sym same_words)
       (loaded_owes index here shared hands (nat_lt (index + 1) (image_words c)) refl known.aims))
 
   -- a word of the new image that is stored
