@@ -42,3 +42,4 @@ pub mod Takes
 pub mod Theorem
 pub mod Waiting
 pub mod Within
+pub mod HandshakeBegins
