@@ -17,10 +17,10 @@ use Rattle.handshake.specs.Left.{Counts, EventCounts, EachCounts, IsCounted}
 use Rattle.handshake.proofs.Words.{accessed-load}
 
 -- what a machine adds to the count
-abbrev weight : Bool → ℕ
+abbrev pub weight : Bool → ℕ
 weight b = cond b 1 0
 
-count_by-cons : {R : Type 0} (p : R → Bool) (x : R) (xs : List R) → count_by p (x ∷ xs) ≡ weight (p x) + count_by p xs
+pub count_by-cons : {R : Type 0} (p : R → Bool) (x : R) (xs : List R) → count_by p (x ∷ xs) ≡ weight (p x) + count_by p xs
 count_by-cons p x xs = sum_by-cons (λ r. weight (p r)) x xs
 
 -- the count after a change of one machine

@@ -4,3 +4,4 @@ pub mod Shaking
 pub mod Still
 pub mod Parts
 pub mod Counting
+pub mod Beginnings

@@ -21,6 +21,7 @@ mod leave;
 mod out;
 mod stop;
 mod stop_spot;
+mod values;
 
 pub use enter::Enter;
 pub use enter_spot::EnterSpot;

@@ -47,6 +47,7 @@ use Rattle.step_core.specs.Machines.{takes_of, took_of, kind, told_by, told_stor
 use Rattle.step_core.specs.History.{told_of_machine, told, history}
 use Rattle.step_core.specs.Settled.{mixed, stored_image, settled, settled_by, image_in, image_of, control_number}
 use Rattle.step_core.specs.Sound.{world_of}
+use Rattle.step_core.specs.Fit.{StandsForSome}
 use Rattle.step_core.specs.Standing.{standing_at, control_standing, standing_of}
 use Rattle.step_core.proofs.Adapter.{owes_stepped}
 use Rattle.step_core.proofs.Facts.{IsThread, IsAim, IsControl, IsMachine, PromisedToMutators, Follows, Owes, AreRead}
@@ -54,7 +55,7 @@ use Rattle.step_core.proofs.Images.{words_after, words_loaded, found-placed, set
 use Rattle.step_core.proofs.MachinesObey.{CanGo, standing, is_left, event_obeys, event_counts}
 use Rattle.step_core.proofs.Outside.{outside_touch}
 use Rattle.step_core.proofs.Owing.{follows_owes}
-use Rattle.step_core.proofs.Paused.{paused_owes}
+use Rattle.step_core.proofs.Paused.{asking, image_stands, paused_owes}
 use Rattle.step_core.proofs.Pauses as pauses
 use Rattle.step_core.proofs.Places.{each_step}
 use Rattle.step_core.proofs.Polling.{polls_owes}
@@ -348,6 +349,20 @@ module _ (change : Change) (law : IsPause change) (c : Config) (g : Graph) (s : 
   -- the word of the image that is loaded
   abbrev loaded : ℕ → ℕ
   loaded index = slice_index s.words (image_start c + index)
+
+  -- The last word of the image is loaded: the image stands for the graph.
+  pub whole_stands : (index : ℕ) → Here (LoadWord index) → index + 1 ≡ image_words c → StandsForSome c (image ++ loaded index ∷ [])
+  whole_stands index here last =
+      let known = facts change law c g s past number (control_at (LoadWord index)) command calls follows shaken here in
+      let read : AreRead c s.words (image ++ loaded index ∷ []) (image_words c) = λ i below. image_grows c s.words image index known.aims.0 known.aims.1 i (omega (arith, below, last)) in
+      ∣ (
+        after g past,
+        asking c s.words follows.block follows.owner (after g past) past s.machines (image ++ loaded index ∷ []) read follows.seats,
+        image_stands c s.words follows.block follows.owner (after g past) past s.machines (image ++ loaded index ∷ []) read follows.seats
+        (shared_held change law c g s past number (control_at (LoadWord index)) command calls follows shaken here) follows.promised_to follows.no_more
+        (known_held change law c g s past number (control_at (LoadWord index)) command calls follows shaken here)
+        (all_outside change law c g s past number (control_at (LoadWord index)) command calls follows shaken here refl),
+      ) ∣₁
 
   -- the control after it loaded a word: it loads the next one, or it was the last one
   abbrev after_word : ℕ → Bool → Actor
