@@ -33,6 +33,7 @@ use Rattle.heap_world.specs.Change.{Change, IsPause}
 use Rattle.control_steps.specs.declared.spot.ControlSpot.{ControlSpot}
 use Rattle.control_steps.specs.declared.spot.ControlSpot.TheVariants.{StoreWord}
 use Rattle.step_core.specs.Actor.{Machine, mutating, helping, controlling, Actor, entry_of, entries_of, command_by}
+use Rattle.step_core.specs.Begins.{Begins}
 use Rattle.step_core.specs.Begun.{begun_by, begun}
 use Rattle.step_core.specs.History.{told_of_machine, told, history}
 use Rattle.step_core.specs.Machines.{command_at, told_word, told_storing, told_by, takes_of, is_resting, kind}
@@ -41,6 +42,7 @@ use Rattle.step_core.specs.Sound.{world_of}
 use Rattle.step_core.specs.Standing.{standing_at, standing_of}
 use Rattle.step_core.specs.Stepped.{IsPolling, IsAnswered, IsAsking, Mine}
 use Rattle.step_core.proofs.Asked.{promised_given}
+use Rattle.step_core.proofs.Beginning.{goes_begins}
 use Rattle.step_core.proofs.Crowds.{get_right, sum_below_le, open_of, open_below, next_is, crowded_longer, crowded_none, crowded_one}
 use Rattle.step_core.proofs.Facts.{IsThread, IsControl, words_promised, Follows}
 use Rattle.step_core.proofs.Growing.{begun_many, begun_is, begun_grows}
@@ -255,7 +257,7 @@ goes_crowded change law c g s past (e ∷ es) goes crowded =
     (goes_crowded change law c g (act (kind change c) s e) (past ++ told c s e) es (goes_event change law c g s past e goes)
     (crowded_longer c.regions c.region_words g (begun c s) (begun c (act (kind change c) s e)) (past ++ told c s e) (begun_grows change c s e goes.follows.seats) (told_crowded change c g s past goes crowded e)))
 
--- Who is refused in a run from a stage that begins was crowded out.
-pub run_crowded : (change : Change) → IsPause change → (c : Config) (g : Graph) (s : Stage Actor) → Goes c g s [] → (es : List (Event Order))
-    → AreCrowded c.regions c.region_words g (begun c (go (kind change c) s es)) (history change c s es)
-run_crowded change law c g s goes es = goes_crowded change law c g s [] es goes (λ k e there full. absurd (cc (there)))
+-- Who is refused in a run from a stage that begins a graph was crowded out.
+pub run_crowded : (change : Change) → IsPause change → (c : Config) (s : Stage Actor) (g : Graph) → Begins c s g → (events : List (Event Order))
+    → AreCrowded c.regions c.region_words g (begun c (go (kind change c) s events)) (history change c s events)
+run_crowded change law c s g begins events = goes_crowded change law c g s [] events (goes_begins c s g begins) (λ k e there full. absurd (cc (there)))
