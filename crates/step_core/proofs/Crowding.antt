@@ -46,7 +46,8 @@ use Rattle.step_core.proofs.Beginning.{goes_begins}
 use Rattle.step_core.proofs.Crowds.{get_right, sum_below_le, open_of, open_below, next_is, crowded_longer, crowded_none, crowded_one}
 use Rattle.step_core.proofs.Facts.{IsThread, IsControl, words_promised, Follows}
 use Rattle.step_core.proofs.Growing.{begun_many, begun_is, begun_grows}
-use Rattle.step_core.proofs.Induction.{held_image, outside_held, Goes, goes_event}
+use Rattle.step_core.proofs.Held.{held_image, outside_held}
+use Rattle.step_core.proofs.Induction.{Goes, goes_event}
 use Rattle.step_core.proofs.NoFull.{mutator_not_full}
 use Rattle.step_core.proofs.Roles.{mutator_there}
 use Rattle.step_core.proofs.Spots.{mutator_at}

@@ -36,6 +36,9 @@ pub mod Adapter
 pub mod MutatorObeys
 pub mod ControlObeys
 pub mod MachinesObey
+pub mod Held
+pub mod MutatorEvents
+pub mod ControlEvents
 pub mod Induction
 pub mod HandshakeBegins
 pub mod Beginning

@@ -1,5 +1,5 @@
 -- What a mutator has asked for stands in the words of its request and its answer.
-use Rattle.std.proofs.Common.{◌≡◌, ℕ, ◌⊎◌, inl, inr, Bool, true, false, Option, refl, ap, ◌∙◌}
+use Rattle.std.proofs.Common.{◌≡◌, ℕ, inl, inr, false, Option, refl, ap}
 use Rattle.heap_words.specs.declared.config.Config.{Config}
 use Rattle.shen_graph.specs.declared.command.Command.{Command}
 use Rattle.shen_graph.specs.declared.command.Reply.{Reply}
@@ -11,8 +11,8 @@ use Rattle.mutator.specs.declared.waits.WaitSpot.TheVariants as wait
 use Rattle.mutator.specs.Commands.{dst_of, refs_of, nums_of}
 use Rattle.mutator.specs.Orders.{is_waiting}
 use Rattle.heap_world.specs.World.{World}
-use Rattle.heap_world.specs.Asking.{Asking, nothing, asks, refused, given, IsAsked}
-use Rattle.step_core.specs.Sound.{is_clearing, IsOfCommand, HasAsked}
+use Rattle.heap_world.specs.Asking.{nothing, asks, refused, given}
+use Rattle.step_core.specs.Sound.{is_clearing, HasAsked}
 use Rattle.step_core.specs.Stepped.{IsMaking, IsAsking, IsPolling, Mine}
 use Rattle.step_core.proofs.Replies.{answered_polls}
 use Rattle.step_core.proofs.Spots.{mutator_at}

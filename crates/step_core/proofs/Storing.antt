@@ -1,6 +1,6 @@
 -- The step by which the control stores a word of the new image. Nothing that counts changes by it, and where the word says to a
 -- mutator that the heap is full, the reply of its call is settled.
-use Rattle.std.proofs.Common.{◌≡◌, ◌≢◌, ℕ, ◌+◌, ◌<◌, ◌≤◌, ◌⊎◌, inl, inr, ⊎_elim, Bool, true, false, List, [], ◌∷◌, ◌++◌, length, Option, Some, None, refl, sym, ap, ◌∙◌, subst, arith}
+use Rattle.std.proofs.Common.{◌≡◌, ◌≢◌, ℕ, ◌+◌, ◌<◌, inl, inr, ⊎_elim, Bool, true, false, List, [], ◌++◌, length, Option, Some, None, refl, sym, ap, ◌∙◌, subst, arith}
 use Rattle.std.specs.Prelude.{◌==◌, ◌-◌, ◌&&◌, nat_lt, slice_get, slice_index, slice_set, if◌then◌else◌}
 use Rattle.std.proofs.lemmas.Bool.{cases_eq, and_parts, eqb-true, ne_eqb, eq-eqb, and_from, cond-true, cond-false, false≢true, ltb-true, ltb-false, le-leb}
 use Rattle.std.proofs.lemmas.Option.{same_Some}
@@ -9,7 +9,7 @@ use Rattle.std.proofs.lemmas.List.Elements.{All-nil}
 use Rattle.heap_words.specs.declared.config.Config.{Config}
 use Rattle.heap_words.specs.Ranges.{seat_count}
 use Rattle.heap_words.specs.Rows.{name_of}
-use Rattle.heap_words.specs.Words.{Word, Answer, IsWord, is_image, word_at, same_word, view, write, image_start, table_words}
+use Rattle.heap_words.specs.Words.{Word, Answer, IsWord, is_image, word_at, view, write, image_start, table_words}
 use Rattle.heap_words.proofs.Named.{are_named}
 use Rattle.heap_words.proofs.Rows.{is_image-word_at}
 use Rattle.heap_words.proofs.Stores.{view_word, view_set_all, is_word_from}
@@ -25,18 +25,17 @@ use Rattle.control_steps.specs.declared.spot.ControlSpot.TheVariants.{StoreWord,
 use Rattle.control_steps.specs.Rows.{Controlling, control_next}
 use Rattle.control_steps.specs.Ready.{is_ready}
 use Rattle.control_steps.proofs.Ready.{stays_ready}
-use Rattle.step_core.specs.Actor.{Machine, mutating, helping, controlling, Actor, entries_of}
+use Rattle.step_core.specs.Actor.{mutating, controlling, Actor, entries_of}
 use Rattle.step_core.specs.Machines.{command_at, told_word}
 use Rattle.step_core.specs.Settled.{mixed, stored_image, settled_by, control_number}
 use Rattle.step_core.specs.Stepped.{Mine}
 use Rattle.step_core.specs.Threads.{IsSettled}
 use Rattle.step_core.proofs.Entries.{entries_settled, own_more, other_more}
-use Rattle.step_core.proofs.Facts.{IsSeen, IsThread, IsAim, IsMachine, AreRead, PromisedToMutators, Owes}
+use Rattle.step_core.proofs.Facts.{IsThread, IsAim, IsMachine, AreRead, PromisedToMutators, Owes}
 use Rattle.step_core.proofs.Images.{image_reads, mixed_whole, mixed_stored}
 use Rattle.step_core.proofs.Pauses.{no_other_control}
 use Rattle.step_core.proofs.Refusing.{refused_new, refused_mine}
 use Rattle.step_core.proofs.Roles.{machine_stays, mutator_there}
-use Rattle.step_core.proofs.Spots.{mutator_at}
 
 module _ (change : Change) (c : Config) (words : List ℕ) (block : Plot) (owner : ℕ → Option ℕ) (g : Graph) (past : List Entry) (machines : List Actor) (image : List ℕ) (index seen : ℕ) (command : Command) (calls : List Entry)
     (ready : is_ready c (StoreWord index) ≡ true) (long : length words ≡ table_words c) (image_long : length image ≡ image_words c) (read : AreRead c words image index)
@@ -236,9 +235,9 @@ module _ (change : Change) (c : Config) (words : List ℕ) (block : Plot) (owner
           let none : raw ≡ 0 = eqb-true _ _ both.0 in
           let one : value ≡ 1 = eqb-true _ _ both.1 in
           let unsettled : thread.fixed ≡ None = ⊎_elim
-              (λ (full : (view c words (Answer t) ≡ 1) × (thread.fixed ≡ Some Full)). absurd (let at_raw = raw_answer in let full_raw = full.0 in omega (arith, at_raw, full_raw, none)))
-              (λ (not_yet : (view c words (Answer t) ≡ 0) × (thread.fixed ≡ None)). not_yet.1)
-              (thread.seen.full (now_answer ∙ one)) in
+          (λ (full : (view c words (Answer t) ≡ 1) × (thread.fixed ≡ Some Full)). absurd (let at_raw = raw_answer in let full_raw = full.0 in omega (arith, at_raw, full_raw, none)))
+          (λ (not_yet : (view c words (Answer t) ≡ 0) × (thread.fixed ≡ None)). not_yet.1)
+          (thread.seen.full (now_answer ∙ one)) in
           let own : Mine c u m b.command None = subst (λ f. Mine c u m b.command f) unsettled thread.mine in
           let now : mixed c words image (Answer m.seat) ≡ 1 = ap (λ j. mixed c words image (Answer j)) thread.number_is ∙ now_answer ∙ one in
           record {

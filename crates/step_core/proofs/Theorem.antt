@@ -1,13 +1,12 @@
 -- The theorem over every list of events.
 use Rattle.std.proofs.Common.{◌≡◌, ◌≢◌, ℕ, ◌+◌, ◌<◌, true, List, [], ◌++◌, Some, refl, sym, ap, ◌∙◌, subst, arith}
-use Rattle.std.specs.Prelude.{slice_get, slice_set, slice_index}
-use Rattle.std.proofs.lemmas.Bool.{and_parts}
+use Rattle.std.specs.Prelude.{slice_get, slice_index}
 use Rattle.heap_words.specs.declared.config.Config.{Config}
 use Rattle.heap_words.specs.Access.{place_of}
-use Rattle.heap_words.specs.Words.{Left, Answer, is_word, word_at, view, table_words}
+use Rattle.heap_words.specs.Words.{Left, Answer, word_at, view, table_words}
 use Rattle.heap_words.proofs.Stores.{is_word_true}
 use Rattle.heap_words.proofs.Rows.{word_inside}
-use Rattle.steps_base.specs.Touch.{Touch, touch, subtracts, placed}
+use Rattle.steps_base.specs.Touch.{touch, subtracts, placed}
 use Rattle.steps_base.specs.Steps.{Stage, Event, act, go, HasReached, Finds}
 use Rattle.steps_base.proofs.Laws.{act-event}
 use Rattle.steps_base.proofs.Places.{slice_get-set_same}
@@ -28,11 +27,11 @@ use Rattle.mutator.specs.Rows.{Mutating, touch_at, touch_of, next_of, words_of}
 use Rattle.mutator.specs.Fit.{IsReady, EndsFit, IsFit}
 use Rattle.alloc_buffers.specs.declared.spot.TakeSpot.TheVariants.{LoadFree}
 use Rattle.alloc_buffers.specs.Facts.{HasLess}
-use Rattle.heap_world.specs.World.{World, hand, Shared}
+use Rattle.heap_world.specs.World.{World, hand}
 use Rattle.heap_world.specs.Change.{Change, IsPause}
 use Rattle.control_steps.specs.declared.spot.ControlSpot.{ControlSpot}
 use Rattle.control_steps.specs.declared.spot.ControlSpot.TheVariants.{LoadWord}
-use Rattle.control_steps.specs.Rows.{Controlling, control_access, word_stored}
+use Rattle.control_steps.specs.Rows.{control_access, word_stored}
 use Rattle.control_steps.proofs.Ready.{accesses_inside}
 use Rattle.step_core.specs.Actor.{Machine, mutating, helping, controlling, Actor}
 use Rattle.step_core.specs.Begins.{Begins, Run, ending, history_in, first_graph, reached, past}
@@ -49,7 +48,8 @@ use Rattle.step_core.proofs.Crowding.{run_crowded}
 use Rattle.step_core.proofs.Facts.{IsSeen, IsThread, IsMachine}
 use Rattle.step_core.proofs.FirstFacts.{opening_run}
 use Rattle.step_core.proofs.Images.{found-placed}
-use Rattle.step_core.proofs.Induction.{Goes, goes_event, goes_run, whole_stands}
+use Rattle.step_core.proofs.ControlEvents.{whole_stands}
+use Rattle.step_core.proofs.Induction.{Goes, goes_event, goes_run}
 use Rattle.step_core.proofs.MachinesObey.{is_left}
 use Rattle.step_core.proofs.MutatorObeys.{has_not_ended}
 use Rattle.step_core.proofs.Ordered.{order_word}
@@ -92,15 +92,18 @@ module _ (change : Change) (law : IsPause change) (c : Config) (g : Graph) (s : 
   machine_next : (number : ℕ) (a : Actor) (order : Order) → slice_get s.machines number ≡ Some a → takes_of a.machine order ≡ true
       → (w : World) × (words : List ℕ) × (es : List Entry)
       × IsMachine c words w es number (took_of change c a order (slice_index s.words (place_of (plan_of c order a.machine))) a.machine)
-          (machine_after change c order (slice_index s.words (place_of (plan_of c order a.machine))) a.machine)
+      (machine_after change c order (slice_index s.words (place_of (plan_of c order a.machine))) a.machine)
   unfolding kind
   machine_next number a order here takes =
       let event : Event Order = record { number = number; order = order } in
       let next = goes_event change law c g s h event goes in
       let there : slice_get (act (kind change c) s event).machines number ≡ Some (took_of change c a order (slice_index s.words (place_of (plan_of c order a.machine))) a.machine) =
-      ap (λ t. slice_get t.machines number) (act-event (kind change c) s event a (record { here = here; takes = takes })) ∙ slice_get-set_same s.machines number a _ here in
-      (world_of c (act (kind change c) s event) next.follows.block next.follows.owner (after g (h ++ told c s event)), (act (kind change c) s event).words, of_thread (h ++ told c s event) (number + 1),
-      next.follows.machines number _ there)
+      ap (λ t. slice_get t.machines number) (act-event (kind change c) s event a (record { here = here; takes = takes })) ∙ slice_get-set_same s.machines number a _ here in (
+        world_of c (act (kind change c) s event) next.follows.block next.follows.owner (after g (h ++ told c s event)),
+        (act (kind change c) s event).words,
+        of_thread (h ++ told c s event) (number + 1),
+        next.follows.machines number _ there,
+      )
 
   -- a word that a mutator finds is fit
   fit_mutator : (number : ℕ) (a : Actor) (m : Mutating) (order : Order) → slice_get s.machines number ≡ Some a → a.machine ≡ mutating m → takes_at m.spot m.made order ≡ true
