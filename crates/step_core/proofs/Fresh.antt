@@ -1,10 +1,10 @@
 -- The steps that make a new object in room in hand.
 use Rattle.std.proofs.Common.{◌≡◌, ◌≢◌, ℕ, ◌+◌, ◌<◌, Bool, true, false, Option, Some, ⊎_elim, refl, sym, ap, ◌∙◌, subst, arith}
-use Rattle.std.specs.Prelude.{◌==◌, ◌&&◌, nat_lt, if◌then◌else◌}
-use Rattle.std.proofs.lemmas.Bool.{cases_eq, cond-true, cond-false, eq-eqb, ne_eqb, and_left, ltb-true, ltb-false}
+use Rattle.std.specs.Prelude.{◌==◌, nat_lt, if◌then◌else◌}
+use Rattle.std.proofs.lemmas.Bool.{cases_eq, cond-true, cond-false, eq-eqb, ne_eqb, ltb-true, ltb-false}
 use Rattle.heap_words.specs.declared.config.Config.{Config}
 use Rattle.heap_words.specs.Encoding.{fresh_word}
-use Rattle.heap_words.specs.Words.{Root, Top, Heap, Current}
+use Rattle.heap_words.specs.Words.{Top, Heap}
 use Rattle.shen_graph.specs.declared.command.Command.{Command}
 use Rattle.shen_graph.specs.declared.command.Reply.{Reply}
 use Rattle.mutator.specs.declared.spot.Spot.{Spot}
@@ -13,7 +13,7 @@ use Rattle.mutator.specs.declared.makes.MakeSpot.TheVariants as make
 use Rattle.mutator.specs.declared.spot.Kept.{Kept}
 use Rattle.mutator.specs.Commands.{dst_of, refs_of, nums_of}
 use Rattle.mutator.specs.Rows.{Mutating}
-use Rattle.heap_world.specs.World.{World, Block, thing, hand, promised, words_of, name_at, IsThing, IsGiven, Shared}
+use Rattle.heap_world.specs.World.{World, Block, thing, hand, promised, words_of, Shared}
 use Rattle.step_core.specs.Stepped.{IsFilling, Mine, Row}
 use Rattle.heap_world.specs.Rely.{Rely}
 use Rattle.step_core.proofs.Spots.{mutator_at, accessed}

@@ -4,8 +4,9 @@ use Rattle.std.proofs.Common.{◌≡◌, ◌≢◌, ℕ, ◌+◌, ◌<◌, ◌�
 use Rattle.std.specs.Prelude.{◌==◌, nat_lt, slice_get, slice_set, slice_index, if◌then◌else◌}
 use Rattle.std.proofs.lemmas.List.{append-nil, length-set, set-get_or, length-append}
 use Rattle.std.proofs.lemmas.Option.{same_Some, slice_get_within}
-use Rattle.std.proofs.lemmas.Bool.{and_parts, lt-ltb, ltb-true, ltb-false}
+use Rattle.std.proofs.lemmas.Bool.{and_parts, lt-ltb, ltb-true, ltb-false, false≢true}
 use Rattle.heap_words.specs.declared.config.Config.{Config}
+use Rattle.shen_graph.specs.declared.command.Reply.TheVariants.{Full}
 use Rattle.heap_words.specs.Access.{place_of, made_of}
 use Rattle.heap_words.specs.Ranges.{seat_count}
 use Rattle.heap_words.specs.Words.{Word, Free, Answer, is_word, is_image, image_start, view, table_words}
@@ -164,12 +165,26 @@ module _ (change : Change) (c : Config) (g : Graph) (s : Stage Actor) (past : Li
   abbrev new_then : ℕ → Actor
   new_then got = took_of change c before order got (mutating m)
 
+  -- where it polls, and no image counts or its word is none of it, what counts is in the history
+  told_now : ((image : List ℕ) → held_image c s ≡ Some image → is_image (touch_of c m order).word ≡ false) → m.spot ≡ Waiting wait.Poll → u.memory (Answer m.seat) ≡ 1 → thread.fixed ≡ Some Full
+  told_now no_image polls one = by_image (held_image c s) refl
+    where
+      by_image : (o : Option (List ℕ)) → held_image c s ≡ o → thread.fixed ≡ Some Full
+      by_image (Some image) held = absurd (false≢true (sym (no_image image held) ∙ ap (λ spot. is_image (touch_at c m.seat m.made m.kept order spot).word) polls))
+      by_image None none =
+          let now : u.memory (Answer number) ≡ 1 = subst (λ n. u.memory (Answer n) ≡ 1) thread.number_is one in
+          let raw : view c s.words (Answer number) ≡ 1 = ap (λ o. settled_by c s.words o (Answer number)) (sym none) ∙ now in
+          ⊎_elim
+          (λ (both : (view c s.words (Answer number) ≡ 1) × (thread.fixed ≡ Some Full)). both.1)
+          (λ (no : (view c s.words (Answer number) ≡ 0) × (thread.fixed ≡ None)). let zero_raw = no.0 in absurd (omega (arith, raw, zero_raw)))
+          (thread.seen.full now)
+
   -- a step of which no image word is touched while an image counts
   follows_plain : ((image : List ℕ) → held_image c s ≡ Some image → is_image (touch_of c m order).word ≡ false) → Follows c g (moved (kind change c) s number before order) (past ++ entries)
   unfolding kind
   follows_plain no_image =
       let at : ℕ = place_of (placed c (touch_of c m order)) in
-      let step = each_step c u m command order thread.fixed follows.shared thread.mine takes in
+      let step = each_step c u m command order thread.fixed (told_now no_image) follows.shared thread.mine takes in
       let owes : Owes c s.words words_then u past number s.machines (touched u.memory (touch_of c m order)) entries (new_then (u.memory (touch_of c m order).word)) =
       owes_stepped change c s.words (held_image c s) follows.block follows.owner (after g past) past number s.machines order m command calls follows.words word (λ image held. (outside_now image held, no_image image held))
       follows.promised_to follows.shared thread step takes aims_stay in

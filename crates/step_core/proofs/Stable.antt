@@ -153,11 +153,11 @@ module _ (c : Config) (u w : World) (seat : ℕ) (keeps : Keeps seat u w) where
   )
 
   -- so does the asking of a call
-  asking_stays : (made : ℕ) (k command : Command) (fixed : Option Reply) (what : Asking) → IsAsking u seat made k command fixed what → IsAsking w seat made k command fixed what
+  pub asking_stays : (made : ℕ) (k command : Command) (fixed : Option Reply) (what : Asking) → IsAsking u seat made k command fixed what → IsAsking w seat made k command fixed what
   asking_stays made k command fixed what is = (is.0, asked_stays what is.1)
 
   -- and what is known while it polls, and once it is answered
-  polling_stays : (made : ℕ) (k command : Command) (fixed : Option Reply) → IsPolling u seat made k command fixed → IsPolling w seat made k command fixed
+  pub polling_stays : (made : ℕ) (k command : Command) (fixed : Option Reply) → IsPolling u seat made k command fixed → IsPolling w seat made k command fixed
   polling_stays made k command fixed is = ⊎_elim
       (λ waits. inl (asking_stays made k command fixed (asking.asks (refs_of k) (nums_of k)) waits))
       (λ rest. inr (⊎_elim
@@ -166,7 +166,7 @@ module _ (c : Config) (u w : World) (seat : ℕ) (keeps : Keeps seat u w) where
       rest))
       is
 
-  answered_stays : (made : ℕ) (k command : Command) (fixed : Option Reply) → IsAnswered u seat made k command fixed → IsAnswered w seat made k command fixed
+  pub answered_stays : (made : ℕ) (k command : Command) (fixed : Option Reply) → IsAnswered u seat made k command fixed → IsAnswered w seat made k command fixed
   answered_stays made k command fixed is = ⊎_elim
       (λ given. inl (asking_stays made k command fixed (asking.given (refs_of k) (nums_of k)) given))
       (λ full. inr (full.0, asked_stays asking.refused full.1))
@@ -204,11 +204,11 @@ module _ (c : Config) (u w : World) (seat : ℕ) (keeps : Keeps seat u w) where
   make_stays made k command fixed taking (make.StoreWord address done) facts = (facts.0, filling_stays made (refs_of k) (nums_of k) address done facts.1, facts.2)
   make_stays made k command fixed taking (make.StoreRoot address) facts = (facts.0, filling_stays made (refs_of k) (nums_of k) address (words_of k) facts.1)
 
-  enter_stays : (made : ℕ) (k command : Command) (fixed : Option Reply) (next : Entered) → EnterFacts u seat made k command fixed next → EnterFacts w seat made k command fixed next
+  pub enter_stays : (made : ℕ) (k command : Command) (fixed : Option Reply) (next : Entered) → EnterFacts u seat made k command fixed next → EnterFacts w seat made k command fixed next
   enter_stays made k command fixed Call facts = facts
   enter_stays made k command fixed Waited facts = answered_stays made k command fixed facts
 
-  wait_stays : (made : ℕ) (k command : Command) (fixed : Option Reply) (at : WaitSpot) → WaitFacts u seat made k command fixed at → WaitFacts w seat made k command fixed at
+  pub wait_stays : (made : ℕ) (k command : Command) (fixed : Option Reply) (at : WaitSpot) → WaitFacts u seat made k command fixed at → WaitFacts w seat made k command fixed at
   wait_stays made k command fixed wait.StoreRequest facts = asking_stays made k command fixed asking.nothing facts
   wait_stays made k command fixed wait.AskRoom facts = asking_stays made k command fixed (asking.asks (refs_of k) (nums_of k)) facts
   wait_stays made k command fixed wait.StepOut facts = asking_stays made k command fixed (asking.asks (refs_of k) (nums_of k)) facts

@@ -1,7 +1,7 @@
 -- The steps of a mutator that takes room for an object: what taking room owes is what its place owes.
 use Rattle.std.proofs.Common.{◌≡◌, ℕ, ◌+◌, true, false, Option, Some, refl, arith}
 use Rattle.std.specs.Prelude.{◌&&◌}
-use Rattle.std.proofs.lemmas.Bool.{and_from, and_parts, lt-ltb, false≢true}
+use Rattle.std.proofs.lemmas.Bool.{and_from, and_parts, false≢true}
 use Rattle.heap_words.specs.declared.config.Config.{Config}
 use Rattle.heap_words.specs.Words.{Top}
 use Rattle.steps_base.specs.Fits.{touch_fits}
