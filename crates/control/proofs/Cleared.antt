@@ -1,6 +1,5 @@
 -- So many words of an image have been made 0.
-use Rattle.std.proofs.Common.{◌≡◌, ◌<◌, ◌≤◌, ℕ, get_or}
-use Rattle.heap_words.specs.Words.{image_start}
+use Rattle.std.proofs.Common.{◌≡◌, ◌<◌, ℕ, get_or}
 use Rattle.image_graph.specs.declared.image.Image.{Image}
 use Rattle.image_graph.specs.State.{config_of, words_of}
 use Rattle.control.specs.Image.{image_in}

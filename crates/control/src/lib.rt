@@ -5,3 +5,6 @@ mod machine;
 mod pause;
 
 pub use machine::Control;
+
+#[cfg(test)]
+mod tests;

@@ -1,4 +1,4 @@
-use Rattle.std.proofs.Common.{◌≡◌, ◌+◌, ◌<◌, ◌≤◌, false, ltb, ℕ, [], ◌∷◌, ◌++◌, length, take, sym, ◌∙◌, ap, refl, arith}
+use Rattle.std.proofs.Common.{◌≡◌, ◌+◌, false, ltb, sym, ◌∙◌, ap, arith}
 use Rattle.std.proofs.lemmas.Bool.{le-ltb}
 use Rattle.heap_words.specs.Words.{Free, word_at}
 use Rattle.image_graph.specs.State.{config_of}
