@@ -10,7 +10,7 @@ use Rattle.mutator.specs.declared.spot.Kept.{Kept}
 use Rattle.mutator.specs.declared.spot.Spot.{Spot}
 use Rattle.mutator.specs.declared.spot.Spot.TheVariants.{Rest, Ended, Gone}
 use Rattle.mutator.specs.Fit.{is_ready}
-use Rattle.mutator.specs.Orders.{takes_commands, takes_at}
+use Rattle.mutator.specs.Orders.{takes_at}
 use Rattle.mutator.specs.Rows.{touch_at}
 
 -- its access is of a word of the table, whatever order it takes
