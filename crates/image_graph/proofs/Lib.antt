@@ -4,3 +4,4 @@ pub mod Turns
 pub mod Blank
 pub mod Empty
 pub mod Packed
+pub mod Shown
