@@ -8,7 +8,7 @@ mod spot;
 
 ghost use Rattle.control_steps.specs.Ready.{AccessesAreInside, StaysReady};
 
-pub use spot::ControlSpot;
+pub use spot::{ControlSpot, image_words};
 
 /// A law: the control's accesses are of words of the table, whatever words it finds.
 pub fn control_stays_inside()

@@ -171,8 +171,8 @@ fn stopping(at: StopSpot) -> ControlSpot
     }
 }
 
-// The words of the image.
-fn image_words(config: Config) -> usize
+/// How many words the image has.
+pub fn image_words(config: Config) -> usize
     ensures { result ≡ image_words config }
 {
     config.table_words() - config.image_start()

@@ -1,0 +1,5 @@
+pub mod FullImage
+pub mod Clear
+pub mod Image
+pub mod Seen
+pub mod Fit
