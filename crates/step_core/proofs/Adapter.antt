@@ -176,9 +176,9 @@ module _ (change : Change) (c : Config) (words : List ℕ) (o : Option (List ℕ
         let before_here : u.memory (Answer number) ≡ 1 = ap (λ j. u.memory (Answer j)) (sym thread.number_is) ∙ before in
         let quiet = refused_quiet c u m.seat m.made m.kept command thread.fixed m.spot before thread.mine in
         let settled_full : thread.fixed ≡ Some Full = ⊎_elim
-        (λ (both : (view c words (Answer number) ≡ 1) × (thread.fixed ≡ Some Full)). both.1)
-        (λ (none_yet : (view c words (Answer number) ≡ 0) × (thread.fixed ≡ None)). absurd (let whole = whole_before none number in let raw = none_yet.0 in omega (arith, whole, raw, before_here)))
-        (thread.seen.full before_here) in
+            (λ (both : (view c words (Answer number) ≡ 1) × (thread.fixed ≡ Some Full)). both.1)
+            (λ (none_yet : (view c words (Answer number) ≡ 0) × (thread.fixed ≡ None)). absurd (let whole = whole_before none number in let raw = none_yet.0 in omega (arith, whole, raw, before_here)))
+            (thread.seen.full before_here) in
         ap (λ r. fixed_by thread.fixed r (given_at m.spot)) quiet.0 ∙ ap (λ r. fixed_by thread.fixed None r) quiet.1 ∙ settled_full
 
     -- its answer
@@ -198,10 +198,10 @@ module _ (change : Change) (c : Config) (words : List ℕ) (o : Option (List ℕ
     own_short (Some image) is_held now unsettled =
         let before : u.memory (Answer number) ≡ 1 = sym (now_stays image is_held number) ∙ now in
         let same_command : command_by order command ≡ command = ⊎_elim
-        (λ (rests : (thread.fixed ≡ None) × (is_waiting m.spot ≡ false)).
-        absurd (let answer = (thread.mine.seated.unasked rests.1).1 in let here = ap (λ j. u.memory (Answer j)) thread.number_is in omega (arith, answer, here, before)))
-        (λ (same : command_by order command ≡ command). same)
-        (command_stays c u m.seat m.kept command thread.fixed m.spot m.made order takes thread.mine.facts) in
+            (λ (rests : (thread.fixed ≡ None) × (is_waiting m.spot ≡ false)).
+            absurd (let answer = (thread.mine.seated.unasked rests.1).1 in let here = ap (λ j. u.memory (Answer j)) thread.number_is in omega (arith, answer, here, before)))
+            (λ (same : command_by order command ≡ command). same)
+            (command_stays c u m.seat m.kept command thread.fixed m.spot m.made order takes thread.mine.facts) in
         subst (λ k. IsShort c step.world.memory step.world.graph number (words_asked (Some k))) (sym same_command)
         (short_stays c u step.world number (words_asked (Some command)) (counts_same image is_held) (thread.short before (sym (fixed_stays image is_held) ∙ unsettled)))
 

@@ -88,9 +88,9 @@ mixed_touched : (c : Config) (words image : List ℕ) (t : Touch) → is_word c 
 mixed_touched c words image t is outside long = mixed_reads c (words_after c words t) image (touched (mixed c words image) t)
     (λ w in_image.
     let differs : same_word t.word w ≡ false = ⊎_elim
-    (λ (same : same_word t.word w ≡ true). absurd (false≢true (sym outside ∙ ap is_image (same_word_true t.word w same) ∙ in_image)))
-    (λ (no : same_word t.word w ≡ false). no)
-    (cases_Bool (same_word t.word w)) in
+        (λ (same : same_word t.word w ≡ true). absurd (false≢true (sym outside ∙ ap is_image (same_word_true t.word w same) ∙ in_image)))
+        (λ (no : same_word t.word w ≡ false). no)
+        (cases_Bool (same_word t.word w)) in
     sym (cond-false (same_word t.word w) _ _ differs ∙ cond-true (is_image w) _ _ in_image))
     (λ w no_image.
     let here : mixed c words image t.word ≡ view c words t.word = cond-false (is_image t.word) _ _ outside in

@@ -48,6 +48,7 @@ use Rattle.step_core.specs.Machines.{takes_of, took_of, kind, told_by, told_stor
 use Rattle.step_core.specs.History.{told_of_machine, told, history}
 use Rattle.step_core.specs.Settled.{mixed, stored_image, settled, settled_by, image_in, image_of, control_number}
 use Rattle.step_core.specs.Sound.{world_of}
+use Rattle.step_core.specs.Fit.{StandsForSome}
 use Rattle.step_core.specs.Standing.{standing_at, control_standing, standing_of}
 use Rattle.step_core.proofs.Adapter.{owes_stepped}
 use Rattle.step_core.proofs.Facts.{IsThread, IsAim, IsControl, IsMachine, PromisedToMutators, Follows, Owes, AreRead}
@@ -55,7 +56,7 @@ use Rattle.step_core.proofs.Images.{words_after, words_loaded, found-placed, set
 use Rattle.step_core.proofs.MachinesObey.{CanGo, standing, is_left, event_obeys, event_counts}
 use Rattle.step_core.proofs.Outside.{outside_touch}
 use Rattle.step_core.proofs.Owing.{follows_owes}
-use Rattle.step_core.proofs.Paused.{paused_owes}
+use Rattle.step_core.proofs.Paused.{asking, image_stands, paused_owes}
 use Rattle.step_core.proofs.Pauses as pauses
 use Rattle.step_core.proofs.Places.{each_step}
 use Rattle.step_core.proofs.Polling.{polls_owes}
@@ -342,8 +343,8 @@ module _ (change : Change) (law : IsPause change) (c : Config) (g : Graph) (s : 
   quiet : (spot : ControlSpot) (here : Here spot) → stored_image spot image ≡ None → told_storing c s spot image ≡ []
       → ((shared : Shared c (pauses.open_world c s.words follows.block follows.owner (after g past))) (hands : (a more : ℕ) → follows.block a ≡ Some (hand (control_number c) more) → ⊥) → is_ready c spot ≡ true
       → Owes c s.words (accessed (control_access c (control_at spot)) s.words) (pauses.open_world c s.words follows.block follows.owner (after g past)) past (control_number c) s.machines
-      (settled_by c (accessed (control_access c (control_at spot)) s.words) (image_in (control_after change law c g s past number (control_at spot) command calls follows shaken here).machine)) []
-      (control_after change law c g s past number (control_at spot) command calls follows shaken here))
+          (settled_by c (accessed (control_access c (control_at spot)) s.words) (image_in (control_after change law c g s past number (control_at spot) command calls follows shaken here).machine)) []
+          (control_after change law c g s past number (control_at spot) command calls follows shaken here))
       → ControlGoal spot
   quiet spot here none told_none owes =
       let k = control_at spot in
@@ -352,8 +353,8 @@ module _ (change : Change) (law : IsPause change) (c : Config) (g : Graph) (s : 
       subst (λ es. Follows c g (moved (kind change c) s number (record { machine = controlling k; command = command; calls = calls }) Nothing) (past ++ es)) (sym told_none)
       (from_owes change law c g s past number k command calls follows shaken here []
       (subst (λ w. Owes c s.words (accessed (control_access c k) s.words) w past (control_number c) s.machines
-      (settled_by c (accessed (control_access c k) s.words) (image_in (control_after change law c g s past number k command calls follows shaken here).machine)) []
-      (control_after change law c g s past number k command calls follows shaken here)) (sym world_open)
+          (settled_by c (accessed (control_access c k) s.words) (image_in (control_after change law c g s past number k command calls follows shaken here).machine)) []
+          (control_after change law c g s past number k command calls follows shaken here)) (sym world_open)
       (owes (subst (λ w. Shared c w) world_open (shared_held change law c g s past number k command calls follows shaken here)) (hands_held change law c g s past number k command calls follows shaken here) (ready_at spot here))))
 
   -- the world while no image counts
@@ -363,6 +364,20 @@ module _ (change : Change) (law : IsPause change) (c : Config) (g : Graph) (s : 
   -- the word of the image that is loaded
   abbrev loaded : ℕ → ℕ
   loaded index = slice_index s.words (image_start c + index)
+
+  -- The last word of the image is loaded: the image stands for the graph.
+  pub whole_stands : (index : ℕ) → Here (LoadWord index) → index + 1 ≡ image_words c → StandsForSome c (image ++ loaded index ∷ [])
+  whole_stands index here last =
+      let known = facts change law c g s past number (control_at (LoadWord index)) command calls follows shaken here in
+      let read : AreRead c s.words (image ++ loaded index ∷ []) (image_words c) = λ i below. image_grows c s.words image index known.aims.0 known.aims.1 i (omega (arith, below, last)) in
+      ∣ (
+        after g past,
+        asking c s.words follows.block follows.owner (after g past) past s.machines (image ++ loaded index ∷ []) read follows.seats,
+        image_stands c s.words follows.block follows.owner (after g past) past s.machines (image ++ loaded index ∷ []) read follows.seats
+        (shared_held change law c g s past number (control_at (LoadWord index)) command calls follows shaken here) follows.promised_to follows.no_more
+        (known_held change law c g s past number (control_at (LoadWord index)) command calls follows shaken here)
+        (all_outside change law c g s past number (control_at (LoadWord index)) command calls follows shaken here refl),
+      ) ∣₁
 
   -- the control after it loaded a word: it loads the next one, or it was the last one
   abbrev after_word : ℕ → Bool → Actor
@@ -400,8 +415,8 @@ module _ (change : Change) (law : IsPause change) (c : Config) (g : Graph) (s : 
       let same_words : accessed (control_access c (control_at (LoadWord index))) s.words ≡ s.words = set-get_or s.words (image_start c + index) 0 in
       quiet (LoadWord index) here refl refl (λ shared hands ready.
       subst (λ ws. Owes c s.words ws open_now past (control_number c) s.machines
-      (settled_by c ws (image_in (control_after change law c g s past number (control_at (LoadWord index)) command calls follows shaken here).machine)) []
-      (control_after change law c g s past number (control_at (LoadWord index)) command calls follows shaken here)) (sym same_words)
+          (settled_by c ws (image_in (control_after change law c g s past number (control_at (LoadWord index)) command calls follows shaken here).machine)) []
+          (control_after change law c g s past number (control_at (LoadWord index)) command calls follows shaken here)) (sym same_words)
       (loaded_owes index here shared hands (nat_lt (index + 1) (image_words c)) refl known.aims))
 
   -- a word of the new image that is stored

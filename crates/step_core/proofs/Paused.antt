@@ -96,6 +96,7 @@ asked_outside c w seat made kept _ command fixed out mine = cc
 module _ (c : Config) (words : List ℕ) (u w : World) (t made : ℕ) (kept : Kept) (b : Actor) (x : Asking)
     (asked : IsAsked w.memory w.block w.graph.count t x) (graph : w.graph ≡ u.graph)
     (roots : (i : ℕ) → i < 16 → Points w.block (w.memory (Root t i)) (w.graph.root (t + 1) i)) (none : (a more : ℕ) → w.block a ≡ Some (hand t more) → ⊥) where
+
   -- what it counts on then, where it is outside
   mine_outside : (spot : Spot) (fixed : Option Reply) → is_within (standing_at spot) ≡ false → Mine c u (mutator_at t made kept spot) b.command fixed
       → (is_waiting spot ≡ false → IsAsked w.memory w.block w.graph.count t nothing) → SpotFacts c w t made kept b.command fixed spot → Mine c w (mutator_at t made kept spot) b.command fixed

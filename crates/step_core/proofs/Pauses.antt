@@ -52,7 +52,7 @@ module _ (c : Config) (words : List ℕ) (block : Plot) (owner : ℕ → Option 
   pub quiet_owes : (t : Touch) (next : Controlling) → length words ≡ table_words c → is_word c t.word ≡ true → Shared c u → Shared c (world_with t) → PromisedToMutators c block
       → ((j : ℕ) → Rely j u (world_with t)) → ((a more : ℕ) → block a ≡ Some (hand (control_number c) more) → ⊥) → is_ready c next.spot ≡ true → IsAim c (words_after c words t) next.spot next.image → stored_image next.spot next.image ≡ None
       → Owes c words (words_after c words t) u past (control_number c) machines (settled_by c (words_after c words t) (stored_image next.spot next.image)) []
-      (record { machine = controlling next; command = command; calls = calls ++ [] })
+          (record { machine = controlling next; command = command; calls = calls ++ [] })
   quiet_owes t next long is before shared promised_to rely hands ready aims none = record {
     world = world_with t;
     memory_is = rw none (sym (view-placed c words t is long));

@@ -22,7 +22,7 @@ pub read_owes : (c : Config) (words : List ℕ) (block : Plot) (owner : ℕ → 
     → Shared c (open_world c words block owner g) → PromisedToMutators c block → ((a more : ℕ) → block a ≡ Some (hand (control_number c) more) → ⊥) → is_ready c next.spot ≡ true → IsAim c words next.spot next.image
     → stored_image next.spot next.image ≡ None
     → Owes c words words (open_world c words block owner g) past (control_number c) machines (settled_by c words (stored_image next.spot next.image)) []
-    (record { machine = controlling next; command = command; calls = calls ++ [] })
+        (record { machine = controlling next; command = command; calls = calls ++ [] })
 read_owes c words block owner g past machines command calls next shared promised_to hands ready aims none = record {
   world = open_world c words block owner g;
   memory_is = ap (settled_by c words) (sym none);

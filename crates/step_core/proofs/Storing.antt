@@ -236,9 +236,9 @@ module _ (change : Change) (c : Config) (words : List ℕ) (block : Plot) (owner
           let none : raw ≡ 0 = eqb-true _ _ both.0 in
           let one : value ≡ 1 = eqb-true _ _ both.1 in
           let unsettled : thread.fixed ≡ None = ⊎_elim
-          (λ (full : (view c words (Answer t) ≡ 1) × (thread.fixed ≡ Some Full)). absurd (let at_raw = raw_answer in let full_raw = full.0 in omega (arith, at_raw, full_raw, none)))
-          (λ (not_yet : (view c words (Answer t) ≡ 0) × (thread.fixed ≡ None)). not_yet.1)
-          (thread.seen.full (now_answer ∙ one)) in
+              (λ (full : (view c words (Answer t) ≡ 1) × (thread.fixed ≡ Some Full)). absurd (let at_raw = raw_answer in let full_raw = full.0 in omega (arith, at_raw, full_raw, none)))
+              (λ (not_yet : (view c words (Answer t) ≡ 0) × (thread.fixed ≡ None)). not_yet.1)
+              (thread.seen.full (now_answer ∙ one)) in
           let own : Mine c u m b.command None = subst (λ f. Mine c u m b.command f) unsettled thread.mine in
           let now : mixed c words image (Answer m.seat) ≡ 1 = ap (λ j. mixed c words image (Answer j)) thread.number_is ∙ now_answer ∙ one in
           record {
