@@ -42,6 +42,8 @@ pub mod Beginning
 pub mod OpeningStands
 pub mod FirstFacts
 pub mod NoFull
+pub mod Crowds
+pub mod Growing
 pub mod Crowding
 pub mod Replies
 pub mod Requests

@@ -98,7 +98,7 @@ module _ (change : Change) (c : Config) (words : List ℕ) (block : Plot) (owner
   abbrev name : Word
   name = name_of c at
 
-  name_is_word : IsWord c name
+  pub name_is_word : IsWord c name
   name_is_word = are_named.is_word c at inside
 
   name_at : word_at c name ≡ at
@@ -109,11 +109,11 @@ module _ (change : Change) (c : Config) (words : List ℕ) (block : Plot) (owner
   view_then = subst (λ k. view c (slice_set words k value) ≡ write (view c words) name value) name_at (view_set_all c words name value long name_is_word)
 
   -- what was there
-  view_raw : view c words name ≡ raw
+  pub view_raw : view c words name ≡ raw
   view_raw = view_word c words name name_is_word ∙ ap (λ k. slice_index words k) name_at
 
   -- what counts of the word is what is stored
-  now_is : mixed c words image name ≡ value
+  pub now_is : mixed c words image name ≡ value
   now_is =
       let in_image : is_image name ≡ true = is_image-word_at c name name_is_word ∙ (let place = name_at in le-leb _ _ (omega (arith, place))) in
       cond-true (is_image name) _ _ in_image
