@@ -16,6 +16,11 @@ words_seen (LoadWord index) image = take index image
 words_seen (StoreWord index) image = image
 words_seen _ image = []
 
+-- whether it stores words of a new image
+abbrev pub is_storing : ControlSpot → Bool
+is_storing (StoreWord index) = true
+is_storing _ = false
+
 -- whether it has words of the image
 abbrev pub has_words : ControlSpot → Bool
 has_words (LoadWord index) = true

@@ -35,7 +35,7 @@ impl Control {
     ghost use Rattle.control_steps.specs.Waits.{WaitsAt};
     ghost use Rattle.pause_laws.specs.Image.{full_image};
     ghost use Rattle.control.specs.Fit.{IsFit};
-    ghost use Rattle.control.specs.Image.{has_words};
+    ghost use Rattle.control.specs.Image.{has_words, is_storing};
     ghost use Rattle.control.specs.Seen.{config_in, seen_control};
 
     /// The control of the image's heap. It has seen the image's free word. Nothing else of the image matters.
@@ -58,6 +58,13 @@ impl Control {
         ensures { result ≡ is_gone (seen_control self.now).spot }
     {
         self.spot.is_gone()
+    }
+
+    /// Whether it stores words of a new image.
+    pub fn is_storing(&self) -> bool
+        ensures { result ≡ is_storing (seen_control self.now).spot }
+    {
+        matches!(self.spot, ControlSpot::StoreWord { .. })
     }
 
     /// The place of its next access.

@@ -112,6 +112,20 @@ impl Mutator {
         matches!(self.spot, Spot::Rest | Spot::Ended { .. } | Spot::Gone)
     }
 
+    /// Whether it may be given a command, or be told to end: no call is in progress, and it has not ended.
+    pub fn takes_commands(&self) -> bool
+        ensures { result ≡ takes_commands (seen self.now).spot }
+    {
+        matches!(self.spot, Spot::Rest | Spot::Ended { .. })
+    }
+
+    /// The order that it was given.
+    pub fn order(&self) -> Order
+        ensures { result ≡ order_of self.now }
+    {
+        self.order
+    }
+
     /// The place of its next access; between two calls, that of the first access of a call, or of the access by which it ends.
     pub fn place(&self) -> Place
         ensures { result ≡ place_at (order_of self.now) (seen self.now).spot }

@@ -26,7 +26,7 @@ ghost use Rattle.step_core.specs.Opening.{opening};
 ghost use Rattle.step_core.specs.Begins.{Begins, first_graph};
 ghost use Rattle.step_core.specs.Sound.{IsMutator, IsSound};
 
-pub use opening::open_words;
+pub use opening::{first_free, open_words};
 
 /// A law: whatever list of steps the machines of a heap make, from a stage that begins a graph, the words and machines
 /// then stand for the graph after the history of the steps; the history is legal and of the heap's threads, and refuses only

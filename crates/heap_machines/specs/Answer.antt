@@ -5,8 +5,8 @@ use Rattle.heap_words.specs.declared.access.Took.{Took}
 use Rattle.heap_words.specs.declared.access.Took.TheVariants.{More, Again, Done}
 use Rattle.step_core.specs.Actor.{Machine}
 use Rattle.step_core.specs.Machines.{answer_of}
-use Rattle.shen_core.specs.declared.step.Stepped.{Stepped}
-use Rattle.shen_core.specs.declared.step.Stepped.TheVariants as stepped
+use Rattle.heap_machines.specs.declared.stepped.Stepped.{Stepped}
+use Rattle.heap_machines.specs.declared.stepped.Stepped.TheVariants as stepped
 
 abbrev pub stepped_of : Took → Stepped
 stepped_of More = stepped.More
