@@ -23,7 +23,8 @@ use Rattle.shen_graph.specs.Order.{is_nothing}
 use Rattle.shen_graph.specs.Graph.{Graph}
 use Rattle.shen_graph.specs.History.{Entry}
 use Rattle.mutator.specs.declared.spot.Spot.{Spot}
-use Rattle.mutator.specs.declared.spot.Spot.TheVariants.{Leave}
+use Rattle.mutator.specs.declared.spot.Spot.TheVariants.{Waiting, Leave}
+use Rattle.mutator.specs.declared.waits.WaitSpot.TheVariants as wait
 use Rattle.mutator.specs.Orders.{is_between_calls, takes_commands, takes_at}
 use Rattle.mutator.specs.Rows.{touch_of, next_of, given_at, answer_at, reply_at, place_at}
 use Rattle.mutator.specs.Told.{told_of}
@@ -132,9 +133,10 @@ abbrev pub made_of_machine : Machine → ℕ
 made_of_machine (mutating m) = m.made
 made_of_machine _ = 0
 
--- how many replies are at hand, of calls that have done their work: 1 where a mutator leaves, else none
+-- how many replies are at hand, of calls that have done their work: 1 where a mutator leaves or clears its answer, else none
 abbrev pub at_hand : Spot → ℕ
 at_hand (Leave reply) = 1
+at_hand (Waiting (wait.ClearAnswer reply)) = 1
 at_hand _ = 0
 
 abbrev pub at_hand_of : Machine → ℕ
