@@ -3,9 +3,13 @@ ghost use Rattle.image_graph.proofs.Blank.{IsBlank};
 ghost use Rattle.image_graph.specs.State.{config_of, memory_of};
 
 use crate::full;
-use heap_words::{Config, request_word, shape_of};
+use heap_words::{Config, name_word, request_word, shape_of};
+use image_check::stands;
 use image_graph::Image;
+use regions::base;
+use shen_graph::{GraphText, Name};
 use std::alloc::Global;
+use std::process::Abort;
 use std::test::Fail;
 
 // An image of four regions of 64 words, whose addresses are 64 to 319. All words are 0.
@@ -103,5 +107,57 @@ fn keeps_a_heap_full_to_the_last_word(rt: HostRuntime) -> Result<(), Fail> {
     assert_eq!(rt; image.edge(0), 64);
     assert_eq!(rt; image.edge(3), 64);
     assert_eq!(rt; image.word(config.free_at()), 0);
+    Ok(())
+}
+
+// Lays an object out at the top of a region, with these references and with so many numbers, which are all 7. Gives its
+// address.
+fn lay(
+    rt: &impl Abort,
+    image: &mut Image,
+    region: usize,
+    name: u64,
+    refs: &[u64],
+    nums: u64,
+) -> u64
+    ensures { config_of image.new ≡ config_of image.old }
+{
+    let config = image.config();
+    let count = refs.len() as u64;
+    assert!(rt; region < config.regions() && count <= 16 && nums <= 16);
+    let top = image.word(config.top_at(region));
+    assert!(rt; top <= 1024 && top + 3 + count + nums <= config.region_words() as u64);
+    let address = base(config, region) + top;
+    image.set_word(config.heap_at(address), 1);
+    image.set_word(config.heap_at(address + 1), shape_of(count, nums));
+    image.set_word(config.heap_at(address + 2), name);
+    for index in 0..count {
+        image.set_word(config.heap_at(address + 3 + index), refs[index as usize]);
+    }
+    for index in 0..nums {
+        image.set_word(config.heap_at(address + 3 + count + index), 7);
+    }
+    image.set_word(config.top_at(region), top + 3 + count + nums);
+    address
+}
+
+// The hub, in root 0 of both mutators, before an object that nothing names.
+#[test]
+fn keeps_the_hub_alone(rt: HostRuntime) -> Result<(), Fail> {
+    let config = Config::new(4, 64, 2, 0, 0)?;
+    let mut image = Image::open(rt.alloc(), config)?;
+    let hub = lay(&rt, &mut image, 1, name_word(0, 1), &[0; 16], 0);
+    let dead = lay(&rt, &mut image, 1, name_word(1, 1), &[hub], 4);
+    image.set_word(config.root_at(0, 0), hub);
+    image.set_word(config.root_at(1, 0), hub);
+    image.set_word(config.free_at(), 13);
+    assert!(rt; stands(&image, &[hub, dead]));
+    full(&mut image);
+    assert_eq!(rt; image.word(config.root_at(0, 0)), 64);
+    assert_eq!(rt; image.word(config.root_at(1, 0)), 64);
+    assert_eq!(rt; image.word(config.free_at()), 14);
+    assert_eq!(rt; image.word(config.heap_at(66)), 1);
+    assert_eq!(rt; image.edge(0), 19);
+    assert_eq!(rt; image.edge(1), 0);
     Ok(())
 }
