@@ -1,5 +1,5 @@
 -- Words that are laid out as objects at given addresses hold a graph.
-use Rattle.std.proofs.Common.{◌≡◌, ◌≢◌, ℕ, ◌+◌, ◌-◌, ◌*◌, ◌<◌, ◌≤◌, ◌^◌, ◌==◌, ◌&&◌, ◌⊎◌, inl, inr, Bool, true, false, zero, suc, cond, nat_eq, nat_le, nat_lt, List, [], ◌∷◌, length, map, get_or, slice_get, Option, Some, None, ⊎_elim, refl, sym, ap, ◌∙◌, subst, arith}
+use Rattle.std.proofs.Common.{◌≡◌, ◌≢◌, ℕ, ◌+◌, ◌-◌, ◌*◌, ◌<◌, ◌≤◌, ◌^◌, ◌==◌, ◌&&◌, inl, true, false, zero, suc, cond, nat_eq, nat_le, nat_lt, List, [], ◌∷◌, length, map, get_or, slice_get, Option, Some, None, ⊎_elim, refl, sym, ap, ◌∙◌, subst, arith}
 use Rattle.std.specs.List.{range_with_len}
 use Rattle.std.specs.Option.{option_map}
 use Rattle.std.specs.Prelude.{if◌then◌else◌}
@@ -8,7 +8,7 @@ use Rattle.std.proofs.lemmas.List.FromFn.{length-map-range_with_len, get_or-map-
 use Rattle.std.proofs.lemmas.Option.{none-some, same_Some, slice_get_within, get_or_from_slice_get}
 use Rattle.heap_words.specs.declared.config.Config.{Config}
 use Rattle.heap_words.specs.Ranges.{seat_count}
-use Rattle.heap_words.specs.Words.{Word, Free, Top, Current, Root, Wait, Answer, Heap}
+use Rattle.heap_words.specs.Words.{Word, Top, Current, Root, Wait, Heap}
 use Rattle.heap_words.specs.Encoding.{is_forwarded, name_code, thread_in, count_in, refs_in, nums_in, request_count_in}
 use Rattle.regions.specs.Place.{base_of, region_with, IsOf}
 use Rattle.regions.proofs.PlaceLemmas.{regions_tile}
@@ -18,13 +18,13 @@ use Rattle.shen_graph.proofs.PlainLemmas.{same_name-true, same_name-itself}
 use Rattle.heap_graph.specs.Walk.{has}
 use Rattle.heap_world.specs.Roots.{is_root_of}
 use Rattle.heap_world.specs.World.{Block, thing, words_of, Plot, name_at, Points, IsThing, IsGiven, IsPlotted, IsFilled, AreObjects}
-use Rattle.image_laws.specs.Promised.{Promises, with_promised}
+use Rattle.image_laws.specs.Promised.{Promises}
 use Rattle.image_laws.specs.Image.{RootsStand, ImageStands}
 use Rattle.image_laws.specs.Serving.{asked_name, IsAsking}
 use Rattle.image_laws.proofs.Found.{index_of, has_at}
 use Rattle.image_laws.proofs.Standing.{standing_holds}
 use Rattle.image_graph.specs.Holds.{HoldsBy, HoldsSome}
-use Rattle.image_check.specs.Laid.{words_in, end_of, IsReference, LiesRight, IsNamedRight, ReadsRight, IsRegionRight, IsMutatorRight, IsLaidOut}
+use Rattle.image_check.specs.Laid.{words_in, end_of, IsReference, LiesRight, ReadsRight, IsLaidOut}
 
 -- nothing is promised
 abbrev no_promise : Promises

@@ -1,5 +1,5 @@
 -- A table has no word for a seat that is none.
-use Rattle.std.proofs.Common.{◌≡◌, ℕ, ◌≤◌, false, nat_lt, List, arith}
+use Rattle.std.proofs.Common.{◌≡◌, ℕ, ◌≤◌, List}
 use Rattle.std.proofs.lemmas.Bool.{le-ltb}
 use Rattle.heap_words.specs.declared.config.Config.{Config}
 use Rattle.heap_words.specs.Ranges.{seat_count}

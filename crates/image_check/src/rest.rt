@@ -86,8 +86,7 @@ fn is_mutator_right(image: &Image, objects: &[u64], mutator: usize) -> bool
     if answer > 1 || !are_roots_right(image, objects, mutator) {
         return false;
     }
-    request == 0
-        || (answer == 0 && request_count(request) > 0 && is_shape(request_shape(request)))
+    request == 0 || (answer == 0 && request_count(request) > 0 && is_shape(request_shape(request)))
 }
 
 /// Whether each mutator is right.

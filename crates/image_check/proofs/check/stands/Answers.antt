@@ -1,5 +1,4 @@
 use Rattle.std.proofs.Common.{refl}
-use Rattle.heap_words.specs.Words.{Current, view}
 use Rattle.image_graph.specs.State.{config_of, words_of, memory_of}
 use Rattle.image_check.proofs.Holding.{laid_holds}
 use Rattle.image_check.proofs.Seats.{no_seat}
