@@ -15,7 +15,7 @@ use Rattle.image_graph.proofs.Blank.{IsFirst, IsBlank, blank_holds}
 use Rattle.control_steps.specs.declared.spot.ControlSpot.{ControlSpot}
 use Rattle.control_steps.specs.declared.spot.ControlSpot.TheVariants.{LoadWord, StoreWord}
 use Rattle.control_steps.specs.Rows.{Controlling, control_next}
-use Rattle.control.specs.FullImage.{full_image}
+use Rattle.pause_laws.specs.Image.{full_image}
 use Rattle.control.specs.Image.{image_in}
 use Rattle.control.specs.Fit.{holds_with, IsFit}
 

@@ -1,4 +1,3 @@
-pub mod FullImage
 pub mod Clear
 pub mod Image
 pub mod Seen

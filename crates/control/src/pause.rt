@@ -1,13 +1,13 @@
 //! What a pause does with the image.
 
-ghost use Rattle.std.specs.Prelude.{◌≡◌, ◌+◌, ◌<◌, take, slice_set};
-ghost use Rattle.heap_words.specs.Words.{image_start};
+ghost use Rattle.std.specs.Prelude.{◌≡◌, ◌+◌, ◌<◌, length, take, drop, slice_set};
+ghost use Rattle.heap_words.specs.Words.{image_start, table_words};
 ghost use Rattle.heap_world.specs.Change.{image_view, image_words};
 ghost use Rattle.image_graph.specs.State.{config_of};
 ghost use Rattle.image_graph.specs.Holds.{HoldsSome};
 ghost use Rattle.control_steps.specs.declared.spot.ControlSpot.TheVariants.{LoadWord};
 ghost use Rattle.control_steps.specs.Rows.{next_spot, next_image, next_seen};
-ghost use Rattle.control.specs.FullImage.{full_image};
+ghost use Rattle.pause_laws.specs.Image.{full_image};
 ghost use Rattle.control.specs.Clear.{IsClear};
 ghost use Rattle.control.specs.Fit.{holds_with};
 ghost use Rattle.control.specs.Image.{image_in, words_seen};
@@ -67,4 +67,18 @@ pub(crate) fn take_word(image: &mut Image, index: usize, seen: u64, word: u64) -
     }
     collect(image);
     image.word(image.config().free_at())
+}
+
+// Puts all words of the image as a table has them.
+pub(crate) fn copy_image(image: &mut Image, table: &[u64])
+    requires table { length table.now ≡ table_words (config_of image.old) }
+    requires clear { IsClear image.old }
+    ensures config { config_of image.new ≡ config_of image.old }
+    ensures image { image_in image.new ≡ drop (image_start (config_of image.old)) table.now }
+    ensures clear { IsClear image.new }
+{
+    let config = image.config();
+    for at in config.image_start()..config.table_words() {
+        image.set_word(at, table[at]);
+    }
 }

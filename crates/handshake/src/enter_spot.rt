@@ -4,6 +4,7 @@ ghost use Rattle.heap_words.specs.Words.{table_words};
 ghost use Rattle.steps_base.specs.Touch.{placed};
 ghost use Rattle.handshake.specs.Rows as rows;
 
+use crate::values::{IN, OUT, UNWANTED};
 use heap_words::{Access, Config, Place, Took};
 
 /// Where a mutator or a helper stands that enters the heap.
@@ -51,11 +52,11 @@ impl EnterSpot {
         match self {
             EnterSpot::Raise => Access::Store {
                 at: config.state_at(seat),
-                value: 1,
+                value: IN,
             },
             EnterSpot::Lower => Access::Store {
                 at: config.state_at(seat),
-                value: 0,
+                value: OUT,
             },
             EnterSpot::Look | EnterSpot::Await => Access::Load {
                 at: config.pause_at(),
@@ -70,10 +71,10 @@ impl EnterSpot {
     {
         match self {
             EnterSpot::Raise => EnterSpot::Look,
-            EnterSpot::Look if got == 0 => EnterSpot::Inside,
+            EnterSpot::Look if got == UNWANTED => EnterSpot::Inside,
             EnterSpot::Look => EnterSpot::Lower,
             EnterSpot::Lower => EnterSpot::Await,
-            EnterSpot::Await if got == 0 => EnterSpot::Raise,
+            EnterSpot::Await if got == UNWANTED => EnterSpot::Raise,
             EnterSpot::Await => EnterSpot::Await,
             EnterSpot::Inside => EnterSpot::Inside,
         }
@@ -84,8 +85,8 @@ impl EnterSpot {
         ensures { result ≡ rows.enter_says self got }
     {
         match self {
-            EnterSpot::Look if got == 0 => Took::Done,
-            EnterSpot::Await if got > 0 => Took::Again,
+            EnterSpot::Look if got == UNWANTED => Took::Done,
+            EnterSpot::Await if got != UNWANTED => Took::Again,
             EnterSpot::Inside => Took::Done,
             _ => Took::More,
         }

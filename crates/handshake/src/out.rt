@@ -4,6 +4,7 @@ ghost use Rattle.heap_words.specs.Words.{table_words};
 ghost use Rattle.steps_base.specs.Touch.{placed};
 ghost use Rattle.handshake.specs.Rows.{leave_touch, go_touch};
 
+use crate::values::{OUT, UNWANTED};
 use heap_words::{Access, Config};
 
 /// The one access by which the mutator or helper of a seat leaves the heap: it stores into its state word that it is out.
@@ -14,7 +15,7 @@ pub fn leave_access(config: Config, seat: usize) -> Access
 {
     Access::Store {
         at: config.state_at(seat),
-        value: 0,
+        value: OUT,
     }
 }
 
@@ -25,6 +26,6 @@ pub fn go_access(config: Config) -> Access
 {
     Access::Store {
         at: config.pause_at(),
-        value: 0,
+        value: UNWANTED,
     }
 }

@@ -5,6 +5,7 @@ ghost use Rattle.steps_base.specs.Touch.{placed};
 ghost use Rattle.steps_base.specs.Fits.{touch_fits};
 ghost use Rattle.handshake.specs.Rows as rows;
 
+use crate::values::{OUT, WANTED};
 use heap_words::{Access, Config, Place, Took};
 
 /// Where the control stands that stops the mutators and helpers for a pause.
@@ -49,7 +50,7 @@ impl StopSpot {
         match self {
             StopSpot::Raise => Access::Store {
                 at: config.pause_at(),
-                value: 1,
+                value: WANTED,
             },
             StopSpot::Check { seat } => Access::Load {
                 at: config.state_at(seat),
@@ -66,7 +67,7 @@ impl StopSpot {
     {
         match self {
             StopSpot::Raise => StopSpot::Check { seat: 0 },
-            StopSpot::Check { seat } if got > 0 => StopSpot::Check { seat },
+            StopSpot::Check { seat } if got != OUT => StopSpot::Check { seat },
             StopSpot::Check { seat } => after_seat(config, seat),
             StopSpot::Stopped => StopSpot::Stopped,
         }
@@ -78,7 +79,7 @@ impl StopSpot {
         ensures { result ≡ rows.stop_says config self got }
     {
         match self {
-            StopSpot::Check { .. } if got > 0 => Took::Again,
+            StopSpot::Check { .. } if got != OUT => Took::Again,
             StopSpot::Check { seat } if after_seat(config, seat).is_stopped() => Took::Done,
             StopSpot::Stopped => Took::Done,
             _ => Took::More,

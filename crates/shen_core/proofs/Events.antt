@@ -5,18 +5,15 @@ use Rattle.std.specs.Option.{option_map}
 use Rattle.std.proofs.lemmas.Option.{slice_get-map, same_Some}
 use Rattle.std.proofs.lemmas.List.{map-set}
 use Rattle.heap_words.specs.declared.config.Config.{Config}
-use Rattle.heap_words.specs.Access.{place_of, made_of}
-use Rattle.steps_base.specs.Touch.{placed}
-use Rattle.steps_base.specs.Steps.{Stage, IsEvent, moved, act, go}
+use Rattle.heap_words.specs.Access.{place_of}
+use Rattle.steps_base.specs.Steps.{Stage, IsEvent, accessed, moved, act, go}
 use Rattle.steps_base.proofs.Runs.{go-step}
 use Rattle.steps_base.proofs.Laws.{act-event}
 use Rattle.shen_graph.specs.declared.command.Command.{Command}
 use Rattle.shen_graph.specs.History.{Entry}
 use Rattle.shen_graph.specs.declared.order.Order.{Order}
-use Rattle.mutator.specs.Orders.{takes_at}
-use Rattle.mutator.specs.Rows.{Mutating, touch_of, next_of}
-use Rattle.step_core.specs.Actor.{Machine, mutating, Actor}
-use Rattle.step_core.specs.Machines.{takes_of, kind}
+use Rattle.step_core.specs.Actor.{Machine, Actor}
+use Rattle.step_core.specs.Machines.{takes_of, plan_of, machine_after, kind}
 use Rattle.shen_core.specs.Runs.{Shows, event, IsOneEvent}
 
 -- where a map of an option is a value, there is one before it
@@ -30,43 +27,47 @@ shown_actor words machines s number machine shows here =
     from_map (λ a. a.machine) (slice_get s.machines number) machine
     (sym (slice_get-map (λ a. a.machine) s.machines number) ∙ ap (λ ms. slice_get ms number) shows.machines_are ∙ here)
 
-module _ (c : Config) (words : List ℕ) (machines : List Machine) (number : ℕ) (m : Mutating) (order : Order) where
-  -- the words after the step of a mutator
+module _ (c : Config) (words : List ℕ) (machines : List Machine) (number : ℕ) (machine : Machine) (order : Order) where
+  -- the word that its access finds
+  abbrev found : ℕ
+  found = slice_index words (place_of (plan_of c machine))
+
+  -- the words after its step
   abbrev pub stepped_words : List ℕ
-  stepped_words = slice_set words (place_of (placed c (touch_of c m))) (made_of (placed c (touch_of c m)) (slice_index words (place_of (placed c (touch_of c m)))))
+  stepped_words = accessed (plan_of c machine) words
 
   -- the machines after it
   abbrev pub stepped_machines : List Machine
-  stepped_machines = slice_set machines number (mutating (next_of c m order (slice_index words (place_of (placed c (touch_of c m))))))
+  stepped_machines = slice_set machines number (machine_after c order found machine)
 
   -- the event, in a stage that memory shows
-  pub shown_event : (s : Stage Actor) → Shows words machines s → slice_get machines number ≡ Some (mutating m) → takes_at m.spot m.made order ≡ true → (a : Actor) × IsEvent (kind c) s (event number order) a × (a.machine ≡ mutating m)
+  pub shown_event : (s : Stage Actor) → Shows words machines s → slice_get machines number ≡ Some machine → takes_of machine order ≡ true → (a : Actor) × IsEvent (kind c) s (event number order) a × (a.machine ≡ machine)
   unfolding kind
   shown_event s shows here takes =
-      let found = shown_actor words machines s number (mutating m) shows here in
-      (found.0, record { here = found.1; takes = ap (λ machine. takes_of machine order) found.2 ∙ takes }, found.2)
+      let found = shown_actor words machines s number machine shows here in
+      (found.0, record { here = found.1; takes = ap (λ x. takes_of x order) found.2 ∙ takes }, found.2)
 
   -- memory shows the stage after its step
-  moved_shows : (s : Stage Actor) (command : Command) (calls : List Entry) → Shows words machines s → Shows stepped_words stepped_machines (moved (kind c) s number (record { machine = mutating m; command = command; calls = calls }) order)
+  moved_shows : (s : Stage Actor) (command : Command) (calls : List Entry) → Shows words machines s → Shows stepped_words stepped_machines (moved (kind c) s number (record { machine = machine; command = command; calls = calls }) order)
   unfolding kind
   moved_shows s command calls shows = record {
-    words_are = ap (λ ws. slice_set ws (place_of (placed c (touch_of c m))) (made_of (placed c (touch_of c m)) (slice_index ws (place_of (placed c (touch_of c m)))))) shows.words_are;
+    words_are = ap (accessed (plan_of c machine)) shows.words_are;
     machines_are = map-set (λ a. a.machine) s.machines number _
-        ∙ ap (λ ms. slice_set ms number (mutating (next_of c m order (slice_index s.words (place_of (placed c (touch_of c m))))))) shows.machines_are
-        ∙ ap (λ ws. slice_set machines number (mutating (next_of c m order (slice_index ws (place_of (placed c (touch_of c m))))))) shows.words_are;
+        ∙ ap (λ ms. slice_set ms number (machine_after c order (slice_index s.words (place_of (plan_of c machine))) machine)) shows.machines_are
+        ∙ ap (λ ws. slice_set machines number (machine_after c order (slice_index ws (place_of (plan_of c machine))) machine)) shows.words_are;
   }
 
   -- so it does after its event
-  pub shows_step : (s : Stage Actor) → Shows words machines s → slice_get machines number ≡ Some (mutating m) → takes_at m.spot m.made order ≡ true → Shows stepped_words stepped_machines (act (kind c) s (event number order))
+  pub shows_step : (s : Stage Actor) → Shows words machines s → slice_get machines number ≡ Some machine → takes_of machine order ≡ true → Shows stepped_words stepped_machines (act (kind c) s (event number order))
   unfolding kind
   shows_step s shows here takes =
       let found = shown_event s shows here takes in
       subst (λ x. Shows stepped_words stepped_machines x) (sym (act-event (kind c) s (event number order) found.0 found.1))
-      (subst (λ machine. Shows stepped_words stepped_machines (moved (kind c) s number (record { machine = machine; command = found.0.command; calls = found.0.calls }) order)) (sym found.2)
+      (subst (λ x. Shows stepped_words stepped_machines (moved (kind c) s number (record { machine = x; command = found.0.command; calls = found.0.calls }) order)) (sym found.2)
       (moved_shows s found.0.command found.0.calls shows))
 
   -- the step is one event
-  pub one_event : slice_get machines number ≡ Some (mutating m) → takes_at m.spot m.made order ≡ true → IsOneEvent c words machines stepped_words stepped_machines number order
+  pub one_event : slice_get machines number ≡ Some machine → takes_of machine order ≡ true → IsOneEvent c words machines stepped_words stepped_machines number order
   one_event here takes = record {
     is_event = λ s shows. let found = shown_event s shows here takes in (found.0, found.1);
     acts = λ s shows. shows_step s shows here takes;

@@ -1,28 +1,26 @@
 -- A heap that was just opened, with work of which nothing was done.
-use Rattle.std.proofs.Common.{◌≡◌, ◌<◌, ◌≤◌, ⊎_elim, ℕ, ◌+◌, Bool, true, false, List, [], ◌∷◌, ◌++◌, length, get_or, map, All, Some, None, refl, sym, ap, ◌∙◌, subst, arith}
-use Rattle.std.specs.Prelude.{slice_get, nat_lt, IsSome, unwrap_or, if◌then◌else◌}
+use Rattle.std.proofs.Common.{◌≡◌, ◌<◌, ◌≤◌, ℕ, ◌+◌, true, List, [], ◌∷◌, ◌++◌, length, get_or, map, All, Some, None, refl, sym, ap, ◌∙◌, subst, arith}
+use Rattle.std.specs.Prelude.{slice_get, IsSome, unwrap_or}
 use Rattle.std.specs.Option.{option_map}
-use Rattle.std.specs.List.{range_with_len}
-use Rattle.std.proofs.lemmas.List.{length-append, get_or_past}
+use Rattle.std.proofs.lemmas.List.{length-append}
 use Rattle.std.proofs.lemmas.List.Elements.{All-push}
-use Rattle.std.proofs.lemmas.List.FromFn.{get_or-map-range_with_len, length-map-range_with_len}
-use Rattle.std.proofs.lemmas.Option.{slice_get-get_or, slice_get_within, get_or_from_slice_get}
-use Rattle.std.proofs.lemmas.Bool.{false≢true, cases_lt, lt-ltb}
+use Rattle.std.proofs.lemmas.List.FromFn.{get_or-map-range_with_len}
+use Rattle.std.proofs.lemmas.Option.{slice_get-get_or}
+use Rattle.std.proofs.lemmas.Bool.{false≢true}
 use Rattle.heap_words.specs.declared.config.Config.{Config}
 use Rattle.heap_words.specs.Ranges.{seat_count}
 use Rattle.shen_graph.specs.declared.command.Command.{Command}
 use Rattle.shen_graph.specs.Valid.{IsValid}
 use Rattle.shen_graph.specs.Work as work
 use Rattle.shen_graph.specs.declared.order.Order.TheVariants.{Nothing}
-use Rattle.mutator.specs.Rows.{fresh_mutator}
-use Rattle.step_core.specs.Actor.{Machine, mutating, fresh_helper, fresh_control}
-use Rattle.step_core.specs.Opening.{opening_machine, opening_actor, opening}
+use Rattle.heap_machines.proofs.Openings.{first_is, first_machines, first_made, first_rests}
+use Rattle.step_core.specs.Actor.{Machine, fresh_control}
+use Rattle.step_core.specs.Opening.{opening_machine, opening}
 use Rattle.step_core.specs.Schedule.{Scripts, script_of}
 use Rattle.shen_core.specs.declared.plain.Plain.{Plain}
 use Rattle.shen_core.specs.State.{config_of, orders_of, machines_of, Shows}
 use Rattle.step_core.specs.Machines.{is_resting, made_of_machine}
 use Rattle.shen_core.specs.Progress.{CanRun, Tells, IsRunnable}
-use Rattle.std.proofs.lemmas.Simd.{map-map}
 
 -- nothing was done of a script
 progress_first : (scripts : Scripts) (t : ℕ) → t < length scripts → length scripts ≤ 8 → work.progress_of (work.opened scripts) t ≡ Some (work.begun (script_of scripts t))
@@ -30,35 +28,17 @@ progress_first scripts t below few =
     get_or-map-range_with_len (λ m. option_map work.begun (slice_get scripts m)) 0 8 t t None (omega arith) (omega arith)
     ∙ ap (option_map work.begun) (slice_get-get_or scripts t [] below)
 
--- the machines are those of the opening
-machines_first : (c : Config) (machines : List Machine) → map (λ a. a.machine) (opening c).machines ≡ machines → machines ≡ map (opening_machine c) (range_with_len 0 (seat_count c.mutators c.helpers))
-unfolding opening
-machines_first c machines is = sym is ∙ map-map (λ a. a.machine) (opening_actor c) (range_with_len 0 (seat_count c.mutators c.helpers))
-
--- no machine of the opening has made an object
-made_none : (c : Config) (k : ℕ) (a b : Bool) → made_of_machine (if a then mutating (fresh_mutator k) else (if b then fresh_helper else fresh_control)) ≡ 0
-made_none c k true b = refl
-made_none c k false true = refl
-made_none c k false false = refl
-
 -- a machine is that of the opening
 machine_first : (c : Config) (machines : List Machine) (k : ℕ) → map (λ a. a.machine) (opening c).machines ≡ machines → k < seat_count c.mutators c.helpers → get_or machines k fresh_control ≡ opening_machine c k
-machine_first c machines k is below = ap (λ ms. get_or ms k fresh_control) (machines_first c machines is) ∙ get_or-map-range_with_len (opening_machine c) 0 (seat_count c.mutators c.helpers) k k fresh_control below (omega arith)
+machine_first c machines k is below = ap (λ ms. get_or ms k fresh_control) (sym is ∙ first_machines c) ∙ get_or-map-range_with_len (opening_machine c) 0 (seat_count c.mutators c.helpers) k k fresh_control below (omega arith)
 
 -- it has made no object
-pub made_first : (c : Config) (machines : List Machine) (k : ℕ) → map (λ a. a.machine) (opening c).machines ≡ machines → made_of_machine (get_or machines k fresh_control) ≡ 0
-made_first c machines k is = ⊎_elim
-    (λ (below : k < seat_count c.mutators c.helpers). ap made_of_machine (machine_first c machines k is below) ∙ made_none c k (nat_lt k c.mutators) (nat_lt k (c.mutators + c.helpers)))
-    (λ (past : seat_count c.mutators c.helpers ≤ k).
-    ap (λ ms. made_of_machine (get_or ms k fresh_control)) (machines_first c machines is)
-    ∙ ap made_of_machine (get_or_past _ k fresh_control (let count = length-map-range_with_len (opening_machine c) 0 (seat_count c.mutators c.helpers) in omega arith)))
-    (cases_lt k (seat_count c.mutators c.helpers))
+pub made_first : (c : Config) (machines : List Machine) (k : ℕ) → map (λ a. a.machine) (opening c).machines ≡ machines → k < c.mutators → made_of_machine (get_or machines k fresh_control) ≡ 0
+made_first c machines k is below = ap made_of_machine (machine_first c machines k is (omega arith)) ∙ first_made c k
 
 -- a mutator rests
 pub rests_first : (c : Config) (machines : List Machine) (t : ℕ) → map (λ a. a.machine) (opening c).machines ≡ machines → t < c.mutators → is_resting (get_or machines t fresh_control) ≡ true
-rests_first c machines t is below =
-    ap is_resting (machine_first c machines t is (omega arith))
-    ∙ ap (λ b. is_resting (if b then mutating (fresh_mutator t) else (if nat_lt t (c.mutators + c.helpers) then fresh_helper else fresh_control))) (lt-ltb t c.mutators below)
+rests_first c machines t is below = ap is_resting (machine_first c machines t is (omega arith)) ∙ first_rests c t below
 
 -- a heap that was just opened can run scripts of commands that can be given
 pub can_run_first : (p : Plain) (scripts : Scripts) → Shows p (opening (config_of p)) → All (λ order. order ≡ Nothing) (orders_of p) → (config_of p).mutators ≡ length scripts → length scripts ≤ 8 → All IsRunnable scripts → CanRun p (work.opened scripts)
@@ -68,7 +48,7 @@ can_run_first p scripts shows orders count few served = record {
   commands = λ t below. subst (λ o. All IsValid (unwrap_or o (work.begun [])).script) (sym (progress_first scripts t (omega arith) few)) (served t [] (omega arith)).0;
   busy = λ t below busy. absurd (false≢true (sym busy ∙ rests_first (config_of p) (machines_of p) t shows.machines_are below));
   made = λ t below.
-      let none = made_first (config_of p) (machines_of p) t shows.machines_are in
+      let none = made_first (config_of p) (machines_of p) t shows.machines_are below in
       let few_commands : length (script_of scripts t) < 4294967295 = (served t [] (omega arith)).1 in
       let is : work.script_of (work.opened scripts) t ≡ script_of scripts t = ap (λ o. (unwrap_or o (work.begun [])).script) (progress_first scripts t (omega arith) few) in
       let long = ap length is in
@@ -77,15 +57,10 @@ can_run_first p scripts shows orders count few served = record {
 
 -- and the work tells the replies of its calls: there is none
 pub tells_first : (c : Config) (scripts : Scripts) → c.mutators ≡ length scripts → length scripts ≤ 8 → Tells c scripts (work.opened scripts) (opening c)
-unfolding opening
 tells_first c scripts count few = record {
   scripts_are = λ t below. ap (λ o. (unwrap_or o (work.begun [])).script) (progress_first scripts t (omega arith) few);
   replies = λ t a below here.
-      let within = slice_get_within (opening c).machines t a here in
-      let long = length-map-range_with_len (opening_actor c) 0 (seat_count c.mutators c.helpers) in
-      let is : opening_actor c t ≡ a =
-      sym (get_or-map-range_with_len (opening_actor c) 0 (seat_count c.mutators c.helpers) t t a (omega (arith, within, long)) (omega arith)) ∙ get_or_from_slice_get (opening c).machines t a a here in
-      ap (λ o. (unwrap_or o (work.begun [])).replies) (progress_first scripts t (omega arith) few) ∙ ap (λ b. map (λ e. e.reply) b.calls) is;
+      ap (λ o. (unwrap_or o (work.begun [])).replies) (progress_first scripts t (omega arith) few) ∙ ap (λ b. map (λ e. e.reply) b.calls) (first_is c t a here).1;
 }
 
 -- scripts that are put together one after the other

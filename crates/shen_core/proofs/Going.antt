@@ -12,14 +12,14 @@ use Rattle.step_core.specs.Machines.{kind, stands_in}
 use Rattle.step_core.specs.Schedule.{Scripts, turn, waits, stands_at, stands_of, given, given_of, Task, steps, until, replies, moves, move_of, control_after, Agenda, next, next_by, after_move, and_then, scheduled}
 use Rattle.shen_core.specs.declared.plain.Plain.{Plain}
 use Rattle.shen_core.specs.State.{config_of, words_of, machines_of, machine_at, seats_of, Shows}
-use Rattle.shen_core.specs.Shown.{shown}
+use Rattle.heap_machines.specs.Shown.{shown}
 use Rattle.heap_words.specs.Ranges.{seat_count}
 use Rattle.shen_graph.specs.Work as work
 use Rattle.shen_core.proofs.Events.{shown_actor}
 use Rattle.shen_core.proofs.Turns.{machine_within}
 use Rattle.shen_core.specs.Progress.{Jobs, Goes, Tells, WentOn, Runs, DoesTask, agenda, Turned, HasTurned, IsPassed, IsMoved}
-use Rattle.shen_core.specs.declared.step.Stepped.{Stepped}
-use Rattle.shen_core.specs.declared.step.Stepped.TheVariants.{More, Again, Done, Idle}
+use Rattle.heap_machines.specs.declared.stepped.Stepped.{Stepped}
+use Rattle.heap_machines.specs.declared.stepped.Stepped.TheVariants.{More, Again, Done, Idle}
 
 module _ (c : Config) (scripts : Scripts) where
   -- with no event it stays

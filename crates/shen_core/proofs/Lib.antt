@@ -1,6 +1,5 @@
 mod Events
 mod Memory
-mod Opened
 mod Turns
 mod Noted
 mod Going

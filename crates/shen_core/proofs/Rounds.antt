@@ -16,8 +16,8 @@ use Rattle.step_core.specs.Machines.{kind}
 use Rattle.shen_core.specs.declared.plain.Plain.{Plain}
 use Rattle.shen_core.specs.declared.run.Ran.{Ran}
 use Rattle.shen_core.specs.declared.run.Ran.TheVariants.{Finished, Unfinished}
-use Rattle.shen_core.specs.declared.step.Stepped.{Stepped}
-use Rattle.shen_core.specs.declared.step.Stepped.TheVariants.{Idle}
+use Rattle.heap_machines.specs.declared.stepped.Stepped.{Stepped}
+use Rattle.heap_machines.specs.declared.stepped.Stepped.TheVariants.{Idle}
 use Rattle.shen_core.specs.State.{config_of, Shows, IsUnchanged}
 use Rattle.shen_core.specs.Ending.{HasEnded, HasRun, EndsRun}
 use Rattle.shen_core.proofs.Going.{goes_same, goes_next, moved_of}

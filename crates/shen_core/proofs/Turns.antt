@@ -1,52 +1,54 @@
 -- The turn of a machine, in each stage that memory shows.
-use Rattle.std.proofs.Common.{◌≡◌, ◌<◌, ℕ, true, List, length, Option, Some, None, refl, sym, ap, ◌∙◌, subst}
-use Rattle.std.specs.Prelude.{nat_lt, slice_get, slice_index, slice_index_or}
+use Rattle.std.proofs.Common.{◌≡◌, ◌<◌, ℕ, Bool, true, false, List, length, Option, Some, None, refl, sym, ap, ◌∙◌, subst, All, arith}
+use Rattle.std.specs.Prelude.{nat_lt, slice_get, slice_index, slice_index_or, IfSome, is_some, if◌then◌else◌}
 use Rattle.heap_words.specs.Access.{place_of}
 use Rattle.std.specs.Option.{option_map}
 use Rattle.std.proofs.Math.Logic.{∥∥₁_elim}
 use Rattle.std.proofs.Math.Bool.{Bool-set}
 use Rattle.std.proofs.lemmas.List.{length-map}
-use Rattle.std.proofs.lemmas.Option.{same_Some, slice_get-get_or}
-use Rattle.std.proofs.lemmas.Bool.{lt-ltb, ltb-true}
+use Rattle.std.proofs.lemmas.Option.{same_Some, slice_get-get_or, slice_get_within, get_or_from_slice_get}
+use Rattle.std.proofs.lemmas.Bool.{ltb-true}
 use Rattle.heap_words.specs.declared.config.Config.{Config}
-use Rattle.steps_base.specs.Steps.{Stage, Event}
+use Rattle.steps_base.specs.Steps.{Stage, Event, Finds}
+use Rattle.shen_graph.specs.declared.command.Command.{Command}
 use Rattle.shen_graph.specs.Work as work
-use Rattle.shen_graph.specs.declared.order.Order.TheVariants.{Begin}
+use Rattle.shen_graph.specs.Valid.{IsValid}
 use Rattle.shen_graph.specs.declared.order.Order.{Order}
-use Rattle.mutator.specs.Orders.{takes_at}
-use Rattle.mutator.specs.Rows.{Mutating}
-use Rattle.mutator.specs.Fit.{IsFit}
-use Rattle.step_core.specs.Actor.{Machine, mutating, fresh_control, Actor}
-use Rattle.step_core.specs.Machines.{plan_of, is_resting}
+use Rattle.heap_machines.proofs.Turns.{role_of, order_alike, rest_is_mutating}
+use Rattle.heap_machines.proofs.Replies.{rest_at_hand}
+use Rattle.step_core.specs.Actor.{Machine, fresh_control, Actor}
+use Rattle.step_core.specs.Machines.{takes_of, plan_of, IsFitIn, order_for, is_resting, is_mutating, made_of_machine, kind}
 use Rattle.step_core.specs.Begins.{ending}
-use Rattle.step_core.specs.Schedule.{Scripts, script_of, turn, turn_of, order_on_turn}
-use Rattle.step_core.proofs.Theorem.{run_sound}
-use Rattle.shen_core.specs.Runs.{Shows, access_of, IsShownBySome, event}
-use Rattle.shen_core.specs.Progress.{Jobs, Tells}
+use Rattle.step_core.specs.Schedule.{Scripts, script_of, turn, turn_of}
+use Rattle.step_core.proofs.Theorem.{run_sound, found_fit}
+use Rattle.step_core.proofs.Roles.{fit_is_prop}
+use Rattle.shen_core.specs.declared.plain.Plain.{Plain}
+use Rattle.shen_core.specs.State.{config_of, words_of, machines_of, machine_at, Shows}
+use Rattle.shen_core.specs.Runs.{IsShownBySome, event}
+use Rattle.shen_core.specs.Progress.{Jobs, Tells, CanRun, IsTurn, IsNextTurn, event_if, next_for}
 use Rattle.shen_core.proofs.Events.{shown_actor}
 
--- a mutator has the number of its seat, which is one of a mutator
-pub seat_below : (c : Config) (words : List ℕ) (machines : List Machine) (number : ℕ) (m : Mutating) → IsShownBySome c words machines → slice_get machines number ≡ Some (mutating m) → number < c.mutators
-seat_below c words machines number m some here =
-    let found = shown_actor words machines (ending c some.run) number (mutating m) some.shows here in
-    ((run_sound c some.run).of_heap.numbers number found.0 m (record { here = found.1; is = found.2 })).1
+-- the machine of a number is a mutator where the number is one of a mutator
+pub role_shown : (c : Config) (words : List ℕ) (machines : List Machine) (number : ℕ) (machine : Machine) → ∥ IsShownBySome c words machines ∥₁ → slice_get machines number ≡ Some machine → is_mutating machine ≡ nat_lt number c.mutators
+role_shown c words machines number machine some here = ∥∥₁_elim some (hlevel (Bool-set)) (λ shown.
+    let found = shown_actor words machines (ending c shown.run) number machine shown.shows here in
+    ap is_mutating (sym found.2) ∙ role_of c number found.0.machine ((run_sound c shown.run).of_heap.roles number found.0 found.1))
 
--- the same where it is only known that some events led there
-pub seat_below_some : (c : Config) (words : List ℕ) (machines : List Machine) (number : ℕ) (m : Mutating) → ∥ IsShownBySome c words machines ∥₁ → slice_get machines number ≡ Some (mutating m) → number < c.mutators
-seat_below_some c words machines number m some here =
-    let test : nat_lt number c.mutators ≡ true = ∥∥₁_elim some (hlevel (Bool-set)) (λ shown. lt-ltb number c.mutators (seat_below c words machines number m shown here)) in
-    ltb-true number c.mutators test
-
--- the word that a mutator finds is fit
-pub fit_shown : (c : Config) (words : List ℕ) (machines : List Machine) (number : ℕ) (m : Mutating) (order : Order) → ∥ IsShownBySome c words machines ∥₁ → slice_get machines number ≡ Some (mutating m) → takes_at m.spot m.made order ≡ true → IsFit c m order (slice_index words (place_of (access_of c m)))
-fit_shown c words machines number m order some here takes = ∥∥₁_elim some (hlevel (Bool-set)) (λ shown. by_events shown)
-  where
-    by_events : IsShownBySome c words machines → IsFit c m order (slice_index words (place_of (access_of c m)))
-    by_events shown =
-        let found = shown_actor words machines (ending c shown.run) number (mutating m) shown.shows here in
-        let fit = ((run_sound c shown.run).fit number found.0 m (record { here = found.1; is = found.2 })).fit order takes in
-        subst (λ ws. IsFit c m order (slice_index ws (place_of (access_of c m)))) shown.shows.words_are
-        (subst (λ machine. IsFit c m order (slice_index (ending c shown.run).words (place_of (plan_of c machine)))) found.2 fit)
+-- the word that a machine finds is fit
+pub fit_shown : (c : Config) (words : List ℕ) (machines : List Machine) (number : ℕ) (machine : Machine) (order : Order) → ∥ IsShownBySome c words machines ∥₁ → slice_get machines number ≡ Some machine → takes_of machine order ≡ true
+    → IsFitIn c order (slice_index words (place_of (plan_of c machine))) machine
+unfolding kind
+fit_shown c words machines number machine order some here takes = ∥∥₁_elim some (fit_is_prop c order (slice_index words (place_of (plan_of c machine))) machine) (λ shown.
+    let found = shown_actor words machines (ending c shown.run) number machine shown.shows here in
+    let finds : Finds (kind c) shown.run.start number found.0 order (slice_index words (place_of (plan_of c machine))) = record {
+      stage = ending c shown.run;
+      reached = record { events = shown.run.events; ends = refl };
+      here = found.1;
+      takes = ap (λ x. takes_of x order) found.2 ∙ takes;
+      found = ap (λ ws. slice_index ws (place_of (plan_of c machine))) (sym shown.shows.words_are) ∙ ap (λ x. slice_index (ending c shown.run).words (place_of (plan_of c x))) (sym found.2);
+    } in
+    subst (λ x. IsFitIn c order (slice_index words (place_of (plan_of c machine))) x) found.2
+    (found_fit c shown.run.start shown.run.graph shown.run.begins number found.0 order (slice_index words (place_of (plan_of c machine))) finds))
 
 -- a map of a map of an option
 map_of_map : {A B C : Type 0} (f : B → C) (g : A → B) (o : Option A) → option_map f (option_map g o) ≡ option_map (λ x. f (g x)) o
@@ -54,9 +56,8 @@ map_of_map f g None = refl
 map_of_map f g (Some x) = refl
 
 -- the turn of an actor, by its machine
-pub actor_turn : (scripts : Scripts) (s : Stage Actor) (number : ℕ) (a : Actor) (machine : Machine) → slice_get s.machines number ≡ Some a → a.machine ≡ machine → turn scripts s number ≡ option_map (λ order. event number order) (order_on_turn scripts number a machine)
-actor_turn scripts s number a machine here is =
-    ap (turn_of scripts number) here ∙ ap (λ x. option_map (λ order. event number order) (order_on_turn scripts number a x)) is
+pub actor_turn : (scripts : Scripts) (s : Stage Actor) (number : ℕ) (a : Actor) → slice_get s.machines number ≡ Some a → turn scripts s number ≡ option_map (λ order. event number order) (order_for (slice_get (script_of scripts number) (length a.calls)) a.machine)
+actor_turn scripts s number a here = ap (turn_of scripts number) here
 
 -- the event of a turn is of the machine whose turn it is
 pub turn_number : (scripts : Scripts) (s : Stage Actor) (k : ℕ) (e : Event Order) → turn scripts s k ≡ Some e → e.number ≡ k
@@ -68,26 +69,67 @@ turn_number scripts s k e is = by_actor (slice_get s.machines k) is
 
     by_actor : (a : Option Actor) → turn_of scripts k a ≡ Some e → e.number ≡ k
     by_actor None is = cc
-    by_actor (Some a) is = by_order (order_on_turn scripts k a a.machine) is
-
--- a machine that rests begins its next command
-pub resting_order : (scripts : Scripts) (number : ℕ) (a : Actor) (machine : Machine) → is_resting machine ≡ true → order_on_turn scripts number a machine ≡ option_map (λ command. Begin command) (slice_get (script_of scripts number) (length a.calls))
-resting_order scripts number a (mutating m) rest = rw rest refl
-resting_order scripts number a _ rest = cc
-
--- a mutator between two calls begins the next command of its script
-pub turn_by_next : (c : Config) (words : List ℕ) (machines : List Machine) (jobs : Jobs) (number : ℕ) (machine : Machine) → slice_get machines number ≡ Some machine → is_resting machine ≡ true → number < c.mutators
-    → (scripts : Scripts) (s : Stage Actor) → Shows words machines s → Tells c scripts jobs s → turn scripts s number ≡ option_map (λ command. event number (Begin command)) (work.next_of jobs number)
-turn_by_next c words machines jobs number machine here rest below scripts s shows tells =
-    let found = shown_actor words machines s number machine shows here in
-    let a = found.0 in
-    actor_turn scripts s number a machine found.1 found.2
-    ∙ ap (option_map (λ order. event number order)) (resting_order scripts number a machine rest)
-    ∙ map_of_map (λ order. event number order) (λ command. Begin command) _
-    ∙ ap (λ script. option_map (λ command. event number (Begin command)) (slice_get script (length a.calls))) (sym (tells.scripts_are number below))
-    ∙ ap (λ k. option_map (λ command. event number (Begin command)) (slice_get (work.script_of jobs number) k))
-    (sym (ap length (tells.replies number a below found.1) ∙ length-map a.calls (λ e. e.reply)))
+    by_actor (Some a) is = by_order (order_for (slice_get (script_of scripts k) (length a.calls)) a.machine) is
 
 -- there is a machine at each number
 pub machine_within : (machines : List Machine) (number : ℕ) → number < length machines → slice_get machines number ≡ Some (slice_index_or machines number fresh_control)
 machine_within machines number below = slice_get-get_or machines number fresh_control below
+
+-- what a machine does on its turn, in a stage that memory shows
+pub turn_shown : (p : Plain) (jobs : Jobs) (number : ℕ) → number < length (machines_of p) → is_mutating (machine_at p number) ≡ nat_lt number (config_of p).mutators
+    → (scripts : Scripts) (s : Stage Actor) → Shows p s → Tells (config_of p) scripts jobs s → turn scripts s number ≡ option_map (λ order. event number order) (order_for (next_for (config_of p) jobs number) (machine_at p number))
+turn_shown p jobs number within role scripts s shows tells =
+    let found = shown_actor (words_of p) (machines_of p) s number (machine_at p number) shows (machine_within (machines_of p) number within) in
+    let a = found.0 in
+    actor_turn scripts s number a found.1
+    ∙ ap (λ machine. option_map (λ order. event number order) (order_for (slice_get (script_of scripts number) (length a.calls)) machine)) found.2
+    ∙ ap (option_map (λ order. event number order)) (by_role a found.1 (nat_lt number (config_of p).mutators) refl)
+  where
+    by_role : (a : Actor) → slice_get s.machines number ≡ Some a → (b : Bool) → nat_lt number (config_of p).mutators ≡ b
+        → order_for (slice_get (script_of scripts number) (length a.calls)) (machine_at p number) ≡ order_for (if nat_lt number (config_of p).mutators then work.next_of jobs number else None) (machine_at p number)
+    by_role a here true is =
+        let below : number < (config_of p).mutators = ltb-true number (config_of p).mutators is in
+        ap (λ script. order_for (slice_get script (length a.calls)) (machine_at p number)) (sym (tells.scripts_are number below))
+        ∙ ap (λ k. order_for (slice_get (work.script_of jobs number) k) (machine_at p number)) (sym (ap length (tells.replies number a below here) ∙ length-map a.calls (λ e. e.reply)))
+        ∙ ap (λ b. order_for (if b then work.next_of jobs number else None) (machine_at p number)) (sym is)
+    by_role a here false is = order_alike (machine_at p number) _ _ (role ∙ is)
+
+-- so the event is that of its order
+pub is_turn : (p : Plain) (jobs : Jobs) (number : ℕ) (has : Bool) (order : Order) → number < length (machines_of p) → is_mutating (machine_at p number) ≡ nat_lt number (config_of p).mutators → IsNextTurn p jobs number has order → IsTurn p jobs number has order
+is_turn p jobs number has order within role next scripts s shows tells = turn_shown p jobs number within role scripts s shows tells ∙ ap (option_map (λ x. event number x)) next ∙ by_has has
+  where
+    by_has : (b : Bool) → option_map (λ x. event number x) (if b then Some order else None) ≡ event_if b number order
+    by_has true = refl
+    by_has false = refl
+
+-- whether there is a turn
+pub some_turn : (p : Plain) (jobs : Jobs) (number : ℕ) → number < length (machines_of p) → is_mutating (machine_at p number) ≡ nat_lt number (config_of p).mutators
+    → (scripts : Scripts) (s : Stage Actor) → Shows p s → Tells (config_of p) scripts jobs s → is_some (turn scripts s number) ≡ is_some (order_for (next_for (config_of p) jobs number) (machine_at p number))
+some_turn p jobs number within role scripts s shows tells = ap is_some (turn_shown p jobs number within role scripts s shows tells) ∙ by_some (order_for (next_for (config_of p) jobs number) (machine_at p number))
+  where
+    by_some : (o : Option Order) → is_some (option_map (λ x. event number x) o) ≡ is_some o
+    by_some None = refl
+    by_some (Some x) = refl
+
+-- a command that is there is one of the list
+one_of_these : {A : Type 0} (P : A → Type 0) (xs : List A) (k : ℕ) (x : A) → All P xs → slice_get xs k ≡ Some x → P x
+one_of_these P xs k x all here = subst P (get_or_from_slice_get xs k x x here) (all k x (slice_get_within xs k x here))
+
+-- the command that follows can be given
+pub next_fits : (p : Plain) (jobs : Jobs) (number : ℕ) → CanRun p jobs → number < length (machines_of p) → is_mutating (machine_at p number) ≡ nat_lt number (config_of p).mutators
+    → is_resting (machine_at p number) ≡ true → IfSome (next_for (config_of p) jobs number) (λ command. IsValid command × (made_of_machine (machine_at p number) < 4294967295))
+next_fits p jobs number can within role rest =
+    let is : nat_lt number (config_of p).mutators ≡ true = sym role ∙ rest_is_mutating (machine_at p number) rest in
+    let below : number < (config_of p).mutators = ltb-true number (config_of p).mutators is in
+    subst (λ b. IfSome (if b then work.next_of jobs number else None) (λ command. IsValid command × (made_of_machine (machine_at p number) < 4294967295))) (sym is)
+    (by_next below (work.next_of jobs number) refl)
+  where
+    by_next : number < (config_of p).mutators → (o : Option Command) → work.next_of jobs number ≡ o → IfSome o (λ command. IsValid command × (made_of_machine (machine_at p number) < 4294967295))
+    by_next below None here = tt
+    by_next below (Some command) here = (
+      one_of_these IsValid (work.script_of jobs number) (length (work.replies_of jobs number)) command (can.commands number below) here,
+      (let few = can.made number below in
+          let more = slice_get_within (work.script_of jobs number) (length (work.replies_of jobs number)) command here in
+          let none = rest_at_hand (machine_at p number) rest in
+          omega (arith, few, more, none)),
+    )

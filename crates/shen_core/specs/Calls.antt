@@ -1,30 +1,25 @@
 -- The calls of mutators, and the scripts that they have their commands from.
-use Rattle.std.specs.Prelude.{ℕ, ◌≡◌, ◌<◌, false, true, length, take, Some, slice_get}
+use Rattle.std.specs.Prelude.{ℕ, ◌≡◌, ◌<◌, true, Some, slice_get}
 use Rattle.heap_words.specs.declared.config.Config.{Config}
 use Rattle.steps_base.specs.Steps.{Stage}
-use Rattle.shen_graph.specs.History.{commands_of}
-use Rattle.mutator.specs.Orders.{is_between_calls}
-use Rattle.mutator.specs.Rows.{Mutating}
+use Rattle.heap_machines.specs.Scripts.{IsOnScript, HasDoneScript}
 use Rattle.step_core.specs.Actor.{Actor}
-use Rattle.step_core.specs.Sound.{IsMutator}
+use Rattle.heap_machines.specs.Roles.{is_mutating}
 use Rattle.step_core.specs.Schedule.{Scripts, script_of}
 
 -- The machine is a mutator. The calls that it has ended have the first commands of its script, in order, and a call in
 -- progress has the next one.
 pub record CallsScript (scripts : Scripts) (s : Stage Actor) (t : ℕ) : Type 0 where
   pub actor : Actor
-  pub mutator : Mutating
-  pub is : IsMutator s t actor mutator
-  pub done : commands_of actor.calls ≡ take (length actor.calls) (script_of scripts t)
-  pub doing : is_between_calls mutator.spot ≡ false → slice_get (script_of scripts t) (length actor.calls) ≡ Some actor.command
+  pub here : slice_get s.machines t ≡ Some actor
+  pub role : is_mutating actor.machine ≡ true
+  pub calls : IsOnScript (script_of scripts t) actor
 
--- The machine is a mutator between two calls. The calls that it has ended have the commands of its whole script, in order.
+-- The machine is between two calls. Those that it has ended have the commands of its whole script, in order.
 pub record HasCalled (scripts : Scripts) (s : Stage Actor) (t : ℕ) : Type 0 where
   pub actor : Actor
-  pub mutator : Mutating
-  pub is : IsMutator s t actor mutator
-  pub rest : is_between_calls mutator.spot ≡ true
-  pub commands : commands_of actor.calls ≡ script_of scripts t
+  pub here : slice_get s.machines t ≡ Some actor
+  pub called : HasDoneScript (script_of scripts t) actor
 
 -- each mutator calls the commands of its script, one after the other
 abbrev pub AllCall : Config → Scripts → Stage Actor → Type 0

@@ -1,7 +1,5 @@
-pub mod Shown
 pub mod Runs
 pub mod State
-pub mod Answer
 pub mod Progress
 pub mod Calls
 pub mod Ending

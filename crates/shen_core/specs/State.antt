@@ -9,7 +9,7 @@ use Rattle.shen_graph.specs.declared.order.Order.TheVariants.{Nothing}
 use Rattle.step_core.specs.Actor as actors
 use Rattle.step_core.specs.Machines.{takes_of, plan_of}
 use Rattle.shen_core.specs.declared.plain.Plain.{Plain}
-use Rattle.shen_core.specs.Shown.{shown, order_of_machine}
+use Rattle.heap_machines.specs.Shown.{shown, order_of}
 use Rattle.shen_core.specs.Runs as runs
 
 -- its heap
@@ -26,7 +26,7 @@ machines_of p = map shown p.machines.items
 
 -- the orders that its machines were given
 abbrev pub orders_of : Plain → List Order
-orders_of p = map order_of_machine p.machines.items
+orders_of p = map order_of p.machines.items
 
 -- the machines of its heap
 abbrev pub seats_of : Plain → ℕ
@@ -38,7 +38,7 @@ Shows p s = runs.Shows (words_of p) (machines_of p) s
 
 -- one machine, and the order that it was given
 abbrev pub machine_at : Plain → ℕ → actors.Machine
-machine_at p number = slice_index_or (machines_of p) number actors.fresh_control
+machine_at p number = slice_index_or (machines_of p) number actors.fresh_helper
 
 abbrev pub order_at : Plain → ℕ → Order
 order_at p number = slice_index_or (orders_of p) number Nothing
@@ -49,7 +49,7 @@ has_turn p number = takes_of (machine_at p number) (order_at p number)
 
 -- the word that the machine's next access finds
 abbrev pub found_by : Plain → ℕ → ℕ
-found_by p number = slice_index (words_of p) (place_of (plan_of p.config (machine_at p number)))
+found_by p number = slice_index (words_of p) (place_of (plan_of p.config (order_at p number) (machine_at p number)))
 
 -- one event of the machine, under its order, leads from the one to the other
 abbrev pub IsStep : Plain → Plain → ℕ → Type 0

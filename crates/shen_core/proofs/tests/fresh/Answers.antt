@@ -1,6 +1,4 @@
-use Rattle.std.proofs.Common.{sym, subst}
-use Rattle.step_core.specs.Opening.{opening}
-use Rattle.shen_core.specs.State.{machines_of, Shows}
+use Rattle.shen_core.specs.State.{machines_of}
 use Rattle.shen_core.proofs.Fresh.{rests_first, made_first}
 use Rattle.shen_core.proofs.tests.fresh.Goals as goal
 
@@ -8,4 +6,4 @@ pub returns-clause-rest : goal.returns-clause-rest
 returns-clause-rest c = rests_first c.args.config (machines_of c.in_ok-plain.plain) 0 c.in_ok-plain.ensures.opening.machines_are c.requires
 
 pub returns-clause-made : goal.returns-clause-made
-returns-clause-made c = made_first c.args.config (machines_of c.in_ok-plain.plain) 0 c.in_ok-plain.ensures.opening.machines_are
+returns-clause-made c = made_first c.args.config (machines_of c.in_ok-plain.plain) 0 c.in_ok-plain.ensures.opening.machines_are c.requires

@@ -1,9 +1,9 @@
 use Rattle.std.proofs.Common.{◌≡◌, ap, ◌∙◌, length}
 use Rattle.shen_graph.specs.declared.order.Order.TheVariants.{Nothing}
 use Rattle.step_core.proofs.OpeningStands.{length-opening}
-use Rattle.shen_core.specs.Shown.{order_of_machine}
+use Rattle.heap_machines.specs.Shown.{order_of}
 use Rattle.std.proofs.lemmas.List.Elements.{All-map}
-use Rattle.shen_core.proofs.Opened.{shows_opening, shown_by_none, machines_count}
+use Rattle.shen_core.proofs.Memory.{shows_opening, shown_by_none, machines_count}
 use Rattle.shen_core.proofs.plain.Plain.open.Goals as goal
 
 pub invariant_of-result-clause-all_words : goal.invariant_of-result-clause-all_words
@@ -20,4 +20,4 @@ pub returns-clause-opening : goal.returns-clause-opening
 returns-clause-opening c = shows_opening c.args.config c.in_ok-words.words.items c.in_ok-machines.machines.items c.in_ok-words.ensures c.in_ok-machines.ensures.machines
 
 pub returns-clause-orders : goal.returns-clause-orders
-returns-clause-orders c = All-map (λ order. order ≡ Nothing) order_of_machine c.in_ok-machines.machines.items c.in_ok-machines.ensures.orders
+returns-clause-orders c = All-map (λ order. order ≡ Nothing) order_of c.in_ok-machines.machines.items c.in_ok-machines.ensures.orders

@@ -1,42 +1,104 @@
-use Rattle.std.proofs.Common.{◌≡◌, sym, ap, ◌∙◌, get_or, arith, Some}
-use Rattle.std.proofs.lemmas.List.{length-map, get_or-set_same}
-use Rattle.shen_graph.specs.declared.order.Order.TheVariants.{Nothing, Begin}
-use Rattle.std.specs.Option.{option_map}
-use Rattle.shen_core.specs.Shown.{shown, order_of_machine}
-use Rattle.shen_core.specs.Runs.{event}
-use Rattle.shen_core.specs.State.{config_of, words_of, machines_of, orders_of, machine_at, order_at}
-use Rattle.shen_core.proofs.Turns.{turn_by_next, machine_within}
-use Rattle.step_core.specs.Actor.{fresh_control}
-use Rattle.step_core.specs.Machines.{takes_of}
+use Rattle.std.proofs.Common.{◌<◌, map, Some, None, sym, ap, ◌∙◌, subst, arith}
+use Rattle.std.specs.Prelude.{IfSome, slice_set, slice_index_or, if◌then◌else◌}
+use Rattle.std.proofs.lemmas.List.{length-map, length-set}
+use Rattle.std.proofs.Math.Logic.{∥∥₁_map}
+use Rattle.shen_graph.specs.Valid.{IsValid}
+use Rattle.shen_graph.specs.declared.order.Order.TheVariants.{Nothing}
+use Rattle.heap_machines.specs.Shown.{shown, order_of}
+use Rattle.step_core.specs.Machines.{takes_of, order_for, is_resting, is_mutating, made_of_machine}
+use Rattle.shen_core.specs.State.{config_of}
+use Rattle.shen_core.specs.Progress.{next_for}
+use Rattle.shen_core.specs.Runs.{IsShownBySome}
+use Rattle.shen_core.proofs.Memory.{from_read, shown_here, none_here, machine_here, machine_now, order_now, ordered_machines, ordered_none, ordered_orders, ordered_heap}
+use Rattle.shen_core.proofs.Turns.{role_shown, next_fits, is_turn}
 use Rattle.shen_core.proofs.plain.Plain.order_next.Goals as goal
 
-pub returns-in-Some-clause-turn : goal.returns-in-Some-clause-turn
-returns-in-Some-clause-turn c = λ scripts s shows tells.
-    let rest = sym c.is_resting.ensures.rest ∙ c.if-not-is_resting.false in
-    let here = machine_within (machines_of c.args.self.now) c.args.number (omega (arith, length-map c.args.self.now.machines.items shown, c.args.self.now.all_machines, c.requires.number)) in
-    let order : order_at c.begin.new.self c.args.number ≡ Begin c.in-Some.command =
-    ap (λ orders. get_or orders c.args.number Nothing) c.begin.ensures.order
-    ∙ get_or-set_same (orders_of c.args.self.now) c.args.number (Begin c.in-Some.command) Nothing (omega (arith, length-map c.args.self.now.machines.items order_of_machine, c.args.self.now.all_machines, c.requires.number)) in
-    turn_by_next (config_of c.args.self.now) (words_of c.args.self.now) (machines_of c.args.self.now) c.args.work.now c.args.number (machine_at c.args.self.now c.args.number) here rest
-    (c.is_resting.ensures.below c.if-not-is_resting.false) scripts s shows tells
-    ∙ ap (option_map (λ command. event c.args.number (Begin command))) (sym c.next.ensures.next ∙ c.in-Some.is)
-    ∙ ap (λ order. Some (event c.args.number order)) (sym order)
+pub order_next-requires-clause-none : goal.order_next-requires-clause-none
+order_next-requires-clause-none c =
+    let p = c.args.self.now in
+    let m = c.index_mut.result.now in
+    let here = from_read p.machines.items c.args.number m (omega (arith, p.all_machines, c.requires.number)) c.index_mut.ensures.value in
+    none_here p.machines.items c.args.number m c.requires.run.orders here
 
-pub returns-in-Some-clause-has : goal.returns-in-Some-clause-has
-returns-in-Some-clause-has c =
-    let rest = sym c.is_resting.ensures.rest ∙ c.if-not-is_resting.false in
-    let below = c.is_resting.ensures.below c.if-not-is_resting.false in
-    let order : order_at c.begin.new.self c.args.number ≡ Begin c.in-Some.command =
-    ap (λ orders. get_or orders c.args.number Nothing) c.begin.ensures.order
-    ∙ get_or-set_same (orders_of c.args.self.now) c.args.number (Begin c.in-Some.command) Nothing (omega (arith, length-map c.args.self.now.machines.items order_of_machine, c.args.self.now.all_machines, c.requires.number)) in
-    ap (λ machines. takes_of (get_or machines c.args.number fresh_control) (order_at c.begin.new.self c.args.number)) c.begin.ensures.machines
-    ∙ ap (takes_of (machine_at c.args.self.now c.args.number)) order
-    ∙ c.begin.ensures.takes
+pub order_next-requires-clause-next : goal.order_next-requires-clause-next
+order_next-requires-clause-next c = λ rest.
+    let p = c.args.self.now in
+    let m = c.index_mut.result.now in
+    let here = from_read p.machines.items c.args.number m (omega (arith, p.all_machines, c.requires.number)) c.index_mut.ensures.value in
+    let at = machine_here p.machines.items c.args.number m here in
+    subst (λ next. IfSome next (λ command. IsValid command × (made_of_machine (shown m) < 4294967295))) (sym c.next_command-next.ensures)
+    (subst (λ machine. IfSome (next_for (config_of p) c.args.work.now c.args.number) (λ command. IsValid command × (made_of_machine machine < 4294967295))) at
+    (next_fits p c.args.work.now c.args.number c.requires.run (omega (arith, length-map p.machines.items shown, p.all_machines, c.requires.number))
+    (ap is_mutating at ∙ role_shown p.config p.words.items _ c.args.number (shown m) p.reached (shown_here p.machines.items c.args.number m here)) (ap is_resting at ∙ rest)))
 
-pub returns-in-None-clause-turn : goal.returns-in-None-clause-turn
-returns-in-None-clause-turn c = λ scripts s shows tells.
-    let rest = sym c.is_resting.ensures.rest ∙ c.if-not-is_resting.false in
-    let here = machine_within (machines_of c.args.self.now) c.args.number (omega (arith, length-map c.args.self.now.machines.items shown, c.args.self.now.all_machines, c.requires.number)) in
-    turn_by_next (config_of c.args.self.now) (words_of c.args.self.now) (machines_of c.args.self.now) c.args.work.now c.args.number (machine_at c.args.self.now c.args.number) here rest
-    (c.is_resting.ensures.below c.if-not-is_resting.false) scripts s shows tells
-    ∙ ap (option_map (λ command. event c.args.number (Begin command))) (sym c.next.ensures.next ∙ c.in-None.is)
+pub invariant_of-self : goal.invariant_of-self
+invariant_of-self c =
+    let p = c.args.self.now in
+    let m = c.index_mut.result.now in
+    let here = from_read p.machines.items c.args.number m (omega (arith, p.all_machines, c.requires.number)) c.index_mut.ensures.value in
+    record {
+      all_words = p.all_words;
+      all_machines = length-set p.machines.items _ _ ∙ p.all_machines;
+      all_marks = p.all_marks;
+      enough_addresses = p.enough_addresses;
+      one_heap = ordered_heap p.config p.machines.items c.args.number m c.order_next.new.self here c.order_next.ensures.heap p.one_heap;
+      reached = ∥∥₁_map p.reached (subst (λ machines. IsShownBySome p.config p.words.items machines)
+          (sym (ordered_machines p.machines.items c.args.number m c.order_next.new.self here c.order_next.ensures.shown)));
+    }
+
+pub returns-clause-next : goal.returns-clause-next
+returns-clause-next c =
+    let p = c.args.self.now in
+    let m = c.index_mut.result.now in
+    let n = c.order_next.new.self in
+    let here = from_read p.machines.items c.args.number m (omega (arith, p.all_machines, c.requires.number)) c.index_mut.ensures.value in
+    ap (order_for (next_for (config_of p) c.args.work.now c.args.number)) (machine_here p.machines.items c.args.number m here)
+    ∙ ap (λ next. order_for next (shown m)) (sym c.next_command-next.ensures)
+    ∙ c.order_next.ensures.turn
+    ∙ ap (λ order. if c.order_next.result then Some order else None) (sym (order_now p.machines.items c.args.number m n here))
+
+pub returns-clause-turn : goal.returns-clause-turn
+returns-clause-turn c =
+    let p = c.args.self.now in
+    let m = c.index_mut.result.now in
+    let n = c.order_next.new.self in
+    let here = from_read p.machines.items c.args.number m (omega (arith, p.all_machines, c.requires.number)) c.index_mut.ensures.value in
+    is_turn p c.args.work.now c.args.number c.order_next.result _ (omega (arith, length-map p.machines.items shown, p.all_machines, c.requires.number))
+    (ap is_mutating (machine_here p.machines.items c.args.number m here) ∙ role_shown p.config p.words.items _ c.args.number (shown m) p.reached (shown_here p.machines.items c.args.number m here))
+    (ap (order_for (next_for (config_of p) c.args.work.now c.args.number)) (machine_here p.machines.items c.args.number m here)
+    ∙ ap (λ next. order_for next (shown m)) (sym c.next_command-next.ensures)
+    ∙ c.order_next.ensures.turn
+    ∙ ap (λ order. if c.order_next.result then Some order else None) (sym (order_now p.machines.items c.args.number m n here)))
+
+pub returns-clause-has : goal.returns-clause-has
+returns-clause-has c =
+    let p = c.args.self.now in
+    let m = c.index_mut.result.now in
+    let n = c.order_next.new.self in
+    let here = from_read p.machines.items c.args.number m (omega (arith, p.all_machines, c.requires.number)) c.index_mut.ensures.value in
+    ap (λ machine. takes_of machine (slice_index_or (map order_of (slice_set p.machines.items c.args.number n)) c.args.number Nothing)) (machine_now p.machines.items c.args.number m n here ∙ c.order_next.ensures.shown)
+    ∙ ap (takes_of (shown m)) (order_now p.machines.items c.args.number m n here)
+    ∙ c.order_next.ensures.takes
+
+pub returns-clause-orders : goal.returns-clause-orders
+returns-clause-orders c =
+    let p = c.args.self.now in
+    let m = c.index_mut.result.now in
+    let n = c.order_next.new.self in
+    let here = from_read p.machines.items c.args.number m (omega (arith, p.all_machines, c.requires.number)) c.index_mut.ensures.value in
+    ordered_orders p.machines.items c.args.number n _ (sym (order_now p.machines.items c.args.number m n here))
+
+pub returns-clause-unchanged : goal.returns-clause-unchanged
+returns-clause-unchanged c = λ idle.
+    let p = c.args.self.now in
+    let m = c.index_mut.result.now in
+    let n = c.order_next.new.self in
+    let here = from_read p.machines.items c.args.number m (omega (arith, p.all_machines, c.requires.number)) c.index_mut.ensures.value in
+    ordered_none p.machines.items c.args.number m n here (c.order_next.ensures.idle idle ∙ sym (none_here p.machines.items c.args.number m c.requires.run.orders here))
+
+pub returns-clause-machines : goal.returns-clause-machines
+returns-clause-machines c =
+    let p = c.args.self.now in
+    let m = c.index_mut.result.now in
+    let here = from_read p.machines.items c.args.number m (omega (arith, p.all_machines, c.requires.number)) c.index_mut.ensures.value in
+    ordered_machines p.machines.items c.args.number m c.order_next.new.self here c.order_next.ensures.shown

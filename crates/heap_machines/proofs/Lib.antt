@@ -1,0 +1,5 @@
+pub mod Turns
+pub mod Replies
+pub mod OnScript
+pub mod Openings
+pub mod Standing

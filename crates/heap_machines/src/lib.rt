@@ -1,0 +1,11 @@
+//! The machines of a heap in memory: mutator threads, helpers and the control as one type, and what the core says of any
+//! machine. The heap on one thread and the heap that threads share stand on it, and tell no role from another.
+#![tactic(auto)]
+
+mod machine;
+mod opening;
+mod stepped;
+
+pub use machine::Machine;
+pub use opening::open_machines;
+pub use stepped::Stepped;
