@@ -149,18 +149,21 @@ module _ (c : Config) (m : Word → ℕ) (block : Plot) (owner : ℕ → Option 
     each = λ a refs nums n is.
         let at = shown_thing a refs nums n is in
         let o = holds.objects.each a refs nums n at.0 at.1 in
-        let object : g.object n ≡ Some o.0 = sym (cond-false (same_reference (p.ref n.thread) (Some n)) (Some (blank (p.refs n.thread) (p.nums n.thread))) (g.object n) at.2) ∙ o.1 in
-        (o.0, object, record {
-          header = o.2.header;
-          shape = o.2.shape;
-          name_word = o.2.name_word;
-          few_refs = o.2.few_refs;
-          few_nums = o.2.few_nums;
-          refs_are = o.2.refs_are;
-          nums_are = o.2.nums_are;
-          references = λ i r there. field a refs nums n i r o.0 is object o.2 there;
-          numbers = o.2.numbers;
-        });
+        let object : g.object n ≡ Some o.0 = sym (cond-false (same_reference (p.ref n.thread) (Some n)) (Some (blank (p.refs n.thread) (p.nums n.thread))) (g.object n) at.2) ∙ o.1 in (
+          o.0,
+          object,
+          record {
+            header = o.2.header;
+            shape = o.2.shape;
+            name_word = o.2.name_word;
+            few_refs = o.2.few_refs;
+            few_nums = o.2.few_nums;
+            refs_are = o.2.refs_are;
+            nums_are = o.2.nums_are;
+            references = λ i r there. field a refs nums n i r o.0 is object o.2 there;
+            numbers = o.2.numbers;
+          },
+        );
     once = λ a b refs nums more_refs more_nums n is_a is_b.
         let one = shown_thing a refs nums n is_a in
         let other = shown_thing b more_refs more_nums n is_b in
@@ -206,15 +209,16 @@ module _ (c : Config) (m : Word → ℕ) (block : Plot) (owner : ℕ → Option 
 pub holding_stands : (c : Config) (words : List ℕ) (block : Plot) (owner : ℕ → Option ℕ) (p : Promises) (g : Graph) → length words ≡ table_words c
     → HoldsBy c (view c words) block owner p g → view c words Cset ≡ 0 → (at : ℕ → Option Name) × WordsStand c.region_words (heap_in c words) (roots_in c words) at g
 holding_stands c words block owner p g long holds calm =
-    let m : Word → ℕ = view c words in
-    ((λ a. name_at (shown c m block owner p g holds calm a)),
-    pieces_stand c words (shown c m block owner p g holds calm) g long
-    (record {
-      plotted = plotted c m block owner p g holds calm;
-      objects = objects c m block owner p g holds calm;
-      small = λ n o is. (holds.next.given n o is).small;
-    })
-    (roots c m block owner p g holds calm) (no_more c m block owner p g holds calm))
+    let m : Word → ℕ = view c words in (
+      (λ a. name_at (shown c m block owner p g holds calm a)),
+      pieces_stand c words (shown c m block owner p g holds calm) g long
+          (record {
+            plotted = plotted c m block owner p g holds calm;
+            objects = objects c m block owner p g holds calm;
+            small = λ n o is. (holds.next.given n o is).small;
+          })
+          (roots c m block owner p g holds calm) (no_more c m block owner p g holds calm),
+    )
 
 pub holding_stands_some : (c : Config) (words : List ℕ) → length words ≡ table_words c → HoldsSome c (view c words) → view c words Cset ≡ 0
     → StandForSome c.region_words (heap_in c words) (roots_in c words)
