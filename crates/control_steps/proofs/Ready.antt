@@ -1,17 +1,23 @@
 -- The control can make its next access wherever it goes on.
-use Rattle.std.proofs.Common.{◌≡◌, ℕ, ◌+◌, ◌<◌, Bool, true, false, refl, arith}
+use Rattle.std.proofs.Common.{◌≡◌, ℕ, ◌+◌, ◌<◌, Bool, true, false, refl, sym, subst, arith}
 use Rattle.std.specs.Prelude.{◌==◌, nat_lt, if◌then◌else◌}
-use Rattle.std.proofs.lemmas.Bool.{cases_Bool, lt-ltb, ltb-true, cond-true, cond-false}
+use Rattle.std.proofs.lemmas.Bool.{and_parts, lt-ltb, ltb-true}
 use Rattle.std.proofs.lemmas.Bool.Decides.{nat_tests}
 use Rattle.heap_words.specs.declared.config.Config.{Config}
+use Rattle.heap_words.specs.Access.{place_of}
+use Rattle.heap_words.specs.Words.{is_word, word_at, table_words}
+use Rattle.heap_words.proofs.Stores.{is_word_true}
+use Rattle.heap_words.proofs.Rows.{word_inside}
+use Rattle.steps_base.specs.Touch.{Touch, placed}
+use Rattle.steps_base.proofs.Touches.{place_of-access_at}
 use Rattle.handshake.specs.declared.stop_spot.StopSpot.{StopSpot}
 use Rattle.handshake.specs.declared.stop_spot.StopSpot.TheVariants as stop
-use Rattle.handshake.specs.Rows.{after_seat, stop_next}
+use Rattle.handshake.specs.Rows.{after_seat, stop_touch}
 use Rattle.heap_world.specs.Change.{image_words}
 use Rattle.control_steps.specs.declared.spot.ControlSpot.{ControlSpot}
 use Rattle.control_steps.specs.declared.spot.ControlSpot.TheVariants.{LookLeft, StoreEnd, LookAsked, LookFree, Stopping, LoadWord, StoreWord, Go, Gone}
-use Rattle.control_steps.specs.Rows.{stopping, begins_pause, wants_pause, next_spot}
-use Rattle.control_steps.specs.Ready.{is_ready, StaysReady}
+use Rattle.control_steps.specs.Rows.{control_touch, stopping, begins_pause, wants_pause, next_spot}
+use Rattle.control_steps.specs.Ready.{is_ready, AccessesAreInside, StaysReady}
 
 -- of two spots
 of_two : (c : Config) (b : Bool) (x y : ControlSpot) → (b ≡ true → is_ready c x ≡ true) → (b ≡ false → is_ready c y ≡ true) → is_ready c (if b then x else y) ≡ true
@@ -42,3 +48,19 @@ stays_ready c seen (LoadWord index) got ready = of_two c (nat_lt (index + 1) (im
 stays_ready c seen (StoreWord index) got ready = of_two c (nat_lt (index + 1) (image_words c)) (StoreWord (index + 1)) Go (λ more. more) (λ all. refl)
 stays_ready c seen Go got ready = refl
 stays_ready c seen Gone got ready = refl
+
+-- an access of a word of the table is inside it
+placed_inside : (c : Config) (t : Touch) → is_word c t.word ≡ true → place_of (placed c t) < table_words c
+placed_inside c t is = subst (λ k. k < table_words c) (sym (place_of-access_at (word_at c t.word) t.form)) (word_inside c t.word (is_word_true c t.word is))
+
+-- the control's are
+pub accesses_inside : AccessesAreInside
+accesses_inside c LookLeft value ready = placed_inside c (control_touch LookLeft) refl
+accesses_inside c StoreEnd value ready = placed_inside c (control_touch StoreEnd) refl
+accesses_inside c LookAsked value ready = placed_inside c (control_touch LookAsked) refl
+accesses_inside c LookFree value ready = placed_inside c (control_touch LookFree) refl
+accesses_inside c (Stopping at) value ready = placed_inside c (stop_touch at) (and_parts _ _ (and_parts _ _ ready).0).0
+accesses_inside c (LoadWord index) value ready = (let below = ltb-true _ _ ready in omega (arith, below))
+accesses_inside c (StoreWord index) value ready = (let below = ltb-true _ _ ready in omega (arith, below))
+accesses_inside c Go value ready = placed_inside c (control_touch Go) refl
+accesses_inside c Gone value ready = placed_inside c (control_touch Gone) refl

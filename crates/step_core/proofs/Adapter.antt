@@ -1,17 +1,14 @@
 -- What the step of a mutator owes as an event: what its place owes is turned into that, while a pause writes its image back and
 -- while none does.
-use Rattle.std.proofs.Common.{◌≡◌, ◌≢◌, ℕ, ◌+◌, ◌<◌, ◌⊎◌, inl, inr, ⊎_elim, Bool, true, false, List, [], ◌∷◌, ◌++◌, length, Option, Some, None, refl, sym, ap, ◌∙◌, subst, arith}
-use Rattle.std.specs.Prelude.{nat_le, slice_get, slice_set, slice_index, if◌then◌else◌}
-use Rattle.std.proofs.lemmas.List.{append-nil, length-set}
-use Rattle.std.proofs.lemmas.Bool.{cases_Bool, cases_eq, and_parts, cond-false, false≢true}
+use Rattle.std.proofs.Common.{◌≡◌, ◌≢◌, ℕ, ◌+◌, ◌<◌, ◌⊎◌, inl, inr, ⊎_elim, true, false, List, ◌++◌, length, Option, Some, None, refl, sym, ap, ◌∙◌, subst, arith}
+use Rattle.std.specs.Prelude.{nat_le, slice_get, if◌then◌else◌}
+use Rattle.std.proofs.lemmas.List.{append-nil}
+use Rattle.std.proofs.lemmas.Bool.{cases_Bool, cases_eq, cond-false, false≢true}
 use Rattle.heap_words.specs.declared.config.Config.{Config}
-use Rattle.heap_words.specs.Access.{place_of}
 use Rattle.heap_words.specs.Encoding.{object_words}
 use Rattle.heap_words.specs.Words.{Word, Answer, Heap, is_word, is_image, same_word, view, table_words}
 use Rattle.heap_words.proofs.Stores.{same_word_true}
-use Rattle.steps_base.specs.Touch.{Touch, formed, placed, touched}
-use Rattle.steps_base.specs.Steps.{Stage}
-use Rattle.steps_base.proofs.Places.{slice_get-set_other}
+use Rattle.steps_base.specs.Touch.{Touch, touched}
 use Rattle.shen_graph.specs.declared.command.Command.{Command}
 use Rattle.shen_graph.specs.declared.command.Reply.{Reply}
 use Rattle.shen_graph.specs.declared.command.Reply.TheVariants.{Full}
@@ -23,28 +20,24 @@ use Rattle.shen_graph.specs.History.{Entry, after, of_thread}
 use Rattle.handshake.specs.Standing.{is_within}
 use Rattle.mutator.specs.declared.spot.Kept.{Kept}
 use Rattle.mutator.specs.declared.spot.Spot.{Spot}
-use Rattle.mutator.specs.declared.spot.Spot.TheVariants.{Rest, Ended, Waiting, Leave, Gone}
-use Rattle.mutator.specs.declared.waits.WaitSpot.TheVariants as wait
+use Rattle.mutator.specs.declared.spot.Spot.TheVariants.{Rest, Ended, Leave, Gone}
 use Rattle.mutator.specs.Orders.{takes_at, is_waiting}
-use Rattle.mutator.specs.Rows.{Mutating, touch_of, next_at, next_of, given_at}
+use Rattle.mutator.specs.Rows.{Mutating, touch_of, next_at, given_at}
 use Rattle.mutator.proofs.Orders.{in_call}
-use Rattle.mutator.proofs.Ready.{word_of_ready}
 use Rattle.mutator.specs.Told.{told_of as settled_by_step}
-use Rattle.heap_world.specs.World.{World, Plot, promised, Shared}
+use Rattle.heap_world.specs.World.{World, Plot, Shared}
 use Rattle.heap_world.specs.Change.{Change}
 use Rattle.heap_world.specs.Rely.{Rely}
 use Rattle.control_steps.specs.Rows.{Controlling}
-use Rattle.step_core.specs.Actor.{Machine, mutating, controlling, Actor, entries_of, command_by}
-use Rattle.step_core.specs.Machines.{took_of, kind}
-use Rattle.step_core.specs.Settled.{settled, settled_by, image_of, control_number}
-use Rattle.step_core.specs.Sound.{world_of}
+use Rattle.step_core.specs.Actor.{mutating, controlling, Actor, entries_of, command_by}
+use Rattle.step_core.specs.Machines.{took_of}
+use Rattle.step_core.specs.Settled.{settled_by}
 use Rattle.step_core.specs.Standing.{standing_at}
-use Rattle.step_core.specs.Stepped.{SpotFacts, Mine, Stepped, fixed_by, graph_by}
+use Rattle.step_core.specs.Stepped.{SpotFacts, Stepped, fixed_by, graph_by}
 use Rattle.step_core.proofs.Entries.{graph_settled, legal_settled, entries_settled, command_valid, own_more, other_more}
-use Rattle.step_core.proofs.Facts.{IsSeen, IsShort, IsThread, IsAim, IsMachine, PromisedToMutators, Follows, Owes, words_promised}
-use Rattle.step_core.proofs.Images.{words_after, view-placed, settled_touched, settled_found}
+use Rattle.step_core.proofs.Facts.{IsSeen, IsShort, IsThread, IsAim, IsMachine, PromisedToMutators, Owes, words_promised}
+use Rattle.step_core.proofs.Images.{words_after, view-placed}
 use Rattle.step_core.proofs.Outside.{outside_told, outside_given, refused_quiet, answer_before}
-use Rattle.step_core.proofs.Pauses.{no_other_control}
 use Rattle.step_core.proofs.Roles.{CountsTheSame, machine_stays, short_stays, seen_stays}
 
 -- under an order no reply is settled, and it does not wait

@@ -1,12 +1,11 @@
 -- A stage that begins a graph follows the empty history, and no machine is in the heap.
-use Rattle.std.proofs.Common.{◌≡◌, ℕ, ◌+◌, ◌<◌, [], Option, None, Some, refl, sym, ap, ◌∙◌, subst, arith}
+use Rattle.std.proofs.Common.{◌≡◌, [], None, Some, refl, sym, ap, ◌∙◌, subst, arith}
 use Rattle.std.specs.Prelude.{slice_get}
 use Rattle.std.proofs.lemmas.List.Elements.{All-nil}
 use Rattle.heap_words.specs.declared.config.Config.{Config}
 use Rattle.heap_words.specs.Words.{view}
 use Rattle.steps_base.specs.Steps.{Stage}
 use Rattle.shen_graph.specs.Graph.{Graph}
-use Rattle.control_steps.specs.declared.spot.ControlSpot.{ControlSpot}
 use Rattle.heap_world.specs.World.{Shared}
 use Rattle.step_core.specs.Actor.{Machine, mutating, helping, controlling, Actor}
 use Rattle.step_core.specs.Machines.{HasNumber, IsIdle}

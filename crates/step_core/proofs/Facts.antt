@@ -7,7 +7,6 @@ use Rattle.heap_words.specs.Words.{Word, Answer, Heap, view, image_start, table_
 use Rattle.packing.specs.Tops.{sum_below}
 use Rattle.steps_base.specs.Steps.{Stage}
 use Rattle.shen_graph.specs.declared.name.Name.{Name}
-use Rattle.shen_graph.specs.declared.command.Command.{Command}
 use Rattle.shen_graph.specs.declared.command.Reply.{Reply}
 use Rattle.shen_graph.specs.declared.command.Reply.TheVariants.{Full}
 use Rattle.shen_graph.specs.Crowd.{words_asked}
@@ -17,7 +16,6 @@ use Rattle.shen_graph.specs.History.{Entry, after, EachIsLegal, of_thread}
 use Rattle.mutator.specs.Orders.{is_valid}
 use Rattle.mutator.specs.Rows.{Mutating}
 use Rattle.heap_world.specs.World.{World, Plot, hand, promised, Shared}
-use Rattle.heap_world.specs.Asking.{HasNoPromise}
 use Rattle.heap_world.specs.Change.{image_words}
 use Rattle.heap_world.specs.Roots.{HasNoMore}
 use Rattle.control_steps.specs.declared.spot.ControlSpot.{ControlSpot}

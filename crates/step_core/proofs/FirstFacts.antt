@@ -15,7 +15,7 @@ use Rattle.std.specs.Prelude.{List}
 use Rattle.steps_base.specs.Steps.{Event}
 use Rattle.shen_graph.specs.declared.order.Order.{Order}
 use Rattle.regions.specs.Place.{base_of}
-use Rattle.heap_words.specs.Words.{Word, same_word, Top, Root, Heap, Phase, Cset, Free, Evac, Current, Wait, Answer}
+use Rattle.heap_words.specs.Words.{Word, same_word, Pause, State, Top, Root, Heap, Phase, Cset, Free, Evac, Current, Wait, Answer}
 use Rattle.shen_graph.specs.declared.name.Name.{Name}
 use Rattle.shen_graph.specs.declared.command.Command.TheVariants.{Gc}
 use Rattle.shen_graph.specs.Graph.{Object, hub, same_name, blank}
@@ -25,7 +25,7 @@ use Rattle.step_core.specs.Opening.{opening_actor, opening, first_free}
 use Rattle.heap_world.specs.World.{World, Plot, Block, thing, hand, promised, words_of, name_at, Points, IsInUse, IsPlotted, IsFilled, IsThing, IsGiven, AreObjects, IsFreeWord, Shared}
 use Rattle.heap_world.specs.Asking.{nothing}
 use Rattle.heap_world.specs.Represents.{Represents}
-use Rattle.step_core.specs.Begins.{IsNew, Begins, Run, first_graph}
+use Rattle.step_core.specs.Begins.{IsNew, IsCalmOutside, Begins, Run, first_graph}
 use Rattle.step_core.proofs.Roots.{no_more_opening}
 use Rattle.shen_graph.proofs.PlainLemmas.{same_name-true}
 use Rattle.heap_world.proofs.NewObject.{all_alike}
@@ -240,15 +240,23 @@ first_stands c = record {
   no_more = no_more_opening c.mutators;
 }
 
+-- No pause is wanted, no machine is inside, and no mutator has ended.
+first_outside : (c : Config) → IsCalmOutside c (first_memory c)
+first_outside c = record {
+  pause = rooted_else c Pause (λ k. refl) c.mutators;
+  states = λ seat below. rooted_else c (State seat) (λ k. refl) c.mutators;
+  left = refl;
+}
+
 -- each machine of the opening is idle
 first_new : (c : Config) (k : ℕ) → k < seat_count c.mutators c.helpers → IsNew c (first_graph c) k (opening_actor c k)
 first_new c k within = by_test (nat_lt k c.mutators) (nat_lt k (c.mutators + c.helpers)) refl refl
   where
     by_test : (b d : Bool) → nat_lt k c.mutators ≡ b → nat_lt k (c.mutators + c.helpers) ≡ d
-        → IsNew c (first_graph c) k (record { machine = if b then mutating (fresh_mutator k) else (if d then fresh_helper else fresh_control); command = Gc; calls = [] })
+        → IsNew c (first_graph c) k (record { machine = if b then mutating (fresh_mutator k) else (if d then fresh_helper else fresh_control (first_free c.regions)); command = Gc; calls = [] })
     by_test true d is more = record { number_is = (refl, ltb-true _ _ is); idle = (refl, refl); calls = refl; valid = refl }
     by_test false true is more = record { number_is = (ltb-false _ _ is, ltb-true _ _ more); idle = tt; calls = refl; valid = refl }
-    by_test false false is more = record { number_is = (let past = ltb-false _ _ more in omega (arith, past, within)); idle = tt; calls = refl; valid = refl }
+    by_test false false is more = record { number_is = (let past = ltb-false _ _ more in omega (arith, past, within)); idle = (refl, refl); calls = refl; valid = refl }
 
 -- the opening begins its graph
 pub opening_begins : (c : Config) → Begins c (opening c) (first_graph c)
@@ -257,6 +265,7 @@ opening_begins c = record {
   words = length-opening c;
   seats = length-map-range_with_len (opening_actor c) 0 (seat_count c.mutators c.helpers);
   stands = subst (λ m. Represents c m (first_graph c) (λ t. nothing)) (sym (view-opening c)) (first_stands c);
+  outside = subst (λ m. IsCalmOutside c m) (sym (view-opening c)) (first_outside c);
   machines = λ k a there.
       let within = slice_get_within _ k a there in
       let count : length (opening c).machines ≡ seat_count c.mutators c.helpers = length-map-range_with_len (opening_actor c) 0 (seat_count c.mutators c.helpers) in

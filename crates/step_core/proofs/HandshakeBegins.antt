@@ -1,11 +1,9 @@
 -- The handshake and the count where runs begin.
-use Rattle.std.proofs.Common.{◌≡◌, ℕ, ◌+◌, ◌<◌, ◌≤◌, Bool, true, false, Option, Some, None, refl, sym, ap, ◌∙◌, arith}
-use Rattle.std.specs.Prelude.{length, slice_get}
+use Rattle.std.proofs.Common.{◌≡◌, ℕ, ◌<◌, ◌≤◌, true, false, refl, ap, arith}
 use Rattle.heap_words.specs.declared.config.Config.{Config}
-use Rattle.heap_words.specs.Ranges.{seat_count}
 use Rattle.steps_base.specs.Steps.{Stage}
 use Rattle.shen_graph.specs.Graph.{Graph}
-use Rattle.handshake.specs.Standing.{Standing, outside, idle, control_seat}
+use Rattle.handshake.specs.Standing.{outside, idle, control_seat}
 use Rattle.handshake.specs.Shaken.{IsShaken}
 use Rattle.handshake.specs.Left.{IsCounted}
 use Rattle.handshake.proofs.Beginnings.{shaken_begins, counted_begins, there_is}

@@ -2,12 +2,12 @@
 use Rattle.std.proofs.Common.{◌≡◌, ℕ, ◌+◌, ◌<◌, ◌≤◌, ⊎_elim, true, false, List, [], ◌∷◌, ◌++◌, length, Option, Some, None, refl, sym, ap, ◌∙◌, arith}
 use Rattle.std.specs.Prelude.{◌-◌, slice_index, slice_set, replicate, if◌then◌else◌}
 use Rattle.std.proofs.Math.Path.{fun_ext}
-use Rattle.std.proofs.lemmas.List.{get_or-set_other, get_or-append_right, get_or_append_left, length-set, length-replicate, set-get_or, length-append}
+use Rattle.std.proofs.lemmas.List.{get_or-set_other, get_or-append_right, get_or_append_left, length-replicate, set-get_or}
 use Rattle.std.proofs.Math.Seq.{get_or-append_seam}
 use Rattle.std.proofs.lemmas.Bool.{cases_Bool, cases_eq, cond-true, cond-false, false≢true, leb-true, leb-false}
 use Rattle.heap_words.specs.declared.config.Config.{Config}
 use Rattle.heap_words.specs.Access.{place_of, made_of}
-use Rattle.heap_words.specs.Words.{Word, is_word, is_image, same_word, word_at, view, write, image_start, table_words}
+use Rattle.heap_words.specs.Words.{Word, is_word, is_image, same_word, word_at, view, image_start, table_words}
 use Rattle.heap_words.proofs.Rows.{word_inside, is_image-word_at}
 use Rattle.heap_words.proofs.Stores.{same_word_true, is_word_true, view_word, view_set_all}
 use Rattle.heap_world.specs.Change.{image_view, image_words}

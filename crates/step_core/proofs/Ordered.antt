@@ -1,5 +1,5 @@
 -- Accesses of a mutator between two calls, under an order.
-use Rattle.std.proofs.Common.{◌≡◌, ℕ, ◌+◌, ◌<◌, true, refl, arith}
+use Rattle.std.proofs.Common.{◌≡◌, ℕ, ◌<◌, true, refl, arith}
 use Rattle.std.proofs.lemmas.Bool.{and_parts}
 use Rattle.std.proofs.lemmas.Bool.Decides.{nat_tests}
 use Rattle.heap_words.specs.declared.config.Config.{Config}
@@ -10,14 +10,8 @@ use Rattle.mutator.specs.declared.spot.Kept.{Kept}
 use Rattle.mutator.specs.declared.spot.Spot.{Spot}
 use Rattle.mutator.specs.declared.spot.Spot.TheVariants.{Rest, Ended, Gone}
 use Rattle.mutator.specs.Fit.{is_ready}
-use Rattle.mutator.specs.Orders.{takes_commands, takes_at}
+use Rattle.mutator.specs.Orders.{takes_at}
 use Rattle.mutator.specs.Rows.{touch_at}
-
--- a mutator can always begin a call
-pub rest_ready : (c : Config) (seat made : ℕ) (kept : Kept) (spot : Spot) → takes_commands spot ≡ true → seat < c.mutators → is_ready c seat made kept spot ≡ true
-rest_ready c seat made kept Rest takes below = grind (arith, nat_tests)
-rest_ready c seat made kept (Ended r) takes below = grind (arith, nat_tests)
-rest_ready c seat made kept _ takes below = absurd (cc (takes))
 
 -- its access is of a word of the table, whatever order it takes
 pub order_word : (c : Config) (seat made : ℕ) (kept : Kept) (order : Order) (spot : Spot) → seat < c.mutators → is_ready c seat made kept spot ≡ true → takes_at spot made order ≡ true → is_word c (touch_at c seat made kept order spot).word ≡ true

@@ -1,13 +1,13 @@
 -- The steps of the control outside the words of an image: it looks, stops the other machines, and lets them go.
-use Rattle.std.proofs.Common.{◌≡◌, ◌≢◌, ℕ, ◌+◌, ◌<◌, inl, Bool, true, false, List, [], ◌∷◌, ◌++◌, length, Option, Some, None, refl, sym, ap, ◌∙◌, subst, arith}
-use Rattle.std.specs.Prelude.{◌==◌, slice_index, slice_get, if◌then◌else◌}
+use Rattle.std.proofs.Common.{◌≡◌, ◌≢◌, ℕ, ◌+◌, inl, Bool, true, false, List, [], ◌++◌, length, Option, Some, None, refl, sym, ap, ◌∙◌, arith}
+use Rattle.std.specs.Prelude.{◌==◌, if◌then◌else◌}
 use Rattle.std.proofs.lemmas.Bool.{and_parts}
 use Rattle.std.proofs.lemmas.List.{append-nil}
 use Rattle.std.proofs.lemmas.List.Elements.{All-nil}
 use Rattle.std.proofs.lemmas.Bool.Decides.{nat_tests}
 use Rattle.heap_words.specs.declared.config.Config.{Config}
-use Rattle.heap_words.specs.Words.{Word, Pause, Left, End, Ask, Free, State, Answer, is_word, view, table_words}
-use Rattle.steps_base.specs.Touch.{Touch, touch, loads, stores, touched}
+use Rattle.heap_words.specs.Words.{Answer, is_word, view, table_words}
+use Rattle.steps_base.specs.Touch.{Touch, touched}
 use Rattle.shen_graph.specs.declared.command.Command.{Command}
 use Rattle.shen_graph.specs.Graph.{Graph}
 use Rattle.shen_graph.specs.History.{Entry, of_thread}
@@ -25,9 +25,9 @@ use Rattle.control_steps.proofs.Ready.{stays_ready}
 use Rattle.step_core.specs.Actor.{Machine, mutating, helping, controlling, Actor}
 use Rattle.step_core.specs.Settled.{stored_image, settled_by, control_number}
 use Rattle.step_core.specs.Threads.{IsSettled}
-use Rattle.step_core.proofs.Facts.{IsAim, IsControl, IsMachine, PromisedToMutators, Owes}
+use Rattle.step_core.proofs.Facts.{IsAim, IsMachine, PromisedToMutators, Owes}
 use Rattle.step_core.proofs.Images.{words_after, view-placed}
-use Rattle.step_core.proofs.Roles.{StaysWith, machine_stays}
+use Rattle.step_core.proofs.Roles.{machine_stays}
 
 -- another machine is no control
 pub no_other_control : (c : Config) (words : List ℕ) (u : World) (entries : List Entry) (k : ℕ) (b : Actor) (machine : Machine) → k ≢ control_number c → IsMachine c words u entries k b machine

@@ -1,7 +1,7 @@
 -- A mutator that looks for its answer while a pause writes its image back: it finds the word of the table, which may not be written yet.
-use Rattle.std.proofs.Common.{◌≡◌, ◌≢◌, ℕ, ◌+◌, ◌<◌, inl, inr, ⊎_elim, Bool, true, false, List, [], ◌∷◌, ◌++◌, length, Option, Some, None, refl, sym, ap, ◌∙◌, subst, arith}
-use Rattle.std.specs.Prelude.{◌==◌, slice_get, if◌then◌else◌}
-use Rattle.std.proofs.lemmas.Bool.{eqb-true, eqb-false}
+use Rattle.std.proofs.Common.{◌≡◌, ◌≢◌, ℕ, ◌+◌, ◌<◌, inl, inr, ⊎_elim, Bool, true, false, List, [], ◌++◌, Option, Some, None, refl, sym, ap, ◌∙◌, arith}
+use Rattle.std.specs.Prelude.{◌==◌, if◌then◌else◌}
+use Rattle.std.proofs.lemmas.Bool.{eqb-false}
 use Rattle.std.proofs.lemmas.Bool.Decides.{nat_tests}
 use Rattle.std.proofs.lemmas.List.{append-nil}
 use Rattle.std.proofs.lemmas.List.Elements.{All-nil}
@@ -23,9 +23,9 @@ use Rattle.heap_world.specs.World.{World, Plot, Shared}
 use Rattle.heap_world.proofs.Keeping.{rely_same}
 use Rattle.step_core.specs.Actor.{mutating, Actor, entries_of}
 use Rattle.step_core.specs.Settled.{mixed}
-use Rattle.step_core.specs.Stepped.{IsPolling, IsAnswered, Mine}
+use Rattle.step_core.specs.Stepped.{IsPolling, IsAnswered}
 use Rattle.step_core.specs.Threads.{IsSettled}
-use Rattle.step_core.proofs.Facts.{IsSeen, IsThread, IsMachine, PromisedToMutators, Owes}
+use Rattle.step_core.proofs.Facts.{IsSeen, IsThread, PromisedToMutators, Owes}
 use Rattle.step_core.proofs.Roles.{machine_stays}
 use Rattle.step_core.proofs.Spots.{mutator_at}
 

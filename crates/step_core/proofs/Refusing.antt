@@ -1,16 +1,14 @@
 -- A mutator that is refused: it waits for its answer, and the reply of its call is settled with it.
-use Rattle.std.proofs.Common.{◌≡◌, ℕ, ◌+◌, ◌<◌, inl, inr, false, Option, Some, None, refl, sym, ap, ◌∙◌, subst, arith}
+use Rattle.std.proofs.Common.{◌≡◌, ℕ, inl, inr, Some, None, refl, sym, subst, arith}
 use Rattle.heap_words.specs.declared.config.Config.{Config}
 use Rattle.heap_words.specs.Words.{Answer}
 use Rattle.shen_graph.specs.declared.command.Command.{Command}
-use Rattle.shen_graph.specs.declared.command.Command.TheVariants.{New}
 use Rattle.shen_graph.specs.declared.command.Reply.TheVariants.{Full}
 use Rattle.shen_graph.specs.Step.{IsNew}
 use Rattle.mutator.specs.declared.spot.Kept.{Kept}
 use Rattle.mutator.specs.declared.spot.Spot.{Spot}
 use Rattle.mutator.specs.declared.spot.Spot.TheVariants.{Entering, Waiting}
 use Rattle.mutator.specs.declared.spot.Entered.TheVariants.{Call, Waited}
-use Rattle.mutator.specs.declared.waits.WaitSpot.{WaitSpot}
 use Rattle.mutator.specs.declared.waits.WaitSpot.TheVariants as wait
 use Rattle.heap_world.specs.World.{World}
 use Rattle.heap_world.specs.Asking.{refused, IsAsked}

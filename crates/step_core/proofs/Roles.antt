@@ -1,11 +1,11 @@
 -- What holds of machines, by their roles: each lemma has one clause a role.
-use Rattle.std.proofs.Common.{◌≡◌, ◌≢◌, ℕ, ◌+◌, ◌<◌, ◌⊎◌, ⊎_elim, true, List, [], Option, Some, None, refl, sym, ap, ◌∙◌, subst, arith}
+use Rattle.std.proofs.Common.{◌≡◌, ℕ, ◌+◌, ◌<◌, ◌⊎◌, ⊎_elim, true, List, [], Option, Some, None, refl, sym, ap, ◌∙◌, subst, arith}
 use Rattle.std.specs.Prelude.{◌==◌, get_or, length, slice_get, if◌then◌else◌}
 use Rattle.std.proofs.lemmas.Option.{slice_get-get_or}
 use Rattle.std.proofs.Math.Path.{fun_ext}
 use Rattle.std.proofs.lemmas.List.{append-nil}
 use Rattle.heap_words.specs.declared.config.Config.{Config}
-use Rattle.heap_words.specs.Words.{Word, Root, Answer, view}
+use Rattle.heap_words.specs.Words.{Root, Answer, view}
 use Rattle.heap_words.specs.Ranges.{seat_count}
 use Rattle.shen_graph.specs.declared.command.Command.{Command}
 use Rattle.shen_graph.specs.declared.command.Command.TheVariants.{Gc}
@@ -22,8 +22,6 @@ use Rattle.mutator.specs.Rows.{Mutating}
 use Rattle.heap_world.specs.World.{World, hand, Points, Shared}
 use Rattle.heap_world.specs.Asking.{IsAsked, nothing}
 use Rattle.heap_world.specs.Rely.{Rely}
-use Rattle.control_steps.specs.declared.spot.ControlSpot.{ControlSpot}
-use Rattle.control_steps.specs.declared.spot.ControlSpot.TheVariants.{LookLeft}
 use Rattle.control_steps.specs.Rows.{Controlling}
 use Rattle.control_steps.specs.Ready.{is_ready}
 use Rattle.step_core.specs.Actor.{Machine, mutating, helping, controlling, Actor, fresh_helper}
@@ -31,7 +29,7 @@ use Rattle.step_core.specs.Machines.{HasNumber, IsIdle}
 use Rattle.step_core.specs.Stepped.{Mine}
 use Rattle.step_core.proofs.Facts.{IsSeen, IsShort, IsThread, IsAim, IsMachine, words_promised}
 use Rattle.step_core.proofs.Spots.{mutator_at}
-use Rattle.step_core.proofs.Ordered.{rest_ready}
+use Rattle.step_core.proofs.Ready.{rest_ready}
 use Rattle.step_core.proofs.Stable.{mine_stays}
 
 -- what counts of answers and of the graph is the same in two worlds

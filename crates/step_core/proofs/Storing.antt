@@ -1,6 +1,6 @@
 -- The step by which the control stores a word of the new image. Nothing that counts changes by it, and where the word says to a
 -- mutator that the heap is full, the reply of its call is settled.
-use Rattle.std.proofs.Common.{◌≡◌, ◌≢◌, ℕ, ◌+◌, ◌<◌, ◌≤◌, ◌⊎◌, inl, inr, ⊎_elim, Bool, true, false, List, [], ◌∷◌, ◌++◌, length, Option, Some, None, refl, sym, ap, ◌∙◌, subst, arith}
+use Rattle.std.proofs.Common.{◌≡◌, ◌≢◌, ℕ, ◌+◌, ◌<◌, inl, inr, ⊎_elim, Bool, true, false, List, [], ◌++◌, length, Option, Some, None, refl, sym, ap, ◌∙◌, subst, arith}
 use Rattle.std.specs.Prelude.{◌==◌, ◌-◌, ◌&&◌, nat_lt, slice_get, slice_index, slice_set, if◌then◌else◌}
 use Rattle.std.proofs.lemmas.Bool.{cases_eq, and_parts, eqb-true, ne_eqb, eq-eqb, and_from, cond-true, cond-false, false≢true, ltb-true, ltb-false, le-leb}
 use Rattle.std.proofs.lemmas.Option.{same_Some}
@@ -9,7 +9,7 @@ use Rattle.std.proofs.lemmas.List.Elements.{All-nil}
 use Rattle.heap_words.specs.declared.config.Config.{Config}
 use Rattle.heap_words.specs.Ranges.{seat_count}
 use Rattle.heap_words.specs.Rows.{name_of}
-use Rattle.heap_words.specs.Words.{Word, Answer, IsWord, is_image, word_at, same_word, view, write, image_start, table_words}
+use Rattle.heap_words.specs.Words.{Word, Answer, IsWord, is_image, word_at, view, write, image_start, table_words}
 use Rattle.heap_words.proofs.Named.{are_named}
 use Rattle.heap_words.proofs.Rows.{is_image-word_at}
 use Rattle.heap_words.proofs.Stores.{view_word, view_set_all, is_word_from}
@@ -25,18 +25,17 @@ use Rattle.control_steps.specs.declared.spot.ControlSpot.TheVariants.{StoreWord,
 use Rattle.control_steps.specs.Rows.{Controlling, control_next}
 use Rattle.control_steps.specs.Ready.{is_ready}
 use Rattle.control_steps.proofs.Ready.{stays_ready}
-use Rattle.step_core.specs.Actor.{Machine, mutating, helping, controlling, Actor, entries_of}
+use Rattle.step_core.specs.Actor.{mutating, controlling, Actor, entries_of}
 use Rattle.step_core.specs.Machines.{command_at, told_word}
 use Rattle.step_core.specs.Settled.{mixed, stored_image, settled_by, control_number}
 use Rattle.step_core.specs.Stepped.{Mine}
 use Rattle.step_core.specs.Threads.{IsSettled}
 use Rattle.step_core.proofs.Entries.{entries_settled, own_more, other_more}
-use Rattle.step_core.proofs.Facts.{IsSeen, IsThread, IsAim, IsMachine, AreRead, PromisedToMutators, Owes}
+use Rattle.step_core.proofs.Facts.{IsThread, IsAim, IsMachine, AreRead, PromisedToMutators, Owes}
 use Rattle.step_core.proofs.Images.{image_reads, mixed_whole, mixed_stored}
 use Rattle.step_core.proofs.Pauses.{no_other_control}
 use Rattle.step_core.proofs.Refusing.{refused_new, refused_mine}
 use Rattle.step_core.proofs.Roles.{machine_stays, mutator_there}
-use Rattle.step_core.proofs.Spots.{mutator_at}
 
 module _ (change : Change) (c : Config) (words : List ℕ) (block : Plot) (owner : ℕ → Option ℕ) (g : Graph) (past : List Entry) (machines : List Actor) (image : List ℕ) (index seen : ℕ) (command : Command) (calls : List Entry)
     (ready : is_ready c (StoreWord index) ≡ true) (long : length words ≡ table_words c) (image_long : length image ≡ image_words c) (read : AreRead c words image index)
@@ -98,7 +97,7 @@ module _ (change : Change) (c : Config) (words : List ℕ) (block : Plot) (owner
   abbrev name : Word
   name = name_of c at
 
-  name_is_word : IsWord c name
+  pub name_is_word : IsWord c name
   name_is_word = are_named.is_word c at inside
 
   name_at : word_at c name ≡ at
@@ -109,11 +108,11 @@ module _ (change : Change) (c : Config) (words : List ℕ) (block : Plot) (owner
   view_then = subst (λ k. view c (slice_set words k value) ≡ write (view c words) name value) name_at (view_set_all c words name value long name_is_word)
 
   -- what was there
-  view_raw : view c words name ≡ raw
+  pub view_raw : view c words name ≡ raw
   view_raw = view_word c words name name_is_word ∙ ap (λ k. slice_index words k) name_at
 
   -- what counts of the word is what is stored
-  now_is : mixed c words image name ≡ value
+  pub now_is : mixed c words image name ≡ value
   now_is =
       let in_image : is_image name ≡ true = is_image-word_at c name name_is_word ∙ (let place = name_at in le-leb _ _ (omega (arith, place))) in
       cond-true (is_image name) _ _ in_image

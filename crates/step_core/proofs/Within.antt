@@ -1,5 +1,5 @@
 -- Where a mutator goes on that is in the heap: it stays in the heap until it leaves, and accesses no word of the handshake.
-use Rattle.std.proofs.Common.{◌≡◌, ℕ, ◌+◌, Bool, true, false, refl}
+use Rattle.std.proofs.Common.{◌≡◌, ℕ, Bool, true, false, refl}
 use Rattle.std.specs.Prelude.{◌==◌, nat_lt, length, if◌then◌else◌}
 use Rattle.heap_words.specs.declared.config.Config.{Config}
 use Rattle.shen_graph.specs.declared.command.Command.{Command}
@@ -15,7 +15,7 @@ use Rattle.handshake.specs.Standing.{inside, is_within}
 use Rattle.handshake.proofs.Parts.{is_other}
 use Rattle.mutator.specs.declared.spot.Kept.{Kept}
 use Rattle.mutator.specs.declared.spot.Spot.{Spot}
-use Rattle.mutator.specs.declared.spot.Spot.TheVariants.{Rest, Ended, Entering, LoadPhase, LoadSet, Loading, OnField, OnNumber, Showing, StoreRoot, Making, AskCycle, Waiting, Leave, Gone}
+use Rattle.mutator.specs.declared.spot.Spot.TheVariants.{Entering, LoadPhase, LoadSet, Loading, OnField, OnNumber, Showing, StoreRoot, Making, AskCycle, Waiting, Leave}
 use Rattle.mutator.specs.declared.spot.Entered.{Entered}
 use Rattle.mutator.specs.declared.spot.Entered.TheVariants.{Call, Waited}
 use Rattle.mutator.specs.declared.loads.LoadSpot.TheVariants as load
@@ -26,7 +26,7 @@ use Rattle.mutator.specs.declared.makes.MakeSpot.TheVariants as make
 use Rattle.mutator.specs.declared.waits.WaitSpot.{WaitSpot}
 use Rattle.mutator.specs.declared.waits.WaitSpot.TheVariants as wait
 use Rattle.mutator.specs.Commands.{roots_of, lacks_object, has_part}
-use Rattle.mutator.specs.Rows.{Mutating, touch_at, first_spot, after_roots, after_first, after_root, with_part, after_take, take_next, next_at}
+use Rattle.mutator.specs.Rows.{Mutating, touch_at, first_spot, after_roots, after_first, with_part, after_take, take_next, next_at}
 use Rattle.mutator.specs.WaitRows.{after_enter}
 use Rattle.step_core.specs.Standing.{standing_at, wait_standing}
 

@@ -1,8 +1,6 @@
 -- Which words machines can go on from, by their roles.
-use Rattle.std.specs.Prelude.{ℕ, ◌≡◌, ◌+◌, ◌<◌, true, List, [], ◌∷◌, ◌++◌}
+use Rattle.std.specs.Prelude.{ℕ, ◌≡◌, ◌+◌, List, [], ◌∷◌, ◌++◌}
 use Rattle.heap_words.specs.declared.config.Config.{Config}
-use Rattle.heap_words.specs.Access.{place_of}
-use Rattle.heap_words.specs.Words.{table_words}
 use Rattle.shen_graph.specs.declared.order.Order.{Order}
 use Rattle.shen_graph.specs.Graph.{Graph}
 use Rattle.heap_world.specs.Asking.{Asking}
@@ -11,7 +9,6 @@ use Rattle.heap_world.specs.Change.{image_view, image_words}
 use Rattle.mutator.specs.Fit.{IsFit}
 use Rattle.control_steps.specs.declared.spot.ControlSpot.{ControlSpot}
 use Rattle.control_steps.specs.declared.spot.ControlSpot.TheVariants.{LoadWord}
-use Rattle.control_steps.specs.Rows.{Controlling}
 use Rattle.step_core.specs.Actor.{Machine, mutating, helping, controlling}
 
 -- an image stands for some graph, with the requests of some threads

@@ -31,7 +31,7 @@ use Rattle.mutator.specs.Told.{told_of}
 use Rattle.mutator.specs.Waits.{WaitsAt}
 use Rattle.control_steps.specs.declared.spot.ControlSpot.{ControlSpot}
 use Rattle.control_steps.specs.declared.spot.ControlSpot.TheVariants.{LookLeft, StoreWord}
-use Rattle.control_steps.specs.Rows.{Controlling, control_place, control_access, control_next, control_says, is_gone}
+use Rattle.control_steps.specs.Rows.{control_place, control_access, control_next, control_says, is_gone}
 use Rattle.control_steps.specs.Waits as control
 use Rattle.step_core.specs.Actor.{Machine, mutating, helping, controlling, Actor, entries_of, command_by}
 use Rattle.step_core.specs.Settled.{settled}

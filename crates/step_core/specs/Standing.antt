@@ -1,6 +1,4 @@
 -- Where the machines of a heap stand, as far as entering, leaving and stopping go.
-use Rattle.std.specs.Prelude.{ℕ}
-use Rattle.handshake.specs.declared.enter_spot.EnterSpot.{EnterSpot}
 use Rattle.handshake.specs.Standing.{Standing, outside, inside, leaves, idle, works, goes, enter_standing, stop_standing}
 use Rattle.mutator.specs.declared.spot.Spot.{Spot}
 use Rattle.mutator.specs.declared.spot.Spot.TheVariants.{Rest, Ended, Entering, Waiting, Leave, Gone}
