@@ -14,11 +14,25 @@ TOP = os.path.dirname(os.path.dirname(os.path.abspath(__file__)))
 PLACES = [os.path.join(TOP, "crates", "shenrun", "out", "shenrun"), os.path.join(TOP, "out", "shenrun")]
 PROGRAM = next((it for it in PLACES if os.access(it, os.X_OK)), None)
 
-# For each row of the table: the commands before the one that it is of, and the command.
+# For each row of the table: the commands before the one that it is of, and that command; the heap, where it is not one of eight
+# regions without a reserve. PAUSE among the commands before stands for the pause that a `gc` has asked for.
+PAUSE = "pause"
 RUNS = {
     ("`new`", "the thread has no current region yet"): ([], "new 1 1 2"),
     ("`new`", "its current region has room"): (["new 1 0 0"], "new 2 2 1"),
     ("`new`", "its current region has too little room"): (["new 1 16 16"], "new 2 16 16"),
+    ("`new`", "a pause makes the object; the thread has no current region"): ([], "new 1 16 16", "8 64 7"),
+    ("`new`", "a pause makes the object; its current region has too little room"): (["new 1 16 16"] * 3, "new 1 16 16", "4 64 0"),
+    ("`new`", "the answer is `full`; the thread has no current region"): (
+        [f"new {root} 16 16" for root in (1, 2, 3, 4)],
+        "new 5 16 16",
+        "4 64 0",
+    ),
+    ("`new`", "the answer is `full`; its current region has too little room"): (
+        ["new 1 16 16", "new 2 16 16", "gc", PAUSE, "new 3 16 16", "new 4 16 16"],
+        "new 5 16 16",
+        "4 64 0",
+    ),
     ("`get`", "the field has an object"): (["set 0 0 0"], "get 1 0 0"),
     ("`get`", "the field is null"): ([], "get 1 0 0"),
     ("`set`", ""): ([], "set 0 0 1"),
@@ -39,6 +53,10 @@ RUNS = {
 }
 
 
+# The steps of a `set` before the one that stores: E1 E2 PH CS RL RL SH.
+SET_BEFORE_STORE = 7
+
+
 def rows():
     """The rows of the table: command, where, places and steps, as they are written."""
     with open(os.path.join(TOP, "docs", "STEP_TABLE.md"), encoding="utf-8") as file:
@@ -50,14 +68,31 @@ def rows():
             yield cells
 
 
-def stands_at(before, command, number, code, steps):
-    """Whether the command, before its step of that number, stands at the place: then `n@code` makes no step. The steps that
-    are made after it leave a `set` one step before its store, and a second thread looks whether it was made."""
-    lines = [f"1 {it}" for it in [*before, command, "set 0 15 0"]] + ["2 get 1 0 15"]
-    items = [f"1={len(before)}"] * bool(before) + [f"1:{number - 1}"] * (number > 1)
-    items += [f"1@{code}", f"1:{steps - number + 6}", "2=1"]
-    trace = "\n".join(["shen 1", "heap 8 64 0", "threads 2 0", *lines, "! " + " ".join(items), ""])
-    ran = subprocess.run([PROGRAM, "replay"], input=trace.encode(), stdout=subprocess.PIPE)
+def replies(before):
+    """The items that make these commands and pauses."""
+    items, made = [], 0
+    for it in before:
+        made += it != PAUSE
+        items.append("3@P3 3@I0" if it == PAUSE else f"1={made}")
+    return items
+
+
+def stands_at(before, command, heap, codes, number):
+    """Whether the command, before its step of that number, stands at its place: then `n@code` makes no step. The steps that
+    are made after it leave a `set` one step before its store, and a second thread looks whether it was made. A command that
+    waits gets its pause when it stands at WP."""
+    lines = [f"1 {it}" for it in [*before, command, "set 0 15 0"] if it != PAUSE] + ["2 get 1 0 15"]
+    steps = [f"1:{it}" for it in (number - 1, len(codes) - number + SET_BEFORE_STORE + 1)]
+    steps.insert(1, f"1@{codes[number - 1]}")
+    if "WP" in codes:
+        waits = codes.index("WP")
+        if number > waits:
+            steps[0] = f"1:{waits} 3@P3 3@I0 1:{number - 1 - waits}"
+        else:
+            steps[2] = f"1:{waits - number + 1} 3@P3 3@I0 1:{len(codes) - waits + SET_BEFORE_STORE}"
+    items = [it for it in " ".join(replies(before) + steps).split() if it != "1:0"] + ["2=1"]
+    trace = "\n".join(["shen 1", f"heap {heap}", "threads 2 0", *lines, "! " + " ".join(items), ""])
+    ran = subprocess.run([PROGRAM, "replay", "--steps", "100000"], input=trace.encode(), stdout=subprocess.PIPE)
     return ran.returncode == 0 and b"\n2 -\n" in ran.stdout
 
 
@@ -72,7 +107,7 @@ def main():
             print(f"no run for the row {command}, {where}")
             failed += 1
             continue
-        before, line = RUNS[command, where]
+        before, line, heap = (*RUNS[command, where], "8 64 0")[:3]
         numbers = line.split()[2:]
         words = 3 + sum(map(int, numbers)) if line.startswith("new") else 0
         codes = places.replace(", IW for each word,", " IW" * words).split()
@@ -81,7 +116,7 @@ def main():
             print(f"{line}: {len(codes)} places, and {wanted} steps")
             failed += 1
         for number, code in enumerate(codes, 1):
-            if not stands_at(before, line, number, code, len(codes)):
+            if not stands_at(before, line, heap, codes, number):
                 print(f"{line}: step {number} is not at {code}")
                 failed += 1
     for row in RUNS.keys() - seen:
