@@ -53,10 +53,6 @@ RUNS = {
 }
 
 
-# The steps of a `set` before the one that stores: E1 E2 PH CS RL RL SH.
-SET_BEFORE_STORE = 7
-
-
 def rows():
     """The rows of the table: command, where, places and steps, as they are written."""
     with open(os.path.join(TOP, "docs", "STEP_TABLE.md"), encoding="utf-8") as file:
@@ -78,22 +74,35 @@ def replies(before):
 
 
 def stands_at(before, command, heap, codes, number):
-    """Whether the command, before its step of that number, stands at its place: then `n@code` makes no step. The steps that
-    are made after it leave a `set` one step before its store, and a second thread looks whether it was made. A command that
-    waits gets its pause when it stands at WP."""
-    lines = [f"1 {it}" for it in [*before, command, "set 0 15 0"] if it != PAUSE] + ["2 get 1 0 15"]
-    steps = [f"1:{it}" for it in (number - 1, len(codes) - number + SET_BEFORE_STORE + 1)]
-    steps.insert(1, f"1@{codes[number - 1]}")
-    if "WP" in codes:
-        waits = codes.index("WP")
-        if number > waits:
-            steps[0] = f"1:{waits} 3@P3 3@I0 1:{number - 1 - waits}"
-        else:
-            steps[2] = f"1:{waits - number + 1} 3@P3 3@I0 1:{len(codes) - waits + SET_BEFORE_STORE}"
-    items = [it for it in " ".join(replies(before) + steps).split() if it != "1:0"] + ["2=1"]
-    trace = "\n".join(["shen 1", f"heap {heap}", "threads 2 0", *lines, "! " + " ".join(items), ""])
-    ran = subprocess.run([PROGRAM, "replay", "--steps", "100000"], input=trace.encode(), stdout=subprocess.PIPE)
-    return ran.returncode == 0 and b"\n2 -\n" in ran.stdout
+    """Whether the command, before its step of that number, stands at its place: then `n@code` makes no step."""
+    made = [f"1:{number - 1}", f"1@{codes[number - 1]}"]
+    if "WP" not in codes:
+        return stops_before_store(before, command, heap, [*made, f"1:{len(codes) - number + 1}"])
+    waits = codes.index("WP")
+    if number <= waits:
+        return holds_the_pause(before, command, heap, [*made, f"1:{waits - number}"])
+    made = [f"1:{waits}", "3@P3", "3@I0", f"1:{number - 1 - waits}", *made[1:], f"1:{len(codes) - number + 1}"]
+    return stops_before_store(before, command, heap, made)
+
+
+def stops_before_store(before, command, heap, steps):
+    """Whether these steps are exactly those of the command: then the next seven leave a `set` before its store, and a second
+    thread finds nothing stored."""
+    answer = answer_to(heap, [*before, command, "set 0 15 0"], "get 1 0 15", [*replies(before), *steps, "1:7", "2=1"])
+    return b"\n2 -\n" in answer
+
+
+def holds_the_pause(before, command, heap, steps):
+    """Whether these steps leave the command at WO, before it steps out: then the control cannot make the pause that it wants, and
+    holds a second thread outside."""
+    items = [*replies(before), *steps, "3:2000", "2:9", f"1={len([it for it in before if it != PAUSE]) + 2}"]
+    return b"\n1 -\n2 ok\n" in answer_to(heap, [*before, command, "get 9 0 14"], "set 0 14 0", items)
+
+
+def answer_to(heap, first, second, items):
+    lines = [f"1 {it}" for it in first if it != PAUSE] + [f"2 {second}", "! " + " ".join(it for it in items if it != "1:0")]
+    trace = "\n".join(["shen 1", f"heap {heap}", "threads 2 0", *lines, ""])
+    return subprocess.run([PROGRAM, "replay", "--steps", "100000"], input=trace.encode(), stdout=subprocess.PIPE).stdout
 
 
 def main():
