@@ -20,4 +20,3 @@ words_seen _ image = []
 abbrev pub is_storing : ControlSpot → Bool
 is_storing (StoreWord index) = true
 is_storing _ = false
-
