@@ -16,10 +16,8 @@ use Rattle.shen_graph.specs.declared.order.Order.{Order}
 use Rattle.shen_graph.specs.declared.order.Order.TheVariants.{Nothing}
 use Rattle.steps_base.specs.Steps.{Stage}
 use Rattle.steps_base.proofs.Runs.{go-none}
-use Rattle.shen_graph.specs.declared.command.Command.TheVariants.{Gc}
 use Rattle.shen_graph.specs.Graph.{Graph}
 use Rattle.mutator.specs.Rows.{mutator_after}
-use Rattle.mutator.specs.Orders.{is_valid}
 use Rattle.pause_laws.specs.Image.{full_image}
 use Rattle.step_core.specs.Actor.{mutating, fresh_helper, fresh_control, Actor}
 use Rattle.step_core.specs.Actor as actors
