@@ -9,7 +9,7 @@ use Rattle.steps_base.specs.Steps.{Stage, Event, act, go}
 use Rattle.steps_base.proofs.Runs.{go-none, go-first, go-append}
 use Rattle.shen_graph.specs.declared.order.Order.{Order}
 use Rattle.step_core.specs.Actor.{Actor}
-use Rattle.step_core.specs.Machines.{kind, stands_in}
+use Rattle.step_core.specs.Machines.{kind}
 use Rattle.step_core.specs.Schedule.{Scripts, turn, waits_then, stands_at, given, given_of, Task, steps, until, replies, moves, move_of, control_after, Agenda, next, next_by, after_move, and_then, scheduled}
 use Rattle.shen_core.specs.declared.plain.Plain.{Plain}
 use Rattle.shen_core.specs.State.{config_of, words_of, machines_of, machine_at, seats_of, Shows}

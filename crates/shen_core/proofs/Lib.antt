@@ -8,3 +8,4 @@ pub mod Calls
 mod Rounds
 pub mod Fresh
 mod Graphs
+mod FromImage

@@ -3,3 +3,4 @@ pub mod State
 pub mod Progress
 pub mod Calls
 pub mod Ending
+pub mod FromImage

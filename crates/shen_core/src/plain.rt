@@ -1,12 +1,14 @@
 ghost use Rattle.std.specs.Prelude.{◌≡◌, ◌≤◌, length, map, All, vec_capacity};
 ghost use Rattle.heap_words.specs.Words.{table_words, heap_size};
 ghost use Rattle.heap_words.specs.Ranges.{seat_count};
-ghost use Rattle.heap_machines.specs.Shown.{shown, heap_of};
+ghost use Rattle.heap_machines.specs.Shown.{shown, order_of, heap_of};
 ghost use Rattle.shen_core.specs.Runs.{IsShownBySome};
 
+use crate::from_image::{machines_from, words_from};
 use heap_graph::write_graph;
 use heap_machines::{Machine, Stepped, open_machines};
 use heap_words::{Config, NoMemory, Place, heap_in, roots_in};
+use image_graph::Image;
 use shen_graph::{Command, GraphText, Reply, Work};
 use std::alloc::Global;
 use step_core::open_words;
@@ -36,7 +38,10 @@ impl Plain {
     ghost use Rattle.pause_laws.specs.Image.{full_image};
     ghost use Rattle.step_core.specs.Machines.{takes_of, stands_in, reply_in, place_in, is_resting, may_begin, made_of_machine, WaitsIn};
     ghost use Rattle.step_core.specs.Opening.{opening};
-    ghost use Rattle.step_core.specs.Begins.{Run, ending, graph_after};
+    ghost use Rattle.shen_graph.specs.Graph.{Graph};
+    ghost use Rattle.image_graph.specs.State as images;
+    ghost use Rattle.step_core.specs.Begins.{Begins, Run, ending, graph_after};
+    ghost use Rattle.shen_core.specs.FromImage.{CanBegin, stage_from};
     ghost use Rattle.heap_graph.specs.Shows as texts;
     ghost use Rattle.shen_core.specs.State.{config_of, words_of, machines_of, orders_of, order_at, seats_of, Shows, machine_at, has_turn, found_by, next_machine, IsStep, IsUnchanged};
     ghost use Rattle.heap_machines.specs.Answer.{says};
@@ -51,6 +56,42 @@ impl Plain {
     {
         let words = open_words(alloc, config)?;
         let machines = open_machines(alloc, config)?;
+        Plain::of(alloc, config, words, machines)
+    }
+
+    /// The heap of an image's words, before the first event. Each thread has made so many objects before as `counts` says, in
+    /// the order of the mutators. The words stand for a graph with these counts, nobody waits, no pause is wanted, no machine
+    /// is inside, and no mutator has ended; runs from here are runs from that graph.
+    pub fn open_from(alloc: Global, image: Image, counts: &[u32]) -> Result<Plain, NoMemory>
+        requires counts { length counts.now ≡ (images.config_of image).mutators }
+        requires begins { ∥ ((g : Graph) × CanBegin (images.config_of image) (images.memory_of image) counts.now g) ∥₁ }
+        ensures config { IfOk result (λ plain. config_of plain ≡ images.config_of image) }
+        ensures stage { IfOk result (λ plain. Shows plain (stage_from (images.config_of image) (images.words_of image) counts.now)) }
+        ensures begins { (g : Graph) → CanBegin (images.config_of image) (images.memory_of image) counts.now g → Begins (images.config_of image) (stage_from (images.config_of image) (images.words_of image) counts.now) g }
+        ensures orders { IfOk result (λ plain. All (λ order. order ≡ Nothing) (orders_of plain)) }
+    {
+        let config = image.config();
+        let words = words_from(alloc, &image)?;
+        let machines = machines_from(alloc, image, counts)?;
+        Plain::of(alloc, config, words, machines)
+    }
+
+    // The heap of these words and machines.
+    fn of(
+        alloc: Global,
+        config: Config,
+        words: Vec<u64>,
+        machines: Vec<Machine>,
+    ) -> Result<Plain, NoMemory>
+        requires words { length words.items ≡ table_words config }
+        requires machines { length machines.items ≡ seat_count config.mutators config.helpers }
+        requires heap { All (λ m. heap_of m ≡ config) machines.items }
+        requires reached { ∥ IsShownBySome config words.items (map shown machines.items) ∥₁ }
+        ensures config { IfOk result (λ plain. config_of plain ≡ config) }
+        ensures words { IfOk result (λ plain. words_of plain ≡ words.items) }
+        ensures machines { IfOk result (λ plain. machines_of plain ≡ map shown machines.items) }
+        ensures orders { IfOk result (λ plain. orders_of plain ≡ map order_of machines.items) }
+    {
         let Ok(marks) = vec![in alloc; false; config.heap_size()] else {
             return Err(NoMemory);
         };

@@ -1,0 +1,127 @@
+-- Heaps that begin from the words of an image.
+use Rattle.std.proofs.Common.{◌≡◌, ℕ, ◌+◌, ◌<◌, Bool, true, false, List, [], ◌∷◌, ◌++◌, length, map, Some, refl, sym, ap, ◌∙◌, subst, arith}
+use Rattle.std.specs.Prelude.{slice_get, slice_index, nat_lt, if◌then◌else◌, Result, Ok, Err, IfOk, All}
+use Rattle.std.specs.List.{range_with_len}
+use Rattle.std.proofs.Math.Logic.{∥∥₁_map}
+use Rattle.std.proofs.lemmas.Bool.{lt-ltb, le-ltb, ltb-true, ltb-false}
+use Rattle.std.proofs.lemmas.List.{map-append, length-map}
+use Rattle.std.proofs.lemmas.List.FromFn.{get_or-map-range_with_len, length-map-range_with_len, map-range_with_len_more}
+use Rattle.std.proofs.lemmas.Option.{slice_get_within, get_or_from_slice_get}
+use Rattle.std.proofs.lemmas.Simd.{map-map}
+use Rattle.heap_words.specs.declared.config.Config.{Config}
+use Rattle.heap_words.specs.Ranges.{seat_count}
+use Rattle.heap_words.specs.Words.{Free, view, table_words}
+use Rattle.heap_words.specs.declared.schedule.NoMemory.{NoMemory}
+use Rattle.shen_graph.specs.declared.order.Order.{Order}
+use Rattle.shen_graph.specs.declared.order.Order.TheVariants.{Nothing}
+use Rattle.steps_base.specs.Steps.{Stage}
+use Rattle.steps_base.proofs.Runs.{go-none}
+use Rattle.shen_graph.specs.Graph.{Graph}
+use Rattle.mutator.specs.Rows.{mutator_after}
+use Rattle.pause_laws.specs.Image.{full_image}
+use Rattle.step_core.specs.Actor.{mutating, fresh_helper, fresh_control, Actor}
+use Rattle.step_core.specs.Actor as actors
+use Rattle.step_core.specs.Machines.{kind, HasNumber, IsIdle}
+use Rattle.step_core.specs.Begins.{Begins, IsNew}
+use Rattle.heap_machines.specs.declared.machine.Machine.{Machine}
+use Rattle.heap_machines.specs.Shown.{shown}
+use Rattle.shen_core.specs.declared.plain.Plain.{Plain}
+use Rattle.shen_core.specs.State.{words_of, machines_of, orders_of}
+use Rattle.shen_core.specs.Runs.{Shows, IsShownBySome}
+use Rattle.shen_core.specs.FromImage.{machine_from, actor_from, stage_from, CanBegin}
+
+-- one machine more
+pub machines_more : (c : Config) (counts : List ℕ) (free : ℕ) (machines : List Machine) (new : Machine) (number : ℕ) → map shown machines ≡ map (machine_from c counts free) (range_with_len 0 number) → shown new ≡ machine_from c counts free number
+    → map shown (machines ++ new ∷ []) ≡ map (machine_from c counts free) (range_with_len 0 (number + 1))
+machines_more c counts free machines new number so_far is =
+    map-append shown machines (new ∷ []) ∙ ap (λ xs. xs ++ shown new ∷ []) so_far ∙ ap (λ x. map (machine_from c counts free) (range_with_len 0 number) ++ x ∷ []) is
+    ∙ sym (map-range_with_len_more (machine_from c counts free) 0 number number (omega arith))
+
+-- the machine of each role
+pub mutator_is : (c : Config) (counts : List ℕ) (free number : ℕ) → number < c.mutators → mutating (mutator_after number (slice_index counts number)) ≡ machine_from c counts free number
+mutator_is c counts free number below =
+    ap (λ b. if b then mutating (mutator_after number (slice_index counts number)) else (if nat_lt number (c.mutators + c.helpers) then fresh_helper else fresh_control free)) (sym (lt-ltb number c.mutators below))
+
+other_is : (c : Config) (counts : List ℕ) (free number : ℕ) (b : Bool) → nat_lt number c.mutators ≡ false → nat_lt number (c.mutators + c.helpers) ≡ b → (if b then fresh_helper else fresh_control free) ≡ machine_from c counts free number
+other_is c counts free number b none is =
+    ap (λ x. if x then fresh_helper else fresh_control free) (sym is)
+    ∙ ap (λ x. if x then mutating (mutator_after number (slice_index counts number)) else (if nat_lt number (c.mutators + c.helpers) then fresh_helper else fresh_control free)) (sym none)
+
+pub helper_is : (c : Config) (counts : List ℕ) (free number : ℕ) → (number < c.mutators → ⊥) → number < c.mutators + c.helpers → fresh_helper ≡ machine_from c counts free number
+helper_is c counts free number none below = other_is c counts free number true (le-ltb number c.mutators (omega arith)) (lt-ltb number (c.mutators + c.helpers) below)
+
+pub control_is : (c : Config) (counts : List ℕ) (free number : ℕ) → number ≡ c.mutators + c.helpers → fresh_control free ≡ machine_from c counts free number
+control_is c counts free number is = other_is c counts free number false (le-ltb number c.mutators (omega arith)) (le-ltb number (c.mutators + c.helpers) (omega arith))
+
+-- what memory keeps of the machines
+pub stage_machines : (c : Config) (words counts : List ℕ) → map (λ a. a.machine) (stage_from c words counts).machines ≡ map (machine_from c counts (view c words Free)) (range_with_len 0 (seat_count c.mutators c.helpers))
+unfolding stage_from
+stage_machines c words counts = map-map (λ a. a.machine) (actor_from c counts (view c words Free)) (range_with_len 0 (seat_count c.mutators c.helpers))
+
+-- how many there are
+pub stage_count : (c : Config) (words counts : List ℕ) → length (stage_from c words counts).machines ≡ seat_count c.mutators c.helpers
+unfolding stage_from
+stage_count c words counts = length-map-range_with_len (actor_from c counts (view c words Free)) 0 (seat_count c.mutators c.helpers)
+
+pub machines_count : (c : Config) (words counts : List ℕ) (machines : List Machine) → map shown machines ≡ map (machine_from c counts (view c words Free)) (range_with_len 0 (seat_count c.mutators c.helpers)) → length machines ≡ seat_count c.mutators c.helpers
+machines_count c words counts machines is = sym (length-map machines shown) ∙ ap length is ∙ length-map-range_with_len (machine_from c counts (view c words Free)) 0 (seat_count c.mutators c.helpers)
+
+-- the actor of a number
+stage_actor : (c : Config) (words counts : List ℕ) (k : ℕ) (a : Actor) → slice_get (stage_from c words counts).machines k ≡ Some a → (k < seat_count c.mutators c.helpers) × (actor_from c counts (view c words Free) k ≡ a)
+unfolding stage_from
+stage_actor c words counts k a here =
+    let made = actor_from c counts (view c words Free) in
+    let within = slice_get_within (stage_from c words counts).machines k a here in
+    let long = length-map-range_with_len made 0 (seat_count c.mutators c.helpers) in
+    let below : k < seat_count c.mutators c.helpers = omega (arith, within, long) in
+    (below, sym (get_or-map-range_with_len made 0 (seat_count c.mutators c.helpers) k k a below (omega arith)) ∙ get_or_from_slice_get (stage_from c words counts).machines k a a here)
+
+-- each machine is new
+machine_new : (c : Config) (counts : List ℕ) (free : ℕ) (g : Graph) → ((t : ℕ) → t < c.mutators → g.count (t + 1) ≡ slice_index counts t) → (k : ℕ) → k < seat_count c.mutators c.helpers
+    → HasNumber c k (machine_from c counts free k) × IsIdle g k (machine_from c counts free k)
+machine_new c counts free g count k below = by_role (nat_lt k c.mutators) refl (nat_lt k (c.mutators + c.helpers)) refl
+  where
+    by_role : (b : Bool) → nat_lt k c.mutators ≡ b → (d : Bool) → nat_lt k (c.mutators + c.helpers) ≡ d
+        → HasNumber c k (if b then mutating (mutator_after k (slice_index counts k)) else (if d then fresh_helper else fresh_control free))
+        × IsIdle g k (if b then mutating (mutator_after k (slice_index counts k)) else (if d then fresh_helper else fresh_control free))
+    by_role true is d other = let small : k < c.mutators = ltb-true k c.mutators is in ((refl, small), (count k small, refl))
+    by_role false is true other = ((ltb-false k c.mutators is, ltb-true k (c.mutators + c.helpers) other), tt)
+    by_role false is false other = ((let above = ltb-false k (c.mutators + c.helpers) other in omega arith), (refl, refl))
+
+-- the stage begins each graph with which the words can begin
+pub begins_from : (c : Config) (words counts : List ℕ) → length words ≡ table_words c → (g : Graph) → CanBegin c (view c words) counts g → Begins c (stage_from c words counts) g
+unfolding stage_from
+begins_from c words counts long g can = record {
+  words = long;
+  seats = stage_count c words counts;
+  stands = can.stands;
+  outside = can.outside;
+  machines = λ k a here.
+      let is = stage_actor c words counts k a here in
+      let new = machine_new c counts (view c words Free) g can.counts_are k is.0 in
+      subst (λ (x : Actor). IsNew c g k x) is.1 (record { number_is = new.0; idle = new.1; calls = refl; valid = refl });
+}
+
+-- memory shows the stage
+pub shows_from : (c : Config) (words counts held : List ℕ) (machines : List Machine) → held ≡ words → map shown machines ≡ map (machine_from c counts (view c words Free)) (range_with_len 0 (seat_count c.mutators c.helpers))
+    → Shows held (map shown machines) (stage_from c words counts)
+unfolding stage_from
+shows_from c words counts held machines words_are machines_are = record { words_are = sym words_are; machines_are = stage_machines c words counts ∙ sym machines_are }
+
+-- so some run has led there, of no event
+pub shown_from : (c : Config) (words counts held : List ℕ) (machines : List actors.Machine) → length words ≡ table_words c → Shows held machines (stage_from c words counts) → ∥ ((g : Graph) × CanBegin c (view c words) counts g) ∥₁
+    → ∥ IsShownBySome c held machines ∥₁
+shown_from c words counts held machines long shows some = ∥∥₁_map some (λ can. record {
+  run = record { start = stage_from c words counts; graph = can.0; begins = begins_from c words counts long can.0 can.1; events = [] };
+  shows = subst (λ s. Shows held machines s) (sym (go-none (kind full_image c) (stage_from c words counts))) shows;
+})
+
+-- what is known of a result that is a heap of words and machines
+pub opened_shows : (r : Result Plain NoMemory) (words : List ℕ) (machines : List actors.Machine) (s : Stage Actor) → IfOk r (λ p. words_of p ≡ words) → IfOk r (λ p. machines_of p ≡ machines) → Shows words machines s
+    → IfOk r (λ p. Shows (words_of p) (machines_of p) s)
+opened_shows (Ok p) words machines s words_are machines_are shows = record { words_are = shows.words_are ∙ sym words_are; machines_are = shows.machines_are ∙ sym machines_are }
+opened_shows (Err e) words machines s words_are machines_are shows = tt
+
+pub opened_orders : (r : Result Plain NoMemory) (orders : List Order) → IfOk r (λ p. orders_of p ≡ orders) → All (λ order. order ≡ Nothing) orders → IfOk r (λ p. All (λ order. order ≡ Nothing) (orders_of p))
+opened_orders (Ok p) orders is none = subst (λ os. All (λ order. order ≡ Nothing) os) (sym is) none
+opened_orders (Err e) orders is none = tt

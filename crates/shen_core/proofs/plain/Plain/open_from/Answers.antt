@@ -1,0 +1,37 @@
+use Rattle.std.proofs.Common.{◌≡◌, ap, sym, ◌∙◌, map, subst}
+use Rattle.std.proofs.lemmas.List.Elements.{All-map}
+use Rattle.heap_words.specs.Ranges.{seat_count}
+use Rattle.shen_graph.specs.declared.order.Order.TheVariants.{Nothing}
+use Rattle.heap_machines.specs.Shown.{shown, order_of}
+use Rattle.shen_core.specs.FromImage.{stage_from}
+use Rattle.shen_core.specs.Runs.{IsShownBySome}
+use Rattle.shen_core.proofs.FromImage.{machines_count, begins_from, shows_from, shown_from, opened_shows, opened_orders}
+use Rattle.shen_core.proofs.plain.Plain.open_from.Goals as goal
+
+pub returns-in_err-words-clause-begins : goal.returns-in_err-words-clause-begins
+returns-in_err-words-clause-begins c = begins_from c.args.image.config c.args.image.words.items c.args.counts.now c.args.image.all_words
+
+pub returns-in_err-machines-clause-begins : goal.returns-in_err-machines-clause-begins
+returns-in_err-machines-clause-begins c = begins_from c.args.image.config c.args.image.words.items c.args.counts.now c.args.image.all_words
+
+pub of-requires-clause-machines : goal.of-requires-clause-machines
+of-requires-clause-machines c =
+    machines_count c.args.image.config c.args.image.words.items c.args.counts.now c.in_ok-machines.machines.items c.in_ok-machines.ensures.machines
+    ∙ ap (λ k. seat_count k.mutators k.helpers) (sym c.config-config.ensures)
+
+pub of-requires-clause-reached : goal.of-requires-clause-reached
+of-requires-clause-reached c =
+    subst (λ k. ∥ IsShownBySome k c.in_ok-words.words.items (map shown c.in_ok-machines.machines.items) ∥₁) (sym c.config-config.ensures)
+    (shown_from c.args.image.config c.args.image.words.items c.args.counts.now c.in_ok-words.words.items (map shown c.in_ok-machines.machines.items) c.args.image.all_words
+    (shows_from c.args.image.config c.args.image.words.items c.args.counts.now c.in_ok-words.words.items c.in_ok-machines.machines.items c.in_ok-words.ensures c.in_ok-machines.ensures.machines) c.requires.begins)
+
+pub returns-clause-stage : goal.returns-clause-stage
+returns-clause-stage c =
+    opened_shows c.of.result c.in_ok-words.words.items (map shown c.in_ok-machines.machines.items) (stage_from c.args.image.config c.args.image.words.items c.args.counts.now) c.of.ensures.words c.of.ensures.machines
+    (shows_from c.args.image.config c.args.image.words.items c.args.counts.now c.in_ok-words.words.items c.in_ok-machines.machines.items c.in_ok-words.ensures c.in_ok-machines.ensures.machines)
+
+pub returns-clause-begins : goal.returns-clause-begins
+returns-clause-begins c = begins_from c.args.image.config c.args.image.words.items c.args.counts.now c.args.image.all_words
+
+pub returns-clause-orders : goal.returns-clause-orders
+returns-clause-orders c = opened_orders c.of.result (map order_of c.in_ok-machines.machines.items) c.of.ensures.orders (All-map (λ order. order ≡ Nothing) order_of c.in_ok-machines.machines.items c.in_ok-machines.ensures.orders)

@@ -1,0 +1,38 @@
+-- Heaps that begin from the words of an image, after some objects were made.
+use Rattle.std.specs.Prelude.{ℕ, ◌≡◌, ◌+◌, ◌<◌, List, [], map, nat_lt, slice_index, if◌then◌else◌}
+use Rattle.std.specs.List.{range_with_len}
+use Rattle.heap_words.specs.declared.config.Config.{Config}
+use Rattle.heap_words.specs.Ranges.{seat_count}
+use Rattle.heap_words.specs.Words.{Word, Free, view}
+use Rattle.steps_base.specs.Steps.{Stage}
+use Rattle.shen_graph.specs.declared.command.Command.TheVariants.{Gc}
+use Rattle.shen_graph.specs.Graph.{Graph}
+use Rattle.mutator.specs.Rows.{mutator_after}
+use Rattle.heap_world.specs.Asking.{nothing}
+use Rattle.heap_world.specs.Represents.{Represents}
+use Rattle.step_core.specs.Actor.{Machine, mutating, fresh_helper, fresh_control, Actor}
+use Rattle.step_core.specs.Begins.{IsCalmOutside}
+
+-- The machine of a number: the mutators come first, whose threads have made so many objects, then the helpers, then the control,
+-- which has seen this free word.
+abbrev pub machine_from : Config → List ℕ → ℕ → ℕ → Machine
+machine_from c counts free number =
+    if nat_lt number c.mutators then mutating (mutator_after number (slice_index counts number))
+    else (if nat_lt number (c.mutators + c.helpers) then fresh_helper else fresh_control free)
+
+abbrev pub actor_from : Config → List ℕ → ℕ → ℕ → Actor
+actor_from c counts free number = record { machine = machine_from c counts free number; command = Gc; calls = [] }
+
+-- the stage of these words, before the first event
+unfoldable pub stage_from : Config → List ℕ → List ℕ → Stage Actor
+stage_from c words counts = record {
+  words = words;
+  machines = map (actor_from c counts (view c words Free)) (range_with_len 0 (seat_count c.mutators c.helpers));
+}
+
+-- The words stand for the graph, in which the threads have made so many objects; nobody waits, no pause is wanted, no machine
+-- is inside, and no mutator has ended.
+pub record CanBegin (c : Config) (memory : Word → ℕ) (counts : List ℕ) (g : Graph) : Type 0 where
+  pub stands : Represents c memory g (λ t. nothing)
+  pub outside : IsCalmOutside c memory
+  pub counts_are : (t : ℕ) → t < c.mutators → g.count (t + 1) ≡ slice_index counts t
