@@ -63,13 +63,6 @@ none_here machines number m none here =
 pub machine_here : (machines : List Machine) (number : ℕ) (m : Machine) → slice_get machines number ≡ Some m → slice_index_or (map shown machines) number actors.fresh_helper ≡ shown m
 machine_here machines number m here = get_or_from_slice_get (map shown machines) number (shown m) actors.fresh_helper (shown_here machines number m here)
 
--- whether it has a turn
-pub turn_here : (machines : List Machine) (number : ℕ) (m : Machine) → slice_get machines number ≡ Some m
-    → takes_of (slice_index_or (map shown machines) number actors.fresh_helper) (slice_index_or (map order_of machines) number Nothing) ≡ has_turn m
-turn_here machines number m here =
-    ap (λ x. takes_of x (slice_index_or (map order_of machines) number Nothing)) (machine_here machines number m here)
-    ∙ ap (takes_of (shown m)) (order_here machines number m here)
-
 -- by what the code has read and done
 pub made_from : (config : Config) (words new_words : List ℕ) (machines : List Machine) (number : ℕ) (m n : Machine) (access : Access) (found : ℕ)
     → number < length machines → m ≡ get_or machines number m → All (λ x. heap_of x ≡ config) machines → has_turn m ≡ true → access ≡ plan_of (heap_of m) (order_of m) (shown m)

@@ -147,12 +147,6 @@ turned_from c scripts s number p jobs took.More moved = moved
 turned_from c scripts s number p jobs took.Again moved = moved
 turned_from c scripts s number p jobs took.Done moved = moved
 
--- a machine that makes a step does not say that it is idle
-pub never_idle : (said : Took) → stepped_of said ≡ stepped.Idle → ⊥
-never_idle took.More is = cc
-never_idle took.Again is = cc
-never_idle took.Done is = cc
-
 -- a step that ends a call says so
 done_of : (o : Option Took) → stepped_by o ≡ stepped.Done → o ≡ Some took.Done
 done_of None is = absurd cc

@@ -56,11 +56,6 @@ fit_shown c words machines number machine order some here takes = ∥∥₁_elim
     subst (λ x. IsFitFor c order (slice_index words (place_of (plan_of c order machine))) x) found.2
     (found_fit full_image full_is_pause c shown.run.start shown.run.graph shown.run.begins number found.0 order (slice_index words (place_of (plan_of c order machine))) finds))
 
--- a map of a map of an option
-map_of_map : {A B C : Type 0} (f : B → C) (g : A → B) (o : Option A) → option_map f (option_map g o) ≡ option_map (λ x. f (g x)) o
-map_of_map f g None = refl
-map_of_map f g (Some x) = refl
-
 -- the turn of an actor, by its machine
 pub actor_turn : (scripts : Scripts) (s : Stage Actor) (number : ℕ) (a : Actor) → slice_get s.machines number ≡ Some a → turn scripts s number ≡ option_map (λ order. event number order) (order_for (slice_get (script_of scripts number) (length a.calls)) a.machine)
 actor_turn scripts s number a here = ap (turn_of scripts number) here ∙ ap (option_map (λ order. event number order)) (order_of_script (script_of scripts number) a.calls a.machine)

@@ -94,12 +94,6 @@ mutator_of c k (mutating m) number below = (m, refl)
 mutator_of c k (helping h) number below = absurd (omega (arith, number.0, below))
 mutator_of c k (controlling h) number below = absurd (omega (arith, number, below))
 
--- and that of the control's number is the control
-pub control_of : (c : Config) (machine : Machine) → HasNumber c (c.mutators + c.helpers) machine → (k : Controlling) × (machine ≡ controlling k)
-control_of c (mutating m) number = absurd (omega (arith, number.1))
-control_of c (helping h) number = absurd (omega (arith, number.1))
-control_of c (controlling k) number = (k, refl)
-
 -- what a mutator counts on that takes commands
 rest_mine : (c : Config) (w : World) (seat made : ℕ) (kept : Kept) (command : Command) (spot : Spot) → takes_commands spot ≡ true → seat < c.mutators → w.graph.count (seat + 1) ≡ made
     → ((i : ℕ) → i < 16 → Points w.block (w.memory (Root seat i)) (w.graph.root (seat + 1) i)) → ((a words : ℕ) → w.block a ≡ Some (hand seat words) → ⊥)

@@ -1,6 +1,7 @@
 -- The theorem over every list of events.
-use Rattle.std.proofs.Common.{◌≡◌, ◌≢◌, ℕ, ◌+◌, ◌<◌, true, List, [], ◌++◌, Some, refl, sym, ap, ◌∙◌, subst, arith}
+use Rattle.std.proofs.Common.{◌≡◌, ◌≢◌, ℕ, ◌+◌, ◌<◌, true, false, List, [], ◌++◌, Some, refl, sym, ap, ◌∙◌, subst, arith}
 use Rattle.std.specs.Prelude.{slice_get, slice_index}
+use Rattle.std.proofs.lemmas.Option.{same_Some}
 use Rattle.heap_words.specs.declared.config.Config.{Config}
 use Rattle.heap_words.specs.Access.{place_of}
 use Rattle.heap_words.specs.Words.{Left, Answer, word_at, view, table_words}
@@ -17,7 +18,9 @@ use Rattle.shen_graph.specs.declared.order.Order.TheVariants.{Nothing, Begin, En
 use Rattle.shen_graph.specs.Graph.{Graph}
 use Rattle.shen_graph.specs.Crowd.{AreCrowded}
 use Rattle.shen_graph.specs.History.{Entry, after, of_thread}
+use Rattle.handshake.specs.Standing.{is_within, is_pausing}
 use Rattle.handshake.proofs.Counting.{left_some}
+use Rattle.handshake.proofs.Still.{pause_empty}
 use Rattle.mutator.specs.declared.spot.Kept.{Kept}
 use Rattle.mutator.specs.declared.spot.Spot.{Spot}
 use Rattle.mutator.specs.declared.spot.Spot.TheVariants.{Rest, Ended, Making}
@@ -39,7 +42,8 @@ use Rattle.step_core.specs.Begun.{begun}
 use Rattle.step_core.specs.Fit.{IsFitFor, IsWhole}
 use Rattle.step_core.specs.History.{told, history}
 use Rattle.step_core.specs.Machines.{takes_of, plan_of, took_of, machine_after, kind}
-use Rattle.step_core.specs.Settled.{settled}
+use Rattle.step_core.specs.Pausing.{IsInPause, IsEmpty}
+use Rattle.step_core.specs.Settled.{settled, control_number}
 use Rattle.step_core.specs.Sound.{world_of, IsMutator, IsOfHeap, FindsFit, IsSound}
 use Rattle.step_core.specs.Stepped.{SpotFacts}
 use Rattle.step_core.proofs.Adapter.{gives_settled}
@@ -50,9 +54,11 @@ use Rattle.step_core.proofs.FirstFacts.{opening_run}
 use Rattle.step_core.proofs.Images.{found-placed}
 use Rattle.step_core.proofs.ControlEvents.{whole_stands}
 use Rattle.step_core.proofs.Induction.{Goes, goes_event, goes_run}
-use Rattle.step_core.proofs.MachinesObey.{is_left}
+use Rattle.step_core.proofs.MachinesObey.{standing, is_left}
 use Rattle.step_core.proofs.MutatorObeys.{has_not_ended}
 use Rattle.step_core.proofs.Ordered.{order_word}
+use Rattle.step_core.proofs.Outside.{outside_touch}
+use Rattle.step_core.specs.Standing.{standing_at, standing_of}
 use Rattle.step_core.proofs.Replies.{unsettled_at_rest, unsettled_before, settled_after}
 use Rattle.step_core.proofs.Requests.{has_asked}
 use Rattle.step_core.proofs.Roles.{number_of, mutator_of, machine_there}
@@ -219,6 +225,24 @@ module _ (change : Change) (law : IsPause change) (c : Config) (g : Graph) (s : 
       let thread = thread_of number a m here in
       (subst (λ spot. SpotFacts c the_world m.seat m.made m.kept a.command thread.fixed spot) at thread.mine.facts).1
 
+-- In a pause no mutator is in the heap, and each leaves the image alone.
+pause_is_empty : (change : Change) → IsPause change → (c : Config) (g : Graph) (s : Stage Actor) (h : List Entry) → Goes c g s h → IsInPause c s → IsEmpty c s
+pause_is_empty change law c g s h goes pause = record {
+  nobody = out;
+  only_polls = λ number a m order here takes. outside_touch c m.seat m.made m.kept order m.spot (out number a m here) takes;
+}
+  where
+    pausing : is_pausing (standing goes.shaken.control) ≡ true
+    pausing =
+        let same : goes.shaken.control ≡ pause.actor = same_Some goes.shaken.control pause.actor (sym goes.shaken.there ∙ pause.here) in
+        ap is_pausing (ap standing same ∙ ap standing_of pause.is) ∙ pause.pausing
+
+    out : (number : ℕ) (a : Actor) (m : Mutating) → IsMutator s number a m → is_within (standing_at m.spot) ≡ false
+    out number a m here =
+        let thread = thread_of change law c g s h goes number a m here in
+        let below : number < control_number c = (let less = subst (λ k. k < c.mutators) thread.number_is thread.mine.seated.below in omega (arith, less)) in
+        ap (λ machine. is_within (standing_of machine)) (sym here.is) ∙ pause_empty c standing s goes.shaken pausing number a below here.here
+
 module _ (change : Change) (law : IsPause change) (c : Config) (s : Stage Actor) (g : Graph) (begins : Begins c s g) where
   -- in each stage that events lead to all goes as it should
   goes_all : (events : List (Event Order)) → Goes c g (go (kind change c) s events) (history change c s events)
@@ -227,6 +251,10 @@ module _ (change : Change) (law : IsPause change) (c : Config) (s : Stage Actor)
   -- and it is sound
   pub every_run : (events : List (Event Order)) → IsSound c g (go (kind change c) s events) (history change c s events)
   every_run events = sound change law c g (go (kind change c) s events) (history change c s events) (goes_all events) (run_crowded change law c s g begins events)
+
+  -- in a pause no mutator is in the heap
+  pub run_pauses : (events : List (Event Order)) → IsInPause c (go (kind change c) s events) → IsEmpty c (go (kind change c) s events)
+  run_pauses events = pause_is_empty change law c g (go (kind change c) s events) (history change c s events) (goes_all events)
 
   -- a machine that is reached makes an access of the table
   pub reached_inside : (number : ℕ) (a : Actor) (order : Order) → HasReached (kind change c) s number a → takes_of a.machine order ≡ true → place_of (plan_of c order a.machine) < table_words c

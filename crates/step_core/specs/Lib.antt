@@ -11,4 +11,5 @@ pub mod Fit
 pub mod Begun
 pub mod Begins
 pub mod Sound
+pub mod Pausing
 pub mod Schedule

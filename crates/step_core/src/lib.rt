@@ -24,6 +24,7 @@ ghost use Rattle.step_core.specs.Settled.{settled};
 ghost use Rattle.step_core.specs.History.{history};
 ghost use Rattle.step_core.specs.Opening.{opening};
 ghost use Rattle.step_core.specs.Begins.{Begins, first_graph};
+ghost use Rattle.step_core.specs.Pausing.{IsInPause, IsEmpty};
 ghost use Rattle.step_core.specs.Sound.{IsMutator, IsSound};
 
 pub use opening::{first_free, open_words};
@@ -50,6 +51,12 @@ pub fn accesses_are_inside()
 /// A law: a word that a machine finds after some steps is fit.
 pub fn found_words_are_fit()
     ensures { (change : Change) → IsPause change → (c : Config) (s : Stage Actor) (g : Graph) → Begins c s g → (number : ℕ) (a : Actor) (order : Order) (told : ℕ) → Finds (kind change c) s number a order told → IsFitFor c order told a.machine }
+{}
+
+/// A law: in a pause, from the control's last check to its end, no mutator is in the heap, and none makes an access to a word
+/// that the pause may change, but to look for its answer.
+pub fn pauses_are_empty()
+    ensures { (change : Change) → IsPause change → (c : Config) (s : Stage Actor) (g : Graph) → Begins c s g → (events : List (Event Order)) → IsInPause c (go (kind change c) s events) → IsEmpty c (go (kind change c) s events) }
 {}
 
 /// A law: a mutator that is about to look for a free region has a current region with less room than it wants, or none.

@@ -1,0 +1,5 @@
+use Rattle.step_core.proofs.Theorem.{run_pauses}
+use Rattle.step_core.proofs.pauses_are_empty.Goals as goal
+
+pub returns : goal.returns
+returns c = run_pauses

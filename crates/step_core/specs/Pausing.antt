@@ -1,0 +1,31 @@
+-- What a pause may count on, whatever the machines were doing when it was wanted.
+use Rattle.std.specs.Prelude.{ℕ, ◌≡◌, ◌⊎◌, true, false, Some, slice_get}
+use Rattle.heap_words.specs.declared.config.Config.{Config}
+use Rattle.heap_words.specs.Words.{is_image}
+use Rattle.steps_base.specs.Steps.{Stage}
+use Rattle.shen_graph.specs.declared.order.Order.{Order}
+use Rattle.handshake.specs.Standing.{is_within, is_pausing}
+use Rattle.mutator.specs.declared.spot.Spot.TheVariants.{Waiting}
+use Rattle.mutator.specs.declared.waits.WaitSpot.TheVariants as wait
+use Rattle.mutator.specs.Orders.{takes_at}
+use Rattle.mutator.specs.Rows.{Mutating, touch_of}
+use Rattle.control_steps.specs.Rows.{Controlling}
+use Rattle.step_core.specs.Actor.{controlling, Actor}
+use Rattle.step_core.specs.Settled.{control_number}
+use Rattle.step_core.specs.Sound.{IsMutator}
+use Rattle.step_core.specs.Standing.{standing_at, control_standing}
+
+-- the control works in a pause, or has done so and not ended it yet: it is behind its last check, and has not let the others go on
+pub record IsInPause (c : Config) (s : Stage Actor) : Type 0 where
+  pub actor : Actor
+  pub control : Controlling
+  pub here : slice_get s.machines (control_number c) ≡ Some actor
+  pub is : actor.machine ≡ controlling control
+  pub pausing : is_pausing (control_standing control.spot) ≡ true
+
+-- No mutator is in the heap, where calls load the phase and do their work until they leave: each is between two calls, enters, or
+-- waits for an object. And none makes an access to a word of the image, but one that waits looks for its answer.
+pub record IsEmpty (c : Config) (s : Stage Actor) : Type 0 where
+  pub nobody : (number : ℕ) (a : Actor) (m : Mutating) → IsMutator s number a m → is_within (standing_at m.spot) ≡ false
+  pub only_polls : (number : ℕ) (a : Actor) (m : Mutating) (order : Order) → IsMutator s number a m → takes_at m.spot m.made order ≡ true
+      → (is_image (touch_of c m order).word ≡ false) ⊎ (m.spot ≡ Waiting wait.Poll)
