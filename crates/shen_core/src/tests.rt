@@ -4,13 +4,17 @@ ghost use Rattle.shen_graph.specs.Work.{HasScript};
 ghost use Rattle.shen_core.specs.Progress.{CanRun, IsRunnable};
 ghost use Rattle.heap_words.specs.Words.{heap_size};
 ghost use Rattle.shen_core.specs.State.{config_of, seats_of, machine_at};
+ghost use Rattle.image_graph.specs.State as images;
+ghost use Rattle.step_core.specs.Opening.{opening_words};
 ghost use Rattle.step_core.specs.Machines.{may_begin, made_of_machine, reply_in};
 
 use crate::{Plain, Ran, Stepped};
 use heap_words::{Config, Item, Place, Schedule};
+use image_graph::Image;
 use shen_graph::{Command, GraphText, Name, Reply, Script, Work};
 use std::alloc::Global;
 use std::test::Fail;
+use step_core::open_words;
 
 // A script of those of these commands that are in range.
 fn script(alloc: Global, commands: &[Command]) -> Result<Script, Fail>
@@ -354,5 +358,39 @@ fn a_call_step_by_step(rt: HostRuntime) -> Result<(), Fail> {
     assert!(rt; call(&mut plain, 0, Command::Gc, 6) == Some(Reply::Ok));
     assert_eq!(rt; plain.word(config.ask_at()), 1);
     assert!(rt; plain.place(0) == None);
+    Ok(())
+}
+
+// The image of a heap's words as it begins.
+fn opening_image(alloc: Global, config: Config) -> Result<Image, Fail>
+    ensures config { IfOk result (λ image. images.config_of image ≡ config) }
+    ensures words { IfOk result (λ image. images.words_of image ≡ opening_words config) }
+{
+    let words = open_words(alloc, config)?;
+    let mut image = Image::open(alloc, config)?;
+    for at in 0..config.table_words() {
+        image.set_word(at, words[at]);
+    }
+    Ok(image)
+}
+
+// A heap from such an image, whose first mutator may be given a command.
+fn resumed(alloc: Global, config: Config) -> Result<Plain, Fail>
+    requires { config.mutators ≡ 1 }
+    ensures config { IfOk result (λ plain. config_of plain ≡ config) }
+    ensures rest { IfOk result (λ plain. may_begin (machine_at plain 0) ≡ true) }
+    ensures made { IfOk result (λ plain. made_of_machine (machine_at plain 0) ≡ 0) }
+{
+    let image = opening_image(alloc, config)?;
+    let plain = Plain::open_from(alloc, image, &[0])?;
+    Ok(plain)
+}
+
+// A heap goes on from the words of an image.
+#[test]
+fn goes_on_from_an_image(rt: HostRuntime) -> Result<(), Fail> {
+    let config = Config::new(4, 64, 1, 0, 0)?;
+    let mut plain = resumed(rt.alloc(), config)?;
+    assert!(rt; call(&mut plain, 0, MAKE, 100) == Some(Reply::Ref(name(1))));
     Ok(())
 }
