@@ -1,9 +1,9 @@
 -- Words from which machines can go on.
-use Rattle.std.proofs.Common.{◌≡◌, ℕ, ◌+◌, List, [], ◌∷◌, ◌++◌}
+use Rattle.std.proofs.Common.{ℕ, List, [], ◌∷◌, ◌++◌}
 use Rattle.std.proofs.Math.Bool.{Bool-set}
 use Rattle.std.proofs.Math.Logic.{∥∥₁_elim}
 use Rattle.heap_words.specs.declared.config.Config.{Config}
-use Rattle.heap_world.specs.Change.{image_view, image_words}
+use Rattle.heap_world.specs.Change.{image_view}
 use Rattle.shen_graph.specs.declared.order.Order.{Order}
 use Rattle.shen_graph.specs.declared.order.Order.TheVariants.{Nothing, Begin, End}
 use Rattle.mutator.specs.Fit.{EndsFit}
@@ -13,7 +13,7 @@ use Rattle.control_steps.specs.declared.spot.ControlSpot.TheVariants.{LoadWord}
 use Rattle.control.specs.Fit.{holds_with}
 use Rattle.pause_laws.proofs.Pauses.{representing_holds}
 use Rattle.step_core.specs.Actor.{Machine, mutating, helping, controlling}
-use Rattle.step_core.specs.Fit.{StandsForSome, IsWhole, IsFitFor}
+use Rattle.step_core.specs.Fit.{IsWhole, IsFitFor}
 
 whole_is_prop : (c : Config) (spot : ControlSpot) (image : List ℕ) (got : ℕ) → IsProp (IsWhole c spot image got)
 whole_is_prop c (LoadWord index) image got = hlevel

@@ -31,7 +31,7 @@ use Rattle.mutator.specs.declared.waits.WaitSpot.TheVariants as wait
 use Rattle.mutator.specs.Commands.{roots_of, lacks_object, has_part}
 use Rattle.mutator.specs.Orders.{is_between_calls}
 use Rattle.mutator.specs.WaitRows.{after_enter, wait_next}
-use Rattle.mutator.specs.Rows.{Mutating, given_at, next_at, first_spot, after_roots, after_first, after_second, after_root, on_number, with_part, after_shape, after_expected, after_take, take_next, load_next, field_next, number_next, show_next, make_next}
+use Rattle.mutator.specs.Rows.{Mutating, given_at, next_at, first_spot, after_roots, after_first, after_second, after_root, on_number, with_part, after_shape, after_take, take_next, load_next, field_next, number_next, show_next, make_next}
 
 -- a call is in progress
 abbrev InCall : Spot → Type 0

@@ -2,7 +2,7 @@
 use Rattle.std.specs.Prelude.{Bool, true, false, Option, None}
 use Rattle.shen_graph.specs.declared.command.Reply.{Reply}
 use Rattle.mutator.specs.Rows.{given_at}
-use Rattle.step_core.specs.Actor.{Machine, mutating, helping, controlling}
+use Rattle.step_core.specs.Actor.{Machine, mutating}
 
 -- whether it is a mutator
 abbrev pub is_mutating : Machine → Bool

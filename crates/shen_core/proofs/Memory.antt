@@ -17,7 +17,7 @@ use Rattle.heap_machines.specs.declared.machine.Machine.{Machine}
 use Rattle.heap_machines.specs.Shown.{shown, order_of, heap_of, has_turn}
 use Rattle.heap_machines.proofs.Openings.{first_machines, first_count}
 use Rattle.step_core.specs.Actor as actors
-use Rattle.step_core.specs.Machines.{takes_of, plan_of, machine_after, kind}
+use Rattle.step_core.specs.Machines.{plan_of, machine_after, kind}
 use Rattle.step_core.specs.Opening.{opening_words, opening_machine, opening}
 use Rattle.step_core.proofs.FirstFacts.{opening_run}
 use Rattle.steps_base.specs.Steps.{accessed}

@@ -42,9 +42,11 @@ first_of c words machines is one =
 pub open_from-requires-clause-begins : goal.open_from-requires-clause-begins
 open_from-requires-clause-begins c =
     let config_is : c.args.config ≡ images.config_of c.in_ok-image.image = sym c.in_ok-image.ensures.config in
-    ∣ (first_graph c.args.config,
+    ∣ (
+      first_graph c.args.config,
       subst (λ k. CanBegin k (view k (images.words_of c.in_ok-image.image)) (0 ∷ []) (first_graph c.args.config)) config_is
-      (subst (λ ws. CanBegin c.args.config (view c.args.config ws) (0 ∷ []) (first_graph c.args.config)) (sym c.in_ok-image.ensures.words) (opening_can_begin c.args.config c.requires))) ∣₁
+          (subst (λ ws. CanBegin c.args.config (view c.args.config ws) (0 ∷ []) (first_graph c.args.config)) (sym c.in_ok-image.ensures.words) (opening_can_begin c.args.config c.requires)),
+    ) ∣₁
 
 pub returns-clause-rest : goal.returns-clause-rest
 returns-clause-rest c =
