@@ -1,0 +1,29 @@
+-- What the machines of a heap do as a kind. Nothing else here opens a definition of the core.
+use Rattle.std.proofs.Common.{◌≡◌, ℕ, refl}
+use Rattle.heap_words.specs.declared.access.Access.{Access}
+use Rattle.heap_words.specs.declared.config.Config.{Config}
+use Rattle.shen_graph.specs.declared.order.Order.{Order}
+use Rattle.steps_base.specs.Steps.{Finds}
+use Rattle.step_core.specs.Actor.{Actor}
+use Rattle.step_core.specs.Begins.{first_graph}
+use Rattle.step_core.specs.Machines.{takes_of, plan_of, took_of, IsFitIn, kind}
+use Rattle.step_core.specs.Opening.{opening}
+use Rattle.step_core.proofs.FirstFacts.{opening_begins}
+use Rattle.step_core.proofs.Theorem.{found_fit}
+use Rattle.table_heap.specs.Core.{heap_kind, heap_opening}
+
+pub kind_takes : (c : Config) (a : Actor) (order : Order) → (heap_kind c).takes a order ≡ takes_of a.machine order
+unfolding kind
+kind_takes c a order = refl
+
+pub kind_plan : (c : Config) (a : Actor) (order : Order) → (heap_kind c).plan a order ≡ plan_of c a.machine
+unfolding kind
+kind_plan c a order = refl
+
+pub kind_took : (c : Config) (a : Actor) (order : Order) (got : ℕ) → (heap_kind c).took a order got ≡ took_of c a order got a.machine
+unfolding kind
+kind_took c a order got = refl
+
+-- a word that a machine finds after some events is fit
+pub found_fits : (c : Config) (number : ℕ) (a : Actor) (order : Order) (told : ℕ) → Finds (heap_kind c) (heap_opening c) number a order told → IsFitIn c order told a.machine
+found_fits c number a order told finds = found_fit c (opening c) (first_graph c) (opening_begins c) number a order told finds

@@ -1,0 +1,4 @@
+pub mod Core
+pub mod Places
+pub mod Said
+pub mod Stepping
