@@ -7,7 +7,7 @@ use Rattle.steps_base.specs.Steps.{Finds}
 use Rattle.step_core.specs.Actor.{Actor}
 use Rattle.step_core.specs.Begins.{first_graph}
 use Rattle.step_core.specs.Machines.{takes_of, plan_of, took_of, IsFitIn, kind}
-use Rattle.step_core.specs.Opening.{opening}
+use Rattle.step_core.specs.Opening.{opening_words, opening}
 use Rattle.step_core.proofs.FirstFacts.{opening_begins}
 use Rattle.step_core.proofs.Theorem.{found_fit}
 use Rattle.table_heap.specs.Core.{heap_kind, heap_opening}
@@ -27,3 +27,8 @@ kind_took c a order got = refl
 -- a word that a machine finds after some events is fit
 pub found_fits : (c : Config) (number : ℕ) (a : Actor) (order : Order) (told : ℕ) → Finds (heap_kind c) (heap_opening c) number a order told → IsFitIn c order told a.machine
 found_fits c number a order told finds = found_fit c (opening c) (first_graph c) (opening_begins c) number a order told finds
+
+-- the words of the opening
+pub first_words : (c : Config) → (heap_opening c).words ≡ opening_words c
+unfolding opening
+first_words c = refl

@@ -2,3 +2,4 @@ pub mod Core
 pub mod Places
 pub mod Said
 pub mod Stepping
+pub mod Opened

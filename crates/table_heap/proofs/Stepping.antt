@@ -8,10 +8,10 @@ use Rattle.heap_words.specs.declared.access.Access.{Access}
 use Rattle.heap_words.specs.declared.config.Config.{Config}
 use Rattle.shen_graph.specs.declared.order.Order.{Order}
 use Rattle.shared_steps.specs.Rule.{Took}
-use Rattle.shared_steps.specs.Views.{View, machine_of, kept_of, merged, one_of, SameNumbers}
+use Rattle.shared_steps.specs.Views.{View, machine_of, kept_of, picked, merged, one_of, SameNumbers}
 use Rattle.shared_steps.proofs.Kept.{kept_can, kept_finds, kept_step, kept-set}
 use Rattle.shared_steps.proofs.Numbers.{same_step}
-use Rattle.shared_steps.proofs.Shown.{machine_of-set, machine_of-merged}
+use Rattle.shared_steps.proofs.Shown.{machine_of-set, machine_of-picked, machine_of-merged}
 use Rattle.heap_machines.specs.declared.machine.Machine.{Machine}
 use Rattle.heap_machines.specs.Shown.{shown, order_of, heap_of, has_turn}
 use Rattle.heap_machines.proofs.Turns.{role_stays}
@@ -88,6 +88,14 @@ heap_put c items number m n here heap role are k x there = by_number (k == numbe
         let old = are number m here in
         subst (λ y. IsOfHeap c k y) new (subst (λ j. IsOfHeap c j n) (sym same) (record { heap = heap ∙ old.heap; role = role ∙ old.role }))
     by_number false is found = are k x (rw is at found)
+
+-- so are some of its machines
+pub heap_picked : (c : Config) (test : ℕ → Bool) (v : View Machine) → AreOfHeap c v → AreOfHeap c (picked test v)
+heap_picked c test v are k x there = by_test (test k) (sym (machine_of-picked test v k) ∙ there)
+  where
+    by_test : (b : Bool) → (if b then machine_of v k else None) ≡ Some x → IsOfHeap c k x
+    by_test true found = are k x found
+    by_test false found = absurd cc
 
 -- the machines of two bundles of a heap are of it
 pub heap_merged : (c : Config) (v w : View Machine) → AreOfHeap c v → AreOfHeap c w → AreOfHeap c (merged v w)

@@ -77,3 +77,9 @@ pub record IsStep (old new : Bundle) (number : ℕ) (said : Stepped) : Type 0 wh
   pub took : Took (heap_kind old.config) (heap_opening old.config) number (order_at old number) old.seat.me told new.seat.me
   pub said_is : said ≡ says old.config (machine_at old number) told
   pub orders : orders_of new ≡ slice_set (orders_of old) number (Some Nothing)
+
+-- A bundle of the heap before the first event: its machines are these, and none has an order.
+pub record IsFresh (h : Heap) (b : Bundle) (view : View Actor) : Type 0 where
+  pub of : IsOf b h
+  pub machines : view_of b ≡ view
+  pub orders : (number : ℕ) (order : Order) → machine_of (orders_of b) number ≡ Some order → order ≡ Nothing

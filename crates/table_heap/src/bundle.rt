@@ -8,9 +8,12 @@ ghost use Rattle.table_heap.specs.Known.{AreOfHeap};
 use crate::heap::Heap;
 use crate::machines::{Acting, OfHeaps};
 use heap_machines::{Machine, Stepped};
-use heap_words::Config;
-use shared_steps::{ViewSeat, join_bundle, join_machines, make_step};
+use heap_words::{Config, NoMemory};
+use shared_steps::{
+    ViewSeat, deal_bundle, deal_machines, join_bundle, join_machines, make_step,
+};
 use shen_graph::{Command, Order, Reply};
+use std::alloc::Global;
 use std::marker::Brand;
 
 /// Machines of a heap that one thread steps, each under its number. There is a place for each number, also for those of other
@@ -27,13 +30,44 @@ pub struct Bundle {
 }
 
 impl Bundle {
-    ghost use Rattle.std.specs.Prelude.{◌<◌, ◌↔◌, ◌≢◌, true, false, Some, None, slice_set};
+    ghost use Rattle.std.specs.Prelude.{◌<◌, ◌↔◌, ◌≢◌, true, false, Some, None, IfOk, slice_set};
     ghost use Rattle.std.specs.Option.{is_some};
     ghost use Rattle.heap_words.specs.declared.place.Place.TheVariants as places;
-    ghost use Rattle.shared_steps.specs.Views.{machine_of, merged};
+    ghost use Rattle.shared_steps.specs.Views.{machine_of, merged, dealt_to, left_over, is_dealt_to};
     ghost use Rattle.shen_graph.specs.Valid.{IsValid};
     ghost use Rattle.step_core.specs.Machines.{takes_of, reply_in, place_in, may_begin, made_of_machine};
     ghost use Rattle.table_heap.specs.State.{heap_of, view_of, machines_of, orders_of, IsOf, HasMachine, machine_at, order_at, has_turn, IsSameBundle, IsUnmoved, IsUnchanged, IsStep};
+
+    /// Gives the machines of one bundle, of so many, to a bundle of their own: those whose numbers have the remainder `bundle`.
+    /// The error is that memory was refused.
+    pub(crate) fn deal(
+        &mut self,
+        alloc: Global,
+        heap: &Heap,
+        bundles: usize,
+        bundle: usize,
+    ) -> Result<Bundle, NoMemory>
+        requires heap { IsOf self.old heap.now }
+        requires some { 0 < bundles }
+        ensures dealt { IfOk result (λ dealt. IsOf dealt heap.now × (view_of dealt ≡ dealt_to bundles bundle (view_of self.old)) × (orders_of dealt ≡ dealt_to bundles bundle (orders_of self.old))) }
+        ensures heap { IsOf self.new heap.now }
+        ensures left { IfOk result (λ _. (view_of self.new ≡ left_over (is_dealt_to bundles bundle) (view_of self.old)) × (orders_of self.new ≡ left_over (is_dealt_to bundles bundle) (orders_of self.old))) }
+    {
+        let Ok(machines) = deal_machines(alloc, &mut self.machines, bundles, bundle) else {
+            return Err(NoMemory);
+        };
+        let seat = deal_bundle::<Acting, Order, Config, OfHeaps, Brand>(
+            &heap.table.shared,
+            &mut self.seat,
+            bundles,
+            bundle,
+        );
+        Ok(Bundle {
+            config: self.config,
+            seat,
+            machines,
+        })
+    }
 
     /// Whether the bundle has the machine.
     pub fn has(&self, number: usize) -> bool
