@@ -12,12 +12,12 @@ use Rattle.steps_base.specs.Touch.{touch, loads, touched}
 use Rattle.regions.specs.Place.{base_of}
 use Rattle.regions.specs.Sets.{lowest_in}
 use Rattle.shen_graph.specs.declared.name.Name.{Name}
-use Rattle.heap_world.specs.World.{World, Plot, Block, thing, hand, name_at, AreCurrent, AreRooms, Shared}
+use Rattle.heap_world.specs.World.{World, Plot, Block, thing, hand, promised, name_at, AreCurrent, AreRooms, Shared}
 use Rattle.heap_world.specs.Rely.{Keeps, Rely}
 use Rattle.heap_world.specs.Part.{PartStep}
 use Rattle.heap_world.proofs.Updates.{updated, updated_same, updated_there, updated_else}
 use Rattle.heap_world.proofs.Keeping.{load_keeps, rely_same, keeps_of}
-use Rattle.heap_world.proofs.NewPiece.{CanGrow, names_stay, stays, old_hand, own_hand, plotted_more, filled_more, objects_more, free_more, rooms_more}
+use Rattle.heap_world.proofs.NewPiece.{CanGrow, names_stay, stays, old_hand, own_hand, old_promise, promises_more, plotted_more, filled_more, objects_more, free_more, rooms_more}
 use Rattle.heap_world.proofs.FreeRegions.{lowest_within, owner_stays, free_without, currents_stay}
 use Rattle.alloc_buffers.specs.declared.spot.Kind.{Kind}
 use Rattle.alloc_buffers.specs.declared.spot.Taken.TheVariants.{At, NoRoom}
@@ -184,7 +184,7 @@ module _ (c : Config) (u : World) (seat words : ℕ) (kind : Kind) where
           free_word = free_without c (u.memory Free) region (λ r. u.memory (Top r)) u.owner (updated u.owner region (Some seat)) within (λ r differs. updated_else u.owner region (Some seat) r (λ e. differs (sym e))) shared.free_word;
           currents = currents_stay c (λ s. u.memory (Current s)) u.owner region seat nobodys shared.currents;
           rooms = shared.rooms;
-          unasked = shared.unasked;
+          promises = shared.promises;
         };
         own = subst (λ s. CanTake c (taken_world region) seat words s)
             (sym (cond-true (bit_at (u.memory Free) region == 1) (StoreCurrent region) LoadFree won))
@@ -198,12 +198,17 @@ module _ (c : Config) (u : World) (seat words : ℕ) (kind : Kind) where
           hands = λ a more is. is;
           no_hands = λ a more is. is;
           hand_words = λ a more k is below. refl;
+          promises = λ a more is. is;
+          no_promises = λ a more is. is;
+          promise_words = λ a more k is below. refl;
           current = refl;
           owners = λ r is. owner_stays u.owner region seat nobodys r j is;
           tops = λ r is. refl;
           root_words = λ i. refl;
           roots = λ i. refl;
           count = refl;
+          wait = refl;
+          answer = refl;
           state = refl;
           phase = refl;
           cset = refl;
@@ -225,7 +230,7 @@ module _ (c : Config) (u : World) (seat words : ℕ) (kind : Kind) where
       free_word = free_without c (u.memory Free) region (λ r. u.memory (Top r)) u.owner u.owner can.facts.1 (λ r other. refl) shared.free_word;
       currents = shared.currents;
       rooms = shared.rooms;
-      unasked = shared.unasked;
+      promises = shared.promises;
     };
     own = subst (λ s. CanTake c (accessed (TakeRegion region)) seat words s)
         (sym (cond-false (bit_at (u.memory Free) region == 1) (StoreCurrent region) LoadFree lost))
@@ -257,7 +262,7 @@ module _ (c : Config) (u : World) (seat words : ℕ) (kind : Kind) where
           free_word = shared.free_word;
           currents = currents_with c (λ s. u.memory (Current s)) u.owner seat region taken.within taken.own shared.currents;
           rooms = rooms_with c (λ r. u.memory (Top r)) (λ s. u.memory (Current s)) u.block seat region (none_in_hand (StoreCurrent region) refl shared can) shared.rooms;
-          unasked = shared.unasked;
+          promises = shared.promises;
         };
         own = can_at (StoreCurrent region) refl shared can (StoreTop region 0) (accessed (StoreCurrent region)) refl
             (and_from _ _ (and_from _ _ (lt-ltb _ _ taken.within) (lt-ltb _ _ (omega (arith, most)))) (le-leb _ _ (omega (arith, most, long))))
@@ -300,7 +305,7 @@ module _ (c : Config) (u : World) (seat words : ℕ) (kind : Kind) where
 
     -- the region has room
     grows : CanGrow c tops currents u.block region top words
-    grows = record { plotted = shared.plotted; rooms = shared.rooms; within = roomy.within; top_is = roomy.top_is; room = roomy.room; some = can.least }
+    grows = record { plotted = shared.plotted; rooms = shared.rooms; promises = shared.promises; within = roomy.within; top_is = roomy.top_is; room = roomy.room; some = can.least }
 
     -- machines share what they should
     shared_grown : Shared c grown_world
@@ -313,7 +318,7 @@ module _ (c : Config) (u : World) (seat words : ℕ) (kind : Kind) where
       free_word = free_more c tops currents u.block region top words seat grows (u.memory Free) u.owner own shared.free_word;
       currents = shared.currents;
       rooms = rooms_more c tops currents u.block region top words seat grows u.owner can.seated roomy.is_current shared.currents none;
-      unasked = shared.unasked;
+      promises = promises_more c tops currents u.block region top words seat grows;
     }
 
     -- what a word stands for it still stands for
@@ -342,9 +347,14 @@ module _ (c : Config) (u : World) (seat words : ℕ) (kind : Kind) where
       targets = λ a refs nums n has. record { piece = stays_there a (thing n refs nums) has.piece };
       hands = λ a more is. stays_there a (hand seat more) is;
       hand_words = λ a more k is below. refl;
+      promises = λ a more is. stays_there a (promised seat more) is;
+      no_promises = λ a more is. old_promise c tops currents u.block region top words seat grows a seat more is;
+      promise_words = λ a more k is below. refl;
       root_words = λ i. refl;
       roots = λ i. refl;
       count = refl;
+      wait = refl;
+      answer = refl;
     }
 
     -- others can rely on what they knew
@@ -355,12 +365,17 @@ module _ (c : Config) (u : World) (seat words : ℕ) (kind : Kind) where
       hands = λ a more is. stays_there a (hand j more) is;
       no_hands = λ a more is. old_hand c tops currents u.block region top words seat grows a j more differs is;
       hand_words = λ a more k is below. refl;
+      promises = λ a more is. stays_there a (promised j more) is;
+      no_promises = λ a more is. old_promise c tops currents u.block region top words seat grows a j more is;
+      promise_words = λ a more k is below. refl;
       current = refl;
       owners = λ r is. is;
       tops = λ r is. updated_else tops region (top + words) r (λ same. differs (same_Some j seat (sym is ∙ ap u.owner (sym same) ∙ own)));
       root_words = λ i. refl;
       roots = λ i. refl;
       count = refl;
+      wait = refl;
+      answer = refl;
       state = refl;
       phase = refl;
       cset = refl;

@@ -143,7 +143,7 @@ module _ (c : Config) (m : Word → ℕ) (block : Plot) (owner : ℕ → Option 
             let object = stands.objects.each a refs nums name is in
             absurd (true≢false (sym forwarded ∙ ap is_forwarded object.2.header));
         filled = stands.filled;
-        no_hands = stands.no_hands;
+        things = stands.things;
         free_word = stands.free_word;
         currents = record {
           within = λ seat r is. absurd (omega (arith, is, full_current c m seat));

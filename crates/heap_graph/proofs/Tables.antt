@@ -12,7 +12,7 @@ use Rattle.shen_graph.specs.declared.name.Name.{Name}
 use Rattle.shen_graph.specs.Graph.{Graph, Object}
 use Rattle.shen_graph.specs.Reach.{size}
 use Rattle.heap_world.specs.Objects.{Refers}
-use Rattle.heap_world.specs.World.{Plot, Block, thing, words_of, name_at, Points, IsThing, Shared}
+use Rattle.heap_world.specs.World.{Plot, Block, thing, words_of, name_at, Points, IsPlotted, IsThing, AreObjects, Shared}
 use Rattle.heap_world.specs.Roots.{is_root_of, HasNoMore}
 use Rattle.heap_world.proofs.Pointing.{named_thing, piece_inside as words_inside}
 use Rattle.heap_graph.specs.Stands.{IsAt}
@@ -27,8 +27,13 @@ get_or-part xs a b i within = get_or-take (b - a) (drop a xs) i 0 within ∙ get
 length-part : (xs : List ℕ) (a b : ℕ) → b ≤ length xs → length (slice_range xs a b) ≡ b - a
 length-part xs a b within = length-take-le (b - a) (drop a xs) (omega (arith, length-drop a xs))
 
-module _ (c : Config) (words : List ℕ) (block : Plot) (owner : ℕ → Option ℕ) (g : Graph) (long : length words ≡ table_words c)
-    (shared : Shared c (record { memory = view c words; block = block; owner = owner; graph = g })) where
+-- Pieces lie where they should and are objects of the graph, whose names are short. Other objects need no piece.
+pub record ArePieces (c : Config) (words : List ℕ) (block : Plot) (g : Graph) : Type 0 where
+  pub plotted : IsPlotted c (λ r. view c words (Top r)) block
+  pub objects : AreObjects (λ a. view c words (Heap a)) block g.object
+  pub small : (n : Name) (o : Object) → g.object n ≡ Some o → n.count < 2 ^ 32
+
+module _ (c : Config) (words : List ℕ) (block : Plot) (g : Graph) (long : length words ≡ table_words c) (pieces : ArePieces c words block g) where
   abbrev heap : List ℕ
   heap = heap_in c words
 
@@ -48,7 +53,7 @@ module _ (c : Config) (words : List ℕ) (block : Plot) (owner : ℕ → Option 
   -- the words of a piece lie in the heap
   piece_inside : (a : ℕ) (b : Block) → block a ≡ Some b → (first ≤ a) × (a + words_of b ≤ first + length heap)
   piece_inside a b is =
-      let inside = words_inside c (λ r. view c words (Top r)) block shared.plotted a b is in
+      let inside = words_inside c (λ r. view c words (Top r)) block pieces.plotted a b is in
       let size : (c.regions + 1) * c.region_words ≡ c.regions * c.region_words + c.region_words = omega arith in
       (inside.0, omega (arith, inside.1, size, length-heap))
 
@@ -93,17 +98,17 @@ module _ (c : Config) (words : List ℕ) (block : Plot) (owner : ℕ → Option 
   each : (a : ℕ) (n : Name) → at a ≡ Some n → (o : Object) × IsAt first (first + length heap) (λ k. slice_index heap (k - first)) at g a n o
   each a n is =
       let piece = named_thing (block a) n is in
-      let object = shared.objects.each a piece.0 piece.1 n piece.2 in
-      (object.0, object_stands a piece.0 piece.1 n object.0 piece.2 object.1 object.2 (shared.given n object.0 object.1).small)
+      let object = pieces.objects.each a piece.0 piece.1 n piece.2 in
+      (object.0, object_stands a piece.0 piece.1 n object.0 piece.2 object.1 object.2 (pieces.small n object.0 object.1))
 
   -- objects lie apart
   apart : (a b : ℕ) (n m : Name) (o : Object) → at a ≡ Some n → at b ≡ Some m → g.object n ≡ Some o → a < b → a + size o ≤ b
   apart a b n m o is_a is_b object before =
       let one = named_thing (block a) n is_a in
       let other = named_thing (block b) m is_b in
-      let found = shared.objects.each a one.0 one.1 n one.2 in
+      let found = pieces.objects.each a one.0 one.1 n one.2 in
       let same : found.0 ≡ o = same_Some found.0 o (sym found.1 ∙ object) in
-      let behind : a + (3 + one.0 + one.1) ≤ b = shared.plotted.apart a b (thing n one.0 one.1) (thing m other.0 other.1) one.2 other.2 before in
+      let behind : a + (3 + one.0 + one.1) ≤ b = pieces.plotted.apart a b (thing n one.0 one.1) (thing m other.0 other.1) one.2 other.2 before in
       let refs : length o.refs ≡ one.0 = ap (λ x. length x.refs) (sym same) ∙ found.2.refs_are in
       let nums : length o.nums ≡ one.1 = ap (λ x. length x.nums) (sym same) ∙ found.2.nums_are in
       omega (arith, behind, refs, nums)
@@ -113,7 +118,7 @@ module _ (c : Config) (words : List ℕ) (block : Plot) (owner : ℕ → Option 
   once a b n is_a is_b =
       let one = named_thing (block a) n is_a in
       let other = named_thing (block b) n is_b in
-      shared.objects.once a b one.0 one.1 other.0 other.1 n one.2 other.2
+      pieces.objects.once a b one.0 one.1 other.0 other.1 n one.2 other.2
 
   -- there are 16 roots for each mutator
   length-roots : length roots ≡ 16 * c.mutators
@@ -154,13 +159,20 @@ module _ (c : Config) (words : List ℕ) (block : Plot) (owner : ℕ → Option 
         (cases_Bool (is_root_of c.mutators t i))
 
 -- the words stand for the graph
+pub pieces_stand : (c : Config) (words : List ℕ) (block : Plot) (g : Graph) → length words ≡ table_words c → ArePieces c words block g
+    → ((t i : ℕ) → t < c.mutators → i < 16 → Points block (view c words (Root t i)) (g.root (t + 1) i)) → HasNoMore c.mutators g
+    → WordsStand c.region_words (heap_in c words) (roots_in c words) (λ a. name_at (block a)) g
+pieces_stand c words block g long pieces own no_more = record {
+  each = each c words block g long pieces;
+  once = once c words block g long pieces;
+  apart = apart c words block g long pieces;
+  roots = root_stands c words block g long pieces own no_more;
+}
+
 pub table_stands : (c : Config) (words : List ℕ) (block : Plot) (owner : ℕ → Option ℕ) (g : Graph) → length words ≡ table_words c
     → Shared c (record { memory = view c words; block = block; owner = owner; graph = g })
     → ((t i : ℕ) → t < c.mutators → i < 16 → Points block (view c words (Root t i)) (g.root (t + 1) i)) → HasNoMore c.mutators g
     → WordsStand c.region_words (heap_in c words) (roots_in c words) (λ a. name_at (block a)) g
-table_stands c words block owner g long shared own no_more = record {
-  each = each c words block owner g long shared;
-  once = once c words block owner g long shared;
-  apart = apart c words block owner g long shared;
-  roots = root_stands c words block owner g long shared own no_more;
-}
+table_stands c words block owner g long shared own no_more =
+    pieces_stand c words block g long
+    (record { plotted = shared.plotted; objects = shared.objects; small = λ n o is. (shared.given n o is).small }) own no_more

@@ -1,5 +1,7 @@
 pub mod Turns
+mod GoesOn
 pub mod Replies
 pub mod OnScript
 pub mod Openings
 pub mod Standing
+pub mod Fit

@@ -9,13 +9,19 @@ use Rattle.heap_words.specs.declared.config.Config.{Config}
 use Rattle.shen_graph.specs.declared.command.Command.{Command}
 use Rattle.shen_graph.specs.declared.command.Reply.{Reply}
 use Rattle.shen_graph.specs.declared.order.Order.{Order}
-use Rattle.shen_graph.specs.declared.order.Order.TheVariants.{Nothing, Begin}
+use Rattle.shen_graph.specs.declared.order.Order.TheVariants.{Nothing, Begin, End}
 use Rattle.shen_graph.specs.History.{Entry, commands_of}
 use Rattle.step_core.specs.Actor.{Machine, mutating, helping, controlling, Actor, command_by}
-use Rattle.step_core.specs.Machines.{machine_after, given_in, ended_by, took_of, order_for, is_resting, is_mutating}
+use Rattle.mutator.specs.declared.spot.Spot.{Spot}
+use Rattle.mutator.specs.declared.spot.Spot.TheVariants.{Rest, Ended, Gone}
+use Rattle.mutator.specs.Orders.{is_between_calls, takes_commands}
+use Rattle.heap_world.specs.Change.{Change}
+use Rattle.step_core.specs.Machines.{takes_of, machine_after, ended_by, took_of, next_order, is_resting, may_begin}
+use Rattle.heap_machines.specs.Turn.{order_for}
+use Rattle.heap_machines.specs.Roles.{given_in, is_mutating}
 use Rattle.heap_machines.specs.Scripts.{IsOnScript, HasDoneScript}
-use Rattle.heap_machines.proofs.Turns.{turn_in_call, turn_at_rest}
-use Rattle.heap_machines.proofs.Replies.{given_after, ended_none, ended_some}
+use Rattle.heap_machines.proofs.Turns.{turn_in_call, turn_at_rest, rest_takes}
+use Rattle.heap_machines.proofs.Replies.{given_after, ended_none, ended_some, busy_after, begun_after, ended_after}
 
 -- the first elements and the next are one more
 take_next : {A : Type 0} (xs : List A) (n : ℕ) (x : A) → slice_get xs n ≡ Some x → take n xs ++ x ∷ [] ≡ take (n + 1) xs
@@ -30,77 +36,126 @@ past_end [] (suc n) e = refl
 past_end (x ∷ xs) zero e = absurd cc
 past_end (x ∷ xs) (suc n) e = ap (λ ys. x ∷ ys) (past_end xs n e)
 
-nothing_of : {A B : Type 0} (f : A → B) (o : Option A) → option_map f o ≡ None → o ≡ None
-nothing_of f None h = refl
-nothing_of f (Some x) h = absurd cc
-
--- a command that is begun is the next one
-begun : (next : Option Command) (order : Order) (before : Command) → option_map (λ command. Begin command) next ≡ Some order → next ≡ Some (command_by order before)
-begun None order before is = absurd cc
-begun (Some k) order before is = ap (λ (x : Order). Some (command_by x before)) (same_Some (Begin k) order is)
-
--- a machine in a call gets no command
-kept : (b : Bool) (order : Order) (command : Command) → ◌≡◌ {A = Option Order} (if b then Some Nothing else None) (Some order) → command ≡ command_by order command
-kept true order command is = ap (λ (x : Order). command_by x command) (same_Some Nothing order is)
-kept false order command is = absurd cc
-
--- after its turn a mutator's command is the next of its script
-command_now : (script : List Command) (a : Actor) (order : Order) → IsOnScript script a → order_for (slice_get script (length a.calls)) a.machine ≡ Some order
-    → slice_get script (length a.calls) ≡ Some (command_by order a.command)
-command_now script a order on is = by_rest (is_resting a.machine) refl
-  where
-    by_rest : (b : Bool) → is_resting a.machine ≡ b → slice_get script (length a.calls) ≡ Some (command_by order a.command)
-    by_rest true rest = begun (slice_get script (length a.calls)) order a.command (sym (turn_at_rest a.machine (slice_get script (length a.calls)) rest) ∙ is)
-    by_rest false busy = on.doing busy ∙ ap (λ (k : Command). Some k) (kept _ order a.command (sym (turn_in_call a.machine (slice_get script (length a.calls)) busy) ∙ is))
+-- whose command follows in the script
+followed : (next : Option Command) (order : Order) (before : Command) → next_order next ≡ order → (command : Command) → next ≡ Some command → (order ≡ Begin command) × (command_by order before ≡ command)
+followed next order before is command some =
+    let this : order ≡ Begin command = sym is ∙ ap next_order some in
+    (this, ap (λ (o : Order). command_by o before) this)
 
 -- a mutator that begins something has a next command
-pub begins : (c : Config) (next : Option Command) (machine : Machine) (order : Order) (got : ℕ) → is_resting machine ≡ true → order_for next machine ≡ Some order → is_resting (machine_after c order got machine) ≡ false → (command : Command) × (next ≡ Some command)
-begins c next machine order got rest is busy = by_next next (sym (turn_at_rest machine next rest) ∙ is)
+pub begins : (change : Change) (c : Config) (next : Option Command) (machine : Machine) (order : Order) (got : ℕ) → may_begin machine ≡ true → order_for next machine ≡ Some order
+    → is_resting (machine_after change c order got machine) ≡ false → (command : Command) × (next ≡ Some command)
+begins change c next machine order got may is busy = by_next next (same_Some (next_order next) order (sym (turn_at_rest machine next may) ∙ is))
   where
-    by_next : (o : Option Command) → option_map (λ command. Begin command) o ≡ Some order → (command : Command) × (o ≡ Some command)
-    by_next None e = absurd cc
+    by_next : (o : Option Command) → next_order o ≡ order → (command : Command) × (o ≡ Some command)
+    by_next None e = absurd (false≢true (sym busy ∙ ap (λ (x : Order). is_resting (machine_after change c x got machine)) (sym e) ∙ ended_after change c got machine may))
     by_next (Some k) e = (k, refl)
 
--- it stays on its script
-pub script_step : (c : Config) (script : List Command) (a : Actor) (order : Order) (got : ℕ) → IsOnScript script a → order_for (slice_get script (length a.calls)) a.machine ≡ Some order → IsOnScript script (took_of c a order got a.machine)
-script_step c script a order got on is = by_given (given_in a.machine) refl
+-- who may be given no command, and has a turn, goes on with its call
+pub goes_on_with : (next : Option Command) (machine : Machine) (order : Order) → may_begin machine ≡ false → order_for next machine ≡ Some order → (is_resting machine ≡ false) × (order ≡ Nothing)
+goes_on_with next machine order none is = by_takes (takes_of machine Nothing) refl
   where
-    now : slice_get script (length a.calls) ≡ Some (command_by order a.command)
-    now = command_now script a order on is
+    turn : (b : Bool) → takes_of machine Nothing ≡ b → ◌≡◌ {A = Option Order} (if b then Some Nothing else None) (Some order)
+    turn b takes = ap (λ (x : Bool). if x then Some Nothing else None) (sym takes) ∙ sym (turn_in_call machine next none) ∙ is
 
-    by_given : (o : Option Reply) → given_in a.machine ≡ o → IsOnScript script (took_of c a order got a.machine)
-    by_given None none =
-        let same : a.calls ++ ended_by a.command a.machine ≡ a.calls = ap (λ es. a.calls ++ es) (ended_none a.command a.machine none) ∙ append-nil a.calls in
-        record {
-          done = ap commands_of same ∙ on.done ∙ ap (λ (es : List Entry). take (length es) script) (sym same);
-          doing = λ busy. ap (λ (es : List Entry). slice_get script (length es)) same ∙ now;
-        }
-    by_given (Some reply) some =
-        let ended = ended_some a.command a.machine reply some in
-        let given = given_after c order got a.machine reply some in
-        let calls : a.calls ++ ended_by a.command a.machine ≡ a.calls ++ ended.0 ∷ [] = ap (λ es. a.calls ++ es) ended.1 in
-        record {
-          done = ap commands_of calls
-              ∙ map-append (λ (e : Entry). e.command) a.calls (ended.0 ∷ [])
-              ∙ ap (λ (k : Command). commands_of a.calls ++ k ∷ []) ended.2
-              ∙ ap (λ (ks : List Command). ks ++ a.command ∷ []) on.done
-              ∙ take_next script (length a.calls) a.command (on.doing given.busy)
-              ∙ ap (λ (n : ℕ). take n script) (sym (ap length calls ∙ length-append a.calls (ended.0 ∷ [])));
-          doing = λ busy. absurd (false≢true (sym busy ∙ given.rest));
-        }
+    in_call : takes_of machine Nothing ≡ true → (b : Bool) → is_resting machine ≡ b → is_resting machine ≡ false
+    in_call takes true rest = absurd (false≢true (sym (rest_takes machine rest) ∙ takes))
+    in_call takes false busy = busy
+
+    by_takes : (b : Bool) → takes_of machine Nothing ≡ b → (is_resting machine ≡ false) × (order ≡ Nothing)
+    by_takes true takes = (in_call takes (is_resting machine) refl, sym (same_Some Nothing order (turn true takes)))
+    by_takes false takes = absurd (let e = turn false takes in cc)
+
+module _ (change : Change) (c : Config) (script : List Command) (a : Actor) (order : Order) (got : ℕ) (on : IsOnScript script a) (is : order_for (slice_get script (length a.calls)) a.machine ≡ Some order) where
+  -- what follows in the script
+  abbrev next : Option Command
+  next = slice_get script (length a.calls)
+
+  -- the machine after its turn
+  abbrev then_is : Machine
+  then_is = machine_after change c order got a.machine
+
+  obeys : may_begin a.machine ≡ true → next_order next ≡ order
+  obeys may = same_Some (next_order next) order (sym (turn_at_rest a.machine next may) ∙ is)
+
+  -- after its turn a mutator that is in a call has the next command of its script
+  doing_then : is_resting then_is ≡ false → next ≡ Some (command_by order a.command)
+  doing_then busy = by_may (may_begin a.machine) refl
+    where
+      by_may : (b : Bool) → may_begin a.machine ≡ b → next ≡ Some (command_by order a.command)
+      by_may true may =
+          let begin = begins change c next a.machine order got may is busy in
+          begin.1 ∙ ap (λ (k : Command). Some k) (sym (followed next order a.command (obeys may) begin.0 begin.1).1)
+      by_may false none =
+          let goes = goes_on_with next a.machine order none is in
+          on.doing goes.0 ∙ ap (λ (o : Order). Some (command_by o a.command)) (sym goes.1)
+
+  -- and where it has ended, there is none
+  ended_then : given_in a.machine ≡ None → is_resting then_is ≡ true → next ≡ None
+  ended_then none_given rest = by_may (may_begin a.machine) refl
+    where
+      by_next : may_begin a.machine ≡ true → (o : Option Command) → next ≡ o → o ≡ None
+      by_next may None e = refl
+      by_next may (Some k) e =
+          let this = (followed next order a.command (obeys may) k e).0 in
+          absurd (false≢true (sym (begun_after change c k got a.machine may) ∙ ap (λ (o : Order). is_resting (machine_after change c o got a.machine)) (sym this) ∙ rest))
+
+      by_may : (b : Bool) → may_begin a.machine ≡ b → next ≡ None
+      by_may true may = by_next may next refl
+      by_may false none =
+          let goes = goes_on_with next a.machine order none is in
+          absurd (false≢true (sym (busy_after change c got a.machine goes.0 none_given) ∙ ap (λ (o : Order). is_resting (machine_after change c o got a.machine)) (sym goes.1) ∙ rest))
+
+  -- it stays on its script
+  pub script_step : IsOnScript script (took_of change c a order got a.machine)
+  script_step = by_given (given_in a.machine) refl
+    where
+      by_given : (o : Option Reply) → given_in a.machine ≡ o → IsOnScript script (took_of change c a order got a.machine)
+      by_given None none =
+          let same : a.calls ++ ended_by a.command a.machine ≡ a.calls = ap (λ es. a.calls ++ es) (ended_none a.command a.machine none) ∙ append-nil a.calls in
+          record {
+            done = ap commands_of same ∙ on.done ∙ ap (λ (es : List Entry). take (length es) script) (sym same);
+            doing = λ busy. ap (λ (es : List Entry). slice_get script (length es)) same ∙ doing_then busy;
+            ended = λ rest may. ap (λ (es : List Entry). slice_get script (length es)) same ∙ ended_then none rest;
+          }
+      by_given (Some reply) some =
+          let ended = ended_some a.command a.machine reply some in
+          let given = given_after change c order got a.machine reply some in
+          let calls : a.calls ++ ended_by a.command a.machine ≡ a.calls ++ ended.0 ∷ [] = ap (λ es. a.calls ++ es) ended.1 in
+          record {
+            done = ap commands_of calls
+                ∙ map-append (λ (e : Entry). e.command) a.calls (ended.0 ∷ [])
+                ∙ ap (λ (k : Command). commands_of a.calls ++ k ∷ []) ended.2
+                ∙ ap (λ (ks : List Command). ks ++ a.command ∷ []) on.done
+                ∙ take_next script (length a.calls) a.command (on.doing given.busy)
+                ∙ ap (λ (n : ℕ). take n script) (sym (ap length calls ∙ length-append a.calls (ended.0 ∷ [])));
+            doing = λ busy. absurd (false≢true (sym busy ∙ given.rest));
+            ended = λ rest may. absurd (false≢true (sym may ∙ given.free));
+          }
 
 -- and where it has no turn, it has called the whole script
 pub script_done : (script : List Command) (a : Actor) → is_mutating a.machine ≡ true → IsOnScript script a → order_for (slice_get script (length a.calls)) a.machine ≡ None → HasDoneScript script a
-script_done script a role on idle = by_rest (is_resting a.machine) refl
+script_done script a role on idle = by_may (may_begin a.machine) refl
   where
+    next : Option Command
+    next = slice_get script (length a.calls)
+
     goes_on : (machine : Machine) → is_mutating machine ≡ true → is_resting machine ≡ false → order_for (slice_get script (length a.calls)) machine ≡ None → ⊥
-    goes_on (mutating m) role busy none = let is : order_for (slice_get script (length a.calls)) (mutating m) ≡ Some Nothing = rw busy refl in cc
+    goes_on (mutating m) role busy none = never m.spot busy none
+      where
+        never : (spot : Spot) → is_between_calls spot ≡ false
+            → ◌≡◌ {A = Option Order} (if takes_commands spot then Some (next_order (slice_get script (length a.calls))) else (if is_between_calls spot then None else Some Nothing)) None → ⊥
+        never Rest busy none = cc
+        never (Ended reply) busy none = cc
+        never Gone busy none = cc
+        never _ busy none = cc
     goes_on (helping h) role busy none = cc
     goes_on (controlling k) role busy none = cc
 
-    by_rest : (b : Bool) → is_resting a.machine ≡ b → HasDoneScript script a
-    by_rest true rest = record {
-      rest = rest;
-      commands = on.done ∙ past_end script (length a.calls) (nothing_of (λ command. Begin command) (slice_get script (length a.calls)) (sym (turn_at_rest a.machine (slice_get script (length a.calls)) rest) ∙ idle));
-    }
-    by_rest false busy = absurd (goes_on a.machine role busy idle)
+    by_rest : may_begin a.machine ≡ false → (b : Bool) → is_resting a.machine ≡ b → HasDoneScript script a
+    by_rest may true rest = record { rest = rest; commands = on.done ∙ past_end script (length a.calls) (on.ended rest may) }
+    by_rest may false busy = absurd (goes_on a.machine role busy idle)
+
+    by_may : (b : Bool) → may_begin a.machine ≡ b → HasDoneScript script a
+    by_may true may = absurd (let e = sym (turn_at_rest a.machine (slice_get script (length a.calls)) may) ∙ idle in cc)
+    by_may false may = by_rest may (is_resting a.machine) refl

@@ -12,8 +12,9 @@ use Rattle.heap_words.specs.Ranges.{seat_count}
 use Rattle.shen_graph.specs.declared.command.Command.{Command}
 use Rattle.mutator.specs.Rows.{fresh_mutator}
 use Rattle.step_core.specs.Actor.{mutating, fresh_helper, fresh_control, Actor}
-use Rattle.step_core.specs.Machines.{is_resting, is_mutating, made_of_machine}
-use Rattle.step_core.specs.Opening.{opening_machine, opening_actor, opening}
+use Rattle.step_core.specs.Machines.{is_resting, may_begin, made_of_machine}
+use Rattle.heap_machines.specs.Roles.{is_mutating}
+use Rattle.step_core.specs.Opening.{first_free, opening_machine, opening_actor, opening}
 use Rattle.heap_machines.specs.declared.machine.Machine.{Machine}
 use Rattle.heap_machines.specs.Shown.{shown}
 use Rattle.heap_machines.specs.Scripts.{IsOnScript}
@@ -53,24 +54,28 @@ first_machines c = map-map (λ a. a.machine) (opening_actor c) (range_with_len 0
 pub first_role : (c : Config) (k : ℕ) → is_mutating (opening_machine c k) ≡ nat_lt k c.mutators
 first_role c k = by_test (nat_lt k c.mutators) (nat_lt k (c.mutators + c.helpers))
   where
-    by_test : (a b : Bool) → is_mutating (if a then mutating (fresh_mutator k) else (if b then fresh_helper else fresh_control)) ≡ a
+    by_test : (a b : Bool) → is_mutating (if a then mutating (fresh_mutator k) else (if b then fresh_helper else fresh_control (first_free c.regions))) ≡ a
     by_test true b = refl
     by_test false true = refl
     by_test false false = refl
 
 -- a mutator rests
 pub first_rests : (c : Config) (k : ℕ) → k < c.mutators → is_resting (opening_machine c k) ≡ true
-first_rests c k below = ap (λ b. is_resting (if b then mutating (fresh_mutator k) else (if nat_lt k (c.mutators + c.helpers) then fresh_helper else fresh_control))) (lt-ltb k c.mutators below)
+first_rests c k below = ap (λ b. is_resting (if b then mutating (fresh_mutator k) else (if nat_lt k (c.mutators + c.helpers) then fresh_helper else fresh_control (first_free c.regions)))) (lt-ltb k c.mutators below)
+
+-- and may be given a command
+pub first_free_to_begin : (c : Config) (k : ℕ) → k < c.mutators → may_begin (opening_machine c k) ≡ true
+first_free_to_begin c k below = ap (λ b. may_begin (if b then mutating (fresh_mutator k) else (if nat_lt k (c.mutators + c.helpers) then fresh_helper else fresh_control (first_free c.regions)))) (lt-ltb k c.mutators below)
 
 -- no machine has made an object
 pub first_made : (c : Config) (k : ℕ) → made_of_machine (opening_machine c k) ≡ 0
 first_made c k = by_test (nat_lt k c.mutators) (nat_lt k (c.mutators + c.helpers))
   where
-    by_test : (a b : Bool) → made_of_machine (if a then mutating (fresh_mutator k) else (if b then fresh_helper else fresh_control)) ≡ 0
+    by_test : (a b : Bool) → made_of_machine (if a then mutating (fresh_mutator k) else (if b then fresh_helper else fresh_control (first_free c.regions))) ≡ 0
     by_test true b = refl
     by_test false true = refl
     by_test false false = refl
 
 -- no command of a script was called
 pub first_on_script : (c : Config) (k : ℕ) (script : List Command) → k < c.mutators → IsOnScript script (opening_actor c k)
-first_on_script c k script below = record { done = refl; doing = λ busy. absurd (false≢true (sym busy ∙ first_rests c k below)) }
+first_on_script c k script below = record { done = refl; doing = λ busy. absurd (false≢true (sym busy ∙ first_rests c k below)); ended = λ rest none. absurd (false≢true (sym none ∙ first_free_to_begin c k below)) }

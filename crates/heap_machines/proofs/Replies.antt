@@ -1,25 +1,48 @@
 -- The replies that machines give, by their roles.
 use Rattle.std.proofs.Common.{◌≡◌, ℕ, ◌+◌, ◌≤◌, true, false, List, [], ◌∷◌, map, Option, Some, None, refl, ap, arith}
 use Rattle.heap_words.specs.declared.config.Config.{Config}
-use Rattle.heap_words.specs.declared.access.Took.TheVariants.{Done}
+use Rattle.std.specs.Prelude.{◌==◌, Bool, if◌then◌else◌}
+use Rattle.heap_words.specs.declared.access.Took.{Took}
+use Rattle.heap_words.specs.declared.access.Took.TheVariants.{More, Again, Done}
+use Rattle.handshake.specs.declared.stop_spot.StopSpot.TheVariants as stop
+use Rattle.control_steps.specs.declared.spot.ControlSpot.{ControlSpot}
+use Rattle.control_steps.specs.declared.spot.ControlSpot.TheVariants.{LookFree, Stopping}
+use Rattle.control_steps.specs.Rows.{says_at, wants_pause}
 use Rattle.shen_graph.specs.declared.command.Command.{Command}
 use Rattle.shen_graph.specs.declared.command.Reply.{Reply}
 use Rattle.shen_graph.specs.declared.order.Order.{Order}
+use Rattle.shen_graph.specs.declared.order.Order.TheVariants.{Nothing, Begin, End}
 use Rattle.shen_graph.specs.History.{Entry}
 use Rattle.mutator.specs.declared.spot.Spot.{Spot}
-use Rattle.mutator.specs.declared.spot.Spot.TheVariants.{Rest, Making, Leave}
+use Rattle.mutator.specs.declared.spot.Spot.TheVariants.{Rest, Ended, Making, Waiting, Leave}
+use Rattle.mutator.specs.declared.waits.WaitSpot.TheVariants as wait
 use Rattle.mutator.specs.declared.makes.MakeSpot.TheVariants as make
-use Rattle.mutator.specs.Orders.{is_between_calls}
-use Rattle.mutator.specs.Rows.{given_at, answer_at, reply_at, next_at}
+use Rattle.mutator.specs.Orders.{is_between_calls, takes_commands}
+use Rattle.mutator.specs.Rows.{Mutating, begun, given_at, answer_at, reply_at, next_at}
 use Rattle.mutator.proofs.Done as ends
 use Rattle.step_core.specs.Actor.{Machine, mutating, helping, controlling, entries_of}
-use Rattle.step_core.specs.Machines.{machine_after, answer_of, given_in, ended_by, reply_in, is_resting, is_mutating, made_of_machine, at_hand, at_hand_of}
+use Rattle.heap_world.specs.Change.{Change}
+use Rattle.step_core.specs.Machines.{machine_after, answer_of, ended_by, reply_in, is_resting, may_begin, made_of_machine, at_hand, at_hand_of}
+use Rattle.heap_machines.specs.Roles.{given_in, is_mutating}
+use Rattle.heap_machines.proofs.GoesOn.{call_goes_on}
+
+-- a step that says one of two things, of which neither is Done, is not done
+not_done : (b : Bool) (one other : Took) → (one ≡ Done → ⊥) → (other ≡ Done → ⊥) → (if b then one else other) ≡ Done → ⊥
+not_done true one other first second is = first is
+not_done false one other first second is = second is
+
+-- the control ends no call
+pub goes_on : (c : Config) (seen : ℕ) (spot : ControlSpot) (got : ℕ) → says_at c seen spot got ≡ Done → ⊥
+goes_on c seen LookFree got is = not_done (wants_pause c seen got) More Again (λ e. cc) (λ e. cc) is
+goes_on c seen (Stopping (stop.Check seat)) got is = not_done (got == 0) More Again (λ e. cc) (λ e. cc) is
+goes_on c seen (Stopping at) got is = cc
+goes_on c seen _ got is = cc
 
 -- a step that ends a call gives a reply
 pub done_gives : (c : Config) (machine : Machine) (got : ℕ) → answer_of c machine got ≡ Some Done → (r : Reply) × (given_in machine ≡ Some r)
 done_gives c (mutating m) got done = ends.done_gives c m.kept m.spot got (let said = done in cc)
 done_gives c (helping h) got done = absurd cc
-done_gives c (controlling k) got done = absurd cc
+done_gives c (controlling k) got done = absurd (goes_on c k.seen k.spot got (let said = done in cc))
 
 -- no other step does
 pub other_gives : (c : Config) (machine : Machine) (got : ℕ) → (answer_of c machine got ≡ Some Done → ⊥) → given_in machine ≡ None
@@ -31,19 +54,21 @@ other_gives c (mutating m) got other = by_spot m.spot other
 other_gives c (helping h) got other = refl
 other_gives c (controlling k) got other = refl
 
--- A machine that has given a reply: it has the reply, and rests. It has made no object, and the reply was at hand.
+-- A machine that has given a reply: it has the reply, rests, and may go on. It has made no object, and the reply was at hand.
 pub record HasGiven (machine next : Machine) (r : Reply) : Type 0 where
   pub replied : reply_in next ≡ Some r
   pub rest : is_resting next ≡ true
+  pub free : may_begin next ≡ true
   pub busy : is_resting machine ≡ false
   pub role : is_mutating machine ≡ true
   pub made : made_of_machine next ≡ made_of_machine machine
   pub was_at_hand : at_hand_of machine ≡ 1
 
-pub given_after : (c : Config) (order : Order) (got : ℕ) (machine : Machine) (r : Reply) → given_in machine ≡ Some r → HasGiven machine (machine_after c order got machine) r
-given_after c order got (mutating m) r gives = record {
+pub given_after : (change : Change) (c : Config) (order : Order) (got : ℕ) (machine : Machine) (r : Reply) → given_in machine ≡ Some r → HasGiven machine (machine_after change c order got machine) r
+given_after change c order got (mutating m) r gives = record {
   replied = replied m.spot gives;
   rest = rest m.spot gives;
+  free = free m.spot gives;
   busy = busy m.spot gives;
   role = refl;
   made = made m.spot gives;
@@ -58,6 +83,10 @@ given_after c order got (mutating m) r gives = record {
     rest (Leave q) is = refl
     rest _ is = absurd cc
 
+    free : (spot : Spot) → given_at spot ≡ Some r → takes_commands (next_at c m order got spot).spot ≡ true
+    free (Leave q) is = refl
+    free _ is = absurd cc
+
     busy : (spot : Spot) → given_at spot ≡ Some r → is_between_calls spot ≡ false
     busy (Leave q) is = refl
     busy _ is = absurd cc
@@ -69,8 +98,8 @@ given_after c order got (mutating m) r gives = record {
     at_hand_then : (spot : Spot) → given_at spot ≡ Some r → at_hand spot ≡ 1
     at_hand_then (Leave q) is = refl
     at_hand_then _ is = absurd cc
-given_after c order got (helping h) r gives = absurd cc
-given_after c order got (controlling k) r gives = absurd cc
+given_after change c order got (helping h) r gives = absurd cc
+given_after change c order got (controlling k) r gives = absurd cc
 
 -- between two calls no reply is at hand
 pub rest_at_hand : (machine : Machine) → is_resting machine ≡ true → at_hand_of machine ≡ 0
@@ -78,23 +107,62 @@ rest_at_hand (mutating m) rest = by_spot m.spot rest
   where
     by_spot : (spot : Spot) → is_between_calls spot ≡ true → at_hand spot ≡ 0
     by_spot (Leave q) is = absurd cc
+    by_spot (Waiting at) is = absurd cc
     by_spot _ is = refl
 rest_at_hand (helping h) rest = refl
 rest_at_hand (controlling k) rest = refl
 
--- A machine that gives no reply makes at most one object in a step, and then a reply is at hand. None was before.
-pub none_after : (c : Config) (order : Order) (got : ℕ) (machine : Machine) → given_in machine ≡ None
-    → (made_of_machine (machine_after c order got machine) ≤ made_of_machine machine + at_hand_of (machine_after c order got machine)) × (at_hand_of machine ≡ 0)
-none_after c order got (mutating m) none = by_spot m.spot none
+-- an order makes no object
+begun_made : (order : Order) (m : Mutating) → (begun order m).made ≡ m.made
+begun_made Nothing m = refl
+begun_made (Begin command) m = refl
+begun_made End m = refl
+
+-- A machine that gives no reply makes at most one object in a step, and then a reply is at hand that was not before.
+pub none_after : (change : Change) (c : Config) (order : Order) (got : ℕ) (machine : Machine) → given_in machine ≡ None
+    → made_of_machine (machine_after change c order got machine) + at_hand_of machine ≤ made_of_machine machine + at_hand_of (machine_after change c order got machine)
+none_after change c order got (mutating m) none = by_spot m.spot none
   where
-    by_spot : (spot : Spot) → given_at spot ≡ None → ((next_at c m order got spot).made ≤ m.made + at_hand (next_at c m order got spot).spot) × (at_hand spot ≡ 0)
-    by_spot Rest none = (omega arith, refl)
-    by_spot (Making (make.StoreRoot address)) none = (omega arith, refl)
-    by_spot (Making at) none = (omega arith, refl)
+    by_spot : (spot : Spot) → given_at spot ≡ None → (next_at c m order got spot).made + at_hand spot ≤ m.made + at_hand (next_at c m order got spot).spot
+    by_spot Rest none = omega (arith, begun_made order m)
+    by_spot (Ended reply) none = omega (arith, begun_made order m)
+    by_spot (Making (make.StoreRoot address)) none = omega arith
+    by_spot (Making at) none = omega arith
+    by_spot (Waiting (wait.StoreRoot address)) none = omega arith
+    by_spot (Waiting (wait.ClearAnswer reply)) none = omega arith
+    by_spot (Waiting at) none = omega arith
     by_spot (Leave r) none = absurd cc
-    by_spot _ none = (omega arith, refl)
-none_after c order got (helping h) none = (omega arith, refl)
-none_after c order got (controlling k) none = (omega arith, refl)
+    by_spot _ none = omega arith
+none_after change c order got (helping h) none = omega arith
+none_after change c order got (controlling k) none = omega arith
+
+-- a machine in a call goes on with it, if it gives no reply
+pub busy_after : (change : Change) (c : Config) (got : ℕ) (machine : Machine) → is_resting machine ≡ false → given_in machine ≡ None → is_resting (machine_after change c Nothing got machine) ≡ false
+busy_after change c got (mutating m) busy none = call_goes_on c m got m.spot busy none
+busy_after change c got (helping h) busy none = refl
+busy_after change c got (controlling k) busy none = refl
+
+-- a mutator that begins a command is in a call then
+pub begun_after : (change : Change) (c : Config) (command : Command) (got : ℕ) (machine : Machine) → may_begin machine ≡ true → is_resting (machine_after change c (Begin command) got machine) ≡ false
+begun_after change c command got (mutating m) may = by_spot m.spot may
+  where
+    by_spot : (spot : Spot) → takes_commands spot ≡ true → is_between_calls (next_at c m (Begin command) got spot).spot ≡ false
+    by_spot Rest may = refl
+    by_spot (Ended reply) may = refl
+    by_spot _ may = absurd cc
+begun_after change c command got (helping h) may = refl
+begun_after change c command got (controlling k) may = refl
+
+-- and one that ends is in none
+pub ended_after : (change : Change) (c : Config) (got : ℕ) (machine : Machine) → may_begin machine ≡ true → is_resting (machine_after change c End got machine) ≡ true
+ended_after change c got (mutating m) may = by_spot m.spot may
+  where
+    by_spot : (spot : Spot) → takes_commands spot ≡ true → is_between_calls (next_at c m End got spot).spot ≡ true
+    by_spot Rest may = refl
+    by_spot (Ended reply) may = refl
+    by_spot _ may = absurd cc
+ended_after change c got (helping h) may = absurd cc
+ended_after change c got (controlling k) may = absurd cc
 
 -- the call that a step ends has the reply that it gives
 pub ended_none : (command : Command) (machine : Machine) → given_in machine ≡ None → ended_by command machine ≡ []

@@ -1,28 +1,30 @@
--- Where a run has led to a stage whose mutators rest: its words stand for the graph after the run, and the entries of each
+-- Where a run has led to a stage whose mutators rest and whose control stores no image: its words stand for the graph after the run, and the entries of each
 -- thread are its calls.
-use Rattle.std.proofs.Common.{◌≡◌, ℕ, ◌+◌, ◌<◌, true, Option, Some, refl, ap, ◌∙◌, subst}
+use Rattle.std.proofs.Common.{None, ◌≡◌, ℕ, ◌+◌, ◌<◌, true, Option, Some, refl, ap, ◌∙◌, subst}
 use Rattle.std.proofs.lemmas.List.{append-nil}
 use Rattle.std.specs.Prelude.{slice_get, ◌++◌}
 use Rattle.heap_words.specs.declared.config.Config.{Config}
-use Rattle.heap_words.specs.Words.{Root, heap_in, roots_in}
+use Rattle.heap_words.specs.Words.{Word, Root, view, heap_in, roots_in}
 use Rattle.shen_graph.specs.declared.name.Name.{Name}
 use Rattle.shen_graph.specs.declared.command.Reply.{Reply}
 use Rattle.shen_graph.specs.Graph.{Graph}
 use Rattle.shen_graph.specs.History.{of_thread}
 use Rattle.mutator.specs.declared.spot.Kept.{Kept}
 use Rattle.mutator.specs.declared.spot.Spot.{Spot}
-use Rattle.mutator.specs.declared.spot.Spot.TheVariants.{Rest, Ended}
+use Rattle.mutator.specs.declared.spot.Spot.TheVariants.{Rest, Ended, Gone}
 use Rattle.mutator.specs.Orders.{is_between_calls}
 use Rattle.mutator.specs.Rows.{Mutating}
-use Rattle.heap_world.specs.World.{World, name_at, Points}
+use Rattle.heap_world.specs.World.{World, Shared, name_at, Points}
 use Rattle.heap_graph.specs.Shows.{WordsStand}
 use Rattle.heap_graph.proofs.Tables.{table_stands}
 use Rattle.step_core.specs.Actor.{Machine, mutating, helping, controlling, Actor, entries_of}
 use Rattle.step_core.specs.Own.{root_now}
 use Rattle.step_core.specs.Machines.{is_resting}
-use Rattle.step_core.specs.Settled.{settled}
+use Rattle.step_core.specs.Settled.{settled, settled_by, image_of, control_number}
 use Rattle.step_core.specs.Sound.{world_of, IsSound}
 use Rattle.step_core.specs.Begins.{Run, ending, history_in, graph_after}
+use Rattle.pause_laws.specs.Image.{full_image}
+use Rattle.pause_laws.proofs.Pauses.{full_is_pause}
 use Rattle.step_core.proofs.Theorem.{run_sound}
 
 -- a machine that rests is a mutator between two calls
@@ -35,40 +37,49 @@ rest_parts (controlling k) rest = absurd cc
 root_between_calls : (w : World) (seat index : ℕ) (kept : Kept) (spot : Spot) → is_between_calls spot ≡ true → root_now w seat kept spot index ≡ w.memory (Root seat index)
 root_between_calls w seat index kept Rest rest = refl
 root_between_calls w seat index kept (Ended reply) rest = refl
+root_between_calls w seat index kept Gone rest = refl
 root_between_calls w seat index kept _ rest = absurd cc
 
 -- its entries are its calls
-pub entries_at_rest : (c : Config) (run : Run c) (t : ℕ) (a : Actor) → slice_get (ending c run).machines t ≡ Some a → is_resting a.machine ≡ true → of_thread (history_in c run) (t + 1) ≡ a.calls
+pub entries_at_rest : (c : Config) (run : Run c) (t : ℕ) (a : Actor) → slice_get (ending full_image c run).machines t ≡ Some a → is_resting a.machine ≡ true → of_thread (history_in full_image c run) (t + 1) ≡ a.calls
 entries_at_rest c run t a here rest =
     let parts = rest_parts a.machine rest in
-    let thread = (run_sound c run).threads t a parts.0 (record { here = here; is = parts.1 }) in
+    let thread = (run_sound full_image full_is_pause c run).threads t a parts.0 (record { here = here; is = parts.1 }) in
     thread.entries_are ∙ ap (λ (o : Option Reply). a.calls ++ entries_of t a.command o) (thread.between_calls parts.2) ∙ append-nil a.calls
 
-module _ (c : Config) (run : Run c) (rest : (t : ℕ) (a : Actor) → t < c.mutators → slice_get (ending c run).machines t ≡ Some a → is_resting a.machine ≡ true) where
+module _ (c : Config) (run : Run c) (rest : (t : ℕ) (a : Actor) → t < c.mutators → slice_get (ending full_image c run).machines t ≡ Some a → is_resting a.machine ≡ true)
+    (calm : image_of (slice_get (ending full_image c run).machines (control_number c)) ≡ None) where
   -- what holds of the stage
-  abbrev sound : IsSound c run.graph (ending c run) (history_in c run)
-  sound = run_sound c run
+  abbrev sound : IsSound c run.graph (ending full_image c run) (history_in full_image c run)
+  sound = run_sound full_image full_is_pause c run
 
   -- the graph
   abbrev graph : Graph
-  graph = graph_after c run
+  graph = graph_after full_image c run
 
   -- the names of the objects by their addresses
   abbrev pub names : ℕ → Option Name
   names a = name_at (sound.stands.block a)
 
+  -- the words of the table count
+  table_counts : settled c (ending full_image c run) ≡ view c (ending full_image c run).words
+  table_counts = ap (settled_by c (ending full_image c run).words) calm
+
   -- the words of the roots of a mutator stand for its thread's
-  own_roots : (t i : ℕ) → t < c.mutators → i < 16 → Points sound.stands.block (settled c (ending c run) (Root t i)) (graph.root (t + 1) i)
+  own_roots : (t i : ℕ) → t < c.mutators → i < 16 → Points sound.stands.block (settled c (ending full_image c run) (Root t i)) (graph.root (t + 1) i)
   own_roots t i below small =
       let some = sound.of_heap.mutators t below in
       let m = some.mutator in
       let seat : m.seat ≡ t = (sound.of_heap.numbers t some.actor m some.here).0 in
       let at_rest : is_between_calls m.spot ≡ true = subst (λ machine. is_resting machine ≡ true) some.here.is (rest t some.actor below some.here.here) in
-      let w : World = world_of c (ending c run) sound.stands.block sound.stands.owner graph in
-      subst (λ k. Points sound.stands.block (settled c (ending c run) (Root k i)) (graph.root (k + 1) i)) seat
+      let w : World = world_of c (ending full_image c run) sound.stands.block sound.stands.owner graph in
+      subst (λ k. Points sound.stands.block (settled c (ending full_image c run) (Root k i)) (graph.root (k + 1) i)) seat
       (subst (λ word. Points sound.stands.block word (graph.root (m.seat + 1) i)) (root_between_calls w m.seat i m.kept m.spot at_rest)
       ((sound.stands.mutators t some.actor m some.here).roots i small))
 
   -- the words stand for the graph after the run
-  pub words_stand : WordsStand c.region_words (heap_in c (ending c run).words) (roots_in c (ending c run).words) names graph
-  words_stand = table_stands c (ending c run).words sound.stands.block sound.stands.owner graph sound.of_heap.words sound.stands.shared own_roots sound.no_more
+  pub words_stand : WordsStand c.region_words (heap_in c (ending full_image c run).words) (roots_in c (ending full_image c run).words) names graph
+  words_stand = table_stands c (ending full_image c run).words sound.stands.block sound.stands.owner graph sound.of_heap.words
+      (subst (λ (memory : Word → ℕ). Shared c (record { memory = memory; block = sound.stands.block; owner = sound.stands.owner; graph = graph })) table_counts sound.stands.shared)
+      (λ t i below small. subst (λ (memory : Word → ℕ). Points sound.stands.block (memory (Root t i)) (graph.root (t + 1) i)) table_counts (own_roots t i below small))
+      sound.no_more

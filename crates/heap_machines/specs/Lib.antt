@@ -1,3 +1,5 @@
 pub mod Shown
 pub mod Answer
+pub mod Turn
+pub mod Roles
 pub mod Scripts

@@ -1,67 +1,82 @@
-use heap_words::{Access, Config, Place, Took};
+ghost use Rattle.std.specs.Prelude.{◌≡◌, IfOk};
+ghost use Rattle.control.specs.Seen.{config_in, seen_control};
+ghost use Rattle.step_core.specs.Actor.{controlling, fresh_control};
+ghost use Rattle.step_core.specs.Opening.{first_free};
+ghost use Rattle.heap_machines.specs.Turn.{first_place_of};
+
+use control::Control;
+use heap_words::{Access, Config, NoMemory, Place, Took};
+use image_graph::Image;
 use mutator::Mutator;
 use shen_graph::{Command, Order, Reply};
+use std::alloc::Global;
+use step_core::first_free;
 
-/// A machine of a heap: first in the order of numbers are the mutators, then the helpers, then the control. Helpers and the
-/// control rest.
-#[derive(Debug, Drop)]
+/// A machine of a heap: first in the order of numbers are the mutators, then the helpers, then the control.
+#[derive(Drop)]
 pub enum Machine {
     /// A mutator thread.
     Mutator(Mutator),
-    /// A helper, which rests.
+    /// A helper, which has nothing to do in a heap that only collects in pauses.
     Helper {
         /// The heap that it is of.
         config: Config,
     },
-    /// The control, which rests.
-    Control {
-        /// The heap that it is of.
-        config: Config,
-    },
+    /// The control, which makes the pauses.
+    Control(Control),
 }
 
 impl Machine {
-    ghost use Rattle.std.specs.Prelude.{◌≡◌, ◌<◌, ◌↔◌, ◌≢◌, true, false, not, Some, None, IfSome, is_some, if◌then◌else◌};
+    ghost use Rattle.std.specs.Prelude.{◌≡◌, ◌<◌, ◌↔◌, ◌≢◌, true, false, not, Option, Some, None, IfOk, IfSome, is_some, if◌then◌else◌};
     ghost use Rattle.heap_words.specs.Access.{place_of};
     ghost use Rattle.heap_words.specs.Words.{table_words};
     ghost use Rattle.shen_graph.specs.Valid.{IsValid};
+    ghost use Rattle.shen_graph.specs.declared.command.Command.{Command as Commands};
+    ghost use Rattle.pause_laws.specs.Image.{full_image};
     ghost use Rattle.step_core.specs.Opening.{opening_machine};
-    ghost use Rattle.step_core.specs.Machines.{takes_of, plan_of, place_in, machine_after, answer_of, stands_in, reply_in, is_resting, may_begin, order_for, made_of_machine, WaitsIn, IsFitIn};
+    ghost use Rattle.step_core.specs.Settled.{image_in};
+    ghost use Rattle.step_core.specs.Machines.{takes_of, plan_of, place_in, machine_after, answer_of, stands_in, reply_in, is_resting, may_begin, made_of_machine, WaitsIn};
+    ghost use Rattle.step_core.specs.Fit.{IsFitFor};
     ghost use Rattle.heap_machines.specs.Shown.{shown, order_of, heap_of, has_turn};
+    ghost use Rattle.heap_machines.specs.Turn.{order_for};
 
-    /// The machine of a number, as a heap begins with it.
-    pub fn open(config: Config, number: usize) -> Machine
-        ensures shown { shown result ≡ opening_machine config number }
-        ensures heap { heap_of result ≡ config }
-        ensures order { order_of result ≡ Order.Nothing }
+    /// The machine of a number, as a heap begins with it. The error is that memory for the control's image was refused.
+    pub fn open(alloc: Global, config: Config, number: usize) -> Result<Machine, NoMemory>
+        ensures shown { IfOk result (λ m. shown m ≡ opening_machine config number) }
+        ensures heap { IfOk result (λ m. heap_of m ≡ config) }
+        ensures order { IfOk result (λ m. order_of m ≡ Order.Nothing) }
     {
         if number < config.mutators() {
-            Machine::Mutator(Mutator::new(config, number))
+            Ok(Machine::Mutator(Mutator::new(config, number)))
         } else if number < config.mutators() + config.helpers() {
-            Machine::Helper { config }
+            Ok(Machine::Helper { config })
         } else {
-            Machine::Control { config }
+            Ok(Machine::Control(open_control(alloc, config)?))
         }
     }
 
     /// The place of its next access.
     pub fn place(&self) -> Place
-        ensures { result ≡ place_in (shown self.now) }
+        requires { has_turn self.now ≡ true }
+        ensures { result ≡ place_in (order_of self.now) (shown self.now) }
     {
         match self {
             Machine::Mutator(mutator) => mutator.place(),
             Machine::Helper { .. } => Place::H0,
-            Machine::Control { .. } => Place::I0,
+            Machine::Control(control) => control.place(),
         }
     }
 
-    /// Whether its next access stands at the place. A machine that rests stands nowhere.
-    pub fn stands_at(&self, place: Place) -> bool
-        ensures { result ≡ stands_in place (shown self.now) }
+    /// Whether its next access, on its turn, stands at the place. The command is the one that would follow.
+    pub fn stands_at(&self, next: Option<Command>, place: Place) -> bool
+        requires { order_of self.now ≡ Order.Nothing }
+        ensures { result ≡ stands_in place (shown self.now) (order_for next (shown self.now)) }
     {
         match self {
-            Machine::Mutator(mutator) => mutator.place().is(place),
-            Machine::Helper { .. } | Machine::Control { .. } => false,
+            Machine::Mutator(mutator) if mutator.takes_commands() => first_place(next).is(place),
+            Machine::Mutator(mutator) => !mutator.is_idle() && mutator.place().is(place),
+            Machine::Helper { .. } => false,
+            Machine::Control(control) => !control.is_idle() && control.place().is(place),
         }
     }
 
@@ -71,7 +86,7 @@ impl Machine {
     {
         match self {
             Machine::Mutator(mutator) => mutator.order(),
-            Machine::Helper { .. } | Machine::Control { .. } => Order::Nothing,
+            Machine::Helper { .. } | Machine::Control(_) => Order::Nothing,
         }
     }
 
@@ -81,7 +96,8 @@ impl Machine {
     {
         match self {
             Machine::Mutator(mutator) => mutator.is_idle(),
-            Machine::Helper { .. } | Machine::Control { .. } => true,
+            Machine::Helper { .. } => true,
+            Machine::Control(control) => control.is_idle(),
         }
     }
 
@@ -91,43 +107,55 @@ impl Machine {
     {
         match self {
             Machine::Mutator(mutator) => mutator.is_resting(),
-            Machine::Helper { .. } | Machine::Control { .. } => false,
+            Machine::Helper { .. } | Machine::Control(_) => false,
+        }
+    }
+
+    /// Whether it is the control, and stores words of a new image. Words of the table are out of date then.
+    pub fn is_storing(&self) -> bool
+        ensures { result ≡ is_some (image_in (shown self.now)) }
+    {
+        match self {
+            Machine::Control(control) => control.is_storing(),
+            Machine::Mutator(_) | Machine::Helper { .. } => false,
         }
     }
 
     /// The access of its next step, of a word of the table.
     pub fn plan(&self) -> Access
         requires { has_turn self.now ≡ true }
-        ensures row { result ≡ plan_of (heap_of self.now) (shown self.now) }
+        ensures row { result ≡ plan_of (heap_of self.now) (order_of self.now) (shown self.now) }
         ensures inside { place_of result < table_words (heap_of self.now) }
     {
         match self {
             Machine::Mutator(mutator) => mutator.plan(),
-            Machine::Helper { .. } | Machine::Control { .. } => unreachable!(),
+            Machine::Helper { .. } => unreachable!(),
+            Machine::Control(control) => control.plan(),
         }
     }
 
-    /// Goes on with the word that its access has found.
+    /// Goes on with the word that its access has found. A pause of the control is a full collection.
     pub fn took(&mut self, got: u64) -> Took
         requires busy { has_turn self.old ≡ true }
-        requires fit { IsFitIn (heap_of self.old) (order_of self.old) got (shown self.old) }
-        ensures shown { shown self.new ≡ machine_after (heap_of self.old) (order_of self.old) got (shown self.old) }
+        requires fit { IsFitFor (heap_of self.old) (order_of self.old) got (shown self.old) }
+        ensures shown { shown self.new ≡ machine_after full_image (heap_of self.old) (order_of self.old) got (shown self.old) }
         ensures order { order_of self.new ≡ Order.Nothing }
         ensures heap { heap_of self.new ≡ heap_of self.old }
         ensures answer { answer_of (heap_of self.old) (shown self.old) got ≡ Some result }
 
         // A call ends exactly where its mutator leaves the heap, and its reply is at hand then.
-        ensures done { (result ≡ Took.Done) ↔ (place_in (shown self.old) ≡ Place.LV) }
+        ensures done { (result ≡ Took.Done) ↔ (place_in (order_of self.old) (shown self.old) ≡ Place.LV) }
         ensures replied { result ≡ Took.Done → reply_in (shown self.new) ≢ None }
         ensures again { (result ≡ Took.Again) ↔ WaitsIn (heap_of self.old) (shown self.old) got }
     {
         match self {
             Machine::Mutator(mutator) => mutator.took(got),
-            Machine::Helper { .. } | Machine::Control { .. } => unreachable!(),
+            Machine::Helper { .. } => unreachable!(),
+            Machine::Control(control) => control.took(got),
         }
     }
 
-    /// Orders the command, which its next step begins. Of a mutator between two calls.
+    /// Orders the command, which its next step begins. Of a mutator between two calls that has not ended.
     pub fn begin(&mut self, command: Command)
         requires rest { may_begin (shown self.old) ≡ true }
         requires valid { IsValid command }
@@ -139,42 +167,61 @@ impl Machine {
     {
         match self {
             Machine::Mutator(mutator) => mutator.begin(command),
-            Machine::Helper { .. } | Machine::Control { .. } => unreachable!(),
+            Machine::Helper { .. } | Machine::Control(_) => unreachable!(),
         }
     }
 
-    /// Gives it its order for its turn, if it has one. A mutator between two calls begins the command, where there is one.
+    /// Orders the end: its next step is its last one. Of a mutator between two calls that has not ended.
+    pub fn finish(&mut self)
+        requires { may_begin (shown self.old) ≡ true }
+        ensures order { order_of self.new ≡ Order.End }
+        ensures takes { takes_of (shown self.old) Order.End ≡ true }
+        ensures shown { shown self.new ≡ shown self.old }
+        ensures heap { heap_of self.new ≡ heap_of self.old }
+    {
+        match self {
+            Machine::Mutator(mutator) => mutator.finish(),
+            Machine::Helper { .. } | Machine::Control(_) => unreachable!(),
+        }
+    }
+
+    // Whether it may be given a command, or the end.
+    fn may_begin(&self) -> bool
+        ensures { result ≡ may_begin (shown self.now) }
+    {
+        match self {
+            Machine::Mutator(mutator) => mutator.takes_commands(),
+            Machine::Helper { .. } | Machine::Control(_) => false,
+        }
+    }
+
+    /// Gives it its order for its turn, if it has one. A mutator between two calls begins the command, and ends where there
+    /// is none.
     pub fn order_next(&mut self, next: Option<Command>) -> bool
         requires none { order_of self.old ≡ Order.Nothing }
-        requires next { is_resting (shown self.old) ≡ true → IfSome next (λ command. IsValid command × (made_of_machine (shown self.old) < 4294967295)) }
+        requires next { may_begin (shown self.old) ≡ true → IfSome next (λ command. IsValid command × (made_of_machine (shown self.old) < 4294967295)) }
         ensures turn { order_for next (shown self.old) ≡ (if result then Some (order_of self.new) else None) }
         ensures takes { takes_of (shown self.old) (order_of self.new) ≡ result }
         ensures idle { result ≡ false → order_of self.new ≡ Order.Nothing }
         ensures shown { shown self.new ≡ shown self.old }
         ensures heap { heap_of self.new ≡ heap_of self.old }
     {
-        if !self.is_resting() {
+        if !self.may_begin() {
             return !self.is_idle();
         }
         match next {
-            Some(command) => {
-                self.begin(command);
-                true
-            }
-            None => false,
+            Some(command) => self.begin(command),
+            None => self.finish(),
         }
+        true
     }
 
-    /// Whether it would make a step on its turn. The command is the one that would follow.
-    pub fn has_next(&self, next: Option<Command>) -> bool
+    /// Whether it would make a step on its turn, whatever command would follow.
+    pub fn has_next(&self) -> bool
         requires { order_of self.now ≡ Order.Nothing }
-        ensures { result ≡ is_some (order_for next (shown self.now)) }
+        ensures { (next : Option Commands) → is_some (order_for next (shown self.now)) ≡ result }
     {
-        if self.is_resting() {
-            next.is_some()
-        } else {
-            !self.is_idle()
-        }
+        self.may_begin() || !self.is_idle()
     }
 
     /// The reply of the last call that the mutator has ended, until the next one is ordered.
@@ -184,7 +231,27 @@ impl Machine {
     {
         match self {
             Machine::Mutator(mutator) => mutator.reply(),
-            Machine::Helper { .. } | Machine::Control { .. } => unreachable!(),
+            Machine::Helper { .. } | Machine::Control(_) => unreachable!(),
         }
     }
+}
+
+// The place of the access between two calls: a mutator begins the command, or ends where there is none.
+fn first_place(next: Option<Command>) -> Place
+    ensures { result ≡ first_place_of next }
+{
+    match next {
+        Some(_) => Place::E1,
+        None => Place::ML,
+    }
+}
+
+// The control of a heap as it begins: the free word that it has seen is that of the opening.
+fn open_control(alloc: Global, config: Config) -> Result<Control, NoMemory>
+    ensures shown { IfOk result (λ control. controlling (seen_control control) ≡ fresh_control (first_free config.regions)) }
+    ensures heap { IfOk result (λ control. config_in control ≡ config) }
+{
+    let mut image = Image::open(alloc, config)?;
+    image.set_word(config.free_at(), first_free(config.regions()));
+    Ok(Control::new(image))
 }

@@ -17,7 +17,7 @@ pub fn open_machines(alloc: Global, config: Config) -> Result<Vec<Machine>, NoMe
 {
     let mut machines = Vec::new(alloc);
     for number in 0..config.seats() {
-        let machine = Machine::open(config, number);
+        let machine = Machine::open(alloc, config, number)?;
         let Ok(()) = machines.push(machine) else {
             return Err(NoMemory);
         };

@@ -3,3 +3,4 @@ pub mod Codes
 pub mod Rows
 pub mod Stores
 pub mod Shapes
+pub mod Named

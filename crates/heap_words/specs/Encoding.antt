@@ -1,5 +1,5 @@
 -- How the numbers of an object are written into its words.
-use Rattle.std.specs.Prelude.{◌≡◌, ℕ, ◌+◌, ◌*◌, ◌/◌, ◌%◌, ◌^◌, ◌<◌, ◌≤◌, ◌==◌, Bool, true, false}
+use Rattle.std.specs.Prelude.{◌≡◌, ℕ, ◌+◌, ◌*◌, ◌/◌, ◌%◌, ◌^◌, ◌<◌, ◌≤◌, ◌==◌, if◌then◌else◌, Bool, true, false}
 
 -- the header of an object whose copy is at an address
 abbrev pub header_word : ℕ → ℕ
@@ -44,6 +44,12 @@ thread_in name = name / 2 ^ 32
 -- the count of a name word
 abbrev pub count_in : ℕ → ℕ
 count_in name = name % 2 ^ 32
+
+-- The words, in order, of an object of so many references and numbers that is new: header, shape, name, and zeros. It is the
+-- next object of the mutator of a seat that has made so many.
+abbrev pub fresh_word : ℕ → ℕ → ℕ → ℕ → ℕ → ℕ
+fresh_word seat made refs nums k =
+    if k == 0 then plain_header else (if k == 1 then shape_word refs nums else (if k == 2 then name_code (seat + 1) (made + 1) else 0))
 
 -- the word that asks for an object of a shape word, by the count of its name
 abbrev pub request_code : ℕ → ℕ → ℕ

@@ -4,4 +4,5 @@ pub mod Encoding
 pub mod Place
 pub mod Words
 pub mod Access
+pub mod Rows
 pub mod Name

@@ -16,7 +16,7 @@ pub use encoding::{
     count_of, forwarded, forwardee, header_to, name_word, nums_of, readers_undo, refs_of,
     request_count, request_shape, request_word, shape_of, thread_of, words_of,
 };
-pub use name::WordName;
+pub use name::{WordName, words_named};
 pub use place::Place;
 pub use schedule::{Item, NoMemory, Schedule};
 pub use words::{heap_in, roots_in, words_apart};

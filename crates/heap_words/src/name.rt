@@ -1,5 +1,6 @@
 ghost use Rattle.std.specs.Prelude.{◌≡◌, ◌+◌, ◌*◌, ◌<◌};
 ghost use Rattle.heap_words.specs.Words.{Word, IsWord, word_at, table_words, image_start, roots_start};
+ghost use Rattle.heap_words.specs.Rows.{name_of, AreNamed, AreReadWhole};
 ghost use Rattle.heap_words.specs.Name.{word_of};
 
 use super::config::Config;
@@ -57,6 +58,7 @@ impl Config {
     /// The name of the word that stands at this place of the table: it undoes the places of all words.
     pub fn name_of(&self, at: usize) -> WordName
         requires { at < table_words self.now }
+        ensures name { word_of result ≡ name_of self.now at }
         ensures word { IsWord self.now (word_of result) }
         ensures place { word_at self.now (word_of result) ≡ at }
         ensures only { (word : Word) → IsWord self.now word → word_at self.now word ≡ at → word ≡ word_of result }
@@ -171,3 +173,9 @@ impl Config {
         }
     }
 }
+
+/// A law: each place of the table is that of one word, and all words together say all of a table.
+pub fn words_named()
+    ensures named { AreNamed }
+    ensures whole { AreReadWhole }
+{}

@@ -20,7 +20,8 @@ impl Config {
         (self.heap_size() + 63) / 64
     }
 
-    pub(crate) fn image_start(&self) -> usize
+    /// Where the words of the image begin in the table: those that a pause reads and may change. They end it.
+    pub fn image_start(&self) -> usize
         ensures value { result ≡ image_start self.now }
         ensures bound { result ≤ 14 }
     {

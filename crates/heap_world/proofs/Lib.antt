@@ -7,4 +7,5 @@ pub mod Joined
 pub mod NewPiece
 pub mod FreeRegions
 pub mod Objects
+pub mod NewObject
 pub mod SharedOut

@@ -6,7 +6,7 @@ use Rattle.heap_words.specs.Ranges.{seat_count}
 use Rattle.regions.specs.Place.{base_of}
 use Rattle.shen_graph.specs.declared.name.Name.{Name}
 use Rattle.shen_graph.specs.Graph.{Object}
-use Rattle.heap_world.specs.World.{Block, thing, hand, Plot, name_at, IsPlotted, IsFilled, AreObjects, IsFreeWord, AreCurrent, IsRoom, AreRooms}
+use Rattle.heap_world.specs.World.{Block, thing, hand, promised, Plot, name_at, IsPlotted, IsFilled, AreObjects, IsFreeWord, AreCurrent, IsRoom, AreRooms, ArePromises}
 use Rattle.heap_world.proofs.Updates.{updated, updated_there, updated_else}
 use Rattle.heap_world.proofs.Joined as joined
 use Rattle.heap_world.proofs.Joined.{CanJoin}
@@ -16,6 +16,7 @@ use Rattle.heap_world.proofs.Pieces.{three_words, piece_cases, object_reads}
 pub record CanGrow (c : Config) (top current : ℕ → ℕ) (block : Plot) (region at words : ℕ) : Type 0 where
   pub plotted : IsPlotted c top block
   pub rooms : AreRooms c top current block
+  pub promises : ArePromises block
   pub within : region < c.regions
   pub top_is : top region ≡ at
   pub room : at + words ≤ c.region_words
@@ -38,7 +39,7 @@ module _ (c : Config) (top current : ℕ → ℕ) (block : Plot) (region at word
   joins : CanJoin c top block region at (hand seat words)
   joins = record {
     plotted = grows.plotted;
-    long = three_words c top current block grows.rooms;
+    long = three_words c top current block grows.rooms grows.promises;
     within = grows.within;
     top_is = grows.top_is;
     room = grows.room;
@@ -81,6 +82,17 @@ module _ (c : Config) (top current : ℕ → ℕ) (block : Plot) (region at word
       (λ (new : (a ≡ address) × (hand seat words ≡ hand seat more)). let same = new.1 in let sizes : more ≡ words = cc in (new.0, sizes))
       (λ (old : (a ≢ address) × (block a ≡ Some (hand seat more))). absurd (none a more old.1))
       (piece_cases block address (hand seat words) a (hand seat more) is)
+
+  -- a promised object is an old one
+  pub old_promise : (a other more : ℕ) → new_block a ≡ Some (promised other more) → block a ≡ Some (promised other more)
+  old_promise a other more is = ⊎_elim
+      (λ (new : (a ≡ address) × (hand seat words ≡ promised other more)). let differ = new.1 in cc)
+      (λ (old : (a ≢ address) × (block a ≡ Some (promised other more))). old.1)
+      (piece_cases block address (hand seat words) a (promised other more) is)
+
+  -- promised objects are as long as before
+  pub promises_more : ArePromises new_block
+  promises_more a other more is = grows.promises a other more (old_promise a other more is)
 
   -- the words are those of the graph's objects
   pub objects_more : (heap : ℕ → ℕ) (object : Name → Option Object) → AreObjects heap block object → AreObjects heap new_block object

@@ -10,7 +10,7 @@ use Rattle.steps_base.proofs.Places.{slice_get-set_same, slice_get-set_other}
 use Rattle.shen_graph.specs.declared.name.Name.{Name}
 use Rattle.shen_graph.specs.Graph.{Reference, Object, Graph, same_name}
 use Rattle.shen_graph.proofs.PlainLemmas.{same_name-true, same_name-itself}
-use Rattle.heap_world.specs.World.{World, thing, hand, Plot, Points, Target, IsPlotted, IsThing, AreObjects, Shared}
+use Rattle.heap_world.specs.World.{World, thing, hand, promised, Plot, Points, Target, IsPlotted, IsThing, AreObjects, Shared}
 use Rattle.heap_world.specs.Rely.{Rely}
 use Rattle.heap_world.proofs.Updates.{updated, updated_same, updated_else}
 use Rattle.heap_world.proofs.Apart.{one_piece}
@@ -137,7 +137,7 @@ module _ (c : Config) (u : World) (a refs nums at value : ℕ) (name : Name) (o 
     free_word = shared.free_word;
     currents = shared.currents;
     rooms = shared.rooms;
-    unasked = shared.unasked;
+    promises = shared.promises;
   }
 
   -- and what another mutator relies on, if its roots are as before
@@ -152,12 +152,20 @@ module _ (c : Config) (u : World) (a refs nums at value : ℕ) (name : Name) (o 
         let same_piece : b ≡ a = one_piece c (λ r. u.memory (Top r)) u.block shared.plotted b a (b + k) (hand seat words) (thing name refs nums) is target.piece (omega arith) (omega arith) (omega arith) (omega arith) in
         let both : Some (hand seat words) ≡ Some (thing name refs nums) = sym is ∙ ap u.block same_piece ∙ target.piece in
         cc);
+    promises = λ b words is. is;
+    no_promises = λ b words is. is;
+    promise_words = λ b words k is below. updated_else (λ b. u.memory (Heap b)) at value (b + k) (λ same.
+        let same_piece : b ≡ a = one_piece c (λ r. u.memory (Top r)) u.block shared.plotted b a (b + k) (promised seat words) (thing name refs nums) is target.piece (omega arith) (omega arith) (omega arith) (omega arith) in
+        let both : Some (promised seat words) ≡ Some (thing name refs nums) = sym is ∙ ap u.block same_piece ∙ target.piece in
+        cc);
     current = refl;
     owners = λ r is. is;
     tops = λ r is. refl;
     root_words = λ i. refl;
     roots = roots;
     count = refl;
+    wait = refl;
+    answer = refl;
     state = refl;
     phase = refl;
     cset = refl;

@@ -30,7 +30,7 @@ module _ (c : Config) (w : World) (shared : Shared c w) where
   -- a piece of a region ends at or below the region's top
   ends_below_top : (r b : ℕ) (x : Block) → IsOf c r b → w.block b ≡ Some x → b + words_of x ≤ base_of c r + w.memory (Top r)
   ends_below_top r b x of is =
-      let long = three_words c (λ k. w.memory (Top k)) (λ k. w.memory (Current k)) w.block shared.rooms b x is in
+      let long = three_words c (λ k. w.memory (Top k)) (λ k. w.memory (Current k)) w.block shared.rooms shared.promises b x is in
       ⊎_elim
       (λ before. absurd (omega (arith, before, of.from, long)))
       (λ rest. ⊎_elim (λ within. within.1) (λ beyond. absurd (omega (arith, beyond, of.before))) rest)
@@ -45,7 +45,7 @@ module _ (c : Config) (w : World) (shared : Shared c w) where
       let behind_a = shared.plotted.apart a b (hand seat words) x is_a is_b less in
       let top = ends_at_top r a seat words of_a is_a in
       let most = ends_below_top r b x of_b is_b in
-      let long = three_words c (λ k. w.memory (Top k)) (λ k. w.memory (Current k)) w.block shared.rooms b x is_b in
+      let long = three_words c (λ k. w.memory (Top k)) (λ k. w.memory (Current k)) w.block shared.rooms shared.promises b x is_b in
       absurd (omega (arith, behind_a, top, most, long)))
       (λ more. shared.plotted.apart b a x (hand seat words) is_b is_a more)
       order)

@@ -3,5 +3,7 @@ pub mod World
 pub mod Rely
 pub mod Part
 pub mod Roots
+pub mod Asking
 pub mod Represents
+pub mod Change
 pub mod Regions

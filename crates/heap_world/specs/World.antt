@@ -1,7 +1,7 @@
 -- What it means that the words of a heap stand for a graph.
 use Rattle.std.specs.Prelude.{ℕ, ◌≡◌, ◌+◌, ◌<◌, ◌≤◌, ◌^◌, Option, Some, None}
 use Rattle.heap_words.specs.declared.config.Config.{Config}
-use Rattle.heap_words.specs.Words.{Word, Phase, Cset, Free, Evac, Top, Current, Wait, Answer, Heap}
+use Rattle.heap_words.specs.Words.{Word, Phase, Cset, Free, Evac, Top, Current, Heap}
 use Rattle.heap_words.specs.Ranges.{seat_count}
 use Rattle.regions.specs.Place.{base_of}
 use Rattle.regions.specs.Sets.{IsIn}
@@ -9,15 +9,18 @@ use Rattle.shen_graph.specs.declared.name.Name.{Name}
 use Rattle.shen_graph.specs.Graph.{Reference, Object, Graph}
 use Rattle.heap_world.specs.Objects.{Refers, IsObject}
 
--- A piece of the part of a region that is in use: an object of a name, with so many references and numbers, or so many
--- words that a machine has in hand.
+-- A piece of the part of a region that is in use: an object of a name, with so many references and numbers; so many words
+-- that a machine has in hand; or an object of so many words that a pause has made for the mutator of a seat, which waits for it
+-- and has not taken it into the graph yet.
 pub data Block : Type 0 where
   thing : (name : Name) (refs nums : ℕ) → Block
   hand : (seat words : ℕ) → Block
+  promised : (seat words : ℕ) → Block
 
 abbrev pub words_of : Block → ℕ
 words_of (thing name refs nums) = 3 + refs + nums
 words_of (hand seat words) = words
+words_of (promised seat words) = words
 
 -- by address, the piece that begins there
 abbrev pub Plot : Type 0
@@ -34,6 +37,7 @@ pub record World : Type 0 where
 abbrev pub name_at : Option Block → Option Name
 name_at (Some (thing name refs nums)) = Some name
 name_at (Some (hand seat words)) = None
+name_at (Some (promised seat words)) = None
 name_at None = None
 
 -- a word stands for a reference where objects stand so
@@ -110,13 +114,12 @@ pub record IsRoom (c : Config) (top current : ℕ → ℕ) (address seat words :
 abbrev pub AreRooms : Config → (ℕ → ℕ) → (ℕ → ℕ) → Plot → Type 0
 AreRooms c top current block = (a seat words : ℕ) → block a ≡ Some (hand seat words) → IsRoom c top current a seat words
 
--- nobody waits for an object, and none is answered yet
-pub record AreUnasked (c : Config) (wait answer : ℕ → ℕ) : Type 0 where
-  pub waits : (t : ℕ) → t < c.mutators → wait t ≡ 0
-  pub answers : (t : ℕ) → t < c.mutators → answer t ≡ 0
+-- an object that is promised has a header, a shape and a name at least
+abbrev pub ArePromises : Plot → Type 0
+ArePromises block = (a seat words : ℕ) → block a ≡ Some (promised seat words) → 3 ≤ words
 
 -- the facts that all machines share, each over the words that it speaks of
-pub record SharedFacts (c : Config) (top heap : ℕ → ℕ) (block : Plot) (owner : ℕ → Option ℕ) (object : Name → Option Object) (count : ℕ → ℕ) (phase cset evac free : ℕ) (current wait answer : ℕ → ℕ) : Type 0 where
+pub record SharedFacts (c : Config) (top heap : ℕ → ℕ) (block : Plot) (owner : ℕ → Option ℕ) (object : Name → Option Object) (count : ℕ → ℕ) (phase cset evac free : ℕ) (current : ℕ → ℕ) : Type 0 where
   pub plotted : IsPlotted c top block
   pub filled : IsFilled c top block
   pub objects : AreObjects heap block object
@@ -125,8 +128,8 @@ pub record SharedFacts (c : Config) (top heap : ℕ → ℕ) (block : Plot) (own
   pub free_word : IsFreeWord c free top owner
   pub currents : AreCurrent c current owner
   pub rooms : AreRooms c top current block
-  pub unasked : AreUnasked c wait answer
+  pub promises : ArePromises block
 
 abbrev pub Shared : Config → World → Type 0
 Shared c w = SharedFacts c (λ r. w.memory (Top r)) (λ a. w.memory (Heap a)) w.block w.owner w.graph.object w.graph.count (w.memory Phase) (w.memory Cset) (w.memory Evac)
-    (w.memory Free) (λ s. w.memory (Current s)) (λ t. w.memory (Wait t)) (λ t. w.memory (Answer t))
+    (w.memory Free) (λ s. w.memory (Current s))

@@ -63,7 +63,7 @@ stands c m blank = record {
     each = λ a refs nums name is. absurd (none-some _ is);
     once = λ a b refs nums more_refs more_nums name is is_other. absurd (none-some _ is);
   };
-  no_hands = λ a seat words is. none-some _ is;
+  things = λ a piece is. absurd (none-some _ is);
   free_word = record {
     no_more = blank.free;
     empty = λ r below member. blank.tops r;
@@ -99,7 +99,7 @@ blank_holds c m blank = ∣ (
       rooted = rooted c m blank;
       moved = λ a refs nums name is forwarded. absurd (none-some _ is);
       filled = (stands c m blank).filled;
-      no_hands = (stands c m blank).no_hands;
+      things = (stands c m blank).things;
       free_word = (stands c m blank).free_word;
       currents = record {
         within = λ seat r is. absurd (omega (arith, is, blank.currents seat));

@@ -2,5 +2,5 @@ pub mod Steps
 pub mod Room
 pub mod Turns
 pub mod Blank
-pub mod Empty
 pub mod Packed
+pub mod Shown

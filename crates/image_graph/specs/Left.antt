@@ -1,15 +1,18 @@
--- What serving leaves of requests, and of the graph.
-use Rattle.std.specs.Prelude.{ℕ, ◌≢◌, ◌<◌}
+-- What serving leaves of requests, and of the graph, and what a text shows of it.
+use Rattle.std.specs.Prelude.{ℕ, ◌≢◌, ◌<◌, Option}
 use Rattle.heap_words.specs.declared.config.Config.{Config}
 use Rattle.heap_words.specs.Words.{Word, Wait}
 use Rattle.packing.specs.Rooms.{HasNoRoom}
 use Rattle.image_laws.specs.Full.{asked_in}
 use Rattle.image_laws.specs.Served.{tops_at_turn}
 use Rattle.shen_graph.specs.Graph.{Graph}
+use Rattle.shen_graph.specs.GraphText.{Text}
+use Rattle.heap_graph.specs.Shows.{Shows}
 use Rattle.heap_world.specs.World.{Plot}
 use Rattle.image_laws.specs.Promised.{Promises}
 use Rattle.image_laws.specs.Image.{ImageStands}
 use Rattle.image_laws.specs.Serving.{AreAsking, served_block, served_promises}
+use Rattle.image_graph.specs.Holds.{HoldsBy}
 
 -- a thread waits, and when its turn comes each region has less room than it asks for
 pub record IsLeft (c : Config) (memory : Word → ℕ) (t : ℕ) : Type 0 where
@@ -21,3 +24,7 @@ pub record IsLeft (c : Config) (memory : Word → ℕ) (t : ℕ) : Type 0 where
 abbrev pub IsServedGraph : Config → (before after : Word → ℕ) → Type 0
 IsServedGraph c before after = (block : Plot) (g : Graph) (p : Promises) → ImageStands c before block g p → AreAsking c before g p 0
     → ImageStands c after (served_block c before block c.mutators) g (served_promises c before p c.mutators)
+
+-- a text shows the graph that words hold, whichever and in whatever way: what the roots lead to, by current copies
+abbrev pub ShowsTheGraph : Config → (Word → ℕ) → Text → Type 0
+ShowsTheGraph c memory text = (block : Plot) (owner : ℕ → Option ℕ) (p : Promises) (g : Graph) → HoldsBy c memory block owner p g → Shows text c.mutators g

@@ -23,12 +23,11 @@ pub struct Image {
 
 impl Image {
     ghost use Rattle.std.specs.Prelude.{ℕ, ◌<◌, true, false, slice_set, slice_index, Option, IfOk};
-    ghost use Rattle.heap_words.specs.Words.{Word, Top, Heap, IsWord, word_at, write, heap_in, roots_in};
-    ghost use Rattle.shen_graph.specs.declared.name.Name.{Name};
-    ghost use Rattle.shen_graph.specs.Graph.{Graph};
-    ghost use Rattle.heap_graph.specs.Shows.{Shows, WordsStand, StandForSome};
+    ghost use Rattle.heap_words.specs.Words.{Word, Cset, Top, Heap, IsWord, word_at, write};
     ghost use Rattle.image_laws.specs.Full.{now_in};
     ghost use Rattle.image_graph.specs.State.{config_of, words_of, memory_of, places_of, IsUnchanged, IsSomeSeats};
+    ghost use Rattle.image_graph.specs.Holds.{HoldsSome};
+    ghost use Rattle.image_graph.specs.Left.{ShowsTheGraph};
 
     /// An image of this configuration whose words are all 0. The error is that memory was refused.
     pub fn open(alloc: Global, config: Config) -> Result<Image, NoMemory>
@@ -140,16 +139,17 @@ impl Image {
         ensures { IsUnchanged self.old self.new }
     {}
 
-    /// Writes the graph that the words stand for: the objects that the roots lead to, in the order of their names, and the
-    /// roots of each mutator. Answers are no roots here. What the text held before is gone. It was opened for at least as
-    /// many words as the heap has, and for the heap's mutators. No word of the image changes, and no memory is taken.
+    /// Writes the graph that the image holds: the objects that the roots lead to, in the order of their names, and the
+    /// roots of each mutator. Answers are no roots here: what is promised is of no graph yet. The image holds a graph, and
+    /// no region is in the collection set. What the text held before is gone. It was opened for at least as many words as
+    /// the heap has, and for the heap's mutators. No word of the image changes, and no memory is taken.
     pub fn answer_graph(&mut self, text: &mut GraphText)
         requires room { heap_size (config_of self.old) ≤ text.old.room }
         requires threads { length text.old.roots ≡ (config_of self.old).mutators }
-        requires stand { StandForSome (config_of self.old).region_words (heap_in (config_of self.old) (words_of self.old)) (roots_in (config_of self.old) (words_of self.old)) }
+        requires holds { HoldsSome (config_of self.old) (memory_of self.old) }
+        requires calm { memory_of self.old Cset ≡ 0 }
         ensures unchanged { IsUnchanged self.old self.new }
-        ensures shows { (at : ℕ → Option Name) (g : Graph) → WordsStand (config_of self.old).region_words (heap_in (config_of self.old) (words_of self.old)) (roots_in (config_of self.old) (words_of self.old)) at g
-            → Shows text.new (config_of self.old).mutators g }
+        ensures shows { ShowsTheGraph (config_of self.old) (memory_of self.old) text.new }
 
         // The same text serves again.
         ensures same_room { text.new.room ≡ text.old.room }

@@ -1,17 +1,16 @@
 -- The image after packing stands for the same graph.
-use Rattle.std.proofs.Common.{◌≡◌, ℕ, nat_le, Some, List, refl, sym, ◌∙◌, arith}
-use Rattle.std.proofs.lemmas.Bool.{cond-true, le-leb}
+use Rattle.std.proofs.Common.{◌≡◌, ℕ, Some, List, refl, sym, ap, ◌∙◌, arith}
+use Rattle.std.proofs.lemmas.Option.{none-some}
 use Rattle.heap_words.specs.declared.config.Config.{Config}
-use Rattle.heap_words.specs.Words.{Word, Top, Heap, Wait, Answer}
-use Rattle.packing.specs.Places.{new_place}
+use Rattle.heap_words.specs.Words.{Word, Top, Heap}
 use Rattle.packing.proofs.Tops.{tops_are_words}
 use Rattle.sliding.specs.Slide.{renewed, slid}
 use Rattle.sliding.proofs.Slid.{slid_is}
 use Rattle.shen_graph.specs.declared.name.Name.{Name}
 use Rattle.shen_graph.specs.Graph.{Graph, Object}
-use Rattle.heap_world.specs.World.{Plot, thing, hand, AreObjects, IsGiven, AreUnasked, Shared}
+use Rattle.heap_world.specs.World.{Plot, hand, promised, name_at, AreObjects, IsGiven, Shared}
 use Rattle.image_laws.specs.Held.{from_root, IsAmong}
-use Rattle.image_laws.specs.Plot.{heap_end, packed_block, packed_top}
+use Rattle.image_laws.specs.Plot.{AreThings, heap_end, packed_block, packed_top}
 use Rattle.image_laws.specs.Pack.{CanPack}
 use Rattle.image_laws.specs.Full.{packed}
 use Rattle.image_laws.specs.Laws.{packed_world, IsBeforePacking, KeepsGraph}
@@ -31,23 +30,12 @@ module _ (c : Config) (memory : Word → ℕ) (block : Plot) (g : Graph) (now ke
   can : CanPack c top heap block g.object now kept
   can = can_pack c top heap block now (IsAmong roots) g before.holds kept before.kept_are
 
-  -- no piece is room in hand
-  no_hands : (a seat words : ℕ) → packed_block c kept block a ≡ Some (hand seat words) → ⊥
-  no_hands a seat words is =
-      let from = block_from c top heap block g.object now kept can a (hand seat words) is in
-      let piece = can.things from.0 from.1 in
-      let differ : Some (thing piece.0 piece.1 piece.2) ≡ Some (hand seat words) = sym piece.3 ∙ from.4 in
-      cc
-
-  -- who had no answer has none
-  unasked : AreUnasked c (λ t. memory (Wait t)) (λ t. memory (Answer t)) → AreUnasked c (λ t. packed c now kept memory (Wait t)) (λ t. packed c now kept memory (Answer t))
-  unfolding packed
-  unasked none = record {
-    waits = none.waits;
-    answers = λ t inside.
-        let zero' = none.answers t inside in
-        cond-true (nat_le (memory (Answer t)) 1) (memory (Answer t)) (new_place c.region_words kept (now (memory (Answer t)))) (le-leb (memory (Answer t)) 1 (omega (arith, zero'))) ∙ zero';
-  }
+  -- each piece is an object
+  are_things : AreThings (packed_block c kept block)
+  are_things a piece is =
+      let from = block_from c top heap block g.object now kept can a piece is in
+      let thing = can.things from.0 from.1 in
+      (thing.0, ap name_at (sym from.4 ∙ thing.3))
 
   -- the pieces are the graph's objects
   objects_again : AreObjects (λ a. packed c now kept memory (Heap a)) (packed_block c kept block) g.object
@@ -56,10 +44,9 @@ module _ (c : Config) (memory : Word → ℕ) (block : Plot) (g : Graph) (now ke
       slid_are_objects c top heap block g.object now kept can (slid c.region_words kept (renewed c.region_words now kept) heap (heap_end c))
       (slid_is c.region_words kept (renewed c.region_words now kept) heap (lie_apart c top heap block g.object now kept can) (heap_end c))
 
-  packed_shared : ((name : Name) (o : Object) → g.object name ≡ Some o → IsGiven c g.count name) → AreUnasked c (λ t. memory (Wait t)) (λ t. memory (Answer t))
-      → Shared c (packed_world c now kept memory block g)
+  packed_shared : ((name : Name) (o : Object) → g.object name ≡ Some o → IsGiven c g.count name) → Shared c (packed_world c now kept memory block g)
   unfolding packed
-  packed_shared given none = record {
+  packed_shared given = record {
     plotted = slid_is_plotted c top heap block g.object now kept can;
     filled = slid_is_filled c top heap block g.object now kept can;
     objects = objects_again;
@@ -67,8 +54,8 @@ module _ (c : Config) (memory : Word → ℕ) (block : Plot) (g : Graph) (now ke
     calm = record { phase_is = refl; cset_is = refl; evac_is = refl };
     free_word = free_again c (packed_top c kept);
     currents = record { within = λ seat r is. absurd (omega (arith, is)); own = λ seat r is. absurd (omega (arith, is)) };
-    rooms = λ a seat words is. absurd (no_hands a seat words is);
-    unasked = unasked none;
+    rooms = λ a seat words is. absurd (none-some _ (are_things a (hand seat words) is).1);
+    promises = λ a seat words is. absurd (none-some _ (are_things a (promised seat words) is).1);
   }
 
   pub keeps_graph : KeepsGraph c memory block g now kept roots
@@ -80,7 +67,7 @@ module _ (c : Config) (memory : Word → ℕ) (block : Plot) (g : Graph) (now ke
     root_words = λ word r is points. renewed_points c top heap block g.object now kept can word r points (λ other.
         let size = before.kept_are.words (now word) (from_root word is other) in omega (arith, size));
     free_word = free_again c (packed_top c kept);
-    no_hands = no_hands;
+    things = are_things;
     tops_sum = tops_are_words c.region_words kept (lie_apart c top heap block g.object now kept can) c.regions
         (λ a some. (let inside = kept_inside c top heap block g.object now kept can a some in omega (arith, inside.1, some))) (heap_end c);
     shared = packed_shared;

@@ -14,20 +14,21 @@ use Rattle.regions.specs.Sets.{all_but}
 use Rattle.shen_graph.specs.declared.name.Name.{Name}
 use Rattle.shen_graph.specs.Graph.{Graph, Object, Reference, blank, same_name, same_reference}
 use Rattle.shen_graph.proofs.PlainLemmas.{same_name-true, same_name-itself}
-use Rattle.heap_world.specs.World.{Block, thing, hand, words_of, Plot, name_at, Points, IsThing, AreObjects, IsFreeWord}
+use Rattle.heap_world.specs.World.{Block, thing, hand, promised, words_of, Plot, name_at, Points, IsThing, AreObjects, IsFreeWord}
 use Rattle.heap_world.proofs.Updates.{updated, updated_else, updated_there}
 use Rattle.heap_world.proofs.Keeping.{points_stay}
 use Rattle.heap_world.proofs.Pieces.{beside, piece_cases, object_reads}
 use Rattle.heap_world.proofs.FreeRegions.{free_without}
 use Rattle.heap_world.proofs.Joined as joined
 use Rattle.heap_world.proofs.Joined.{CanJoin}
+use Rattle.image_laws.specs.Plot.{AreThings}
 use Rattle.image_laws.specs.Full.{fresh_word, made_in}
 use Rattle.image_laws.specs.Promised.{Promises, with_promised}
 use Rattle.image_laws.specs.Image.{AnswerStands, ImageStands}
 use Rattle.image_laws.specs.Serving.{asked_shape, asked_name, asked_piece, made_block, made_promise, IsAsking}
 
 -- the words of a new object, and the others
-outside_fresh : (a shape name before x : ℕ) → (x < a) ⊎ (a + object_words shape ≤ x) → fresh_word a shape name before x ≡ before
+pub outside_fresh : (a shape name before x : ℕ) → (x < a) ⊎ (a + object_words shape ≤ x) → fresh_word a shape name before x ≡ before
 outside_fresh a shape name before x outside =
     cond-false (nat_le a x && nat_lt x (a + object_words shape)) (cond (a == x) plain_header (cond (a + 1 == x) shape (cond (a + 2 == x) name 0))) before
     (⊎_elim
@@ -79,7 +80,7 @@ differ a b other = ⊎_elim (λ (is : same_name a b ≡ true). absurd (other (sa
 -- what the words at an address are as a piece
 abbrev PieceAt : (ℕ → ℕ) → Plot → (Name → Option Object) → ℕ → Block → Type 0
 PieceAt heap block object a (thing name refs nums) = (o : Object) × (object name ≡ Some o) × IsThing heap block a refs nums name o
-PieceAt heap block object a (hand seat words) = Unit {0}
+PieceAt heap block object a _ = Unit {0}
 
 module _ (c : Config) (m : Word → ℕ) (block : Plot) (g : Graph) (p : Promises) (stands : ImageStands c m block g p) (t r : ℕ) (inside : t < c.mutators)
     (asking : IsAsking m g p t) (within : r < c.regions) (room : m (Top r) + object_words (asked_shape m t) ≤ c.region_words) where
@@ -119,7 +120,8 @@ module _ (c : Config) (m : Word → ℕ) (block : Plot) (g : Graph) (p : Promise
     where
       long : (a : ℕ) (b : Block) → block a ≡ Some b → 3 ≤ words_of b
       long a (thing name refs nums) is = omega arith
-      long a (hand seat words) is = absurd (stands.no_hands a seat words is)
+      long a (hand seat words) is = absurd (none-some _ (stands.things a (hand seat words) is).1)
+      long a (promised seat words) is = absurd (none-some _ (stands.things a (promised seat words) is).1)
 
   names_stay : (a : ℕ) (name : Name) → name_at (block a) ≡ Some name → name_at (new_block a) ≡ Some name
   names_stay = joined.names_stay c top block r (m (Top r)) piece can
@@ -243,11 +245,11 @@ module _ (c : Config) (m : Word → ℕ) (block : Plot) (g : Graph) (p : Promise
           let o = stands.objects.each a refs nums name is in
           none-some o.0 (sym asking.new ∙ ap (with_promised g p).object same ∙ o.1)
 
-  nobody_has_room : (a seat words : ℕ) → new_block a ≡ Some (hand seat words) → ⊥
-  nobody_has_room a seat words is = ⊎_elim
-      (λ (made : (a ≡ address) × (piece ≡ hand seat words)). let differs = made.1 in cc)
-      (λ (old : (a ≢ address) × (block a ≡ Some (hand seat words))). stands.no_hands a seat words old.1)
-      (cases a (hand seat words) is)
+  are_things : AreThings new_block
+  are_things a other is = ⊎_elim
+      (λ (made : (a ≡ address) × (piece ≡ other)). (new, ap (λ b. name_at (Some b)) (sym made.1)))
+      (λ (old : (a ≢ address) × (block a ≡ Some other)). stands.things a other old.1)
+      (cases a other is)
 
   free_less : IsFreeWord c (bit_and (m Free) (all_but r)) (updated top r (m (Top r) + words_of piece)) (λ q. None)
   free_less =
@@ -305,7 +307,7 @@ module _ (c : Config) (m : Word → ℕ) (block : Plot) (g : Graph) (p : Promise
     plotted = joined.plotted_more c top block r (m (Top r)) piece can;
     filled = joined.filled_more c top block r (m (Top r)) piece can stands.filled;
     objects = objects_more;
-    no_hands = nobody_has_room;
+    things = are_things;
     free_word = free_less;
     rooted = record { roots = roots_more; answers = answers_more; no_more_roots = stands.rooted.no_more_roots; no_more_promised = promised_to };
   }

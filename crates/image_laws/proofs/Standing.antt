@@ -99,7 +99,7 @@ module _ (c : Config) (memory : Word → ℕ) (block : Plot) (g : Graph) (p : Pr
     plotted = keeps.plotted;
     filled = keeps.filled;
     objects = keeps.objects;
-    no_hands = keeps.no_hands;
+    things = keeps.things;
     free_word = keeps.free_word;
     rooted = record { roots = root_again; answers = answer_again; no_more_roots = rooted.no_more_roots; no_more_promised = rooted.no_more_promised };
   }

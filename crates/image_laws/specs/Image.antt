@@ -1,12 +1,12 @@
--- When the words of an image stand for a graph, while no object has an old copy and nobody has room in hand.
+-- When the words of an image stand for a graph, while no object has an old copy and each piece is an object.
 use Rattle.std.specs.Prelude.{ℕ, ◌≡◌, ◌+◌, ◌<◌, ◌≤◌, ◌⊎◌, Some, None}
 use Rattle.heap_words.specs.declared.config.Config.{Config}
 use Rattle.heap_words.specs.Words.{Word, Free, Top, Root, Answer, Heap}
 use Rattle.shen_graph.specs.declared.name.Name.{Name}
 use Rattle.shen_graph.specs.Graph.{Graph, Reference}
-use Rattle.heap_world.specs.World.{hand, Plot, name_at, Points, IsPlotted, IsFilled, AreObjects, IsFreeWord}
+use Rattle.heap_world.specs.World.{Plot, name_at, Points, IsPlotted, IsFilled, AreObjects, IsFreeWord}
 use Rattle.image_laws.specs.Held.{IsAmong, HoldsGraph}
-use Rattle.image_laws.specs.Plot.{packed_block}
+use Rattle.image_laws.specs.Plot.{AreThings, packed_block}
 use Rattle.image_laws.specs.Full.{now_in, root_words, kept_in, packed}
 use Rattle.image_laws.specs.Promised.{Promises, with_promised}
 
@@ -27,7 +27,7 @@ pub record ImageStands (c : Config) (memory : Word → ℕ) (block : Plot) (g : 
   pub plotted : IsPlotted c (λ r. memory (Top r)) block
   pub filled : IsFilled c (λ r. memory (Top r)) block
   pub objects : AreObjects (λ a. memory (Heap a)) block (with_promised g p).object
-  pub no_hands : (a seat words : ℕ) → block a ≡ Some (hand seat words) → ⊥
+  pub things : AreThings block
   pub free_word : IsFreeWord c (memory Free) (λ r. memory (Top r)) (λ r. None)
   pub rooted : RootsStand c memory block g p
 

@@ -1,15 +1,15 @@
 -- That packing keeps exactly what the graph reaches, and keeps the graph.
 use Rattle.std.specs.Prelude.{ℕ, ◌≡◌, Some, None, List}
 use Rattle.heap_words.specs.declared.config.Config.{Config}
-use Rattle.heap_words.specs.Words.{Word, Free, Top, Heap, Wait, Answer}
+use Rattle.heap_words.specs.Words.{Word, Free, Top, Heap}
 use Rattle.packing.specs.Tops.{sum_below}
 use Rattle.sliding.specs.Slide.{renewed}
 use Rattle.shen_graph.specs.declared.name.Name.{Name}
 use Rattle.shen_graph.specs.Graph.{Graph, Object, Reference}
 use Rattle.shen_graph.specs.Reach.{IsReachable}
-use Rattle.heap_world.specs.World.{World, Plot, thing, hand, Points, IsPlotted, IsFilled, AreObjects, IsFreeWord, IsGiven, AreUnasked, Shared}
+use Rattle.heap_world.specs.World.{World, Plot, thing, Points, IsPlotted, IsFilled, AreObjects, IsFreeWord, IsGiven, Shared}
 use Rattle.image_laws.specs.Held.{IsHeld, IsAmong, AreKept, HoldsGraph}
-use Rattle.image_laws.specs.Plot.{heap_end, packed_block}
+use Rattle.image_laws.specs.Plot.{AreThings, heap_end, packed_block}
 use Rattle.image_laws.specs.Full.{packed, now_in, root_words, kept_in}
 
 -- Exactly the reachable objects are held: what is held is the current copy of a reachable object, and each reachable
@@ -38,18 +38,17 @@ pub record IsBeforePacking (c : Config) (memory : Word → ℕ) (block : Plot) (
   pub kept_are : AreKept (λ a. memory (Heap a)) (IsHeld now (λ a. memory (Heap a)) (IsAmong roots)) kept
 
 -- After packing the words stand for the same graph: pieces fill the regions and are the graph's objects, what a root word
--- stood for it stands for once renewed, and nobody has a region or room in hand. What all machines share then holds, where
--- the graph's names were given and nobody waits.
+-- stood for it stands for once renewed, and nobody has a region. What all machines share then holds, where the graph's names
+-- were given.
 pub record KeepsGraph (c : Config) (memory : Word → ℕ) (block : Plot) (g : Graph) (now kept : ℕ → ℕ) (roots : List ℕ) : Type 0 where
   pub plotted : IsPlotted c (λ r. packed c now kept memory (Top r)) (packed_block c kept block)
   pub filled : IsFilled c (λ r. packed c now kept memory (Top r)) (packed_block c kept block)
   pub objects : AreObjects (λ a. packed c now kept memory (Heap a)) (packed_block c kept block) g.object
   pub root_words : (word : ℕ) (r : Reference) → IsAmong roots word → Points block word r → Points (packed_block c kept block) (renewed c.region_words now kept word) r
   pub free_word : IsFreeWord c (packed c now kept memory Free) (λ r. packed c now kept memory (Top r)) (λ r. None)
-  pub no_hands : (a seat words : ℕ) → packed_block c kept block a ≡ Some (hand seat words) → ⊥
+  pub things : AreThings (packed_block c kept block)
   pub tops_sum : sum_below (λ r. packed c now kept memory (Top r)) c.regions ≡ sum_below kept (heap_end c)
-  pub shared : ((name : Name) (o : Object) → g.object name ≡ Some o → IsGiven c g.count name) → AreUnasked c (λ t. memory (Wait t)) (λ t. memory (Answer t))
-      → Shared c (packed_world c now kept memory block g)
+  pub shared : ((name : Name) (o : Object) → g.object name ≡ Some o → IsGiven c g.count name) → Shared c (packed_world c now kept memory block g)
 
 abbrev pub PackingKeepsGraph : Type 0
 PackingKeepsGraph = (c : Config) (memory : Word → ℕ) (block : Plot) (g : Graph) (now kept : ℕ → ℕ) (roots : List ℕ)

@@ -1,9 +1,14 @@
 -- How the regions are divided once the kept objects were packed.
-use Rattle.std.specs.Prelude.{ℕ, ◌+◌, ◌*◌, ◌==◌, ◌&&◌, nat_lt, if◌then◌else◌, Option, Some, None, option_and_then, zero, suc}
+use Rattle.std.specs.Prelude.{ℕ, ◌≡◌, ◌+◌, ◌*◌, ◌==◌, ◌&&◌, nat_lt, if◌then◌else◌, Option, Some, None, option_and_then, zero, suc}
 use Rattle.heap_words.specs.declared.config.Config.{Config}
 use Rattle.packing.specs.Places.{new_place}
 use Rattle.packing.specs.Tops.{top_before}
-use Rattle.heap_world.specs.World.{Plot}
+use Rattle.shen_graph.specs.declared.name.Name.{Name}
+use Rattle.heap_world.specs.World.{Block, Plot, name_at}
+
+-- each piece is an object of a name: nobody has room in hand, and what a pause has made for a mutator counts as an object
+abbrev pub AreThings : Plot → Type 0
+AreThings block = (a : ℕ) (piece : Block) → block a ≡ Some piece → (name : Name) × (name_at (Some piece) ≡ Some name)
 
 -- the address behind the last one of the heap
 abbrev pub heap_end : Config → ℕ

@@ -5,34 +5,35 @@ use Rattle.heap_words.specs.declared.config.Config.{Config}
 use Rattle.heap_words.specs.declared.access.Took.{Took}
 use Rattle.heap_words.specs.declared.access.Took.TheVariants as took
 use Rattle.shen_graph.specs.declared.command.Reply.{Reply}
-use Rattle.alloc_buffers.specs.declared.spot.Taken.TheVariants.{At, NoRoom}
-use Rattle.alloc_buffers.specs.declared.spot.TakeSpot.{TakeSpot}
-use Rattle.alloc_buffers.specs.declared.spot.TakeSpot.TheVariants as take_spot
+use Rattle.handshake.specs.Rows.{enter_says}
+use Rattle.alloc_buffers.specs.Rows as takes
 use Rattle.mutator.specs.declared.spot.Spot.{Spot}
-use Rattle.mutator.specs.declared.spot.Spot.TheVariants.{OnField, Making, Leave}
+use Rattle.mutator.specs.declared.spot.Spot.TheVariants.{Entering, OnField, Making, Waiting, Leave}
 use Rattle.mutator.specs.declared.spot.Kept.{Kept}
 use Rattle.mutator.specs.declared.fields.FieldSpot.TheVariants.{Exchange}
 use Rattle.mutator.specs.declared.makes.MakeSpot.TheVariants.{Taking}
-use Rattle.mutator.specs.Rows.{given_at, take_next, take_says, answer_at}
+use Rattle.mutator.specs.declared.waits.WaitSpot.TheVariants.{Poll}
+use Rattle.mutator.specs.WaitRows.{call_says}
+use Rattle.mutator.specs.Rows.{given_at, take_next, answer_at}
 
--- an exchange is done again or goes on
-swap_goes : (b : Bool) → ◌≡◌ {A = Took} (if b then took.More else took.Again) took.Done → ⊥
-swap_goes true is = cc
-swap_goes false is = cc
+-- a step that says one of two things, of which neither is Done, is not done
+not_done : (b : Bool) (one other : Took) → (one ≡ took.Done → ⊥) → (other ≡ took.Done → ⊥) → (if b then one else other) ≡ took.Done → ⊥
+not_done true one other first second is = first is
+not_done false one other first second is = second is
 
--- a taking of room is done again or goes on
-take_goes : (take next : TakeSpot) → take_says take next ≡ took.Done → ⊥
-take_goes take (take_spot.Ended (At address)) is = cc
-take_goes take (take_spot.Ended NoRoom) is = cc
-take_goes (take_spot.TakeRegion region) take_spot.LoadFree is = cc
-take_goes (take_spot.TakeRegion region) next is = cc
-take_goes _ next is = cc
+-- a part never ends a call
+goes_on : (said : Took) → call_says said ≡ took.Done → ⊥
+goes_on took.Again is = cc
+goes_on _ is = cc
 
 -- a step that says Done gives its reply, and no other step does
 pub done_gives : (c : Config) (kept : Kept) (spot : Spot) (got : ℕ) → answer_at c kept spot got ≡ took.Done → (r : Reply) × (given_at spot ≡ Some r)
 done_gives c kept (Leave r) got is = (r, refl)
-done_gives c kept (OnField object (Exchange found expect value)) got is = absurd (swap_goes (got == found) is)
-done_gives c kept (Making (Taking take)) got is = absurd (take_goes take (take_next c kept take got) is)
+done_gives c kept (Entering at next) got is = absurd (goes_on (enter_says at got) is)
+done_gives c kept (OnField object (Exchange found expect value)) got is = absurd (not_done (got == found) took.More took.Again (λ e. cc) (λ e. cc) is)
+done_gives c kept (Making (Taking take)) got is = absurd (goes_on (takes.says take (take_next c kept.command take got)) is)
+done_gives c kept (Waiting Poll) got is = absurd (not_done (got == 0) took.Again took.More (λ e. cc) (λ e. cc) is)
 done_gives c kept (OnField object at) got is = absurd (cc)
 done_gives c kept (Making at) got is = absurd (cc)
+done_gives c kept (Waiting at) got is = absurd (cc)
 done_gives c kept _ got is = absurd (cc)

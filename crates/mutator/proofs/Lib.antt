@@ -1,4 +1,3 @@
 pub mod Ready
 pub mod Done
 pub mod Orders
-pub mod Waits

@@ -1,27 +1,40 @@
 -- Which words a mutator can go on from.
-use Rattle.std.specs.Prelude.{ℕ, ◌≡◌, ◌==◌, Bool, true, false, ◌&&◌, nat_lt, if◌then◌else◌}
+use Rattle.std.specs.Prelude.{ℕ, ◌≡◌, ◌≢◌, ◌==◌, Bool, true, false, ◌&&◌, nat_lt, if◌then◌else◌}
 use Rattle.heap_words.specs.declared.config.Config.{Config}
 use Rattle.steps_base.specs.Fits.{touch_fits}
 use Rattle.shen_graph.specs.declared.order.Order.{Order}
+use Rattle.shen_graph.specs.declared.order.Order.TheVariants.{Nothing, End}
 use Rattle.shen_graph.specs.declared.command.Command.{Command}
+use Rattle.handshake.specs.declared.enter_spot.EnterSpot.{EnterSpot}
+use Rattle.handshake.specs.Rows.{is_entered}
 use Rattle.alloc_buffers.specs.declared.spot.TakeSpot.{TakeSpot}
 use Rattle.alloc_buffers.specs.Rows as takes
 use Rattle.mutator.specs.declared.spot.Kept.{Kept}
 use Rattle.mutator.specs.declared.spot.Spot.{Spot}
-use Rattle.mutator.specs.declared.spot.Spot.TheVariants.{LoadSet, Making}
+use Rattle.mutator.specs.declared.spot.Spot.TheVariants.{Entering, LoadSet, Making, Waiting}
 use Rattle.mutator.specs.declared.makes.MakeSpot.{MakeSpot}
 use Rattle.mutator.specs.declared.makes.MakeSpot.TheVariants.{Taking, StoreWord, StoreRoot}
+use Rattle.mutator.specs.declared.waits.WaitSpot.{WaitSpot}
+use Rattle.mutator.specs.declared.waits.WaitSpot.TheVariants as wait
 use Rattle.shen_graph.specs.Valid.{is_size}
 use Rattle.mutator.specs.Commands.{refs_of, nums_of}
-use Rattle.mutator.specs.Rows.{Mutating, words_of, touch_at, next_of}
+use Rattle.mutator.specs.Rows.{Mutating, words_of, take_next, touch_at, next_of}
 
 -- whether a mutator that has made so many objects can make one more, of so many fields
 abbrev pub is_next_object : ℕ → ℕ → ℕ → Bool
 is_next_object made refs nums = nat_lt made 4294967295 && (is_size refs && is_size nums)
 
+-- and that of a command
+abbrev pub can_make : ℕ → Command → Bool
+can_make made command = is_next_object made (refs_of command) (nums_of command)
+
 -- whether a taking of room has not ended
 abbrev pub is_going : TakeSpot → Bool
 is_going take = if takes.is_ended take then false else true
+
+-- whether an entering of the heap has not ended
+abbrev pub is_outside : EnterSpot → Bool
+is_outside at = if is_entered at then false else true
 
 -- whether the numbers of a spot of the making of an object are in range
 abbrev pub make_fits : Config → Command → MakeSpot → Bool
@@ -29,21 +42,44 @@ make_fits c command (Taking take) = is_going take && takes.numbers_fit c (words_
 make_fits c command (StoreWord address done) = nat_lt done (words_of command)
 make_fits c command (StoreRoot address) = true
 
+-- whether a mutator that has made so many objects can count one more, where its step counts one
+abbrev pub can_count : ℕ → WaitSpot → Bool
+can_count made (wait.StoreRoot address) = nat_lt made 4294967295
+can_count made _ = true
+
+-- and whether those of a spot of the waiting for an object are
+abbrev pub wait_fits : ℕ → Command → WaitSpot → Bool
+wait_fits made command wait.StoreRequest = can_make made command
+wait_fits made command at = can_count made at
+
 -- Whether the numbers of a spot, beside those of its access, are in range. As long as no collection sets the phase, it is
 -- 0 wherever a call has begun.
 abbrev pub numbers_fit : Config → ℕ → Kept → Spot → Bool
+numbers_fit c made kept (Entering at next) = is_outside at
 numbers_fit c made kept LoadSet = kept.phase == 0
-numbers_fit c made kept (Making at) = is_next_object made (refs_of kept.command) (nums_of kept.command) && make_fits c kept.command at
+numbers_fit c made kept (Making at) = can_make made kept.command && make_fits c kept.command at
+numbers_fit c made kept (Waiting at) = wait_fits made kept.command at
 numbers_fit c made kept _ = true
 
--- whether the next access can be made from a spot
+-- Whether the next access can be made from a spot. Between two calls it is that of the begin of a call; the one by which a
+-- mutator ends can always be made.
 abbrev pub is_ready : Config → ℕ → ℕ → Kept → Spot → Bool
-is_ready c seat made kept spot = touch_fits c (touch_at c seat made kept spot) && numbers_fit c made kept spot
+is_ready c seat made kept spot = touch_fits c (touch_at c seat made kept Nothing spot) && numbers_fit c made kept spot
 
 -- the mutator's next access can be made
 abbrev pub IsReady : Config → Mutating → Type 0
 IsReady c m = is_ready c m.seat m.made m.kept m.spot ≡ true
 
--- the word is fit: the access that follows can be made
+-- whether a making can go on with the word: its taking of room can
+abbrev pub make_goes : Config → ℕ → Command → MakeSpot → ℕ → Bool
+make_goes c seat command (Taking take) got = takes.is_ready c seat (words_of command) (take_next c command take got)
+make_goes c seat command _ got = true
+
+-- the count of mutators that have not ended is not 0 where one of them ends
+abbrev pub EndsFit : Order → ℕ → Type 0
+EndsFit End got = got ≢ 0
+EndsFit _ got = Unit {0}
+
+-- the word is fit: the access that follows can be made, and nobody ends that is not counted
 abbrev pub IsFit : Config → Mutating → Order → ℕ → Type 0
-IsFit c m order got = IsReady c (next_of c m order got)
+IsFit c m order got = IsReady c (next_of c m order got) × EndsFit order got

@@ -1,5 +1,6 @@
 pub mod Orders
 pub mod Commands
+pub mod WaitRows
 pub mod Rows
 pub mod Told
 pub mod Fit

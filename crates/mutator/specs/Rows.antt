@@ -6,9 +6,11 @@ use Rattle.heap_words.specs.declared.place.Place.{Place}
 use Rattle.heap_words.specs.declared.place.Place.TheVariants as place
 use Rattle.heap_words.specs.declared.access.Took.{Took}
 use Rattle.heap_words.specs.declared.access.Took.TheVariants.{More, Again, Done}
-use Rattle.heap_words.specs.Words.{State, Phase, Cset, Ask, Root, Heap}
-use Rattle.heap_words.specs.Encoding.{plain_header, shape_word, refs_in, name_code, thread_in, count_in}
-use Rattle.steps_base.specs.Touch.{Touch, touch, loads, stores, swaps, sets_bits, exchanges}
+use Rattle.heap_words.specs.Words.{Left, State, Phase, Cset, Ask, Root, Heap}
+use Rattle.heap_words.specs.Encoding.{refs_in, thread_in, count_in, fresh_word}
+use Rattle.steps_base.specs.Touch.{Touch, touch, loads, stores, swaps, subtracts, sets_bits, exchanges}
+use Rattle.handshake.specs.declared.enter_spot.EnterSpot.TheVariants.{Raise, Look}
+use Rattle.handshake.specs.Rows as enters
 use Rattle.alloc_buffers.specs.Rows as takes
 use Rattle.alloc_buffers.specs.declared.spot.Kind.TheVariants.{Fresh}
 use Rattle.alloc_buffers.specs.declared.spot.Taken.TheVariants.{At, NoRoom}
@@ -20,11 +22,12 @@ use Rattle.shen_graph.specs.declared.command.Command.TheVariants.{New, Get, Set,
 use Rattle.shen_graph.specs.declared.command.Reply.{Reply}
 use Rattle.shen_graph.specs.declared.command.Reply.TheVariants as reply
 use Rattle.shen_graph.specs.declared.order.Order.{Order}
-use Rattle.shen_graph.specs.declared.order.Order.TheVariants.{Nothing, Begin}
+use Rattle.shen_graph.specs.declared.order.Order.TheVariants.{Nothing, Begin, End}
 use Rattle.shen_graph.specs.Step.{yes_or_no}
 use Rattle.mutator.specs.declared.spot.Kept.{Kept}
 use Rattle.mutator.specs.declared.spot.Spot.{Spot}
-use Rattle.mutator.specs.declared.spot.Spot.TheVariants.{Rest, Ended, LoadSet, Loading, OnField, OnNumber, Showing, StoreRoot, Making, AskCycle, Leave}
+use Rattle.mutator.specs.declared.spot.Spot.TheVariants.{Rest, Ended, Entering, LoadPhase, LoadSet, Loading, OnField, OnNumber, Showing, StoreRoot, Making, AskCycle, Waiting, Leave, Gone}
+use Rattle.mutator.specs.declared.spot.Entered.TheVariants.{Call}
 use Rattle.mutator.specs.declared.loads.LoadSpot.{LoadSpot}
 use Rattle.mutator.specs.declared.loads.LoadSpot.TheVariants as load
 use Rattle.mutator.specs.declared.fields.FieldSpot.{FieldSpot}
@@ -35,7 +38,9 @@ use Rattle.mutator.specs.declared.shows.ShowSpot.{ShowSpot}
 use Rattle.mutator.specs.declared.shows.ShowSpot.TheVariants as show
 use Rattle.mutator.specs.declared.makes.MakeSpot.{MakeSpot}
 use Rattle.mutator.specs.declared.makes.MakeSpot.TheVariants as make
+use Rattle.mutator.specs.declared.waits.WaitSpot.TheVariants as wait
 use Rattle.mutator.specs.Commands.{roots_of, root_of, dst_of, index_of, number_of, refs_of, nums_of, lacks_object, has_part}
+use Rattle.mutator.specs.WaitRows.{call_says, after_enter, next_name, wait_place, wait_touch, wait_next, wait_made, wait_says}
 
 -- A mutator between two accesses: its number, how many objects it has made, what its call has kept, and where it stands.
 pub record Mutating : Type 0 where
@@ -44,9 +49,12 @@ pub record Mutating : Type 0 where
   pub kept : Kept
   pub spot : Spot
 
--- a mutator that has not begun a call
+-- a mutator that has not begun a call, where its thread has made so many objects before, or none
+abbrev pub mutator_after : ℕ → ℕ → Mutating
+mutator_after seat made = record { seat = seat; made = made; kept = record { command = Gc; phase = 0; cset = 0 }; spot = Rest }
+
 abbrev pub fresh_mutator : ℕ → Mutating
-fresh_mutator seat = record { seat = seat; made = 0; kept = record { command = Gc; phase = 0; cset = 0 }; spot = Rest }
+fresh_mutator seat = mutator_after seat 0
 
 -- the place of the next access, of each part of a call
 abbrev pub load_place : LoadSpot → Place
@@ -75,72 +83,85 @@ make_place (make.Taking take) = takes.place_at take
 make_place (make.StoreWord address done) = place.IW
 make_place (make.StoreRoot address) = place.RS
 
--- and of a mutator; between two calls it is that of the first access of a call
-abbrev pub place_at : Spot → Place
-place_at Rest = place.PH
-place_at (Ended reply) = place.PH
-place_at LoadSet = place.CS
-place_at (Loading at) = load_place at
-place_at (OnField object at) = field_place at
-place_at (OnNumber object refs at) = number_place at
-place_at (Showing value at) = show_place at
-place_at (StoreRoot value) = place.RS
-place_at (Making at) = make_place at
-place_at AskCycle = place.AK
-place_at (Leave reply) = place.LV
+-- between two calls it is by the order: that of the first access of a call, or of the access by which a mutator ends
+abbrev pub first_place : Order → Place
+first_place End = place.ML
+first_place order = enters.enter_place Raise
 
--- the words of a new object of a mutator, in order: header, shape, name, and zeros
-abbrev pub fresh_word : ℕ → ℕ → ℕ → ℕ → ℕ → ℕ
-fresh_word seat made refs nums k =
-    if k == 0 then plain_header else (if k == 1 then shape_word refs nums else (if k == 2 then name_code (seat + 1) (made + 1) else 0))
+-- and of a mutator. One that has ended makes no access, and the place is named as that of its last one
+abbrev pub place_at : Order → Spot → Place
+place_at order Rest = first_place order
+place_at order (Ended reply) = first_place order
+place_at order (Entering at next) = enters.enter_place at
+place_at order LoadPhase = place.PH
+place_at order LoadSet = place.CS
+place_at order (Loading at) = load_place at
+place_at order (OnField object at) = field_place at
+place_at order (OnNumber object refs at) = number_place at
+place_at order (Showing value at) = show_place at
+place_at order (StoreRoot value) = place.RS
+place_at order (Making at) = make_place at
+place_at order AskCycle = place.AK
+place_at order (Waiting at) = wait_place at
+place_at order (Leave reply) = place.LV
+place_at order Gone = place.ML
 
 -- how many words the object has that a command makes
 abbrev pub words_of : Command → ℕ
 words_of command = 3 + refs_of command + nums_of command
 
 -- the next access, of each part of a call
-abbrev pub load_touch : ℕ → Kept → LoadSpot → Touch
-load_touch seat kept load.First = touch (Root seat (root_of kept.command 0)) loads
-load_touch seat kept (load.Second first) = touch (Root seat (root_of kept.command 1)) loads
-load_touch seat kept (load.Third first second) = touch (Root seat (root_of kept.command 2)) loads
-load_touch seat kept (load.Shape object second third) = touch (Heap (object + 1)) loads
+abbrev pub load_touch : ℕ → Command → LoadSpot → Touch
+load_touch seat command load.First = touch (Root seat (root_of command 0)) loads
+load_touch seat command (load.Second first) = touch (Root seat (root_of command 1)) loads
+load_touch seat command (load.Third first second) = touch (Root seat (root_of command 2)) loads
+load_touch seat command (load.Shape object second third) = touch (Heap (object + 1)) loads
 
-abbrev pub field_touch : ℕ → Kept → FieldSpot → Touch
-field_touch object kept fields.Load = touch (Heap (object + 3 + index_of kept.command)) loads
-field_touch object kept (fields.LoadExpected expect value) = touch (Heap (object + 3 + index_of kept.command)) loads
-field_touch object kept (fields.Store value) = touch (Heap (object + 3 + index_of kept.command)) (stores value)
-field_touch object kept (fields.Swap value) = touch (Heap (object + 3 + index_of kept.command)) (swaps value)
-field_touch object kept (fields.Exchange found expect value) = touch (Heap (object + 3 + index_of kept.command)) (exchanges found value)
+abbrev pub field_touch : ℕ → Command → FieldSpot → Touch
+field_touch object command fields.Load = touch (Heap (object + 3 + index_of command)) loads
+field_touch object command (fields.LoadExpected expect value) = touch (Heap (object + 3 + index_of command)) loads
+field_touch object command (fields.Store value) = touch (Heap (object + 3 + index_of command)) (stores value)
+field_touch object command (fields.Swap value) = touch (Heap (object + 3 + index_of command)) (swaps value)
+field_touch object command (fields.Exchange found expect value) = touch (Heap (object + 3 + index_of command)) (exchanges found value)
 
-abbrev pub number_touch : ℕ → ℕ → Kept → NumberSpot → Touch
-number_touch object refs kept number.Load = touch (Heap (object + 3 + refs + index_of kept.command)) loads
-number_touch object refs kept number.Store = touch (Heap (object + 3 + refs + index_of kept.command)) (stores (number_of kept.command))
+abbrev pub number_touch : ℕ → ℕ → Command → NumberSpot → Touch
+number_touch object refs command number.Load = touch (Heap (object + 3 + refs + index_of command)) loads
+number_touch object refs command number.Store = touch (Heap (object + 3 + refs + index_of command)) (stores (number_of command))
 
-abbrev pub show_touch : ℕ → ℕ → Kept → ShowSpot → Touch
-show_touch seat value kept show.LoadName = touch (Heap (value + 2)) loads
-show_touch seat value kept (show.StoreRoot reply) = touch (Root seat (dst_of kept.command)) (stores value)
+abbrev pub show_touch : ℕ → ℕ → Command → ShowSpot → Touch
+show_touch seat value command show.LoadName = touch (Heap (value + 2)) loads
+show_touch seat value command (show.StoreRoot reply) = touch (Root seat (dst_of command)) (stores value)
 
-abbrev pub make_touch : ℕ → ℕ → Kept → MakeSpot → Touch
-make_touch seat made kept (make.Taking take) = takes.touch_at seat (words_of kept.command) take
-make_touch seat made kept (make.StoreWord address done) = touch (Heap (address + done)) (stores (fresh_word seat made (refs_of kept.command) (nums_of kept.command) done))
-make_touch seat made kept (make.StoreRoot address) = touch (Root seat (dst_of kept.command)) (stores address)
+abbrev pub make_touch : ℕ → ℕ → Command → MakeSpot → Touch
+make_touch seat made command (make.Taking take) = takes.touch_at seat (words_of command) take
+make_touch seat made command (make.StoreWord address done) = touch (Heap (address + done)) (stores (fresh_word seat made (refs_of command) (nums_of command) done))
+make_touch seat made command (make.StoreRoot address) = touch (Root seat (dst_of command)) (stores address)
 
--- and of a mutator
-abbrev pub touch_at : Config → ℕ → ℕ → Kept → Spot → Touch
-touch_at c seat made kept Rest = touch Phase loads
-touch_at c seat made kept (Ended reply) = touch Phase loads
-touch_at c seat made kept LoadSet = touch Cset loads
-touch_at c seat made kept (Loading at) = load_touch seat kept at
-touch_at c seat made kept (OnField object at) = field_touch object kept at
-touch_at c seat made kept (OnNumber object refs at) = number_touch object refs kept at
-touch_at c seat made kept (Showing value at) = show_touch seat value kept at
-touch_at c seat made kept (StoreRoot value) = touch (Root seat (dst_of kept.command)) (stores value)
-touch_at c seat made kept (Making at) = make_touch seat made kept at
-touch_at c seat made kept AskCycle = touch Ask (sets_bits 1)
-touch_at c seat made kept (Leave reply) = touch (State seat) (stores 0)
+-- between two calls it is by the order: a call begins by entering the heap, and to end is to be one mutator less
+abbrev pub first_touch : ℕ → Order → Touch
+first_touch seat End = touch Left (subtracts 1)
+first_touch seat order = enters.enter_touch seat Raise
 
-abbrev pub touch_of : Config → Mutating → Touch
-touch_of c m = touch_at c m.seat m.made m.kept m.spot
+-- and of a mutator. One that has ended makes none
+abbrev pub touch_at : Config → ℕ → ℕ → Kept → Order → Spot → Touch
+touch_at c seat made kept order Rest = first_touch seat order
+touch_at c seat made kept order (Ended reply) = first_touch seat order
+touch_at c seat made kept order (Entering at next) = enters.enter_touch seat at
+touch_at c seat made kept order LoadPhase = touch Phase loads
+touch_at c seat made kept order LoadSet = touch Cset loads
+touch_at c seat made kept order (Loading at) = load_touch seat kept.command at
+touch_at c seat made kept order (OnField object at) = field_touch object kept.command at
+touch_at c seat made kept order (OnNumber object refs at) = number_touch object refs kept.command at
+touch_at c seat made kept order (Showing value at) = show_touch seat value kept.command at
+touch_at c seat made kept order (StoreRoot value) = touch (Root seat (dst_of kept.command)) (stores value)
+touch_at c seat made kept order (Making at) = make_touch seat made kept.command at
+touch_at c seat made kept order AskCycle = touch Ask (sets_bits 1)
+touch_at c seat made kept order (Waiting at) = wait_touch seat made kept.command at
+touch_at c seat made kept order (Leave reply) = touch (State seat) (stores 0)
+touch_at c seat made kept order Gone = touch Left loads
+
+abbrev pub touch_of : Config → Mutating → Order → Touch
+touch_of c m order = touch_at c m.seat m.made m.kept order m.spot
 
 -- where a call goes on once the collection set was loaded
 abbrev pub first_spot : Command → Spot
@@ -196,26 +217,26 @@ after_expected object expect value found = if found == expect then OnField objec
 abbrev pub name_in : ℕ → Name
 name_in code = record { thread = thread_in code; count = count_in code }
 
--- where it goes on with its room for an object: no room is looked for again, from the start
+-- where it goes on with its room for an object: without room it asks for the object, and waits
 abbrev pub after_take : TakeSpot → Spot
 after_take (take_spot.Ended (At address)) = Making (make.StoreWord address 0)
-after_take (take_spot.Ended NoRoom) = Making (make.Taking take_spot.LoadCurrent)
+after_take (take_spot.Ended NoRoom) = Waiting wait.StoreRequest
 after_take take = Making (make.Taking take)
 
 -- where a taking of room stands after the access
-abbrev pub take_next : Config → Kept → TakeSpot → ℕ → TakeSpot
-take_next c kept take got = takes.next_at c (words_of kept.command) Fresh take got
+abbrev pub take_next : Config → Command → TakeSpot → ℕ → TakeSpot
+take_next c command take got = takes.next_at c (words_of command) Fresh take got
 
 -- where it goes on with an object of so many words, once so many of them were stored
 abbrev pub after_word : ℕ → ℕ → ℕ → Spot
 after_word words address done = Making (if nat_lt done words then make.StoreWord address done else make.StoreRoot address)
 
 -- where each part of a call goes on after its access, by the word that it was told
-abbrev pub load_next : Kept → LoadSpot → ℕ → Spot
-load_next kept load.First got = after_root kept.command got
-load_next kept (load.Second first) got = after_second kept.command first got
-load_next kept (load.Third first second) got = after_roots kept.command first second got
-load_next kept (load.Shape object second third) got = after_shape kept.command object second third got
+abbrev pub load_next : Command → LoadSpot → ℕ → Spot
+load_next command load.First got = after_root command got
+load_next command (load.Second first) got = after_second command first got
+load_next command (load.Third first second) got = after_roots command first second got
+load_next command (load.Shape object second third) got = after_shape command object second third got
 
 abbrev pub field_next : ℕ → FieldSpot → ℕ → Spot
 field_next object fields.Load got = after_field got
@@ -232,61 +253,58 @@ abbrev pub show_next : ℕ → ShowSpot → ℕ → Spot
 show_next value show.LoadName got = Showing value (show.StoreRoot (reply.Ref (name_in got)))
 show_next value (show.StoreRoot reply) got = Leave reply
 
-abbrev pub make_next : Config → ℕ → ℕ → Kept → MakeSpot → ℕ → Spot
-make_next c seat made kept (make.Taking take) got = after_take (take_next c kept take got)
-make_next c seat made kept (make.StoreWord address done) got = after_word (words_of kept.command) address (done + 1)
-make_next c seat made kept (make.StoreRoot address) got = Leave (reply.Ref (record { thread = seat + 1; count = made + 1 }))
+abbrev pub make_next : Config → ℕ → ℕ → Command → MakeSpot → ℕ → Spot
+make_next c seat made command (make.Taking take) got = after_take (take_next c command take got)
+make_next c seat made command (make.StoreWord address done) got = after_word (words_of command) address (done + 1)
+make_next c seat made command (make.StoreRoot address) got = Leave (reply.Ref (next_name seat made))
 
 -- how many objects were made then
 abbrev pub made_after : ℕ → MakeSpot → ℕ
 made_after made (make.StoreRoot address) = made + 1
 made_after made _ = made
 
--- the command that begins, if the order is one
-abbrev pub spot_by : Order → Spot → Spot
-spot_by Nothing spot = spot
-spot_by (Begin command) spot = LoadSet
+-- what a mutator between two calls is after its access: by its order it enters the heap for a call, or has ended
+abbrev pub begun : Order → Mutating → Mutating
+begun Nothing m = m
+begun (Begin command) m = record m { kept = record m.kept { command = command }; spot = Entering Look Call }
+begun End m = record m { spot = Gone }
 
--- what a mutator keeps that has loaded the phase
-abbrev pub kept_by : Order → ℕ → Kept → Kept
-kept_by Nothing phase kept = record kept { phase = phase }
-kept_by (Begin command) phase kept = record kept { command = command; phase = phase }
-
--- what the mutator is after the access, by the word that it was told
+-- what a mutator is after the access, by the word that it was told
 abbrev pub next_at : Config → Mutating → Order → ℕ → Spot → Mutating
-next_at c m order got Rest = record m { kept = kept_by order got m.kept; spot = spot_by order m.spot }
-next_at c m order got (Ended reply) = record m { kept = kept_by order got m.kept; spot = spot_by order m.spot }
+next_at c m order got Rest = begun order m
+next_at c m order got (Ended reply) = begun order m
+next_at c m order got (Entering at next) = record m { spot = after_enter next (enters.enter_next at got) }
+next_at c m order got LoadPhase = record m { kept = record m.kept { phase = got }; spot = LoadSet }
 next_at c m order got LoadSet = record m { kept = record m.kept { cset = got }; spot = first_spot m.kept.command }
-next_at c m order got (Loading at) = record m { spot = load_next m.kept at got }
+next_at c m order got (Loading at) = record m { spot = load_next m.kept.command at got }
 next_at c m order got (OnField object at) = record m { spot = field_next object at got }
 next_at c m order got (OnNumber object refs at) = record m { spot = number_next at got }
 next_at c m order got (Showing value at) = record m { spot = show_next value at got }
 next_at c m order got (StoreRoot value) = record m { spot = Leave reply.Ok }
-next_at c m order got (Making at) = record m { made = made_after m.made at; spot = make_next c m.seat m.made m.kept at got }
+next_at c m order got (Making at) = record m { made = made_after m.made at; spot = make_next c m.seat m.made m.kept.command at got }
 next_at c m order got AskCycle = record m { spot = Leave reply.Ok }
+next_at c m order got (Waiting at) = record m { made = wait_made m.made at; spot = wait_next m.seat m.made at got }
 next_at c m order got (Leave reply) = record m { spot = Ended reply }
+next_at c m order got Gone = m
 
 abbrev pub next_of : Config → Mutating → Order → ℕ → Mutating
 next_of c m order got = next_at c m order got m.spot
 
--- what a step of a taking of room says: without room it is tried again
-abbrev pub take_says : TakeSpot → TakeSpot → Took
-take_says take (take_spot.Ended (At address)) = More
-take_says take (take_spot.Ended NoRoom) = Again
-take_says take next = takes.says take next
-
--- what the step says: of an exchange, that it was lost; of the making of an object, what its taking of room says
+-- what the step says: of an exchange, that it was lost; of the making of an object, what its taking of room says; and that a
+-- mutator waits to enter, or for an object
 abbrev pub field_says : FieldSpot → ℕ → Took
 field_says (fields.Exchange found expect value) got = if got == found then More else Again
 field_says _ got = More
 
-abbrev pub make_says : Config → Kept → MakeSpot → ℕ → Took
-make_says c kept (make.Taking take) got = take_says take (take_next c kept take got)
-make_says c kept _ got = More
+abbrev pub make_says : Config → Command → MakeSpot → ℕ → Took
+make_says c command (make.Taking take) got = call_says (takes.says take (take_next c command take got))
+make_says c command _ got = More
 
 abbrev pub answer_at : Config → Kept → Spot → ℕ → Took
+answer_at c kept (Entering at next) got = call_says (enters.enter_says at got)
 answer_at c kept (OnField object at) got = field_says at got
-answer_at c kept (Making at) got = make_says c kept at got
+answer_at c kept (Making at) got = make_says c kept.command at got
+answer_at c kept (Waiting at) got = wait_says at got
 answer_at c kept (Leave reply) got = Done
 answer_at c kept _ got = More
 

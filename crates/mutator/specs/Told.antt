@@ -8,7 +8,7 @@ use Rattle.shen_graph.specs.declared.command.Reply.TheVariants as reply
 use Rattle.shen_graph.specs.Step.{yes_or_no}
 use Rattle.mutator.specs.declared.spot.Kept.{Kept}
 use Rattle.mutator.specs.declared.spot.Spot.{Spot}
-use Rattle.mutator.specs.declared.spot.Spot.TheVariants.{Loading, OnField, OnNumber, StoreRoot, Making, AskCycle}
+use Rattle.mutator.specs.declared.spot.Spot.TheVariants.{Loading, OnField, OnNumber, StoreRoot, Making, AskCycle, Waiting}
 use Rattle.mutator.specs.declared.loads.LoadSpot.{LoadSpot}
 use Rattle.mutator.specs.declared.loads.LoadSpot.TheVariants as load
 use Rattle.mutator.specs.declared.fields.FieldSpot.{FieldSpot}
@@ -16,7 +16,9 @@ use Rattle.mutator.specs.declared.fields.FieldSpot.TheVariants as fields
 use Rattle.mutator.specs.declared.numbers.NumberSpot.{NumberSpot}
 use Rattle.mutator.specs.declared.numbers.NumberSpot.TheVariants as number
 use Rattle.mutator.specs.declared.makes.MakeSpot.TheVariants as make
+use Rattle.mutator.specs.declared.waits.WaitSpot.TheVariants as wait
 use Rattle.mutator.specs.Commands.{root_of, index_of, lacks_object, has_part}
+use Rattle.mutator.specs.WaitRows.{next_name}
 use Rattle.mutator.specs.Rows.{Mutating, name_in}
 
 -- the name of the object at an address
@@ -37,31 +39,32 @@ told_second memory (Same a b) first second = Some (yes_or_no (name_the_same memo
 told_second memory _ first second = None
 
 -- what each part of a call settles
-abbrev pub load_told : (Word → ℕ) → ℕ → Kept → LoadSpot → Option Reply
-load_told memory seat kept load.First = if lacks_object kept.command (memory (Root seat (root_of kept.command 0))) then Some reply.Bad else None
-load_told memory seat kept (load.Second first) = told_second memory kept.command first (memory (Root seat (root_of kept.command 1)))
-load_told memory seat kept (load.Third first second) = None
-load_told memory seat kept (load.Shape object second third) = if has_part kept.command (memory (Heap (object + 1))) then None else Some reply.Bad
+abbrev pub load_told : (Word → ℕ) → ℕ → Command → LoadSpot → Option Reply
+load_told memory seat command load.First = if lacks_object command (memory (Root seat (root_of command 0))) then Some reply.Bad else None
+load_told memory seat command (load.Second first) = told_second memory command first (memory (Root seat (root_of command 1)))
+load_told memory seat command (load.Third first second) = None
+load_told memory seat command (load.Shape object second third) = if has_part command (memory (Heap (object + 1))) then None else Some reply.Bad
 
-abbrev pub field_told : (Word → ℕ) → ℕ → Kept → FieldSpot → Option Reply
-field_told memory object kept fields.Load = Some (shown_word memory (memory (Heap (object + 3 + index_of kept.command))))
-field_told memory object kept (fields.LoadExpected expect value) = if name_the_same memory (memory (Heap (object + 3 + index_of kept.command))) expect then None else Some reply.No
-field_told memory object kept (fields.Store value) = Some reply.Ok
-field_told memory object kept (fields.Swap value) = Some (shown_word memory (memory (Heap (object + 3 + index_of kept.command))))
-field_told memory object kept (fields.Exchange found expect value) = if memory (Heap (object + 3 + index_of kept.command)) == found then Some reply.Yes else None
+abbrev pub field_told : (Word → ℕ) → ℕ → Command → FieldSpot → Option Reply
+field_told memory object command fields.Load = Some (shown_word memory (memory (Heap (object + 3 + index_of command))))
+field_told memory object command (fields.LoadExpected expect value) = if name_the_same memory (memory (Heap (object + 3 + index_of command))) expect then None else Some reply.No
+field_told memory object command (fields.Store value) = Some reply.Ok
+field_told memory object command (fields.Swap value) = Some (shown_word memory (memory (Heap (object + 3 + index_of command))))
+field_told memory object command (fields.Exchange found expect value) = if memory (Heap (object + 3 + index_of command)) == found then Some reply.Yes else None
 
-abbrev pub number_told : (Word → ℕ) → ℕ → ℕ → Kept → NumberSpot → Option Reply
-number_told memory object refs kept number.Load = Some (reply.Number (memory (Heap (object + 3 + refs + index_of kept.command))))
-number_told memory object refs kept number.Store = Some reply.Ok
+abbrev pub number_told : (Word → ℕ) → ℕ → ℕ → Command → NumberSpot → Option Reply
+number_told memory object refs command number.Load = Some (reply.Number (memory (Heap (object + 3 + refs + index_of command))))
+number_told memory object refs command number.Store = Some reply.Ok
 
--- the reply that the access of a mutator settles, by its seat, how many objects it has made, what its call keeps, and the
--- memory that it finds
+-- The reply that the access of a mutator settles, by its seat, how many objects it has made, what its call keeps, and the
+-- memory that it finds. That the heap is full is settled by the pause that says so.
 abbrev pub told_at : (Word → ℕ) → ℕ → ℕ → Kept → Spot → Option Reply
-told_at memory seat made kept (Loading at) = load_told memory seat kept at
-told_at memory seat made kept (OnField object at) = field_told memory object kept at
-told_at memory seat made kept (OnNumber object refs at) = number_told memory object refs kept at
+told_at memory seat made kept (Loading at) = load_told memory seat kept.command at
+told_at memory seat made kept (OnField object at) = field_told memory object kept.command at
+told_at memory seat made kept (OnNumber object refs at) = number_told memory object refs kept.command at
 told_at memory seat made kept (StoreRoot value) = Some reply.Ok
-told_at memory seat made kept (Making (make.StoreRoot address)) = Some (reply.Ref (record { thread = seat + 1; count = made + 1 }))
+told_at memory seat made kept (Making (make.StoreRoot address)) = Some (reply.Ref (next_name seat made))
+told_at memory seat made kept (Waiting (wait.StoreRoot address)) = Some (reply.Ref (next_name seat made))
 told_at memory seat made kept AskCycle = Some reply.Ok
 told_at memory seat made kept _ = None
 

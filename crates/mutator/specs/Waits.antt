@@ -1,17 +1,19 @@
 -- Where a step says that the mutator waits for another machine, or has to look again.
-use Rattle.std.specs.Prelude.{ℕ, ◌≢◌, ◌≤◌}
-use Rattle.heap_words.specs.declared.config.Config.{Config}
-use Rattle.regions.specs.Sets.{IsIn, members_below}
-use Rattle.alloc_buffers.specs.declared.spot.TakeSpot.TheVariants.{LoadFree, TakeRegion}
+use Rattle.std.specs.Prelude.{ℕ, ◌≡◌, ◌≢◌}
+use Rattle.regions.specs.Sets.{IsIn}
+use Rattle.handshake.specs.declared.enter_spot.EnterSpot.TheVariants.{Await}
+use Rattle.alloc_buffers.specs.declared.spot.TakeSpot.TheVariants.{TakeRegion}
 use Rattle.mutator.specs.declared.spot.Spot.{Spot}
-use Rattle.mutator.specs.declared.spot.Spot.TheVariants.{OnField, Making}
+use Rattle.mutator.specs.declared.spot.Spot.TheVariants.{Entering, OnField, Making, Waiting}
 use Rattle.mutator.specs.declared.fields.FieldSpot.TheVariants.{Exchange}
 use Rattle.mutator.specs.declared.makes.MakeSpot.TheVariants.{Taking}
+use Rattle.mutator.specs.declared.waits.WaitSpot.TheVariants.{Poll}
 
--- At CX it finds another word than it expects, at TG the region that it wants is not free any more, and at TF no more
--- regions are free than are kept for copies. At each other place it never waits.
-abbrev pub WaitsAt : Config → Spot → ℕ → Type 0
-WaitsAt c (OnField object (Exchange found expect value)) got = got ≢ found
-WaitsAt c (Making (Taking (TakeRegion region))) got = IsIn got region → ⊥
-WaitsAt c (Making (Taking LoadFree)) got = members_below got 64 ≤ c.reserve
-WaitsAt c _ got = ⊥
+-- At E4 a pause is wanted, at WP there is no answer yet, at CX it finds another word than it expects, and at TG the region
+-- that it wants is not free any more. At each other place it never waits.
+abbrev pub WaitsAt : Spot → ℕ → Type 0
+WaitsAt (Entering Await next) got = got ≢ 0
+WaitsAt (OnField object (Exchange found expect value)) got = got ≢ found
+WaitsAt (Making (Taking (TakeRegion region))) got = IsIn got region → ⊥
+WaitsAt (Waiting Poll) got = got ≡ 0
+WaitsAt _ got = ⊥

@@ -5,9 +5,9 @@ ghost use Rattle.mutator.specs.Rows as rows;
 
 use crate::commands::index_of;
 use crate::shows::after_field;
-use crate::spot::{Kept, Spot};
+use crate::spot::Spot;
 use heap_words::{Access, Config, Place, Took};
-use shen_graph::Reply;
+use shen_graph::{Command, Reply};
 
 /// What a call does to the reference field that its command is about.
 #[derive(Clone, Copy, Debug, PartialEq, Eq)]
@@ -56,11 +56,11 @@ impl FieldSpot {
     }
 
     /// The next access, of the field of an object.
-    pub(crate) fn access(self, config: Config, object: u64, kept: Kept) -> Access
-        requires { touch_fits config (rows.field_touch object kept self) ≡ true }
-        ensures { result ≡ placed config (rows.field_touch object kept self) }
+    pub(crate) fn access(self, config: Config, object: u64, command: Command) -> Access
+        requires { touch_fits config (rows.field_touch object command self) ≡ true }
+        ensures { result ≡ placed config (rows.field_touch object command self) }
     {
-        let at = config.heap_at(object + 3 + index_of(kept.command) as u64);
+        let at = config.heap_at(object + 3 + index_of(command) as u64);
         match self {
             FieldSpot::Load | FieldSpot::LoadExpected { .. } => Access::Load { at },
             // These three keep AreObjects.

@@ -12,14 +12,16 @@ mod numbers;
 mod shows;
 mod spot;
 mod thread;
+mod waits;
 
 pub use fields::FieldSpot;
 pub use loads::LoadSpot;
 pub use makes::MakeSpot;
 pub use numbers::NumberSpot;
 pub use shows::ShowSpot;
-pub use spot::{Kept, Spot};
+pub use spot::{Entered, Kept, Spot};
 pub use thread::Mutator;
+pub use waits::WaitSpot;
 
 #[cfg(test)]
 mod tests;

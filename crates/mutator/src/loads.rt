@@ -7,7 +7,7 @@ use crate::commands::{first_root, has_part, is_on_object, root_count, second_roo
 use crate::fields::FieldSpot;
 use crate::makes::MakeSpot;
 use crate::numbers::NumberSpot;
-use crate::spot::{Kept, Spot};
+use crate::spot::Spot;
 use alloc_buffers::TakeSpot;
 use heap_words::{Access, Config, Place, refs_of};
 use shen_graph::{Command, Reply};
@@ -52,41 +52,41 @@ impl LoadSpot {
     }
 
     /// The next access of the mutator of a seat.
-    pub(crate) fn access(self, config: Config, seat: usize, kept: Kept) -> Access
-        requires { touch_fits config (rows.load_touch seat kept self) ≡ true }
-        ensures { result ≡ placed config (rows.load_touch seat kept self) }
+    pub(crate) fn access(self, config: Config, seat: usize, command: Command) -> Access
+        requires { touch_fits config (rows.load_touch seat command self) ≡ true }
+        ensures { result ≡ placed config (rows.load_touch seat command self) }
     {
         let at = match self {
-            LoadSpot::First => config.root_at(seat, first_root(kept.command) as usize),
-            LoadSpot::Second { .. } => config.root_at(seat, second_root(kept.command) as usize),
-            LoadSpot::Third { .. } => config.root_at(seat, third_root(kept.command) as usize),
+            LoadSpot::First => config.root_at(seat, first_root(command) as usize),
+            LoadSpot::Second { .. } => config.root_at(seat, second_root(command) as usize),
+            LoadSpot::Third { .. } => config.root_at(seat, third_root(command) as usize),
             LoadSpot::Shape { object, .. } => config.heap_at(object + 1),
         };
         Access::Load { at }
     }
 
     /// Where the call goes on with the word that was loaded.
-    pub(crate) fn after(self, kept: Kept, got: u64) -> Spot
-        ensures { result ≡ rows.load_next kept self got }
+    pub(crate) fn after(self, command: Command, got: u64) -> Spot
+        ensures { result ≡ rows.load_next command self got }
     {
         match self {
-            LoadSpot::First => after_root(kept, got),
-            LoadSpot::Second { first } => after_second(kept, first, got),
-            LoadSpot::Third { first, second } => after_roots(kept, first, second, got),
+            LoadSpot::First => after_root(command, got),
+            LoadSpot::Second { first } => after_second(command, first, got),
+            LoadSpot::Third { first, second } => after_roots(command, first, second, got),
             LoadSpot::Shape {
                 object,
                 second,
                 third,
-            } => after_shape(kept, object, second, third, got),
+            } => after_shape(command, object, second, third, got),
         }
     }
 }
 
 /// Where a call goes on once the collection set was loaded.
-pub(crate) fn first_spot(kept: Kept) -> Spot
-    ensures { result ≡ rows.first_spot kept.command }
+pub(crate) fn first_spot(command: Command) -> Spot
+    ensures { result ≡ rows.first_spot command }
 {
-    match kept.command {
+    match command {
         Command::New { .. } => Spot::Making {
             at: MakeSpot::Taking {
                 take: TakeSpot::LoadCurrent,
@@ -101,39 +101,39 @@ pub(crate) fn first_spot(kept: Kept) -> Spot
 }
 
 // Where it goes on once its first root was loaded: the reply is Bad where the object's root is null.
-fn after_root(kept: Kept, first: u64) -> Spot
-    ensures { result ≡ rows.after_root kept.command first }
+fn after_root(command: Command, first: u64) -> Spot
+    ensures { result ≡ rows.after_root command first }
 {
-    if is_on_object(kept.command) && first == 0 {
+    if is_on_object(command) && first == 0 {
         return Spot::Leave { reply: Reply::Bad };
     }
-    if root_count(kept.command) > 1 {
+    if root_count(command) > 1 {
         Spot::Loading {
             at: LoadSpot::Second { first },
         }
     } else {
-        after_roots(kept, first, 0, 0)
+        after_roots(command, first, 0, 0)
     }
 }
 
 // Where it goes on once its second root was loaded.
-fn after_second(kept: Kept, first: u64, second: u64) -> Spot
-    ensures { result ≡ rows.after_second kept.command first second }
+fn after_second(command: Command, first: u64, second: u64) -> Spot
+    ensures { result ≡ rows.after_second command first second }
 {
-    if root_count(kept.command) > 2 {
+    if root_count(command) > 2 {
         Spot::Loading {
             at: LoadSpot::Third { first, second },
         }
     } else {
-        after_roots(kept, first, second, 0)
+        after_roots(command, first, second, 0)
     }
 }
 
 // Where it goes on once all its roots were loaded.
-fn after_roots(kept: Kept, first: u64, second: u64, third: u64) -> Spot
-    ensures { result ≡ rows.after_roots kept.command first second third }
+fn after_roots(command: Command, first: u64, second: u64, third: u64) -> Spot
+    ensures { result ≡ rows.after_roots command first second third }
 {
-    match kept.command {
+    match command {
         Command::Copy { .. } => Spot::StoreRoot { value: first },
         Command::Same { .. } => {
             let reply = if first == second {
@@ -154,13 +154,13 @@ fn after_roots(kept: Kept, first: u64, second: u64, third: u64) -> Spot
 }
 
 // Where it goes on with an object of this shape: the reply is Bad where it has no such field or number.
-fn after_shape(kept: Kept, object: u64, second: u64, third: u64, shape: u64) -> Spot
-    ensures { result ≡ rows.after_shape kept.command object second third shape }
+fn after_shape(command: Command, object: u64, second: u64, third: u64, shape: u64) -> Spot
+    ensures { result ≡ rows.after_shape command object second third shape }
 {
-    if !has_part(kept.command, shape) {
+    if !has_part(command, shape) {
         return Spot::Leave { reply: Reply::Bad };
     }
-    let at = match kept.command {
+    let at = match command {
         Command::Get { .. } => FieldSpot::Load,
         Command::Set { .. } => FieldSpot::Store { value: second },
         Command::Xchg { .. } => FieldSpot::Swap { value: second },
@@ -168,16 +168,16 @@ fn after_shape(kept: Kept, object: u64, second: u64, third: u64, shape: u64) -> 
             expect: second,
             value: third,
         },
-        _ => return on_number(kept, object, shape),
+        _ => return on_number(command, object, shape),
     };
     Spot::OnField { object, at }
 }
 
 // Where a command on a number goes on with it.
-fn on_number(kept: Kept, object: u64, shape: u64) -> Spot
-    ensures { result ≡ rows.on_number kept.command object shape }
+fn on_number(command: Command, object: u64, shape: u64) -> Spot
+    ensures { result ≡ rows.on_number command object shape }
 {
-    let at = match kept.command {
+    let at = match command {
         Command::Rd { .. } => NumberSpot::Load,
         Command::Wr { .. } => NumberSpot::Store,
         _ => return Spot::Leave { reply: Reply::Bad },

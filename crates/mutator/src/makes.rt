@@ -1,13 +1,17 @@
 ghost use Rattle.std.specs.Prelude.{◌≡◌, ◌<◌, true};
 ghost use Rattle.steps_base.specs.Touch.{placed};
+ghost use Rattle.steps_base.specs.Fits.{touch_fits};
+ghost use Rattle.heap_words.specs.Encoding as encoding;
 ghost use Rattle.mutator.specs.Rows as rows;
-ghost use Rattle.mutator.specs.Fit.{is_ready, is_next_object};
+ghost use Rattle.mutator.specs.WaitRows.{next_name};
+ghost use Rattle.mutator.specs.Fit.{can_make, make_fits, make_goes, is_next_object};
 
 use crate::commands::{dst_of, size_of};
-use crate::spot::{Kept, Spot};
+use crate::spot::{Spot, call_says};
+use crate::waits::WaitSpot;
 use alloc_buffers::{Kind, TakeSpot, Taken};
 use heap_words::{Access, Config, Place, Took, name_word, shape_of};
-use shen_graph::{Name, Reply};
+use shen_graph::{Command, Name, Reply};
 
 /// Where a call stands that makes an object.
 #[derive(Clone, Copy, Debug, PartialEq, Eq)]
@@ -44,12 +48,14 @@ impl MakeSpot {
     }
 
     /// The next access of the mutator of a seat that has made so many objects.
-    pub(crate) fn access(self, config: Config, seat: usize, made: u32, kept: Kept) -> Access
+    pub(crate) fn access(self, config: Config, seat: usize, made: u32, command: Command) -> Access
         requires seat { seat < config.mutators }
-        requires ready { is_ready config seat made kept (Spot.Making self) ≡ true }
-        ensures { result ≡ placed config (rows.make_touch seat made kept self) }
+        requires fits { touch_fits config (rows.make_touch seat made command self) ≡ true }
+        requires make { can_make made command ≡ true }
+        requires numbers { make_fits config command self ≡ true }
+        ensures { result ≡ placed config (rows.make_touch seat made command self) }
     {
-        let (refs, nums) = size_of(kept.command);
+        let (refs, nums) = size_of(command);
         match self {
             MakeSpot::Taking { take } => take.access(config, seat, 3 + refs as u64 + nums as u64),
             // keeps AreObjects: the words are in hand
@@ -59,7 +65,7 @@ impl MakeSpot {
             },
             // keeps AreObjects, AreRooms and IsGiven
             MakeSpot::StoreRoot { address } => Access::Store {
-                at: config.root_at(seat, dst_of(kept.command) as usize),
+                at: config.root_at(seat, dst_of(command) as usize),
                 value: address,
             },
         }
@@ -71,32 +77,30 @@ impl MakeSpot {
         config: Config,
         seat: usize,
         made: u32,
-        kept: Kept,
+        command: Command,
         got: u64,
     ) -> (Spot, Took)
         requires seat { seat < config.mutators }
-        requires ready { is_ready config seat made kept (Spot.Making self) ≡ true }
-        requires fit { is_ready config seat (rows.made_after made self) kept (rows.make_next config seat made kept self got) ≡ true }
-        ensures spot { result.0 ≡ rows.make_next config seat made kept self got }
-        ensures says { result.1 ≡ rows.make_says config kept self got }
+        requires fits { touch_fits config (rows.make_touch seat made command self) ≡ true }
+        requires make { can_make made command ≡ true }
+        requires numbers { make_fits config command self ≡ true }
+        requires fit { make_goes config seat command self got ≡ true }
+        ensures spot { result.0 ≡ rows.make_next config seat made command self got }
+        ensures says { result.1 ≡ rows.make_says config command self got }
     {
-        let (refs, nums) = size_of(kept.command);
+        let (refs, nums) = size_of(command);
         let words = 3 + refs as u64 + nums as u64;
         match self {
             MakeSpot::Taking { take } => {
                 let next = take.after(config, seat, words, Kind::Fresh, got);
-                (after_take(next), take_says(take, next))
+                (after_take(next), call_says(take.says(next)))
             }
             MakeSpot::StoreWord { address, done } => (
                 after_word(words, address, done + 1),
                 Took::More,
             ),
             MakeSpot::StoreRoot { .. } => {
-                let name = Name {
-                    thread: seat as u32 + 1,
-                    count: made + 1,
-                };
-                let reply = Reply::Ref(name);
+                let reply = Reply::Ref(next_name(seat, made));
                 (Spot::Leave { reply }, Took::More)
             }
         }
@@ -115,7 +119,7 @@ impl MakeSpot {
     }
 }
 
-// Where it goes on with its room for an object: where there is none, it is looked for again.
+// Where it goes on with its room for an object: where there is none, it asks for the object.
 fn after_take(take: TakeSpot) -> Spot
     ensures { result ≡ rows.after_take take }
 {
@@ -125,27 +129,14 @@ fn after_take(take: TakeSpot) -> Spot
         } => MakeSpot::StoreWord { address, done: 0 },
         TakeSpot::Ended {
             taken: Taken::NoRoom,
-        } => MakeSpot::Taking {
-            take: TakeSpot::LoadCurrent,
-        },
+        } => {
+            return Spot::Waiting {
+                at: WaitSpot::StoreRequest,
+            };
+        }
         _ => MakeSpot::Taking { take },
     };
     Spot::Making { at }
-}
-
-// What a step says that leads a taking of room from one spot to the next.
-fn take_says(take: TakeSpot, next: TakeSpot) -> Took
-    ensures { result ≡ rows.take_says take next }
-{
-    match next {
-        TakeSpot::Ended {
-            taken: Taken::At(_),
-        } => Took::More,
-        TakeSpot::Ended {
-            taken: Taken::NoRoom,
-        } => Took::Again,
-        _ => take.says(next),
-    }
 }
 
 // Where it goes on with an object of so many words, once so many of them were stored.
@@ -164,12 +155,24 @@ fn after_word(words: u64, address: u64, done: u64) -> Spot
 fn fresh_word(seat: usize, made: u32, refs: u32, nums: u32, place: u64) -> u64
     requires seat { seat < 8 }
     requires new { is_next_object made refs nums ≡ true }
-    ensures { result ≡ rows.fresh_word seat made refs nums place }
+    ensures { result ≡ encoding.fresh_word seat made refs nums place }
 {
     match place {
         0 => 1,
         1 => shape_of(refs as u64, nums as u64),
         2 => name_word(seat as u32 + 1, made + 1),
         _ => 0,
+    }
+}
+
+/// The name of the next object of a mutator, which is counted from 0 and has made so many objects.
+pub(crate) fn next_name(seat: usize, made: u32) -> Name
+    requires seat { seat < 8 }
+    requires made { made < 4294967295 }
+    ensures { result ≡ next_name seat made }
+{
+    Name {
+        thread: seat as u32 + 1,
+        count: made + 1,
     }
 }

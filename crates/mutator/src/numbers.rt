@@ -4,9 +4,9 @@ ghost use Rattle.steps_base.specs.Fits.{touch_fits};
 ghost use Rattle.mutator.specs.Rows as rows;
 
 use crate::commands::{index_of, number_of};
-use crate::spot::{Kept, Spot};
+use crate::spot::Spot;
 use heap_words::{Access, Config, Place};
-use shen_graph::Reply;
+use shen_graph::{Command, Reply};
 
 /// What a call does to the number that its command is about.
 #[derive(Clone, Copy, Debug, PartialEq, Eq)]
@@ -29,17 +29,17 @@ impl NumberSpot {
     }
 
     /// The next access, of the number of an object that has so many references.
-    pub(crate) fn access(self, config: Config, object: u64, refs: u64, kept: Kept) -> Access
-        requires { touch_fits config (rows.number_touch object refs kept self) ≡ true }
-        ensures { result ≡ placed config (rows.number_touch object refs kept self) }
+    pub(crate) fn access(self, config: Config, object: u64, refs: u64, command: Command) -> Access
+        requires { touch_fits config (rows.number_touch object refs command self) ≡ true }
+        ensures { result ≡ placed config (rows.number_touch object refs command self) }
     {
-        let at = config.heap_at(object + 3 + refs + index_of(kept.command) as u64);
+        let at = config.heap_at(object + 3 + refs + index_of(command) as u64);
         match self {
             NumberSpot::Load => Access::Load { at },
             // keeps AreObjects
             NumberSpot::Store => Access::Store {
                 at,
-                value: number_of(kept.command),
+                value: number_of(command),
             },
         }
     }

@@ -4,9 +4,9 @@ ghost use Rattle.steps_base.specs.Fits.{touch_fits};
 ghost use Rattle.mutator.specs.Rows as rows;
 
 use crate::commands::dst_of;
-use crate::spot::{Kept, Spot};
+use crate::spot::Spot;
 use heap_words::{Access, Config, Place, count_of, thread_of};
-use shen_graph::{Name, Reply};
+use shen_graph::{Command, Name, Reply};
 
 /// Where a call stands that shows a reference which it has found, and stores it into the command's root.
 #[derive(Clone, Copy, Debug, PartialEq, Eq)]
@@ -32,9 +32,9 @@ impl ShowSpot {
     }
 
     /// The next access of the mutator of a seat that has found this reference.
-    pub(crate) fn access(self, config: Config, seat: usize, value: u64, kept: Kept) -> Access
-        requires { touch_fits config (rows.show_touch seat value kept self) ≡ true }
-        ensures { result ≡ placed config (rows.show_touch seat value kept self) }
+    pub(crate) fn access(self, config: Config, seat: usize, value: u64, command: Command) -> Access
+        requires { touch_fits config (rows.show_touch seat value command self) ≡ true }
+        ensures { result ≡ placed config (rows.show_touch seat value command self) }
     {
         match self {
             ShowSpot::LoadName => Access::Load {
@@ -42,7 +42,7 @@ impl ShowSpot {
             },
             // keeps HasItsOwn.roots
             ShowSpot::StoreRoot { .. } => Access::Store {
-                at: config.root_at(seat, dst_of(kept.command) as usize),
+                at: config.root_at(seat, dst_of(command) as usize),
                 value,
             },
         }

@@ -1,13 +1,16 @@
 ghost use Rattle.std.specs.Prelude.{◌≡◌};
-ghost use Rattle.mutator.specs.Rows.{place_at};
+ghost use Rattle.mutator.specs.Rows.{first_place, place_at};
+ghost use Rattle.mutator.specs.WaitRows.{after_enter, call_says};
 
 use crate::fields::FieldSpot;
 use crate::loads::LoadSpot;
 use crate::makes::MakeSpot;
 use crate::numbers::NumberSpot;
 use crate::shows::ShowSpot;
-use heap_words::Place;
-use shen_graph::{Command, Reply};
+use crate::waits::WaitSpot;
+use handshake::EnterSpot;
+use heap_words::{Place, Took};
+use shen_graph::{Command, Order, Reply};
 
 /// What a call keeps of its start.
 #[derive(Clone, Copy, Debug, PartialEq, Eq)]
@@ -18,6 +21,40 @@ pub struct Kept {
     pub phase: u64,
     /// The collection set that it has loaded: region r is in it where bit r is 1.
     pub cset: u64,
+}
+
+/// What a mutator does once it is inside.
+#[derive(Clone, Copy, Debug, PartialEq, Eq)]
+pub enum Entered {
+    /// It begins a call.
+    Call,
+    /// It goes on with a call that has waited for its object.
+    Waited,
+}
+
+impl Entered {
+    /// Where the mutator goes on that enters and stands so.
+    pub(crate) fn after(self, at: EnterSpot) -> Spot
+        ensures { result ≡ after_enter self at }
+    {
+        match (self, at) {
+            (Entered::Call, EnterSpot::Inside) => Spot::LoadPhase,
+            (Entered::Waited, EnterSpot::Inside) => Spot::Waiting {
+                at: WaitSpot::LoadAnswer,
+            },
+            (then, at) => Spot::Entering { at, then },
+        }
+    }
+}
+
+/// What a step of a call says where its part says so: once a part is done, the call goes on.
+pub(crate) fn call_says(said: Took) -> Took
+    ensures { result ≡ call_says said }
+{
+    match said {
+        Took::Again => Took::Again,
+        _ => Took::More,
+    }
 }
 
 /// Where a mutator stands, with what its next step needs beside what the call keeps: a spot of its own, or that of a part
@@ -31,6 +68,15 @@ pub enum Spot {
         /// The answer.
         reply: Reply,
     },
+    /// It enters the heap.
+    Entering {
+        /// Where the entering stands.
+        at: EnterSpot,
+        /// What follows.
+        then: Entered,
+    },
+    /// It loads the phase.
+    LoadPhase,
     /// It loads the collection set.
     LoadSet,
     /// It loads the roots of its command, and the shape of the object that the command works on.
@@ -73,20 +119,30 @@ pub enum Spot {
     },
     /// It asks for a cycle.
     AskCycle,
+    /// It waits for an object that a pause makes, which the command's root names then.
+    Waiting {
+        /// Where the waiting stands.
+        at: WaitSpot,
+    },
     /// It leaves the heap, and then gives the reply.
     Leave {
         /// The reply.
         reply: Reply,
     },
+    /// It has ended, and takes no order any more.
+    Gone,
 }
 
 impl Spot {
-    /// The place of the next access; between two calls, that of the first access of a call.
-    pub fn place(self) -> Place
-        ensures { result ≡ place_at self }
+    /// The place of the next access under the order; between two calls, that of the first access of a call, or of the access
+    /// by which the mutator ends. One that has ended makes no access, and stands where it made its last one.
+    pub fn place(self, order: Order) -> Place
+        ensures { result ≡ place_at order self }
     {
         match self {
-            Spot::Rest | Spot::Ended { .. } => Place::PH,
+            Spot::Rest | Spot::Ended { .. } => first_place(order),
+            Spot::Entering { at, .. } => at.place(),
+            Spot::LoadPhase => Place::PH,
             Spot::LoadSet => Place::CS,
             Spot::Loading { at } => at.place(),
             Spot::OnField { at, .. } => at.place(),
@@ -95,7 +151,19 @@ impl Spot {
             Spot::StoreRoot { .. } => Place::RS,
             Spot::Making { at } => at.place(),
             Spot::AskCycle => Place::AK,
+            Spot::Waiting { at } => at.place(),
             Spot::Leave { .. } => Place::LV,
+            Spot::Gone => Place::ML,
         }
+    }
+}
+
+// Between two calls it is by the order.
+fn first_place(order: Order) -> Place
+    ensures { result ≡ first_place order }
+{
+    match order {
+        Order::End => Place::ML,
+        _ => EnterSpot::Raise.place(),
     }
 }

@@ -1,11 +1,15 @@
 ghost use Rattle.std.specs.Prelude.{◌≡◌, ◌<◌, true};
+ghost use Rattle.steps_base.specs.Touch.{placed};
 ghost use Rattle.mutator.specs.Orders.{is_pending};
+ghost use Rattle.mutator.specs.Rows.{first_touch};
 ghost use Rattle.mutator.specs.Fit.{is_ready};
 
 use crate::commands::dst_of;
 use crate::loads::first_spot;
 use crate::makes::MakeSpot;
-use crate::spot::{Kept, Spot};
+use crate::spot::{Entered, Kept, Spot, call_says};
+use crate::waits::WaitSpot;
+use handshake::{EnterSpot, leave_access};
 use heap_words::{Access, Config, Place, Took};
 use shen_graph::{Command, Order, Reply};
 
@@ -28,9 +32,9 @@ impl Mutator {
     ghost use Rattle.shen_graph.specs.Valid.{IsValid};
     ghost use Rattle.heap_words.specs.Access.{place_of};
     ghost use Rattle.heap_words.specs.Words.{table_words};
-    ghost use Rattle.steps_base.specs.Touch.{placed};
     ghost use Rattle.mutator.specs.Orders.{is_between_calls, takes_commands, takes_at};
-    ghost use Rattle.mutator.specs.Rows.{fresh_mutator, place_at, touch_of, next_of, answer_at, reply_at};
+    ghost use Rattle.mutator.specs.Rows.{fresh_mutator, mutator_after, place_at, touch_of, begun, next_of, make_says, answer_at, reply_at};
+    ghost use Rattle.mutator.specs.WaitRows.{wait_says};
     ghost use Rattle.mutator.specs.Fit.{IsFit};
     ghost use Rattle.mutator.specs.Waits.{WaitsAt};
     ghost use Rattle.mutator.specs.Seen.{seen, config_of, order_of, is_idle};
@@ -42,10 +46,20 @@ impl Mutator {
         ensures config { config_of result ≡ config }
         ensures order { order_of result ≡ Order.Nothing }
     {
+        Mutator::after(config, mutator, 0)
+    }
+
+    /// A mutator, counted from 0, that has not begun a call, of a thread that has made `count` objects before.
+    pub fn after(config: Config, mutator: usize, count: u32) -> Mutator
+        requires { mutator < config.mutators }
+        ensures seen { seen result ≡ mutator_after mutator count }
+        ensures config { config_of result ≡ config }
+        ensures order { order_of result ≡ Order.Nothing }
+    {
         Mutator {
             config,
             mutator,
-            made: 0,
+            made: count,
             kept: Kept {
                 command: Command::Gc,
                 phase: 0,
@@ -69,13 +83,24 @@ impl Mutator {
         self.order = Order::Begin(command);
     }
 
-    /// Whether it has neither a call in progress nor one to begin. It makes no step then.
+    /// Orders the end: the mutator's next step is its last one.
+    pub fn finish(&mut self)
+        requires { takes_commands (seen self.old).spot ≡ true }
+        ensures order { order_of self.new ≡ Order.End }
+        ensures takes { takes_at (seen self.new).spot (seen self.new).made Order.End ≡ true }
+        ensures seen { seen self.new ≡ seen self.old }
+        ensures config { config_of self.new ≡ config_of self.old }
+    {
+        self.order = Order::End;
+    }
+
+    /// Whether it has neither a call in progress nor an order, or has ended. It makes no step then.
     pub fn is_idle(&self) -> bool
         ensures idle { result ≡ is_idle self.now }
         ensures takes { result ≡ false → takes_at (seen self.now).spot (seen self.now).made (order_of self.now) ≡ true }
     {
         match (self.spot, self.order) {
-            (Spot::Rest | Spot::Ended { .. }, Order::Nothing) => true,
+            (Spot::Rest | Spot::Ended { .. }, Order::Nothing) | (Spot::Gone, _) => true,
             _ => false,
         }
     }
@@ -83,6 +108,13 @@ impl Mutator {
     /// Whether no call is in progress.
     pub fn is_resting(&self) -> bool
         ensures { result ≡ is_between_calls (seen self.now).spot }
+    {
+        matches!(self.spot, Spot::Rest | Spot::Ended { .. } | Spot::Gone)
+    }
+
+    /// Whether it may be given a command, or be told to end: no call is in progress, and it has not ended.
+    pub fn takes_commands(&self) -> bool
+        ensures { result ≡ takes_commands (seen self.now).spot }
     {
         matches!(self.spot, Spot::Rest | Spot::Ended { .. })
     }
@@ -94,46 +126,48 @@ impl Mutator {
         self.order
     }
 
-    /// The place of its next access; between two calls, that of the first access of a call.
+    /// The place of its next access; between two calls, that of the first access of a call, or of the access by which it ends.
     pub fn place(&self) -> Place
-        ensures { result ≡ place_at (seen self.now).spot }
+        ensures { result ≡ place_at (order_of self.now) (seen self.now).spot }
     {
-        self.spot.place()
+        self.spot.place(self.order)
     }
 
     /// The access of its next step.
     pub fn plan(&self) -> Access
         requires { is_idle self.now ≡ false }
-        ensures row { result ≡ placed (config_of self.now) (touch_of (config_of self.now) (seen self.now)) }
+        ensures row { result ≡ placed (config_of self.now) (touch_of (config_of self.now) (seen self.now) (order_of self.now)) }
         ensures inside { place_of result < table_words (config_of self.now) }
     {
         let config = self.config;
         let seat = self.mutator;
+        let command = self.kept.command;
         match self.spot {
-            Spot::Rest | Spot::Ended { .. } => Access::Load {
+            Spot::Rest | Spot::Ended { .. } => first_access(config, seat, self.order),
+            Spot::Entering { at, .. } => at.access(config, seat),
+            Spot::LoadPhase => Access::Load {
                 at: config.phase_at(),
             },
             Spot::LoadSet => Access::Load {
                 at: config.cset_at(),
             },
-            Spot::Loading { at } => at.access(config, seat, self.kept),
-            Spot::OnField { object, at } => at.access(config, object, self.kept),
-            Spot::OnNumber { object, refs, at } => at.access(config, object, refs, self.kept),
-            Spot::Showing { value, at } => at.access(config, seat, value, self.kept),
+            Spot::Loading { at } => at.access(config, seat, command),
+            Spot::OnField { object, at } => at.access(config, object, command),
+            Spot::OnNumber { object, refs, at } => at.access(config, object, refs, command),
+            Spot::Showing { value, at } => at.access(config, seat, value, command),
             // keeps HasItsOwn.roots
             Spot::StoreRoot { value } => Access::Store {
-                at: config.root_at(seat, dst_of(self.kept.command) as usize),
+                at: config.root_at(seat, dst_of(command) as usize),
                 value,
             },
-            Spot::Making { at } => at.access(config, seat, self.made, self.kept),
+            Spot::Making { at } => at.access(config, seat, self.made, command),
             Spot::AskCycle => Access::Or {
                 at: config.ask_at(),
                 value: 1,
             },
-            Spot::Leave { .. } => Access::Store {
-                at: config.state_at(seat),
-                value: 0,
-            },
+            Spot::Waiting { at } => at.access(config, seat, self.made, command),
+            Spot::Leave { .. } => leave_access(config, seat),
+            Spot::Gone => unreachable!(),
         }
     }
 
@@ -147,25 +181,27 @@ impl Mutator {
         ensures answer { result ≡ answer_at (config_of self.old) (seen self.old).kept (seen self.old).spot got }
 
         // A call ends exactly where the mutator leaves, and its reply is there then.
-        ensures done { (result ≡ Took.Done) ↔ (place_at (seen self.old).spot ≡ Place.LV) }
+        ensures done { (result ≡ Took.Done) ↔ (place_at (order_of self.old) (seen self.old).spot ≡ Place.LV) }
         ensures replied { result ≡ Took.Done → reply_at (seen self.new).spot ≢ None }
-        ensures again { (result ≡ Took.Again) ↔ WaitsAt (config_of self.old) (seen self.old).spot got }
+        ensures again { (result ≡ Took.Again) ↔ WaitsAt (seen self.old).spot got }
     {
         let order = self.order;
         self.order = Order::Nothing;
         match self.spot {
-            Spot::Rest | Spot::Ended { .. } => {
+            Spot::Rest | Spot::Ended { .. } => self.obey(order),
+            Spot::Entering { at, then } => {
+                self.spot = then.after(at.after(got));
+                return call_says(at.says(got));
+            }
+            Spot::LoadPhase => {
                 self.kept.phase = got;
-                if let Order::Begin(command) = order {
-                    self.kept.command = command;
-                    self.spot = Spot::LoadSet;
-                }
+                self.spot = Spot::LoadSet;
             }
             Spot::LoadSet => {
                 self.kept.cset = got;
-                self.spot = first_spot(self.kept);
+                self.spot = first_spot(self.kept.command);
             }
-            Spot::Loading { at } => self.spot = at.after(self.kept, got),
+            Spot::Loading { at } => self.spot = at.after(self.kept.command, got),
             Spot::OnField { object, at } => {
                 self.spot = at.after(object, got);
                 return at.says(got);
@@ -173,17 +209,13 @@ impl Mutator {
             Spot::OnNumber { at, .. } => self.spot = at.after(got),
             Spot::Showing { value, at } => self.spot = at.after(value, got),
             Spot::StoreRoot { .. } | Spot::AskCycle => self.spot = Spot::Leave { reply: Reply::Ok },
-            Spot::Making { at } => {
-                let made = self.made;
-                let (next, says) = at.after(self.config, self.mutator, made, self.kept, got);
-                self.made = at.made_after(made);
-                self.spot = next;
-                return says;
-            }
+            Spot::Making { at } => return self.make(at, got),
+            Spot::Waiting { at } => return self.wait(at, got),
             Spot::Leave { reply } => {
                 self.spot = Spot::Ended { reply };
                 return Took::Done;
             }
+            Spot::Gone => unreachable!(),
         }
         Took::More
     }
@@ -197,5 +229,70 @@ impl Mutator {
             Spot::Ended { reply } => reply,
             _ => unreachable!(),
         }
+    }
+
+    // Goes on by its order, once its first access has been made: it enters for a call, or has ended.
+    fn obey(&mut self, order: Order)
+        requires { order_of self.old ≡ Order.Nothing }
+        ensures seen { seen self.new ≡ begun order (seen self.old) }
+        ensures order { order_of self.new ≡ Order.Nothing }
+        ensures config { config_of self.new ≡ config_of self.old }
+    {
+        match order {
+            Order::Begin(command) => {
+                self.kept.command = command;
+                self.spot = Spot::Entering {
+                    at: EnterSpot::Look,
+                    then: Entered::Call,
+                };
+            }
+            Order::End => self.spot = Spot::Gone,
+            Order::Nothing => {}
+        }
+    }
+
+    // Goes on with the making of its object.
+    fn make(&mut self, at: MakeSpot, got: u64) -> Took
+        requires at { (seen self.old).spot ≡ Spot.Making at }
+        requires order { order_of self.old ≡ Order.Nothing }
+        requires fit { IsFit (config_of self.old) (seen self.old) Order.Nothing got }
+        ensures seen { seen self.new ≡ next_of (config_of self.old) (seen self.old) Order.Nothing got }
+        ensures order { order_of self.new ≡ Order.Nothing }
+        ensures config { config_of self.new ≡ config_of self.old }
+        ensures answer { result ≡ make_says (config_of self.old) (seen self.old).kept.command at got }
+    {
+        let made = self.made;
+        let (next, says) = at.after(self.config, self.mutator, made, self.kept.command, got);
+        self.made = at.made_after(made);
+        self.spot = next;
+        says
+    }
+
+    // Goes on with the waiting for its object.
+    fn wait(&mut self, at: WaitSpot, got: u64) -> Took
+        requires at { (seen self.old).spot ≡ Spot.Waiting at }
+        requires order { order_of self.old ≡ Order.Nothing }
+        requires fit { IsFit (config_of self.old) (seen self.old) Order.Nothing got }
+        ensures seen { seen self.new ≡ next_of (config_of self.old) (seen self.old) Order.Nothing got }
+        ensures order { order_of self.new ≡ Order.Nothing }
+        ensures config { config_of self.new ≡ config_of self.old }
+        ensures answer { result ≡ wait_says at got }
+    {
+        let made = self.made;
+        self.made = at.made_after(made);
+        self.spot = at.after(self.mutator, made, got);
+        at.says(got)
+    }
+}
+
+// The access between two calls: by its order the mutator begins a call, or there is one mutator less.
+fn first_access(config: Config, seat: usize, order: Order) -> Access
+    requires { seat < config.mutators }
+    ensures { result ≡ placed config (first_touch seat order) }
+{
+    let at = config.left_at();
+    match order {
+        Order::End => Access::Sub { at, value: 1 },
+        _ => EnterSpot::Raise.access(config, seat),
     }
 }

@@ -4,7 +4,7 @@ use Rattle.heap_words.specs.declared.config.Config.{Config}
 use Rattle.steps_base.specs.Steps.{Stage}
 use Rattle.heap_machines.specs.Scripts.{IsOnScript, HasDoneScript}
 use Rattle.step_core.specs.Actor.{Actor}
-use Rattle.step_core.specs.Machines.{is_mutating}
+use Rattle.heap_machines.specs.Roles.{is_mutating}
 use Rattle.step_core.specs.Schedule.{Scripts, script_of}
 
 -- The machine is a mutator. The calls that it has ended have the first commands of its script, in order, and a call in

@@ -11,7 +11,10 @@ use Rattle.shen_graph.specs.Work as work
 use Rattle.shen_graph.specs.declared.order.Order.{Order}
 use Rattle.shen_graph.specs.declared.order.Order.TheVariants.{Nothing}
 use Rattle.step_core.specs.Actor.{Actor}
-use Rattle.step_core.specs.Machines.{kind, made_of_machine, at_hand_of, is_resting, order_for}
+use Rattle.pause_laws.specs.Image.{full_image}
+use Rattle.step_core.specs.Settled.{image_in, control_number}
+use Rattle.step_core.specs.Machines.{kind, made_of_machine, at_hand_of, is_resting}
+use Rattle.heap_machines.specs.Turn.{order_for}
 use Rattle.step_core.specs.Schedule.{Scripts, script_of, turn, waits, Task, Agenda, scheduled}
 use Rattle.shen_core.specs.declared.plain.Plain.{Plain}
 use Rattle.heap_machines.specs.declared.stepped.Stepped.{Stepped}
@@ -26,8 +29,8 @@ Jobs = List (Option work.Progress)
 -- Events lead from a stage with an agenda and so many events left to another, and the schedule goes on from there.
 pub record Goes (c : Config) (scripts : Scripts) (s : Stage Actor) (agenda : Agenda) (left : ℕ) (t : Stage Actor) (rest : Agenda) (later : ℕ) : Type 0 where
   pub done : List (Event Order)
-  pub leads : go (kind c) s done ≡ t
-  pub events : scheduled c scripts left agenda s ≡ done ++ scheduled c scripts later rest t
+  pub leads : go (kind full_image c) s done ≡ t
+  pub events : scheduled full_image c scripts left agenda s ≡ done ++ scheduled full_image c scripts later rest t
   pub count : length done + later ≡ left
 
 -- the work has these scripts, and its replies are those of the calls that the machines of the stage have ended
@@ -75,9 +78,9 @@ pub record IsPassed (c : Config) (scripts : Scripts) (s : Stage Actor) (number :
 pub record IsMoved (c : Config) (scripts : Scripts) (s : Stage Actor) (number : ℕ) (p : Plain) (jobs : Jobs) (waiting : Bool) : Type 0 where
   pub event : Event Order
   pub is : turn scripts s number ≡ Some event
-  pub waits_is : waits c s number ≡ waiting
-  pub shows : Shows p (act (kind c) s event)
-  pub tells : Tells c scripts jobs (act (kind c) s event)
+  pub waits_is : waits c s event ≡ waiting
+  pub shows : Shows p (act (kind full_image c) s event)
+  pub tells : Tells c scripts jobs (act (kind full_image c) s event)
 
 -- what a turn has done, by what the machine said
 abbrev pub Turned : Config → Scripts → Stage Actor → ℕ → Plain → Jobs → Stepped → Type 0
@@ -114,9 +117,9 @@ DoesTask p jobs task left q later remaining = (tasks : List Task) (from : ℕ) �
 abbrev pub AreIdle : Config → Scripts → Stage Actor → Type 0
 AreIdle c scripts s = (number : ℕ) → number < seat_count c.mutators c.helpers → turn scripts s number ≡ None
 
--- whatever stage memory shows, no machine has a turn there
-abbrev pub AllIdle : Plain → Jobs → Type 0
-AllIdle p jobs = (scripts : Scripts) (s : Stage Actor) → Shows p s → Tells (config_of p) scripts jobs s → AreIdle (config_of p) scripts s
+-- whatever stage memory shows, no machine has a turn there, by any scripts
+abbrev pub AllIdle : Plain → Type 0
+AllIdle p = (scripts : Scripts) (s : Stage Actor) → Shows p s → AreIdle (config_of p) scripts s
 
 -- the machine of an item is one of the heap, and where replies are counted a mutator
 abbrev pub IsInSeats : Config → Item → Type 0
@@ -124,14 +127,15 @@ IsInSeats c (Steps number count) = number < seat_count c.mutators c.helpers
 IsInSeats c (Until number place) = number < seat_count c.mutators c.helpers
 IsInSeats c (Replies number count) = number < c.mutators
 
--- whatever stage memory shows, some machine has a turn there
-abbrev pub SomeBusy : Plain → Jobs → Type 0
-SomeBusy p jobs = (scripts : Scripts) (s : Stage Actor) → Shows p s → Tells (config_of p) scripts jobs s → AreIdle (config_of p) scripts s → ⊥
+-- whatever stage memory shows, some machine has a turn there, by any scripts
+abbrev pub SomeBusy : Plain → Type 0
+SomeBusy p = (scripts : Scripts) (s : Stage Actor) → Shows p s → AreIdle (config_of p) scripts s → ⊥
 
--- whatever stage memory shows, the machine has a turn there, or has none
-abbrev pub HasNext : Plain → Jobs → ℕ → Bool → Type 0
-HasNext p jobs number has = (scripts : Scripts) (s : Stage Actor) → Shows p s → Tells (config_of p) scripts jobs s → is_some (turn scripts s number) ≡ has
+-- whatever stage memory shows, the machine has a turn there, or has none, by any scripts
+abbrev pub HasNext : Plain → ℕ → Bool → Type 0
+HasNext p number has = (scripts : Scripts) (s : Stage Actor) → Shows p s → is_some (turn scripts s number) ≡ has
 
--- no mutator has a call in progress
-abbrev pub AllRest : Plain → Type 0
-AllRest p = (number : ℕ) → number < (config_of p).mutators → is_resting (machine_at p number) ≡ true
+-- no mutator has a call in progress, and the control is not storing a new image
+pub record AllRest (p : Plain) : Type 0 where
+  pub mutators : (number : ℕ) → number < (config_of p).mutators → is_resting (machine_at p number) ≡ true
+  pub control : image_in (machine_at p (control_number (config_of p))) ≡ None

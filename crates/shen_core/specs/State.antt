@@ -38,7 +38,7 @@ Shows p s = runs.Shows (words_of p) (machines_of p) s
 
 -- one machine, and the order that it was given
 abbrev pub machine_at : Plain → ℕ → actors.Machine
-machine_at p number = slice_index_or (machines_of p) number actors.fresh_control
+machine_at p number = slice_index_or (machines_of p) number actors.fresh_helper
 
 abbrev pub order_at : Plain → ℕ → Order
 order_at p number = slice_index_or (orders_of p) number Nothing
@@ -49,7 +49,7 @@ has_turn p number = takes_of (machine_at p number) (order_at p number)
 
 -- the word that the machine's next access finds
 abbrev pub found_by : Plain → ℕ → ℕ
-found_by p number = slice_index (words_of p) (place_of (plan_of p.config (machine_at p number)))
+found_by p number = slice_index (words_of p) (place_of (plan_of p.config (order_at p number) (machine_at p number)))
 
 -- one event of the machine, under its order, leads from the one to the other
 abbrev pub IsStep : Plain → Plain → ℕ → Type 0

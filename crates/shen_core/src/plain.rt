@@ -31,14 +31,16 @@ pub struct Plain {
 
 impl Plain {
     ghost use Rattle.std.specs.Prelude.{◌<◌, ◌↔◌, ◌≢◌, true, false, slice_set, slice_index, Some, None, IfOk, IfSome};
-    ghost use Rattle.shen_graph.specs.declared.order.Order.TheVariants.{Nothing, Begin};
+    ghost use Rattle.shen_graph.specs.declared.order.Order.TheVariants.{Nothing, Begin, End};
     ghost use Rattle.shen_graph.specs.Valid.{IsValid};
+    ghost use Rattle.pause_laws.specs.Image.{full_image};
     ghost use Rattle.step_core.specs.Machines.{takes_of, stands_in, reply_in, place_in, is_resting, may_begin, made_of_machine, WaitsIn};
     ghost use Rattle.step_core.specs.Opening.{opening};
     ghost use Rattle.step_core.specs.Begins.{Run, ending, graph_after};
     ghost use Rattle.heap_graph.specs.Shows as texts;
     ghost use Rattle.shen_core.specs.State.{config_of, words_of, machines_of, orders_of, order_at, seats_of, Shows, machine_at, has_turn, found_by, next_machine, IsStep, IsUnchanged};
     ghost use Rattle.heap_machines.specs.Answer.{says};
+    ghost use Rattle.heap_machines.specs.Turn.{order_for};
     ghost use Rattle.shen_core.specs.Progress.{CanRun, IsTurn, IsNextTurn, HasNext, AllRest, next_for};
 
     /// The heap of this configuration before the first event, whose mutators have not begun a call.
@@ -64,7 +66,7 @@ impl Plain {
         })
     }
 
-    /// Orders the command, which the mutator's next step begins. Between two calls only.
+    /// Orders the command, which the mutator's next step begins. Between two calls only, of a mutator that has not ended.
     pub fn begin(&mut self, number: usize, command: Command)
         requires number { number < seats_of self.old }
         requires rest { may_begin (machine_at self.old number) ≡ true }
@@ -79,6 +81,19 @@ impl Plain {
         self.machines[number].begin(command);
     }
 
+    /// Orders the end: the mutator's next step is its last one. Between two calls only, of a mutator that has not ended.
+    pub fn finish(&mut self, number: usize)
+        requires number { number < seats_of self.old }
+        requires rest { may_begin (machine_at self.old number) ≡ true }
+        ensures order { orders_of self.new ≡ slice_set (orders_of self.old) number End }
+        ensures takes { takes_of (machine_at self.old number) End ≡ true }
+        ensures words { words_of self.new ≡ words_of self.old }
+        ensures machines { machines_of self.new ≡ machines_of self.old }
+        ensures config { config_of self.new ≡ config_of self.old }
+    {
+        self.machines[number].finish();
+    }
+
     /// Gives the machine of this number one step.
     pub fn step(&mut self, number: usize) -> Stepped
         requires { number < seats_of self.old }
@@ -91,7 +106,7 @@ impl Plain {
         ensures config { config_of self.new ≡ config_of self.old }
 
         // A call ends exactly where its mutator leaves the heap, and its reply is at hand then.
-        ensures done { (result ≡ Stepped.Done) ↔ ((has_turn self.old number ≡ true) × (place_in (machine_at self.old number) ≡ Place.LV)) }
+        ensures done { (result ≡ Stepped.Done) ↔ ((has_turn self.old number ≡ true) × (place_in (order_at self.old number) (machine_at self.old number) ≡ Place.LV)) }
         ensures replied { result ≡ Stepped.Done → reply_in (machine_at self.new number) ≢ None }
         ensures again { (result ≡ Stepped.Again) ↔ ((has_turn self.old number ≡ true) × WaitsIn (config_of self.old) (machine_at self.old number) (found_by self.old number)) }
     {
@@ -118,14 +133,6 @@ impl Plain {
         self.machines[number].is_resting()
     }
 
-    /// Whether the next access of the machine stands at the place.
-    pub(crate) fn stands_at(&self, number: usize, place: Place) -> bool
-        requires { number < seats_of self.now }
-        ensures { result ≡ stands_in place (machine_at self.now number) }
-    {
-        self.machines[number].stands_at(place)
-    }
-
     // The next command of the machine's script, if it is a mutator.
     fn next_command(&self, work: &Work, number: usize) -> Option<Command>
         requires { CanRun self.now work.now }
@@ -138,8 +145,17 @@ impl Plain {
         }
     }
 
+    /// Whether the next access of the machine, on its turn, stands at the place.
+    pub(crate) fn stands_at(&self, work: &Work, number: usize, place: Place) -> bool
+        requires number { number < seats_of self.now }
+        requires run { CanRun self.now work.now }
+        ensures { result ≡ stands_in place (machine_at self.now number) (order_for (next_for (config_of self.now) work.now number) (machine_at self.now number)) }
+    {
+        self.machines[number].stands_at(self.next_command(work, number), place)
+    }
+
     /// Gives the machine its order for its turn, if it has one: a mutator between two calls begins the next command of its
-    /// script.
+    /// script, and ends where there is none.
     pub(crate) fn order_next(&mut self, work: &Work, number: usize) -> bool
         requires number { number < seats_of self.old }
         requires run { CanRun self.old work.now }
@@ -157,12 +173,12 @@ impl Plain {
     }
 
     /// Whether the machine would make a step on its turn.
-    pub(crate) fn has_next(&self, work: &Work, number: usize) -> bool
+    pub(crate) fn has_next(&self, number: usize) -> bool
         requires number { number < seats_of self.now }
-        requires run { CanRun self.now work.now }
-        ensures { HasNext self.now work.now number result }
+        requires orders { All (λ order. order ≡ Nothing) (orders_of self.now) }
+        ensures { HasNext self.now number result }
     {
-        self.machines[number].has_next(self.next_command(work, number))
+        self.machines[number].has_next()
     }
 
     /// The reply of the last call that the mutator has ended, until the next one is begun.
@@ -186,7 +202,7 @@ impl Plain {
     pub fn place(&self, number: usize) -> Option<Place>
         requires { number < seats_of self.now }
         ensures none { (result ≡ None) ↔ (has_turn self.now number ≡ false) }
-        ensures place { IfSome result (λ place. place ≡ place_in (machine_at self.now number)) }
+        ensures place { IfSome result (λ place. place ≡ place_in (order_at self.now number) (machine_at self.now number)) }
     {
         let machine = &self.machines[number];
         if machine.is_idle() {
@@ -196,7 +212,7 @@ impl Plain {
         }
     }
 
-    /// Whether no mutator has a call in progress.
+    /// Whether no mutator has a call in progress, and the control is not storing a new image.
     pub fn all_rest(&self) -> bool
         ensures rest { result ≡ true → AllRest self.now }
         ensures busy { result ≡ false → AllRest self.now → ⊥ }
@@ -206,18 +222,18 @@ impl Plain {
                 return false;
             }
         }
-        true
+        !self.machines[self.config.seats() - 1].is_storing()
     }
 
     /// Writes the graph that words and machines stand for: the objects that the mutators' roots lead to, in the order of
-    /// their names, and the roots of each mutator. No mutator has a call in progress, and the text was opened for at
-    /// least as many words as the heap has, and for the heap's mutators. No memory is taken. The time is linear in the
-    /// words, but for the sort of the objects.
+    /// their names, and the roots of each mutator. No mutator has a call in progress, the control is not storing a new
+    /// image, and the text was opened for at least as many words as the heap has, and for the heap's mutators. No memory is
+    /// taken. The time is linear in the words, but for the sort of the objects.
     pub fn graph(&mut self, text: &mut GraphText)
         requires rest { AllRest self.old }
         requires room { heap_size (config_of self.old) ≤ text.old.room }
         requires threads { length text.old.roots ≡ (config_of self.old).mutators }
-        ensures shows { (run : Run (config_of self.old)) → Shows self.old (ending (config_of self.old) run) → texts.Shows text.new (config_of self.old).mutators (graph_after (config_of self.old) run) }
+        ensures shows { (run : Run (config_of self.old)) → Shows self.old (ending full_image (config_of self.old) run) → texts.Shows text.new (config_of self.old).mutators (graph_after full_image (config_of self.old) run) }
 
         // Nothing else changes.
         ensures unchanged { IsUnchanged self.old self.new }

@@ -1,6 +1,7 @@
 ghost use Rattle.std.specs.Prelude.{◌≡◌, ◌<◌, ◌≤◌, true, false, [], length, slice_set, All};
 ghost use Rattle.shen_graph.specs.Work.{replies_of, script_of};
 ghost use Rattle.shen_core.specs.State.{config_of, words_of, machines_of, orders_of, order_at, seats_of, has_turn, IsUnchanged};
+ghost use Rattle.shen_graph.specs.declared.order.Order.TheVariants.{Nothing};
 ghost use Rattle.shen_core.specs.Progress.{CanRun, IsTurn, HasTurned, Runs, DoesTask, AllIdle, SomeBusy, HasNext, IsInSeats, agenda};
 ghost use Rattle.step_core.specs.Schedule.{steps, until, replies, control, task_of};
 
@@ -21,7 +22,7 @@ pub enum Ran {
 impl Plain {
     ghost use Rattle.shen_core.specs.Ending.{EndsRun, RunsSchedule};
 
-    // One turn of a machine: it goes on with its call, or begins the next command of its script.
+    // One turn of a machine: it goes on with its call, begins the next command of its script, or ends.
     fn turn(&mut self, work: &mut Work, number: usize) -> Stepped
         requires number { number < seats_of self.old }
         requires run { CanRun self.old work.old }
@@ -70,7 +71,7 @@ impl Plain {
         ensures task { DoesTask self.old work.old (until number place) limit self.new work.new result }
     {
         let mut left = limit;
-        while left > 0 && !self.stands_at(number, place) {
+        while left > 0 && !self.stands_at(work, number, place) {
             if let Stepped::Idle = self.turn(work, number) {
                 return left;
             }
@@ -133,13 +134,13 @@ impl Plain {
     }
 
     // Whether any machine would make a step on its turn.
-    fn any_next(&self, work: &Work) -> bool
-        requires { CanRun self.now work.now }
-        ensures idle { result ≡ false → AllIdle self.now work.now }
-        ensures busy { result ≡ true → SomeBusy self.now work.now }
+    fn any_next(&self) -> bool
+        requires { All (λ order. order ≡ Nothing) (orders_of self.now) }
+        ensures idle { result ≡ false → AllIdle self.now }
+        ensures busy { result ≡ true → SomeBusy self.now }
     {
         for number in 0..self.seats() {
-            if self.has_next(work, number) {
+            if self.has_next(number) {
                 return true;
             }
         }
@@ -153,7 +154,7 @@ impl Plain {
         ensures config { config_of self.new ≡ config_of self.old }
         ensures less { result ≤ limit }
         ensures round { Runs self.old work.old (agenda [] 0) limit self.new work.new (agenda [] 0) result }
-        ensures idle { result ≡ limit → 0 < limit → AllIdle self.new work.new }
+        ensures idle { result ≡ limit → 0 < limit → AllIdle self.new }
     {
         let mut left = limit;
         let seats = self.seats();
@@ -179,7 +180,7 @@ impl Plain {
         let mut left = limit;
         loop {
             if left == 0 {
-                return if self.any_next(work) {
+                return if self.any_next() {
                     Ran::Unfinished
                 } else {
                     Ran::Finished
@@ -195,7 +196,8 @@ impl Plain {
 
     /// Runs the items of a schedule and then rounds, in which the machines take turns by their numbers and idle ones are
     /// passed over, until all machines are idle or so many steps were made. A mutator between two calls begins the next
-    /// command of its script in `work`, where the replies are noted.
+    /// command of its script in `work`, where the replies are noted, and ends where there is none; the control ends when all
+    /// mutators have.
     pub fn run(&mut self, work: &mut Work, schedule: &Schedule, steps: u64) -> Ran
         requires run { CanRun self.old work.old }
         requires items { All (IsInSeats (config_of self.old)) schedule.now }

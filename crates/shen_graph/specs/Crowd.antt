@@ -4,7 +4,7 @@ use Rattle.std.specs.List.{range_with_len}
 use Rattle.shen_graph.specs.declared.command.Command.{Command}
 use Rattle.shen_graph.specs.declared.command.Command.TheVariants.{New}
 use Rattle.shen_graph.specs.declared.command.Reply.TheVariants as reply
-use Rattle.shen_graph.specs.Graph.{opening}
+use Rattle.shen_graph.specs.Graph.{Graph, opening}
 use Rattle.shen_graph.specs.History.{Entry, after, of_thread, EachIsLegal}
 use Rattle.shen_graph.specs.Reach.{Live}
 
@@ -24,12 +24,17 @@ words_open scripts history thread =
 
 -- Live objects and other unanswered allocations crowd the regions: were each region short of the words that are asked
 -- for, so many words would be in use.
-abbrev pub IsCrowded : (regions region_words : ℕ) → List (List Command) → List Entry → Entry → Type 0
-IsCrowded regions region_words scripts before e =
-    (live : ℕ) × Live (after (opening (length scripts)) before) live
+abbrev pub IsCrowded : (regions region_words : ℕ) → Graph → List (List Command) → List Entry → Entry → Type 0
+IsCrowded regions region_words g scripts before e =
+    (live : ℕ) × Live (after g before) live
     × (regions * (region_words - words_asked (Some e.command) + 1) ≤ live + words_open scripts before e.thread)
+
+-- each allocation that was refused in a history that began with a graph was crowded out
+abbrev pub AreCrowded : (regions region_words : ℕ) → Graph → List (List Command) → List Entry → Type 0
+AreCrowded regions region_words g scripts history =
+    (k : ℕ) (e : Entry) → slice_get history k ≡ Some e → e.reply ≡ reply.Full → IsCrowded regions region_words g scripts (take k history) e
 
 -- A history that a heap of so many regions of so many words may have, whose threads have these scripts.
 pub record IsLegalHistory (regions region_words : ℕ) (scripts : List (List Command)) (history : List Entry) : Type 0 where
   pub each : EachIsLegal (opening (length scripts)) history
-  pub crowded : (k : ℕ) (e : Entry) → slice_get history k ≡ Some e → e.reply ≡ reply.Full → IsCrowded regions region_words scripts (take k history) e
+  pub crowded : AreCrowded regions region_words (opening (length scripts)) scripts history

@@ -7,4 +7,6 @@ pub enum Order {
     Nothing,
     /// Of a mutator that takes commands: it begins this one.
     Begin(Command),
+    /// Of a mutator that takes commands: it ends, and takes no order any more.
+    End,
 }

@@ -3,9 +3,10 @@ use Rattle.std.specs.Prelude.{ℕ, ◌≡◌, List, length}
 use Rattle.heap_words.specs.declared.config.Config.{Config}
 use Rattle.heap_words.specs.declared.schedule.Item.{Item}
 use Rattle.steps_base.specs.Steps.{Stage, Event}
-use Rattle.shen_graph.specs.Graph.{opening as first_graph}
-use Rattle.shen_graph.specs.History.{Entry, EachIsLegal, Follows, IsWithoutFull}
+use Rattle.shen_graph.specs.History.{Entry, Follows}
+use Rattle.shen_graph.specs.Crowd.{IsLegalHistory}
 use Rattle.shen_graph.specs.declared.order.Order.{Order}
+use Rattle.pause_laws.specs.Image.{full_image}
 use Rattle.step_core.specs.Actor.{Actor}
 use Rattle.step_core.specs.Opening.{opening}
 use Rattle.step_core.specs.Schedule.{Scripts, schedule_events}
@@ -14,24 +15,25 @@ use Rattle.shen_core.specs.Progress.{AreIdle}
 use Rattle.trace_grammar.specs.Grammar.{Reads}
 use Rattle.trace_writing.specs.Answer.{IsAnswerText}
 
--- the events of a trace: those of its schedule and of the rounds after it, from the opening on, cut after so many
+-- the events of a trace, in a heap whose pauses are full collections: those of its schedule and of the rounds after it, from
+-- the opening on, cut after so many
 abbrev pub events_of : Config → Scripts → List Item → ℕ → List (Event Order)
-events_of c scripts items limit = schedule_events c scripts items limit (opening c)
+events_of c scripts items limit = schedule_events full_image c scripts items limit (opening c)
 
 -- the history of these events, and the words and machines after them
 abbrev pub history_of : Config → Scripts → List Item → ℕ → List Entry
-history_of c scripts items limit = past c (events_of c scripts items limit)
+history_of c scripts items limit = past full_image c (events_of c scripts items limit)
 
 abbrev pub end_of : Config → Scripts → List Item → ℕ → Stage Actor
-end_of c scripts items limit = reached c (events_of c scripts items limit)
+end_of c scripts items limit = reached full_image c (events_of c scripts items limit)
 
--- The history of the events of a trace, after which all machines are idle: each thread's commands are its script, whole and
--- in order, each entry is a legal step from the opening graph, and no allocation was refused.
+-- The history of the events of a trace, after which all machines are idle: all mutators have ended, and the control has. Each
+-- thread's commands are its script, whole and in order; each entry is a legal step from the opening graph; and each allocation
+-- that was refused was crowded out by live objects and the other threads' allocations that were not answered yet.
 pub record IsWhole (c : Config) (scripts : Scripts) (items : List Item) (limit : ℕ) : Type 0 where
   pub idle : AreIdle c scripts (end_of c scripts items limit)
   pub follows : Follows scripts (history_of c scripts items limit)
-  pub legal : EachIsLegal (first_graph c.mutators) (history_of c scripts items limit)
-  pub without_full : IsWithoutFull (history_of c scripts items limit)
+  pub legal : IsLegalHistory c.regions c.region_words scripts (history_of c scripts items limit)
 
 -- The bytes are a trace, its events come to an end, and the text is the answer of their history.
 pub record IsReplayed (bytes : List ℕ) (limit : ℕ) (out : List ℕ) : Type 0 where

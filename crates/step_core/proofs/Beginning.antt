@@ -1,26 +1,58 @@
--- A stage that begins a graph follows the empty history.
-use Rattle.std.proofs.Common.{[]}
+-- A stage that begins a graph follows the empty history, and no machine is in the heap.
+use Rattle.std.proofs.Common.{◌≡◌, [], None, Some, refl, sym, ap, ◌∙◌, subst, arith}
+use Rattle.std.specs.Prelude.{slice_get}
 use Rattle.std.proofs.lemmas.List.Elements.{All-nil}
 use Rattle.heap_words.specs.declared.config.Config.{Config}
+use Rattle.heap_words.specs.Words.{view}
 use Rattle.steps_base.specs.Steps.{Stage}
 use Rattle.shen_graph.specs.Graph.{Graph}
-use Rattle.step_core.specs.Actor.{Actor}
+use Rattle.heap_world.specs.World.{Shared}
+use Rattle.step_core.specs.Actor.{Machine, mutating, helping, controlling, Actor}
+use Rattle.step_core.specs.Machines.{HasNumber, IsIdle}
+use Rattle.step_core.specs.Settled.{stored_image, image_in, image_of, settled, settled_by, control_number}
 use Rattle.step_core.specs.Threads.{IsSettled}
 use Rattle.step_core.specs.Begins.{Begins}
 use Rattle.step_core.specs.Sound.{world_of}
-use Rattle.step_core.proofs.Facts.{Follows}
-use Rattle.step_core.proofs.Roles.{machine_begins}
+use Rattle.step_core.proofs.Facts.{IsMachine, Follows}
+use Rattle.step_core.proofs.HandshakeBegins.{begins_shaken, begins_counted}
+use Rattle.step_core.proofs.Induction.{Goes}
+use Rattle.step_core.proofs.Roles.{machine_there, machine_begins}
 
-pub follows_begins : (c : Config) (s : Stage Actor) (g : Graph) → Begins c s g → Follows c g s []
-follows_begins c s g begins = record {
-  block = begins.stands.block;
-  owner = begins.stands.owner;
-  words = begins.words;
-  seats = begins.seats;
-  legal = tt;
-  entries = All-nil (IsSettled c.mutators);
-  shared = begins.stands.shared;
-  machines = λ k a there.
-      let new = begins.machines k a there in
-      machine_begins c (world_of c s begins.stands.block begins.stands.owner g) k a a.machine new.number_is new.idle new.calls new.valid begins.stands.roots begins.stands.none;
-}
+-- an idle control holds no image
+idle_holds : (c : Config) (g : Graph) (machine : Machine) → HasNumber c (control_number c) machine → IsIdle g (control_number c) machine → image_in machine ≡ None
+idle_holds c g (mutating m) number calm = absurd (let below = number.1 in omega (arith, below))
+idle_holds c g (helping h) number calm = absurd (let below = number.1 in omega (arith, below))
+idle_holds c g (controlling h) number calm = ap (λ spot. stored_image spot h.image) calm.0
+
+-- What holds of a stage that begins a graph.
+module _ (c : Config) (s : Stage Actor) (g : Graph) (begins : Begins c s g) where
+  -- the control is there
+  there : (a : Actor) × (slice_get s.machines (control_number c) ≡ Some a)
+  there = machine_there c s.words (world_of c s begins.stands.block begins.stands.owner g) [] s.machines begins.seats (control_number c) (omega arith)
+
+  -- no image counts
+  pub whole_begins : settled c s ≡ view c s.words
+  whole_begins =
+      let new = begins.machines (control_number c) there.0 there.1 in
+      ap (settled_by c s.words) (ap image_of there.1 ∙ idle_holds c g there.0.machine new.number_is new.idle)
+
+  pub follows_begins : Follows c g s []
+  follows_begins = record {
+    block = begins.stands.block;
+    owner = begins.stands.owner;
+    words = begins.words;
+    seats = begins.seats;
+    legal = tt;
+    entries = All-nil (IsSettled c.mutators);
+    no_more = begins.stands.no_more;
+    shared = subst (λ memory. Shared c (record { memory = memory; block = begins.stands.block; owner = begins.stands.owner; graph = g })) (sym whole_begins) begins.stands.shared;
+    promised_to = begins.stands.promised_to;
+    machines = λ k a is.
+        let new = begins.machines k a is in
+        subst (λ memory. IsMachine c s.words (record { memory = memory; block = begins.stands.block; owner = begins.stands.owner; graph = g }) [] k a a.machine) (sym whole_begins)
+        (machine_begins c s.words (record { memory = view c s.words; block = begins.stands.block; owner = begins.stands.owner; graph = g }) k a a.machine refl new.number_is new.idle new.calls new.valid
+        begins.stands.roots begins.stands.none begins.stands.asked);
+  }
+
+  pub goes_begins : Goes c g s []
+  goes_begins = record { follows = follows_begins; shaken = begins_shaken c s g begins; counted = begins_counted c s g begins }

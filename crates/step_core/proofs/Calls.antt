@@ -1,8 +1,8 @@
--- The steps of a call that asks for a cycle: they load the phase and the collection set, ask, and leave.
-use Rattle.std.proofs.Common.{◌≡◌, ℕ, ◌+◌, Option, refl, sym, ap, ◌∙◌, arith}
+-- The first access of a call, and the last; the access by which a mutator ends; and that which asks for a cycle.
+use Rattle.std.proofs.Common.{◌≡◌, ℕ, ◌+◌, ◌<◌, true, false, Option, Some, None, refl, sym, ap, ◌∙◌, arith}
 use Rattle.std.proofs.lemmas.Bool.Decides.{nat_tests}
-use Rattle.std.proofs.lemmas.Bool.{and_from, eq-eqb}
 use Rattle.heap_words.specs.declared.config.Config.{Config}
+use Rattle.heap_words.specs.Words.{Root}
 use Rattle.shen_graph.specs.declared.command.Command.{Command}
 use Rattle.shen_graph.specs.declared.command.Reply.{Reply}
 use Rattle.shen_graph.specs.declared.command.Reply.TheVariants as reply
@@ -11,55 +11,78 @@ use Rattle.mutator.specs.declared.spot.Spot.{Spot}
 use Rattle.mutator.specs.declared.spot.Spot.TheVariants.{Rest, Ended, AskCycle, Leave}
 use Rattle.mutator.specs.declared.spot.Kept.{Kept}
 use Rattle.shen_graph.specs.declared.order.Order.{Order}
-use Rattle.shen_graph.specs.declared.order.Order.TheVariants.{Nothing, Begin}
-use Rattle.mutator.specs.Rows.{Mutating}
-use Rattle.heap_world.specs.World.{World}
-use Rattle.step_core.specs.Stepped.{Row, OrderedRow}
-use Rattle.step_core.proofs.Spots.{mutator_at, accessed}
-use Rattle.step_core.proofs.Ready.{leaving}
+use Rattle.shen_graph.specs.declared.order.Order.TheVariants.{Nothing, Begin, End}
+use Rattle.mutator.specs.Rows.{Mutating, begun}
+use Rattle.mutator.specs.Orders.{is_next}
+use Rattle.heap_world.specs.World.{World, hand, Points}
+use Rattle.step_core.specs.Actor.{command_by}
+use Rattle.step_core.specs.Stepped.{IsSeatedIn, Mine, Row, OrderedRow}
+use Rattle.step_core.proofs.Spots.{mutator_at, accessed_by, accessed}
+use Rattle.step_core.proofs.Ready.{leaving, rest_ready}
 use Rattle.step_core.proofs.Settling.{legal_answer, graph_answer}
 
 module _ (c : Config) (u : World) (seat made : ℕ) (kept : Kept) (command : Command) (fixed : Option Reply) where
   abbrev at_spot : Spot → Mutating
   at_spot spot = mutator_at seat made kept spot
 
-  -- a call begins after the opening
+  -- what a mutator counts on once its first access under an order is made: it enters the heap for a call, or has ended
+  abbrev MineBegun : Order → Type 0
+  MineBegun order = Mine c (accessed_by c u (at_spot Rest) order) (begun order (at_spot Rest)) (command_by order command) fixed
+
+  begins : (k : Command) → IsSeatedIn c u seat made false → ((i : ℕ) → i < 16 → Points u.block (u.memory (Root seat i)) (u.graph.root (seat + 1) i)) → ((a words : ℕ) → u.block a ≡ Some (hand seat words) → ⊥)
+      → fixed ≡ None → is_next made k ≡ true → MineBegun (Begin k)
+  begins k seated roots hands unsettled next =
+      record { seated = seated; ready = refl; roots = roots; hands = hands; facts = record { unsettled = unsettled; is = refl; next = next } }
+
+  ends : IsSeatedIn c u seat made false → ((i : ℕ) → i < 16 → Points u.block (u.memory (Root seat i)) (u.graph.root (seat + 1) i)) → ((a words : ℕ) → u.block a ≡ Some (hand seat words) → ⊥)
+      → fixed ≡ None → MineBegun End
+  ends seated roots hands unsettled = record { seated = seated; ready = refl; roots = roots; hands = hands; facts = unsettled }
+
+  -- a mutator that has not begun a call begins one, or ends
   pub at_rest : (order : Order) → OrderedRow c u (at_spot Rest) command order fixed
   at_rest Nothing shared mine takes = cc
   at_rest (Begin k) shared mine takes = record {
-    world = accessed c u (at_spot Rest);
+    world = accessed_by c u (at_spot Rest) (Begin k);
     memory = refl;
     graph = refl;
     legal = tt;
     settles = λ r e. cc;
     shared = shared;
-    mine = record {
-      seated = mine.seated;
-      ready = and_from _ _ refl (eq-eqb _ _ shared.calm.phase_is);
-      roots = mine.roots;
-      hands = mine.hands;
-      facts = record { unsettled = mine.facts; is = refl; next = takes };
-    };
+    mine = begins k mine.seated mine.roots mine.hands mine.facts takes;
+    others = λ j d. search (arith, nat_tests);
+  }
+  at_rest End shared mine takes = record {
+    world = accessed_by c u (at_spot Rest) End;
+    memory = refl;
+    graph = refl;
+    legal = tt;
+    settles = λ r e. cc;
+    shared = shared;
+    mine = ends mine.seated mine.roots mine.hands mine.facts;
     others = λ j d. search (arith, nat_tests);
   }
 
-  -- a call begins after another
+  -- so does one that has ended a call
   pub at_ended : (r : Reply) (order : Order) → OrderedRow c u (at_spot (Ended r)) command order fixed
   at_ended r Nothing shared mine takes = cc
   at_ended r (Begin k) shared mine takes = record {
-    world = accessed c u (at_spot (Ended r));
+    world = accessed_by c u (at_spot (Ended r)) (Begin k);
     memory = refl;
     graph = refl;
     legal = tt;
-    settles = λ r e. cc;
+    settles = λ q e. cc;
     shared = shared;
-    mine = record {
-      seated = mine.seated;
-      ready = and_from _ _ refl (eq-eqb _ _ shared.calm.phase_is);
-      roots = mine.roots;
-      hands = mine.hands;
-      facts = record { unsettled = mine.facts; is = refl; next = takes };
-    };
+    mine = begins k mine.seated mine.roots mine.hands mine.facts takes;
+    others = λ j d. search (arith, nat_tests);
+  }
+  at_ended r End shared mine takes = record {
+    world = accessed_by c u (at_spot (Ended r)) End;
+    memory = refl;
+    graph = refl;
+    legal = tt;
+    settles = λ q e. cc;
+    shared = shared;
+    mine = ends mine.seated mine.roots mine.hands mine.facts;
     others = λ j d. search (arith, nat_tests);
   }
 
@@ -87,6 +110,6 @@ module _ (c : Config) (u : World) (seat made : ℕ) (kept : Kept) (command : Com
     legal = tt;
     settles = λ q e. cc;
     shared = shared;
-    mine = record { seated = mine.seated; ready = refl; roots = mine.roots; hands = mine.hands; facts = refl };
+    mine = record { seated = mine.seated; ready = rest_ready c seat made kept (Ended r) refl mine.seated.below; roots = mine.roots; hands = mine.hands; facts = refl };
     others = λ j d. search (arith, nat_tests);
   }

@@ -1,44 +1,92 @@
 -- What holds of the machines of a stage, and what an event owes.
-use Rattle.std.specs.Prelude.{ℕ, ◌≡◌, ◌≢◌, ◌+◌, ◌<◌, ◌≤◌, true, List, ◌++◌, length, Option, Some, slice_get, All}
+use Rattle.std.specs.Prelude.{ℕ, ◌≡◌, ◌≢◌, ◌+◌, ◌-◌, ◌*◌, ◌<◌, ◌≤◌, ◌==◌, ◌⊎◌, nat_le, true, List, ◌++◌, length, Option, Some, None, slice_get, slice_index, sum_by, if◌then◌else◌, All}
 use Rattle.heap_words.specs.declared.config.Config.{Config}
+use Rattle.heap_words.specs.Encoding.{object_words}
 use Rattle.heap_words.specs.Ranges.{seat_count}
-use Rattle.heap_words.specs.Words.{Word, table_words}
+use Rattle.heap_words.specs.Words.{Word, Answer, Heap, view, image_start, table_words}
+use Rattle.packing.specs.Tops.{sum_below}
 use Rattle.steps_base.specs.Steps.{Stage}
+use Rattle.shen_graph.specs.declared.name.Name.{Name}
 use Rattle.shen_graph.specs.declared.command.Reply.{Reply}
-use Rattle.shen_graph.specs.Graph.{Graph}
+use Rattle.shen_graph.specs.declared.command.Reply.TheVariants.{Full}
+use Rattle.shen_graph.specs.Crowd.{words_asked}
+use Rattle.shen_graph.specs.Graph.{Graph, named}
+use Rattle.shen_graph.specs.Reach.{IsReach, size}
 use Rattle.shen_graph.specs.History.{Entry, after, EachIsLegal, of_thread}
 use Rattle.mutator.specs.Orders.{is_valid}
 use Rattle.mutator.specs.Rows.{Mutating}
-use Rattle.heap_world.specs.World.{World, Plot, hand, Shared}
-use Rattle.step_core.specs.Actor.{Helping, Controlling, Machine, mutating, helping, controlling, Actor, entries_of}
+use Rattle.heap_world.specs.World.{World, Plot, hand, promised, Shared}
+use Rattle.heap_world.specs.Change.{image_words}
+use Rattle.heap_world.specs.Roots.{HasNoMore}
+use Rattle.control_steps.specs.declared.spot.ControlSpot.{ControlSpot}
+use Rattle.control_steps.specs.declared.spot.ControlSpot.TheVariants.{LoadWord, StoreWord}
+use Rattle.control_steps.specs.Rows.{Controlling}
+use Rattle.control_steps.specs.Ready.{is_ready}
+use Rattle.step_core.specs.Actor.{Helping, Machine, mutating, helping, controlling, Actor, entries_of}
 use Rattle.step_core.specs.Threads.{IsSettled}
 use Rattle.step_core.specs.Stepped.{Mine}
 use Rattle.step_core.specs.Sound.{world_of}
 
--- what holds of a mutator, for the entries of the history that are its own: they are its calls, or these and one more
-pub record IsThread (c : Config) (w : World) (entries : List Entry) (number : ℕ) (a : Actor) (m : Mutating) : Type 0 where
+-- How an answer in the table, the one that counts, and the settled reply of the call go together. Table and what counts differ
+-- only while a pause writes its image back, and Full is settled by the store into the table.
+pub record IsSeen (raw now : ℕ) (fixed : Option Reply) : Type 0 where
+  pub null : now ≡ 0 → raw ≡ 0
+  pub full : now ≡ 1 → ((raw ≡ 1) × (fixed ≡ Some Full)) ⊎ ((raw ≡ 0) × (fixed ≡ None))
+  pub given : 1 < now → raw ≢ 1
+
+-- the words of the object that a thread is answered with
+abbrev pub words_promised : (Word → ℕ) → ℕ → ℕ
+words_promised memory t = if nat_le (memory (Answer t)) 1 then 0 else object_words (memory (Heap (memory (Answer t) + 1)))
+
+-- live objects and objects made for other threads crowd the regions for so many words
+abbrev pub IsShort : Config → (Word → ℕ) → Graph → (thread words : ℕ) → Type 0
+IsShort c memory g t words =
+    (names : List Name) × IsReach g names
+    × (c.regions * (c.region_words - words + 1) ≤ sum_by (λ n. size (named g (Some n))) names + sum_below (λ u. if u == t then 0 else words_promised memory u) c.mutators)
+
+-- What holds of a mutator, for the entries of the history that are its own: they are its calls, or these and one more. Where the
+-- answer that counts says that the heap is full, and this is not settled yet, it is crowded.
+pub record IsThread (c : Config) (words : List ℕ) (w : World) (entries : List Entry) (number : ℕ) (a : Actor) (m : Mutating) : Type 0 where
   pub fixed : Option Reply
   pub number_is : m.seat ≡ number
   pub valid : is_valid a.command ≡ true
   pub mine : Mine c w m a.command fixed
+  pub seen : IsSeen (view c words (Answer number)) (w.memory (Answer number)) fixed
+  pub short : w.memory (Answer number) ≡ 1 → fixed ≡ None → IsShort c w.memory w.graph number (words_asked (Some a.command))
   pub entries_are : entries ≡ a.calls ++ entries_of number a.command fixed
 
--- what holds of a helper: it has no room in hand
+-- what holds of a helper: it has no room in hand, and nothing is promised to it
 pub record IsHelper (c : Config) (w : World) (number : ℕ) (h : Helping) : Type 0 where
   pub least : c.mutators ≤ number
   pub below : number < c.mutators + c.helpers
   pub hands : (a words : ℕ) → w.block a ≡ Some (hand number words) → ⊥
 
--- what holds of the control: it has no room in hand
-pub record IsControl (c : Config) (w : World) (number : ℕ) (k : Controlling) : Type 0 where
+-- the first words of an image are those of the table
+abbrev pub AreRead : Config → List ℕ → List ℕ → ℕ → Type 0
+AreRead c words image n = (i : ℕ) → i < n → slice_index image i ≡ slice_index words (image_start c + i)
+
+-- what the control knows in a pause: which words of the image it has read or written
+abbrev pub IsAim : Config → List ℕ → ControlSpot → List ℕ → Type 0
+IsAim c words (LoadWord index) image = (length image ≡ index) × AreRead c words image index
+IsAim c words (StoreWord index) image = (length image ≡ image_words c) × AreRead c words image index
+IsAim c words _ image = Unit {0}
+
+-- what holds of the control: it has no room in hand, and can make its next access
+pub record IsControl (c : Config) (words : List ℕ) (w : World) (number : ℕ) (k : Controlling) : Type 0 where
   pub number_is : number ≡ c.mutators + c.helpers
   pub hands : (a words : ℕ) → w.block a ≡ Some (hand number words) → ⊥
+  pub ready : is_ready c k.spot ≡ true
+  pub aims : IsAim c words k.spot k.image
 
--- what holds of a machine
-abbrev pub IsMachine : Config → World → List Entry → ℕ → Actor → Machine → Type 0
-IsMachine c w entries number a (mutating m) = IsThread c w entries number a m
-IsMachine c w entries number a (helping h) = IsHelper c w number h
-IsMachine c w entries number a (controlling k) = IsControl c w number k
+-- what holds of a machine, by the words of the table and the world
+abbrev pub IsMachine : Config → List ℕ → World → List Entry → ℕ → Actor → Machine → Type 0
+IsMachine c words w entries number a (mutating m) = IsThread c words w entries number a m
+IsMachine c words w entries number a (helping h) = IsHelper c w number h
+IsMachine c words w entries number a (controlling k) = IsControl c words w number k
+
+-- what is promised is promised to mutators
+abbrev pub PromisedToMutators : Config → Plot → Type 0
+PromisedToMutators c block = (a seat words : ℕ) → block a ≡ Some (promised seat words) → seat < c.mutators
 
 -- The stage stands for the graph after the history of a run that began with a graph, the history is legal and of the heap's
 -- threads, and each machine is where it should be.
@@ -49,20 +97,24 @@ pub record Follows (c : Config) (g : Graph) (s : Stage Actor) (past : List Entry
   pub seats : length s.machines ≡ seat_count c.mutators c.helpers
   pub legal : EachIsLegal g past
   pub entries : All (IsSettled c.mutators) past
+  pub no_more : HasNoMore c.mutators (after g past)
   pub shared : Shared c (world_of c s block owner (after g past))
+  pub promised_to : PromisedToMutators c block
   pub machines : (number : ℕ) (a : Actor) → slice_get s.machines number ≡ Some a
-      → IsMachine c (world_of c s block owner (after g past)) (of_thread past (number + 1)) number a a.machine
+      → IsMachine c s.words (world_of c s block owner (after g past)) (of_thread past (number + 1)) number a a.machine
 
 -- What an event of a machine owes, whatever its role: the world after it, by the words that count then and by the graph after
 -- the entries that it settles, which may be of any threads; that the entries are legal and of the heap's threads; what all
 -- machines share; what holds of the machine itself, as it is then; and that what holds of each other machine stays.
-pub record Owes (c : Config) (u : World) (past : List Entry) (number : ℕ) (machines : List Actor) (memory : Word → ℕ) (settles : List Entry) (new : Actor) : Type 0 where
+-- `words` is the table before it, `words_then` the table after it.
+pub record Owes (c : Config) (words words_then : List ℕ) (u : World) (past : List Entry) (number : ℕ) (machines : List Actor) (memory : Word → ℕ) (settles : List Entry) (new : Actor) : Type 0 where
   pub world : World
   pub memory_is : world.memory ≡ memory
   pub graph_is : world.graph ≡ after u.graph settles
   pub legal : EachIsLegal u.graph settles
   pub entries : All (IsSettled c.mutators) settles
   pub shared : Shared c world
-  pub own : IsMachine c world (of_thread (past ++ settles) (number + 1)) number new new.machine
+  pub promised_to : PromisedToMutators c world.block
+  pub own : IsMachine c words_then world (of_thread (past ++ settles) (number + 1)) number new new.machine
   pub others : (k : ℕ) (b : Actor) → k ≢ number → slice_get machines k ≡ Some b
-      → IsMachine c u (of_thread past (k + 1)) k b b.machine → IsMachine c world (of_thread (past ++ settles) (k + 1)) k b b.machine
+      → IsMachine c words u (of_thread past (k + 1)) k b b.machine → IsMachine c words_then world (of_thread (past ++ settles) (k + 1)) k b b.machine

@@ -15,19 +15,20 @@ use Rattle.std.specs.Prelude.{List}
 use Rattle.steps_base.specs.Steps.{Event}
 use Rattle.shen_graph.specs.declared.order.Order.{Order}
 use Rattle.regions.specs.Place.{base_of}
-use Rattle.heap_words.specs.Words.{Word, same_word, Top, Root, Heap, Phase, Cset, Free, Evac, Current, Wait, Answer}
+use Rattle.heap_words.specs.Words.{Word, same_word, Pause, State, Top, Root, Heap, Phase, Cset, Free, Evac, Current, Wait, Answer}
 use Rattle.shen_graph.specs.declared.name.Name.{Name}
 use Rattle.shen_graph.specs.declared.command.Command.TheVariants.{Gc}
 use Rattle.shen_graph.specs.Graph.{Object, hub, same_name, blank}
 use Rattle.mutator.specs.Rows.{fresh_mutator}
 use Rattle.step_core.specs.Actor.{mutating, fresh_helper, fresh_control}
 use Rattle.step_core.specs.Opening.{opening_actor, opening, first_free}
-use Rattle.heap_world.specs.World.{World, Plot, Block, thing, hand, words_of, name_at, Points, IsInUse, IsPlotted, IsFilled, IsThing, IsGiven, AreObjects, IsFreeWord, Shared}
+use Rattle.heap_world.specs.World.{World, Plot, Block, thing, hand, promised, words_of, name_at, Points, IsInUse, IsPlotted, IsFilled, IsThing, IsGiven, AreObjects, IsFreeWord, Shared}
+use Rattle.heap_world.specs.Asking.{nothing}
 use Rattle.heap_world.specs.Represents.{Represents}
-use Rattle.step_core.specs.Begins.{IsNew, Begins, Run, first_graph}
+use Rattle.step_core.specs.Begins.{IsNew, IsCalmOutside, Begins, Run, first_graph}
 use Rattle.step_core.proofs.Roots.{no_more_opening}
 use Rattle.shen_graph.proofs.PlainLemmas.{same_name-true}
-use Rattle.step_core.proofs.NewObject.{all_alike}
+use Rattle.heap_world.proofs.NewObject.{all_alike}
 use Rattle.step_core.proofs.OpeningStands.{rooted_memory, first_memory, view-opening, length-opening}
 
 -- the hub alone
@@ -186,6 +187,10 @@ first_free_word c = record {
   nobodys = λ r within bit. refl;
 }
 
+-- nothing is promised
+none_promised : (c : Config) (a seat words : ℕ) → first_block c a ≡ Some (promised seat words) → ⊥
+none_promised c a seat words is = let no = (block_only c a (promised seat words) is).1 in cc
+
 -- what machines share holds of the opening
 first_shared : (c : Config) → Shared c (first_world c)
 first_shared c = record {
@@ -202,7 +207,7 @@ first_shared c = record {
     own = λ seat r is. let none = rooted_else c (Current seat) (λ k. refl) c.mutators in absurd (omega (arith, none, is));
   };
   rooms = λ a seat words is. absurd (let no = (block_only c a (hand seat words) is).1 in cc);
-  unasked = record { waits = λ t within. rooted_else c (Wait t) (λ k. refl) c.mutators; answers = λ t within. rooted_else c (Answer t) (λ k. refl) c.mutators };
+  promises = λ a seat words is. absurd (none_promised c a seat words is);
 }
 
 -- the words of the roots stand for the graph's
@@ -222,14 +227,25 @@ first_roots c k i below = ⊎_elim
         ap (λ a. name_at (first_block c a)) (rooted_root c c.mutators k below) ∙ ap name_at (block_hub c) in
         subst (λ r. Points (first_block c) (first_memory c (Root k 0)) r) (sym named) at_hub
 
--- its words stand for the graph of the opening
-first_stands : (c : Config) → Represents c (first_memory c) (first_graph c)
+-- its words stand for the graph of the opening, and nothing is asked
+first_stands : (c : Config) → Represents c (first_memory c) (first_graph c) (λ t. nothing)
 first_stands c = record {
   block = first_block c;
   owner = λ _. None;
   shared = first_shared c;
   roots = λ t i below small. first_roots c t i below;
   none = λ a seat words is. (let no = (block_only c a (hand seat words) is).1 in cc);
+  asked = λ t below. (rooted_else c (Wait t) (λ k. refl) c.mutators, rooted_else c (Answer t) (λ k. refl) c.mutators, λ a words is. none_promised c a t words is);
+  promised_to = λ a seat words is. absurd (none_promised c a seat words is);
+  no_more = no_more_opening c.mutators;
+}
+
+-- No pause is wanted, no machine is inside, and no mutator has ended.
+first_outside : (c : Config) → IsCalmOutside c (first_memory c)
+first_outside c = record {
+  pause = rooted_else c Pause (λ k. refl) c.mutators;
+  states = λ seat below. rooted_else c (State seat) (λ k. refl) c.mutators;
+  left = refl;
 }
 
 -- each machine of the opening is idle
@@ -237,10 +253,10 @@ first_new : (c : Config) (k : ℕ) → k < seat_count c.mutators c.helpers → I
 first_new c k within = by_test (nat_lt k c.mutators) (nat_lt k (c.mutators + c.helpers)) refl refl
   where
     by_test : (b d : Bool) → nat_lt k c.mutators ≡ b → nat_lt k (c.mutators + c.helpers) ≡ d
-        → IsNew c (first_graph c) k (record { machine = if b then mutating (fresh_mutator k) else (if d then fresh_helper else fresh_control); command = Gc; calls = [] })
+        → IsNew c (first_graph c) k (record { machine = if b then mutating (fresh_mutator k) else (if d then fresh_helper else fresh_control (first_free c.regions)); command = Gc; calls = [] })
     by_test true d is more = record { number_is = (refl, ltb-true _ _ is); idle = (refl, refl); calls = refl; valid = refl }
     by_test false true is more = record { number_is = (ltb-false _ _ is, ltb-true _ _ more); idle = tt; calls = refl; valid = refl }
-    by_test false false is more = record { number_is = (let past = ltb-false _ _ more in omega (arith, past, within)); idle = tt; calls = refl; valid = refl }
+    by_test false false is more = record { number_is = (let past = ltb-false _ _ more in omega (arith, past, within)); idle = (refl, refl); calls = refl; valid = refl }
 
 -- the opening begins its graph
 pub opening_begins : (c : Config) → Begins c (opening c) (first_graph c)
@@ -248,8 +264,8 @@ unfolding opening
 opening_begins c = record {
   words = length-opening c;
   seats = length-map-range_with_len (opening_actor c) 0 (seat_count c.mutators c.helpers);
-  stands = subst (λ m. Represents c m (first_graph c)) (sym (view-opening c)) (first_stands c);
-  no_more = no_more_opening c.mutators;
+  stands = subst (λ m. Represents c m (first_graph c) (λ t. nothing)) (sym (view-opening c)) (first_stands c);
+  outside = subst (λ m. IsCalmOutside c m) (sym (view-opening c)) (first_outside c);
   machines = λ k a there.
       let within = slice_get_within _ k a there in
       let count : length (opening c).machines ≡ seat_count c.mutators c.helpers = length-map-range_with_len (opening_actor c) 0 (seat_count c.mutators c.helpers) in

@@ -1,38 +1,26 @@
 -- The steps that make a new object in room in hand.
 use Rattle.std.proofs.Common.{◌≡◌, ◌≢◌, ℕ, ◌+◌, ◌<◌, Bool, true, false, Option, Some, ⊎_elim, refl, sym, ap, ◌∙◌, subst, arith}
-use Rattle.std.specs.Prelude.{◌==◌, ◌&&◌, nat_lt, if◌then◌else◌}
-use Rattle.std.proofs.lemmas.Bool.{cases_eq, cond-true, cond-false, eq-eqb, ne_eqb, and_left, ltb-true, ltb-false}
+use Rattle.std.specs.Prelude.{◌==◌, nat_lt, if◌then◌else◌}
+use Rattle.std.proofs.lemmas.Bool.{cases_eq, cond-true, cond-false, eq-eqb, ne_eqb, ltb-true, ltb-false}
 use Rattle.heap_words.specs.declared.config.Config.{Config}
-use Rattle.heap_words.specs.Words.{Root, Top, Heap, Current}
-use Rattle.shen_graph.specs.declared.name.Name.{Name}
+use Rattle.heap_words.specs.Encoding.{fresh_word}
+use Rattle.heap_words.specs.Words.{Top, Heap}
 use Rattle.shen_graph.specs.declared.command.Command.{Command}
 use Rattle.shen_graph.specs.declared.command.Reply.{Reply}
-use Rattle.shen_graph.specs.declared.command.Reply.TheVariants as reply
-use Rattle.shen_graph.specs.Graph.{Object, blank, fresh, with_root, with_fresh}
-use Rattle.shen_graph.specs.Step.{outcome}
 use Rattle.mutator.specs.declared.spot.Spot.{Spot}
 use Rattle.mutator.specs.declared.spot.Spot.TheVariants.{Making, Leave}
 use Rattle.mutator.specs.declared.makes.MakeSpot.TheVariants as make
 use Rattle.mutator.specs.declared.spot.Kept.{Kept}
 use Rattle.mutator.specs.Commands.{dst_of, refs_of, nums_of}
-use Rattle.mutator.specs.Rows.{Mutating, fresh_word, touch_of}
-use Rattle.steps_base.specs.Touch.{touched}
-use Rattle.heap_world.specs.World.{World, Block, thing, hand, words_of, name_at, IsThing, IsGiven, Shared}
+use Rattle.mutator.specs.Rows.{Mutating}
+use Rattle.heap_world.specs.World.{World, Block, thing, hand, promised, words_of, Shared}
 use Rattle.step_core.specs.Stepped.{IsFilling, Mine, Row}
 use Rattle.heap_world.specs.Rely.{Rely}
-use Rattle.heap_world.proofs.Updates.{updated, updated_there}
 use Rattle.step_core.proofs.Spots.{mutator_at, accessed}
-use Rattle.step_core.proofs.Settling.{legal_answer, graph_answer}
-use Rattle.heap_world.proofs.Keeping.{points_stay}
 use Rattle.step_core.proofs.Ready.{leaving, word_ready, fresh_ready}
-use Rattle.step_core.proofs.RootStores.{roots_written}
+use Rattle.step_core.proofs.FreshRoot.{HasNew, made_world, made_reply, hand_before, promise_before, roots_made, count_made, legal_made, graph_made, shared_made, others_made}
 use Rattle.heap_world.proofs.Apart.{far}
 use Rattle.heap_world.proofs.Pieces.{object_reads}
-use Rattle.step_core.proofs.NewObject.{new_object, names_stay, things_stay, hands_stay, old_hand, plotted_again, filled_again, objects_again, rooms_again, given_again, with_count, count_own}
-
--- the name of a thread's next object
-abbrev next_name : ℕ → ℕ → Name
-next_name thread made = record { thread = thread; count = made + 1 }
 
 module _ (c : Config) (u : World) (seat made : ℕ) (kept : Kept) (command : Command) (fixed : Option Reply) where
   abbrev at_spot : Spot → Mutating
@@ -80,7 +68,7 @@ module _ (c : Config) (u : World) (seat made : ℕ) (kept : Kept) (command : Com
       free_word = shared.free_word;
       currents = shared.currents;
       rooms = shared.rooms;
-      unasked = shared.unasked;
+      promises = shared.promises;
     }
 
     -- one word more of the new object stands in the room
@@ -129,12 +117,19 @@ module _ (c : Config) (u : World) (seat made : ℕ) (kept : Kept) (command : Com
       hand_words = λ a words k is below.
           let other : a ≢ address = λ same. (let clash : Some (hand j words) ≡ Some (hand seat (3 + refs + nums)) = sym is ∙ ap u.block same ∙ mine.facts.1.room in let seats : j ≡ seat = cc in differs seats) in
           else_stays a k (hand j words) is other below;
+      promises = λ a words is. is;
+      no_promises = λ a words is. is;
+      promise_words = λ a words k is below.
+          let other : a ≢ address = λ same. (let clash : Some (promised j words) ≡ Some (hand seat (3 + refs + nums)) = sym is ∙ ap u.block same ∙ mine.facts.1.room in cc) in
+          else_stays a k (promised j words) is other below;
       current = refl;
       owners = λ r is. is;
       tops = λ r is. refl;
       root_words = λ i. refl;
       roots = λ i. refl;
       count = refl;
+      wait = refl;
+      answer = refl;
       state = refl;
       phase = refl;
       cset = refl;
@@ -154,109 +149,38 @@ module _ (c : Config) (u : World) (seat made : ℕ) (kept : Kept) (command : Com
   }
 
   module _ (address : ℕ) (shared : Shared c u) (mine : Mine c u (at_spot (Making (make.StoreRoot address))) command fixed) where
-    abbrev top : ℕ → ℕ
-    top r = u.memory (Top r)
-
-    abbrev name : Name
-    name = fresh u.graph (seat + 1)
-
-    -- the world with the new object
-    abbrev made_world : World
-    made_world = record {
-      memory = touched u.memory (touch_of c (at_spot (Making (make.StoreRoot address))));
-      block = updated u.block address (Some (thing name refs nums));
-      owner = u.owner;
-      graph = with_root (with_fresh u.graph (seat + 1) (blank refs nums)) (seat + 1) dst (Some name);
-    }
-
-    -- the room in hand
-    room : u.block address ≡ Some (hand seat (3 + refs + nums))
-    room = mine.facts.1.room
-
-    -- what a word stands for it still stands for
-    names : (a : ℕ) (n : Name) → name_at (u.block a) ≡ Some n → name_at (made_world.block a) ≡ Some n
-    names = names_stay c top u.block address seat refs nums name room
-
-    -- the thread's fresh name is the one that the mutator writes
-    name_is : name ≡ next_name (seat + 1) made
-    name_is = ap (next_name (seat + 1)) mine.seated.counted
-
-    -- no object has it
-    not_given : (o : Object) → u.graph.object name ≡ Some o → ⊥
-    not_given o is = let given = shared.given name o is in let most = given.by_thread (omega arith) in omega (arith, most)
-
-    -- its words are those of a blank object
-    new_is : IsThing (λ a. u.memory (Heap a)) made_world.block address refs nums name (blank refs nums)
-    new_is =
-        let making = mine.facts.0 in
-        subst (λ n. IsThing (λ a. u.memory (Heap a)) made_world.block address refs nums n (blank refs nums)) (sym name_is)
-        (new_object (λ a. u.memory (Heap a)) made_world.block address seat made refs nums making.few_refs making.few_nums mine.facts.1.stored)
-
-    -- its name is given then
-    is_given : IsGiven c (with_count u.graph.count (seat + 1)) name
-    is_given =
-        let own = count_own u.graph.count (seat + 1) in
-        let few = mine.facts.0.few in
-        let counted = mine.seated.counted in
-        let within = mine.seated.below in
-        record { thread = omega (arith, within); made = omega (arith, own); by_thread = λ one. omega (arith, own); small = omega (arith, few, counted) }
-
-    -- machines share what they should
-    shared_made : Shared c made_world
-    shared_made = record {
-      plotted = plotted_again c top u.block address seat refs nums name room shared.plotted;
-      filled = filled_again c top u.block address seat refs nums name room shared.filled;
-      objects = objects_again c top u.block address seat refs nums name room (λ a. u.memory (Heap a)) u.graph.object shared.objects not_given (blank refs nums) new_is;
-      given = given_again c u.graph.count u.graph.object name (blank refs nums) shared.given is_given;
-      calm = shared.calm;
-      free_word = shared.free_word;
-      currents = shared.currents;
-      rooms = rooms_again c top u.block address seat refs nums name room (λ s. u.memory (Current s)) shared.rooms;
-      unasked = shared.unasked;
+    -- all words of the object stand in the room in hand
+    has : HasNew c u seat made command kept.command fixed address
+    has = record {
+      making = mine.facts.0;
+      within = mine.seated.below;
+      counted = mine.seated.counted;
+      piece = hand seat (3 + refs + nums);
+      here = mine.facts.1.room;
+      unnamed = refl;
+      long = refl;
+      own = record { no_hand = λ j words differs same. (let seats : j ≡ seat = cc in differs seats); no_promise = λ j words differs same. cc };
+      stored = mine.facts.1.stored;
+      shared = shared;
     }
 
     -- the mutator has only to leave
-    mine_made : Mine c made_world (mutator_at seat (made + 1) kept (Leave (reply.Ref (next_name (seat + 1) made)))) command (Some (reply.Ref (next_name (seat + 1) made)))
+    mine_made : Mine c (made_world has) (mutator_at seat (made + 1) kept (Leave (made_reply has))) command (Some (made_reply has))
     mine_made =
-        leaving c made_world seat (made + 1) kept command (reply.Ref (next_name (seat + 1) made)) (record { below = mine.seated.below; counted = count_own u.graph.count (seat + 1) ∙ ap (λ k. k + 1) mine.seated.counted })
-        (roots_written made_world.block u.memory u.graph.root seat dst address (Some name)
-        (λ i below. points_stay u.block made_world.block names (u.memory (Root seat i)) (u.graph.root (seat + 1) i) (mine.roots i below))
-        (ap name_at (updated_there u.block address (Some (thing name refs nums)))))
-        (λ a words is. let old = old_hand c top u.block address seat refs nums name room a seat words is in old.0 (mine.hands a words old.1).0)
-
-    -- others can rely on what they knew
-    others_made : (j : ℕ) → j ≢ seat → Rely j u made_world
-    others_made j differs = record {
-      names = names;
-      targets = λ a more_refs more_nums n has. record { piece = things_stay c top u.block address seat refs nums name room a more_refs more_nums n has.piece };
-      hands = λ a words is. hands_stay c top u.block address seat refs nums name room a j words differs is;
-      no_hands = λ a words is. (old_hand c top u.block address seat refs nums name room a j words is).1;
-      hand_words = λ a words k is below. refl;
-      current = refl;
-      owners = λ r is. is;
-      tops = λ r is. refl;
-      root_words = λ i. cond-false ((seat == j) && (dst == i)) _ _ (and_left _ _ (ne_eqb seat j (λ e. differs (sym e))));
-      roots = λ i. cond-false (((j + 1) == (seat + 1)) && (i == dst)) _ _ (and_left _ _ (ne_eqb (j + 1) (seat + 1) (λ e. differs (omega (arith, e)))));
-      count = cond-false ((j + 1) == (seat + 1)) _ _ (ne_eqb (j + 1) (seat + 1) (λ e. differs (omega (arith, e))));
-      state = refl;
-      phase = refl;
-      cset = refl;
-    }
+        leaving c (made_world has) seat (made + 1) kept command (made_reply has)
+        (record { below = mine.seated.below; counted = count_made has; unasked = λ calm. let was = mine.seated.unasked calm in (was.0, was.1, λ a words is. was.2 a words (promise_before has a seat words is).1) })
+        (roots_made has mine.roots)
+        (λ a words is. let old = hand_before has a seat words is in old.0 (mine.hands a words old.1).0)
 
   -- the step that stores a new object into a root settles its name
   pub at_store_fresh : (address : ℕ) → Row c u (at_spot (Making (make.StoreRoot address))) command fixed
-  at_store_fresh address shared mine =
-      let making = mine.facts.0 in
-      let answer : Reply = reply.Ref (next_name (seat + 1) made) in
-      let replied : (outcome u.graph (seat + 1) command).reply ≡ answer =
-      ap (λ k. (outcome u.graph (seat + 1) k).reply) making.is ∙ ap (λ n. reply.Ref n) (name_is address shared mine) in
-      record {
-        world = made_world address shared mine;
-        memory = refl;
-        graph = sym (graph_answer u.graph seat command answer refl ∙ ap (λ k. (outcome u.graph (seat + 1) k).graph) making.is);
-        legal = legal_answer u.graph seat command answer refl replied;
-        settles = λ r e. (making.unsettled, refl);
-        shared = shared_made address shared mine;
-        mine = mine_made address shared mine;
-        others = others_made address shared mine;
-      }
+  at_store_fresh address shared mine = let new = has address shared mine in record {
+    world = made_world new;
+    memory = refl;
+    graph = graph_made new;
+    legal = legal_made new;
+    settles = λ r e. (mine.facts.0.unsettled, refl);
+    shared = shared_made new;
+    mine = mine_made address shared mine;
+    others = others_made new;
+  }

@@ -13,7 +13,7 @@ use Rattle.shen_graph.specs.History.{is_full}
 use Rattle.mutator.specs.Rows.{after_field}
 use Rattle.mutator.specs.Commands.{dst_of}
 use Rattle.heap_world.specs.World.{World, hand, thing, Points, Shared}
-use Rattle.step_core.specs.Stepped.{IsSeated, Mine}
+use Rattle.step_core.specs.Stepped.{IsSeatedIn, Mine}
 use Rattle.step_core.proofs.Spots.{mutator_at}
 use Rattle.heap_world.proofs.Pointing.{named_thing, piece_word, points_small, null_if_0, named_if_not_0}
 use Rattle.step_core.proofs.Ready.{ready_of, number_small}
@@ -26,7 +26,7 @@ shown_not_full (Some n) = refl
 
 -- With the reference of a field in hand for a root, and settled, a call goes on: it stores null, or loads the name first.
 pub field_mine : (c : Config) (w : World) (seat made : ℕ) (kept : Kept) (command : Command) (got : ℕ) (v : Reference)
-    → Shared c w → IsSeated c.mutators seat (w.graph.count (seat + 1)) made → dst_of kept.command < 16
+    → Shared c w → IsSeatedIn c w seat made false → dst_of kept.command < 16
     → ((i : ℕ) → i < 16 → Points w.block (if i == dst_of kept.command then got else w.memory (Root seat i)) (w.graph.root (seat + 1) i))
     → ((a words : ℕ) → w.block a ≡ Some (hand seat words) → ⊥)
     → Points w.block got v

@@ -1,27 +1,53 @@
-mod Stable
-mod Settling
-mod Naming
-mod Loading
-mod InHand
-mod Spots
-mod Calls
-mod Loads
-mod Fields
-mod RootStores
-mod Stores
-mod NewObject
-mod Ready
-mod Takes
-mod Fresh
-mod Places
+pub mod Spots
+pub mod Settling
+pub mod Naming
+pub mod Loading
+pub mod InHand
+pub mod Stable
+pub mod Calls
+pub mod Loads
+pub mod Fields
+pub mod RootStores
+pub mod Stores
+pub mod Ready
+pub mod Entering
+pub mod Waiting
+pub mod Takes
+pub mod Fresh
+pub mod FreshRoot
+pub mod Places
 pub mod Facts
+pub mod Ordered
+pub mod Within
+pub mod Images
+pub mod Outside
+pub mod Asked
+pub mod Refusing
+pub mod Entries
+pub mod Roots
+pub mod Owing
 pub mod Roles
-mod Entries
-mod Owing
-mod Roots
-mod Beginning
+pub mod Reading
+pub mod Polling
+pub mod Storing
+pub mod Pauses
+pub mod Paused
+pub mod Adapter
+pub mod MutatorObeys
+pub mod ControlObeys
+pub mod MachinesObey
+pub mod Held
+pub mod MutatorEvents
+pub mod ControlEvents
 pub mod Induction
+pub mod HandshakeBegins
+pub mod Beginning
 pub mod OpeningStands
 pub mod FirstFacts
 pub mod NoFull
+pub mod Crowds
+pub mod Growing
+pub mod Crowding
+pub mod Replies
+pub mod Requests
 pub mod Theorem

@@ -21,7 +21,7 @@ use Rattle.step_core.proofs.Settling.{legal_answer, graph_answer}
 
 -- a step that loads a word and settles nothing
 pub looks : (c : Config) (u : World) (m : Mutating) (at : Word) (command : Command) (fixed : Option Reply)
-    → touch_of c m ≡ touch at loads → told_of u.memory m ≡ None → given_at m.spot ≡ None
+    → touch_of c m Nothing ≡ touch at loads → told_of u.memory m ≡ None → given_at m.spot ≡ None
     → Shared c u → Mine c u (next_of c m Nothing (u.memory at)) command fixed → Stepped c u m command Nothing fixed
 looks c u m at command fixed loaded told given shared mine = record {
   world = u;
@@ -36,7 +36,7 @@ looks c u m at command fixed loaded told given shared mine = record {
 
 -- a step that loads a word and settles a reply which leaves the graph as it is
 pub replies : (c : Config) (u : World) (m : Mutating) (at : Word) (command : Command) (fixed : Option Reply) (r : Reply)
-    → touch_of c m ≡ touch at loads → told_of u.memory m ≡ Some r → given_at m.spot ≡ None → fixed ≡ None
+    → touch_of c m Nothing ≡ touch at loads → told_of u.memory m ≡ Some r → given_at m.spot ≡ None → fixed ≡ None
     → is_full r ≡ false → outcome u.graph (m.seat + 1) command ≡ answers r u.graph
     → Shared c u → Mine c u (next_of c m Nothing (u.memory at)) command (Some r) → Stepped c u m command Nothing fixed
 replies c u m at command fixed r loaded told given unsettled other is shared mine = record {
@@ -52,7 +52,7 @@ replies c u m at command fixed r loaded told given unsettled other is shared min
 
 -- a step that loads a word and settles a reply which makes a root of the mutator another
 pub replies_root : (c : Config) (u : World) (m : Mutating) (at : Word) (command : Command) (fixed : Option Reply) (r : Reply) (dst : ℕ) (v : Reference)
-    → touch_of c m ≡ touch at loads → told_of u.memory m ≡ Some r → given_at m.spot ≡ None → fixed ≡ None
+    → touch_of c m Nothing ≡ touch at loads → told_of u.memory m ≡ Some r → given_at m.spot ≡ None → fixed ≡ None
     → is_full r ≡ false → outcome u.graph (m.seat + 1) command ≡ answers r (with_root u.graph (m.seat + 1) dst v)
     → Shared c u
     → Mine c (record { memory = u.memory; block = u.block; owner = u.owner; graph = with_root u.graph (m.seat + 1) dst v }) (next_of c m Nothing (u.memory at)) command (Some r)

@@ -23,7 +23,7 @@ use Rattle.mutator.specs.Commands.{roots_of, root_of, is_on_object, lacks_object
 use Rattle.mutator.specs.Rows.{Mutating, first_spot, after_first, with_part}
 use Rattle.mutator.specs.Told.{name_the_same}
 use Rattle.heap_world.specs.World.{World, hand, Points, Shared}
-use Rattle.step_core.specs.Stepped.{HasRoot, HasObject, HasFirst, HasRoots, IsBegun, IsSeated, Mine, Stepped, Row}
+use Rattle.step_core.specs.Stepped.{HasRoot, HasObject, HasFirst, HasRoots, IsBegun, IsSeatedIn, Mine, Stepped, Row}
 use Rattle.step_core.proofs.Spots.{mutator_at}
 use Rattle.step_core.proofs.Ready.{leaving, ready_of, number_small}
 use Rattle.heap_world.proofs.Pointing.{named_thing, named_if_not_0, null_if_0, points_small}
@@ -64,7 +64,7 @@ object_of c u seat k object shared on first =
 
 -- a call of a command has begun: what a mutator counts on that has no root in hand
 record IsUnderWay (c : Config) (u : World) (seat made : ℕ) (command : Command) (fixed : Option Reply) (k : Command) : Type 0 where
-  seated : IsSeated c.mutators seat (u.graph.count (seat + 1)) made
+  seated : IsSeatedIn c u seat made false
   roots : (i : ℕ) → i < 16 → Points u.block (u.memory (Root seat i)) (u.graph.root (seat + 1) i)
   hands : (a words : ℕ) → u.block a ≡ Some (hand seat words) → ⊥
   facts : IsBegun made command fixed k

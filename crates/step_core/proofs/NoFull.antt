@@ -1,37 +1,29 @@
--- No event answers that the heap is full.
-use Rattle.std.proofs.Common.{◌≡◌, ◌≢◌, ℕ, ◌+◌, Bool, true, false, List, [], ◌∷◌, All, Option, Some, None, ap}
-use Rattle.std.specs.Prelude.{◌==◌, slice_get, if◌then◌else◌}
+-- No step of a mutator settles that the heap is full: a pause does, where it says so.
+use Rattle.std.proofs.Common.{◌≡◌, ◌≢◌, ℕ, ◌+◌, Bool, true, false, [], Option, Some, None, ap}
+use Rattle.std.specs.Prelude.{◌==◌, if◌then◌else◌}
 use Rattle.std.proofs.lemmas.Option.{same_Some}
-use Rattle.std.proofs.lemmas.List.Elements.{All-nil, All-cons, All-append}
-use Rattle.heap_words.specs.declared.config.Config.{Config}
+use Rattle.std.proofs.lemmas.List.Elements.{All-nil, All-cons}
 use Rattle.heap_words.specs.Words.{Word, Root, Heap}
-use Rattle.steps_base.specs.Steps.{Stage, Event, act}
 use Rattle.shen_graph.specs.declared.command.Command.{Command}
 use Rattle.shen_graph.specs.declared.command.Reply.{Reply}
 use Rattle.shen_graph.specs.declared.command.Reply.TheVariants.{Ref, Null, Yes, No, Bad, Full}
 use Rattle.shen_graph.specs.declared.command.Command.TheVariants.{Same}
 use Rattle.shen_graph.specs.Step.{yes_or_no}
-use Rattle.shen_graph.specs.History.{Entry, IsWithoutFull}
-use Rattle.shen_graph.specs.declared.order.Order.{Order}
+use Rattle.shen_graph.specs.History.{IsWithoutFull}
 use Rattle.mutator.specs.declared.spot.Spot.{Spot}
-use Rattle.mutator.specs.declared.spot.Spot.TheVariants.{Loading, OnField, OnNumber, StoreRoot, Making, AskCycle}
+use Rattle.mutator.specs.declared.spot.Spot.TheVariants.{Loading, OnField, OnNumber, StoreRoot, Making, AskCycle, Waiting}
 use Rattle.mutator.specs.declared.loads.LoadSpot.TheVariants as load
 use Rattle.mutator.specs.declared.fields.FieldSpot.TheVariants as fields
 use Rattle.mutator.specs.declared.numbers.NumberSpot.TheVariants as numbers
 use Rattle.mutator.specs.declared.makes.MakeSpot.TheVariants as make
+use Rattle.mutator.specs.declared.waits.WaitSpot.TheVariants as wait
 use Rattle.mutator.specs.declared.spot.Kept.{Kept}
 use Rattle.mutator.specs.declared.loads.LoadSpot.{LoadSpot}
 use Rattle.mutator.specs.declared.fields.FieldSpot.{FieldSpot}
 use Rattle.mutator.specs.Commands.{root_of, index_of, lacks_object, has_part}
-use Rattle.mutator.specs.Rows.{name_in}
-use Rattle.mutator.specs.Told.{name_of_object, name_the_same, shown_word, told_second, load_told, field_told, told_at}
-use Rattle.step_core.specs.Actor.{Machine, mutating, Actor, entries_of, command_by}
-use Rattle.step_core.specs.Machines.{takes_of, kind, told_by}
-use Rattle.step_core.specs.History.{told_of_machine, told, history}
-use Rattle.step_core.specs.Settled.{settled}
-
-abbrev IsNotFull : Entry → Type 0
-IsNotFull e = e.reply ≢ Full
+use Rattle.mutator.specs.Rows.{Mutating, name_in}
+use Rattle.mutator.specs.Told.{name_of_object, name_the_same, shown_word, told_second, load_told, field_told, told_at, told_of}
+use Rattle.step_core.specs.Actor.{entries_of}
 
 some_same : (a b : Reply) → ◌≡◌ {A = Option Reply} (Some a) (Some b) → a ≡ b
 some_same a b e = same_Some a b e
@@ -60,51 +52,36 @@ if_else true r not e = absurd cc
 if_else false r not e = not (some_same r Full e)
 
 -- what an access settles is no Full
-load_not_full : (memory : Word → ℕ) (seat : ℕ) (kept : Kept) (at : LoadSpot) → load_told memory seat kept at ≢ Some Full
-load_not_full memory seat kept load.First = if_then (lacks_object kept.command (memory (Root seat (root_of kept.command 0)))) Bad (λ h. absurd cc)
-load_not_full memory seat kept (load.Second first) = second_not_full memory kept.command first (memory (Root seat (root_of kept.command 1)))
-load_not_full memory seat kept (load.Third first second) = λ e. absurd cc
-load_not_full memory seat kept (load.Shape object second third) = if_else (has_part kept.command (memory (Heap (object + 1)))) Bad (λ h. absurd cc)
+load_not_full : (memory : Word → ℕ) (seat : ℕ) (command : Command) (at : LoadSpot) → load_told memory seat command at ≢ Some Full
+load_not_full memory seat command load.First = if_then (lacks_object command (memory (Root seat (root_of command 0)))) Bad (λ h. absurd cc)
+load_not_full memory seat command (load.Second first) = second_not_full memory command first (memory (Root seat (root_of command 1)))
+load_not_full memory seat command (load.Third first second) = λ e. absurd cc
+load_not_full memory seat command (load.Shape object second third) = if_else (has_part command (memory (Heap (object + 1)))) Bad (λ h. absurd cc)
 
-field_not_full : (memory : Word → ℕ) (object : ℕ) (kept : Kept) (at : FieldSpot) → field_told memory object kept at ≢ Some Full
-field_not_full memory object kept fields.Load = λ e. shown_not_full memory (memory (Heap (object + 3 + index_of kept.command))) (some_same _ Full e)
-field_not_full memory object kept (fields.LoadExpected expect value) = if_else (name_the_same memory (memory (Heap (object + 3 + index_of kept.command))) expect) No (λ h. absurd cc)
-field_not_full memory object kept (fields.Store value) = λ e. absurd cc
-field_not_full memory object kept (fields.Swap value) = λ e. shown_not_full memory (memory (Heap (object + 3 + index_of kept.command))) (some_same _ Full e)
-field_not_full memory object kept (fields.Exchange found expect value) = if_then (memory (Heap (object + 3 + index_of kept.command)) == found) Yes (λ h. absurd cc)
+field_not_full : (memory : Word → ℕ) (object : ℕ) (command : Command) (at : FieldSpot) → field_told memory object command at ≢ Some Full
+field_not_full memory object command fields.Load = λ e. shown_not_full memory (memory (Heap (object + 3 + index_of command))) (some_same _ Full e)
+field_not_full memory object command (fields.LoadExpected expect value) = if_else (name_the_same memory (memory (Heap (object + 3 + index_of command))) expect) No (λ h. absurd cc)
+field_not_full memory object command (fields.Store value) = λ e. absurd cc
+field_not_full memory object command (fields.Swap value) = λ e. shown_not_full memory (memory (Heap (object + 3 + index_of command))) (some_same _ Full e)
+field_not_full memory object command (fields.Exchange found expect value) = if_then (memory (Heap (object + 3 + index_of command)) == found) Yes (λ h. absurd cc)
 
 told_not_full : (memory : Word → ℕ) (seat made : ℕ) (kept : Kept) (spot : Spot) → told_at memory seat made kept spot ≢ Some Full
-told_not_full memory seat made kept (Loading at) = load_not_full memory seat kept at
-told_not_full memory seat made kept (OnField object at) = field_not_full memory object kept at
+told_not_full memory seat made kept (Loading at) = load_not_full memory seat kept.command at
+told_not_full memory seat made kept (OnField object at) = field_not_full memory object kept.command at
 told_not_full memory seat made kept (OnNumber object refs numbers.Load) = λ e. absurd cc
 told_not_full memory seat made kept (OnNumber object refs numbers.Store) = λ e. absurd cc
 told_not_full memory seat made kept (StoreRoot value) = λ e. absurd cc
 told_not_full memory seat made kept (Making (make.StoreRoot address)) = λ e. absurd cc
 told_not_full memory seat made kept (Making at) = λ e. absurd cc
+told_not_full memory seat made kept (Waiting (wait.StoreRoot address)) = λ e. absurd cc
+told_not_full memory seat made kept (Waiting at) = λ e. absurd cc
 told_not_full memory seat made kept AskCycle = λ e. absurd cc
 told_not_full memory seat made kept _ = λ e. absurd cc
 
-entries_not_full : (seat : ℕ) (command : Command) (o : Option Reply) → o ≢ Some Full → All IsNotFull (entries_of seat command o)
-entries_not_full seat command None not = All-nil IsNotFull
-entries_not_full seat command (Some r) not = All-cons IsNotFull _ [] (λ e. not (ap (λ (x : Reply). Some x) e)) (All-nil IsNotFull)
+entries_not_full : (seat : ℕ) (command : Command) (o : Option Reply) → o ≢ Some Full → IsWithoutFull (entries_of seat command o)
+entries_not_full seat command None not = All-nil (λ e. e.reply ≢ Full)
+entries_not_full seat command (Some r) not = All-cons (λ e. e.reply ≢ Full) _ [] (λ e. not (ap (λ (x : Reply). Some x) e)) (All-nil (λ e. e.reply ≢ Full))
 
-machine_not_full : (c : Config) (s : Stage Actor) (a : Actor) (order : Order) (machine : Machine) → All IsNotFull (told_by c s a order machine)
-machine_not_full c s a order (mutating m) = entries_not_full m.seat (command_by order a.command) _ (told_not_full (settled c s) m.seat m.made m.kept m.spot)
-machine_not_full c s a order _ = All-nil IsNotFull
-
-event_not_full : (c : Config) (s : Stage Actor) (e : Event Order) → All IsNotFull (told c s e)
-unfolding told
-event_not_full c s e = by_machine (slice_get s.machines e.number)
-  where
-    by_order : (a : Actor) (b : Bool) → All IsNotFull (if b then told_by c s a e.order a.machine else [])
-    by_order a true = machine_not_full c s a e.order a.machine
-    by_order a false = All-nil IsNotFull
-
-    by_machine : (o : Option Actor) → All IsNotFull (told_of_machine c s e o)
-    by_machine None = All-nil IsNotFull
-    by_machine (Some a) = by_order a (takes_of a.machine e.order)
-
-pub history_not_full : (c : Config) (s : Stage Actor) (es : List (Event Order)) → IsWithoutFull (history c s es)
-unfolding history
-history_not_full c s [] = All-nil IsNotFull
-history_not_full c s (e ∷ es) = All-append IsNotFull (told c s e) (history c (act (kind c) s e) es) (event_not_full c s e) (history_not_full c (act (kind c) s e) es)
+-- so the entries that the step of a mutator settles have no Full
+pub mutator_not_full : (memory : Word → ℕ) (m : Mutating) (command : Command) → IsWithoutFull (entries_of m.seat command (told_of memory m))
+mutator_not_full memory m command = entries_not_full m.seat command _ (told_not_full memory m.seat m.made m.kept m.spot)

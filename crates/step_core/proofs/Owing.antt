@@ -16,6 +16,8 @@ use Rattle.step_core.specs.Actor.{Actor}
 use Rattle.step_core.specs.Settled.{settled}
 use Rattle.step_core.specs.Threads.{IsSettled}
 use Rattle.step_core.specs.Sound.{world_of}
+use Rattle.heap_world.specs.Roots.{HasNoMore}
+use Rattle.step_core.proofs.Roots.{no_more_after}
 use Rattle.step_core.proofs.Facts.{IsMachine, Follows, Owes}
 use Rattle.step_core.proofs.Entries.{after-append, legal-append}
 
@@ -29,7 +31,7 @@ module _ (c : Config) (g : Graph) (s : Stage Actor) (past : List Entry) (number 
   new_stage = record { words = words; machines = slice_set s.machines number new }
 
   -- the event puts the stage where it should be
-  pub follows_owes : (follows : Follows c g s past) → Owes c (world_of c s follows.block follows.owner (after g past)) past number s.machines (settled c new_stage) settles new
+  pub follows_owes : (follows : Follows c g s past) → Owes c s.words words (world_of c s follows.block follows.owner (after g past)) past number s.machines (settled c new_stage) settles new
       → slice_get s.machines number ≡ Some old → length words ≡ table_words c → Follows c g new_stage (past ++ settles)
   follows_owes follows owes here long =
       let world_is : owes.world ≡ world_of c new_stage owes.world.block owes.world.owner (after g (past ++ settles)) =
@@ -41,14 +43,16 @@ module _ (c : Config) (g : Graph) (s : Stage Actor) (past : List Entry) (number 
         seats = length-set s.machines number new ∙ follows.seats;
         legal = legal-append g past settles follows.legal owes.legal;
         entries = All-append (IsSettled c.mutators) past settles follows.entries owes.entries;
+        no_more = subst (λ h. HasNoMore c.mutators h) (sym (after-append g past settles)) (no_more_after c.mutators (after g past) settles owes.entries follows.no_more);
         shared = subst (λ w. Shared c w) world_is owes.shared;
+        promised_to = owes.promised_to;
         machines = λ k a there.
-            subst (λ w. IsMachine c w (of_thread (past ++ settles) (k + 1)) k a a.machine) world_is
+            subst (λ w. IsMachine c words w (of_thread (past ++ settles) (k + 1)) k a a.machine) world_is
             (⊎_elim
             (λ (same : k ≡ number).
             let is : new ≡ a = same_Some new a (sym (slice_get-set_same s.machines number old new here) ∙ ap (λ n. slice_get new_stage.machines n) (sym same) ∙ there) in
-            subst (λ n. IsMachine c owes.world (of_thread (past ++ settles) (n + 1)) n a a.machine) (sym same)
-            (subst (λ b. IsMachine c owes.world (of_thread (past ++ settles) (number + 1)) number b b.machine) is owes.own))
+            subst (λ n. IsMachine c words owes.world (of_thread (past ++ settles) (n + 1)) n a a.machine) (sym same)
+            (subst (λ b. IsMachine c words owes.world (of_thread (past ++ settles) (number + 1)) number b b.machine) is owes.own))
             (λ (differs : k ≢ number).
             let before : slice_get s.machines k ≡ Some a = sym (slice_get-set_other s.machines number k new differs) ∙ there in
             owes.others k a differs before (follows.machines k a before))

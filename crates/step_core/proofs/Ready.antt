@@ -1,23 +1,27 @@
 -- Accesses that can be made.
-use Rattle.std.proofs.Common.{◌≡◌, ℕ, ◌+◌, ◌<◌, ◌≤◌, Bool, true, Option, Some, refl, arith}
-use Rattle.std.specs.Prelude.{◌&&◌, ◌^◌}
+use Rattle.std.proofs.Common.{◌≡◌, ℕ, ◌+◌, ◌<◌, ◌≤◌, Bool, true, false, Option, Some, refl, arith}
+use Rattle.std.specs.Prelude.{◌&&◌, ◌^◌, nat_lt}
 use Rattle.std.proofs.lemmas.Bool.{and_from, lt-ltb, le-leb}
 use Rattle.std.proofs.lemmas.Bool.Decides.{nat_tests}
 use Rattle.heap_words.specs.declared.config.Config.{Config}
+use Rattle.heap_words.specs.Encoding.{fresh_word}
 use Rattle.heap_words.specs.Words.{Root}
 use Rattle.steps_base.specs.Fits.{touch_fits, is_number}
 use Rattle.shen_graph.specs.declared.command.Command.{Command}
 use Rattle.shen_graph.specs.declared.command.Reply.{Reply}
 use Rattle.alloc_buffers.specs.declared.spot.TakeSpot.{TakeSpot}
 use Rattle.alloc_buffers.specs.Rows as takes
-use Rattle.mutator.specs.declared.spot.Spot.TheVariants.{Making, Leave}
+use Rattle.mutator.specs.declared.spot.Spot.{Spot}
+use Rattle.mutator.specs.declared.spot.Spot.TheVariants.{Rest, Ended, Making, Waiting, Leave}
+use Rattle.mutator.specs.declared.waits.WaitSpot.TheVariants as wait
+use Rattle.mutator.specs.Orders.{takes_commands}
+use Rattle.mutator.specs.WaitRows.{request_of}
 use Rattle.mutator.specs.declared.makes.MakeSpot.TheVariants as make
 use Rattle.mutator.specs.declared.spot.Kept.{Kept}
 use Rattle.mutator.specs.Commands.{dst_of, refs_of, nums_of}
-use Rattle.mutator.specs.Rows.{fresh_word}
 use Rattle.mutator.specs.Fit.{is_ready, is_next_object, is_going}
-use Rattle.heap_world.specs.World.{World, hand, Plot, Points, IsPlotted}
-use Rattle.step_core.specs.Stepped.{IsMaking, IsSeated, Mine}
+use Rattle.heap_world.specs.World.{World, hand, promised, Plot, Points, IsPlotted}
+use Rattle.step_core.specs.Stepped.{IsMaking, IsSeatedIn, Mine}
 use Rattle.step_core.proofs.Spots.{mutator_at}
 use Rattle.heap_world.proofs.Pointing.{piece_word, piece_small}
 
@@ -29,12 +33,26 @@ ready_of b d is_b is_d = rw (is_b, is_d) refl
 pub number_small : (n : ℕ) → n < 2097152 → is_number n ≡ true
 number_small n small = lt-ltb n (2 ^ 64) (omega arith)
 
+-- a state word of a mutator is one of the table
+pub state_word : (c : Config) (seat : ℕ) → seat < c.mutators → nat_lt seat (c.mutators + c.helpers) ≡ true
+state_word c seat below = lt-ltb _ _ (omega (arith, below))
+
+-- a mutator between two calls can begin one
+pub rest_ready : (c : Config) (seat made : ℕ) (kept : Kept) (spot : Spot) → takes_commands spot ≡ true → seat < c.mutators → is_ready c seat made kept spot ≡ true
+rest_ready c seat made kept Rest takes below = ready_of _ true (state_word c seat below) refl
+rest_ready c seat made kept (Ended reply) takes below = ready_of _ true (state_word c seat below) refl
+rest_ready c seat made kept _ takes below = absurd (cc (takes))
+
+-- of the seat of a mutator that waits it is not said what it has asked for
+pub seated_waiting : (c : Config) (u : World) (seat made : ℕ) (waiting : Bool) → IsSeatedIn c u seat made waiting → IsSeatedIn c u seat made true
+seated_waiting c u seat made waiting seated = record { below = seated.below; counted = seated.counted; unasked = λ no. absurd (cc (no)) }
+
 -- a mutator can always leave
 leave_ready : (c : Config) (seat made : ℕ) (kept : Kept) (reply : Reply) → seat < c.mutators → is_ready c seat made kept (Leave reply) ≡ true
 leave_ready c seat made kept reply below = grind (arith, nat_tests)
 
 -- with its reply settled, a mutator has only to leave
-pub leaving : (c : Config) (w : World) (seat made : ℕ) (kept : Kept) (command : Command) (r : Reply) → IsSeated c.mutators seat (w.graph.count (seat + 1)) made
+pub leaving : (c : Config) (w : World) (seat made : ℕ) (kept : Kept) (command : Command) (r : Reply) → IsSeatedIn c w seat made false
     → ((i : ℕ) → i < 16 → Points w.block (w.memory (Root seat i)) (w.graph.root (seat + 1) i)) → ((a words : ℕ) → w.block a ≡ Some (hand seat words) → ⊥)
     → Mine c w (mutator_at seat made kept (Leave r)) command (Some r)
 leaving c w seat made kept command r seated roots hands = record { seated = seated; ready = leave_ready c seat made kept r seated.below; roots = roots; hands = hands; facts = refl }
@@ -76,3 +94,19 @@ module _ (c : Config) (seat made : ℕ) (kept : Kept) (command : Command) (fixed
         and_from _ _
         (and_from _ _ (and_from _ _ (lt-ltb _ _ mutator) (lt-ltb _ _ making.small)) (number_small address (piece_small c top block plotted address (hand seat (3 + refs + nums)) room)))
         (and_from _ _ object_fits refl)
+
+  -- the object can be asked for
+  pub request_ready : seat < c.mutators → is_ready c seat made kept (Waiting wait.StoreRequest) ≡ true
+  request_ready below =
+      let few = making.few in
+      let few_refs = making.few_refs in
+      let few_nums = making.few_nums in
+      and_from _ _ (and_from _ _ (lt-ltb _ _ below) (lt-ltb (request_of made kept.command) (2 ^ 64) (omega (arith, few, few_refs, few_nums)))) object_fits
+
+  -- once it was made, its address can be stored into a root
+  pub given_ready : (top : ℕ → ℕ) (block : Plot) (address : ℕ) → IsPlotted c top block → block address ≡ Some (promised seat (3 + refs + nums)) → seat < c.mutators
+      → is_ready c seat made kept (Waiting (wait.StoreRoot address)) ≡ true
+  given_ready top block address plotted here below =
+      and_from _ _
+      (and_from _ _ (and_from _ _ (lt-ltb _ _ below) (lt-ltb _ _ making.small)) (number_small address (piece_small c top block plotted address (promised seat (3 + refs + nums)) here)))
+      (lt-ltb _ _ making.few)

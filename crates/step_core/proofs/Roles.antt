@@ -1,44 +1,92 @@
 -- What holds of machines, by their roles: each lemma has one clause a role.
-use Rattle.std.proofs.Common.{◌≡◌, ℕ, ◌+◌, ◌<◌, true, List, [], Some, None, refl, sym, ◌∙◌, subst, arith}
-use Rattle.std.proofs.Math.Bool.{Bool-set}
+use Rattle.std.proofs.Common.{◌≡◌, ℕ, ◌+◌, ◌<◌, ◌⊎◌, ⊎_elim, true, List, [], Option, Some, None, refl, sym, ap, ◌∙◌, subst, arith}
+use Rattle.std.specs.Prelude.{◌==◌, get_or, length, slice_get, if◌then◌else◌}
+use Rattle.std.proofs.lemmas.Option.{slice_get-get_or}
+use Rattle.std.proofs.Math.Path.{fun_ext}
 use Rattle.std.proofs.lemmas.List.{append-nil}
 use Rattle.heap_words.specs.declared.config.Config.{Config}
-use Rattle.heap_words.specs.Words.{Root}
+use Rattle.heap_words.specs.Words.{Root, Answer, view}
+use Rattle.heap_words.specs.Ranges.{seat_count}
 use Rattle.shen_graph.specs.declared.command.Command.{Command}
-use Rattle.shen_graph.specs.declared.order.Order.{Order}
-use Rattle.shen_graph.specs.History.{Entry}
+use Rattle.shen_graph.specs.declared.command.Command.TheVariants.{Gc}
+use Rattle.shen_graph.specs.declared.command.Reply.{Reply}
+use Rattle.shen_graph.specs.declared.command.Reply.TheVariants.{Full}
+use Rattle.packing.specs.Tops.{sum_below}
+use Rattle.shen_graph.specs.History.{Entry, of_thread}
+use Rattle.shen_graph.specs.Crowd.{words_asked}
 use Rattle.mutator.specs.declared.spot.Kept.{Kept}
 use Rattle.mutator.specs.declared.spot.Spot.{Spot}
 use Rattle.mutator.specs.declared.spot.Spot.TheVariants.{Rest, Ended}
-use Rattle.mutator.specs.Orders.{is_between_calls, is_valid}
+use Rattle.mutator.specs.Orders.{takes_commands, is_valid}
 use Rattle.mutator.specs.Rows.{Mutating}
 use Rattle.heap_world.specs.World.{World, hand, Points, Shared}
+use Rattle.heap_world.specs.Asking.{IsAsked, nothing}
 use Rattle.heap_world.specs.Rely.{Rely}
-use Rattle.step_core.specs.Actor.{Machine, mutating, helping, controlling, Actor}
-use Rattle.step_core.specs.Machines.{HasNumber, IsIdle, IsFitIn}
+use Rattle.control_steps.specs.Rows.{Controlling}
+use Rattle.control_steps.specs.Ready.{is_ready}
+use Rattle.step_core.specs.Actor.{Machine, mutating, helping, controlling, Actor, fresh_helper}
+use Rattle.step_core.specs.Machines.{HasNumber, IsIdle}
 use Rattle.step_core.specs.Stepped.{Mine}
-use Rattle.step_core.proofs.Facts.{IsMachine}
+use Rattle.step_core.proofs.Facts.{IsSeen, IsShort, IsThread, IsAim, IsMachine, words_promised}
 use Rattle.step_core.proofs.Spots.{mutator_at}
+use Rattle.step_core.proofs.Ready.{rest_ready}
 use Rattle.step_core.proofs.Stable.{mine_stays}
 
--- what holds of a machine stays while another leads to a world that it can rely on
-pub machine_stays : (c : Config) (u w : World) (entries more : List Entry) (k : ℕ) (b : Actor) (machine : Machine) → Shared c u → Rely k u w → more ≡ entries
-    → IsMachine c u entries k b machine → IsMachine c w more k b machine
-machine_stays c u w entries more k b (mutating n) shared rely same is = record {
+-- what counts of answers and of the graph is the same in two worlds
+pub record CountsTheSame (u w : World) : Type 0 where
+  pub graph : w.graph ≡ u.graph
+  pub promised : (t : ℕ) → words_promised w.memory t ≡ words_promised u.memory t
+
+-- so crowding stays
+pub short_stays : (c : Config) (u w : World) (thread words : ℕ) → CountsTheSame u w → IsShort c u.memory u.graph thread words → IsShort c w.memory w.graph thread words
+short_stays c u w thread words same short =
+    let sums : sum_below (λ t. if t == thread then 0 else words_promised w.memory t) c.mutators ≡ sum_below (λ t. if t == thread then 0 else words_promised u.memory t) c.mutators =
+    ap (λ f. sum_below (λ t. if t == thread then 0 else f t) c.mutators) (fun_ext same.promised) in
+    rw (same.graph, sums) short
+
+-- What holds of a machine stays while another leads to a world that it can rely on. Its answer in the table stays, and either
+-- that is the one that counts, or nothing changes by which crowding is measured; and what the control has read or written stays so.
+pub record StaysWith (c : Config) (words words_then : List ℕ) (u w : World) (k : ℕ) (machine : Machine) : Type 0 where
+  pub rely : Rely k u w
+  pub answer : view c words_then (Answer k) ≡ view c words (Answer k)
+  pub counts : (view c words (Answer k) ≡ u.memory (Answer k)) ⊎ CountsTheSame u w
+  pub aims : (control : Controlling) → machine ≡ controlling control → IsAim c words control.spot control.image → IsAim c words_then control.spot control.image
+
+-- an answer stays with what is settled of it
+pub seen_stays : (raw raw_then now now_then : ℕ) (fixed : Option Reply) → raw_then ≡ raw → now_then ≡ now → IsSeen raw now fixed → IsSeen raw_then now_then fixed
+seen_stays raw raw_then now now_then fixed raws nows seen = subst (λ n. IsSeen n now_then fixed) (sym raws) (subst (λ n. IsSeen raw n fixed) (sym nows) seen)
+
+-- an answer that the heap is full, which counts and stands in the table, is settled
+pub full_settled : (raw now : ℕ) (fixed : Option Reply) → IsSeen raw now fixed → raw ≡ now → now ≡ 1 → fixed ≡ None → ⊥
+full_settled raw now fixed seen same full unsettled = ⊎_elim
+    (λ (both : (raw ≡ 1) × (fixed ≡ Some Full)). absurd (let it = sym unsettled ∙ both.1 in cc))
+    (λ (none : (raw ≡ 0) × (fixed ≡ None)). omega (arith, none.0, same, full))
+    (seen.full full)
+
+pub machine_stays : (c : Config) (words words_then : List ℕ) (u w : World) (entries more : List Entry) (k : ℕ) (b : Actor) (machine : Machine) → Shared c u
+    → StaysWith c words words_then u w k machine → more ≡ entries → IsMachine c words u entries k b machine → IsMachine c words_then w more k b machine
+machine_stays c words words_then u w entries more k b (mutating n) shared stays same is = record {
   fixed = is.fixed;
   number_is = is.number_is;
   valid = is.valid;
-  mine = mine_stays c u w n b.command is.fixed shared (subst (λ j. Rely j u w) (sym is.number_is) rely) is.mine;
+  mine = mine_stays c u w n b.command is.fixed shared (subst (λ j. Rely j u w) (sym is.number_is) stays.rely) is.mine;
+  seen = seen_stays _ _ _ _ is.fixed stays.answer stays.rely.answer is.seen;
+  short = λ full unsettled. ⊎_elim
+      (λ (whole : view c words (Answer k) ≡ u.memory (Answer k)). absurd (full_settled _ _ is.fixed is.seen whole (sym stays.rely.answer ∙ full) unsettled))
+      (λ (counts : CountsTheSame u w). short_stays c u w k (words_asked (Some b.command)) counts (is.short (sym stays.rely.answer ∙ full) unsettled))
+      stays.counts;
   entries_are = same ∙ is.entries_are;
 }
-machine_stays c u w entries more k b (helping h) shared rely same is = record { least = is.least; below = is.below; hands = λ a words there. is.hands a words (rely.no_hands a words there) }
-machine_stays c u w entries more k b (controlling h) shared rely same is = record { number_is = is.number_is; hands = λ a words there. is.hands a words (rely.no_hands a words there) }
+machine_stays c words words_then u w entries more k b (helping h) shared stays same is =
+    record { least = is.least; below = is.below; hands = λ a more is_hand. is.hands a more (stays.rely.no_hands a more is_hand) }
+machine_stays c words words_then u w entries more k b (controlling h) shared stays same is =
+    record { number_is = is.number_is; hands = λ a more is_hand. is.hands a more (stays.rely.no_hands a more is_hand); ready = is.ready; aims = stays.aims h refl is.aims }
 
 -- a machine has a number of its role
-pub number_of : (c : Config) (w : World) (entries : List Entry) (k : ℕ) (b : Actor) (machine : Machine) → IsMachine c w entries k b machine → HasNumber c k machine
-number_of c w entries k b (mutating n) is = (is.number_is, subst (λ j. j < c.mutators) is.number_is is.mine.seated.below)
-number_of c w entries k b (helping h) is = (is.least, is.below)
-number_of c w entries k b (controlling h) is = is.number_is
+pub number_of : (c : Config) (words : List ℕ) (w : World) (entries : List Entry) (k : ℕ) (b : Actor) (machine : Machine) → IsMachine c words w entries k b machine → HasNumber c k machine
+number_of c words w entries k b (mutating n) is = (is.number_is, subst (λ j. j < c.mutators) is.number_is is.mine.seated.below)
+number_of c words w entries k b (helping h) is = (is.least, is.below)
+number_of c words w entries k b (controlling h) is = is.number_is
 
 -- that of a mutator's number is a mutator
 pub mutator_of : (c : Config) (k : ℕ) (machine : Machine) → HasNumber c k machine → k < c.mutators → (m : Mutating) × (machine ≡ mutating m)
@@ -46,35 +94,57 @@ mutator_of c k (mutating m) number below = (m, refl)
 mutator_of c k (helping h) number below = absurd (omega (arith, number.0, below))
 mutator_of c k (controlling h) number below = absurd (omega (arith, number, below))
 
--- what a mutator counts on between two calls
-rest_mine : (c : Config) (w : World) (seat made : ℕ) (kept : Kept) (command : Command) (spot : Spot) → is_between_calls spot ≡ true → seat < c.mutators → w.graph.count (seat + 1) ≡ made
-    → ((i : ℕ) → i < 16 → Points w.block (w.memory (Root seat i)) (w.graph.root (seat + 1) i)) → ((a words : ℕ) → w.block a ≡ Some (hand seat words) → ⊥)
-    → Mine c w (mutator_at seat made kept spot) command None
-rest_mine c w seat made kept command Rest rest below counted roots none =
-    record { seated = record { below = below; counted = counted }; ready = refl; roots = roots; hands = none; facts = refl }
-rest_mine c w seat made kept command (Ended r) rest below counted roots none =
-    record { seated = record { below = below; counted = counted }; ready = refl; roots = roots; hands = none; facts = refl }
-rest_mine c w seat made kept command _ rest below counted roots none = absurd cc
+-- and that of the control's number is the control
+pub control_of : (c : Config) (machine : Machine) → HasNumber c (c.mutators + c.helpers) machine → (k : Controlling) × (machine ≡ controlling k)
+control_of c (mutating m) number = absurd (omega (arith, number.1))
+control_of c (helping h) number = absurd (omega (arith, number.1))
+control_of c (controlling k) number = (k, refl)
 
--- an idle machine that has ended no call, in a world in which nobody has room in hand
-pub machine_begins : (c : Config) (w : World) (k : ℕ) (b : Actor) (machine : Machine) → HasNumber c k machine → IsIdle w.graph k machine → b.calls ≡ [] → is_valid b.command ≡ true
-    → ((t i : ℕ) → t < c.mutators → i < 16 → Points w.block (w.memory (Root t i)) (w.graph.root (t + 1) i)) → ((a seat words : ℕ) → w.block a ≡ Some (hand seat words) → ⊥)
-    → IsMachine c w [] k b machine
-machine_begins c w k b (mutating m) number idle calls valid roots none =
+-- what a mutator counts on that takes commands
+rest_mine : (c : Config) (w : World) (seat made : ℕ) (kept : Kept) (command : Command) (spot : Spot) → takes_commands spot ≡ true → seat < c.mutators → w.graph.count (seat + 1) ≡ made
+    → ((i : ℕ) → i < 16 → Points w.block (w.memory (Root seat i)) (w.graph.root (seat + 1) i)) → ((a words : ℕ) → w.block a ≡ Some (hand seat words) → ⊥)
+    → IsAsked w.memory w.block w.graph.count seat nothing → Mine c w (mutator_at seat made kept spot) command None
+rest_mine c w seat made kept command Rest rest below counted roots none asked =
+    record { seated = record { below = below; counted = counted; unasked = λ no. asked }; ready = rest_ready c seat made kept Rest rest below; roots = roots; hands = none; facts = refl }
+rest_mine c w seat made kept command (Ended r) rest below counted roots none asked =
+    record { seated = record { below = below; counted = counted; unasked = λ no. asked }; ready = rest_ready c seat made kept (Ended r) rest below; roots = roots; hands = none; facts = refl }
+rest_mine c w seat made kept command _ rest below counted roots none asked = absurd cc
+
+-- an idle machine that has ended no call, in a world in which nobody has room in hand and nobody waits
+pub machine_begins : (c : Config) (words : List ℕ) (w : World) (k : ℕ) (b : Actor) (machine : Machine) → view c words ≡ w.memory → HasNumber c k machine → IsIdle w.graph k machine → b.calls ≡ []
+    → is_valid b.command ≡ true → ((t i : ℕ) → t < c.mutators → i < 16 → Points w.block (w.memory (Root t i)) (w.graph.root (t + 1) i)) → ((a seat words : ℕ) → w.block a ≡ Some (hand seat words) → ⊥)
+    → ((t : ℕ) → t < c.mutators → IsAsked w.memory w.block w.graph.count t nothing) → IsMachine c words w [] k b machine
+machine_begins c words w k b (mutating m) whole number idle calls valid roots none asked =
     let below : m.seat < c.mutators = subst (λ j. j < c.mutators) (sym number.0) number.1 in
+    let unasked = asked k number.1 in
     record {
       fixed = None;
       number_is = number.0;
       valid = valid;
       mine = rest_mine c w m.seat m.made m.kept b.command m.spot idle.1 below (subst (λ j. w.graph.count (j + 1) ≡ m.made) (sym number.0) idle.0)
-          (λ i small. roots m.seat i below small) (λ a words is. none a m.seat words is);
+          (λ i small. roots m.seat i below small) (λ a words is. none a m.seat words is) (asked m.seat below);
+      seen = record {
+        null = λ now. ap (λ memory. memory (Answer k)) whole ∙ now;
+        full = λ now. absurd (let answer = unasked.1 in omega (arith, now, answer));
+        given = λ now. absurd (let answer = unasked.1 in omega (arith, now, answer));
+      };
+      short = λ now unsettled. absurd (let answer = unasked.1 in omega (arith, now, answer));
       entries_are = sym (append-nil b.calls ∙ calls);
     }
-machine_begins c w k b (helping h) number idle calls valid roots none = record { least = number.0; below = number.1; hands = λ a words is. none a k words is }
-machine_begins c w k b (controlling h) number idle calls valid roots none = record { number_is = number; hands = λ a words is. none a k words is }
+machine_begins c words w k b (helping h) whole number idle calls valid roots none asked = record { least = number.0; below = number.1; hands = λ a more is. none a k more is }
+machine_begins c words w k b (controlling h) whole number idle calls valid roots none asked =
+    record { number_is = number; hands = λ a more is. none a k more is; ready = subst (λ spot. is_ready c spot ≡ true) (sym idle.0) refl; aims = subst (λ spot. IsAim c words spot h.image) (sym idle.0) tt }
 
--- that a word is fit is one fact
-pub fit_is_prop : (c : Config) (order : Order) (got : ℕ) (machine : Machine) → IsProp (IsFitIn c order got machine)
-fit_is_prop c order got (mutating m) = hlevel (Bool-set)
-fit_is_prop c order got (helping h) = hlevel
-fit_is_prop c order got (controlling k) = hlevel
+-- The machines of a stage, by their numbers.
+module _ (c : Config) (words : List ℕ) (w : World) (past : List Entry) (machines : List Actor) (seats : length machines ≡ seat_count c.mutators c.helpers) where
+  -- there is one of each number
+  pub machine_there : (k : ℕ) → k < seat_count c.mutators c.helpers → (b : Actor) × (slice_get machines k ≡ Some b)
+  machine_there k below = (get_or machines k (record { machine = fresh_helper; command = Gc; calls = [] }), slice_get-get_or machines k _ (omega (arith, below, seats)))
+
+  -- and the first of them are mutators
+  pub mutator_there : ((k : ℕ) (b : Actor) → slice_get machines k ≡ Some b → IsMachine c words w (of_thread past (k + 1)) k b b.machine) → (t : ℕ) → t < c.mutators
+      → (b : Actor) × (m : Mutating) × (slice_get machines t ≡ Some b) × (b.machine ≡ mutating m) × IsThread c words w (of_thread past (t + 1)) t b m
+  mutator_there known t below =
+      let there = machine_there t (omega (arith, below)) in
+      let role = mutator_of c t there.0.machine (number_of c words w (of_thread past (t + 1)) t there.0 there.0.machine (known t there.0 there.1)) below in
+      (there.0, role.0, there.1, role.1, subst (λ machine. IsMachine c words w (of_thread past (t + 1)) t there.0 machine) role.1 (known t there.0 there.1))

@@ -5,12 +5,18 @@ use Rattle.steps_base.specs.Touch.{touched}
 use Rattle.mutator.specs.declared.spot.Kept.{Kept}
 use Rattle.mutator.specs.declared.spot.Spot.{Spot}
 use Rattle.mutator.specs.Rows.{Mutating, touch_of}
+use Rattle.shen_graph.specs.declared.order.Order.{Order}
+use Rattle.shen_graph.specs.declared.order.Order.TheVariants.{Nothing}
 use Rattle.heap_world.specs.World.{World}
 
 -- a mutator at a spot
 abbrev pub mutator_at : ℕ → ℕ → Kept → Spot → Mutating
 mutator_at seat made kept spot = record { seat = seat; made = made; kept = kept; spot = spot }
 
--- the world after its access
+-- the world after its access under an order
+abbrev pub accessed_by : Config → World → Mutating → Order → World
+accessed_by c u m order = record { memory = touched u.memory (touch_of c m order); block = u.block; owner = u.owner; graph = u.graph }
+
+-- and after one in a call
 abbrev pub accessed : Config → World → Mutating → World
-accessed c u m = record { memory = touched u.memory (touch_of c m); block = u.block; owner = u.owner; graph = u.graph }
+accessed c u m = accessed_by c u m Nothing

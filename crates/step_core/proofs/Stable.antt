@@ -1,12 +1,14 @@
 -- What a mutator knows stays true while another machine makes a step.
-use Rattle.std.proofs.Common.{◌≡◌, ℕ, ◌+◌, inl, inr, ⊎_elim, Option, refl, ◌∙◌, arith}
+use Rattle.std.proofs.Common.{◌≡◌, ℕ, ◌+◌, inl, inr, ⊎_elim, Bool, Option, refl, ◌∙◌, arith}
 use Rattle.heap_words.specs.declared.config.Config.{Config}
 use Rattle.shen_graph.specs.declared.command.Command.{Command}
 use Rattle.shen_graph.specs.declared.command.Reply.{Reply}
 use Rattle.alloc_buffers.specs.declared.spot.TakeSpot.{TakeSpot}
 use Rattle.mutator.specs.declared.spot.Kept.{Kept}
 use Rattle.mutator.specs.declared.spot.Spot.{Spot}
-use Rattle.mutator.specs.declared.spot.Spot.TheVariants.{Rest, Ended, LoadSet, Loading, OnField, OnNumber, Showing, StoreRoot, Making, AskCycle, Leave}
+use Rattle.mutator.specs.declared.spot.Spot.TheVariants.{Rest, Ended, Entering, LoadPhase, LoadSet, Loading, OnField, OnNumber, Showing, StoreRoot, Making, AskCycle, Waiting, Leave, Gone}
+use Rattle.mutator.specs.declared.spot.Entered.{Entered}
+use Rattle.mutator.specs.declared.spot.Entered.TheVariants.{Call, Waited}
 use Rattle.mutator.specs.declared.loads.LoadSpot.{LoadSpot}
 use Rattle.mutator.specs.declared.loads.LoadSpot.TheVariants as load
 use Rattle.mutator.specs.declared.fields.FieldSpot.{FieldSpot}
@@ -17,11 +19,16 @@ use Rattle.mutator.specs.declared.shows.ShowSpot.{ShowSpot}
 use Rattle.mutator.specs.declared.shows.ShowSpot.TheVariants as show
 use Rattle.mutator.specs.declared.makes.MakeSpot.{MakeSpot}
 use Rattle.mutator.specs.declared.makes.MakeSpot.TheVariants as make
+use Rattle.mutator.specs.declared.waits.WaitSpot.{WaitSpot}
+use Rattle.mutator.specs.declared.waits.WaitSpot.TheVariants as wait
+use Rattle.mutator.specs.Orders.{is_waiting}
 use Rattle.mutator.specs.Commands.{root_of, dst_of, index_of, number_of, refs_of, nums_of}
 use Rattle.mutator.specs.Rows.{Mutating, words_of}
 use Rattle.heap_world.specs.World.{World, Points, Shared}
-use Rattle.step_core.specs.Stepped.{HasRoot, HasObject, HasFirst, IsGet, IsSet, IsCas, IsXchg, IsRd, IsWr, IsFound, IsCopy, IsFilling, LoadFacts, FieldFacts, NumberFacts, ShowFacts, MakeFacts, SpotFacts, Mine}
+use Rattle.step_core.specs.Stepped.{HasRoot, HasObject, HasFirst, IsGet, IsSet, IsCas, IsXchg, IsRd, IsWr, IsFound, IsCopy, IsFilling, IsAsking, IsPolling, IsAnswered, LoadFacts, FieldFacts, NumberFacts, ShowFacts, MakeFacts, EnterFacts, WaitFacts, SpotFacts, IsSeatedIn, Mine}
 use Rattle.step_core.specs.Own.{root_now}
+use Rattle.heap_world.specs.Asking as asking
+use Rattle.heap_world.specs.Asking.{Asking, HasNoPromise, IsRequest, IsPromise, IsAsked}
 use Rattle.heap_world.specs.Rely.{Keeps, Rely}
 use Rattle.alloc_buffers.specs.Facts.{TakeFacts}
 use Rattle.alloc_buffers.proofs.TakeStays.{take_stays}
@@ -114,6 +121,57 @@ module _ (c : Config) (u w : World) (seat : ℕ) (keeps : Keeps seat u w) where
   copy_stays : (command : Command) (dst value : ℕ) → IsCopy u seat command dst value → IsCopy w seat command dst value
   copy_stays command dst value is = record { src = is.src; is = is.is; value_is = root_stays value is.src is.value_is }
 
+  -- that nothing is promised to it stays
+  pub unpromised_stays : HasNoPromise u.block seat → HasNoPromise w.block seat
+  unpromised_stays none a words is = none a words (keeps.no_promises a words is)
+
+  -- what it has asked for stays asked
+  pub asked_stays : (what : Asking) → IsAsked u.memory u.block u.graph.count seat what → IsAsked w.memory w.block w.graph.count seat what
+  asked_stays asking.nothing is = (keeps.wait ∙ is.0, keeps.answer ∙ is.1, unpromised_stays is.2)
+  asked_stays (asking.asks refs nums) is = (
+    record {
+      wait_is = keeps.wait ∙ rw keeps.count is.0.wait_is;
+      few_refs = is.0.few_refs;
+      few_nums = is.0.few_nums;
+      few = rw keeps.count is.0.few;
+    },
+    keeps.answer ∙ is.1,
+    unpromised_stays is.2,
+  )
+  asked_stays asking.refused is = (keeps.wait ∙ is.0, keeps.answer ∙ is.1, unpromised_stays is.2)
+  asked_stays (asking.given refs nums) is = (
+    keeps.wait ∙ is.0,
+    rw keeps.answer is.1,
+    rw keeps.answer (record {
+      here = keeps.promises _ (3 + refs + nums) is.2.here;
+      words = λ k below. keeps.promise_words _ (3 + refs + nums) k is.2.here below ∙ rw keeps.count (is.2.words k below);
+      only = λ b more there. is.2.only b more (keeps.no_promises b more there);
+      few_refs = is.2.few_refs;
+      few_nums = is.2.few_nums;
+      few = rw keeps.count is.2.few;
+    }),
+  )
+
+  -- so does the asking of a call
+  pub asking_stays : (made : ℕ) (k command : Command) (fixed : Option Reply) (what : Asking) → IsAsking u seat made k command fixed what → IsAsking w seat made k command fixed what
+  asking_stays made k command fixed what is = (is.0, asked_stays what is.1)
+
+  -- and what is known while it polls, and once it is answered
+  pub polling_stays : (made : ℕ) (k command : Command) (fixed : Option Reply) → IsPolling u seat made k command fixed → IsPolling w seat made k command fixed
+  polling_stays made k command fixed is = ⊎_elim
+      (λ waits. inl (asking_stays made k command fixed (asking.asks (refs_of k) (nums_of k)) waits))
+      (λ rest. inr (⊎_elim
+      (λ given. inl (asking_stays made k command fixed (asking.given (refs_of k) (nums_of k)) given))
+      (λ no. inr (no.0, asked_stays asking.refused no.1))
+      rest))
+      is
+
+  pub answered_stays : (made : ℕ) (k command : Command) (fixed : Option Reply) → IsAnswered u seat made k command fixed → IsAnswered w seat made k command fixed
+  answered_stays made k command fixed is = ⊎_elim
+      (λ given. inl (asking_stays made k command fixed (asking.given (refs_of k) (nums_of k)) given))
+      (λ full. inr (full.0, asked_stays asking.refused full.1))
+      is
+
   -- what a mutator counts on in each part of a call stays
   load_stays : (made : ℕ) (k command : Command) (fixed : Option Reply) (at : LoadSpot) → LoadFacts u seat made k command fixed at → LoadFacts w seat made k command fixed at
   load_stays made k command fixed load.First facts = facts
@@ -146,11 +204,26 @@ module _ (c : Config) (u w : World) (seat : ℕ) (keeps : Keeps seat u w) where
   make_stays made k command fixed taking (make.StoreWord address done) facts = (facts.0, filling_stays made (refs_of k) (nums_of k) address done facts.1, facts.2)
   make_stays made k command fixed taking (make.StoreRoot address) facts = (facts.0, filling_stays made (refs_of k) (nums_of k) address (words_of k) facts.1)
 
+  pub enter_stays : (made : ℕ) (k command : Command) (fixed : Option Reply) (next : Entered) → EnterFacts u seat made k command fixed next → EnterFacts w seat made k command fixed next
+  enter_stays made k command fixed Call facts = facts
+  enter_stays made k command fixed Waited facts = answered_stays made k command fixed facts
+
+  pub wait_stays : (made : ℕ) (k command : Command) (fixed : Option Reply) (at : WaitSpot) → WaitFacts u seat made k command fixed at → WaitFacts w seat made k command fixed at
+  wait_stays made k command fixed wait.StoreRequest facts = asking_stays made k command fixed asking.nothing facts
+  wait_stays made k command fixed wait.AskRoom facts = asking_stays made k command fixed (asking.asks (refs_of k) (nums_of k)) facts
+  wait_stays made k command fixed wait.StepOut facts = asking_stays made k command fixed (asking.asks (refs_of k) (nums_of k)) facts
+  wait_stays made k command fixed wait.Poll facts = polling_stays made k command fixed facts
+  wait_stays made k command fixed wait.LoadAnswer facts = answered_stays made k command fixed facts
+  wait_stays made k command fixed (wait.StoreRoot address) facts = (asking_stays made k command fixed (asking.given (refs_of k) (nums_of k)) facts.0, keeps.answer ∙ facts.1)
+  wait_stays made k command fixed (wait.ClearAnswer reply) facts = (facts.0, keeps.wait ∙ facts.1, unpromised_stays facts.2)
+
   -- and at its spot, if that of a taking does
   facts_stay : (made : ℕ) (kept : Kept) (command : Command) (fixed : Option Reply) → ((words : ℕ) (take : TakeSpot) → TakeFacts c u seat words take → TakeFacts c w seat words take) → (spot : Spot)
       → SpotFacts c u seat made kept command fixed spot → SpotFacts c w seat made kept command fixed spot
   facts_stay made kept command fixed taking Rest facts = facts
   facts_stay made kept command fixed taking (Ended reply) facts = facts
+  facts_stay made kept command fixed taking (Entering at next) facts = enter_stays made kept.command command fixed next facts
+  facts_stay made kept command fixed taking LoadPhase facts = facts
   facts_stay made kept command fixed taking LoadSet facts = facts
   facts_stay made kept command fixed taking (Loading at) facts = load_stays made kept.command command fixed at facts
   facts_stay made kept command fixed taking (OnField object at) facts = field_stays kept.command command fixed object at facts
@@ -159,7 +232,17 @@ module _ (c : Config) (u w : World) (seat : ℕ) (keeps : Keeps seat u w) where
   facts_stay made kept command fixed taking (StoreRoot value) facts = (facts.0, facts.1, ⊎_elim (λ is. inl (copy_stays command (dst_of kept.command) value is)) (λ is. inr is) facts.2)
   facts_stay made kept command fixed taking (Making at) facts = make_stays made kept.command command fixed taking at facts
   facts_stay made kept command fixed taking AskCycle facts = facts
+  facts_stay made kept command fixed taking (Waiting at) facts = wait_stays made kept.command command fixed at facts
   facts_stay made kept command fixed taking (Leave reply) facts = facts
+  facts_stay made kept command fixed taking Gone facts = facts
+
+  -- what a mutator knows of its seat stays
+  pub seated_stays : (made : ℕ) (waiting : Bool) → IsSeatedIn c u seat made waiting → IsSeatedIn c w seat made waiting
+  seated_stays made waiting seated = record {
+    below = seated.below;
+    counted = keeps.count ∙ seated.counted;
+    unasked = λ calm. let was = seated.unasked calm in (keeps.wait ∙ was.0, keeps.answer ∙ was.1, unpromised_stays was.2);
+  }
 
   -- a root that counts stays
   now_stays : (kept : Kept) (spot : Spot) (index : ℕ) → root_now w seat kept spot index ≡ root_now u seat kept spot index
@@ -169,7 +252,7 @@ module _ (c : Config) (u w : World) (seat : ℕ) (keeps : Keeps seat u w) where
 -- all that it knows stays
 pub mine_stays : (c : Config) (u w : World) (m : Mutating) (command : Command) (fixed : Option Reply) → Shared c u → Rely m.seat u w → Mine c u m command fixed → Mine c w m command fixed
 mine_stays c u w m command fixed shared rely mine = let keeps : Keeps m.seat u w = keeps_of m.seat u w rely in record {
-  seated = record { below = mine.seated.below; counted = rely.count ∙ mine.seated.counted };
+  seated = seated_stays c u w m.seat keeps m.made (is_waiting m.spot) mine.seated;
   ready = mine.ready;
   roots = λ i below. rw (now_stays c u w m.seat keeps m.kept m.spot i) (root_stays c u w m.seat keeps _ i (mine.roots i below));
   hands = λ a words is. mine.hands a words (rely.no_hands a words is);

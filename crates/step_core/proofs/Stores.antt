@@ -70,12 +70,12 @@ module _ (g : Graph) (t obj : ℕ) (name : Name) (o : Object) (root_is : g.root 
 -- say, and roots of the mutator may be others.
 module _ (c : Config) (u : World) (m : Mutating) (object refs nums at value : ℕ) (name : Name) (o : Object) (root : ℕ → ℕ → Reference) (command : Command) (fixed : Option Reply) (r : Reply) where
   -- the step is as it should be
-  store_settles : touched u.memory (touch_of c m) ≡ write u.memory (Heap at) value → told_of u.memory m ≡ Some r → given_at m.spot ≡ None → fixed ≡ None → is_full r ≡ false
+  store_settles : touched u.memory (touch_of c m Nothing) ≡ write u.memory (Heap at) value → told_of u.memory m ≡ Some r → given_at m.spot ≡ None → fixed ≡ None → is_full r ≡ false
       → Shared c u → Target u object refs nums name → object ≤ at → at < object + (3 + refs + nums)
       → IsThing (updated (λ a. u.memory (Heap a)) at value) u.block object refs nums name o
       → outcome u.graph (m.seat + 1) command ≡ answers r (changed u.graph name o root)
       → ((seat i : ℕ) → seat ≢ m.seat → root (seat + 1) i ≡ u.graph.root (seat + 1) i)
-      → Mine c (stored u at value (changed u.graph name o root)) (next_of c m Nothing (u.memory (touch_of c m).word)) command (Some r)
+      → Mine c (stored u at value (changed u.graph name o root)) (next_of c m Nothing (u.memory (touch_of c m Nothing).word)) command (Some r)
       → Stepped c u m command Nothing fixed
   store_settles memory told given unsettled other shared target from_start to_end is answered roots mine = record {
     world = stored u at value (changed u.graph name o root);
@@ -108,10 +108,10 @@ module _ (c : Config) (u : World) (m : Mutating) (object field value obj val : �
 
   -- the step is as it should be
   field_settles : (command : Command) (fixed : Option Reply) (r : Reply)
-      → touched u.memory (touch_of c m) ≡ write u.memory (Heap (object + 3 + field)) value → told_of u.memory m ≡ Some r → given_at m.spot ≡ None → fixed ≡ None → is_full r ≡ false
+      → touched u.memory (touch_of c m Nothing) ≡ write u.memory (Heap (object + 3 + field)) value → told_of u.memory m ≡ Some r → given_at m.spot ≡ None → fixed ≡ None → is_full r ≡ false
       → outcome u.graph (m.seat + 1) command ≡ answers r (changed u.graph of.name object_then root)
       → ((seat i : ℕ) → seat ≢ m.seat → root (seat + 1) i ≡ u.graph.root (seat + 1) i)
-      → Mine c world_then (next_of c m Nothing (u.memory (touch_of c m).word)) command (Some r)
+      → Mine c world_then (next_of c m Nothing (u.memory (touch_of c m Nothing).word)) command (Some r)
       → Stepped c u m command Nothing fixed
   field_settles command fixed r memory told given unsettled other answered roots mine =
       store_settles c u m object of.refs of.nums (object + 3 + field) value of.name object_then root command fixed r memory told given unsettled other shared of.target (omega arith) (omega arith) object_stands answered roots mine

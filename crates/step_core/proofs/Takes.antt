@@ -1,16 +1,17 @@
 -- The steps of a mutator that takes room for an object: what taking room owes is what its place owes.
-use Rattle.std.proofs.Common.{◌≡◌, ℕ, ◌+◌, true, false, Option, Some, refl, ◌∙◌, arith}
+use Rattle.std.proofs.Common.{◌≡◌, ℕ, ◌+◌, true, false, Option, Some, refl, arith}
 use Rattle.std.specs.Prelude.{◌&&◌}
-use Rattle.std.proofs.lemmas.Bool.{and_from, and_parts, lt-ltb, false≢true}
+use Rattle.std.proofs.lemmas.Bool.{and_from, and_parts, false≢true}
 use Rattle.heap_words.specs.declared.config.Config.{Config}
 use Rattle.heap_words.specs.Words.{Top}
 use Rattle.steps_base.specs.Fits.{touch_fits}
 use Rattle.shen_graph.specs.declared.command.Command.{Command}
 use Rattle.shen_graph.specs.declared.command.Reply.{Reply}
 use Rattle.heap_world.specs.World.{World, hand, Shared}
+use Rattle.heap_world.specs.Asking.{nothing}
 use Rattle.heap_world.specs.Rely.{Keeps}
 use Rattle.alloc_buffers.specs.declared.spot.TakeSpot.{TakeSpot}
-use Rattle.alloc_buffers.specs.declared.spot.TakeSpot.TheVariants.{LoadCurrent, Ended}
+use Rattle.alloc_buffers.specs.declared.spot.TakeSpot.TheVariants.{Ended}
 use Rattle.alloc_buffers.specs.declared.spot.Taken.TheVariants.{At, NoRoom}
 use Rattle.alloc_buffers.specs.declared.spot.Kind.TheVariants.{Fresh}
 use Rattle.alloc_buffers.specs.Rows as takes
@@ -26,9 +27,9 @@ use Rattle.mutator.specs.Commands.{refs_of, nums_of}
 use Rattle.mutator.specs.Rows.{Mutating, after_take}
 use Rattle.mutator.specs.Fit.{is_next_object, is_going}
 use Rattle.step_core.specs.Stepped.{Mine, Row, Stepped}
-use Rattle.step_core.proofs.Stable.{root_stays}
+use Rattle.step_core.proofs.Stable.{root_stays, asked_stays, seated_stays}
 use Rattle.step_core.proofs.Spots.{mutator_at}
-use Rattle.step_core.proofs.Ready.{taking_ready, word_ready}
+use Rattle.step_core.proofs.Ready.{seated_waiting, taking_ready, word_ready, request_ready}
 
 -- a taking that goes on has not ended
 not_ended : (take : TakeSpot) → is_going take ≡ true → takes.is_ended take ≡ false
@@ -77,22 +78,25 @@ module _ (c : Config) (u : World) (seat made : ℕ) (kept : Kept) (command : Com
     mine_at : (next : TakeSpot) (w : World) → is_going next ≡ true → Keeps seat u w → CanTake c w seat words next → ((a more : ℕ) → w.block a ≡ Some (hand seat more) → ⊥)
         → Mine c w (at_spot (Making (make.Taking next))) command fixed
     mine_at next w going keeps can none = record {
-      seated = record { below = mine.seated.below; counted = keeps.count ∙ mine.seated.counted };
+      seated = seated_stays c u w seat keeps made false mine.seated;
       ready = (let both = and_parts _ _ can.ready in taking_ready c seat made kept command fixed mine.facts.0 next both.0 going both.1);
       roots = λ i below. rw (keeps.root_words i) (root_stays c u w seat keeps _ i (mine.roots i below));
       hands = none;
       facts = (mine.facts.0, can.facts);
     }
 
-    -- what it counts on after a step of the taking: with room in hand it goes on with the object's words, and without room it looks
-    -- again
+    -- what it counts on after a step of the taking: with room in hand it goes on with the object's words, and without room it asks
+    -- for the object
     mine_then : (next : TakeSpot) (w : World) → Shared c w → Keeps seat u w → CanTake c w seat words next → Mine c w (at_spot (after_take next)) command fixed
-    mine_then (Ended NoRoom) w shared keeps can =
-        mine_at LoadCurrent w refl keeps
-        (record { seated = can.seated; least = can.least; most = can.most; ready = and_from _ _ (and_from _ _ (lt-ltb _ _ can.seated) refl) refl; facts = tt; hands = can.hands })
-        can.hands
+    mine_then (Ended NoRoom) w shared keeps can = record {
+      seated = seated_waiting c w seat made false (seated_stays c u w seat keeps made false mine.seated);
+      ready = request_ready c seat made kept command fixed mine.facts.0 mine.seated.below;
+      roots = λ i below. rw (keeps.root_words i) (root_stays c u w seat keeps _ i (mine.roots i below));
+      hands = can.hands;
+      facts = (mine.facts.0, asked_stays c u w seat keeps nothing (mine.seated.unasked refl));
+    }
     mine_then (Ended (At address)) w shared keeps can = record {
-      seated = record { below = mine.seated.below; counted = keeps.count ∙ mine.seated.counted };
+      seated = seated_stays c u w seat keeps made false mine.seated;
       ready = word_ready c seat made kept command fixed mine.facts.0 (λ r. w.memory (Top r)) w.block shared.plotted address can.facts mine.seated.below 0 (omega arith);
       roots = λ i below. rw (keeps.root_words i) (root_stays c u w seat keeps _ i (mine.roots i below));
       hands = can.hands;

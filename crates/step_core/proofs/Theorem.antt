@@ -1,167 +1,216 @@
 -- The theorem over every list of events.
-use Rattle.std.proofs.Common.{◌≡◌, ◌≢◌, false, ℕ, ◌+◌, ◌<◌, true, List, [], Option, Some, None, refl, sym, ap, ◌∙◌, subst, arith}
-use Rattle.std.specs.Prelude.{get_or, slice_get, slice_index}
-use Rattle.std.proofs.lemmas.Bool.{and_parts}
+use Rattle.std.proofs.Common.{◌≡◌, ◌≢◌, ℕ, ◌+◌, ◌<◌, true, List, [], ◌++◌, Some, refl, sym, ap, ◌∙◌, subst, arith}
+use Rattle.std.specs.Prelude.{slice_get, slice_index}
 use Rattle.heap_words.specs.declared.config.Config.{Config}
 use Rattle.heap_words.specs.Access.{place_of}
-use Rattle.heap_words.specs.Words.{table_words}
-use Rattle.steps_base.specs.Steps.{Stage, Event, go, HasReached, Finds}
+use Rattle.heap_words.specs.Words.{Left, Answer, word_at, view, table_words}
+use Rattle.heap_words.proofs.Stores.{is_word_true}
+use Rattle.heap_words.proofs.Rows.{word_inside}
+use Rattle.steps_base.specs.Touch.{touch, subtracts, placed}
+use Rattle.steps_base.specs.Steps.{Stage, Event, act, go, HasReached, Finds}
+use Rattle.steps_base.proofs.Laws.{act-event}
+use Rattle.steps_base.proofs.Places.{slice_get-set_same}
 use Rattle.steps_base.proofs.Runs.{reached_has}
-use Rattle.shen_graph.specs.declared.command.Reply.{Reply}
-use Rattle.shen_graph.specs.declared.command.Command.{Command}
-use Rattle.shen_graph.specs.declared.command.Command.TheVariants.{Gc}
-use Rattle.shen_graph.specs.Graph.{Graph}
-use Rattle.shen_graph.specs.History.{Entry, IsWithoutFull, after, of_thread}
+use Rattle.steps_base.proofs.Touches.{place_of-access_at}
 use Rattle.shen_graph.specs.declared.order.Order.{Order}
+use Rattle.shen_graph.specs.declared.order.Order.TheVariants.{Nothing, Begin, End}
+use Rattle.shen_graph.specs.Graph.{Graph}
+use Rattle.shen_graph.specs.Crowd.{AreCrowded}
+use Rattle.shen_graph.specs.History.{Entry, after, of_thread}
+use Rattle.handshake.proofs.Counting.{left_some}
 use Rattle.mutator.specs.declared.spot.Kept.{Kept}
 use Rattle.mutator.specs.declared.spot.Spot.{Spot}
-use Rattle.mutator.specs.declared.spot.Spot.TheVariants.{Rest, Ended, LoadSet, Loading, OnField, OnNumber, Showing, StoreRoot, Making, AskCycle, Leave}
+use Rattle.mutator.specs.declared.spot.Spot.TheVariants.{Rest, Ended, Making}
 use Rattle.mutator.specs.declared.makes.MakeSpot.TheVariants.{Taking}
-use Rattle.mutator.specs.declared.makes.MakeSpot.TheVariants as make
-use Rattle.mutator.specs.declared.loads.LoadSpot.TheVariants as load
-use Rattle.mutator.specs.declared.fields.FieldSpot.TheVariants as fields
-use Rattle.mutator.specs.declared.numbers.NumberSpot.TheVariants as numbers
-use Rattle.mutator.specs.declared.shows.ShowSpot.TheVariants as show
-use Rattle.mutator.specs.Orders.{is_between_calls}
-use Rattle.mutator.specs.Rows.{Mutating, touch_of, words_of}
-use Rattle.mutator.specs.Fit.{IsFit}
-use Rattle.heap_world.specs.World.{World, hand}
-use Rattle.mutator.proofs.Ready.{word_of_ready, ready_inside}
-use Rattle.std.proofs.lemmas.Option.{slice_get-get_or}
+use Rattle.mutator.specs.Orders.{takes_at}
+use Rattle.mutator.specs.Rows.{Mutating, touch_at, touch_of, next_of, words_of}
+use Rattle.mutator.specs.Fit.{IsReady, EndsFit, IsFit}
 use Rattle.alloc_buffers.specs.declared.spot.TakeSpot.TheVariants.{LoadFree}
 use Rattle.alloc_buffers.specs.Facts.{HasLess}
-use Rattle.step_core.specs.Actor.{Machine, mutating, helping, controlling, Actor, fresh_control}
-use Rattle.step_core.specs.Machines.{plan_of, takes_of, IsFitIn, kind}
-use Rattle.step_core.specs.Settled.{settled}
-use Rattle.step_core.specs.History.{history}
+use Rattle.heap_world.specs.World.{World, hand}
+use Rattle.heap_world.specs.Change.{Change, IsPause}
+use Rattle.control_steps.specs.declared.spot.ControlSpot.{ControlSpot}
+use Rattle.control_steps.specs.declared.spot.ControlSpot.TheVariants.{LoadWord}
+use Rattle.control_steps.specs.Rows.{control_access, word_stored}
+use Rattle.control_steps.proofs.Ready.{accesses_inside}
+use Rattle.step_core.specs.Actor.{Machine, mutating, helping, controlling, Actor}
 use Rattle.step_core.specs.Begins.{Begins, Run, ending, history_in, first_graph, reached, past}
-use Rattle.step_core.specs.Sound.{has_settled, world_of, IsMutator, IsOfHeap, FindsFit, IsSound}
-use Rattle.heap_world.specs.Roots.{HasNoMore}
-use Rattle.step_core.specs.Stepped.{SpotFacts, Stepped}
-use Rattle.step_core.proofs.Facts.{IsThread, IsMachine, Follows}
-use Rattle.step_core.proofs.Roles.{number_of, mutator_of}
-use Rattle.step_core.proofs.Beginning.{follows_begins}
+use Rattle.step_core.specs.Begun.{begun}
+use Rattle.step_core.specs.Fit.{IsFitFor, IsWhole}
+use Rattle.step_core.specs.History.{told, history}
+use Rattle.step_core.specs.Machines.{takes_of, plan_of, took_of, machine_after, kind}
+use Rattle.step_core.specs.Settled.{settled}
+use Rattle.step_core.specs.Sound.{world_of, IsMutator, IsOfHeap, FindsFit, IsSound}
+use Rattle.step_core.specs.Stepped.{SpotFacts}
+use Rattle.step_core.proofs.Adapter.{gives_settled}
+use Rattle.step_core.proofs.Beginning.{goes_begins}
+use Rattle.step_core.proofs.Crowding.{run_crowded}
+use Rattle.step_core.proofs.Facts.{IsSeen, IsThread, IsMachine}
 use Rattle.step_core.proofs.FirstFacts.{opening_run}
-use Rattle.step_core.proofs.Induction.{follows_run, found-placed, gives_settled}
-use Rattle.step_core.proofs.NoFull.{history_not_full}
-use Rattle.step_core.proofs.Roots.{no_more_after}
-use Rattle.step_core.proofs.Places.{each_step}
-
--- between two calls no reply is settled that is not given
-unsettled_at_rest : (c : Config) (w : World) (seat made : ℕ) (kept : Kept) (command : Command) (fixed : Option Reply) (spot : Spot) → is_between_calls spot ≡ true → SpotFacts c w seat made kept command fixed spot → fixed ≡ None
-unsettled_at_rest c w seat made kept command fixed Rest rest facts = facts
-unsettled_at_rest c w seat made kept command fixed (Ended reply) rest facts = facts
-unsettled_at_rest c w seat made kept command fixed _ rest facts = absurd cc
-
--- before the access that settles the reply there is none
-unsettled_before : (c : Config) (w : World) (seat made : ℕ) (kept : Kept) (command : Command) (fixed : Option Reply) (spot : Spot) → has_settled spot ≡ false → SpotFacts c w seat made kept command fixed spot → fixed ≡ None
-unsettled_before c w seat made kept command fixed Rest before facts = facts
-unsettled_before c w seat made kept command fixed (Ended reply) before facts = facts
-unsettled_before c w seat made kept command fixed LoadSet before facts = facts.unsettled
-unsettled_before c w seat made kept command fixed (Loading load.First) before facts = facts.0.unsettled
-unsettled_before c w seat made kept command fixed (Loading (load.Second first)) before facts = facts.0.unsettled
-unsettled_before c w seat made kept command fixed (Loading (load.Third first second)) before facts = facts.0.unsettled
-unsettled_before c w seat made kept command fixed (Loading (load.Shape object second third)) before facts = facts.0.unsettled
-unsettled_before c w seat made kept command fixed (OnField object fields.Load) before facts = facts.0
-unsettled_before c w seat made kept command fixed (OnField object (fields.LoadExpected expect value)) before facts = facts.0
-unsettled_before c w seat made kept command fixed (OnField object (fields.Store value)) before facts = facts.0
-unsettled_before c w seat made kept command fixed (OnField object (fields.Swap value)) before facts = facts.0
-unsettled_before c w seat made kept command fixed (OnField object (fields.Exchange found expect value)) before facts = facts.0
-unsettled_before c w seat made kept command fixed (OnNumber object refs numbers.Load) before facts = facts.0
-unsettled_before c w seat made kept command fixed (OnNumber object refs numbers.Store) before facts = facts.0
-unsettled_before c w seat made kept command fixed (StoreRoot value) before facts = facts.0
-unsettled_before c w seat made kept command fixed (Making (Taking take)) before facts = facts.0.unsettled
-unsettled_before c w seat made kept command fixed (Making (make.StoreWord address done)) before facts = facts.0.unsettled
-unsettled_before c w seat made kept command fixed (Making (make.StoreRoot address)) before facts = facts.0.unsettled
-unsettled_before c w seat made kept command fixed AskCycle before facts = facts.0
-unsettled_before c w seat made kept command fixed _ before facts = absurd cc
-
--- and behind it there is one
-settled_after : (c : Config) (w : World) (seat made : ℕ) (kept : Kept) (command : Command) (fixed : Option Reply) (spot : Spot) → has_settled spot ≡ true → SpotFacts c w seat made kept command fixed spot → fixed ≢ None
-settled_after c w seat made kept command fixed (Showing value show.LoadName) behind facts = λ none. absurd (let it = facts.settled in cc)
-settled_after c w seat made kept command fixed (Showing value (show.StoreRoot reply)) behind facts = λ none. absurd (let it = facts.0 in cc)
-settled_after c w seat made kept command fixed (Leave reply) behind facts = λ none. absurd cc
-settled_after c w seat made kept command fixed _ behind facts = absurd cc
+use Rattle.step_core.proofs.Images.{found-placed}
+use Rattle.step_core.proofs.ControlEvents.{whole_stands}
+use Rattle.step_core.proofs.Induction.{Goes, goes_event, goes_run}
+use Rattle.step_core.proofs.MachinesObey.{is_left}
+use Rattle.step_core.proofs.MutatorObeys.{has_not_ended}
+use Rattle.step_core.proofs.Ordered.{order_word}
+use Rattle.step_core.proofs.Replies.{unsettled_at_rest, unsettled_before, settled_after}
+use Rattle.step_core.proofs.Requests.{has_asked}
+use Rattle.step_core.proofs.Roles.{number_of, mutator_of, machine_there}
 
 -- only a mutator has room in hand
-hand_of : (c : Config) (w : World) (entries : List Entry) (number : ℕ) (actor : Actor) (machine : Machine) → IsMachine c w entries number actor machine
-    → (a words : ℕ) → w.block a ≡ Some (hand number words) → number < c.mutators
-hand_of c w entries number actor (mutating m) is a words there = subst (λ k. k < c.mutators) is.number_is is.mine.seated.below
-hand_of c w entries number actor (helping h) is a words there = absurd (is.hands a words there)
-hand_of c w entries number actor (controlling k) is a words there = absurd (is.hands a words there)
+hand_of : (c : Config) (words : List ℕ) (w : World) (entries : List Entry) (number : ℕ) (actor : Actor) (machine : Machine) → IsMachine c words w entries number actor machine
+    → (a more : ℕ) → w.block a ≡ Some (hand number more) → number < c.mutators
+hand_of c words w es number actor (mutating m) is a more there = subst (λ k. k < c.mutators) is.number_is is.mine.seated.below
+hand_of c words w es number actor (helping h) is a more there = absurd (is.hands a more there)
+hand_of c words w es number actor (controlling k) is a more there = absurd (is.hands a more there)
 
--- What a stage that follows its history says.
-module _ (c : Config) (g : Graph) (s : Stage Actor) (h : List Entry) (follows : Follows c g s h) where
+-- a mutator that ends has not ended, and its access is of the count
+ends_left : (spot : Spot) (made : ℕ) → takes_at spot made End ≡ true → has_not_ended spot ≡ true
+ends_left Rest made takes = refl
+ends_left (Ended reply) made takes = refl
+ends_left _ made takes = absurd (cc (takes))
+
+ends_at : (c : Config) (seat made : ℕ) (kept : Kept) (spot : Spot) → takes_at spot made End ≡ true → touch_at c seat made kept End spot ≡ touch Left (subtracts 1)
+ends_at c seat made kept Rest takes = refl
+ends_at c seat made kept (Ended reply) takes = refl
+ends_at c seat made kept _ takes = absurd (cc (takes))
+
+-- What a stage says in which all goes as it should.
+module _ (change : Change) (law : IsPause change) (c : Config) (g : Graph) (s : Stage Actor) (h : List Entry) (goes : Goes c g s h) where
   abbrev the_world : World
-  the_world = world_of c s follows.block follows.owner (after g h)
+  the_world = world_of c s goes.follows.block goes.follows.owner (after g h)
+
+  -- of a machine
+  known : (number : ℕ) (a : Actor) → slice_get s.machines number ≡ Some a → IsMachine c s.words the_world (of_thread h (number + 1)) number a a.machine
+  known = goes.follows.machines
 
   -- of a mutator
-  thread_of : (number : ℕ) (a : Actor) (m : Mutating) → IsMutator s number a m → IsThread c the_world (of_thread h (number + 1)) number a m
-  thread_of number a m here = subst (λ machine. IsMachine c the_world (of_thread h (number + 1)) number a machine) here.is (follows.machines number a here.here)
+  thread_of : (number : ℕ) (a : Actor) (m : Mutating) → IsMutator s number a m → IsThread c s.words the_world (of_thread h (number + 1)) number a m
+  thread_of number a m here = subst (λ machine. IsMachine c s.words the_world (of_thread h (number + 1)) number a machine) here.is (known number a here.here)
 
-  -- of the word that a mutator finds
-  finds_fit : (number : ℕ) (a : Actor) (m : Mutating) → IsMutator s number a m → FindsFit c s a m
-  finds_fit number a m here =
-      let thread = thread_of number a m here in
-      record {
-        ready = thread.mine.ready;
-        inside = subst (λ machine. place_of (plan_of c machine) < table_words c) (sym here.is) (ready_inside c (touch_of c m) (and_parts _ _ thread.mine.ready).0);
-        fit = λ order takes.
-            let step : Stepped c the_world m a.command order thread.fixed = each_step c the_world m a.command order thread.fixed follows.shared thread.mine takes in
-            subst (λ machine. IsFit c m order (slice_index s.words (place_of (plan_of c machine)))) (sym here.is)
-            (subst (λ got. IsFit c m order got) (sym (found-placed c s.words (touch_of c m) (word_of_ready c (touch_of c m) (and_parts _ _ thread.mine.ready).0))) step.mine.ready);
+  -- the machine of a number after its step, in the stage after it
+  machine_next : (number : ℕ) (a : Actor) (order : Order) → slice_get s.machines number ≡ Some a → takes_of a.machine order ≡ true
+      → (w : World) × (words : List ℕ) × (es : List Entry)
+      × IsMachine c words w es number (took_of change c a order (slice_index s.words (place_of (plan_of c order a.machine))) a.machine)
+      (machine_after change c order (slice_index s.words (place_of (plan_of c order a.machine))) a.machine)
+  unfolding kind
+  machine_next number a order here takes =
+      let event : Event Order = record { number = number; order = order } in
+      let next = goes_event change law c g s h event goes in
+      let there : slice_get (act (kind change c) s event).machines number ≡ Some (took_of change c a order (slice_index s.words (place_of (plan_of c order a.machine))) a.machine) =
+      ap (λ t. slice_get t.machines number) (act-event (kind change c) s event a (record { here = here; takes = takes })) ∙ slice_get-set_same s.machines number a _ here in (
+        world_of c (act (kind change c) s event) next.follows.block next.follows.owner (after g (h ++ told c s event)),
+        (act (kind change c) s event).words,
+        of_thread (h ++ told c s event) (number + 1),
+        next.follows.machines number _ there,
+      )
+
+  -- a word that a mutator finds is fit
+  fit_mutator : (number : ℕ) (a : Actor) (m : Mutating) (order : Order) → slice_get s.machines number ≡ Some a → a.machine ≡ mutating m → takes_at m.spot m.made order ≡ true
+      → IsFit c m order (slice_index s.words (place_of (placed c (touch_of c m order))))
+  fit_mutator number a m order here is takes = (ready, ends order takes)
+    where
+      ready : IsReady c (next_of c m order (slice_index s.words (place_of (placed c (touch_of c m order)))))
+      ready =
+          let next = machine_next number a order here (ap (λ machine. takes_of machine order) is ∙ takes) in
+          let thread = subst (λ machine. IsMachine c next.1 next.0 next.2 number (took_of change c a order (slice_index s.words (place_of (plan_of c order a.machine))) a.machine)
+          (machine_after change c order (slice_index s.words (place_of (plan_of c order machine))) machine)) is next.3 in
+          thread.mine.ready
+
+      ends : (o : Order) → takes_at m.spot m.made o ≡ true → EndsFit o (slice_index s.words (place_of (placed c (touch_of c m o))))
+      ends Nothing takes_it = tt
+      ends (Begin command) takes_it = tt
+      ends End takes_it = subst (λ t. slice_index s.words (place_of (placed c t)) ≢ 0) (sym (ends_at c m.seat m.made m.kept m.spot takes_it))
+          (subst (λ got. got ≢ 0) (sym (found-placed c s.words (touch Left (subtracts 1)) refl))
+          (left_some c is_left s number a goes.counted here (ap (λ machine. is_left (record { machine = machine; command = a.command; calls = a.calls })) is ∙ ends_left m.spot m.made takes_it)))
+
+  -- so is one that the control finds
+  fit_control : (number : ℕ) (seen : ℕ) (image : List ℕ) (a : Actor) (spot : ControlSpot) → slice_get s.machines number ≡ Some a → a.machine ≡ controlling (record { spot = spot; seen = seen; image = image })
+      → IsWhole c spot image (slice_index s.words (place_of (control_access c (record { spot = spot; seen = seen; image = image }))))
+  fit_control number seen image a (LoadWord index) here is =
+      λ last. whole_stands change law c g s h number seen image a.command a.calls goes.follows goes.shaken index
+      (here ∙ ap (λ machine. Some (record { machine = machine; command = a.command; calls = a.calls })) is) last
+  fit_control number seen image a _ here is = tt
+
+  -- a machine finds a fit word
+  finds_fit : (number : ℕ) (a : Actor) → slice_get s.machines number ≡ Some a → FindsFit c s a
+  finds_fit number a here = by_machine a.machine refl
+    where
+      by_machine : (machine : Machine) → a.machine ≡ machine → FindsFit c s a
+      by_machine (mutating m) is =
+          let thread = thread_of number a m (record { here = here; is = is }) in
+          record {
+            inside = λ order takes.
+                subst (λ machine. place_of (plan_of c order machine) < table_words c) (sym is)
+                (subst (λ k. k < table_words c) (sym (place_of-access_at (word_at c (touch_of c m order).word) (touch_of c m order).form))
+                (word_inside c (touch_of c m order).word (is_word_true c (touch_of c m order).word
+                (order_word c m.seat m.made m.kept order m.spot thread.mine.seated.below thread.mine.ready (ap (λ machine. takes_of machine order) (sym is) ∙ takes)))));
+            fit = λ order takes.
+                subst (λ machine. IsFitFor c order (slice_index s.words (place_of (plan_of c order machine))) machine) (sym is)
+                (fit_mutator number a m order here is (ap (λ machine. takes_of machine order) (sym is) ∙ takes));
+          }
+      by_machine (helping h) is = record {
+        inside = λ order takes. absurd (let no_order = ap (λ machine. takes_of machine order) (sym is) ∙ takes in cc (no_order));
+        fit = λ order takes. absurd (let no_order = ap (λ machine. takes_of machine order) (sym is) ∙ takes in cc (no_order));
       }
+      by_machine (controlling k) is =
+          let facts = subst (λ machine. IsMachine c s.words the_world (of_thread h (number + 1)) number a machine) is (known number a here) in
+          record {
+            inside = λ order takes.
+                subst (λ machine. place_of (plan_of c order machine) < table_words c) (sym is) (accesses_inside c k.spot (word_stored k.spot k.image) facts.ready);
+            fit = λ order takes.
+                subst (λ machine. IsFitFor c order (slice_index s.words (place_of (plan_of c order machine))) machine) (sym is)
+                (fit_control number k.seen k.image a k.spot here is);
+          }
 
   -- of its machines
   of_heap : IsOfHeap c s
   of_heap = record {
-    words = follows.words;
-    machines = follows.seats;
-    roles = λ number a there. number_of c the_world (of_thread h (number + 1)) number a a.machine (follows.machines number a there);
+    words = goes.follows.words;
+    machines = goes.follows.seats;
+    roles = λ number a there. number_of c s.words the_world (of_thread h (number + 1)) number a a.machine (known number a there);
     mutators = λ number below.
-        let there : slice_get s.machines number ≡ Some (get_or s.machines number (record { machine = fresh_control; command = Gc; calls = [] })) =
-        slice_get-get_or s.machines number _ (let seats = follows.seats in omega (arith, below, seats)) in
-        let a = get_or s.machines number (record { machine = fresh_control; command = Gc; calls = [] }) in
-        let role = mutator_of c number a.machine (number_of c the_world (of_thread h (number + 1)) number a a.machine (follows.machines number a there)) below in
-        record { actor = a; mutator = role.0; here = record { here = there; is = role.1 } };
+        let there = machine_there c s.words the_world h s.machines goes.follows.seats number (omega (arith, below)) in
+        let role = mutator_of c number there.0.machine (number_of c s.words the_world (of_thread h (number + 1)) number there.0 there.0.machine (known number there.0 there.1)) below in
+        record { actor = there.0; mutator = role.0; here = record { here = there.1; is = role.1 } };
     numbers = λ number a m here. let thread = thread_of number a m here in (thread.number_is, subst (λ k. k < c.mutators) thread.number_is thread.mine.seated.below);
   }
 
   -- of room in hand
-  in_hand : (a seat words : ℕ) → follows.block a ≡ Some (hand seat words) → seat < c.mutators
-  in_hand a seat words there =
-      let below = (follows.shared.rooms a seat words there).seated in
-      let here : slice_get s.machines seat ≡ Some (get_or s.machines seat (record { machine = fresh_control; command = Gc; calls = [] })) =
-      slice_get-get_or s.machines seat _ (let seats = follows.seats in omega (arith, below, seats)) in
-      let actor = get_or s.machines seat (record { machine = fresh_control; command = Gc; calls = [] }) in
-      hand_of c the_world (of_thread h (seat + 1)) seat actor actor.machine (follows.machines seat actor here) a words there
+  in_hand : (a seat more : ℕ) → goes.follows.block a ≡ Some (hand seat more) → seat < c.mutators
+  in_hand a seat more is =
+      let there = machine_there c s.words the_world h s.machines goes.follows.seats seat (goes.follows.shared.rooms a seat more is).seated in
+      hand_of c s.words the_world (of_thread h (seat + 1)) seat there.0 there.0.machine (known seat there.0 there.1) a more is
 
   -- of all: it is sound
-  sound : IsWithoutFull h → HasNoMore c.mutators g → IsSound c g s h
-  sound without_full no_more = record {
+  sound : AreCrowded c.regions c.region_words g (begun c s) h → IsSound c g s h
+  sound crowded = record {
     of_heap = of_heap;
     stands = record {
-      block = follows.block;
-      owner = follows.owner;
-      shared = follows.shared;
+      block = goes.follows.block;
+      owner = goes.follows.owner;
+      shared = goes.follows.shared;
       in_hand = in_hand;
+      promised_to = goes.follows.promised_to;
       mutators = λ number a m here. let mine = (thread_of number a m here).mine in record { made = mine.seated.counted; roots = mine.roots; hands = mine.hands };
+      asked = λ number a m here going. let thread = thread_of number a m here in has_asked c the_world m.seat m.made m.kept a.command thread.fixed m.spot going thread.mine;
     };
-    legal = follows.legal;
-    without_full = without_full;
-    entries = follows.entries;
-    no_more = no_more_after c.mutators g h follows.entries no_more;
+    legal = goes.follows.legal;
+    crowded = crowded;
+    entries = goes.follows.entries;
+    no_more = goes.follows.no_more;
     threads = λ number a m here.
         let thread = thread_of number a m here in
+        let seen = subst (λ k. IsSeen (view c s.words (Answer number)) (the_world.memory (Answer k)) thread.fixed) (sym thread.number_is) thread.seen in
         record {
           fixed = thread.fixed;
           entries_are = thread.entries_are;
           between_calls = λ rest. unsettled_at_rest c the_world m.seat m.made m.kept a.command thread.fixed m.spot rest thread.mine.facts;
-          before_it = λ before. unsettled_before c the_world m.seat m.made m.kept a.command thread.fixed m.spot before thread.mine.facts;
-          after_it = λ behind. settled_after c the_world m.seat m.made m.kept a.command thread.fixed m.spot behind thread.mine.facts;
+          before_it = λ before. unsettled_before c the_world m.seat m.made m.kept a.command thread.fixed (view c s.words (Answer number)) seen m.spot before thread.mine.facts;
+          after_it = λ behind. settled_after c the_world m.seat m.made m.kept a.command thread.fixed (view c s.words (Answer number)) seen m.spot behind thread.mine.facts;
           gives = λ reply is. gives_settled c the_world m.seat m.kept a.command thread.fixed m.spot m.made reply thread.mine.facts is;
         };
-    fit = λ number a m here. finds_fit number a m here;
+    fit = finds_fit;
   }
 
   -- of a mutator that is about to look for a free region
@@ -170,50 +219,38 @@ module _ (c : Config) (g : Graph) (s : Stage Actor) (h : List Entry) (follows : 
       let thread = thread_of number a m here in
       (subst (λ spot. SpotFacts c the_world m.seat m.made m.kept a.command thread.fixed spot) at thread.mine.facts).1
 
--- each stage that events lead to follows the history of the events
-follows_all : (c : Config) (s : Stage Actor) (g : Graph) → Begins c s g → (events : List (Event Order)) → Follows c g (go (kind c) s events) (history c s events)
-follows_all c s g begins events = follows_run c g s [] events (follows_begins c s g begins)
+module _ (change : Change) (law : IsPause change) (c : Config) (s : Stage Actor) (g : Graph) (begins : Begins c s g) where
+  -- in each stage that events lead to all goes as it should
+  goes_all : (events : List (Event Order)) → Goes c g (go (kind change c) s events) (history change c s events)
+  goes_all events = goes_run change law c g s [] events (goes_begins c s g begins)
 
--- and is sound
-pub every_run : (c : Config) (s : Stage Actor) (g : Graph) → Begins c s g → (events : List (Event Order)) → IsSound c g (go (kind c) s events) (history c s events)
-every_run c s g begins events =
-    sound c g (go (kind c) s events) (history c s events) (follows_all c s g begins events) (history_not_full c s events) begins.no_more
+  -- and it is sound
+  pub every_run : (events : List (Event Order)) → IsSound c g (go (kind change c) s events) (history change c s events)
+  every_run events = sound change law c g (go (kind change c) s events) (history change c s events) (goes_all events) (run_crowded change law c s g begins events)
 
--- so is where a run leads
-pub run_sound : (c : Config) (run : Run c) → IsSound c run.graph (ending c run) (history_in c run)
-run_sound c run = every_run c run.start run.graph run.begins run.events
+  -- a machine that is reached makes an access of the table
+  pub reached_inside : (number : ℕ) (a : Actor) (order : Order) → HasReached (kind change c) s number a → takes_of a.machine order ≡ true → place_of (plan_of c order a.machine) < table_words c
+  reached_inside number a order has takes =
+      (reached_has (kind change c) (λ t. slice_get t.machines number ≡ Some a → place_of (plan_of c order a.machine) < table_words c) s has.stage
+      (λ events here. ((every_run events).fit number a here).inside order takes) has.reached) has.here
+
+  -- a word that a machine finds in some run is fit
+  pub found_fit : (number : ℕ) (a : Actor) (order : Order) (told_it : ℕ) → Finds (kind change c) s number a order told_it → IsFitFor c order told_it a.machine
+  unfolding kind
+  found_fit number a order told_it f =
+      (reached_has (kind change c) (λ t. slice_get t.machines number ≡ Some a → told_it ≡ slice_index t.words (place_of (plan_of c order a.machine)) → IsFitFor c order told_it a.machine) s f.stage
+      (λ events here found. subst (λ n. IsFitFor c order n a.machine) (sym found) (((every_run events).fit number a here).fit order f.takes))
+      f.reached) f.here f.found
+
+  -- a mutator that is about to look for a free region lacks room
+  pub run_lacks_room : (events : List (Event Order)) (number : ℕ) (a : Actor) (m : Mutating)
+      → IsMutator (go (kind change c) s events) number a m → m.spot ≡ Making (Taking LoadFree) → HasLess c (settled c (go (kind change c) s events)) m.seat (words_of m.kept.command)
+  run_lacks_room events = lacks_room change law c g (go (kind change c) s events) (history change c s events) (goes_all events)
+
+-- where a run leads is sound
+pub run_sound : (change : Change) → IsPause change → (c : Config) (run : Run c) → IsSound c run.graph (ending change c run) (history_in change c run)
+run_sound change law c run = every_run change law c run.start run.graph run.begins run.events
 
 -- from the opening on too
-pub every_list : (c : Config) (events : List (Event Order)) → IsSound c (first_graph c) (reached c events) (past c events)
-every_list c events = run_sound c (opening_run c events)
-
--- a machine that is reached makes an access of the table
-pub reached_inside : (c : Config) (s : Stage Actor) (g : Graph) → Begins c s g → (number : ℕ) (a : Actor) → HasReached (kind c) s number a → place_of (plan_of c a.machine) < table_words c
-reached_inside c s g begins number a has =
-    (reached_has (kind c) (λ t. slice_get t.machines number ≡ Some a → place_of (plan_of c a.machine) < table_words c) s has.stage
-    (λ events here. by_role events here a.machine refl) has.reached) has.here
-  where
-    by_role : (events : List (Event Order)) → slice_get (go (kind c) s events).machines number ≡ Some a → (machine : Machine) → a.machine ≡ machine → place_of (plan_of c machine) < table_words c
-    by_role events here (mutating m) is = subst (λ machine. place_of (plan_of c machine) < table_words c) is ((every_run c s g begins events).fit number a m (record { here = here; is = is })).inside
-    by_role events here (helping h) is = omega arith
-    by_role events here (controlling k) is = omega arith
-
--- a word that a machine finds in some run is fit
-pub found_fit : (c : Config) (s : Stage Actor) (g : Graph) → Begins c s g → (number : ℕ) (a : Actor) (order : Order) (told : ℕ) → Finds (kind c) s number a order told → IsFitIn c order told a.machine
-unfolding kind
-found_fit c s g begins number a order told f =
-    (reached_has (kind c) (λ t. slice_get t.machines number ≡ Some a → told ≡ slice_index t.words (place_of (plan_of c a.machine)) → IsFitIn c order told a.machine) s f.stage
-    (λ events here found. by_role events here found a.machine refl)
-    f.reached) f.here f.found
-  where
-    by_role : (events : List (Event Order)) → slice_get (go (kind c) s events).machines number ≡ Some a → told ≡ slice_index (go (kind c) s events).words (place_of (plan_of c a.machine)) → (machine : Machine) → a.machine ≡ machine → IsFitIn c order told machine
-    by_role events here found (mutating m) is =
-        subst (λ n. IsFit c m order n) (sym found)
-        (((every_run c s g begins events).fit number a m (record { here = here; is = is })).fit order (ap (λ machine. takes_of machine order) (sym is) ∙ f.takes))
-    by_role events here found (helping h) is = tt
-    by_role events here found (controlling k) is = tt
-
--- a mutator that is about to look for a free region lacks room
-pub run_lacks_room : (c : Config) (s : Stage Actor) (g : Graph) → Begins c s g → (events : List (Event Order)) (number : ℕ) (a : Actor) (m : Mutating)
-    → IsMutator (go (kind c) s events) number a m → m.spot ≡ Making (Taking LoadFree) → HasLess c (settled c (go (kind c) s events)) m.seat (words_of m.kept.command)
-run_lacks_room c s g begins events = lacks_room c g (go (kind c) s events) (history c s events) (follows_all c s g begins events)
+pub every_list : (change : Change) → IsPause change → (c : Config) (events : List (Event Order)) → IsSound c (first_graph c) (reached change c events) (past change c events)
+every_list change law c events = run_sound change law c (opening_run c events)

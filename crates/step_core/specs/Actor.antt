@@ -1,18 +1,16 @@
 -- The machines of a heap, as its events see them.
-use Rattle.std.specs.Prelude.{ℕ, ◌+◌, Bool, false, List, [], ◌∷◌, Option, Some, None}
+use Rattle.std.specs.Prelude.{ℕ, ◌+◌, Bool, true, List, [], ◌∷◌, Option, Some, None}
 use Rattle.shen_graph.specs.declared.command.Command.{Command}
 use Rattle.shen_graph.specs.declared.command.Reply.{Reply}
 use Rattle.shen_graph.specs.declared.order.Order.{Order}
-use Rattle.shen_graph.specs.declared.order.Order.TheVariants.{Nothing, Begin}
+use Rattle.shen_graph.specs.declared.order.Order.TheVariants.{Nothing, Begin, End}
 use Rattle.shen_graph.specs.History.{Entry}
 use Rattle.mutator.specs.Rows.{Mutating}
+use Rattle.control_steps.specs.declared.spot.ControlSpot.TheVariants.{LookLeft}
+use Rattle.control_steps.specs.Rows.{Controlling}
 
--- What memory keeps of a helper and of the control: whether it has ended. They have nothing to do in a heap that does not
--- collect.
+-- What memory keeps of a helper. It has nothing to do in a heap that only collects in pauses.
 pub record Helping : Type 0 where
-  pub ended : Bool
-
-pub record Controlling : Type 0 where
   pub ended : Bool
 
 -- what memory keeps of a machine, by its role
@@ -28,12 +26,13 @@ pub record Actor : Type 0 where
   pub command : Command
   pub calls : List Entry
 
--- a helper and a control as a heap begins with them
+-- a helper as a heap begins with it
 abbrev pub fresh_helper : Machine
-fresh_helper = helping (record { ended = false })
+fresh_helper = helping (record { ended = true })
 
-abbrev pub fresh_control : Machine
-fresh_control = controlling (record { ended = false })
+-- and a control that has seen this free word
+abbrev pub fresh_control : ℕ → Machine
+fresh_control free = controlling (record { spot = LookLeft; seen = free; image = [] })
 
 -- the entry of a command of a seat, once its reply is settled
 abbrev pub entry_of : ℕ → Command → Reply → Entry
@@ -48,3 +47,4 @@ entries_of seat command (Some reply) = entry_of seat command reply ∷ []
 abbrev pub command_by : Order → Command → Command
 command_by Nothing command = command
 command_by (Begin command) before = command
+command_by End command = command

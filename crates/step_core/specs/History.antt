@@ -1,6 +1,7 @@
 -- The history of a run: the entries that its events settle, in the order of the events.
 use Rattle.std.specs.Prelude.{List, [], ◌∷◌, ◌++◌, Option, Some, None, slice_get, if◌then◌else◌}
 use Rattle.heap_words.specs.declared.config.Config.{Config}
+use Rattle.heap_world.specs.Change.{Change}
 use Rattle.steps_base.specs.Steps.{Stage, Event, act}
 use Rattle.shen_graph.specs.declared.order.Order.{Order}
 use Rattle.shen_graph.specs.History.{Entry}
@@ -17,6 +18,6 @@ unfoldable pub told : Config → Stage Actor → Event Order → List Entry
 told c s e = told_of_machine c s e (slice_get s.machines e.number)
 
 -- the entries that these events settle, from a stage on
-unfoldable pub history : Config → Stage Actor → List (Event Order) → List Entry
-history c s [] = []
-history c s (e ∷ es) = told c s e ++ history c (act (kind c) s e) es
+unfoldable pub history : Change → Config → Stage Actor → List (Event Order) → List Entry
+history change c s [] = []
+history change c s (e ∷ es) = told c s e ++ history change c (act (kind change c) s e) es

@@ -6,6 +6,9 @@ pub mod Settled
 pub mod Machines
 pub mod Threads
 pub mod Own
+pub mod Standing
+pub mod Fit
+pub mod Begun
 pub mod Begins
 pub mod Sound
 pub mod Schedule

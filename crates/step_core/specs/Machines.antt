@@ -1,7 +1,6 @@
 -- What machines do, by their roles: the orders that they take, their accesses, what follows, what they say, and what their
 -- accesses settle. Each function has one clause a role, and no other file of definitions tells the roles apart.
-use Rattle.std.specs.Prelude.{ℕ, ◌≡◌, ◌+◌, ◌<◌, ◌≤◌, Bool, true, false, List, [], ◌++◌, length, Option, Some, None, slice_get, if◌then◌else◌}
-use Rattle.std.specs.Option.{option_map}
+use Rattle.std.specs.Prelude.{ℕ, ◌≡◌, ◌+◌, ◌<◌, ◌≤◌, ◌==◌, Bool, true, false, ◌&&◌, List, [], ◌++◌, length, Option, Some, None, slice_get, slice_index, if◌then◌else◌}
 use Rattle.heap_words.specs.declared.config.Config.{Config}
 use Rattle.heap_words.specs.declared.access.Access.{Access}
 use Rattle.heap_words.specs.declared.access.Took.{Took}
@@ -9,22 +8,31 @@ use Rattle.heap_words.specs.declared.access.Took.TheVariants.{Again}
 use Rattle.heap_words.specs.declared.place.Place.{Place}
 use Rattle.heap_words.specs.declared.place.Place.TheVariants as place
 use Rattle.heap_words.specs.Place.{same_place}
-use Rattle.heap_words.specs.Words.{Pause}
+use Rattle.heap_words.specs.Words.{Word, Pause, Answer, image_start}
+use Rattle.heap_words.specs.Rows.{name_of}
+use Rattle.heap_world.specs.Change.{Change}
 use Rattle.steps_base.specs.Touch.{touch, loads, placed}
 use Rattle.steps_base.specs.Steps.{Kind, Stage}
 use Rattle.shen_graph.specs.declared.command.Command.{Command}
+use Rattle.shen_graph.specs.declared.command.Command.TheVariants.{Gc}
 use Rattle.shen_graph.specs.declared.command.Reply.{Reply}
+use Rattle.shen_graph.specs.declared.command.Reply.TheVariants.{Full}
 use Rattle.shen_graph.specs.declared.order.Order.{Order}
-use Rattle.shen_graph.specs.declared.order.Order.TheVariants.{Nothing, Begin}
+use Rattle.shen_graph.specs.declared.order.Order.TheVariants.{Nothing, Begin, End}
+use Rattle.shen_graph.specs.Order.{is_nothing}
 use Rattle.shen_graph.specs.Graph.{Graph}
 use Rattle.shen_graph.specs.History.{Entry}
 use Rattle.mutator.specs.declared.spot.Spot.{Spot}
-use Rattle.mutator.specs.declared.spot.Spot.TheVariants.{Leave}
+use Rattle.mutator.specs.declared.spot.Spot.TheVariants.{Waiting, Leave}
+use Rattle.mutator.specs.declared.waits.WaitSpot.TheVariants as wait
 use Rattle.mutator.specs.Orders.{is_between_calls, takes_commands, takes_at}
 use Rattle.mutator.specs.Rows.{touch_of, next_of, given_at, answer_at, reply_at, place_at}
 use Rattle.mutator.specs.Told.{told_of}
 use Rattle.mutator.specs.Waits.{WaitsAt}
-use Rattle.mutator.specs.Fit.{IsFit}
+use Rattle.control_steps.specs.declared.spot.ControlSpot.{ControlSpot}
+use Rattle.control_steps.specs.declared.spot.ControlSpot.TheVariants.{LookLeft, StoreWord}
+use Rattle.control_steps.specs.Rows.{control_place, control_access, control_next, control_says, is_gone}
+use Rattle.control_steps.specs.Waits as control
 use Rattle.step_core.specs.Actor.{Machine, mutating, helping, controlling, Actor, entries_of, command_by}
 use Rattle.step_core.specs.Settled.{settled}
 
@@ -32,116 +40,108 @@ use Rattle.step_core.specs.Settled.{settled}
 abbrev pub takes_of : Machine → Order → Bool
 takes_of (mutating m) order = takes_at m.spot m.made order
 takes_of (helping h) order = false
-takes_of (controlling k) order = false
+takes_of (controlling k) order = is_nothing order && (if is_gone k.spot then false else true)
 
--- its next access
-abbrev pub plan_of : Config → Machine → Access
-plan_of c (mutating m) = placed c (touch_of c m)
-plan_of c (helping h) = placed c (touch Pause loads)
-plan_of c (controlling k) = placed c (touch Pause loads)
+-- its next access, under an order
+abbrev pub plan_of : Config → Order → Machine → Access
+plan_of c order (mutating m) = placed c (touch_of c m order)
+plan_of c order (helping h) = placed c (touch Pause loads)
+plan_of c order (controlling k) = control_access c k
 
 -- the place of its next access
-abbrev pub place_in : Machine → Place
-place_in (mutating m) = place_at m.spot
-place_in (helping h) = place.H0
-place_in (controlling k) = place.I0
+abbrev pub place_in : Order → Machine → Place
+place_in order (mutating m) = place_at order m.spot
+place_in order (helping h) = place.H0
+place_in order (controlling k) = control_place k.spot
 
 -- what it is after the access, by the word that it was told
-abbrev pub machine_after : Config → Order → ℕ → Machine → Machine
-machine_after c order got (mutating m) = mutating (next_of c m order got)
-machine_after c order got (helping h) = helping h
-machine_after c order got (controlling k) = controlling k
+abbrev pub machine_after : Change → Config → Order → ℕ → Machine → Machine
+machine_after change c order got (mutating m) = mutating (next_of c m order got)
+machine_after change c order got (helping h) = helping h
+machine_after change c order got (controlling k) = controlling (control_next change c k got)
 
--- what it says of the step that finds this word: nothing where it is idle
+-- what it says of the step that finds this word: nothing where it never makes one
 abbrev pub answer_of : Config → Machine → ℕ → Option Took
 answer_of c (mutating m) got = Some (answer_at c m.kept m.spot got)
 answer_of c (helping h) got = None
-answer_of c (controlling k) got = None
-
--- the reply that its step gives, if it ends a call
-abbrev pub given_in : Machine → Option Reply
-given_in (mutating m) = given_at m.spot
-given_in (helping h) = None
-given_in (controlling k) = None
+answer_of c (controlling k) got = Some (control_says c k got)
 
 -- the calls that its step ends, in a call of this command
 abbrev pub ended_by : Command → Machine → List Entry
 ended_by command (mutating m) = entries_of m.seat command (given_at m.spot)
-ended_by command (helping h) = []
-ended_by command (controlling k) = []
+ended_by command _ = []
+
+-- the command of a machine
+abbrev pub command_at : Option Actor → Command
+command_at None = Gc
+command_at (Some a) = a.command
+
+-- Where a pause writes the answer 1 over none, it is settled that the heap is full for the thread that waits for it.
+abbrev pub told_word : List Actor → Word → (before after : ℕ) → List Entry
+told_word machines (Answer t) before after = entries_of t (command_at (slice_get machines t)) (if (before == 0) && (after == 1) then Some Full else None)
+told_word machines _ before after = []
+
+abbrev pub told_storing : Config → Stage Actor → ControlSpot → List ℕ → List Entry
+told_storing c s (StoreWord index) image = told_word s.machines (name_of c (image_start c + index)) (slice_index s.words (image_start c + index)) (slice_index image index)
+told_storing c s _ image = []
 
 -- what its step settles: entries of any threads
 abbrev pub told_by : Config → Stage Actor → Actor → Order → Machine → List Entry
 told_by c s a order (mutating m) = entries_of m.seat (command_by order a.command) (told_of (settled c s) m)
 told_by c s a order (helping h) = []
-told_by c s a order (controlling k) = []
+told_by c s a order (controlling k) = told_storing c s k.spot k.image
 
--- What it does on its turn, by the command that would follow: in a call it goes on, and between two calls it begins that
--- command. It is idle where there is none.
-abbrev pub order_for : Option Command → Machine → Option Order
-order_for next (mutating m) = if takes_commands m.spot then option_map (λ command. Begin command) next else Some Nothing
-order_for next (helping h) = None
-order_for next (controlling k) = None
+-- what a mutator does between two calls: it begins the command that follows in its script, and ends where there is none
+abbrev pub next_order : Option Command → Order
+next_order None = End
+next_order (Some command) = Begin command
 
--- the same, by its script and the calls that it has ended
+-- What it does on its turn, by its script and the calls that it has ended: in a call it goes on. It is idle where it has ended.
 abbrev pub order_by : List Command → List Entry → Machine → Option Order
-order_by script calls machine = order_for (slice_get script (length calls)) machine
+order_by script calls (mutating m) = if takes_commands m.spot then Some (next_order (slice_get script (length calls))) else (if is_between_calls m.spot then None else Some Nothing)
+order_by script calls (helping h) = None
+order_by script calls (controlling k) = if is_gone k.spot then None else Some Nothing
 
--- whether its next access stands at a place. Machines that have none stand nowhere
-abbrev pub stands_in : Place → Machine → Bool
-stands_in place (mutating m) = same_place (place_at m.spot) place
-stands_in place (helping h) = false
-stands_in place (controlling k) = false
+-- whether its next access, under what it does on its turn, stands at a place. A machine that is idle stands nowhere
+abbrev pub stands_in : Place → Machine → Option Order → Bool
+stands_in place machine None = false
+stands_in place machine (Some order) = same_place (place_in order machine) place
 
 -- the reply of its last call, between two calls
 abbrev pub reply_in : Machine → Option Reply
 reply_in (mutating m) = reply_at m.spot
-reply_in (helping h) = None
-reply_in (controlling k) = None
+reply_in _ = None
 
--- whether it is a mutator between two calls
+-- whether it is a mutator without a call in progress
 abbrev pub is_resting : Machine → Bool
 is_resting (mutating m) = is_between_calls m.spot
-is_resting (helping h) = false
-is_resting (controlling k) = false
+is_resting _ = false
 
--- whether it may be given a command: in a heap that does not collect, any mutator between two calls
+-- whether it may be given a command, or the end: a mutator between two calls that has not ended
 abbrev pub may_begin : Machine → Bool
-may_begin machine = is_resting machine
+may_begin (mutating m) = takes_commands m.spot
+may_begin _ = false
 
 -- where its step that finds this word says that it waits
 abbrev pub WaitsIn : Config → Machine → ℕ → Type 0
-WaitsIn c (mutating m) got = WaitsAt c m.spot got
+WaitsIn c (mutating m) got = WaitsAt m.spot got
 WaitsIn c (helping h) got = ⊥
-WaitsIn c (controlling k) got = ⊥
-
--- whether it can go on from a word that it finds
-abbrev pub IsFitIn : Config → Order → ℕ → Machine → Type 0
-IsFitIn c order got (mutating m) = IsFit c m order got
-IsFitIn c order got (helping h) = Unit {0}
-IsFitIn c order got (controlling k) = Unit {0}
+WaitsIn c (controlling k) got = control.WaitsAt c k got
 
 -- how many objects it has made
 abbrev pub made_of_machine : Machine → ℕ
 made_of_machine (mutating m) = m.made
-made_of_machine (helping h) = 0
-made_of_machine (controlling k) = 0
+made_of_machine _ = 0
 
--- how many replies are at hand, of calls that have done their work: 1 where a mutator leaves, else none
+-- how many replies are at hand, of calls that have done their work: 1 where a mutator leaves or clears its answer, else none
 abbrev pub at_hand : Spot → ℕ
 at_hand (Leave reply) = 1
+at_hand (Waiting (wait.ClearAnswer reply)) = 1
 at_hand _ = 0
 
 abbrev pub at_hand_of : Machine → ℕ
 at_hand_of (mutating m) = at_hand m.spot
-at_hand_of (helping h) = 0
-at_hand_of (controlling k) = 0
-
--- whether it is a mutator
-abbrev pub is_mutating : Machine → Bool
-is_mutating (mutating m) = true
-is_mutating (helping h) = false
-is_mutating (controlling k) = false
+at_hand_of _ = 0
 
 -- which numbers have machines of the role: the mutators come first, then the helpers, then the control
 abbrev pub HasNumber : Config → ℕ → Machine → Type 0
@@ -149,11 +149,12 @@ HasNumber c number (mutating m) = (m.seat ≡ number) × (number < c.mutators)
 HasNumber c number (helping h) = (c.mutators ≤ number) × (number < c.mutators + c.helpers)
 HasNumber c number (controlling k) = number ≡ c.mutators + c.helpers
 
--- it is idle, and the graph has as many objects of its thread as it has made
+-- It is idle, and may go on: a mutator takes commands, and the graph has as many objects of its thread as it has made; the
+-- control is in no pause.
 abbrev pub IsIdle : Graph → ℕ → Machine → Type 0
-IsIdle g number (mutating m) = (g.count (number + 1) ≡ m.made) × (is_between_calls m.spot ≡ true)
+IsIdle g number (mutating m) = (g.count (number + 1) ≡ m.made) × (takes_commands m.spot ≡ true)
 IsIdle g number (helping h) = Unit {0}
-IsIdle g number (controlling k) = Unit {0}
+IsIdle g number (controlling k) = (k.spot ≡ LookLeft) × (k.image ≡ [])
 
 -- whether a step says that it waits
 abbrev pub is_again : Took → Bool
@@ -165,17 +166,18 @@ again_by None = false
 again_by (Some said) = is_again said
 
 -- an actor after its step
-abbrev pub took_of : Config → Actor → Order → ℕ → Machine → Actor
-took_of c a order got machine = record {
-  machine = machine_after c order got machine;
+abbrev pub took_of : Change → Config → Actor → Order → ℕ → Machine → Actor
+took_of change c a order got machine = record {
+  machine = machine_after change c order got machine;
   command = command_by order a.command;
   calls = a.calls ++ ended_by a.command machine;
 }
 
--- the machines of a heap as a kind: an order is taken, an access made, and its word taken, by the rows of the machine
-unfoldable pub kind : Config → Kind Actor Order
-kind c = record {
+-- The machines of a heap as a kind: an order is taken, an access made, and its word taken, by the rows of the machine. What a
+-- pause makes of the image is a function that is handed in.
+unfoldable pub kind : Change → Config → Kind Actor Order
+kind change c = record {
   takes = λ a order. takes_of a.machine order;
-  plan = λ a order. plan_of c a.machine;
-  took = λ a order got. took_of c a order got a.machine;
+  plan = λ a order. plan_of c order a.machine;
+  took = λ a order got. took_of change c a order got a.machine;
 }

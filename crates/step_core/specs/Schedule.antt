@@ -13,6 +13,8 @@ use Rattle.steps_base.specs.Steps.{Stage, Event, act}
 use Rattle.shen_graph.specs.declared.command.Command.{Command}
 use Rattle.shen_graph.specs.declared.order.Order.{Order}
 use Rattle.step_core.specs.Actor.{Machine, Actor}
+use Rattle.heap_world.specs.Change.{Change}
+use Rattle.step_core.specs.Settled.{control_number}
 use Rattle.step_core.specs.Machines.{plan_of, order_by, answer_of, again_by, stands_in, kind}
 
 -- the commands of each mutator
@@ -34,24 +36,25 @@ turn_of scripts number (Some a) = option_map (λ order. record { number = number
 abbrev pub turn : Scripts → Stage Actor → ℕ → Option (Event Order)
 turn scripts s number = turn_of scripts number (slice_get s.machines number)
 
-abbrev pub waits_in : Stage Actor → Config → Machine → Bool
-waits_in s c machine = again_by (answer_of c machine (slice_index s.words (place_of (plan_of c machine))))
+abbrev pub waits_in : Stage Actor → Config → Order → Machine → Bool
+waits_in s c order machine = again_by (answer_of c machine (slice_index s.words (place_of (plan_of c order machine))))
 
-abbrev pub waits_of : Config → Stage Actor → Option Actor → Bool
-waits_of c s None = false
-waits_of c s (Some a) = waits_in s c a.machine
+abbrev pub waits_of : Config → Stage Actor → Order → Option Actor → Bool
+waits_of c s order None = false
+waits_of c s order (Some a) = waits_in s c order a.machine
 
--- whether the next step of a machine says that it waits
-abbrev pub waits : Config → Stage Actor → ℕ → Bool
-waits c s number = waits_of c s (slice_get s.machines number)
+-- whether the event of a machine says that it waits
+abbrev pub waits : Config → Stage Actor → Event Order → Bool
+waits c s e = waits_of c s e.order (slice_get s.machines e.number)
 
-abbrev pub stands_of : Place → Option Actor → Bool
-stands_of place None = false
-stands_of place (Some a) = stands_in place a.machine
+abbrev pub stands_of : Scripts → ℕ → Place → Option Actor → Bool
+stands_of scripts number place None = false
+stands_of scripts number place (Some a) = stands_in place a.machine (order_on_turn scripts number a a.machine)
 
--- whether the next access of a machine stands at a place
-abbrev pub stands_at : Stage Actor → ℕ → Place → Bool
-stands_at s number place = stands_of place (slice_get s.machines number)
+-- Whether the next access of a machine stands at a place. Between two calls that of a mutator is the first one of the command
+-- that follows in its script, or that of its end.
+abbrev pub stands_at : Scripts → Stage Actor → ℕ → Place → Bool
+stands_at scripts s number place = stands_of scripts number place (slice_get s.machines number)
 
 abbrev pub given_of : Option Actor → ℕ
 given_of None = 0
@@ -73,10 +76,6 @@ task_of (Steps number count) = steps number count
 task_of (Until number place) = until number place
 task_of (Replies number count) = replies number count
 
--- the seat of the control
-abbrev pub control_seat : Config → ℕ
-control_seat c = c.mutators + c.helpers
-
 -- an event, and what is to be done after it
 pub record Move : Type 0 where
   pub event : Event Order
@@ -92,15 +91,19 @@ abbrev pub control_after : Bool → List Task
 control_after true = control ∷ []
 control_after false = []
 
+abbrev pub waits_then : Config → Stage Actor → Option (Event Order) → Bool
+waits_then c s None = false
+waits_then c s (Some e) = waits c s e
+
 -- the next event of a task: none where the task is done, or its machine idle
 abbrev pub move_of : Config → Scripts → Stage Actor → Task → Option Move
 move_of c scripts s (steps number zero) = None
 move_of c scripts s (steps number (suc count)) = moves (turn scripts s number) (steps number count ∷ [])
-move_of c scripts s (until number place) = if stands_at s number place then None else moves (turn scripts s number) (until number place ∷ [])
+move_of c scripts s (until number place) = if stands_at scripts s number place then None else moves (turn scripts s number) (until number place ∷ [])
 move_of c scripts s (replies number count) =
     if nat_le count (given s number) then None
-    else moves (turn scripts s number) (control_after (waits c s number) ++ replies number count ∷ [])
-move_of c scripts s control = moves (turn scripts s (control_seat c)) []
+    else moves (turn scripts s number) (control_after (waits_then c s (turn scripts s number)) ++ replies number count ∷ [])
+move_of c scripts s control = moves (turn scripts s (control_number c)) []
 
 abbrev pub or_else : Option (Event Order) → Option (Event Order) → Option (Event Order)
 or_else None later = later
@@ -146,14 +149,14 @@ and_then None more = []
 and_then (Some n) more = n.event ∷ more n
 
 -- at most so many events of an agenda
-unfoldable pub scheduled : Config → Scripts → ℕ → Agenda → Stage Actor → List (Event Order)
-scheduled c scripts zero agenda s = []
-scheduled c scripts (suc n) agenda s = and_then (next c scripts s agenda) (λ x. scheduled c scripts n x.agenda (act (kind c) s x.event))
+unfoldable pub scheduled : Change → Config → Scripts → ℕ → Agenda → Stage Actor → List (Event Order)
+scheduled change c scripts zero agenda s = []
+scheduled change c scripts (suc n) agenda s = and_then (next c scripts s agenda) (λ x. scheduled change c scripts n x.agenda (act (kind change c) s x.event))
 
 -- the items of a schedule, and then rounds
 abbrev pub agenda_of : List Item → Agenda
 agenda_of items = record { tasks = map task_of items; from = 0 }
 
 -- The events of a schedule from a stage on, cut after so many.
-abbrev pub schedule_events : Config → Scripts → List Item → ℕ → Stage Actor → List (Event Order)
-schedule_events c scripts items limit s = scheduled c scripts limit (agenda_of items) s
+abbrev pub schedule_events : Change → Config → Scripts → List Item → ℕ → Stage Actor → List (Event Order)
+schedule_events change c scripts items limit s = scheduled change c scripts limit (agenda_of items) s

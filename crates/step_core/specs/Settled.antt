@@ -1,10 +1,39 @@
 -- The words of a stage that count.
-use Rattle.std.specs.Prelude.{ℕ}
+use Rattle.std.specs.Prelude.{ℕ, ◌+◌, List, Option, Some, None, slice_get, if◌then◌else◌}
 use Rattle.heap_words.specs.declared.config.Config.{Config}
-use Rattle.heap_words.specs.Words.{Word, view}
+use Rattle.heap_words.specs.Words.{Word, view, is_image}
+use Rattle.heap_world.specs.Change.{image_view}
 use Rattle.steps_base.specs.Steps.{Stage}
-use Rattle.step_core.specs.Actor.{Actor}
+use Rattle.control_steps.specs.declared.spot.ControlSpot.{ControlSpot}
+use Rattle.control_steps.specs.declared.spot.ControlSpot.TheVariants.{StoreWord}
+use Rattle.step_core.specs.Actor.{Machine, controlling, Actor}
 
--- The words that count, by their names. A pause changes them all at once, when it has computed the new ones.
+-- a table in which the words of an image count as the image has them
+abbrev pub mixed : Config → List ℕ → List ℕ → Word → ℕ
+mixed c words image word = if is_image word then image_view c image word else view c words word
+
+-- the image that counts, if one does: while the control writes it back
+abbrev pub stored_image : ControlSpot → List ℕ → Option (List ℕ)
+stored_image (StoreWord index) image = Some image
+stored_image _ image = None
+
+abbrev pub image_in : Machine → Option (List ℕ)
+image_in (controlling k) = stored_image k.spot k.image
+image_in _ = None
+
+abbrev pub image_of : Option Actor → Option (List ℕ)
+image_of None = None
+image_of (Some a) = image_in a.machine
+
+abbrev pub settled_by : Config → List ℕ → Option (List ℕ) → Word → ℕ
+settled_by c words None = view c words
+settled_by c words (Some image) = mixed c words image
+
+-- The number of the control.
+abbrev pub control_number : Config → ℕ
+control_number c = c.mutators + c.helpers
+
+-- The words that count, by their names. A pause changes them all at once, when it has computed the new ones: from then on, until
+-- it has written all of them, the words of its image count and not those of the table.
 abbrev pub settled : Config → Stage Actor → Word → ℕ
-settled c s = view c s.words
+settled c s = settled_by c s.words (image_of (slice_get s.machines (control_number c)))

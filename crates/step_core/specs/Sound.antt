@@ -1,26 +1,34 @@
 -- The theorem over every list of events: what holds of each stage that events lead to, and of its history.
-use Rattle.std.specs.Prelude.{ℕ, ◌≡◌, ◌≢◌, ◌+◌, ◌<◌, Bool, true, false, List, ◌++◌, length, Option, Some, None, slice_get, slice_index, All}
+use Rattle.std.specs.Prelude.{ℕ, ◌≡◌, ◌≢◌, ◌+◌, ◌<◌, ◌==◌, Bool, true, false, List, ◌++◌, length, Option, Some, None, slice_get, slice_index, All}
 use Rattle.heap_words.specs.declared.config.Config.{Config}
 use Rattle.heap_words.specs.Access.{place_of}
 use Rattle.heap_words.specs.Ranges.{seat_count}
-use Rattle.heap_words.specs.Words.{table_words}
+use Rattle.heap_words.specs.Words.{Answer, view, table_words}
 use Rattle.steps_base.specs.Steps.{Stage}
+use Rattle.shen_graph.specs.declared.command.Command.{Command}
 use Rattle.shen_graph.specs.declared.command.Reply.{Reply}
 use Rattle.shen_graph.specs.declared.order.Order.{Order}
 use Rattle.shen_graph.specs.Graph.{Graph}
-use Rattle.shen_graph.specs.History.{Entry, after, EachIsLegal, IsWithoutFull, of_thread}
+use Rattle.shen_graph.specs.History.{Entry, after, EachIsLegal, of_thread}
+use Rattle.shen_graph.specs.Crowd.{AreCrowded}
 use Rattle.mutator.specs.declared.spot.Spot.{Spot}
-use Rattle.mutator.specs.declared.spot.Spot.TheVariants.{Showing, Leave}
-use Rattle.mutator.specs.Orders.{is_between_calls, takes_at}
+use Rattle.mutator.specs.declared.spot.Spot.TheVariants.{Showing, Leave, Entering, Waiting}
+use Rattle.mutator.specs.declared.spot.Entered.TheVariants.{Waited}
+use Rattle.mutator.specs.declared.waits.WaitSpot.{WaitSpot}
+use Rattle.mutator.specs.declared.waits.WaitSpot.TheVariants as wait
+use Rattle.mutator.specs.Commands.{refs_of, nums_of}
+use Rattle.mutator.specs.Orders.{is_between_calls}
 use Rattle.mutator.specs.Rows.{Mutating, given_at}
-use Rattle.mutator.specs.Fit.{IsReady, IsFit}
-use Rattle.heap_world.specs.World.{World, Plot, hand, Shared}
+use Rattle.heap_world.specs.World.{World, Plot, hand, promised, Shared}
+use Rattle.heap_world.specs.Asking.{Asking, asks, given, IsAsked}
+use Rattle.heap_world.specs.Roots.{HasNoMore}
 use Rattle.step_core.specs.Actor.{mutating, Actor, entries_of}
-use Rattle.step_core.specs.Machines.{plan_of, HasNumber}
+use Rattle.step_core.specs.Machines.{takes_of, plan_of, HasNumber}
+use Rattle.step_core.specs.Fit.{IsFitFor}
 use Rattle.step_core.specs.Settled.{settled}
 use Rattle.step_core.specs.Own.{HasItsOwn}
+use Rattle.step_core.specs.Begun.{begun}
 use Rattle.step_core.specs.Threads.{IsSettled}
-use Rattle.heap_world.specs.Roots.{HasNoMore}
 
 -- the world of a stage: the words that count, a way to divide the regions, the seats that have one, and a graph
 abbrev pub world_of : Config → Stage Actor → Plot → (ℕ → Option ℕ) → Graph → World
@@ -46,36 +54,65 @@ pub record IsOfHeap (c : Config) (s : Stage Actor) : Type 0 where
   pub mutators : (number : ℕ) → number < c.mutators → SomeMutator s number
   pub numbers : (number : ℕ) (a : Actor) (m : Mutating) → IsMutator s number a m → (m.seat ≡ number) × (number < c.mutators)
 
--- Words and machines stand for a graph: there is a way to divide the regions into objects of that graph and words in
--- hand, such that room in hand is a mutator's, and each mutator has in its words what its thread has in the graph.
+-- whether what a mutator asked for is done with, and it is about to clear its answer
+abbrev pub is_clearing : Spot → Bool
+is_clearing (Waiting (wait.ClearAnswer reply)) = true
+is_clearing _ = false
+
+-- what is asked for, or was given, is the object of the command
+abbrev pub IsOfCommand : Command → Asking → Type 0
+IsOfCommand command (asks refs nums) = (refs_of command ≡ refs) × (nums_of command ≡ nums)
+IsOfCommand command (given refs nums) = (refs_of command ≡ refs) × (nums_of command ≡ nums)
+IsOfCommand command _ = Unit {0}
+
+-- what a mutator has asked for stands in the words of its requests and answers
+pub record HasAsked (w : World) (command : Command) (m : Mutating) : Type 0 where
+  pub asking : Asking
+  pub is : IsAsked w.memory w.block w.graph.count m.seat asking
+  pub of_command : IsOfCommand command asking
+
+-- Words and machines stand for a graph: there is a way to divide the regions into objects of that graph, words in hand and
+-- objects that were made for who waits, such that each mutator has in its words what its thread has in the graph and what it
+-- has asked for.
 pub record StandsFor (c : Config) (s : Stage Actor) (g : Graph) : Type 0 where
   pub block : Plot
   pub owner : ℕ → Option ℕ
   pub shared : Shared c (world_of c s block owner g)
   pub in_hand : (a seat words : ℕ) → block a ≡ Some (hand seat words) → seat < c.mutators
+  pub promised_to : (a seat words : ℕ) → block a ≡ Some (promised seat words) → seat < c.mutators
   pub mutators : (number : ℕ) (a : Actor) (m : Mutating) → IsMutator s number a m → HasItsOwn (world_of c s block owner g) m
+  pub asked : (number : ℕ) (a : Actor) (m : Mutating) → IsMutator s number a m → is_clearing m.spot ≡ false → HasAsked (world_of c s block owner g) a.command m
 
--- whether the reply of the call in progress is settled: what the call has found is on its way into a root, or it leaves
-abbrev pub has_settled : Spot → Bool
-has_settled (Showing value at) = true
-has_settled (Leave reply) = true
-has_settled _ = false
+-- Whether the reply of the call in progress is settled: what the call has found is on its way into a root, or it leaves. Of who
+-- waits it is where the answer in the table says that the heap is full.
+abbrev pub has_waited : ℕ → WaitSpot → Bool
+has_waited answer wait.Poll = answer == 1
+has_waited answer wait.LoadAnswer = answer == 1
+has_waited answer (wait.ClearAnswer reply) = true
+has_waited answer _ = false
+
+abbrev pub has_settled : ℕ → Spot → Bool
+has_settled answer (Showing value at) = true
+has_settled answer (Leave reply) = true
+has_settled answer (Entering at Waited) = answer == 1
+has_settled answer (Waiting at) = has_waited answer at
+has_settled answer _ = false
 
 -- The entries of a mutator in the history are the calls that it has ended and, where the reply of its call in progress is
 -- settled, one more, of that call. Between two calls there is no more, and the reply that ends a call is the settled one.
-pub record AreCalls (entries : List Entry) (number : ℕ) (a : Actor) (m : Mutating) : Type 0 where
+-- `answer` is the mutator's answer word in the table.
+pub record AreCalls (answer : ℕ) (entries : List Entry) (number : ℕ) (a : Actor) (m : Mutating) : Type 0 where
   pub fixed : Option Reply
   pub entries_are : entries ≡ a.calls ++ entries_of number a.command fixed
   pub between_calls : is_between_calls m.spot ≡ true → fixed ≡ None
-  pub before_it : has_settled m.spot ≡ false → fixed ≡ None
-  pub after_it : has_settled m.spot ≡ true → fixed ≢ None
+  pub before_it : has_settled answer m.spot ≡ false → fixed ≡ None
+  pub after_it : has_settled answer m.spot ≡ true → fixed ≢ None
   pub gives : (reply : Reply) → given_at m.spot ≡ Some reply → fixed ≡ Some reply
 
--- a mutator's next access is of a word of the table, and the word that it finds there is fit
-pub record FindsFit (c : Config) (s : Stage Actor) (a : Actor) (m : Mutating) : Type 0 where
-  pub ready : IsReady c m
-  pub inside : place_of (plan_of c a.machine) < table_words c
-  pub fit : (order : Order) → takes_at m.spot m.made order ≡ true → IsFit c m order (slice_index s.words (place_of (plan_of c a.machine)))
+-- a machine's next access is of a word of the table, and the word that it finds there is fit
+pub record FindsFit (c : Config) (s : Stage Actor) (a : Actor) : Type 0 where
+  pub inside : (order : Order) → takes_of a.machine order ≡ true → place_of (plan_of c order a.machine) < table_words c
+  pub fit : (order : Order) → takes_of a.machine order ≡ true → IsFitFor c order (slice_index s.words (place_of (plan_of c order a.machine))) a.machine
 
 -- The theorem, of a stage to which events lead from one that begins a graph, and of the history of the events.
 pub record IsSound (c : Config) (g : Graph) (s : Stage Actor) (past : List Entry) : Type 0 where
@@ -83,13 +120,13 @@ pub record IsSound (c : Config) (g : Graph) (s : Stage Actor) (past : List Entry
   pub of_heap : IsOfHeap c s
   -- words and machines stand for the graph after the history
   pub stands : StandsFor c s (after g past)
-  -- the history is legal, and no allocation was refused
+  -- the history is legal, and who was refused was crowded out by live objects and the other threads' allocations
   pub legal : EachIsLegal g past
-  pub without_full : IsWithoutFull past
+  pub crowded : AreCrowded c.regions c.region_words g (begun c s) past
   -- each entry is of a thread of the heap, and no thread has more roots than its 16
   pub entries : All (IsSettled c.mutators) past
   pub no_more : HasNoMore c.mutators (after g past)
   -- the entries of each mutator are its calls, and one more where the call in progress is settled
-  pub threads : (number : ℕ) (a : Actor) (m : Mutating) → IsMutator s number a m → AreCalls (of_thread past (number + 1)) number a m
-  -- each mutator finds a fit word
-  pub fit : (number : ℕ) (a : Actor) (m : Mutating) → IsMutator s number a m → FindsFit c s a m
+  pub threads : (number : ℕ) (a : Actor) (m : Mutating) → IsMutator s number a m → AreCalls (view c s.words (Answer number)) (of_thread past (number + 1)) number a m
+  -- each machine finds a fit word
+  pub fit : (number : ℕ) (a : Actor) → slice_get s.machines number ≡ Some a → FindsFit c s a

@@ -1,7 +1,8 @@
 -- What one machine knows of a world, and what each step of a place owes.
-use Rattle.std.specs.Prelude.{ℕ, ◌≡◌, ◌≢◌, ◌⊎◌, ◌+◌, ◌<◌, ◌≤◌, true, length, Option, Some, None}
+use Rattle.std.specs.Prelude.{ℕ, ◌≡◌, ◌≢◌, ◌⊎◌, ◌+◌, ◌<◌, ◌≤◌, Bool, true, false, length, Option, Some, None}
 use Rattle.heap_words.specs.declared.config.Config.{Config}
-use Rattle.heap_words.specs.Words.{Heap}
+use Rattle.heap_words.specs.Encoding.{fresh_word}
+use Rattle.heap_words.specs.Words.{Heap, Wait, Answer}
 use Rattle.steps_base.specs.Touch.{touched}
 use Rattle.shen_graph.specs.declared.name.Name.{Name}
 use Rattle.shen_graph.specs.declared.command.Command.{Command}
@@ -16,7 +17,9 @@ use Rattle.shen_graph.specs.declared.order.Order.{Order}
 use Rattle.shen_graph.specs.declared.order.Order.TheVariants.{Nothing}
 use Rattle.mutator.specs.declared.spot.Kept.{Kept}
 use Rattle.mutator.specs.declared.spot.Spot.{Spot}
-use Rattle.mutator.specs.declared.spot.Spot.TheVariants.{Rest, Ended, LoadSet, Loading, OnField, OnNumber, Showing, StoreRoot, Making, AskCycle, Leave}
+use Rattle.mutator.specs.declared.spot.Spot.TheVariants.{Rest, Ended, Entering, LoadPhase, LoadSet, Loading, OnField, OnNumber, Showing, StoreRoot, Making, AskCycle, Waiting, Leave, Gone}
+use Rattle.mutator.specs.declared.spot.Entered.{Entered}
+use Rattle.mutator.specs.declared.spot.Entered.TheVariants.{Call, Waited}
 use Rattle.mutator.specs.declared.loads.LoadSpot.{LoadSpot}
 use Rattle.mutator.specs.declared.loads.LoadSpot.TheVariants as load
 use Rattle.mutator.specs.declared.fields.FieldSpot.{FieldSpot}
@@ -27,14 +30,18 @@ use Rattle.mutator.specs.declared.shows.ShowSpot.{ShowSpot}
 use Rattle.mutator.specs.declared.shows.ShowSpot.TheVariants as show
 use Rattle.mutator.specs.declared.makes.MakeSpot.{MakeSpot}
 use Rattle.mutator.specs.declared.makes.MakeSpot.TheVariants as make
-use Rattle.mutator.specs.Orders.{takes_at, is_next}
+use Rattle.mutator.specs.declared.waits.WaitSpot.{WaitSpot}
+use Rattle.mutator.specs.declared.waits.WaitSpot.TheVariants as wait
+use Rattle.mutator.specs.Orders.{is_waiting, takes_at, is_next}
 use Rattle.mutator.specs.Commands.{roots_of, root_of, dst_of, index_of, number_of, refs_of, nums_of, is_on_object}
-use Rattle.mutator.specs.Rows.{Mutating, words_of, touch_of, next_of, given_at, fresh_word}
+use Rattle.mutator.specs.Rows.{Mutating, words_of, touch_of, next_of, given_at}
 use Rattle.mutator.specs.Told.{told_of}
 use Rattle.mutator.specs.Fit.{IsReady}
 use Rattle.step_core.specs.Actor.{entry_of, command_by}
 use Rattle.step_core.specs.Own.{root_now, IsInHand}
-use Rattle.heap_world.specs.World.{World, hand, name_at, Points, Target, Shared}
+use Rattle.heap_world.specs.World.{World, Plot, hand, name_at, Points, Target, Shared}
+use Rattle.heap_world.specs.Asking as asking
+use Rattle.heap_world.specs.Asking.{Asking, HasNoPromise, IsAsked}
 use Rattle.heap_world.specs.Rely.{Rely}
 
 -- A word is that of a root which the command loads: it stands for the root's reference. Of a root that the command does
@@ -149,6 +156,38 @@ pub record IsFilling (w : World) (seat made refs nums address done : ℕ) : Type
   pub within : done ≤ 3 + refs + nums
   pub stored : (k : ℕ) → k < done → w.memory (Heap (address + k)) ≡ fresh_word seat made refs nums k
 
+-- the command makes an object for which there was no room, and the history has no reply, or that the heap is full
+pub record IsRefused (command : Command) (fixed : Option Reply) : Type 0 where
+  pub dst : ℕ
+  pub refs : ℕ
+  pub nums : ℕ
+  pub is : command ≡ New dst refs nums
+  pub settled : (fixed ≡ None) ⊎ (fixed ≡ Some reply.Full)
+
+-- and the history has that the heap is full
+pub record IsFull (command : Command) (fixed : Option Reply) : Type 0 where
+  pub dst : ℕ
+  pub refs : ℕ
+  pub nums : ℕ
+  pub is : command ≡ New dst refs nums
+  pub settled : fixed ≡ Some reply.Full
+
+-- the command makes an object, and the mutator has asked so for it
+abbrev pub IsAsking : World → ℕ → ℕ → Command → Command → Option Reply → Asking → Type 0
+IsAsking w seat made k command fixed what = IsMaking made command fixed (dst_of k) (refs_of k) (nums_of k) × IsAsked w.memory w.block w.graph.count seat what
+
+-- Where a mutator polls, it asks for its object, was given it, or was refused it. The words that count may say so before the
+-- word of the table does that it polls: then the history does not have yet that the heap is full.
+abbrev pub IsPolling : World → ℕ → ℕ → Command → Command → Option Reply → Type 0
+IsPolling w seat made k command fixed =
+    IsAsking w seat made k command fixed (asking.asks (refs_of k) (nums_of k))
+    ⊎ (IsAsking w seat made k command fixed (asking.given (refs_of k) (nums_of k)) ⊎ (IsRefused command fixed × IsAsked w.memory w.block w.graph.count seat asking.refused))
+
+-- and once it has found that it is answered, it was given its object, or the heap is full
+abbrev pub IsAnswered : World → ℕ → ℕ → Command → Command → Option Reply → Type 0
+IsAnswered w seat made k command fixed =
+    IsAsking w seat made k command fixed (asking.given (refs_of k) (nums_of k)) ⊎ (IsFull command fixed × IsAsked w.memory w.block w.graph.count seat asking.refused)
+
 -- What holds in each part of a call of this command, of which the mutator keeps k. `fixed` is the reply that the history has
 -- for the call, once it is settled.
 abbrev pub LoadFacts : World → ℕ → ℕ → Command → Command → Option Reply → LoadSpot → Type 0
@@ -179,10 +218,26 @@ MakeFacts c w seat made k command fixed (make.StoreWord address done) =
 MakeFacts c w seat made k command fixed (make.StoreRoot address) =
     IsMaking made command fixed (dst_of k) (refs_of k) (nums_of k) × IsFilling w seat made (refs_of k) (nums_of k) address (words_of k)
 
+abbrev pub EnterFacts : World → ℕ → ℕ → Command → Command → Option Reply → Entered → Type 0
+EnterFacts w seat made k command fixed Call = IsBegun made command fixed k
+EnterFacts w seat made k command fixed Waited = IsAnswered w seat made k command fixed
+
+abbrev pub WaitFacts : World → ℕ → ℕ → Command → Command → Option Reply → WaitSpot → Type 0
+WaitFacts w seat made k command fixed wait.StoreRequest = IsAsking w seat made k command fixed asking.nothing
+WaitFacts w seat made k command fixed wait.AskRoom = IsAsking w seat made k command fixed (asking.asks (refs_of k) (nums_of k))
+WaitFacts w seat made k command fixed wait.StepOut = IsAsking w seat made k command fixed (asking.asks (refs_of k) (nums_of k))
+WaitFacts w seat made k command fixed wait.Poll = IsPolling w seat made k command fixed
+WaitFacts w seat made k command fixed wait.LoadAnswer = IsAnswered w seat made k command fixed
+WaitFacts w seat made k command fixed (wait.StoreRoot address) =
+    IsAsking w seat made k command fixed (asking.given (refs_of k) (nums_of k)) × (w.memory (Answer seat) ≡ address)
+WaitFacts w seat made k command fixed (wait.ClearAnswer reply) = (fixed ≡ Some reply) × (w.memory (Wait seat) ≡ 0) × HasNoPromise w.block seat
+
 -- and at each spot
 abbrev pub SpotFacts : Config → World → ℕ → ℕ → Kept → Command → Option Reply → Spot → Type 0
 SpotFacts c w seat made kept command fixed Rest = fixed ≡ None
 SpotFacts c w seat made kept command fixed (Ended reply) = fixed ≡ None
+SpotFacts c w seat made kept command fixed (Entering at next) = EnterFacts w seat made kept.command command fixed next
+SpotFacts c w seat made kept command fixed LoadPhase = IsBegun made command fixed kept.command
 SpotFacts c w seat made kept command fixed LoadSet = IsBegun made command fixed kept.command
 SpotFacts c w seat made kept command fixed (Loading at) = LoadFacts w seat made kept.command command fixed at
 SpotFacts c w seat made kept command fixed (OnField object at) = FieldFacts w seat kept.command command fixed object at
@@ -192,16 +247,24 @@ SpotFacts c w seat made kept command fixed (StoreRoot value) =
     (fixed ≡ None) × (dst_of kept.command < 16) × (IsCopy w seat command (dst_of kept.command) value ⊎ IsDrop command (dst_of kept.command) value)
 SpotFacts c w seat made kept command fixed (Making at) = MakeFacts c w seat made kept.command command fixed at
 SpotFacts c w seat made kept command fixed AskCycle = (fixed ≡ None) × (command ≡ Gc)
+SpotFacts c w seat made kept command fixed (Waiting at) = WaitFacts w seat made kept.command command fixed at
 SpotFacts c w seat made kept command fixed (Leave reply) = fixed ≡ Some reply
+SpotFacts c w seat made kept command fixed Gone = fixed ≡ None
 
--- The facts of a seat that all places share, over the words and numbers that they read: it is a mutator's, and it has made
--- as many objects as the graph says.
-pub record IsSeated (mutators seat count made : ℕ) : Type 0 where
+-- The facts of a seat that all places share, over the words and numbers that they read: it is a mutator's, it has made as many
+-- objects as the graph says, and while it does not wait for an object it has asked for none, and none is promised to it.
+pub record IsSeated (mutators seat count made : ℕ) (waiting : Bool) (wait answer : ℕ) (block : Plot) : Type 0 where
   pub below : seat < mutators
   pub counted : count ≡ made
+  pub unasked : waiting ≡ false → (wait ≡ 0) × (answer ≡ 0) × HasNoPromise block seat
 
+-- those of a seat in a world, by the objects that its mutator has made and whether it waits
+abbrev pub IsSeatedIn : Config → World → ℕ → ℕ → Bool → Type 0
+IsSeatedIn c w seat made waiting = IsSeated c.mutators seat (w.graph.count (seat + 1)) made waiting (w.memory (Wait seat)) (w.memory (Answer seat)) w.block
+
+-- and those of a mutator
 abbrev pub Seated : Config → World → Mutating → Type 0
-Seated c w m = IsSeated c.mutators m.seat (w.graph.count (m.seat + 1)) m.made
+Seated c w m = IsSeatedIn c w m.seat m.made (is_waiting m.spot)
 
 -- what a mutator counts on
 pub record Mine (c : Config) (w : World) (m : Mutating) (command : Command) (fixed : Option Reply) : Type 0 where
@@ -232,12 +295,12 @@ fixed_by fixed None None = fixed
 -- mutator counts on from here, and what the others rely on.
 pub record Stepped (c : Config) (u : World) (m : Mutating) (command : Command) (order : Order) (fixed : Option Reply) : Type 0 where
   pub world : World
-  pub memory : world.memory ≡ touched u.memory (touch_of c m)
+  pub memory : world.memory ≡ touched u.memory (touch_of c m order)
   pub graph : world.graph ≡ graph_by u.graph m.seat (command_by order command) (told_of u.memory m)
   pub legal : LegalBy u.graph m.seat (command_by order command) (told_of u.memory m)
   pub settles : (reply : Reply) → told_of u.memory m ≡ Some reply → (fixed ≡ None) × (given_at m.spot ≡ None)
   pub shared : Shared c world
-  pub mine : Mine c world (next_of c m order (u.memory (touch_of c m).word)) (command_by order command) (fixed_by fixed (told_of u.memory m) (given_at m.spot))
+  pub mine : Mine c world (next_of c m order (u.memory (touch_of c m order).word)) (command_by order command) (fixed_by fixed (told_of u.memory m) (given_at m.spot))
   pub others : (seat : ℕ) → seat ≢ m.seat → Rely seat u world
 
 -- What is proved of each spot: from the shared facts and the mutator's own its step is as it should be, under each order

@@ -25,8 +25,8 @@ pub fn open_words(alloc: Global, config: Config) -> Result<Vec<u64>, NoMemory>
     Ok(words)
 }
 
-// The free word in which only region 0 is in use.
-fn first_free(regions: usize) -> u64
+/// The free word in which only region 0 is in use.
+pub fn first_free(regions: usize) -> u64
     requires least { 4 ≤ regions }
     requires most { regions ≤ 64 }
     ensures { result ≡ first_free regions }

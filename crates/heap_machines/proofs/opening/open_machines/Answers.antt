@@ -9,9 +9,9 @@ pub loop-number-preserved : goal.loop-number-preserved
 loop-number-preserved c =
     let grown = c.in-Ok.ensures.items in
     record {
-      machines = ap (map shown) grown ∙ machines_more c.args.config c.loop-number.machines.items c.open-machine.result c.loop-number.number c.loop-number.invariant.machines c.open-machine.ensures.shown;
+      machines = ap (map shown) grown ∙ machines_more c.args.config c.loop-number.machines.items c.in_ok-machine.machine c.loop-number.number c.loop-number.invariant.machines c.in_ok-machine.ensures.shown;
       heap = subst (λ xs. All (λ m. heap_of m ≡ c.args.config) xs) (sym grown)
-          (All-push (λ m. heap_of m ≡ c.args.config) c.loop-number.machines.items c.open-machine.result c.loop-number.invariant.heap c.open-machine.ensures.heap);
+          (All-push (λ m. heap_of m ≡ c.args.config) c.loop-number.machines.items c.in_ok-machine.machine c.loop-number.invariant.heap c.in_ok-machine.ensures.heap);
       orders = subst (λ xs. All (λ m. order_of m ≡ Nothing) xs) (sym grown)
-          (All-push (λ m. order_of m ≡ Nothing) c.loop-number.machines.items c.open-machine.result c.loop-number.invariant.orders c.open-machine.ensures.order);
+          (All-push (λ m. order_of m ≡ Nothing) c.loop-number.machines.items c.in_ok-machine.machine c.loop-number.invariant.orders c.in_ok-machine.ensures.order);
     }

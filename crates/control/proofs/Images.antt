@@ -1,0 +1,84 @@
+-- Images of which only the words of the image matter.
+use Rattle.std.proofs.Common.{◌≡◌, ℕ, ◌+◌, ◌<◌, List, [], ◌∷◌, ◌++◌, length, get_or, take, drop, set, replicate, sym, ap, ◌∙◌, subst, arith, length-drop, length-set}
+use Rattle.std.proofs.lemmas.List.{take_more_set, get_or-replicate, length-replicate}
+use Rattle.std.proofs.Math.ListN.{get_or-append}
+use Rattle.std.proofs.Math.Seq.{take-length, drop-append_seam}
+use Rattle.heap_words.specs.declared.config.Config.{Config}
+use Rattle.heap_words.specs.Words.{Word, image_start, table_words, view}
+use Rattle.heap_world.specs.Change.{image_view, image_words}
+use Rattle.image_graph.specs.declared.image.Image.{Image}
+use Rattle.image_graph.specs.State.{config_of, words_of, memory_of}
+use Rattle.image_graph.specs.Holds.{HoldsSome}
+use Rattle.image_laws.specs.Full.{full}
+use Rattle.pause_laws.specs.Image.{full_image}
+use Rattle.pause_laws.proofs.Pauses.{is_whole}
+use Rattle.control.specs.Clear.{IsClear}
+use Rattle.control.specs.Image.{image_in}
+use Rattle.control.proofs.Clearing.{view-clear}
+
+-- all its words are those of the image, and 0 before them
+pub memory-image_in : (i : Image) → IsClear i → memory_of i ≡ image_view (config_of i) (image_in i)
+memory-image_in i clear = view-clear (config_of i) (words_of i) i.all_words clear
+
+-- the image has as many words as it should
+pub length-image_in : (i : Image) → length (image_in i) ≡ image_words (config_of i)
+length-image_in i = omega (arith, length-drop (image_start (config_of i)) (words_of i), i.all_words)
+
+-- a list behind so many numbers that are 0
+pub drop-zeros : (n : ℕ) (xs : List ℕ) → drop n (replicate n 0 ++ xs) ≡ xs
+drop-zeros n xs = ap (λ k. drop k (replicate n 0 ++ xs)) (sym (length-replicate n 0)) ∙ drop-append_seam (replicate n 0) xs
+
+pub get_or-zeros : (n : ℕ) (xs : List ℕ) (at : ℕ) → at < n → get_or (replicate n 0 ++ xs) at 0 ≡ 0
+get_or-zeros n xs at below =
+    get_or-append (replicate n 0) xs 0 at (omega (arith, length-replicate {A = ℕ} n 0)) ∙ get_or-replicate n at 0 0 below
+
+module _ (old new : Image) (clear : IsClear old) (config : config_of new ≡ config_of old) (words : memory_of new ≡ full (config_of old) (memory_of old))
+    (holds : HoldsSome (config_of old) (image_view (config_of old) (image_in old))) where
+  abbrev c : Config
+  c = config_of old
+
+  -- all words after a full collection
+  words-full : words_of new ≡ replicate (image_start c) 0 ++ full_image c (image_in old)
+  words-full =
+      is_whole c (image_in old) (words_of new) (length-image_in old) (new.all_words ∙ ap table_words config) holds
+      (ap (λ d. view d (words_of new)) (sym config) ∙ words ∙ ap (full c) (memory-image_in old clear))
+
+  -- the image is the collected one
+  pub image-full : image_in new ≡ full_image c (image_in old)
+  image-full =
+      ap (λ d. drop (image_start d) (words_of new)) config ∙ ap (drop (image_start c)) words-full ∙ drop-zeros (image_start c) (full_image c (image_in old))
+
+  -- with 0 before it again
+  pub clear-full : IsClear new
+  clear-full at below =
+      ap (λ some. get_or some at 0) words-full ∙ get_or-zeros (image_start c) (full_image c (image_in old)) at (subst (λ d. at < image_start d) config below)
+
+-- the last word of a list is put
+pub set-last : (xs : List ℕ) (i y : ℕ) → i + 1 ≡ length xs → set xs i y ≡ take i xs ++ y ∷ []
+set-last xs i y last =
+    let all : i + 1 ≡ length (set xs i y) = last ∙ sym (length-set xs i y) in
+    sym (take-length (set xs i y)) ∙ ap (λ n. take n (set xs i y)) (sym all) ∙ take_more_set xs i y (omega arith)
+
+module _ (old mid new : Image) (index word : ℕ) (last : index + 1 ≡ image_words (config_of old)) (config : config_of mid ≡ config_of old)
+    (put : image_in mid ≡ set (image_in old) index word) where
+  -- the words loaded so far and the last one
+  pub loaded-last : image_in mid ≡ take index (image_in old) ++ word ∷ []
+  loaded-last = put ∙ set-last (image_in old) index word (last ∙ sym (length-image_in old))
+
+  -- they hold a graph
+  pub holds-last : HoldsSome (config_of old) (image_view (config_of old) (take index (image_in old) ++ word ∷ []))
+      → HoldsSome (config_of mid) (image_view (config_of mid) (image_in mid))
+  holds-last holds =
+      let Holds : Config → List ℕ → Type 0 = λ c image. HoldsSome c (image_view c image) in
+      subst (λ c. Holds c (image_in mid)) (sym config) (subst (Holds (config_of old)) (sym loaded-last) holds)
+
+  module _ (config_then : config_of new ≡ config_of mid) (collected : image_in new ≡ full_image (config_of mid) (image_in mid)) where
+    -- the words of the new image
+    pub image-last : image_in new ≡ full_image (config_of old) (take index (image_in old) ++ word ∷ [])
+    image-last = collected ∙ ap (λ c. full_image c (image_in mid)) config ∙ ap (full_image (config_of old)) loaded-last
+
+    -- a word of the new image by its name
+    pub word-last : IsClear new → (w : Word) → memory_of new w ≡ image_view (config_of old) (full_image (config_of old) (take index (image_in old) ++ word ∷ [])) w
+    word-last clear w =
+        ap (λ memory. memory w) (memory-image_in new clear) ∙ ap (λ c. image_view c (image_in new) w) (config_then ∙ config)
+        ∙ ap (λ image. image_view (config_of old) image w) image-last

@@ -1,0 +1,5 @@
+pub mod Clearing
+pub mod Cleared
+pub mod Images
+pub mod Loading
+pub mod Copied

@@ -1,0 +1,82 @@
+-- What the control does with an image that holds a graph, when it loads all its words one after the other.
+use Rattle.std.proofs.Common.{◌≡◌, ℕ, ◌+◌, ◌-◌, ◌<◌, ◌≤◌, ◌^◌, true, false, ltb, List, [], ◌∷◌, ◌++◌, length, get_or, take, drop, replicate, refl, sym, ap, ◌∙◌, subst, ⊎_elim, arith}
+use Rattle.std.proofs.lemmas.Bool.{cases_Bool, leb-true, lt-ltb, le-ltb, cond-true, cond-false}
+use Rattle.std.proofs.lemmas.List.{get_or-append_right, get_or-drop, length-replicate, take_more}
+use Rattle.std.proofs.Math.Seq.{take-length}
+use Rattle.heap_words.specs.declared.config.Config.{Config}
+use Rattle.heap_words.specs.Words.{Word, Free, Top, Current, Root, Wait, Answer, IsWord, is_word, is_image, image_start, word_at, view}
+use Rattle.heap_words.proofs.Rows.{is_image-word_at}
+use Rattle.heap_words.proofs.Stores.{view_word, view_none, is_word_true}
+use Rattle.heap_world.specs.Change.{image_view, image_words}
+use Rattle.image_graph.specs.Holds.{HoldsSome}
+use Rattle.image_graph.specs.declared.image.Image.{Image}
+use Rattle.image_graph.specs.State.{config_of, words_of, memory_of}
+use Rattle.image_graph.proofs.Blank.{IsFirst, IsBlank, blank_holds}
+use Rattle.control_steps.specs.declared.spot.ControlSpot.{ControlSpot}
+use Rattle.control_steps.specs.declared.spot.ControlSpot.TheVariants.{LoadWord, StoreWord}
+use Rattle.control_steps.specs.Rows.{Controlling, control_next}
+use Rattle.pause_laws.specs.Image.{full_image}
+use Rattle.control.specs.Image.{image_in}
+use Rattle.control.specs.Fit.{holds_with, IsFit}
+
+-- a word of the image reads the same in the image alone
+pub image_view-drop : (c : Config) (words : List ℕ) (w : Word) → is_image w ≡ true → image_view c (drop (image_start c) words) w ≡ view c words w
+image_view-drop c words w of_image =
+    ⊎_elim
+    (λ (yes : is_word c w ≡ true).
+    let is : IsWord c w = is_word_true c w yes in
+    let behind : image_start c ≤ word_at c w = leb-true (image_start c) (word_at c w) (sym (is_image-word_at c w is) ∙ of_image) in
+    let there : image_start c + (word_at c w - image_start c) ≡ word_at c w = omega arith in
+    view_word c (replicate (image_start c) 0 ++ drop (image_start c) words) w is
+    ∙ get_or-append_right (replicate (image_start c) 0) (drop (image_start c) words) (image_start c) (word_at c w) 0 (length-replicate (image_start c) 0) behind
+    ∙ get_or-drop (image_start c) words (word_at c w - image_start c) 0 ∙ ap (λ p. get_or words p 0) there ∙ sym (view_word c words w is))
+    (λ (no : is_word c w ≡ false). view_none c (replicate (image_start c) 0 ++ drop (image_start c) words) w no ∙ sym (view_none c words w no))
+    (cases_Bool (is_word c w))
+
+pub blank-drop : (c : Config) (words : List ℕ) → IsBlank c (view c words) → IsBlank c (image_view c (drop (image_start c) words))
+blank-drop c words blank = record {
+  roots = λ t i. image_view-drop c words (Root t i) refl ∙ blank.roots t i;
+  answers = λ t. image_view-drop c words (Answer t) refl ∙ blank.answers t;
+  tops = λ r. image_view-drop c words (Top r) refl ∙ blank.tops r;
+  currents = λ s. image_view-drop c words (Current s) refl ∙ blank.currents s;
+  free = subst (λ n. n < 2 ^ c.regions) (sym (image_view-drop c words Free refl)) blank.free;
+  waits = λ t some. subst IsFirst (sym (image_view-drop c words (Wait t) refl)) (blank.waits t (λ e. some (image_view-drop c words (Wait t) refl ∙ e)));
+}
+
+-- it has loaded so many words, and when it has loaded all it stores the first
+pub record HasLoaded (c : Config) (image : List ℕ) (k : Controlling) (count : ℕ) : Type 0 where
+  pub loading : count < image_words c → k.spot ≡ LoadWord count
+  pub loaded : count < image_words c → k.image ≡ take count image
+  pub stores : image_words c ≤ count → k.spot ≡ StoreWord 0
+
+module _ (c : Config) (image : List ℕ) (long : length image ≡ image_words c) (k : Controlling) (count got : ℕ) (is : HasLoaded c image k count) (below : count < image_words c)
+    (next : got ≡ get_or image count 0) where
+  -- with the next word the image is longer by one
+  more : k.image ++ got ∷ [] ≡ take (count + 1) image
+  more = ap (λ some. some ++ got ∷ []) (is.loaded below) ∙ ap (λ n. take count image ++ n ∷ []) next ∙ sym (take_more image count 0 (omega arith))
+
+  pub fit-loaded : HoldsSome c (image_view c image) → IsFit c k got
+  fit-loaded holds =
+      let Fits : ControlSpot → Type 0 = λ s. holds_with c s k.image got in
+      let Holds : List ℕ → Type 0 = λ some. HoldsSome c (image_view c some) in
+      subst Fits (sym (is.loading below))
+      (λ last.
+      let all : count + 1 ≡ length image = last ∙ sym long in
+      subst Holds (sym (more ∙ ap (λ n. take n image) all ∙ take-length image)) holds)
+
+  pub has_loaded-more : HasLoaded c image (control_next full_image c k got) (count + 1)
+  has_loaded-more =
+      let Next : ControlSpot → Type 0 = λ s. HasLoaded c image (control_next full_image c (record k { spot = s }) got) (count + 1) in
+      subst Next (sym (is.loading below)) (record {
+        loading = λ goes. cond-true (ltb (count + 1) (image_words c)) _ _ (lt-ltb _ _ goes);
+        loaded = λ goes.
+            let test : ltb (count + 1) (image_words c) ≡ true = lt-ltb _ _ goes in
+            cond-true (ltb (count + 1) (image_words c)) _ _ test ∙ more;
+        stores = λ ends. cond-false (ltb (count + 1) (image_words c)) _ _ (le-ltb _ _ ends);
+      })
+
+-- an image without an object can be loaded whole
+pub holds-blank : (words : Image) (c : Config) → config_of words ≡ c → IsBlank (config_of words) (memory_of words) → HoldsSome c (image_view c (image_in words))
+holds-blank words c same blank =
+    let Holds : Config → Type 0 = λ d. HoldsSome d (image_view d (image_in words)) in
+    subst Holds same (blank_holds (config_of words) (image_view (config_of words) (image_in words)) (blank-drop (config_of words) (words_of words) blank))

@@ -1,0 +1,5 @@
+use Rattle.control.proofs.Cleared.{IsCleared}
+use Rattle.control.proofs.pause.clear.Given as goal
+
+abbrev pub invariant-loop-at : goal.invariant-loop-at
+invariant-loop-at l = IsCleared l.initial.image l.image l.at

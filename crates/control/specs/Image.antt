@@ -1,0 +1,28 @@
+-- The words of the image that a control keeps.
+use Rattle.std.specs.Prelude.{ℕ, Bool, true, false, List, [], take, drop}
+use Rattle.heap_words.specs.Words.{image_start}
+use Rattle.image_graph.specs.declared.image.Image.{Image}
+use Rattle.image_graph.specs.State.{config_of, words_of}
+use Rattle.control_steps.specs.declared.spot.ControlSpot.{ControlSpot}
+use Rattle.control_steps.specs.declared.spot.ControlSpot.TheVariants.{LoadWord, StoreWord}
+
+-- the words of the image, without those before it
+abbrev pub image_in : Image → List ℕ
+image_in i = drop (image_start (config_of i)) (words_of i)
+
+-- those of them that have been loaded, or that are stored; outside pauses none
+abbrev pub words_seen : ControlSpot → List ℕ → List ℕ
+words_seen (LoadWord index) image = take index image
+words_seen (StoreWord index) image = image
+words_seen _ image = []
+
+-- whether it stores words of a new image
+abbrev pub is_storing : ControlSpot → Bool
+is_storing (StoreWord index) = true
+is_storing _ = false
+
+-- whether it has words of the image
+abbrev pub has_words : ControlSpot → Bool
+has_words (LoadWord index) = true
+has_words (StoreWord index) = true
+has_words _ = false

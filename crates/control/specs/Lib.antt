@@ -1,0 +1,4 @@
+pub mod Clear
+pub mod Image
+pub mod Seen
+pub mod Fit

@@ -1,0 +1,14 @@
+-- What the events see of the control.
+use Rattle.heap_words.specs.declared.config.Config.{Config}
+use Rattle.image_graph.specs.State.{config_of}
+use Rattle.control_steps.specs.Rows.{Controlling}
+use Rattle.control.specs.Image.{image_in, words_seen}
+use Rattle.control.specs.declared.machine.Control.{Control}
+
+-- whose control it is
+abbrev pub config_in : Control → Config
+config_in k = config_of k.image
+
+-- what it is
+abbrev pub seen_control : Control → Controlling
+seen_control k = record { spot = k.spot; seen = k.seen; image = words_seen k.spot (image_in k.image) }

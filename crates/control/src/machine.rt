@@ -1,0 +1,131 @@
+ghost use Rattle.std.specs.Prelude.{◌≡◌, true};
+ghost use Rattle.image_graph.specs.State.{config_of};
+ghost use Rattle.control_steps.specs.Ready.{is_ready};
+ghost use Rattle.control.specs.Clear.{IsClear};
+
+use crate::pause::{clear, copy_image, take_word};
+use control_steps::ControlSpot;
+use heap_words::{Access, Config, Place, Took};
+use image_graph::Image;
+use shen_graph::GraphText;
+
+/// The machine that collects a heap. Its steps are one access each; between two of them it does constant work, but for the
+/// step that loads the last word of the image: there it collects, in time linear in the words of the heap. Only `new` is given
+/// memory, with the image.
+#[derive(Drop)]
+pub struct Control {
+    spot: ControlSpot,
+    // The free word at the end of the last pause.
+    seen: u64,
+    // In a pause the words loaded so far, and once all are, the words to be stored.
+    image: Image,
+    ghost ready: { is_ready (config_of image) spot ≡ true },
+    ghost clear: { IsClear image },
+}
+
+impl Control {
+    ghost use Rattle.std.specs.Prelude.{ℕ, ◌<◌, ◌≤◌, ◌↔◌, [], length, false, Option};
+    ghost use Rattle.heap_words.specs.Access.{place_of};
+    ghost use Rattle.heap_words.specs.Words.{Free, table_words, heap_size, heap_in, roots_in};
+    ghost use Rattle.shen_graph.specs.declared.name.Name.{Name};
+    ghost use Rattle.shen_graph.specs.Graph.{Graph};
+    ghost use Rattle.heap_graph.specs.Shows.{Shows, WordsStand, StandForSome};
+    ghost use Rattle.image_graph.specs.State.{memory_of};
+    ghost use Rattle.control_steps.specs.Rows.{is_gone, control_place, control_access, control_next, control_says};
+    ghost use Rattle.control_steps.specs.Waits.{WaitsAt};
+    ghost use Rattle.pause_laws.specs.Image.{full_image};
+    ghost use Rattle.control.specs.Fit.{IsFit};
+    ghost use Rattle.control.specs.Image.{has_words, is_storing};
+    ghost use Rattle.control.specs.Seen.{config_in, seen_control};
+
+    /// The control of the image's heap. It has seen the image's free word. Nothing else of the image matters.
+    pub fn new(image: Image) -> Control
+        ensures config { config_in result ≡ config_of image }
+        ensures seen { seen_control result ≡ record { spot = ControlSpot.LookLeft; seen = memory_of image Free; image = [] } }
+    {
+        let mut image = image;
+        let seen = image.word(image.config().free_at());
+        clear(&mut image);
+        Control {
+            spot: ControlSpot::LookLeft,
+            seen,
+            image,
+        }
+    }
+
+    /// Whether it has ended.
+    pub fn is_idle(&self) -> bool
+        ensures { result ≡ is_gone (seen_control self.now).spot }
+    {
+        self.spot.is_gone()
+    }
+
+    /// Whether it stores words of a new image.
+    pub fn is_storing(&self) -> bool
+        ensures { result ≡ is_storing (seen_control self.now).spot }
+    {
+        matches!(self.spot, ControlSpot::StoreWord { .. })
+    }
+
+    /// The place of its next access.
+    pub fn place(&self) -> Place
+        requires { is_gone (seen_control self.now).spot ≡ false }
+        ensures { result ≡ control_place (seen_control self.now).spot }
+    {
+        self.spot.place()
+    }
+
+    /// The access of its next step.
+    pub fn plan(&self) -> Access
+        requires { is_gone (seen_control self.now).spot ≡ false }
+        ensures row { result ≡ control_access (config_in self.now) (seen_control self.now) }
+        ensures inside { place_of result < table_words (config_in self.now) }
+    {
+        let config = self.image.config();
+        let word = match self.spot {
+            ControlSpot::StoreWord { index } => self.image.word(config.image_start() + index),
+            _ => 0,
+        };
+        self.spot.access(config, word)
+    }
+
+    /// Goes on with the word that its access has found. A pause makes a full collection of the image.
+    pub fn took(&mut self, got: u64) -> Took
+        requires busy { is_gone (seen_control self.old).spot ≡ false }
+        requires fit { IsFit (config_in self.old) (seen_control self.old) got }
+        ensures config { config_in self.new ≡ config_in self.old }
+        ensures row { seen_control self.new ≡ control_next full_image (config_in self.old) (seen_control self.old) got }
+        ensures says { result ≡ control_says (config_in self.old) (seen_control self.old) got }
+        ensures again { (result ≡ Took.Again) ↔ WaitsAt (config_in self.old) (seen_control self.old) got }
+    {
+        let before = self.spot;
+        let seen = self.seen;
+        if let ControlSpot::LoadWord { index } = before {
+            self.seen = take_word(&mut self.image, index, seen, got);
+        }
+        let config = self.image.config();
+        self.spot = before.after(config, seen, got);
+        before.says(config, seen, got)
+    }
+
+    /// Writes the graph that the words of the heap's table stand for, as `Image::answer_graph` does. The control must not
+    /// have words of the image, which it has from the first one that it has loaded to the last one that it has to store; its
+    /// image serves as the place where this works. Nothing of what it does next changes. No memory is taken, and time is
+    /// linear in the words, but for the sort of the objects.
+    pub fn answer_graph(&mut self, table: &[u64], text: &mut GraphText)
+        requires outside { has_words (seen_control self.old).spot ≡ false }
+        requires table { length table.now ≡ table_words (config_in self.old) }
+        requires room { heap_size (config_in self.old) ≤ text.old.room }
+        requires threads { length text.old.roots ≡ (config_in self.old).mutators }
+        requires stand { StandForSome (config_in self.old).region_words (heap_in (config_in self.old) table.now) (roots_in (config_in self.old) table.now) }
+        ensures config { config_in self.new ≡ config_in self.old }
+        ensures unchanged { seen_control self.new ≡ seen_control self.old }
+        ensures shows { (at : ℕ → Option Name) (g : Graph) → WordsStand (config_in self.old).region_words (heap_in (config_in self.old) table.now) (roots_in (config_in self.old) table.now) at g
+            → Shows text.new (config_in self.old).mutators g }
+        ensures same_room { text.new.room ≡ text.old.room }
+        ensures same_threads { length text.new.roots ≡ length text.old.roots }
+    {
+        copy_image(&mut self.image, table);
+        self.image.answer_graph(text);
+    }
+}

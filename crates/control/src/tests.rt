@@ -1,0 +1,111 @@
+ghost use Rattle.std.specs.Prelude.{◌≡◌, ◌≤◌, [], IfOk};
+ghost use Rattle.image_graph.proofs.Blank.{IsBlank};
+ghost use Rattle.image_graph.specs.State.{config_of, memory_of};
+ghost use Rattle.control_steps.specs.declared.spot.ControlSpot.TheVariants.{LoadWord, StoreWord, Go};
+ghost use Rattle.control.specs.Image.{image_in};
+ghost use Rattle.control.specs.Seen.{config_in, seen_control};
+
+use super::*;
+use control_steps::image_words;
+use heap_words::{Access, Config, Place, Took, request_word, shape_of};
+use image_graph::Image;
+use std::alloc::Global;
+use std::test::Fail;
+
+// A heap in which nothing lives: all words are 0.
+fn opened(alloc: Global, config: Config) -> Result<Image, Fail>
+    ensures config { IfOk result (λ image. config_of image ≡ config) }
+    ensures blank { IfOk result (λ image. IsBlank config (memory_of image)) }
+{
+    Ok(Image::open(alloc, config)?)
+}
+
+// The lowest mutator waits for its first object.
+fn ask(words: &mut Image, refs: u64, nums: u64)
+    requires refs { refs ≤ 16 }
+    requires nums { nums ≤ 16 }
+    requires blank { IsBlank (config_of words.old) (memory_of words.old) }
+    ensures config { config_of words.new ≡ config_of words.old }
+    ensures blank { IsBlank (config_of words.new) (memory_of words.new) }
+{
+    let config = words.config();
+    words.set_word(config.wait_at(0), request_word(1, shape_of(refs, nums)));
+}
+
+// And says that it waits.
+fn ask_pause(words: &mut Image)
+    requires blank { IsBlank (config_of words.old) (memory_of words.old) }
+    ensures config { config_of words.new ≡ config_of words.old }
+    ensures blank { IsBlank (config_of words.new) (memory_of words.new) }
+{
+    let config = words.config();
+    words.set_word(config.ask_at(), 2);
+}
+
+// Lets the control load all words of the image.
+fn load_image(control: &mut Control, words: &Image)
+    requires same { config_of words.now ≡ config_in control.old }
+    requires blank { IsBlank (config_of words.now) (memory_of words.now) }
+    requires spot { (seen_control control.old).spot ≡ LoadWord 0 }
+    ensures config { config_in control.new ≡ config_in control.old }
+    ensures spot { (seen_control control.new).spot ≡ StoreWord 0 }
+{
+    let config = words.config();
+    for index in 0..image_words(config) {
+        let _ = control.took(words.word(config.image_start() + index));
+    }
+}
+
+// Lets it store all words of the new image.
+fn store_image(control: &mut Control, words: &mut Image)
+    requires same { config_of words.old ≡ config_in control.old }
+    requires spot { (seen_control control.old).spot ≡ StoreWord 0 }
+    ensures config { config_in control.new ≡ config_in control.old }
+    ensures same { config_of words.new ≡ config_of words.old }
+    ensures spot { (seen_control control.new).spot ≡ Go }
+    ensures image { (seen_control control.new).image ≡ [] }
+{
+    let config = words.config();
+    for index in 0..image_words(config) {
+        if let Access::Store { at, value } = control.plan()
+            && at < config.table_words()
+        {
+            words.set_word(at, value);
+        }
+        let _ = control.took(0);
+    }
+}
+
+// Someone waits for room: the control stops the only mutator, loads the image, makes the object and stores the new image. Then
+// it looks again, and stops only where fewer than half of the regions are free, and not the ones that it has seen.
+#[test]
+fn makes_a_pause(rt: HostRuntime) -> Result<(), Fail> {
+    let config = Config::new(4, 64, 1, 0, 0)?;
+    let mut words = opened(rt.alloc(), config)?;
+    ask(&mut words, 1, 2);
+    ask_pause(&mut words);
+    let mut control = Control::new(opened(rt.alloc(), config)?);
+    assert_eq!(rt; control.place(), Place::I0);
+    assert_eq!(rt; control.plan(), Access::Load { at: 1 });
+    assert_eq!(rt; control.took(1), Took::More);
+    assert_eq!(rt; control.plan(), Access::Load { at: 9 });
+    assert_eq!(rt; control.took(2), Took::More);
+    assert_eq!(rt; control.plan(), Access::Store { at: 0, value: 1 });
+    assert_eq!(rt; control.took(0), Took::More);
+    assert_eq!(rt; control.plan(), Access::Load { at: 3 });
+    assert_eq!(rt; control.took(1), Took::Again);
+    assert_eq!(rt; control.took(0), Took::More);
+    assert_eq!(rt; control.place(), Place::PL);
+    load_image(&mut control, &words);
+    assert_eq!(rt; control.place(), Place::PS);
+    store_image(&mut control, &mut words);
+    assert_eq!(rt; words.word(config.answer_at(0)), 64);
+    assert_eq!(rt; words.word(config.wait_at(0)), 0);
+    assert_eq!(rt; words.word(config.ask_at()), 0);
+    assert_eq!(rt; words.word(config.free_at()), 14);
+    assert_eq!(rt; words.word(config.top_at(0)), 6);
+    assert_eq!(rt; control.plan(), Access::Store { at: 0, value: 0 });
+    assert_eq!(rt; control.took(1), Took::More);
+    assert_eq!(rt; control.place(), Place::I0);
+    Ok(())
+}

@@ -1,0 +1,66 @@
+-- The control can make its next access wherever it goes on.
+use Rattle.std.proofs.Common.{◌≡◌, ℕ, ◌+◌, ◌<◌, Bool, true, false, refl, sym, subst, arith}
+use Rattle.std.specs.Prelude.{◌==◌, nat_lt, if◌then◌else◌}
+use Rattle.std.proofs.lemmas.Bool.{and_parts, lt-ltb, ltb-true}
+use Rattle.std.proofs.lemmas.Bool.Decides.{nat_tests}
+use Rattle.heap_words.specs.declared.config.Config.{Config}
+use Rattle.heap_words.specs.Access.{place_of}
+use Rattle.heap_words.specs.Words.{is_word, word_at, table_words}
+use Rattle.heap_words.proofs.Stores.{is_word_true}
+use Rattle.heap_words.proofs.Rows.{word_inside}
+use Rattle.steps_base.specs.Touch.{Touch, placed}
+use Rattle.steps_base.proofs.Touches.{place_of-access_at}
+use Rattle.handshake.specs.declared.stop_spot.StopSpot.{StopSpot}
+use Rattle.handshake.specs.declared.stop_spot.StopSpot.TheVariants as stop
+use Rattle.handshake.specs.Rows.{after_seat, stop_touch}
+use Rattle.heap_world.specs.Change.{image_words}
+use Rattle.control_steps.specs.declared.spot.ControlSpot.{ControlSpot}
+use Rattle.control_steps.specs.declared.spot.ControlSpot.TheVariants.{LookLeft, StoreEnd, LookAsked, LookFree, Stopping, LoadWord, StoreWord, Go, Gone}
+use Rattle.control_steps.specs.Rows.{control_touch, stopping, begins_pause, wants_pause, next_spot}
+use Rattle.control_steps.specs.Ready.{is_ready, AccessesAreInside, StaysReady}
+
+-- of two spots
+of_two : (c : Config) (b : Bool) (x y : ControlSpot) → (b ≡ true → is_ready c x ≡ true) → (b ≡ false → is_ready c y ≡ true) → is_ready c (if b then x else y) ≡ true
+of_two c true x y one other = one refl
+of_two c false x y one other = other refl
+
+-- an image has words
+some_words : (c : Config) → 0 < image_words c
+some_words c = omega arith
+
+-- where the seats are checked one after the other
+checks_on : (c : Config) (b : Bool) (x y : StopSpot) → (b ≡ true → is_ready c (stopping x) ≡ true) → (b ≡ false → is_ready c (stopping y) ≡ true) → is_ready c (stopping (if b then x else y)) ≡ true
+checks_on c true x y one other = one refl
+checks_on c false x y one other = other refl
+
+pub stays_ready : StaysReady
+stays_ready c seen LookLeft got ready = of_two c (got == 0) StoreEnd LookAsked (λ e. refl) (λ e. refl)
+stays_ready c seen StoreEnd got ready = refl
+stays_ready c seen LookAsked got ready = of_two c (begins_pause got) (Stopping stop.Raise) LookFree (λ e. refl) (λ e. refl)
+stays_ready c seen LookFree got ready = of_two c (wants_pause c seen got) (Stopping stop.Raise) LookLeft (λ e. refl) (λ e. refl)
+stays_ready c seen (Stopping stop.Raise) got ready = (let some = c.in_range.least_mutators in grind (arith, nat_tests))
+stays_ready c seen (Stopping (stop.Check seat)) got ready =
+    checks_on c (got == 0) (after_seat c seat) (stop.Check seat)
+    (λ e. checks_on c (nat_lt (seat + 1) (c.mutators + c.helpers)) (stop.Check (seat + 1)) stop.Stopped (λ more. grind (arith, nat_tests)) (λ all. lt-ltb _ _ (some_words c)))
+    (λ e. ready)
+stays_ready c seen (Stopping stop.Stopped) got ready = lt-ltb _ _ (some_words c)
+stays_ready c seen (LoadWord index) got ready = of_two c (nat_lt (index + 1) (image_words c)) (LoadWord (index + 1)) (StoreWord 0) (λ more. more) (λ all. lt-ltb _ _ (some_words c))
+stays_ready c seen (StoreWord index) got ready = of_two c (nat_lt (index + 1) (image_words c)) (StoreWord (index + 1)) Go (λ more. more) (λ all. refl)
+stays_ready c seen Go got ready = refl
+stays_ready c seen Gone got ready = refl
+
+-- an access of a word of the table is inside it
+placed_inside : (c : Config) (t : Touch) → is_word c t.word ≡ true → place_of (placed c t) < table_words c
+placed_inside c t is = subst (λ k. k < table_words c) (sym (place_of-access_at (word_at c t.word) t.form)) (word_inside c t.word (is_word_true c t.word is))
+
+-- the control's are
+pub accesses_inside : AccessesAreInside
+accesses_inside c LookLeft value ready = placed_inside c (control_touch LookLeft) refl
+accesses_inside c StoreEnd value ready = placed_inside c (control_touch StoreEnd) refl
+accesses_inside c LookAsked value ready = placed_inside c (control_touch LookAsked) refl
+accesses_inside c LookFree value ready = placed_inside c (control_touch LookFree) refl
+accesses_inside c (Stopping at) value ready = placed_inside c (stop_touch at) (and_parts _ _ (and_parts _ _ ready).0).0
+accesses_inside c (LoadWord index) value ready = (let below = ltb-true _ _ ready in omega (arith, below))
+accesses_inside c (StoreWord index) value ready = (let below = ltb-true _ _ ready in omega (arith, below))
+accesses_inside c Go value ready = placed_inside c (control_touch Go) refl
+accesses_inside c Gone value ready = placed_inside c (control_touch Gone) refl

@@ -1,0 +1,26 @@
+-- Whether the control can make its next access.
+use Rattle.std.specs.Prelude.{ℕ, ◌≡◌, ◌<◌, Bool, true, false, ◌&&◌, nat_lt, if◌then◌else◌}
+use Rattle.heap_words.specs.declared.config.Config.{Config}
+use Rattle.heap_words.specs.Access.{place_of}
+use Rattle.heap_words.specs.Words.{table_words}
+use Rattle.steps_base.specs.Fits.{touch_fits}
+use Rattle.handshake.specs.Rows.{stop_touch, is_stopped}
+use Rattle.heap_world.specs.Change.{image_words}
+use Rattle.control_steps.specs.declared.spot.ControlSpot.{ControlSpot}
+use Rattle.control_steps.specs.declared.spot.ControlSpot.TheVariants.{Stopping, LoadWord, StoreWord}
+use Rattle.control_steps.specs.Rows.{access_with, next_spot}
+
+-- whether the numbers of a spot are in range: a seat is one of a mutator or a helper, an index one of a word of the image
+abbrev pub is_ready : Config → ControlSpot → Bool
+is_ready c (Stopping at) = touch_fits c (stop_touch at) && (if is_stopped at then false else true)
+is_ready c (LoadWord index) = nat_lt index (image_words c)
+is_ready c (StoreWord index) = nat_lt index (image_words c)
+is_ready c _ = true
+
+-- so the access is of a word of the table
+abbrev pub AccessesAreInside : Type 0
+AccessesAreInside = (c : Config) (spot : ControlSpot) (value : ℕ) → is_ready c spot ≡ true → place_of (access_with c spot value) < table_words c
+
+-- and they are in range at the next spot, whatever word is found
+abbrev pub StaysReady : Type 0
+StaysReady = (c : Config) (seen : ℕ) (spot : ControlSpot) (got : ℕ) → is_ready c spot ≡ true → is_ready c (next_spot c seen spot got) ≡ true

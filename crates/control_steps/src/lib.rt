@@ -1,0 +1,17 @@
+//! The control of a heap, step by step: it looks whether a collection is wanted, stops the mutators and helpers, loads all words
+//! of the image, stores those of the new image, and lets the others go on; once all mutators have ended it ends too. Each step is
+//! one access of one word. The rows in `specs/Rows.antt` say for each spot what it does and what follows, for any change of the
+//! image.
+#![tactic(auto)]
+
+mod spot;
+
+ghost use Rattle.control_steps.specs.Ready.{AccessesAreInside, StaysReady};
+
+pub use spot::{ControlSpot, image_words};
+
+/// A law: the control's accesses are of words of the table, whatever words it finds.
+pub fn control_stays_inside()
+    ensures inside { AccessesAreInside }
+    ensures stays { StaysReady }
+{}

@@ -1,0 +1,205 @@
+ghost use Rattle.std.specs.Prelude.{◌≡◌, ◌<◌, ◌↔◌, true, false};
+ghost use Rattle.heap_words.specs.Access.{place_of};
+ghost use Rattle.heap_words.specs.Words.{table_words};
+ghost use Rattle.heap_world.specs.Change.{image_words};
+ghost use Rattle.control_steps.specs.Rows as rows;
+ghost use Rattle.control_steps.specs.Ready.{is_ready};
+ghost use Rattle.control_steps.specs.Waits.{waits_at};
+
+use handshake::{StopSpot, go_access};
+use heap_words::{Access, Config, Place, Took};
+use regions::size;
+
+// What is asked for: a cycle, or room for an object.
+const CYCLE: u64 = 1;
+
+const ROOM: u64 = 2;
+
+/// Where the control stands.
+#[derive(Clone, Copy, Debug, PartialEq, Eq)]
+pub enum ControlSpot {
+    /// It loads how many mutators have not ended.
+    LookLeft,
+    /// It stores that it has ended.
+    StoreEnd,
+    /// It loads what is asked for.
+    LookAsked,
+    /// It loads the free word.
+    LookFree,
+    /// It stops the mutators and helpers.
+    Stopping {
+        /// Where the stopping stands.
+        at: StopSpot,
+    },
+    /// It loads a word of the image.
+    LoadWord {
+        /// The word, counted from 0 in the order of places.
+        index: usize,
+    },
+    /// It stores a word of the new image.
+    StoreWord {
+        /// The word, counted from 0 in the order of places.
+        index: usize,
+    },
+    /// It stores that the pause has ended.
+    Go,
+    /// It has ended.
+    Gone,
+}
+
+impl ControlSpot {
+    /// The place of the next access. There is none at the end, where it is named as that of the last access.
+    pub fn place(self) -> Place
+        ensures { result ≡ rows.control_place self }
+    {
+        match self {
+            ControlSpot::LookLeft => Place::I0,
+            ControlSpot::StoreEnd | ControlSpot::Gone => Place::IE,
+            ControlSpot::LookAsked => Place::I1,
+            ControlSpot::LookFree => Place::I2,
+            ControlSpot::Stopping { at } => at.place(),
+            ControlSpot::LoadWord { .. } => Place::PL,
+            ControlSpot::StoreWord { .. } => Place::PS,
+            ControlSpot::Go => Place::P3,
+        }
+    }
+
+    /// Whether the control has ended.
+    pub fn is_gone(self) -> bool
+        ensures { result ≡ rows.is_gone self }
+    {
+        matches!(self, ControlSpot::Gone)
+    }
+
+    /// The next access. `word` is what is stored, where a word of the new image is.
+    pub fn access(self, config: Config, word: u64) -> Access
+        requires ready { is_ready config self ≡ true }
+        requires busy { rows.is_gone self ≡ false }
+        ensures row { result ≡ rows.access_with config self word }
+        ensures inside { place_of result < table_words config }
+    {
+        match self {
+            ControlSpot::LookLeft => Access::Load {
+                at: config.left_at(),
+            },
+            ControlSpot::StoreEnd => Access::Store {
+                at: config.end_at(),
+                value: 1,
+            },
+            ControlSpot::LookAsked => Access::Load {
+                at: config.ask_at(),
+            },
+            ControlSpot::LookFree => Access::Load {
+                at: config.free_at(),
+            },
+            ControlSpot::Stopping { at } => at.access(config),
+            ControlSpot::LoadWord { index } => Access::Load {
+                at: config.image_start() + index,
+            },
+            ControlSpot::StoreWord { index } => Access::Store {
+                at: config.image_start() + index,
+                value: word,
+            },
+            ControlSpot::Go => go_access(config),
+            ControlSpot::Gone => unreachable!(),
+        }
+    }
+
+    /// Where it stands after it, by the free word that it has seen and the word that the access has found.
+    pub fn after(self, config: Config, seen: u64, got: u64) -> ControlSpot
+        requires { is_ready config self ≡ true }
+        ensures row { result ≡ rows.next_spot config seen self got }
+        ensures ready { is_ready config result ≡ true }
+    {
+        match self {
+            ControlSpot::LookLeft if got == 0 => ControlSpot::StoreEnd,
+            ControlSpot::LookLeft => ControlSpot::LookAsked,
+            ControlSpot::LookAsked if is_asked(got) => STOP,
+            ControlSpot::LookAsked => ControlSpot::LookFree,
+            ControlSpot::LookFree if is_wanted(config, seen, got) => STOP,
+            ControlSpot::LookFree | ControlSpot::Go => ControlSpot::LookLeft,
+            ControlSpot::Stopping { at } => stopping(at.after(config, got)),
+            ControlSpot::LoadWord { index } => after_load(config, index),
+            ControlSpot::StoreWord { index } => after_store(config, index),
+            ControlSpot::StoreEnd | ControlSpot::Gone => ControlSpot::Gone,
+        }
+    }
+
+    /// What the step says that finds this word.
+    pub fn says(self, config: Config, seen: u64, got: u64) -> Took
+        ensures row { result ≡ rows.says_at config seen self got }
+        ensures again { (result ≡ Took.Again) ↔ waits_at config seen self got }
+    {
+        match self {
+            ControlSpot::LookFree if !is_wanted(config, seen, got) => Took::Again,
+            ControlSpot::Stopping {
+                at: StopSpot::Check { .. },
+            } if got != 0 => Took::Again,
+            _ => Took::More,
+        }
+    }
+}
+
+// Where a pause begins.
+const STOP: ControlSpot = ControlSpot::Stopping {
+    at: StopSpot::Raise,
+};
+
+// Whether a pause is asked for.
+fn is_asked(asked: u64) -> bool
+    ensures { result ≡ rows.begins_pause asked }
+{
+    asked & (CYCLE | ROOM) != 0
+}
+
+// Whether the free word calls for a pause.
+fn is_wanted(config: Config, seen: u64, free: u64) -> bool
+    ensures { result ≡ rows.wants_pause config seen free }
+{
+    let regions_free = size(free) as usize;
+    2 * regions_free < config.regions() && free != seen
+}
+
+// Once all seats are out the image is loaded.
+fn stopping(at: StopSpot) -> ControlSpot
+    ensures { result ≡ rows.stopping at }
+{
+    if at.is_stopped() {
+        ControlSpot::LoadWord { index: 0 }
+    } else {
+        ControlSpot::Stopping { at }
+    }
+}
+
+/// How many words the image has.
+pub fn image_words(config: Config) -> usize
+    ensures { result ≡ image_words config }
+{
+    config.table_words() - config.image_start()
+}
+
+// What follows once a word of the image is loaded.
+fn after_load(config: Config, index: usize) -> ControlSpot
+    requires { index < image_words config }
+    ensures row { result ≡ rows.next_spot config 0 (ControlSpot.LoadWord index) 0 }
+    ensures ready { is_ready config result ≡ true }
+{
+    if index + 1 < image_words(config) {
+        ControlSpot::LoadWord { index: index + 1 }
+    } else {
+        ControlSpot::StoreWord { index: 0 }
+    }
+}
+
+// What follows once a word of the new image is stored.
+fn after_store(config: Config, index: usize) -> ControlSpot
+    requires { index < image_words config }
+    ensures row { result ≡ rows.next_spot config 0 (ControlSpot.StoreWord index) 0 }
+    ensures ready { is_ready config result ≡ true }
+{
+    if index + 1 < image_words(config) {
+        ControlSpot::StoreWord { index: index + 1 }
+    } else {
+        ControlSpot::Go
+    }
+}

@@ -1,0 +1,70 @@
+-- The handshake and the count where runs begin: all are outside, and no mutator has ended.
+use Rattle.std.proofs.Common.{◌≡◌, ℕ, ◌<◌, ◌≤◌, Bool, true, false, List, [], ◌∷◌, length, Some, zero, suc, refl, sym, ap, ◌∙◌, subst, arith}
+use Rattle.std.specs.Prelude.{slice_get, count_by, nat_eq}
+use Rattle.std.proofs.lemmas.Bool.Decides.{nat_tests}
+use Rattle.heap_words.specs.declared.config.Config.{Config}
+use Rattle.heap_words.specs.Ranges.{seat_count}
+use Rattle.heap_words.specs.Words.{Pause, Left, State, table_words, view}
+use Rattle.steps_base.specs.Steps.{Stage}
+use Rattle.handshake.specs.Standing.{Standing, outside, idle, state_word, pause_word, is_within, IsSeated, control_seat}
+use Rattle.handshake.specs.Shaken.{IsShaken}
+use Rattle.handshake.specs.Left.{IsCounted}
+use Rattle.handshake.proofs.Counting.{weight, count_by-cons}
+
+-- an element stands below the length
+get_below : {A : Type 0} (xs : List A) (k : ℕ) (x : A) → slice_get xs k ≡ Some x → k < length xs
+get_below [] k x here = absurd (cc (here))
+get_below (y ∷ xs) zero x here = omega arith
+get_below (y ∷ xs) (suc k) x here = omega (arith, get_below xs k x here)
+
+-- and there is one below it
+pub there_is : {A : Type 0} (xs : List A) (k : ℕ) → k < length xs → (x : A) × (slice_get xs k ≡ Some x)
+there_is [] k below = absurd (omega (arith, below))
+there_is (y ∷ xs) zero below = (y, refl)
+there_is (y ∷ xs) (suc k) below = there_is xs k (omega (arith, below))
+
+-- all are outside, the control is idle, and the words say so
+pub shaken_begins : {R : Type 0} (c : Config) (standing : R → Standing) (s : Stage R) (control : R) → length s.words ≡ table_words c → length s.machines ≡ seat_count c.mutators c.helpers
+    → slice_get s.machines (control_seat c) ≡ Some control → standing control ≡ idle
+    → ((seat : ℕ) (r : R) → seat < control_seat c → slice_get s.machines seat ≡ Some r → standing r ≡ outside)
+    → view c s.words Pause ≡ 0 → ((seat : ℕ) → seat < control_seat c → view c s.words (State seat) ≡ 0)
+    → IsShaken c standing s
+shaken_begins {R} c standing s control words machines there is_idle out pause states = record {
+  words = words;
+  control = control;
+  there = there;
+  seated = λ seat r here. by_seat seat r here (nat_eq seat (control_seat c)) refl;
+  pause = pause ∙ sym (ap pause_word is_idle);
+  states = λ seat r below here. states seat below ∙ sym (ap state_word (out seat r below here));
+  checked = λ seat r below here checked. ap is_within (out seat r below here);
+}
+  where
+    by_seat : (seat : ℕ) (r : R) → slice_get s.machines seat ≡ Some r → (b : Bool) → nat_eq seat (control_seat c) ≡ b → IsSeated c seat (standing r)
+    by_seat seat r here true is =
+        let e : seat ≡ control_seat c = grind (arith, nat_tests) in
+        let at : slice_get s.machines (control_seat c) ≡ Some r = subst (λ k. slice_get s.machines k ≡ Some r) e here in
+        let same : control ≡ r = cc (at, there) in
+        subst (IsSeated c seat) (sym is_idle ∙ ap standing same) e
+    by_seat seat r here false is =
+        let below : seat < control_seat c = grind (arith, nat_tests, get_below s.machines seat r here, machines) in
+        subst (IsSeated c seat) (sym (out seat r below here)) below
+
+-- as many are counted as stand first
+count_first : {R : Type 0} (p : R → Bool) (xs : List R) (n : ℕ) → n ≤ length xs
+    → ((k : ℕ) (x : R) → k < n → slice_get xs k ≡ Some x → p x ≡ true) → ((k : ℕ) (x : R) → n ≤ k → slice_get xs k ≡ Some x → p x ≡ false)
+    → count_by p xs ≡ n
+count_first p [] n long first others = omega (arith, long)
+count_first p (x ∷ xs) zero long first others =
+    omega (arith, count_by-cons p x xs, ap weight (others 0 x (omega arith) refl), count_first p xs 0 (omega arith) (λ k y below here. absurd (omega (arith, below))) (λ k y above here. others (suc k) y (omega arith) here))
+count_first p (x ∷ xs) (suc n) long first others =
+    omega (arith, count_by-cons p x xs, ap weight (first 0 x (omega arith) refl), count_first p xs n (omega (arith, long)) (λ k y below here. first (suc k) y (omega (arith, below)) here) (λ k y above here. others (suc k) y (omega (arith, above)) here))
+
+-- no mutator has ended, and the word says how many there are
+pub counted_begins : {R : Type 0} (c : Config) (left : R → Bool) (s : Stage R) → length s.words ≡ table_words c → length s.machines ≡ seat_count c.mutators c.helpers
+    → ((k : ℕ) (r : R) → k < c.mutators → slice_get s.machines k ≡ Some r → left r ≡ true) → ((k : ℕ) (r : R) → c.mutators ≤ k → slice_get s.machines k ≡ Some r → left r ≡ false)
+    → view c s.words Left ≡ c.mutators → IsCounted c left s
+counted_begins c left s words machines first others count = record {
+  words = words;
+  few = omega (arith, machines, c.in_range.most_mutators, c.in_range.most_helpers);
+  counts = count ∙ sym (count_first left s.machines c.mutators (omega (arith, machines)) first others);
+}

@@ -1,0 +1,109 @@
+-- The count of the mutators that have not ended: each run of events that count keeps it.
+use Rattle.std.proofs.Common.{◌≡◌, ◌≢◌, ℕ, ◌+◌, ◌≤◌, Bool, List, [], ◌∷◌, true, false, cond, Some, zero, suc, refl, sym, ap, ◌∙◌, subst, arith, inl, inr, get_or-set_other}
+use Rattle.std.specs.Prelude.{slice_get, slice_set, slice_index, count_by, ◌⊎◌}
+use Rattle.std.proofs.lemmas.List.{length-set}
+use Rattle.std.proofs.lemmas.List.Sums.{count_by-le-length, sum_by-cons}
+use Rattle.heap_words.specs.declared.config.Config.{Config}
+use Rattle.heap_words.specs.declared.access.Access.{Access}
+use Rattle.heap_words.specs.Access.{place_of}
+use Rattle.heap_words.specs.Words.{Left, word_at, view}
+use Rattle.heap_words.proofs.Stores.{view_set}
+use Rattle.steps_base.specs.Touch.{touch, subtracts, placed}
+use Rattle.steps_base.specs.Steps.{Kind, Stage, Event, act, go, accessed}
+use Rattle.steps_base.proofs.Runs.{go-none, go-first}
+use Rattle.steps_base.proofs.Laws.{act_cases}
+use Rattle.handshake.specs.Obeys.{is_load}
+use Rattle.handshake.specs.Left.{Counts, EventCounts, EachCounts, IsCounted}
+use Rattle.handshake.proofs.Words.{accessed-load}
+
+-- what a machine adds to the count
+abbrev pub weight : Bool → ℕ
+weight b = cond b 1 0
+
+pub count_by-cons : {R : Type 0} (p : R → Bool) (x : R) (xs : List R) → count_by p (x ∷ xs) ≡ weight (p x) + count_by p xs
+count_by-cons p x xs = sum_by-cons (λ r. weight (p r)) x xs
+
+-- the count after a change of one machine
+count_by-set : {R : Type 0} (p : R → Bool) (xs : List R) (n : ℕ) (x y : R) → slice_get xs n ≡ Some x → count_by p (slice_set xs n y) + weight (p x) ≡ count_by p xs + weight (p y)
+count_by-set p [] n x y here = absurd (cc (here))
+count_by-set p (z ∷ xs) zero x y here = let same : z ≡ x = cc (here) in omega (arith, ap (λ r. weight (p r)) same, count_by-cons p z xs, count_by-cons p y xs)
+count_by-set p (z ∷ xs) (suc n) x y here = omega (arith, count_by-set p xs n x y here, count_by-cons p z xs, count_by-cons p z (slice_set xs n y))
+
+-- where a machine is counted, the count is not 0
+count_some : {R : Type 0} (p : R → Bool) (xs : List R) (n : ℕ) (x : R) → slice_get xs n ≡ Some x → p x ≡ true → 1 ≤ count_by p xs
+count_some p [] n x here is = absurd (cc (here))
+count_some p (z ∷ xs) zero x here is = let same : z ≡ x = cc (here) in omega (arith, ap (λ r. weight (p r)) same, ap weight is, count_by-cons p z xs)
+count_some p (z ∷ xs) (suc n) x here is = omega (arith, count_some p xs n x here is, count_by-cons p z xs)
+
+module _ {R : Type 0} (c : Config) (left : R → Bool) (s : Stage R) (counted : IsCounted c left s) (number : ℕ) (old new : R) (here : slice_get s.machines number ≡ Some old) where
+  -- the stage after an access
+  abbrev after : Access → Stage R
+  after access = record { words = accessed access s.words; machines = slice_set s.machines number new }
+
+  -- what a step may do to the count: a count of 0 stays
+  pub record IsStep (access : Access) : Type 0 where
+    pub holds : IsCounted c left (after access)
+    pub none_stays : view c s.words Left ≡ 0 → view c (accessed access s.words) Left ≡ 0
+
+  -- a word that is as it was, and a machine that counts as before
+  same_count : (access : Access) → view c (accessed access s.words) Left ≡ view c s.words Left → left new ≡ left old → IsStep access
+  same_count access word same = record {
+    holds = record {
+      words = length-set s.words _ _ ∙ counted.words;
+      few = subst (λ n. n ≤ 12) (sym (length-set s.machines number new)) counted.few;
+      counts = word ∙ counted.counts ∙ omega (arith, count_by-set left s.machines number old new here, ap weight same);
+    };
+    none_stays = λ none. word ∙ none;
+  }
+
+  -- a mutator ends
+  one_less : (access : Access) → access ≡ placed c (touch Left (subtracts 1)) → left old ≡ true → left new ≡ false → IsStep access
+  one_less access is was now = subst IsStep (sym is) (record {
+    holds = record {
+      words = length-set s.words _ _ ∙ counted.words;
+      few = subst (λ n. n ≤ 12) (sym (length-set s.machines number new)) counted.few;
+      counts =
+          view_set c s.words Left _ Left counted.words tt
+          ∙ omega (arith, counted.counts, counted.few, count_by-le-length left s.machines, count_by-set left s.machines number old new here, ap weight was, ap weight now);
+    };
+    none_stays = λ none. absurd (omega (arith, none, counted.counts, count_some left s.machines number old here was));
+  })
+
+  -- a step that counts keeps the count
+  pub counts_step : (access : Access) (next : ℕ → Bool) (got : ℕ) → Counts c (left old) access next → left new ≡ next got → IsStep access
+  counts_step access next got (inl ends) is = one_less access ends.access_is ends.was_left (is ∙ ends.has_ended got)
+  counts_step access next got (inr leaves) is = same_count access (unwritten leaves.not_written) (is ∙ leaves.same got)
+    where
+      unwritten : (is_load access ≡ true) ⊎ (place_of access ≢ word_at c Left) → view c (accessed access s.words) Left ≡ view c s.words Left
+      unwritten (inl reads) = ap (λ ws. view c ws Left) (accessed-load s.words access reads)
+      unwritten (inr other) = get_or-set_other s.words (place_of access) (word_at c Left) _ 0 (λ e. other (sym e))
+
+module _ {R O : Type 0} (c : Config) (kind : Kind R O) (left : R → Bool) where
+  -- an event that counts keeps the count
+  pub counted_step : (s : Stage R) (e : Event O) → IsCounted c left s → EventCounts c kind left s e → IsCounted c left (act kind s e)
+  counted_step s e counted counts = act_cases kind (λ x. IsCounted c left x) s e counted
+      (λ r here takes. (counts_step c left s counted e.number r (kind.took r e.order (slice_index s.words (place_of (kind.plan r e.order)))) here (kind.plan r e.order)
+      (λ got. left (kind.took r e.order got)) _
+      (counts r (record { here = here; takes = takes })) refl).holds)
+
+  -- once all have ended it goes on so
+  pub none_step : (s : Stage R) (e : Event O) → IsCounted c left s → EventCounts c kind left s e → view c s.words Left ≡ 0 → view c (act kind s e).words Left ≡ 0
+  none_step s e counted counts none = act_cases kind (λ x. view c x.words Left ≡ 0) s e none
+      (λ r here takes. (counts_step c left s counted e.number r (kind.took r e.order (slice_index s.words (place_of (kind.plan r e.order)))) here (kind.plan r e.order)
+      (λ got. left (kind.took r e.order got)) _
+      (counts r (record { here = here; takes = takes })) refl).none_stays none)
+
+  -- so does a run of events that count
+  pub counted_run : (s : Stage R) (es : List (Event O)) → IsCounted c left s → EachCounts c kind left s es → IsCounted c left (go kind s es)
+  counted_run s [] counted counts = subst (λ x. IsCounted c left x) (sym (go-none kind s)) counted
+  counted_run s (e ∷ es) counted counts = subst (λ x. IsCounted c left x) (sym (go-first kind s e es))
+      (counted_run (act kind s e) es (counted_step s e counted counts.0) counts.1)
+
+  pub none_run : (s : Stage R) (es : List (Event O)) → IsCounted c left s → EachCounts c kind left s es → view c s.words Left ≡ 0 → view c (go kind s es).words Left ≡ 0
+  none_run s [] counted counts none = subst (λ x. view c x.words Left ≡ 0) (sym (go-none kind s)) none
+  none_run s (e ∷ es) counted counts none = subst (λ x. view c x.words Left ≡ 0) (sym (go-first kind s e es))
+      (none_run (act kind s e) es (counted_step s e counted counts.0) counts.1 (none_step s e counted counts.0 none))
+
+-- a mutator that has not ended finds a count that is not 0
+pub left_some : {R : Type 0} (c : Config) (left : R → Bool) (s : Stage R) (number : ℕ) (r : R) → IsCounted c left s → slice_get s.machines number ≡ Some r → left r ≡ true → view c s.words Left ≢ 0
+left_some c left s number r counted here is none = omega (arith, none, counted.counts, count_some left s.machines number r here is)

@@ -1,0 +1,77 @@
+-- One step keeps the handshake: that of a mutator or helper, and that of the control.
+use Rattle.std.proofs.Common.{◌≡◌, ◌≢◌, ℕ, ◌<◌, Bool, List, length, true, false, Some, refl, sym, ◌∙◌, subst, arith}
+use Rattle.std.specs.Prelude.{slice_get, slice_set, nat_eq}
+use Rattle.std.proofs.lemmas.Bool.Decides.{nat_tests}
+use Rattle.heap_words.specs.declared.config.Config.{Config}
+use Rattle.heap_words.specs.Words.{Pause, State, view}
+use Rattle.steps_base.specs.Steps.{Stage}
+use Rattle.steps_base.proofs.Places.{slice_get-set_same, slice_get-set_other}
+use Rattle.handshake.specs.Standing.{Standing, state_word, pause_word, is_within, is_checked, IsSeated, control_seat}
+use Rattle.handshake.specs.Shaken.{IsShaken}
+
+-- What holds of the new machine at its number, and of the old ones elsewhere, holds of each machine after a step.
+pub machine_cases : {R : Type 0} (machines : List R) (number : ℕ) (old new : R) → slice_get machines number ≡ Some old
+    → (k : ℕ) (r : R) → slice_get (slice_set machines number new) k ≡ Some r → (P : R → Type 0)
+    → (k ≡ number → P new) → (k ≢ number → slice_get machines k ≡ Some r → P r) → P r
+machine_cases {R} machines number old new here k r at_k P same other = by_number (nat_eq k number) refl
+  where
+    by_number : (b : Bool) → nat_eq k number ≡ b → P r
+    by_number true is =
+        let e : k ≡ number = grind (arith, nat_tests) in
+        let is_new : new ≡ r = cc (at_k, e, slice_get-set_same machines number old new here) in
+        subst P is_new (same e)
+    by_number false is =
+        let apart : k ≢ number = grind (arith, nat_tests) in
+        other apart (sym (slice_get-set_other machines number k new apart) ∙ at_k)
+
+module _ {R : Type 0} (c : Config) (standing : R → Standing) (s : Stage R) (shaken : IsShaken c standing s) (number : ℕ) (old new : R) (here : slice_get s.machines number ≡ Some old) (words : List ℕ) (long : length words ≡ length s.words) where
+  -- the stage after the step
+  abbrev stepped : Stage R
+  stepped = record { words = words; machines = slice_set s.machines number new }
+
+  -- where each machine is seated after the step
+  seated_then : IsSeated c number (standing new) → (k : ℕ) (r : R) → slice_get (slice_set s.machines number new) k ≡ Some r → IsSeated c k (standing r)
+  seated_then is k r at_k = machine_cases s.machines number old new here k r at_k (λ x. IsSeated c k (standing x))
+      (λ e. subst (λ n. IsSeated c n (standing new)) (sym e) is)
+      (λ apart at_old. shaken.seated k r at_old)
+
+  -- the step of a mutator or helper
+  pub seat_keeps : number < control_seat c → IsSeated c number (standing new)
+      → view c words Pause ≡ view c s.words Pause
+      → view c words (State number) ≡ state_word (standing new)
+      → ((seat : ℕ) → seat < control_seat c → seat ≢ number → view c words (State seat) ≡ view c s.words (State seat))
+      → (is_checked (standing shaken.control) number ≡ true → is_within (standing new) ≡ false)
+      → IsShaken c standing stepped
+  seat_keeps below seated pause own others out = record {
+    words = long ∙ shaken.words;
+    control = shaken.control;
+    there = slice_get-set_other s.machines number (control_seat c) new (omega (arith, below)) ∙ shaken.there;
+    seated = seated_then seated;
+    pause = pause ∙ shaken.pause;
+    states = λ seat r low at_seat. machine_cases s.machines number old new here seat r at_seat (λ x. view c words (State seat) ≡ state_word (standing x))
+        (λ e. subst (λ n. view c words (State n) ≡ state_word (standing new)) (sym e) own)
+        (λ apart at_old. others seat low apart ∙ shaken.states seat r low at_old);
+    checked = λ seat r low at_seat is. machine_cases s.machines number old new here seat r at_seat (λ x. is_within (standing x) ≡ false)
+        (λ e. out (subst (λ n. is_checked (standing shaken.control) n ≡ true) e is))
+        (λ apart at_old. shaken.checked seat r low at_old is);
+  }
+
+  -- the step of the control
+  pub control_keeps : number ≡ control_seat c → IsSeated c number (standing new)
+      → view c words Pause ≡ pause_word (standing new)
+      → ((seat : ℕ) → seat < control_seat c → view c words (State seat) ≡ view c s.words (State seat))
+      → ((seat : ℕ) (r : R) → seat < control_seat c → slice_get s.machines seat ≡ Some r → is_checked (standing new) seat ≡ true → is_within (standing r) ≡ false)
+      → IsShaken c standing stepped
+  control_keeps is_control seated pause states checked = record {
+    words = long ∙ shaken.words;
+    control = new;
+    there = subst (λ n. slice_get (slice_set s.machines number new) n ≡ Some new) is_control (slice_get-set_same s.machines number old new here);
+    seated = seated_then seated;
+    pause = pause;
+    states = λ seat r low at_seat. machine_cases s.machines number old new here seat r at_seat (λ x. view c words (State seat) ≡ state_word (standing x))
+        (λ e. absurd (omega (arith, low, e, is_control)))
+        (λ apart at_old. states seat low ∙ shaken.states seat r low at_old);
+    checked = λ seat r low at_seat is. machine_cases s.machines number old new here seat r at_seat (λ x. is_within (standing x) ≡ false)
+        (λ e. absurd (omega (arith, low, e, is_control)))
+        (λ apart at_old. checked seat r low at_old is);
+  }

@@ -1,0 +1,94 @@
+ghost use Rattle.std.specs.Prelude.{◌≡◌, ◌<◌, ◌+◌, false};
+ghost use Rattle.heap_words.specs.Access.{place_of};
+ghost use Rattle.heap_words.specs.Words.{table_words};
+ghost use Rattle.steps_base.specs.Touch.{placed};
+ghost use Rattle.handshake.specs.Rows as rows;
+
+use crate::values::{IN, OUT, UNWANTED};
+use heap_words::{Access, Config, Place, Took};
+
+/// Where a mutator or a helper stands that enters the heap.
+#[derive(Clone, Copy, Debug, PartialEq, Eq)]
+pub enum EnterSpot {
+    /// It stores into its state word that it is in.
+    Raise,
+    /// It looks whether a pause is wanted, now that its state word says that it is in.
+    Look,
+    /// A pause is wanted: it stores into its state word that it is out.
+    Lower,
+    /// It waits until no pause is wanted.
+    Await,
+    /// It is inside, and no pause begins until it leaves. It makes no access.
+    Inside,
+}
+
+impl EnterSpot {
+    /// The place of the next access. There is none inside, where it is named as that of the last access.
+    pub fn place(self) -> Place
+        ensures { result ≡ rows.enter_place self }
+    {
+        match self {
+            EnterSpot::Raise => Place::E1,
+            EnterSpot::Look | EnterSpot::Inside => Place::E2,
+            EnterSpot::Lower => Place::E3,
+            EnterSpot::Await => Place::E4,
+        }
+    }
+
+    /// Whether it is inside.
+    pub fn is_entered(self) -> bool
+        ensures { result ≡ rows.is_entered self }
+    {
+        self == EnterSpot::Inside
+    }
+
+    /// The next access, of the machine of a seat of a mutator or a helper.
+    pub fn access(self, config: Config, seat: usize) -> Access
+        requires seat { seat < config.mutators + config.helpers }
+        requires busy { rows.is_entered self ≡ false }
+        ensures row { result ≡ placed config (rows.enter_touch seat self) }
+        ensures inside { place_of result < table_words config }
+    {
+        match self {
+            EnterSpot::Raise => Access::Store {
+                at: config.state_at(seat),
+                value: IN,
+            },
+            EnterSpot::Lower => Access::Store {
+                at: config.state_at(seat),
+                value: OUT,
+            },
+            EnterSpot::Look | EnterSpot::Await => Access::Load {
+                at: config.pause_at(),
+            },
+            EnterSpot::Inside => unreachable!(),
+        }
+    }
+
+    /// Where it stands after it, by the word that the access has found; inside it stays.
+    pub fn after(self, got: u64) -> EnterSpot
+        ensures row { result ≡ rows.enter_next self got }
+    {
+        match self {
+            EnterSpot::Raise => EnterSpot::Look,
+            EnterSpot::Look if got == UNWANTED => EnterSpot::Inside,
+            EnterSpot::Look => EnterSpot::Lower,
+            EnterSpot::Lower => EnterSpot::Await,
+            EnterSpot::Await if got == UNWANTED => EnterSpot::Raise,
+            EnterSpot::Await => EnterSpot::Await,
+            EnterSpot::Inside => EnterSpot::Inside,
+        }
+    }
+
+    /// What the step says that finds this word: done where it leads inside, again where it waits on.
+    pub fn says(self, got: u64) -> Took
+        ensures { result ≡ rows.enter_says self got }
+    {
+        match self {
+            EnterSpot::Look if got == UNWANTED => Took::Done,
+            EnterSpot::Await if got != UNWANTED => Took::Again,
+            EnterSpot::Inside => Took::Done,
+            _ => Took::More,
+        }
+    }
+}

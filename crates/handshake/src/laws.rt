@@ -1,0 +1,37 @@
+//! The handshake by itself, over any kind of machine: it looks at no object. The laws are of every list of events, so of every
+//! way in which threads may take turns.
+
+ghost use Rattle.std.specs.Prelude.{ℕ, ◌≡◌, ◌≢◌, Bool, true, List, Some, slice_get};
+ghost use Rattle.heap_words.specs.declared.config.Config.{Config};
+ghost use Rattle.heap_words.specs.Words.{Left, view};
+ghost use Rattle.steps_base.specs.Steps.{Kind, Stage, Event, go};
+ghost use Rattle.handshake.specs.Standing.{Standing};
+ghost use Rattle.handshake.specs.Obeys.{RowsObey};
+ghost use Rattle.handshake.specs.Shaken.{IsShaken, EachObeys, IsPausing, IsStill};
+ghost use Rattle.handshake.specs.Left.{IsCounted, EachCounts};
+
+/// The law of the handshake: whatever list of events is made of which each one obeys, state words and pause word go on to say
+/// where the machines stand; and from the last check of a pause to its end no mutator or helper is in the heap, and none makes
+/// an access to a word of the image but to read it.
+pub fn every_list_of_events<R, O>()
+    ensures shaken { (c : Config) (kind : Kind R O) (standing : R → Standing) (s : Stage R) (events : List (Event O))
+        → IsShaken c standing s → EachObeys c kind standing s events → IsShaken c standing (go kind s events) }
+    ensures still { (c : Config) (kind : Kind R O) (standing : R → Standing) (s : Stage R)
+        → IsShaken c standing s → IsPausing c standing s → IsStill c kind standing s }
+{}
+
+/// A law: the rows of entering, leaving, stopping and ending a pause are steps that obey.
+pub fn rows_obey()
+    ensures { (c : Config) → RowsObey c }
+{}
+
+/// The law of the count of mutators that have not ended: whatever list of events is made of which each one counts, the word
+/// goes on to be their number. So a mutator that ends finds no 0; and a word that is 0 stays 0.
+pub fn mutators_are_counted<R, O>()
+    ensures counted { (c : Config) (kind : Kind R O) (left : R → Bool) (s : Stage R) (events : List (Event O))
+        → IsCounted c left s → EachCounts c kind left s events → IsCounted c left (go kind s events) }
+    ensures found { (c : Config) (left : R → Bool) (s : Stage R) (number : ℕ) (r : R)
+        → IsCounted c left s → slice_get s.machines number ≡ Some r → left r ≡ true → view c s.words Left ≢ 0 }
+    ensures none_stays { (c : Config) (kind : Kind R O) (left : R → Bool) (s : Stage R) (events : List (Event O))
+        → IsCounted c left s → EachCounts c kind left s events → view c s.words Left ≡ 0 → view c (go kind s events).words Left ≡ 0 }
+{}

@@ -1,0 +1,134 @@
+-- A call goes on until its mutator leaves: no other step leads to where no call is in progress.
+use Rattle.std.proofs.Common.{◌≡◌, ℕ, Bool, true, false, length, None, refl}
+use Rattle.std.specs.Prelude.{◌==◌, nat_lt, if◌then◌else◌}
+use Rattle.heap_words.specs.declared.config.Config.{Config}
+use Rattle.shen_graph.specs.declared.command.Command.{Command}
+use Rattle.shen_graph.specs.declared.command.Command.TheVariants.{New, Drop, Copy, Same, Get, Set, Cas, Xchg, Rd, Wr, Gc}
+use Rattle.shen_graph.specs.declared.command.Reply.TheVariants as reply
+use Rattle.shen_graph.specs.declared.order.Order.TheVariants.{Nothing}
+use Rattle.handshake.specs.declared.enter_spot.EnterSpot.{EnterSpot}
+use Rattle.handshake.specs.declared.enter_spot.EnterSpot.TheVariants.{Inside, Raise}
+use Rattle.handshake.specs.Rows.{enter_next}
+use Rattle.alloc_buffers.specs.declared.spot.TakeSpot.{TakeSpot}
+use Rattle.alloc_buffers.specs.declared.spot.TakeSpot.TheVariants as take_spot
+use Rattle.alloc_buffers.specs.declared.spot.Taken.TheVariants.{At, NoRoom}
+use Rattle.mutator.specs.declared.spot.Spot.{Spot}
+use Rattle.mutator.specs.declared.spot.Spot.TheVariants.{Rest, Ended, Entering, LoadPhase, LoadSet, Loading, OnField, OnNumber, Showing, StoreRoot, Making, AskCycle, Waiting, Leave, Gone}
+use Rattle.mutator.specs.declared.spot.Entered.{Entered}
+use Rattle.mutator.specs.declared.spot.Entered.TheVariants.{Call, Waited}
+use Rattle.mutator.specs.declared.loads.LoadSpot.{LoadSpot}
+use Rattle.mutator.specs.declared.loads.LoadSpot.TheVariants as load
+use Rattle.mutator.specs.declared.fields.FieldSpot.{FieldSpot}
+use Rattle.mutator.specs.declared.fields.FieldSpot.TheVariants as fields
+use Rattle.mutator.specs.declared.numbers.NumberSpot.{NumberSpot}
+use Rattle.mutator.specs.declared.numbers.NumberSpot.TheVariants as number
+use Rattle.mutator.specs.declared.shows.ShowSpot.{ShowSpot}
+use Rattle.mutator.specs.declared.shows.ShowSpot.TheVariants as show
+use Rattle.mutator.specs.declared.makes.MakeSpot.{MakeSpot}
+use Rattle.mutator.specs.declared.makes.MakeSpot.TheVariants as make
+use Rattle.mutator.specs.declared.waits.WaitSpot.{WaitSpot}
+use Rattle.mutator.specs.declared.waits.WaitSpot.TheVariants as wait
+use Rattle.mutator.specs.Commands.{roots_of, lacks_object, has_part}
+use Rattle.mutator.specs.Orders.{is_between_calls}
+use Rattle.mutator.specs.WaitRows.{after_enter, wait_next}
+use Rattle.mutator.specs.Rows.{Mutating, given_at, next_at, first_spot, after_roots, after_first, after_second, after_root, on_number, with_part, after_shape, after_expected, after_take, take_next, load_next, field_next, number_next, show_next, make_next}
+
+-- a call is in progress
+abbrev InCall : Spot → Type 0
+InCall spot = is_between_calls spot ≡ false
+
+either : (b : Bool) (x y : Spot) → InCall x → InCall y → InCall (if b then x else y)
+either true x y one other = one
+either false x y one other = other
+
+in_enter : (next : Entered) (at : EnterSpot) → InCall (after_enter next at)
+in_enter Call Inside = refl
+in_enter Waited Inside = refl
+in_enter Call at = refl
+in_enter Waited at = refl
+
+in_first_spot : (command : Command) → InCall (first_spot command)
+in_first_spot (New dst refs nums) = refl
+in_first_spot (Drop dst) = refl
+in_first_spot Gc = refl
+in_first_spot _ = refl
+
+in_roots : (command : Command) (first second third : ℕ) → InCall (after_roots command first second third)
+in_roots (Copy dst src) first second third = refl
+in_roots (Same a b) first second third = refl
+in_roots _ first second third = refl
+
+in_first : (command : Command) (first : ℕ) → InCall (after_first command first)
+in_first command first = either (nat_lt 1 (length (roots_of command))) (Loading (load.Second first)) (after_roots command first 0 0) refl (in_roots command first 0 0)
+
+in_second : (command : Command) (first second : ℕ) → InCall (after_second command first second)
+in_second command first second = either (nat_lt 2 (length (roots_of command))) (Loading (load.Third first second)) (after_roots command first second 0) refl (in_roots command first second 0)
+
+in_root : (command : Command) (first : ℕ) → InCall (after_root command first)
+in_root command first = either (lacks_object command first) (Leave reply.Bad) (after_first command first) refl (in_first command first)
+
+in_number : (command : Command) (object shape : ℕ) → InCall (on_number command object shape)
+in_number (Rd obj index) object shape = refl
+in_number (Wr obj index value) object shape = refl
+in_number _ object shape = refl
+
+in_part : (command : Command) (object second third shape : ℕ) → InCall (with_part command object second third shape)
+in_part (Get dst src field) object second third shape = refl
+in_part (Set obj field val) object second third shape = refl
+in_part (Cas obj field expect val) object second third shape = refl
+in_part (Xchg dst obj field val) object second third shape = refl
+in_part command object second third shape = in_number command object shape
+
+in_shape : (command : Command) (object second third shape : ℕ) → InCall (after_shape command object second third shape)
+in_shape command object second third shape = either (has_part command shape) (with_part command object second third shape) (Leave reply.Bad) (in_part command object second third shape) refl
+
+in_take : (take : TakeSpot) → InCall (after_take take)
+in_take (take_spot.Ended (At address)) = refl
+in_take (take_spot.Ended NoRoom) = refl
+in_take _ = refl
+
+in_load : (command : Command) (at : LoadSpot) (got : ℕ) → InCall (load_next command at got)
+in_load command load.First got = in_root command got
+in_load command (load.Second first) got = in_second command first got
+in_load command (load.Third first second) got = in_roots command first second got
+in_load command (load.Shape object second third) got = in_shape command object second third got
+
+in_field : (object : ℕ) (at : FieldSpot) (got : ℕ) → InCall (field_next object at got)
+in_field object (fields.LoadExpected expect value) got = either (got == expect) (OnField object (fields.Exchange got expect value)) (Leave reply.No) refl refl
+in_field object (fields.Exchange found expect value) got = either (got == found) (Leave reply.Yes) (OnField object (fields.LoadExpected expect value)) refl refl
+in_field object _ got = refl
+
+in_numbers : (at : NumberSpot) (got : ℕ) → InCall (number_next at got)
+in_numbers number.Load got = refl
+in_numbers number.Store got = refl
+
+in_show : (value : ℕ) (at : ShowSpot) (got : ℕ) → InCall (show_next value at got)
+in_show value show.LoadName got = refl
+in_show value (show.StoreRoot reply) got = refl
+
+in_make : (c : Config) (seat made : ℕ) (command : Command) (at : MakeSpot) (got : ℕ) → InCall (make_next c seat made command at got)
+in_make c seat made command (make.Taking take) got = in_take (take_next c command take got)
+in_make c seat made command (make.StoreWord address done) got = refl
+in_make c seat made command (make.StoreRoot address) got = refl
+
+in_wait : (seat made : ℕ) (at : WaitSpot) (got : ℕ) → InCall (wait_next seat made at got)
+in_wait seat made wait.Poll got = either (got == 0) (Waiting wait.Poll) (Entering Raise Waited) refl refl
+in_wait seat made _ got = refl
+
+-- a call that is in progress goes on, but where its mutator leaves
+pub call_goes_on : (c : Config) (m : Mutating) (got : ℕ) (spot : Spot) → is_between_calls spot ≡ false → given_at spot ≡ None → is_between_calls (next_at c m Nothing got spot).spot ≡ false
+call_goes_on c m got Rest busy none = absurd (cc (busy))
+call_goes_on c m got (Ended reply) busy none = absurd (cc (busy))
+call_goes_on c m got Gone busy none = absurd (cc (busy))
+call_goes_on c m got (Entering at next) busy none = in_enter next (enter_next at got)
+call_goes_on c m got LoadPhase busy none = refl
+call_goes_on c m got LoadSet busy none = in_first_spot m.kept.command
+call_goes_on c m got (Loading at) busy none = in_load m.kept.command at got
+call_goes_on c m got (OnField object at) busy none = in_field object at got
+call_goes_on c m got (OnNumber object refs at) busy none = in_numbers at got
+call_goes_on c m got (Showing value at) busy none = in_show value at got
+call_goes_on c m got (StoreRoot value) busy none = refl
+call_goes_on c m got (Making at) busy none = in_make c m.seat m.made m.kept.command at got
+call_goes_on c m got AskCycle busy none = refl
+call_goes_on c m got (Waiting at) busy none = in_wait m.seat m.made at got
+call_goes_on c m got (Leave reply) busy none = absurd (cc (none))

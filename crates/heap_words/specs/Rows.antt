@@ -1,0 +1,51 @@
+-- Which word stands at a place of the table, and that the words say all of a table.
+use Rattle.std.specs.Prelude.{◌≡◌, ℕ, ◌+◌, ◌-◌, ◌*◌, ◌/◌, ◌%◌, ◌<◌, nat_lt, if◌then◌else◌, List, [], ◌∷◌, length}
+use Rattle.heap_words.specs.Ranges.{seat_count}
+use Rattle.heap_words.specs.declared.config.Config.{Config}
+use Rattle.heap_words.specs.Words.{Word, Pause, Left, End, State, Phase, Cset, Free, Evac, Claim, Ask, Top, Tams, Limit, Current, Root, Count, Buffer, Wait, Answer, Grey, Black, Heap, IsWord, word_at, table_words, bit_words, heap_size, view}
+
+-- words that stand one after another: how many there are, and each by how many of them stand before it
+pub record Row : Type 0 where
+  pub size : ℕ
+  pub word : ℕ → Word
+
+-- a word alone
+abbrev pub one : Word → Row
+one word = record { size = 1; word = λ k. word }
+
+-- so many words of one kind
+abbrev pub many : ℕ → (ℕ → Word) → Row
+many size word = record { size = size; word = word }
+
+-- the rows of the table, in their order
+abbrev pub rows : Config → List Row
+rows c =
+    one Pause ∷ one Left ∷ one End ∷ many (c.mutators + c.helpers) (λ k. State k)
+    ∷ one Phase ∷ one Cset ∷ one Free ∷ one Evac ∷ one Claim ∷ one Ask
+    ∷ many c.regions (λ k. Top k) ∷ many c.regions (λ k. Tams k) ∷ many c.regions (λ k. Limit k)
+    ∷ many (seat_count c.mutators c.helpers) (λ k. Current k)
+    ∷ many (16 * c.mutators) (λ k. Root (k / 16) (k % 16)) ∷ many c.mutators (λ k. Count k)
+    ∷ many (8 * c.mutators) (λ k. Buffer (k / 8) (k % 8))
+    ∷ many c.mutators (λ k. Wait k) ∷ many c.mutators (λ k. Answer k)
+    ∷ many (bit_words c) (λ k. Grey k) ∷ many (bit_words c) (λ k. Black k)
+    ∷ many (heap_size c) (λ k. Heap (c.region_words + k)) ∷ []
+
+-- the word in rows that has so many words before it; Pause behind all of them
+abbrev pub word_in : List Row → ℕ → Word
+word_in [] before = Pause
+word_in (row ∷ more) before = if nat_lt before row.size then row.word before else word_in more (before - row.size)
+
+-- the word at a place of the table
+unfoldable pub name_of : Config → ℕ → Word
+name_of c place = word_in (rows c) place
+
+-- each place of the table has a word, and each word is that of its place
+pub record AreNamed : Type 0 where
+  pub is_word : (c : Config) (place : ℕ) → place < table_words c → IsWord c (name_of c place)
+  pub there : (c : Config) (place : ℕ) → place < table_words c → word_at c (name_of c place) ≡ place
+  pub back : (c : Config) (word : Word) → IsWord c word → name_of c (word_at c word) ≡ word
+
+-- two tables in which all words read the same are one
+abbrev pub AreReadWhole : Type 0
+AreReadWhole = (c : Config) (xs ys : List ℕ) → length xs ≡ table_words c → length ys ≡ table_words c
+    → ((word : Word) → IsWord c word → view c xs word ≡ view c ys word) → xs ≡ ys

@@ -1,0 +1,211 @@
+-- A piece that is no object yet, room in hand or a promised object, becomes one: it keeps its words, and the graph has the object
+-- under a fresh name.
+use Rattle.std.proofs.Common.{◌≡◌, ◌≢◌, ℕ, zero, suc, ◌+◌, ◌<◌, ◌≤◌, true, false, replicate, Option, Some, None, ⊎_elim, refl, sym, ap, ◌∙◌, subst, arith}
+use Rattle.std.specs.Prelude.{◌==◌, if◌then◌else◌, slice_get}
+use Rattle.std.proofs.lemmas.Bool.{cases_eq, cases_Bool, cond-true, cond-false, eq-eqb}
+use Rattle.std.proofs.lemmas.Bool.Decides.{nat_tests}
+use Rattle.std.proofs.lemmas.Option.{none-some, same_Some, slice_get_within}
+use Rattle.std.proofs.lemmas.List.{length-replicate}
+use Rattle.heap_words.specs.declared.config.Config.{Config}
+use Rattle.regions.specs.Place.{base_of}
+use Rattle.shen_graph.specs.declared.name.Name.{Name}
+use Rattle.shen_graph.specs.Graph.{Object, same_name, blank}
+use Rattle.shen_graph.proofs.PlainLemmas.{same_name-true, same_name-itself}
+use Rattle.heap_words.specs.Encoding.{fresh_word}
+use Rattle.heap_world.specs.World.{Block, thing, hand, promised, words_of, Plot, name_at, Points, IsInUse, IsPlotted, IsFilled, IsThing, IsGiven, AreObjects, AreRooms, ArePromises}
+use Rattle.heap_world.proofs.Updates.{updated, updated_there, updated_else}
+use Rattle.heap_world.proofs.Pointing.{named_thing}
+use Rattle.heap_world.proofs.Objects.{two_names, where_object}
+use Rattle.heap_world.proofs.Pieces.{piece_cases, object_reads}
+
+-- the references of a new object are null, and its numbers 0
+pub all_alike : {A : Type 0} (n i : ℕ) (x y : A) → slice_get (replicate n x) i ≡ Some y → y ≡ x
+all_alike zero i x y is = cc
+all_alike (suc n) zero x y is = sym (same_Some x y is)
+all_alike (suc n) (suc i) x y is = all_alike n i x y is
+
+-- the words of a new object past its name are 0
+zero_word : (seat made refs nums k : ℕ) → 3 ≤ k → fresh_word seat made refs nums k ≡ 0
+zero_word seat made refs nums k past = grind (arith, nat_tests)
+
+-- words that were stored so are those of a new object
+pub new_object : (heap : ℕ → ℕ) (block : Plot) (address seat made refs nums : ℕ) → refs ≤ 16 → nums ≤ 16
+    → ((k : ℕ) → k < 3 + refs + nums → heap (address + k) ≡ fresh_word seat made refs nums k)
+    → IsThing heap block address refs nums (record { thread = seat + 1; count = made + 1 }) (blank refs nums)
+new_object heap block address seat made refs nums few_refs few_nums stored = record {
+  header = ap heap (omega arith) ∙ stored 0 (omega arith);
+  shape = stored 1 (omega arith);
+  name_word = stored 2 (omega arith);
+  few_refs = few_refs;
+  few_nums = few_nums;
+  refs_are = length-replicate refs None;
+  nums_are = length-replicate nums 0;
+  references = λ i reference there.
+      let within : i < refs = subst (λ k. i < k) (length-replicate refs None) (slice_get_within (blank refs nums).refs i reference there) in
+      let word : heap (address + 3 + i) ≡ 0 = ap heap (omega arith) ∙ stored (3 + i) (omega arith) ∙ zero_word seat made refs nums (3 + i) (omega arith) in
+      subst (λ r. Points block (heap (address + 3 + i)) r) (sym (all_alike refs i None reference there)) word;
+  numbers = λ i n there.
+      let within : i < nums = subst (λ k. i < k) (length-replicate nums 0) (slice_get_within (blank refs nums).nums i n there) in
+      let word : heap (address + 3 + refs + i) ≡ 0 = ap heap (omega arith) ∙ stored (3 + refs + i) (omega arith) ∙ zero_word seat made refs nums (3 + refs + i) (omega arith) in
+      word ∙ sym (all_alike nums i 0 n there);
+}
+
+module _ (c : Config) (top : ℕ → ℕ) (block : Plot) (address refs nums : ℕ) (name : Name) (piece : Block) (unnamed : name_at (Some piece) ≡ None) (long : words_of piece ≡ 3 + refs + nums) (room : block address ≡ Some piece) where
+  -- the new object
+  abbrev new_thing : Block
+  new_thing = thing name refs nums
+
+  -- the plot with it
+  abbrev new_block : Plot
+  new_block = updated block address (Some new_thing)
+
+  -- another old piece stands where it stood
+  pub stays : (a : ℕ) (b : Block) → block a ≡ Some b → (piece ≡ b → ⊥) → new_block a ≡ Some b
+  stays a b is differs = updated_else block address (Some new_thing) a (λ same. differs (same_Some _ b (sym room ∙ ap block same ∙ is))) ∙ is
+
+  -- so does each object
+  pub things_stay : (a more_refs more_nums : ℕ) (n : Name) → block a ≡ Some (thing n more_refs more_nums) → new_block a ≡ Some (thing n more_refs more_nums)
+  things_stay a more_refs more_nums n is =
+      stays a (thing n more_refs more_nums) is (λ same. none-some n (sym unnamed ∙ ap (λ b. name_at (Some b)) same))
+
+  -- what a word stands for it still stands for
+  pub names_stay : (a : ℕ) (n : Name) → name_at (block a) ≡ Some n → name_at (new_block a) ≡ Some n
+  names_stay a n is = let old = named_thing (block a) n is in ap name_at (things_stay a old.0 old.1 n old.2)
+
+  -- a piece that is no object was there before, elsewhere
+  pub old_unnamed : (a : ℕ) (b : Block) → name_at (Some b) ≡ None → new_block a ≡ Some b → (a ≢ address) × (block a ≡ Some b)
+  old_unnamed a b none is = ⊎_elim
+      (λ (new : (a ≡ address) × (new_thing ≡ b)). absurd (none-some name (sym none ∙ ap (λ x. name_at (Some x)) (sym new.1))))
+      (λ (old : (a ≢ address) × (block a ≡ Some b)). old)
+      (piece_cases block address new_thing a b is)
+
+  -- so was room in hand
+  pub old_hand : (a other words : ℕ) → new_block a ≡ Some (hand other words) → (a ≢ address) × (block a ≡ Some (hand other words))
+  old_hand a other words is = old_unnamed a (hand other words) refl is
+
+  -- and a promised object
+  pub old_promise : (a other words : ℕ) → new_block a ≡ Some (promised other words) → (a ≢ address) × (block a ≡ Some (promised other words))
+  old_promise a other words is = old_unnamed a (promised other words) refl is
+
+  -- where a piece stands, one of the same words stood, and the other way round
+  old_piece : (a : ℕ) (b : Block) → new_block a ≡ Some b → (x : Block) × (block a ≡ Some x) × (words_of x ≡ words_of b)
+  old_piece a b is = ⊎_elim
+      (λ (new : (a ≡ address) × (new_thing ≡ b)). (piece, ap block new.0 ∙ room, long ∙ ap words_of new.1))
+      (λ (old : (a ≢ address) × (block a ≡ Some b)). (b, old.1, refl))
+      (piece_cases block address new_thing a b is)
+
+  -- where a piece stood, one stands
+  some_piece : (a : ℕ) → (b : Block) × (block a ≡ Some b) → (b : Block) × (new_block a ≡ Some b)
+  some_piece a old = ⊎_elim
+      (λ (same : a ≡ address). (new_thing, ap new_block same ∙ updated_there block address (Some new_thing)))
+      (λ (other : a ≢ address). (old.0, updated_else block address (Some new_thing) a (λ e. other (sym e)) ∙ old.1))
+      (cases_eq a address)
+
+  -- pieces lie where they should
+  pub plotted_again : IsPlotted c top block → IsPlotted c top new_block
+  plotted_again plotted = record {
+    tops = plotted.tops;
+    in_use = λ a b is. let old = old_piece a b is in subst (λ w. IsInUse c top a w) old.2 (plotted.in_use a old.0 old.1);
+    apart = λ a b x y is_x is_y before.
+        let old_x = old_piece a x is_x in
+        let old_y = old_piece b y is_y in
+        let far = plotted.apart a b old_x.0 old_y.0 old_x.1 old_y.1 before in
+        omega (arith, far, old_x.2);
+  }
+
+  -- they fill the part in use
+  pub filled_again : IsFilled c top block → IsFilled c top new_block
+  filled_again filled = record {
+    first = λ r inside used. some_piece (base_of c r) (filled.first r inside used);
+    next = λ r a x inside from is below.
+        let old = old_piece a x is in
+        some_piece (a + words_of x)
+        (subst (λ w. (b : Block) × (block (a + w) ≡ Some b)) old.2
+        (filled.next r a old.0 inside from old.1 (omega (arith, below, old.2))));
+  }
+
+  module _ (heap : ℕ → ℕ) (object : Name → Option Object) (objects : AreObjects heap block object) (fresh : (o : Object) → object name ≡ Some o → ⊥) (o : Object) where
+    -- the objects of other names are as before
+    other_object : (n : Name) → name ≢ n → where_object object name o n ≡ object n
+    other_object n differs = cond-false (same_name n name) _ _ (two_names n name (λ same. differs (sym same)))
+
+    -- the new name has the new object
+    own_object : where_object object name o name ≡ Some o
+    own_object = cond-true (same_name name name) _ _ (same_name-itself name)
+
+    -- no old object has the name
+    not_old : (a more_refs more_nums : ℕ) (n : Name) → block a ≡ Some (thing n more_refs more_nums) → name ≢ n
+    not_old a more_refs more_nums n is same = let old = objects.each a more_refs more_nums n is in fresh old.0 (ap object same ∙ old.1)
+
+    -- the words are those of the graph's objects
+    pub objects_again : IsThing heap new_block address refs nums name o → AreObjects heap new_block (where_object object name o)
+    objects_again new_is = record {
+      each = λ a more_refs more_nums n is. ⊎_elim
+          (λ (new : (a ≡ address) × (new_thing ≡ thing n more_refs more_nums)).
+          let same = new.1 in
+          let names : name ≡ n = cc in
+          let all_refs : refs ≡ more_refs = cc in
+          let all_nums : nums ≡ more_nums = cc in (
+            o,
+            ap (where_object object name o) (sym names) ∙ own_object,
+            subst (λ b. IsThing heap new_block b more_refs more_nums n o) (sym new.0)
+                (subst (λ m. IsThing heap new_block address more_refs more_nums m o) names
+                (subst (λ k. IsThing heap new_block address k more_nums name o) all_refs
+                (subst (λ k. IsThing heap new_block address refs k name o) all_nums new_is))),
+          ))
+          (λ (old : (a ≢ address) × (block a ≡ Some (thing n more_refs more_nums))).
+          let was = objects.each a more_refs more_nums n old.1 in (
+            was.0,
+            other_object n (not_old a more_refs more_nums n old.1) ∙ was.1,
+            object_reads heap heap block new_block a more_refs more_nums n was.0 (λ k below. refl) names_stay was.2,
+          ))
+          (piece_cases block address new_thing a (thing n more_refs more_nums) is);
+      once = λ a b refs_a nums_a refs_b nums_b n is_a is_b. ⊎_elim
+          (λ (new_a : (a ≡ address) × (new_thing ≡ thing n refs_a nums_a)). ⊎_elim
+          (λ (new_b : (b ≡ address) × (new_thing ≡ thing n refs_b nums_b)). new_a.0 ∙ sym new_b.0)
+          (λ (old_b : (b ≢ address) × (block b ≡ Some (thing n refs_b nums_b))). let same = new_a.1 in let names : name ≡ n = cc in absurd (not_old b refs_b nums_b n old_b.1 names))
+          (piece_cases block address new_thing b (thing n refs_b nums_b) is_b))
+          (λ (old_a : (a ≢ address) × (block a ≡ Some (thing n refs_a nums_a))). ⊎_elim
+          (λ (new_b : (b ≡ address) × (new_thing ≡ thing n refs_b nums_b)). let same = new_b.1 in let names : name ≡ n = cc in absurd (not_old a refs_a nums_a n old_a.1 names))
+          (λ (old_b : (b ≢ address) × (block b ≡ Some (thing n refs_b nums_b))). objects.once a b refs_a nums_a refs_b nums_b n old_a.1 old_b.1)
+          (piece_cases block address new_thing b (thing n refs_b nums_b) is_b))
+          (piece_cases block address new_thing a (thing n refs_a nums_a) is_a);
+    }
+
+  -- rooms in hand are as they should be
+  pub rooms_again : (current : ℕ → ℕ) → AreRooms c top current block → AreRooms c top current new_block
+  rooms_again current rooms a other words is = rooms a other words (old_hand a other words is).1
+
+  -- promised objects are as long as before
+  pub promises_again : ArePromises block → ArePromises new_block
+  promises_again promises a other words is = promises a other words (old_promise a other words is).1
+
+-- the counts with one more for a thread
+abbrev pub with_count : (ℕ → ℕ) → ℕ → ℕ → ℕ
+with_count count thread t = if t == thread then count t + 1 else count t
+
+-- no count falls
+count_grows : (count : ℕ → ℕ) (thread t : ℕ) → count t ≤ with_count count thread t
+count_grows count thread t = grind (arith, nat_tests)
+
+-- its own grows by one
+pub count_own : (count : ℕ → ℕ) (thread : ℕ) → with_count count thread thread ≡ count thread + 1
+count_own count thread = cond-true (thread == thread) _ _ (eq-eqb thread thread refl)
+
+-- each name is given, after a thread has given its next one
+pub given_again : (c : Config) (count : ℕ → ℕ) (object : Name → Option Object) (name : Name) (o : Object)
+    → ((n : Name) (p : Object) → object n ≡ Some p → IsGiven c count n)
+    → IsGiven c (with_count count name.thread) name
+    → (n : Name) (p : Object) → where_object object name o n ≡ Some p → IsGiven c (with_count count name.thread) n
+given_again c count object name o given new n p is = ⊎_elim
+    (λ (same : same_name n name ≡ true). subst (λ m. IsGiven c (with_count count name.thread) m) (sym (same_name-true n name same)) new)
+    (λ (differs : same_name n name ≡ false).
+    let was = given n p (sym (cond-false (same_name n name) _ _ differs) ∙ is) in
+    let grown = count_grows count name.thread n.thread in
+    record {
+      thread = was.thread;
+      made = (let made = was.made in omega (arith, grown));
+      by_thread = λ one. (let made = was.by_thread one in omega (arith, grown));
+      small = was.small;
+    })
+    (cases_Bool (same_name n name))

@@ -1,0 +1,41 @@
+-- What a mutator that waits, or has no call in progress, has asked for: its request, its answer, and what a pause made for it.
+use Rattle.std.specs.Prelude.{ℕ, ◌≡◌, ◌+◌, ◌<◌, ◌≤◌, Some}
+use Rattle.heap_words.specs.Encoding.{shape_word, fresh_word, request_code}
+use Rattle.heap_words.specs.Words.{Word, Wait, Answer, Heap}
+use Rattle.heap_world.specs.World.{Plot, promised}
+
+-- It has asked for nothing; it asks for an object of so many references and numbers, and is not answered yet; it was answered
+-- that the heap is full; or the object was made for it, and it was answered where.
+pub data Asking : Type 0 where
+  nothing : Asking
+  asks : (refs nums : ℕ) → Asking
+  refused : Asking
+  given : (refs nums : ℕ) → Asking
+
+-- no object is promised to the mutator of a seat
+abbrev pub HasNoPromise : Plot → ℕ → Type 0
+HasNoPromise block seat = (a words : ℕ) → block a ≡ Some (promised seat words) → ⊥
+
+-- its word asks for its next object, of so many references and numbers
+pub record IsRequest (memory : Word → ℕ) (count : ℕ → ℕ) (t refs nums : ℕ) : Type 0 where
+  pub wait_is : memory (Wait t) ≡ request_code (count (t + 1) + 1) (shape_word refs nums)
+  pub few_refs : refs ≤ 16
+  pub few_nums : nums ≤ 16
+  pub few : count (t + 1) < 4294967295
+
+-- its next object stands at an address, with the words of a new one, and no other is promised to it
+pub record IsPromise (memory : Word → ℕ) (block : Plot) (count : ℕ → ℕ) (t refs nums address : ℕ) : Type 0 where
+  pub here : block address ≡ Some (promised t (3 + refs + nums))
+  pub words : (k : ℕ) → k < 3 + refs + nums → memory (Heap (address + k)) ≡ fresh_word t (count (t + 1)) refs nums k
+  pub only : (b more : ℕ) → block b ≡ Some (promised t more) → b ≡ address
+  pub few_refs : refs ≤ 16
+  pub few_nums : nums ≤ 16
+  pub few : count (t + 1) < 4294967295
+
+-- what words, pieces and counts say of a mutator that has asked so
+abbrev pub IsAsked : (Word → ℕ) → Plot → (ℕ → ℕ) → ℕ → Asking → Type 0
+IsAsked memory block count t nothing = (memory (Wait t) ≡ 0) × (memory (Answer t) ≡ 0) × HasNoPromise block t
+IsAsked memory block count t (asks refs nums) = IsRequest memory count t refs nums × (memory (Answer t) ≡ 0) × HasNoPromise block t
+IsAsked memory block count t refused = (memory (Wait t) ≡ 0) × (memory (Answer t) ≡ 1) × HasNoPromise block t
+IsAsked memory block count t (given refs nums) =
+    (memory (Wait t) ≡ 0) × (1 < memory (Answer t)) × IsPromise memory block count t refs nums (memory (Answer t))

@@ -1,0 +1,18 @@
+use Rattle.std.proofs.Common.{refl}
+use Rattle.image_graph.specs.State.{config_of, words_of, memory_of}
+use Rattle.image_check.proofs.Holding.{laid_holds}
+use Rattle.image_check.proofs.Seats.{no_seat}
+use Rattle.image_check.proofs.check.stands.Goals as goal
+
+pub returns : goal.returns
+returns c told =
+    laid_holds (config_of c.args.image.now) (memory_of c.args.image.now) c.args.objects.now (record {
+      regions = c.if-not-are_regions_right.ensures refl;
+      free = c.if-not-is_free_word_right.ensures refl;
+      currents = c.if-not-is_nobodys.ensures refl;
+      order = c.if-not-are_in_order.ensures refl;
+      lies = c.if-not-lie_right.ensures refl;
+      reads = c.if-not-read_right.ensures refl;
+      mutators = c.are_mutators_right.ensures told;
+    })
+    (no_seat (config_of c.args.image.now) (words_of c.args.image.now))

@@ -1,0 +1,200 @@
+-- Words that stand for a graph with promised objects represent it: the promised objects are no objects of the graph any more.
+use Rattle.std.proofs.Common.{◌≡◌, ℕ, ◌+◌, ◌-◌, ◌<◌, Bool, true, false, slice_get, Some, None, ⊎_elim, refl, sym, ap, ◌∙◌, arith}
+use Rattle.std.specs.Prelude.{if◌then◌else◌}
+use Rattle.std.proofs.lemmas.Bool.{cond-true, cond-false, cases_Bool}
+use Rattle.std.proofs.lemmas.Option.{none-some, same_Some}
+use Rattle.heap_words.specs.declared.config.Config.{Config}
+use Rattle.heap_words.specs.Words.{Word, Free, Top, Root, Heap}
+use Rattle.shen_graph.specs.declared.name.Name.{Name}
+use Rattle.shen_graph.specs.Graph.{Graph, Object, Reference, blank, fresh, same_reference}
+use Rattle.heap_world.specs.World.{Block, thing, hand, promised, words_of, Plot, name_at, Points, IsGiven, AreObjects, SharedFacts}
+use Rattle.heap_world.proofs.Pointing.{named_thing}
+use Rattle.image_laws.specs.Promised.{Promises, with_promised}
+use Rattle.image_laws.specs.Image.{ImageStands}
+use Rattle.image_laws.proofs.Promised.{same_reference-true}
+use Rattle.pause_laws.proofs.Mapped.{mapped, mapped_at, mapped_from, plotted_alike, filled_alike}
+
+-- whether a name is that of a promised object
+abbrev pub is_promised : Promises → Name → Bool
+is_promised p n = same_reference (p.ref n.thread) (Some n)
+
+-- an object of the larger graph as a piece: a promised one is of no graph
+abbrev pub as_promised : Promises → Block → Block
+as_promised p (thing name refs nums) = if is_promised p name then promised (name.thread - 1) (3 + refs + nums) else thing name refs nums
+as_promised p (hand seat words) = hand seat words
+as_promised p (promised seat words) = promised seat words
+
+-- a name has an object
+abbrev pub IsKnown : Graph → Name → Type 0
+IsKnown g n = (o : Object) × (g.object n ≡ Some o)
+
+-- What is taken of such words: what is promised are next objects, names were given, and what roots and pieces lead to has an
+-- object.
+pub record IsAfter (c : Config) (m : Word → ℕ) (block : Plot) (g : Graph) (p : Promises) : Type 0 where
+  pub stands : ImageStands c m block g p
+  pub next : (t : ℕ) (n : Name) → p.ref t ≡ Some n → n ≡ fresh g t
+  pub given : (n : Name) (o : Object) → g.object n ≡ Some o → IsGiven c g.count n
+  pub fields : (a refs nums i : ℕ) (n f : Name) (o : Object) → block a ≡ Some (thing n refs nums) → g.object n ≡ Some o → slice_get o.refs i ≡ Some (Some f) → IsKnown g f
+  pub roots : (t i : ℕ) (n : Name) → g.root t i ≡ Some n → IsKnown g n
+
+-- an object at an address, that is no promised one
+abbrev pub IsOld : Plot → Promises → ℕ → ℕ → ℕ → Name → Type 0
+IsOld block p a refs nums n = (block a ≡ Some (thing n refs nums)) × (is_promised p n ≡ false)
+
+-- and a promised one
+pub record IsPromisedThing (block : Plot) (p : Promises) (a seat words : ℕ) : Type 0 where
+  pub name : Name
+  pub refs : ℕ
+  pub nums : ℕ
+  pub here : block a ≡ Some (thing name refs nums)
+  pub named : p.ref name.thread ≡ Some name
+  pub seat_is : name.thread - 1 ≡ seat
+  pub words_are : 3 + refs + nums ≡ words
+
+module _ (c : Config) (m : Word → ℕ) (block : Plot) (g : Graph) (p : Promises) (is_after : IsAfter c m block g p) where
+  abbrev heap : ℕ → ℕ
+  heap a = m (Heap a)
+
+  abbrev stands : ImageStands c m block g p
+  stands = is_after.stands
+
+  abbrev pub taken : Plot
+  taken = mapped (as_promised p) block
+
+  -- a piece keeps its words
+  pub same_words : (a : ℕ) (b : Block) → block a ≡ Some b → words_of (as_promised p b) ≡ words_of b
+  same_words a (thing name refs nums) is = ⊎_elim
+      (λ (yes : is_promised p name ≡ true). ap words_of (cond-true (is_promised p name) (promised (name.thread - 1) (3 + refs + nums)) (thing name refs nums) yes))
+      (λ (no : is_promised p name ≡ false). ap words_of (cond-false (is_promised p name) (promised (name.thread - 1) (3 + refs + nums)) (thing name refs nums) no))
+      (cases_Bool (is_promised p name))
+  same_words a (hand seat words) is = refl
+  same_words a (promised seat words) is = refl
+
+  -- a name that has an object is no promised one
+  pub not_promised : (n : Name) → IsKnown g n → is_promised p n ≡ false
+  not_promised n known = ⊎_elim
+      (λ (yes : is_promised p n ≡ true).
+      let ref = same_reference-true (p.ref n.thread) n yes in
+      let count : n.count ≡ g.count n.thread + 1 = ap (λ (k : Name). k.count) (is_after.next n.thread n ref) in
+      let thread = stands.rooted.no_more_promised n.thread n ref in
+      absurd (let made = is_after.given n known.0 known.1 in omega (arith, made.by_thread (omega (arith, thread.2)), count)))
+      (λ (no : is_promised p n ≡ false). no)
+      (cases_Bool (is_promised p n))
+
+  -- it stands where it stood
+  pub known_stays : (a : ℕ) (n : Name) → IsKnown g n → name_at (block a) ≡ Some n → name_at (taken a) ≡ Some n
+  known_stays a n known is =
+      let was = named_thing (block a) n is in
+      ap name_at (mapped_at (as_promised p) block a (thing n was.0 was.1) was.2)
+      ∙ ap (λ b. name_at (Some b)) (cond-false (is_promised p n) (promised (n.thread - 1) (3 + was.0 + was.1)) (thing n was.0 was.1) (not_promised n known))
+
+  -- and so does what a word stands for
+  pub points_on : (word : ℕ) (r : Reference) → ((n : Name) → r ≡ Some n → IsKnown g n) → Points block word r → Points taken word r
+  points_on word None known points = points
+  points_on word (Some n) known points = known_stays word n (known n refl) points
+
+  -- an object that is left is an old one
+  left_of : (a refs nums : ℕ) (n : Name) (b : Block) → block a ≡ Some b → as_promised p b ≡ thing n refs nums → IsOld block p a refs nums n
+  left_of a refs nums n (thing name more_refs more_nums) is same = ⊎_elim
+      (λ (yes : is_promised p name ≡ true).
+      let gone : promised (name.thread - 1) (3 + more_refs + more_nums) ≡ thing n refs nums =
+      sym (cond-true (is_promised p name) (promised (name.thread - 1) (3 + more_refs + more_nums)) (thing name more_refs more_nums) yes) ∙ same in
+      cc)
+      (λ (no : is_promised p name ≡ false).
+      let stays : thing name more_refs more_nums ≡ thing n refs nums =
+      sym (cond-false (is_promised p name) (promised (name.thread - 1) (3 + more_refs + more_nums)) (thing name more_refs more_nums) no) ∙ same in
+      let name_is : name ≡ n = same_Some name n (ap (λ b. name_at (Some b)) stays) in
+      (is ∙ ap Some stays, ap (is_promised p) (sym name_is) ∙ no))
+      (cases_Bool (is_promised p name))
+  left_of a refs nums n (hand seat words) is same = absurd (let named = stands.things a (hand seat words) is in none-some named.0 named.1)
+  left_of a refs nums n (promised seat words) is same = absurd (let named = stands.things a (promised seat words) is in none-some named.0 named.1)
+
+  pub left : (a refs nums : ℕ) (n : Name) → taken a ≡ Some (thing n refs nums) → IsOld block p a refs nums n
+  left a refs nums n is = let was = mapped_from (as_promised p) block a (thing n refs nums) is in left_of a refs nums n was.0 was.1 was.2
+
+  -- a promised piece is a promised object
+  gone_of : (a seat words : ℕ) (b : Block) → block a ≡ Some b → as_promised p b ≡ promised seat words → IsPromisedThing block p a seat words
+  gone_of a seat words (thing name refs nums) is same = ⊎_elim
+      (λ (yes : is_promised p name ≡ true).
+      let gone : promised (name.thread - 1) (3 + refs + nums) ≡ promised seat words =
+      sym (cond-true (is_promised p name) (promised (name.thread - 1) (3 + refs + nums)) (thing name refs nums) yes) ∙ same in
+      record { name = name; refs = refs; nums = nums; here = is; named = same_reference-true (p.ref name.thread) name yes; seat_is = cc; words_are = cc })
+      (λ (no : is_promised p name ≡ false).
+      let stays : thing name refs nums ≡ promised seat words =
+      sym (cond-false (is_promised p name) (promised (name.thread - 1) (3 + refs + nums)) (thing name refs nums) no) ∙ same in
+      cc)
+      (cases_Bool (is_promised p name))
+  gone_of a seat words (hand other more) is same = absurd (let named = stands.things a (hand other more) is in none-some named.0 named.1)
+  gone_of a seat words (promised other more) is same = absurd (let named = stands.things a (promised other more) is in none-some named.0 named.1)
+
+  pub gone : (a seat words : ℕ) → taken a ≡ Some (promised seat words) → IsPromisedThing block p a seat words
+  gone a seat words is = let was = mapped_from (as_promised p) block a (promised seat words) is in gone_of a seat words was.0 was.1 was.2
+
+  -- no piece is room in hand
+  no_hand_of : (a seat words : ℕ) (b : Block) → block a ≡ Some b → as_promised p b ≡ hand seat words → ⊥
+  no_hand_of a seat words (thing name refs nums) is same = ⊎_elim
+      (λ (yes : is_promised p name ≡ true).
+      let one : promised (name.thread - 1) (3 + refs + nums) ≡ hand seat words =
+      sym (cond-true (is_promised p name) (promised (name.thread - 1) (3 + refs + nums)) (thing name refs nums) yes) ∙ same in
+      cc)
+      (λ (no : is_promised p name ≡ false).
+      let one : thing name refs nums ≡ hand seat words =
+      sym (cond-false (is_promised p name) (promised (name.thread - 1) (3 + refs + nums)) (thing name refs nums) no) ∙ same in
+      cc)
+      (cases_Bool (is_promised p name))
+  no_hand_of a seat words (hand other more) is same = let named = stands.things a (hand other more) is in none-some named.0 named.1
+  no_hand_of a seat words (promised other more) is same = let named = stands.things a (promised other more) is in none-some named.0 named.1
+
+  pub no_hands : (a seat words : ℕ) → taken a ≡ Some (hand seat words) → ⊥
+  no_hands a seat words is = let was = mapped_from (as_promised p) block a (hand seat words) is in no_hand_of a seat words was.0 was.1 was.2
+
+  -- the object of an old name
+  old_object : (n : Name) (o : Object) → is_promised p n ≡ false → (with_promised g p).object n ≡ Some o → g.object n ≡ Some o
+  old_object n o other is = sym (cond-false (is_promised p n) (Some (blank (p.refs n.thread) (p.nums n.thread))) (g.object n) other) ∙ is
+
+  -- objects that are left are the graph's
+  objects_left : AreObjects heap taken g.object
+  objects_left = record {
+    each = λ a refs nums n is.
+        let old = left a refs nums n is in
+        let o = stands.objects.each a refs nums n old.0 in
+        let object : g.object n ≡ Some o.0 = old_object n o.0 old.1 o.1 in (
+          o.0,
+          object,
+          record {
+            header = o.2.header;
+            shape = o.2.shape;
+            name_word = o.2.name_word;
+            few_refs = o.2.few_refs;
+            few_nums = o.2.few_nums;
+            refs_are = o.2.refs_are;
+            nums_are = o.2.nums_are;
+            references = λ i reference there.
+                points_on (heap (a + 3 + i)) reference (λ f same. is_after.fields a refs nums i n f o.0 old.0 object (there ∙ ap Some same)) (o.2.references i reference there);
+            numbers = o.2.numbers;
+          },
+        );
+    once = λ a b refs nums more_refs more_nums n is_a is_b.
+        stands.objects.once a b refs nums more_refs more_nums n (left a refs nums n is_a).0 (left b more_refs more_nums n is_b).0;
+  }
+
+  -- what all machines share holds, where nothing is collected and no seat has a region
+  pub shared_facts : (phase cset evac : ℕ) (current : ℕ → ℕ) → phase ≡ 0 → cset ≡ 0 → evac ≡ 0 → ((seat : ℕ) → current seat ≡ 0)
+      → SharedFacts c (λ q. m (Top q)) heap taken (λ q. None) g.object g.count phase cset evac (m Free) current
+  shared_facts phase cset evac current no_phase no_cset no_evac none = record {
+    plotted = plotted_alike c (λ q. m (Top q)) block (as_promised p) same_words stands.plotted;
+    filled = filled_alike c (λ q. m (Top q)) block (as_promised p) same_words stands.filled;
+    objects = objects_left;
+    given = is_after.given;
+    calm = record { phase_is = no_phase; cset_is = no_cset; evac_is = no_evac };
+    free_word = stands.free_word;
+    currents = record {
+      within = λ seat q is. absurd (omega (arith, is, none seat));
+      own = λ seat q is. absurd (omega (arith, is, none seat));
+    };
+    rooms = λ a seat words is. absurd (no_hands a seat words is);
+    promises = λ a seat words is. (let at = gone a seat words is in omega (arith, at.words_are));
+  }
+
+  pub roots_left : (t i : ℕ) → t < c.mutators → i < 16 → Points taken (m (Root t i)) (g.root (t + 1) i)
+  roots_left t i inside few = points_on (m (Root t i)) (g.root (t + 1) i) (is_after.roots (t + 1) i) (stands.rooted.roots t i inside few)

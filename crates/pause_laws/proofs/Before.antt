@@ -1,0 +1,246 @@
+-- The words of an image before a pause: promised objects are objects of a larger graph, and the words stand for it.
+use Rattle.std.proofs.Common.{◌≡◌, ℕ, ◌+◌, ◌-◌, ◌<◌, ◌⊎◌, ◌&&◌, inl, inr, true, false, nat_le, nat_lt, slice_get, Option, Some, ⊎_elim, refl, sym, ap, ◌∙◌, subst, arith}
+use Rattle.std.proofs.lemmas.Bool.{cond-true, cond-false, cases_Bool, and_parts, leb-true, ltb-true}
+use Rattle.std.proofs.lemmas.Option.{none-some, same_Some}
+use Rattle.heap_words.specs.declared.config.Config.{Config}
+use Rattle.heap_words.specs.Words.{Word, Top, Root, Answer, Heap}
+use Rattle.shen_graph.specs.declared.name.Name.{Name}
+use Rattle.shen_graph.specs.Graph.{Graph, Object, blank, fresh, same_reference}
+use Rattle.shen_graph.specs.Reach.{IsReachable}
+use Rattle.shen_graph.specs.Reach as reach
+use Rattle.shen_graph.proofs.PlainLemmas.{same_name-itself}
+use Rattle.heap_world.specs.World.{Block, thing, hand, promised, words_of, Plot, name_at, Points, IsThing, AreObjects}
+use Rattle.heap_world.specs.Asking.{Asking, nothing, asks, refused, given, IsPromise, IsAsked}
+use Rattle.heap_world.specs.Represents.{Represents}
+use Rattle.heap_world.specs.Roots.{is_root_of}
+use Rattle.heap_world.proofs.Pointing.{named_thing}
+use Rattle.heap_world.proofs.Pieces.{object_reads}
+use Rattle.heap_world.proofs.Keeping.{points_stay}
+use Rattle.heap_world.proofs.NewObject.{new_object}
+use Rattle.image_laws.specs.Plot.{AreThings}
+use Rattle.image_laws.specs.Promised.{Promises, with_promised}
+use Rattle.image_laws.specs.Image.{AnswerStands, RootsStand, ImageStands}
+use Rattle.image_laws.proofs.Promised.{same_reference-true}
+use Rattle.image_laws.proofs.Reached.{named_object}
+use Rattle.pause_laws.proofs.Promises.{promised_ref, promised_refs, promised_nums, promises_of, ref_of, refs_of, nums_of, promised_one}
+use Rattle.pause_laws.proofs.Mapped.{mapped, mapped_at, mapped_from, plotted_alike, filled_alike}
+
+-- a promised object as an object of the larger graph, of its thread's next name
+abbrev pub as_object : Graph → (ℕ → Asking) → Block → Block
+as_object g asking (thing name refs nums) = thing name refs nums
+as_object g asking (hand seat words) = hand seat words
+as_object g asking (promised seat words) = thing (fresh g (seat + 1)) (promised_refs (asking seat)) (promised_nums (asking seat))
+
+-- what the words at an address are as a piece
+abbrev ObjectAt : (ℕ → ℕ) → Plot → (Name → Option Object) → ℕ → Block → Type 0
+ObjectAt heap block object a (thing name refs nums) = (o : Object) × (object name ≡ Some o) × IsThing heap block a refs nums name o
+ObjectAt heap block object a _ = Unit {0}
+
+-- the promised object at an address, by what its mutator asked for
+pub record IsPromisedAt (c : Config) (m : Word → ℕ) (block : Plot) (g : Graph) (asking : ℕ → Asking) (a seat words : ℕ) : Type 0 where
+  pub refs : ℕ
+  pub nums : ℕ
+  pub inside : seat < c.mutators
+  pub is_given : asking seat ≡ given refs nums
+  pub long : words ≡ 3 + refs + nums
+  pub promise : IsPromise m block g.count seat refs nums a
+
+module _ (c : Config) (m : Word → ℕ) (g : Graph) (asking : ℕ → Asking) (r : Represents c m g asking) where
+  abbrev block : Plot
+  block = r.block
+
+  abbrev heap : ℕ → ℕ
+  heap a = m (Heap a)
+
+  abbrev p : Promises
+  p = promises_of c g asking
+
+  abbrev pub plain : Plot
+  plain = mapped (as_object g asking) r.block
+
+  -- what was promised was given
+  by_asking : (a seat words : ℕ) (x : Asking) → asking seat ≡ x → IsAsked m r.block g.count seat x → r.block a ≡ Some (promised seat words) → IsPromisedAt c m r.block g asking a seat words
+  by_asking a seat words nothing is asked here = absurd (asked.2 a words here)
+  by_asking a seat words (asks refs nums) is asked here = absurd (asked.2 a words here)
+  by_asking a seat words refused is asked here = absurd (asked.2 a words here)
+  by_asking a seat words (given refs nums) is asked here =
+      let promise = asked.2 in
+      let same : a ≡ m (Answer seat) = promise.only a words here in
+      let both : Some (promised seat words) ≡ Some (promised seat (3 + refs + nums)) = sym here ∙ ap r.block same ∙ promise.here in
+      record {
+        refs = refs;
+        nums = nums;
+        inside = r.promised_to a seat words here;
+        is_given = is;
+        long = cc;
+        promise = subst (λ k. IsPromise m r.block g.count seat refs nums k) (sym same) promise;
+      }
+
+  pub promised_at : (a seat words : ℕ) → r.block a ≡ Some (promised seat words) → IsPromisedAt c m r.block g asking a seat words
+  promised_at a seat words here = by_asking a seat words (asking seat) refl (r.asked seat (r.promised_to a seat words here)) here
+
+  -- a piece keeps its words
+  pub same_words : (a : ℕ) (b : Block) → r.block a ≡ Some b → words_of (as_object g asking b) ≡ words_of b
+  same_words a (thing name refs nums) is = refl
+  same_words a (hand seat words) is = refl
+  same_words a (promised seat words) is =
+      let at = promised_at a seat words is in
+      let refs : promised_refs (asking seat) ≡ at.refs = ap promised_refs at.is_given in
+      let nums : promised_nums (asking seat) ≡ at.nums = ap promised_nums at.is_given in
+      omega (arith, refs, nums, at.long)
+
+  -- objects stand where they stood
+  pub names_stay : (a : ℕ) (n : Name) → name_at (r.block a) ≡ Some n → name_at (plain a) ≡ Some n
+  names_stay a n is = let was = named_thing (r.block a) n is in ap name_at (mapped_at (as_object g asking) r.block a (thing n was.0 was.1) was.2)
+
+  -- a name that has an object is no thread's next one
+  pub not_next : (n : Name) (o : Object) (t : ℕ) → g.object n ≡ Some o → n ≡ fresh g (t + 1) → ⊥
+  not_next n o t is next =
+      let made = r.shared.given n o is in
+      let thread : n.thread ≡ t + 1 = ap (λ (k : Name). k.thread) next in
+      let count : n.count ≡ g.count (t + 1) + 1 = ap (λ (k : Name). k.count) next in
+      let reached : g.count n.thread ≡ g.count (t + 1) = ap g.count thread in
+      omega (arith, made.by_thread (omega (arith, thread)), count, reached)
+
+  -- so it is no promised one
+  pub not_promised : (n : Name) (o : Object) → g.object n ≡ Some o → same_reference (p.ref n.thread) (Some n) ≡ false
+  not_promised n o is = ⊎_elim
+      (λ (yes : same_reference (p.ref n.thread) (Some n) ≡ true).
+      let one = promised_one c g asking n.thread n (same_reference-true (p.ref n.thread) n yes) in
+      absurd (not_next n o one.0 is (one.4 ∙ ap (fresh g) one.2)))
+      (λ (no : same_reference (p.ref n.thread) (Some n) ≡ false). no)
+      (cases_Bool (same_reference (p.ref n.thread) (Some n)))
+
+  -- and its object is one of the larger graph
+  pub larger_object : (n : Name) (o : Object) → g.object n ≡ Some o → (with_promised g p).object n ≡ Some o
+  larger_object n o is =
+      cond-false (same_reference (p.ref n.thread) (Some n)) (Some (blank (p.refs n.thread) (p.nums n.thread))) (g.object n) (not_promised n o is) ∙ is
+
+  -- a promised name has a blank object there
+  pub promised_object : (t refs nums : ℕ) → t < c.mutators → asking t ≡ given refs nums → (with_promised g p).object (fresh g (t + 1)) ≡ Some (blank refs nums)
+  promised_object t refs nums inside is =
+      let n : Name = fresh g (t + 1) in
+      let ref : p.ref (t + 1) ≡ Some n = ref_of c g asking t inside ∙ ap (promised_ref g (t + 1)) is in
+      let sizes : p.refs (t + 1) ≡ refs = refs_of c g asking t ∙ ap promised_refs is in
+      let more : p.nums (t + 1) ≡ nums = nums_of c g asking t ∙ ap promised_nums is in
+      cond-true (same_reference (p.ref (t + 1)) (Some n)) (Some (blank (p.refs (t + 1)) (p.nums (t + 1)))) (g.object n) (ap (λ k. same_reference k (Some n)) ref ∙ same_name-itself n)
+      ∙ ap (λ k. Some (blank k (p.nums (t + 1)))) sizes ∙ ap (λ k. Some (blank refs k)) more
+
+  -- each piece is an object of the larger graph
+  object_at : (a : ℕ) (b : Block) → r.block a ≡ Some b → ObjectAt heap plain (with_promised g p).object a (as_object g asking b)
+  object_at a (thing name refs nums) is =
+      let o = r.shared.objects.each a refs nums name is in
+      (o.0, larger_object name o.0 o.1, object_reads heap heap r.block plain a refs nums name o.0 (λ k below. refl) names_stay o.2)
+  object_at a (hand seat words) is = tt
+  object_at a (promised seat words) is =
+      let at = promised_at a seat words is in
+      let made = new_object heap plain a seat (g.count (seat + 1)) at.refs at.nums at.promise.few_refs at.promise.few_nums at.promise.words in
+      subst (λ (x : Asking). ObjectAt heap plain (with_promised g p).object a (thing (fresh g (seat + 1)) (promised_refs x) (promised_nums x))) (sym at.is_given)
+      (blank at.refs at.nums, promised_object seat at.refs at.nums at.inside at.is_given, made)
+
+  -- an object of the larger graph was an object or a promised one
+  kind_of : (a refs nums : ℕ) (name : Name) (b : Block) → r.block a ≡ Some b → as_object g asking b ≡ thing name refs nums
+      → (r.block a ≡ Some (thing name refs nums)) ⊎ ((seat : ℕ) × (words : ℕ) × (r.block a ≡ Some (promised seat words)) × (name ≡ fresh g (seat + 1)))
+  kind_of a refs nums name (thing n more_refs more_nums) is same = inl (is ∙ ap Some same)
+  kind_of a refs nums name (hand seat words) is same = absurd (r.none a seat words is)
+  kind_of a refs nums name (promised seat words) is same = inr (seat, words, is, sym (same_Some (fresh g (seat + 1)) name (ap (λ b. name_at (Some b)) same)))
+
+  pub kind_at : (a refs nums : ℕ) (name : Name) → plain a ≡ Some (thing name refs nums)
+      → (r.block a ≡ Some (thing name refs nums)) ⊎ ((seat : ℕ) × (words : ℕ) × (r.block a ≡ Some (promised seat words)) × (name ≡ fresh g (seat + 1)))
+  kind_at a refs nums name is =
+      let was = mapped_from (as_object g asking) r.block a (thing name refs nums) is in
+      kind_of a refs nums name was.0 was.1 was.2
+
+  -- an object has another name than a promised one
+  pub names_differ : (a refs nums seat : ℕ) (name : Name) → r.block a ≡ Some (thing name refs nums) → name ≡ fresh g (seat + 1) → ⊥
+  names_differ a refs nums seat name is next = let o = r.shared.objects.each a refs nums name is in not_next name o.0 seat o.1 next
+
+  -- no two have one name
+  once_each : (a b refs nums more_refs more_nums : ℕ) (name : Name) → plain a ≡ Some (thing name refs nums) → plain b ≡ Some (thing name more_refs more_nums) → a ≡ b
+  once_each a b refs nums more_refs more_nums name is_a is_b = ⊎_elim
+      (λ (old_a : r.block a ≡ Some (thing name refs nums)). ⊎_elim
+      (λ (old_b : r.block b ≡ Some (thing name more_refs more_nums)). r.shared.objects.once a b refs nums more_refs more_nums name old_a old_b)
+      (λ (new_b : (seat : ℕ) × (words : ℕ) × (r.block b ≡ Some (promised seat words)) × (name ≡ fresh g (seat + 1))). absurd (names_differ a refs nums new_b.0 name old_a new_b.3))
+      (kind_at b more_refs more_nums name is_b))
+      (λ (new_a : (seat : ℕ) × (words : ℕ) × (r.block a ≡ Some (promised seat words)) × (name ≡ fresh g (seat + 1))). ⊎_elim
+      (λ (old_b : r.block b ≡ Some (thing name more_refs more_nums)). absurd (names_differ b more_refs more_nums new_a.0 name old_b new_a.3))
+      (λ (new_b : (seat : ℕ) × (words : ℕ) × (r.block b ≡ Some (promised seat words)) × (name ≡ fresh g (seat + 1))).
+      let same : new_b.0 ≡ new_a.0 = (let threads : new_b.0 + 1 ≡ new_a.0 + 1 = ap (λ (k : Name). k.thread) (sym new_b.3 ∙ new_a.3) in omega (arith, threads)) in
+      sym ((promised_at a new_a.0 new_a.1 new_a.2).promise.only b new_b.1 (new_b.2 ∙ ap (λ k. Some (promised k new_b.1)) same)))
+      (kind_at b more_refs more_nums name is_b))
+      (kind_at a refs nums name is_a)
+
+  objects_plain : AreObjects heap plain (with_promised g p).object
+  objects_plain = record {
+    each = λ a refs nums name is.
+        let was = mapped_from (as_object g asking) r.block a (thing name refs nums) is in
+        subst (ObjectAt heap plain (with_promised g p).object a) was.2 (object_at a was.0 was.1);
+    once = once_each;
+  }
+
+  -- each piece is an object
+  has_name : (a : ℕ) (b : Block) → r.block a ≡ Some b → (name : Name) × (name_at (Some (as_object g asking b)) ≡ Some name)
+  has_name a (thing name refs nums) is = (name, refl)
+  has_name a (hand seat words) is = absurd (r.none a seat words is)
+  has_name a (promised seat words) is = (fresh g (seat + 1), refl)
+
+  things_plain : AreThings plain
+  things_plain a b is =
+      let was = mapped_from (as_object g asking) r.block a b is in
+      let named = has_name a was.0 was.1 in
+      (named.0, ap (λ x. name_at (Some x)) (sym was.2) ∙ named.1)
+
+  -- an answer stands for what was promised
+  answer_of : (t : ℕ) (x : Asking) → asking t ≡ x → IsAsked m r.block g.count t x → AnswerStands plain (m (Answer t)) (promised_ref g (t + 1) x)
+  answer_of t nothing is asked = inl (omega (arith, asked.1), refl)
+  answer_of t (asks refs nums) is asked = inl (omega (arith, asked.1), refl)
+  answer_of t refused is asked = inl (omega (arith, asked.1), refl)
+  answer_of t (given refs nums) is asked =
+      inr (asked.1, fresh g (t + 1), refl, ap name_at (mapped_at (as_object g asking) r.block (m (Answer t)) (promised t (3 + refs + nums)) asked.2.here))
+
+  pub rooted_plain : RootsStand c m plain g p
+  rooted_plain = record {
+    roots = λ t i inside few. points_stay r.block plain names_stay (m (Root t i)) (g.root (t + 1) i) (r.roots t i inside few);
+    answers = λ t inside. subst (AnswerStands plain (m (Answer t))) (sym (ref_of c g asking t inside)) (answer_of t (asking t) refl (r.asked t inside));
+    no_more_roots = λ t i name is. ⊎_elim
+        (λ (yes : is_root_of c.mutators t i ≡ true).
+        let one = and_parts (nat_le 1 t) (nat_le t c.mutators && nat_lt i 16) yes in
+        let two = and_parts (nat_le t c.mutators) (nat_lt i 16) one.1 in
+        let low = leb-true 1 t one.0 in
+        let high = leb-true t c.mutators two.0 in
+        (t - 1, omega (arith, low, high), omega (arith, low), ltb-true i 16 two.1))
+        (λ (no : is_root_of c.mutators t i ≡ false). absurd (none-some name (sym (r.no_more t i no) ∙ is)))
+        (cases_Bool (is_root_of c.mutators t i));
+    no_more_promised = λ t name is. let one = promised_one c g asking t name is in (one.0, one.1, one.2);
+  }
+
+  -- so the words stand for the graph with the promised objects
+  pub plain_stands : ImageStands c m plain g p
+  plain_stands = record {
+    plotted = plotted_alike c (λ q. m (Top q)) r.block (as_object g asking) same_words r.shared.plotted;
+    filled = filled_alike c (λ q. m (Top q)) r.block (as_object g asking) same_words r.shared.filled;
+    objects = objects_plain;
+    things = things_plain;
+    free_word = record {
+      no_more = r.shared.free_word.no_more;
+      empty = r.shared.free_word.empty;
+      nobodys = λ q below member. refl;
+    };
+    rooted = rooted_plain;
+  }
+
+  -- An object that the graph reaches has an address.
+  pub reached_at : (n : Name) → IsReachable g n → (a : ℕ) × (refs : ℕ) × (nums : ℕ) × (r.block a ≡ Some (thing n refs nums))
+  reached_at n (reach.from_root t i _ is) =
+      let at = rooted_plain.no_more_roots t i n is in
+      let points : name_at (r.block (m (Root at.0 i))) ≡ Some n =
+      subst (Points r.block (m (Root at.0 i))) (ap (λ k. g.root k i) (sym at.2) ∙ is) (r.roots at.0 i at.1 at.3) in
+      let piece = named_thing (r.block (m (Root at.0 i))) n points in
+      (m (Root at.0 i), piece.0, piece.1, piece.2)
+  reached_at n (reach.from_field k _ field reached is) =
+      let at = reached_at k reached in
+      let o = r.shared.objects.each at.0 at.1 at.2 k at.3 in
+      let there : slice_get o.0.refs field ≡ Some (Some n) = sym (ap (λ (x : Object). slice_get x.refs field) (named_object g k o.0 o.1)) ∙ is in
+      let points : name_at (r.block (heap (at.0 + 3 + field))) ≡ Some n = o.2.references field (Some n) there in
+      let piece = named_thing (r.block (heap (at.0 + 3 + field))) n points in
+      (heap (at.0 + 3 + field), piece.0, piece.1, piece.2)

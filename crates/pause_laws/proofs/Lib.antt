@@ -1,0 +1,16 @@
+pub mod Sorted
+pub mod Promises
+pub mod Mapped
+pub mod Before
+pub mod Holding
+pub mod Turned
+pub mod After
+pub mod Made
+pub mod Still
+pub mod Paused
+pub mod Answered
+pub mod Reached
+pub mod Crowds
+pub mod Outside
+pub mod Images
+pub mod Pauses

@@ -1,0 +1,51 @@
+-- A plot in which each piece is another one of as many words.
+use Rattle.std.proofs.Common.{◌≡◌, ℕ, ◌+◌, Option, Some, None, refl, sym, ap, ◌∙◌, subst, arith}
+use Rattle.std.specs.Option.{option_map}
+use Rattle.std.proofs.lemmas.Option.{none-some, same_Some}
+use Rattle.heap_words.specs.declared.config.Config.{Config}
+use Rattle.regions.specs.Place.{base_of}
+use Rattle.heap_world.specs.World.{Block, words_of, Plot, IsInUse, IsPlotted, IsFilled}
+
+abbrev pub mapped : (Block → Block) → Plot → Plot
+mapped f block a = option_map f (block a)
+
+pub mapped_at : (f : Block → Block) (block : Plot) (a : ℕ) (x : Block) → block a ≡ Some x → mapped f block a ≡ Some (f x)
+mapped_at f block a x is = ap (option_map f) is
+
+-- the piece that there was
+from_option : (f : Block → Block) (o : Option Block) (b : Block) → option_map f o ≡ Some b → (x : Block) × (o ≡ Some x) × (f x ≡ b)
+from_option f None b is = absurd (none-some b is)
+from_option f (Some x) b is = (x, refl, same_Some (f x) b is)
+
+pub mapped_from : (f : Block → Block) (block : Plot) (a : ℕ) (b : Block) → mapped f block a ≡ Some b → (x : Block) × (block a ≡ Some x) × (f x ≡ b)
+mapped_from f block a b is = from_option f (block a) b is
+
+module _ (c : Config) (top : ℕ → ℕ) (block : Plot) (f : Block → Block) (same : (a : ℕ) (b : Block) → block a ≡ Some b → words_of (f b) ≡ words_of b) where
+  -- the words of a piece and of what there was
+  size : (a : ℕ) (b : Block) (was : (x : Block) × (block a ≡ Some x) × (f x ≡ b)) → words_of was.0 ≡ words_of b
+  size a b was = sym (same a was.0 was.1) ∙ ap words_of was.2
+
+  pub plotted_alike : IsPlotted c top block → IsPlotted c top (mapped f block)
+  plotted_alike plotted = record {
+    tops = plotted.tops;
+    in_use = λ a b is. let was = mapped_from f block a b is in subst (λ w. IsInUse c top a w) (size a b was) (plotted.in_use a was.0 was.1);
+    apart = λ a b x y is_x is_y before.
+        let was_x = mapped_from f block a x is_x in
+        let was_y = mapped_from f block b y is_y in
+        let far = plotted.apart a b was_x.0 was_y.0 was_x.1 was_y.1 before in
+        omega (arith, far, size a x was_x);
+  }
+
+  -- where there was a piece there is one
+  there : (a : ℕ) → (b : Block) × (block a ≡ Some b) → (b : Block) × (mapped f block a ≡ Some b)
+  there a was = (f was.0, mapped_at f block a was.0 was.1)
+
+  pub filled_alike : IsFilled c top block → IsFilled c top (mapped f block)
+  filled_alike filled = record {
+    first = λ r inside used. there (base_of c r) (filled.first r inside used);
+    next = λ r a x inside from is below.
+        let was = mapped_from f block a x is in
+        let long = size a x was in
+        subst (λ w. (b : Block) × (mapped f block (a + w) ≡ Some b)) long
+        (there (a + words_of was.0) (filled.next r a was.0 inside from was.1 (omega (arith, below, long))));
+  }

@@ -1,0 +1,230 @@
+-- An event of the control leads from a stage that follows its history to one that does.
+use Rattle.std.proofs.Common.{◌≡◌, ◌≢◌, ℕ, ◌+◌, ◌<◌, Bool, true, false, List, [], ◌∷◌, ◌++◌, length, Option, Some, None, refl, sym, ap, ◌∙◌, subst, arith}
+use Rattle.std.specs.Prelude.{nat_lt, slice_get, slice_set, slice_index, if◌then◌else◌}
+use Rattle.std.proofs.lemmas.List.{length-set, set-get_or, length-append}
+use Rattle.std.proofs.lemmas.Option.{same_Some, slice_get_within}
+use Rattle.std.proofs.lemmas.Bool.{ltb-true, ltb-false}
+use Rattle.heap_words.specs.declared.config.Config.{Config}
+use Rattle.heap_words.specs.Access.{place_of}
+use Rattle.heap_words.specs.Ranges.{seat_count}
+use Rattle.heap_words.specs.Words.{Free, image_start}
+use Rattle.steps_base.specs.Steps.{Stage, accessed, moved}
+use Rattle.steps_base.proofs.Places.{slice_get-set_same}
+use Rattle.shen_graph.specs.declared.command.Command.{Command}
+use Rattle.shen_graph.specs.declared.order.Order.TheVariants.{Nothing}
+use Rattle.shen_graph.specs.Graph.{Graph}
+use Rattle.shen_graph.specs.History.{Entry, after, of_thread}
+use Rattle.handshake.specs.declared.stop_spot.StopSpot.TheVariants as stop
+use Rattle.handshake.specs.Standing.{is_within, is_pausing}
+use Rattle.handshake.proofs.Still.{pause_empty}
+use Rattle.heap_world.specs.World.{World, hand, Shared}
+use Rattle.heap_world.specs.Change.{Change, IsPause, image_view, image_words}
+use Rattle.control_steps.specs.declared.spot.ControlSpot.{ControlSpot}
+use Rattle.control_steps.specs.declared.spot.ControlSpot.TheVariants.{LookLeft, StoreEnd, LookAsked, LookFree, Stopping, LoadWord, StoreWord, Go, Gone}
+use Rattle.control_steps.specs.Rows.{Controlling, control_access, is_gone}
+use Rattle.control_steps.specs.Ready.{is_ready}
+use Rattle.step_core.specs.Actor.{controlling, Actor}
+use Rattle.step_core.specs.Machines.{took_of, kind, told_storing}
+use Rattle.step_core.specs.Settled.{stored_image, settled_by, image_in, image_of, control_number}
+use Rattle.step_core.specs.Sound.{world_of}
+use Rattle.step_core.specs.Fit.{StandsForSome}
+use Rattle.step_core.specs.Standing.{standing_of}
+use Rattle.step_core.proofs.Facts.{IsControl, IsMachine, Follows, Owes, AreRead}
+use Rattle.step_core.proofs.Images.{image_grows}
+use Rattle.step_core.proofs.Owing.{follows_owes}
+use Rattle.step_core.proofs.Paused.{asking, image_stands, paused_owes}
+use Rattle.step_core.proofs.Pauses as pauses
+use Rattle.step_core.proofs.Reading.{read_owes}
+use Rattle.step_core.proofs.Storing.{stored_owes}
+use Rattle.step_core.proofs.Held.{IsKept, held_image}
+
+-- a list with one more at its end
+length-snoc : (xs : List ℕ) (x : ℕ) → length (xs ++ x ∷ []) ≡ length xs + 1
+length-snoc xs x = length-append xs (x ∷ [])
+
+-- A step of the control.
+module _ (change : Change) (law : IsPause change) (c : Config) (g : Graph) (s : Stage Actor) (past : List Entry) (number : ℕ) (k : Controlling) (command : Command) (calls : List Entry)
+    (follows : Follows c g s past) (shaken : IsKept c s) (here : slice_get s.machines number ≡ Some (record { machine = controlling k; command = command; calls = calls })) where
+  abbrev control_before : Actor
+  control_before = record { machine = controlling k; command = command; calls = calls }
+
+  facts : IsControl c s.words (world_of c s follows.block follows.owner (after g past)) number k
+  facts = follows.machines number control_before here
+
+  -- the image that counts is its
+  held_is : held_image c s ≡ stored_image k.spot k.image
+  held_is = ap (λ n. image_of (slice_get s.machines n)) (sym facts.number_is) ∙ ap image_of here
+
+  abbrev words_after_access : List ℕ
+  words_after_access = accessed (control_access c k) s.words
+
+  abbrev control_after : Actor
+  control_after = took_of change c control_before Nothing (slice_index s.words (place_of (control_access c k))) (controlling k)
+
+  -- the world in which an image counts, or none
+  abbrev world_held : Option (List ℕ) → World
+  world_held o = record { memory = settled_by c s.words o; block = follows.block; owner = follows.owner; graph = after g past }
+
+  world_is : world_of c s follows.block follows.owner (after g past) ≡ world_held (stored_image k.spot k.image)
+  world_is = ap world_held held_is
+
+  -- what the control owes is owed as an event
+  from_owes : (settles : List Entry) → Owes c s.words words_after_access (world_held (stored_image k.spot k.image)) past (control_number c) s.machines
+      (settled_by c words_after_access (image_in control_after.machine)) settles control_after → Follows c g (moved (kind change c) s number control_before Nothing) (past ++ settles)
+  unfolding kind
+  from_owes settles owes =
+      let there : image_of (slice_get (slice_set s.machines number control_after) (control_number c)) ≡ image_in control_after.machine =
+      ap (λ n. image_of (slice_get (slice_set s.machines number control_after) n)) (sym facts.number_is) ∙ ap image_of (slice_get-set_same s.machines number control_before control_after here) in
+      follows_owes c g s past number control_before control_after words_after_access settles follows
+      (subst (λ memory. Owes c s.words words_after_access (world_of c s follows.block follows.owner (after g past)) past number s.machines memory settles control_after) (ap (settled_by c words_after_access) (sym there))
+      (subst (λ w. Owes c s.words words_after_access w past number s.machines (settled_by c words_after_access (image_in control_after.machine)) settles control_after) (sym world_is)
+      (subst (λ n. Owes c s.words words_after_access (world_held (stored_image k.spot k.image)) past n s.machines (settled_by c words_after_access (image_in control_after.machine)) settles control_after) (sym facts.number_is) owes)))
+      here (length-set s.words _ _ ∙ follows.words)
+
+  -- what holds of all machines, in that world
+  shared_held : Shared c (world_held (stored_image k.spot k.image))
+  shared_held = subst (λ w. Shared c w) world_is follows.shared
+
+  hands_held : (a more : ℕ) → follows.block a ≡ Some (hand (control_number c) more) → ⊥
+  hands_held a more is = facts.hands a more (subst (λ n. follows.block a ≡ Some (hand n more)) (sym facts.number_is) is)
+
+  known_held : (j : ℕ) (b : Actor) → slice_get s.machines j ≡ Some b → IsMachine c s.words (world_held (stored_image k.spot k.image)) (of_thread past (j + 1)) j b b.machine
+  known_held j b there = subst (λ w. IsMachine c s.words w (of_thread past (j + 1)) j b b.machine) world_is (follows.machines j b there)
+
+  -- in a pause every other machine is outside
+  all_outside : is_pausing (standing_of (controlling k)) ≡ true → (j : ℕ) (b : Actor) → slice_get s.machines j ≡ Some b → j ≢ control_number c → is_within (standing_of b.machine) ≡ false
+  all_outside pausing j b there other =
+      let same : control_before ≡ shaken.control = same_Some control_before shaken.control (sym here ∙ ap (slice_get s.machines) facts.number_is ∙ shaken.there) in
+      let less : j < seat_count c.mutators c.helpers = (let within = slice_get_within s.machines j b there in let seats = follows.seats in omega (arith, within, seats)) in
+      pause_empty c (λ a. standing_of a.machine) s shaken (ap (λ a. is_pausing (standing_of a.machine)) (sym same) ∙ pausing) j b (omega (arith, less, other)) there
+
+-- by its spot
+module _ (change : Change) (law : IsPause change) (c : Config) (g : Graph) (s : Stage Actor) (past : List Entry) (number seen : ℕ) (image : List ℕ) (command : Command) (calls : List Entry)
+    (follows : Follows c g s past) (shaken : IsKept c s) where
+  abbrev control_at : ControlSpot → Controlling
+  control_at spot = record { spot = spot; seen = seen; image = image }
+
+  abbrev Here : ControlSpot → Type 0
+  Here spot = slice_get s.machines number ≡ Some (record { machine = controlling (control_at spot); command = command; calls = calls })
+
+  abbrev ControlGoal : ControlSpot → Type 0
+  ControlGoal spot = Follows c g (moved (kind change c) s number (record { machine = controlling (control_at spot); command = command; calls = calls }) Nothing)
+      (past ++ told_storing c s spot image)
+
+  ready_at : (spot : ControlSpot) → Here spot → is_ready c spot ≡ true
+  ready_at spot here = (facts change law c g s past number (control_at spot) command calls follows shaken here).ready
+
+  -- the word that it finds
+  abbrev got : ControlSpot → ℕ
+  got spot = slice_index s.words (place_of (control_access c (control_at spot)))
+
+  -- a spot outside the image
+  quiet : (spot : ControlSpot) (here : Here spot) → stored_image spot image ≡ None → told_storing c s spot image ≡ []
+      → ((shared : Shared c (pauses.open_world c s.words follows.block follows.owner (after g past))) (hands : (a more : ℕ) → follows.block a ≡ Some (hand (control_number c) more) → ⊥) → is_ready c spot ≡ true
+      → Owes c s.words (accessed (control_access c (control_at spot)) s.words) (pauses.open_world c s.words follows.block follows.owner (after g past)) past (control_number c) s.machines
+      (settled_by c (accessed (control_access c (control_at spot)) s.words) (image_in (control_after change law c g s past number (control_at spot) command calls follows shaken here).machine)) []
+      (control_after change law c g s past number (control_at spot) command calls follows shaken here))
+      → ControlGoal spot
+  quiet spot here none told_none owes =
+      let k = control_at spot in
+      let world_open : world_held change law c g s past number k command calls follows shaken here (stored_image spot image) ≡ pauses.open_world c s.words follows.block follows.owner (after g past) =
+      ap (world_held change law c g s past number k command calls follows shaken here) none in
+      subst (λ es. Follows c g (moved (kind change c) s number (record { machine = controlling k; command = command; calls = calls }) Nothing) (past ++ es)) (sym told_none)
+      (from_owes change law c g s past number k command calls follows shaken here []
+      (subst (λ w. Owes c s.words (accessed (control_access c k) s.words) w past (control_number c) s.machines
+      (settled_by c (accessed (control_access c k) s.words) (image_in (control_after change law c g s past number k command calls follows shaken here).machine)) []
+      (control_after change law c g s past number k command calls follows shaken here)) (sym world_open)
+      (owes (subst (λ w. Shared c w) world_open (shared_held change law c g s past number k command calls follows shaken here)) (hands_held change law c g s past number k command calls follows shaken here) (ready_at spot here))))
+
+  -- the world while no image counts
+  abbrev open_now : World
+  open_now = pauses.open_world c s.words follows.block follows.owner (after g past)
+
+  -- the word of the image that is loaded
+  abbrev loaded : ℕ → ℕ
+  loaded index = slice_index s.words (image_start c + index)
+
+  -- The last word of the image is loaded: the image stands for the graph.
+  pub whole_stands : (index : ℕ) → Here (LoadWord index) → index + 1 ≡ image_words c → StandsForSome c (image ++ loaded index ∷ [])
+  whole_stands index here last =
+      let known = facts change law c g s past number (control_at (LoadWord index)) command calls follows shaken here in
+      let read : AreRead c s.words (image ++ loaded index ∷ []) (image_words c) = λ i below. image_grows c s.words image index known.aims.0 known.aims.1 i (omega (arith, below, last)) in
+      ∣ (
+        after g past,
+        asking c s.words follows.block follows.owner (after g past) past s.machines (image ++ loaded index ∷ []) read follows.seats,
+        image_stands c s.words follows.block follows.owner (after g past) past s.machines (image ++ loaded index ∷ []) read follows.seats
+            (shared_held change law c g s past number (control_at (LoadWord index)) command calls follows shaken here) follows.promised_to follows.no_more
+            (known_held change law c g s past number (control_at (LoadWord index)) command calls follows shaken here)
+            (all_outside change law c g s past number (control_at (LoadWord index)) command calls follows shaken here refl),
+      ) ∣₁
+
+  -- the control after it loaded a word: it loads the next one, or it was the last one
+  abbrev after_word : ℕ → Bool → Actor
+  after_word index more = record {
+    machine = controlling (record {
+      spot = if more then LoadWord (index + 1) else StoreWord 0;
+      seen = if more then seen else image_view c (change c (image ++ loaded index ∷ [])) Free;
+      image = if more then image ++ loaded index ∷ [] else change c (image ++ loaded index ∷ []);
+    });
+    command = command;
+    calls = calls ++ [];
+  }
+
+  -- what it owes then
+  loaded_owes : (index : ℕ) → Here (LoadWord index) → Shared c open_now → ((a more : ℕ) → follows.block a ≡ Some (hand (control_number c) more) → ⊥) → (more : Bool) → nat_lt (index + 1) (image_words c) ≡ more
+      → (length image ≡ index) × AreRead c s.words image index
+      → Owes c s.words s.words open_now past (control_number c) s.machines (settled_by c s.words (image_in (after_word index more).machine)) [] (after_word index more)
+  loaded_owes index here shared hands true more known =
+      read_owes c s.words follows.block follows.owner (after g past) past s.machines command calls
+      (record { spot = LoadWord (index + 1); seen = seen; image = image ++ loaded index ∷ [] }) shared follows.promised_to hands more
+      (length-snoc image (loaded index) ∙ ap (λ n. n + 1) known.0, image_grows c s.words image index known.0 known.1) refl
+  loaded_owes index here shared hands false all known =
+      let less : index + 1 ≡ image_words c = (let last = ltb-false _ _ all in let ready = ltb-true _ _ (ready_at (LoadWord index) here) in omega (arith, last, ready)) in
+      paused_owes c s.words follows.block follows.owner (after g past) past s.machines (image ++ loaded index ∷ [])
+      (λ i below. image_grows c s.words image index known.0 known.1 i (omega (arith, below, less))) follows.seats change law
+      (length-snoc image (loaded index) ∙ ap (λ n. n + 1) known.0 ∙ less) shared follows.promised_to follows.no_more
+      (known_held change law c g s past number (control_at (LoadWord index)) command calls follows shaken here)
+      (all_outside change law c g s past number (control_at (LoadWord index)) command calls follows shaken here refl)
+      (image_view c (change c (image ++ loaded index ∷ [])) Free) command calls
+
+  -- a word of the image that is loaded
+  load_word : (index : ℕ) → Here (LoadWord index) → ControlGoal (LoadWord index)
+  load_word index here =
+      let known = facts change law c g s past number (control_at (LoadWord index)) command calls follows shaken here in
+      let same_words : accessed (control_access c (control_at (LoadWord index))) s.words ≡ s.words = set-get_or s.words (image_start c + index) 0 in
+      quiet (LoadWord index) here refl refl (λ shared hands ready.
+      subst (λ ws. Owes c s.words ws open_now past (control_number c) s.machines
+      (settled_by c ws (image_in (control_after change law c g s past number (control_at (LoadWord index)) command calls follows shaken here).machine)) []
+      (control_after change law c g s past number (control_at (LoadWord index)) command calls follows shaken here)) (sym same_words)
+      (loaded_owes index here shared hands (nat_lt (index + 1) (image_words c)) refl known.aims))
+
+  -- a word of the new image that is stored
+  store_word : (index : ℕ) → Here (StoreWord index) → ControlGoal (StoreWord index)
+  store_word index here =
+      let k = control_at (StoreWord index) in
+      let known = facts change law c g s past number k command calls follows shaken here in
+      from_owes change law c g s past number k command calls follows shaken here (told_storing c s (StoreWord index) image)
+      (stored_owes change c s.words follows.block follows.owner (after g past) past s.machines image index seen command calls known.ready follows.words known.aims.0 known.aims.1 follows.seats
+      (shared_held change law c g s past number k command calls follows shaken here) follows.promised_to (hands_held change law c g s past number k command calls follows shaken here)
+      (known_held change law c g s past number k command calls follows shaken here))
+
+  -- wherever it stands
+  pub by_spot : (spot : ControlSpot) → is_gone spot ≡ false → Here spot → ControlGoal spot
+  by_spot LookLeft going here = quiet LookLeft here refl refl (λ shared hands ready.
+      pauses.look_left c s.words follows.block follows.owner (after g past) past s.machines command calls change seen (got LookLeft) image follows.words shared follows.promised_to hands ready)
+  by_spot StoreEnd going here = quiet StoreEnd here refl refl (λ shared hands ready.
+      pauses.store_end c s.words follows.block follows.owner (after g past) past s.machines command calls change seen (got StoreEnd) image follows.words shared follows.promised_to hands ready)
+  by_spot LookAsked going here = quiet LookAsked here refl refl (λ shared hands ready.
+      pauses.look_asked c s.words follows.block follows.owner (after g past) past s.machines command calls change seen (got LookAsked) image follows.words shared follows.promised_to hands ready)
+  by_spot LookFree going here = quiet LookFree here refl refl (λ shared hands ready.
+      pauses.look_free c s.words follows.block follows.owner (after g past) past s.machines command calls change seen (got LookFree) image follows.words shared follows.promised_to hands ready)
+  by_spot (Stopping stop.Raise) going here = quiet (Stopping stop.Raise) here refl refl (λ shared hands ready.
+      pauses.raise_pause c s.words follows.block follows.owner (after g past) past s.machines command calls change seen (got (Stopping stop.Raise)) image follows.words shared follows.promised_to hands ready)
+  by_spot (Stopping (stop.Check seat)) going here = quiet (Stopping (stop.Check seat)) here refl refl (λ shared hands ready.
+      pauses.check_seat c s.words follows.block follows.owner (after g past) past s.machines command calls change seen (got (Stopping (stop.Check seat))) image follows.words shared follows.promised_to hands seat ready)
+  by_spot (Stopping stop.Stopped) going here = absurd (let ready = ready_at (Stopping stop.Stopped) here in cc (ready))
+  by_spot (LoadWord index) going here = load_word index here
+  by_spot (StoreWord index) going here = store_word index here
+  by_spot Go going here = quiet Go here refl refl (λ shared hands ready.
+      pauses.let_go c s.words follows.block follows.owner (after g past) past s.machines command calls change seen (got Go) image follows.words shared follows.promised_to hands ready)
+  by_spot Gone going here = absurd (cc (going))

@@ -1,0 +1,120 @@
+-- Crowds in histories that grow, and in longer scripts.
+use Rattle.std.proofs.Common.{◌≡◌, ◌≢◌, ℕ, ◌+◌, ◌<◌, ◌≤◌, zero, suc, ⊎_elim, Bool, true, false, List, [], ◌∷◌, ◌++◌, length, Option, Some, None, get_or, refl, sym, ap, ◌∙◌, subst, arith}
+use Rattle.std.specs.Prelude.{◌==◌, ◌-◌, take, slice_get, slice_index_or, sum_by, if◌then◌else◌}
+use Rattle.std.specs.List.{range_with_len}
+use Rattle.std.proofs.lemmas.List.{take-append-le, take_at}
+use Rattle.std.proofs.lemmas.List.Elements.{All-head, All-tail}
+use Rattle.std.proofs.lemmas.Option.{same_Some, slice_get_cases}
+use Rattle.std.proofs.lemmas.List.Sums.{sum_by-cons}
+use Rattle.packing.specs.Tops.{sum_below}
+use Rattle.packing.proofs.Sums.{sum_next, sum_none, sum_same, sum_front}
+use Rattle.shen_graph.specs.declared.command.Command.{Command}
+use Rattle.shen_graph.specs.declared.command.Reply.TheVariants.{Full}
+use Rattle.shen_graph.specs.Crowd.{words_asked, next_command, words_open, IsCrowded, AreCrowded}
+use Rattle.shen_graph.specs.Graph.{Graph}
+use Rattle.shen_graph.specs.History.{Entry, of_thread, IsWithoutFull}
+
+-- a sum of terms that are no more
+pub sum_below_le : (f g : ℕ → ℕ) (n : ℕ) → ((k : ℕ) → k < n → f k ≤ g k) → sum_below f n ≤ sum_below g n
+sum_below_le f g zero less = omega (arith, sum_none f)
+sum_below_le f g (suc n) less =
+    omega (arith, sum_below_le f g n (λ k below. less k (omega (arith, below))), less n (omega arith), sum_next f n, sum_next g n)
+
+-- a sum over a range
+pub sum_by_range : (f : ℕ → ℕ) (from n : ℕ) → sum_by f (range_with_len from n) ≡ sum_below (λ k. f (k + from)) n
+sum_by_range f from zero = sym (sum_none (λ k. f (k + from)))
+sum_by_range f from (suc n) =
+    let next : sum_below (λ k. f (k + (from + 1))) n ≡ sum_below (λ k. f (suc k + from)) n = sum_same _ _ n (λ k below. ap f (omega arith)) in
+    let first : f from ≡ f (0 + from) = ap f (omega arith) in
+    let cons = sum_by-cons f from (range_with_len (from + 1) n) in
+    let rest = sum_by_range f (from + 1) n in
+    let front = sum_front (λ k. f (k + from)) n in
+    omega (arith, next, first, cons, rest, front)
+
+-- a place in two lists one behind the other
+pub get_left : {A : Type 0} (xs ys : List A) (k : ℕ) → k < length xs → slice_get (xs ++ ys) k ≡ slice_get xs k
+get_left [] ys k below = absurd (omega (arith, below))
+get_left (x ∷ xs) ys zero below = refl
+get_left (x ∷ xs) ys (suc k) below = get_left xs ys k (omega (arith, below))
+
+pub get_right : {A : Type 0} (xs ys : List A) (n k : ℕ) → n ≡ length xs + k → slice_get (xs ++ ys) n ≡ slice_get ys k
+get_right [] ys n k is = ap (slice_get ys) (omega (arith, is))
+get_right (x ∷ xs) ys zero k is = absurd (omega (arith, is))
+get_right (x ∷ xs) ys (suc n) k is = get_right xs ys n k (omega (arith, is))
+
+-- one list has what the other has
+abbrev pub Extends : List Command → List Command → Type 0
+Extends xs ys = (i : ℕ) (k : Command) → slice_get xs i ≡ Some k → slice_get ys i ≡ Some k
+
+-- as many scripts, each with no less than before
+pub record AreLonger (old new : List (List Command)) : Type 0 where
+  pub same : length new ≡ length old
+  pub longer : (t : ℕ) → t < length old → Extends (slice_index_or old t []) (slice_index_or new t [])
+
+-- what is asked for stays
+asked_more : (before then_on : Option Command) → ((k : Command) → before ≡ Some k → then_on ≡ Some k) → words_asked before ≤ words_asked then_on
+asked_more None then_on stays = omega arith
+asked_more (Some k) then_on stays = subst (λ o. words_asked (Some k) ≤ words_asked o) (sym (stays k refl)) (omega arith)
+
+-- what a thread's next command asks for, where it is not this thread
+abbrev pub open_of : List (List Command) → List Entry → ℕ → ℕ → ℕ
+open_of scripts history thread t = if t == thread then 0 else words_asked (next_command scripts history t)
+
+-- what is open, as a sum over threads counted from 0
+pub open_below : (scripts : List (List Command)) (history : List Entry) (thread : ℕ) → words_open scripts history thread ≡ sum_below (λ t. open_of scripts history thread (t + 1)) (length scripts)
+open_below scripts history thread = sum_by_range (open_of scripts history thread) 1 (length scripts)
+
+-- the next command of a thread counted from 0
+pub next_is : (scripts : List (List Command)) (history : List Entry) (t : ℕ) → next_command scripts history (t + 1) ≡ slice_get (slice_index_or scripts t []) (length (of_thread history (t + 1)))
+next_is scripts history t = ap (λ n. slice_get (slice_index_or scripts n []) (length (of_thread history (t + 1)))) (omega arith)
+
+either_less : (b : Bool) (x y : ℕ) → x ≤ y → (if b then 0 else x) ≤ (if b then 0 else y)
+either_less true x y less = omega arith
+either_less false x y less = less
+
+-- with longer scripts no less is open
+pub open_grows : (old new : List (List Command)) (history : List Entry) (thread : ℕ) → AreLonger old new → words_open old history thread ≤ words_open new history thread
+open_grows old new history thread grows =
+    let less : sum_below (λ t. open_of old history thread (t + 1)) (length old) ≤ sum_below (λ t. open_of new history thread (t + 1)) (length old) = sum_below_le _ _ (length old) (λ t below.
+    either_less ((t + 1) == thread) _ _ (asked_more _ _ (λ k is. next_is new history t ∙ grows.longer t below _ k (sym (next_is old history t) ∙ is)))) in
+    let many : sum_below (λ t. open_of new history thread (t + 1)) (length old) ≡ sum_below (λ t. open_of new history thread (t + 1)) (length new) = ap (sum_below (λ t. open_of new history thread (t + 1))) (sym grows.same) in
+    omega (arith, less, many, open_below old history thread, open_below new history thread)
+
+-- who was crowded out still was
+pub crowded_longer : (regions region_words : ℕ) (g : Graph) (old new : List (List Command)) (history : List Entry) → AreLonger old new → AreCrowded regions region_words g old history → AreCrowded regions region_words g new history
+crowded_longer regions region_words g old new history grows crowded k e there full =
+    let crowd = crowded k e there full in
+    (crowd.0, crowd.1, (let less = open_grows old new (take k history) e.thread grows in let before = crowd.2 in omega (arith, less, before)))
+
+-- an entry of a history without Full
+not_full_at : (es : List Entry) (k : ℕ) (e : Entry) → IsWithoutFull es → slice_get es k ≡ Some e → e.reply ≢ Full
+not_full_at [] k e without there = absurd (cc (there))
+not_full_at (x ∷ es) zero e without there = λ full. All-head (λ y. y.reply ≢ Full) x es without (ap (λ y. y.reply) (same_Some x e there) ∙ full)
+not_full_at (x ∷ es) (suc k) e without there = not_full_at es k e (All-tail (λ y. y.reply ≢ Full) x es without) there
+
+-- a history of crowded ones, and one more list of such
+module _ (regions region_words : ℕ) (g : Graph) (scripts : List (List Command)) (history : List Entry) (crowded : AreCrowded regions region_words g scripts history) where
+  crowded_append : (more : List Entry)
+      → ((k j : ℕ) (e : Entry) → k ≡ length history + j → slice_get more j ≡ Some e → e.reply ≡ Full → IsCrowded regions region_words g scripts (take k (history ++ more)) e)
+      → AreCrowded regions region_words g scripts (history ++ more)
+  crowded_append more later k e there full = ⊎_elim
+      (λ (inside : (x : Entry) × (k < length history) × (slice_get history k ≡ Some x) × (get_or history k x ≡ x)).
+      subst (λ h. IsCrowded regions region_words g scripts h e) (sym (take-append-le k history more (let below = inside.1 in omega (arith, below))))
+      (crowded k e (sym (get_left history more k inside.1) ∙ there) full))
+      (λ (past : (length history ≤ k) × (slice_get history k ≡ None)).
+      let is : k ≡ length history + (k - length history) = (let above = past.0 in omega (arith, above)) in
+      later k (k - length history) e is (sym (get_right history more k (k - length history) is) ∙ there) full)
+      (slice_get_cases history k).1
+
+  -- entries without Full
+  pub crowded_none : (more : List Entry) → IsWithoutFull more → AreCrowded regions region_words g scripts (history ++ more)
+  crowded_none more without = crowded_append more (λ k j e is there full. absurd (not_full_at more j e without there full))
+
+  -- one that was crowded out
+  pub crowded_one : (e : Entry) → IsCrowded regions region_words g scripts history e → AreCrowded regions region_words g scripts (history ++ e ∷ [])
+  crowded_one e crowd = crowded_append (e ∷ []) (λ k j x is there full. by_place k j x is there)
+    where
+      by_place : (k j : ℕ) (x : Entry) → k ≡ length history + j → slice_get (e ∷ []) j ≡ Some x → IsCrowded regions region_words g scripts (take k (history ++ e ∷ [])) x
+      by_place k zero x is there =
+          subst (λ h. IsCrowded regions region_words g scripts h x) (sym (take_at history (e ∷ []) k (omega (arith, is)))) (subst (λ y. IsCrowded regions region_words g scripts history y) (same_Some e x there) crowd)
+      by_place k (suc j) x is there = absurd (cc (there))

@@ -1,0 +1,120 @@
+-- The steps by which a mutator enters the heap, and the load of the phase with which a call begins.
+use Rattle.std.proofs.Common.{◌≡◌, ℕ, ◌<◌, Bool, true, false, Option, refl, sym, ap, ◌∙◌, subst, arith}
+use Rattle.std.specs.Prelude.{◌==◌, if◌then◌else◌}
+use Rattle.std.proofs.lemmas.Bool.{and_from, lt-ltb, eq-eqb, false≢true}
+use Rattle.std.proofs.lemmas.Bool.Decides.{nat_tests}
+use Rattle.heap_words.specs.declared.config.Config.{Config}
+use Rattle.heap_words.specs.Words.{Pause, State, Phase}
+use Rattle.steps_base.specs.Touch.{touch, stores, touched}
+use Rattle.shen_graph.specs.declared.command.Command.{Command}
+use Rattle.shen_graph.specs.declared.command.Reply.{Reply}
+use Rattle.handshake.specs.declared.enter_spot.EnterSpot.{EnterSpot}
+use Rattle.handshake.specs.declared.enter_spot.EnterSpot.TheVariants.{Raise, Look, Lower, Await, Inside}
+use Rattle.mutator.specs.declared.spot.Kept.{Kept}
+use Rattle.mutator.specs.declared.spot.Entered.{Entered}
+use Rattle.mutator.specs.declared.spot.Entered.TheVariants.{Call, Waited}
+use Rattle.mutator.specs.declared.spot.Spot.{Spot}
+use Rattle.mutator.specs.declared.spot.Spot.TheVariants.{Entering, LoadPhase}
+use Rattle.mutator.specs.Orders.{is_waiting}
+use Rattle.mutator.specs.Rows.{Mutating}
+use Rattle.mutator.specs.WaitRows.{after_enter}
+use Rattle.mutator.specs.Fit.{is_ready, is_outside}
+use Rattle.heap_world.specs.World.{World}
+use Rattle.heap_world.specs.Rely.{Keeps}
+use Rattle.heap_world.proofs.Keeping.{rely_same, keeps_of}
+use Rattle.step_core.specs.Stepped.{Mine, Row}
+use Rattle.step_core.proofs.Spots.{mutator_at}
+use Rattle.step_core.proofs.Stable.{root_stays, enter_stays, seated_stays}
+use Rattle.step_core.proofs.Loading.{looks}
+use Rattle.step_core.proofs.Ready.{ready_of, state_word}
+
+-- the world after a store into a state word
+abbrev pub state_world : World → ℕ → ℕ → World
+state_world u seat value = record { memory = touched u.memory (touch (State seat) (stores value)); block = u.block; owner = u.owner; graph = u.graph }
+
+-- a state word is no word that the facts of a mutator speak of
+pub state_keeps : (u : World) (seat j value : ℕ) → Keeps j u (state_world u seat value)
+state_keeps u seat j value = search (arith, nat_tests)
+
+-- an entering that goes on stays one
+still_enters : (next : Entered) (at : EnterSpot) → is_outside at ≡ true → after_enter next at ≡ Entering at next
+still_enters Call Inside outside = absurd (false≢true outside)
+still_enters Waited Inside outside = absurd (false≢true outside)
+still_enters Call at outside = refl
+still_enters Waited at outside = refl
+
+module _ (c : Config) (u : World) (seat made : ℕ) (kept : Kept) (command : Command) (fixed : Option Reply) where
+  abbrev at_spot : Spot → Mutating
+  at_spot spot = mutator_at seat made kept spot
+
+  -- the accesses of an entering can be made
+  enter_ready : (at : EnterSpot) (next : Entered) → is_outside at ≡ true → seat < c.mutators → is_ready c seat made kept (Entering at next) ≡ true
+  enter_ready Raise next outside below = ready_of _ true (state_word c seat below) refl
+  enter_ready Look next outside below = refl
+  enter_ready Lower next outside below = ready_of _ true (state_word c seat below) refl
+  enter_ready Await next outside below = refl
+  enter_ready Inside next outside below = absurd (false≢true outside)
+
+  module _ (before : EnterSpot) (next : Entered) (mine : Mine c u (at_spot (Entering before next)) command fixed) where
+    -- what it counts on where it goes on entering
+    mine_at : (w : World) → Keeps seat u w → w.block ≡ u.block → (at : EnterSpot) → is_outside at ≡ true → Mine c w (at_spot (after_enter next at)) command fixed
+    mine_at w keeps same at outside = subst (λ spot. Mine c w (at_spot spot) command fixed) (sym (still_enters next at outside)) (record {
+      seated = seated_stays c u w seat keeps made (is_waiting (Entering before next)) mine.seated;
+      ready = enter_ready at next outside mine.seated.below;
+      roots = λ i below. rw (keeps.root_words i) (root_stays c u w seat keeps _ i (mine.roots i below));
+      hands = λ a words is. mine.hands a words (ap (λ plot. plot a) (sym same) ∙ is);
+      facts = enter_stays c u w seat keeps made kept.command command fixed next mine.facts;
+    })
+
+    -- in the same world
+    mine_on : (at : EnterSpot) → is_outside at ≡ true → Mine c u (at_spot (after_enter next at)) command fixed
+    mine_on = mine_at u (keeps_of seat u u (rely_same seat u)) refl
+
+    -- after a store into its state word
+    mine_stored : (value : ℕ) (at : EnterSpot) → is_outside at ≡ true → Mine c (state_world u seat value) (at_spot (after_enter next at)) command fixed
+    mine_stored value = mine_at (state_world u seat value) (state_keeps u seat seat value) refl
+
+  -- and once it is inside: a call begins with the phase, and one that has waited has its answer
+  mine_inside : (next : Entered) → Mine c u (at_spot (Entering Look next)) command fixed → Mine c u (at_spot (after_enter next Inside)) command fixed
+  mine_inside Call mine = record { seated = mine.seated; ready = refl; roots = mine.roots; hands = mine.hands; facts = mine.facts }
+  mine_inside Waited mine = record { seated = mine.seated; ready = ready_of _ true (lt-ltb _ _ mine.seated.below) refl; roots = mine.roots; hands = mine.hands; facts = mine.facts }
+
+  -- the steps of an entering
+  pub at_enter : (at : EnterSpot) (next : Entered) → Row c u (at_spot (Entering at next)) command fixed
+  at_enter Raise next shared mine = record {
+    world = state_world u seat 1;
+    memory = refl;
+    graph = refl;
+    legal = tt;
+    settles = λ r e. cc;
+    shared = shared;
+    mine = mine_stored Raise next mine 1 Look refl;
+    others = λ j d. search (arith, nat_tests);
+  }
+  at_enter Look next shared mine = looks c u (at_spot (Entering Look next)) Pause command fixed refl refl refl shared (by_pause (u.memory Pause == 0))
+    where
+      by_pause : (b : Bool) → Mine c u (at_spot (after_enter next (if b then Inside else Lower))) command fixed
+      by_pause true = mine_inside next mine
+      by_pause false = mine_on Look next mine Lower refl
+  at_enter Lower next shared mine = record {
+    world = state_world u seat 0;
+    memory = refl;
+    graph = refl;
+    legal = tt;
+    settles = λ r e. cc;
+    shared = shared;
+    mine = mine_stored Lower next mine 0 Await refl;
+    others = λ j d. search (arith, nat_tests);
+  }
+  at_enter Await next shared mine = looks c u (at_spot (Entering Await next)) Pause command fixed refl refl refl shared (by_pause (u.memory Pause == 0))
+    where
+      by_pause : (b : Bool) → Mine c u (at_spot (after_enter next (if b then Raise else Await))) command fixed
+      by_pause true = mine_on Await next mine Raise refl
+      by_pause false = mine_on Await next mine Await refl
+  at_enter Inside next shared mine = absurd (false≢true mine.ready)
+
+  -- the load of the phase
+  pub at_load_phase : Row c u (at_spot LoadPhase) command fixed
+  at_load_phase shared mine =
+      looks c u (at_spot LoadPhase) Phase command fixed refl refl refl shared
+      (record { seated = mine.seated; ready = and_from _ _ refl (eq-eqb _ _ shared.calm.phase_is); roots = mine.roots; hands = mine.hands; facts = mine.facts })

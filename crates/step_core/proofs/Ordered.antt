@@ -1,0 +1,26 @@
+-- Accesses of a mutator between two calls, under an order.
+use Rattle.std.proofs.Common.{◌≡◌, ℕ, ◌<◌, true, refl, arith}
+use Rattle.std.proofs.lemmas.Bool.{and_parts}
+use Rattle.std.proofs.lemmas.Bool.Decides.{nat_tests}
+use Rattle.heap_words.specs.declared.config.Config.{Config}
+use Rattle.heap_words.specs.Words.{is_word}
+use Rattle.shen_graph.specs.declared.order.Order.{Order}
+use Rattle.shen_graph.specs.declared.order.Order.TheVariants.{Nothing, Begin, End}
+use Rattle.mutator.specs.declared.spot.Kept.{Kept}
+use Rattle.mutator.specs.declared.spot.Spot.{Spot}
+use Rattle.mutator.specs.declared.spot.Spot.TheVariants.{Rest, Ended, Gone}
+use Rattle.mutator.specs.Fit.{is_ready}
+use Rattle.mutator.specs.Orders.{takes_at}
+use Rattle.mutator.specs.Rows.{touch_at}
+
+-- its access is of a word of the table, whatever order it takes
+pub order_word : (c : Config) (seat made : ℕ) (kept : Kept) (order : Order) (spot : Spot) → seat < c.mutators → is_ready c seat made kept spot ≡ true → takes_at spot made order ≡ true → is_word c (touch_at c seat made kept order spot).word ≡ true
+order_word c seat made kept Nothing spot below ready takes = (and_parts _ _ (and_parts _ _ ready).0).0
+order_word c seat made kept (Begin k) Rest below ready takes = grind (arith, nat_tests)
+order_word c seat made kept (Begin k) (Ended r) below ready takes = grind (arith, nat_tests)
+order_word c seat made kept (Begin k) Gone below ready takes = absurd (cc (takes))
+order_word c seat made kept (Begin k) _ below ready takes = absurd (cc (takes))
+order_word c seat made kept End Rest below ready takes = refl
+order_word c seat made kept End (Ended r) below ready takes = refl
+order_word c seat made kept End Gone below ready takes = absurd (cc (takes))
+order_word c seat made kept End _ below ready takes = absurd (cc (takes))

@@ -1,0 +1,345 @@
+-- The step by which the control has read the last word of an image: the new image counts from here on, all at once, and each machine
+-- is where it should be in it.
+use Rattle.std.proofs.Common.{◌≡◌, ◌≢◌, ℕ, ◌+◌, ◌<◌, ◌≤◌, inl, inr, ⊎_elim, true, false, List, [], ◌++◌, length, Option, Some, refl, sym, ap, ◌∙◌, subst, arith}
+use Rattle.std.specs.Prelude.{◌*◌, ◌-◌, ◌==◌, sum_by, slice_get, if◌then◌else◌}
+use Rattle.std.proofs.lemmas.Bool.{false≢true, lt-ltb}
+use Rattle.std.proofs.lemmas.List.{append-nil}
+use Rattle.std.proofs.lemmas.List.Elements.{All-nil}
+use Rattle.heap_words.specs.declared.config.Config.{Config}
+use Rattle.heap_words.specs.Ranges.{seat_count}
+use Rattle.heap_words.specs.Words.{Root, Answer, view}
+use Rattle.packing.specs.Tops.{sum_below}
+use Rattle.packing.proofs.Sums.{sum_same}
+use Rattle.shen_graph.specs.declared.command.Command.{Command}
+use Rattle.shen_graph.specs.declared.command.Reply.{Reply}
+use Rattle.shen_graph.specs.Crowd.{words_asked}
+use Rattle.shen_graph.specs.Graph.{Graph, named}
+use Rattle.shen_graph.specs.Reach.{size}
+use Rattle.shen_graph.specs.History.{Entry, of_thread}
+use Rattle.handshake.specs.declared.enter_spot.EnterSpot.{EnterSpot}
+use Rattle.handshake.specs.Standing.{is_within}
+use Rattle.mutator.specs.declared.spot.Kept.{Kept}
+use Rattle.mutator.specs.declared.spot.Spot.{Spot}
+use Rattle.mutator.specs.declared.spot.Spot.TheVariants.{Rest, Ended, Entering, Waiting, Gone}
+use Rattle.mutator.specs.declared.spot.Entered.TheVariants.{Call, Waited}
+use Rattle.mutator.specs.declared.waits.WaitSpot.TheVariants as wait
+use Rattle.mutator.specs.Commands.{dst_of, refs_of, nums_of}
+use Rattle.mutator.specs.Orders.{is_waiting}
+use Rattle.mutator.specs.Rows.{Mutating}
+use Rattle.heap_world.specs.World.{World, Plot, hand, Points, Shared}
+use Rattle.heap_world.specs.Asking.{Asking, nothing, asks, refused, given, IsAsked}
+use Rattle.heap_world.specs.Change.{Change, Answers, IsPause, IsPaused, image_view, image_words, words_given}
+use Rattle.heap_world.specs.Represents.{Represents}
+use Rattle.heap_world.specs.Roots.{HasNoMore}
+use Rattle.control_steps.specs.declared.spot.ControlSpot.TheVariants.{StoreWord}
+use Rattle.step_core.specs.Actor.{Machine, mutating, helping, controlling, Actor}
+use Rattle.step_core.specs.Settled.{mixed, settled_by, control_number}
+use Rattle.step_core.specs.Own.{root_now, IsInHand}
+use Rattle.step_core.specs.Standing.{standing_at, standing_of}
+use Rattle.step_core.specs.Stepped.{IsMaking, IsPolling, IsAnswered, SpotFacts, Mine}
+use Rattle.step_core.specs.Threads.{IsSettled}
+use Rattle.step_core.proofs.Facts.{IsSeen, IsShort, AreRead, IsThread, IsMachine, PromisedToMutators, Owes, words_promised}
+use Rattle.step_core.proofs.Asked.{asking_by, asking_asks, asking_refused, asking_given, asking_at, asking_in, asking_of, asked_same, polling_asked, answered_asked, nothing_then, refused_then, given_then, asks_then, promised_given}
+use Rattle.step_core.proofs.Images.{mixed_whole}
+use Rattle.step_core.proofs.Pauses.{open_world}
+use Rattle.step_core.proofs.Roles.{full_settled, machine_there, mutator_there}
+use Rattle.step_core.proofs.Spots.{mutator_at}
+
+-- an image has words
+some_words : (c : Config) → 0 < image_words c
+some_words c = omega arith
+
+-- a mutator that is not in the heap has no root's new value in hand
+root_outside : (w : World) (seat : ℕ) (kept : Kept) (spot : Spot) (i : ℕ) → is_within (standing_at spot) ≡ false → root_now w seat kept spot i ≡ w.memory (Root seat i)
+root_outside w seat kept Rest i out = refl
+root_outside w seat kept (Ended reply) i out = refl
+root_outside w seat kept (Entering at then_on) i out = refl
+root_outside w seat kept (Waiting at) i out = refl
+root_outside w seat kept Gone i out = refl
+root_outside w seat kept _ i out = cc
+
+-- and no room
+none_outside : (kept : Kept) (spot : Spot) (a words : ℕ) → is_within (standing_at spot) ≡ false → IsInHand kept spot a words → ⊥
+none_outside kept Rest a words out is = is
+none_outside kept (Ended reply) a words out is = is
+none_outside kept (Entering at then_on) a words out is = is
+none_outside kept (Waiting at) a words out is = is
+none_outside kept Gone a words out is = is
+none_outside kept _ a words out is = cc
+
+-- what it has asked for stands in the words
+asked_outside : (c : Config) (w : World) (seat made : ℕ) (kept : Kept) (spot : Spot) (command : Command) (fixed : Option Reply) → is_within (standing_at spot) ≡ false
+    → Mine c w (mutator_at seat made kept spot) command fixed → IsAsked w.memory w.block w.graph.count seat (asking_at spot (w.memory (Answer seat)) kept.command)
+asked_outside c w seat made kept Rest command fixed out mine = mine.seated.unasked refl
+asked_outside c w seat made kept (Ended reply) command fixed out mine = mine.seated.unasked refl
+asked_outside c w seat made kept Gone command fixed out mine = mine.seated.unasked refl
+asked_outside c w seat made kept (Entering at Call) command fixed out mine = mine.seated.unasked refl
+asked_outside c w seat made kept (Entering at Waited) command fixed out mine = answered_asked w seat made kept.command command fixed mine.facts
+asked_outside c w seat made kept (Waiting wait.Poll) command fixed out mine = polling_asked w seat made kept.command command fixed mine.facts
+asked_outside c w seat made kept (Waiting wait.StoreRequest) command fixed out mine = cc
+asked_outside c w seat made kept (Waiting wait.AskRoom) command fixed out mine = cc
+asked_outside c w seat made kept (Waiting wait.StepOut) command fixed out mine = cc
+asked_outside c w seat made kept (Waiting wait.LoadAnswer) command fixed out mine = cc
+asked_outside c w seat made kept (Waiting (wait.StoreRoot address)) command fixed out mine = cc
+asked_outside c w seat made kept (Waiting (wait.ClearAnswer reply)) command fixed out mine = cc
+asked_outside c w seat made kept _ command fixed out mine = cc
+
+-- The mutators in a new image: it stands for the same graph, and answers who asks.
+module _ (c : Config) (words : List ℕ) (u w : World) (t made : ℕ) (kept : Kept) (b : Actor) (x : Asking)
+    (asked : IsAsked w.memory w.block w.graph.count t x) (graph : w.graph ≡ u.graph)
+    (roots : (i : ℕ) → i < 16 → Points w.block (w.memory (Root t i)) (w.graph.root (t + 1) i)) (none : (a more : ℕ) → w.block a ≡ Some (hand t more) → ⊥) where
+  -- what it counts on then, where it is outside
+  mine_outside : (spot : Spot) (fixed : Option Reply) → is_within (standing_at spot) ≡ false → Mine c u (mutator_at t made kept spot) b.command fixed
+      → (is_waiting spot ≡ false → IsAsked w.memory w.block w.graph.count t nothing) → SpotFacts c w t made kept b.command fixed spot → Mine c w (mutator_at t made kept spot) b.command fixed
+  mine_outside spot fixed out mine unasked facts = record {
+    seated = record { below = mine.seated.below; counted = ap (λ g. g.count (t + 1)) graph ∙ mine.seated.counted; unasked = unasked };
+    ready = mine.ready;
+    roots = λ i small. subst (λ word. Points w.block word (w.graph.root (t + 1) i)) (sym (root_outside w t kept spot i out)) (roots i small);
+    hands = λ a more is. absurd (none a more is);
+    facts = facts;
+  }
+
+  -- What holds of it then. The answer that it had was that of the table, and if it is refused now, the heap is crowded.
+  module _ (entries : List Entry) (whole : view c words (Answer t) ≡ u.memory (Answer t)) where
+    abbrev IsCrowdedOut : Asking → Type 0
+    IsCrowdedOut before = (refs nums : ℕ) → before ≡ asks refs nums → x ≡ refused → IsShort c w.memory w.graph t (3 + refs + nums)
+
+    abbrev Thread : World → Spot → Type 0
+    Thread v spot = IsThread c words v entries t b (mutator_at t made kept spot)
+
+    -- where it does not wait
+    quiet_then : (spot : Spot) → is_within (standing_at spot) ≡ false → is_waiting spot ≡ false → Answers nothing x → (old : Thread u spot) → SpotFacts c w t made kept b.command old.fixed spot → Thread w spot
+    quiet_then spot out quiet answers old facts =
+        let now : IsAsked w.memory w.block w.graph.count t nothing = nothing_then w.memory w.block w.graph.count t x answers asked in
+        let answer : w.memory (Answer t) ≡ 0 = now.1 in
+        record {
+          fixed = old.fixed;
+          number_is = refl;
+          valid = old.valid;
+          mine = mine_outside spot old.fixed out old.mine (λ e. now) facts;
+          seen = record {
+            null = λ e. whole ∙ (old.mine.seated.unasked quiet).1;
+            full = λ e. absurd (omega (arith, answer, e));
+            given = λ e. absurd (omega (arith, answer, e));
+          };
+          short = λ e unsettled. absurd (omega (arith, answer, e));
+          entries_are = old.entries_are;
+        }
+
+    -- where it waits, and its answer is an address then
+    given_now : (spot : Spot) → is_within (standing_at spot) ≡ false → is_waiting spot ≡ true → view c words (Answer t) ≢ 1 → 1 < w.memory (Answer t) → (old : Thread u spot) → SpotFacts c w t made kept b.command old.fixed spot
+        → Thread w spot
+    given_now spot out waits other more old facts = record {
+      fixed = old.fixed;
+      number_is = refl;
+      valid = old.valid;
+      mine = mine_outside spot old.fixed out old.mine (λ e. absurd (false≢true (sym e ∙ waits))) facts;
+      seen = record { null = λ e. absurd (omega (arith, more, e)); full = λ e. absurd (omega (arith, more, e)); given = λ e. other };
+      short = λ e unsettled. absurd (omega (arith, more, e));
+      entries_are = old.entries_are;
+    }
+
+    -- where it waits, and was refused before
+    refused_now : (spot : Spot) → is_within (standing_at spot) ≡ false → is_waiting spot ≡ true → u.memory (Answer t) ≡ 1 → w.memory (Answer t) ≡ 1 → (old : Thread u spot) → SpotFacts c w t made kept b.command old.fixed spot
+        → Thread w spot
+    refused_now spot out waits before now old facts = record {
+      fixed = old.fixed;
+      number_is = refl;
+      valid = old.valid;
+      mine = mine_outside spot old.fixed out old.mine (λ e. absurd (false≢true (sym e ∙ waits))) facts;
+      seen = subst (λ n. IsSeen (view c words (Answer t)) n old.fixed) (before ∙ sym now) old.seen;
+      short = λ e unsettled. absurd (full_settled _ _ old.fixed old.seen whole before unsettled);
+      entries_are = old.entries_are;
+    }
+
+    -- where it waits, and is refused now
+    refused_first : IsCrowdedOut (asking_by (u.memory (Answer t)) kept.command) → u.memory (Answer t) ≡ 0 → IsAsked w.memory w.block w.graph.count t refused → x ≡ refused → (old : Thread u (Waiting wait.Poll))
+        → IsMaking made b.command old.fixed (dst_of kept.command) (refs_of kept.command) (nums_of kept.command) → Thread w (Waiting wait.Poll)
+    refused_first short before now is old making = record {
+      fixed = old.fixed;
+      number_is = refl;
+      valid = old.valid;
+      mine = mine_outside (Waiting wait.Poll) old.fixed refl old.mine (λ e. absurd (false≢true (sym e))) (inr (inr (record { dst = dst_of kept.command; refs = refs_of kept.command; nums = nums_of kept.command; is = making.is; settled = inl making.unsettled }, now)));
+      seen = record {
+        null = λ e. absurd (let answer = now.1 in omega (arith, answer, e));
+        full = λ e. inr (whole ∙ before, making.unsettled);
+        given = λ e. absurd (let answer = now.1 in omega (arith, answer, e));
+      };
+      short = λ e unsettled.
+          subst (λ k. IsShort c w.memory w.graph t (words_asked (Some k))) (sym making.is)
+          (short (refs_of kept.command) (nums_of kept.command) (asking_asks _ kept.command before) is);
+      entries_are = old.entries_are;
+    }
+
+    -- where it polls
+    poll_then : IsCrowdedOut (asking_by (u.memory (Answer t)) kept.command) → Answers (asking_by (u.memory (Answer t)) kept.command) x → (old : Thread u (Waiting wait.Poll)) → IsPolling u t made kept.command b.command old.fixed → Thread w (Waiting wait.Poll)
+    poll_then short answers old (inl waits) = ⊎_elim
+        (λ (none_left : IsAsked w.memory w.block w.graph.count t refused × (x ≡ refused)). refused_first short waits.1.1 none_left.0 none_left.1 old waits.0)
+        (λ (has : IsAsked w.memory w.block w.graph.count t (given (refs_of kept.command) (nums_of kept.command))).
+        given_now (Waiting wait.Poll) refl refl (λ e. (let before = waits.1.1 in omega (arith, sym whole ∙ e, before))) has.1 old (inr (inl (waits.0, has))))
+        (asks_then w.memory w.block w.graph.count t (refs_of kept.command) (nums_of kept.command) x (subst (λ y. Answers y x) (asking_asks _ kept.command waits.1.1) answers) asked)
+    poll_then short answers old (inr (inl has)) =
+        let still = given_then w.memory w.block w.graph.count t (refs_of kept.command) (nums_of kept.command) x (subst (λ y. Answers y x) (asking_given _ kept.command has.1.1) answers) asked in
+        given_now (Waiting wait.Poll) refl refl (λ e. (let before = has.1.1 in omega (arith, sym whole ∙ e, before))) still.1 old (inr (inl (has.0, still)))
+    poll_then short answers old (inr (inr is)) =
+        let still = refused_then w.memory w.block w.graph.count t x (subst (λ y. Answers y x) (asking_refused _ kept.command is.1.1) answers) asked in
+        refused_now (Waiting wait.Poll) refl refl is.1.1 still.1 old (inr (inr (is.0, still)))
+
+    -- where it enters again with its answer
+    enter_then : (at : EnterSpot) → is_within (standing_at (Entering at Waited)) ≡ false → Answers (asking_by (u.memory (Answer t)) kept.command) x → (old : Thread u (Entering at Waited))
+        → IsAnswered u t made kept.command b.command old.fixed → Thread w (Entering at Waited)
+    enter_then at out answers old (inl has) =
+        let still = given_then w.memory w.block w.graph.count t (refs_of kept.command) (nums_of kept.command) x (subst (λ y. Answers y x) (asking_given _ kept.command has.1.1) answers) asked in
+        given_now (Entering at Waited) out refl (λ e. (let before = has.1.1 in omega (arith, sym whole ∙ e, before))) still.1 old (inl (has.0, still))
+    enter_then at out answers old (inr is) =
+        let still = refused_then w.memory w.block w.graph.count t x (subst (λ y. Answers y x) (asking_refused _ kept.command is.1.1) answers) asked in
+        refused_now (Entering at Waited) out refl is.1.1 still.1 old (inr (is.0, still))
+
+    -- wherever it is outside
+    pub thread_then : (spot : Spot) → is_within (standing_at spot) ≡ false → IsCrowdedOut (asking_at spot (u.memory (Answer t)) kept.command) → Answers (asking_at spot (u.memory (Answer t)) kept.command) x → Thread u spot → Thread w spot
+    thread_then Rest out short answers old = quiet_then Rest out refl answers old old.mine.facts
+    thread_then (Ended reply) out short answers old = quiet_then (Ended reply) out refl answers old old.mine.facts
+    thread_then Gone out short answers old = quiet_then Gone out refl answers old old.mine.facts
+    thread_then (Entering at Call) out short answers old = quiet_then (Entering at Call) out refl answers old old.mine.facts
+    thread_then (Entering at Waited) out short answers old = enter_then at out answers old old.mine.facts
+    thread_then (Waiting wait.Poll) out short answers old = poll_then short answers old old.mine.facts
+    thread_then (Waiting wait.StoreRequest) out short answers old = cc
+    thread_then (Waiting wait.AskRoom) out short answers old = cc
+    thread_then (Waiting wait.StepOut) out short answers old = cc
+    thread_then (Waiting wait.LoadAnswer) out short answers old = cc
+    thread_then (Waiting (wait.StoreRoot address)) out short answers old = cc
+    thread_then (Waiting (wait.ClearAnswer reply)) out short answers old = cc
+    thread_then _ out short answers old = cc
+
+-- A stage in which the control works in a pause, and every machine but it is outside.
+module _ (c : Config) (words : List ℕ) (block : Plot) (owner : ℕ → Option ℕ) (g : Graph) (past : List Entry) (machines : List Actor) (image : List ℕ)
+    (read : AreRead c words image (image_words c)) (seats : length machines ≡ seat_count c.mutators c.helpers) where
+  abbrev before : World
+  before = open_world c words block owner g
+
+  -- what each machine has asked for
+  abbrev pub asking : ℕ → Asking
+  asking t = asking_of (slice_get machines t) (view c words (Answer t))
+
+  -- what holds of the machines
+  abbrev pub AllKnown : Type 0
+  AllKnown = (k : ℕ) (b : Actor) → slice_get machines k ≡ Some b → IsMachine c words before (of_thread past (k + 1)) k b b.machine
+
+  -- no machine but the control is in the heap
+  abbrev pub AllOutside : Type 0
+  AllOutside = (k : ℕ) (b : Actor) → slice_get machines k ≡ Some b → k ≢ control_number c → is_within (standing_of b.machine) ≡ false
+
+  -- nobody has room in hand
+  none_of : (k : ℕ) (b : Actor) (machine : Machine) → (k ≢ control_number c → is_within (standing_of machine) ≡ false) → IsMachine c words before (of_thread past (k + 1)) k b machine
+      → (a more : ℕ) → block a ≡ Some (hand k more) → ⊥
+  none_of k b (mutating m) outside is a more here =
+      let below : k < c.mutators = subst (λ j. j < c.mutators) is.number_is is.mine.seated.below in
+      none_outside m.kept m.spot a more (outside (λ e. omega (arith, below, e))) (is.mine.hands a more (subst (λ j. block a ≡ Some (hand j more)) (sym is.number_is) here))
+  none_of k b (helping h) outside is a more here = is.hands a more here
+  none_of k b (controlling h) outside is a more here = is.hands a more here
+
+  pub no_hands : Shared c before → AllKnown → AllOutside → (a seat more : ℕ) → block a ≡ Some (hand seat more) → ⊥
+  no_hands shared known outside a seat more here =
+      let there = machine_there c words before past machines seats seat (shared.rooms a seat more here).seated in
+      none_of seat there.0 there.0.machine (outside seat there.0 there.1) (known seat there.0 there.1) a more here
+
+  -- what it has asked for stands in the words
+  asked_there : AllKnown → AllOutside → (t : ℕ) → t < c.mutators → IsAsked (view c words) block g.count t (asking t)
+  asked_there known outside t below =
+      let there = mutator_there c words before past machines seats known t below in
+      let m = there.1 in
+      let thread = there.4 in
+      let out : is_within (standing_at m.spot) ≡ false = ap (λ machine. is_within (standing_of machine)) (sym there.3) ∙ outside t there.0 there.2 (λ e. omega (arith, below, e)) in
+      let is : asking t ≡ asking_at m.spot (view c words (Answer t)) m.kept.command = ap (λ o. asking_of o (view c words (Answer t))) there.2 ∙ ap (λ machine. asking_in machine (view c words (Answer t))) there.3 in
+      subst (λ y. IsAsked (view c words) block g.count t y) (sym is)
+      (subst (λ j. IsAsked (view c words) block g.count j (asking_at m.spot (view c words (Answer j)) m.kept.command)) thread.number_is
+      (asked_outside c before m.seat m.made m.kept m.spot there.0.command thread.fixed out thread.mine))
+
+  -- The image that was read stands for the graph.
+  pub image_stands : Shared c before → PromisedToMutators c block → HasNoMore c.mutators g → AllKnown → AllOutside → Represents c (image_view c image) g asking
+  image_stands shared promised_to no_more known outside =
+      let whole : view c words ≡ mixed c words image = sym (mixed_whole c words image read) in
+      record {
+        block = block;
+        owner = owner;
+        shared = subst (λ memory. Shared c (record { memory = memory; block = block; owner = owner; graph = g })) whole shared;
+        roots = λ t i below small.
+            let there = mutator_there c words before past machines seats known t below in
+            let m = there.1 in
+            let thread = there.4 in
+            let out : is_within (standing_at m.spot) ≡ false = ap (λ machine. is_within (standing_of machine)) (sym there.3) ∙ outside t there.0 there.2 (λ e. omega (arith, below, e)) in
+            subst (λ memory. Points block (memory (Root t i)) (g.root (t + 1) i)) whole
+            (subst (λ j. Points block (view c words (Root j i)) (g.root (j + 1) i)) thread.number_is
+            (subst (λ word. Points block word (g.root (m.seat + 1) i)) (root_outside before m.seat m.kept m.spot i out) (thread.mine.roots i small)));
+        none = no_hands shared known outside;
+        asked = λ t below. asked_same (mixed c words image) (image_view c image) block g.count t (asking t) refl refl (λ a. refl) (subst (λ memory. IsAsked memory block g.count t (asking t)) whole (asked_there known outside t below));
+        promised_to = promised_to;
+        no_more = no_more;
+      }
+
+  -- The new image counts: what the step owes.
+  module _ (change : Change) (law : IsPause change) (long : length image ≡ image_words c) (shared : Shared c before) (promised_to : PromisedToMutators c block) (no_more : HasNoMore c.mutators g)
+      (known : AllKnown) (outside : AllOutside) where
+    paused : IsPaused c (image_view c image) (image_view c (change c image)) g asking
+    paused = law.pauses c image g asking long (image_stands shared promised_to no_more known outside)
+
+    -- the world then
+    abbrev then_world : World
+    then_world = record { memory = mixed c words (change c image); block = paused.stands.block; owner = paused.stands.owner; graph = g }
+
+    -- what each mutator has asked for stands in its words
+    asked_in_it : (t : ℕ) → t < c.mutators → IsAsked then_world.memory paused.stands.block g.count t (paused.asked_then t)
+    asked_in_it t below =
+        asked_same (image_view c (change c image)) then_world.memory paused.stands.block g.count t (paused.asked_then t) refl refl (λ a. refl) (paused.stands.asked t below)
+
+    -- the words that are promised then
+    promised_sum : (t : ℕ) → sum_below (λ v. if v == t then 0 else words_given (paused.asked_then v)) c.mutators ≡ sum_below (λ v. if v == t then 0 else words_promised then_world.memory v) c.mutators
+    promised_sum t = sum_same _ _ c.mutators (λ v below.
+        ap (λ n. if v == t then 0 else n) (sym (promised_given then_world.memory paused.stands.block g.count v (paused.asked_then v) (asked_in_it v below))))
+
+    -- who is refused is crowded out
+    crowded_then : (t : ℕ) → t < c.mutators → (refs nums : ℕ) → asking t ≡ asks refs nums → paused.asked_then t ≡ refused → IsShort c then_world.memory g t (3 + refs + nums)
+    crowded_then t below refs nums asks_so is =
+        let crowd = paused.crowded t refs nums below asks_so is in
+        (crowd.0, crowd.1, subst (λ n. c.regions * (c.region_words - (3 + refs + nums) + 1) ≤ sum_by (λ n. size (named g (Some n))) crowd.0 + n) (promised_sum t) crowd.2)
+
+    -- a mutator
+    mutator_then : (k : ℕ) (b : Actor) (m : Mutating) → slice_get machines k ≡ Some b → b.machine ≡ mutating m → is_within (standing_at m.spot) ≡ false
+        → IsThread c words before (of_thread past (k + 1)) k b m → IsThread c words then_world (of_thread past (k + 1)) k b m
+    mutator_then k b m there is out thread =
+        let below : k < c.mutators = subst (λ j. j < c.mutators) thread.number_is thread.mine.seated.below in
+        let asks_so : asking k ≡ asking_at m.spot (view c words (Answer k)) m.kept.command = ap (λ o. asking_of o (view c words (Answer k))) there ∙ ap (λ machine. asking_in machine (view c words (Answer k))) is in
+        subst (λ j. IsThread c words then_world (of_thread past (k + 1)) k b (mutator_at j m.made m.kept m.spot)) (sym thread.number_is)
+        (thread_then c words before then_world k m.made m.kept b (paused.asked_then k) (asked_in_it k below) refl (λ i small. paused.stands.roots k i below small) (λ a more. paused.stands.none a k more)
+        (of_thread past (k + 1)) refl m.spot out (λ refs nums asks_by. crowded_then k below refs nums (asks_so ∙ asks_by))
+        (subst (λ y. Answers y (paused.asked_then k)) asks_so (paused.answers k below))
+        (subst (λ j. IsThread c words before (of_thread past (k + 1)) k b (mutator_at j m.made m.kept m.spot)) thread.number_is thread))
+
+    -- any machine but the control
+    machine_then : (k : ℕ) (b : Actor) (machine : Machine) → slice_get machines k ≡ Some b → b.machine ≡ machine → k ≢ control_number c → is_within (standing_of machine) ≡ false
+        → IsMachine c words before (of_thread past (k + 1)) k b machine → IsMachine c words then_world (of_thread past (k + 1)) k b machine
+    machine_then k b (mutating m) there is other out thread = mutator_then k b m there is out thread
+    machine_then k b (helping h) there is other out thread = record { least = thread.least; below = thread.below; hands = λ a more. paused.stands.none a k more }
+    machine_then k b (controlling h) there is other out thread = absurd (other thread.number_is)
+
+    -- what the control owes
+    pub paused_owes : (seen : ℕ) (command : Command) (calls : List Entry) → Owes c words words before past (control_number c) machines (settled_by c words (Some (change c image))) []
+        (record { machine = controlling (record { spot = StoreWord 0; seen = seen; image = change c image }); command = command; calls = calls ++ [] })
+    paused_owes seen command calls = record {
+      world = then_world;
+      memory_is = refl;
+      graph_is = refl;
+      legal = tt;
+      entries = All-nil (IsSettled c.mutators);
+      shared = paused.stands.shared;
+      promised_to = paused.stands.promised_to;
+      own = record {
+        number_is = refl;
+        hands = λ a more. paused.stands.none a (control_number c) more;
+        ready = lt-ltb _ _ (some_words c);
+        aims = (law.long c image long, λ i below. absurd (omega (arith, below)));
+      };
+      others = λ k b other there is.
+          subst (λ es. IsMachine c words then_world es k b b.machine) (ap (λ es. of_thread es (k + 1)) (sym (append-nil past)))
+          (machine_then k b b.machine there refl other (outside k b there other) is);
+    }

@@ -1,0 +1,152 @@
+-- Where a mutator goes on that is in the heap: it stays in the heap until it leaves, and accesses no word of the handshake.
+use Rattle.std.proofs.Common.{◌≡◌, ℕ, Bool, true, false, refl}
+use Rattle.std.specs.Prelude.{◌==◌, nat_lt, length, if◌then◌else◌}
+use Rattle.heap_words.specs.declared.config.Config.{Config}
+use Rattle.shen_graph.specs.declared.command.Command.{Command}
+use Rattle.shen_graph.specs.declared.command.Command.TheVariants.{New, Get, Set, Cas, Xchg, Rd, Wr, Copy, Drop, Same, Gc}
+use Rattle.shen_graph.specs.declared.command.Reply.TheVariants as reply
+use Rattle.shen_graph.specs.declared.order.Order.{Order}
+use Rattle.alloc_buffers.specs.declared.spot.TakeSpot.{TakeSpot}
+use Rattle.alloc_buffers.specs.declared.spot.TakeSpot.TheVariants as take
+use Rattle.alloc_buffers.specs.declared.spot.Taken.TheVariants.{At, NoRoom}
+use Rattle.handshake.specs.declared.enter_spot.EnterSpot.{EnterSpot}
+use Rattle.handshake.specs.declared.enter_spot.EnterSpot.TheVariants as enter
+use Rattle.handshake.specs.Standing.{inside, is_within}
+use Rattle.handshake.proofs.Parts.{is_other}
+use Rattle.mutator.specs.declared.spot.Kept.{Kept}
+use Rattle.mutator.specs.declared.spot.Spot.{Spot}
+use Rattle.mutator.specs.declared.spot.Spot.TheVariants.{Entering, LoadPhase, LoadSet, Loading, OnField, OnNumber, Showing, StoreRoot, Making, AskCycle, Waiting, Leave}
+use Rattle.mutator.specs.declared.spot.Entered.{Entered}
+use Rattle.mutator.specs.declared.spot.Entered.TheVariants.{Call, Waited}
+use Rattle.mutator.specs.declared.loads.LoadSpot.TheVariants as load
+use Rattle.mutator.specs.declared.fields.FieldSpot.TheVariants as fields
+use Rattle.mutator.specs.declared.numbers.NumberSpot.TheVariants as numbers
+use Rattle.mutator.specs.declared.shows.ShowSpot.TheVariants as show
+use Rattle.mutator.specs.declared.makes.MakeSpot.TheVariants as make
+use Rattle.mutator.specs.declared.waits.WaitSpot.{WaitSpot}
+use Rattle.mutator.specs.declared.waits.WaitSpot.TheVariants as wait
+use Rattle.mutator.specs.Commands.{roots_of, lacks_object, has_part}
+use Rattle.mutator.specs.Rows.{Mutating, touch_at, first_spot, after_roots, after_first, with_part, after_take, take_next, next_at}
+use Rattle.mutator.specs.WaitRows.{after_enter}
+use Rattle.step_core.specs.Standing.{standing_at, wait_standing}
+
+-- a spot in the heap
+abbrev pub IsIn : Spot → Type 0
+IsIn spot = is_within (standing_at spot) ≡ true
+
+-- one of two
+either_in : (b : Bool) (x y : Spot) → IsIn x → IsIn y → IsIn (if b then x else y)
+either_in true x y one other = one
+either_in false x y one other = other
+
+-- one of two while it waits
+either_waits : (b : Bool) (x y : WaitSpot) → is_within (wait_standing x) ≡ true → is_within (wait_standing y) ≡ true → is_within (wait_standing (if b then x else y)) ≡ true
+either_waits true x y one other = one
+either_waits false x y one other = other
+
+first_in : (k : Command) → IsIn (first_spot k)
+first_in (New dst refs nums) = refl
+first_in (Drop dst) = refl
+first_in Gc = refl
+first_in _ = refl
+
+roots_in_heap : (k : Command) (first second third : ℕ) → IsIn (after_roots k first second third)
+roots_in_heap (Copy dst src) first second third = refl
+roots_in_heap (Same a b) first second third = refl
+roots_in_heap _ first second third = refl
+
+part_in : (k : Command) (object second third shape : ℕ) → IsIn (with_part k object second third shape)
+part_in (Get dst src field) object second third shape = refl
+part_in (Set obj field val) object second third shape = refl
+part_in (Cas obj field expect val) object second third shape = refl
+part_in (Xchg dst obj field val) object second third shape = refl
+part_in (Rd obj index) object second third shape = refl
+part_in (Wr obj index value) object second third shape = refl
+part_in _ object second third shape = refl
+
+take_in : (at : TakeSpot) → IsIn (after_take at)
+take_in (take.Ended (At address)) = refl
+take_in (take.Ended NoRoom) = refl
+take_in _ = refl
+
+-- it goes on in the heap
+pub goes_on_in : (c : Config) (m : Mutating) (order : Order) (got : ℕ) (spot : Spot) → standing_at spot ≡ inside → IsIn (next_at c m order got spot).spot
+goes_on_in c m order got LoadPhase is = refl
+goes_on_in c m order got LoadSet is = first_in m.kept.command
+goes_on_in c m order got (Loading load.First) is =
+    either_in (lacks_object m.kept.command got) (Leave reply.Bad) (after_first m.kept.command got) refl
+    (either_in (nat_lt 1 (length (roots_of m.kept.command))) (Loading (load.Second got)) (after_roots m.kept.command got 0 0) refl (roots_in_heap m.kept.command got 0 0))
+goes_on_in c m order got (Loading (load.Second first)) is =
+    either_in (nat_lt 2 (length (roots_of m.kept.command))) (Loading (load.Third first got)) (after_roots m.kept.command first got 0) refl (roots_in_heap m.kept.command first got 0)
+goes_on_in c m order got (Loading (load.Third first second)) is = roots_in_heap m.kept.command first second got
+goes_on_in c m order got (Loading (load.Shape object second third)) is =
+    either_in (has_part m.kept.command got) (with_part m.kept.command object second third got) (Leave reply.Bad) (part_in m.kept.command object second third got) refl
+goes_on_in c m order got (OnField object fields.Load) is = refl
+goes_on_in c m order got (OnField object (fields.LoadExpected expect value)) is = either_in (got == expect) (OnField object (fields.Exchange got expect value)) (Leave reply.No) refl refl
+goes_on_in c m order got (OnField object (fields.Store value)) is = refl
+goes_on_in c m order got (OnField object (fields.Swap value)) is = refl
+goes_on_in c m order got (OnField object (fields.Exchange found expect value)) is = either_in (got == found) (Leave reply.Yes) (OnField object (fields.LoadExpected expect value)) refl refl
+goes_on_in c m order got (OnNumber object refs numbers.Load) is = refl
+goes_on_in c m order got (OnNumber object refs numbers.Store) is = refl
+goes_on_in c m order got (Showing value show.LoadName) is = refl
+goes_on_in c m order got (Showing value (show.StoreRoot r)) is = refl
+goes_on_in c m order got (StoreRoot value) is = refl
+goes_on_in c m order got (Making (make.Taking at)) is = take_in (take_next c m.kept.command at got)
+goes_on_in c m order got (Making (make.StoreWord address done)) is = refl
+goes_on_in c m order got (Making (make.StoreRoot address)) is = refl
+goes_on_in c m order got AskCycle is = refl
+goes_on_in c m order got (Waiting wait.StoreRequest) is = refl
+goes_on_in c m order got (Waiting wait.AskRoom) is = refl
+goes_on_in c m order got (Waiting wait.StepOut) is = cc
+goes_on_in c m order got (Waiting wait.Poll) is = cc
+goes_on_in c m order got (Waiting wait.LoadAnswer) is = either_waits (got == 1) (wait.ClearAnswer reply.Full) (wait.StoreRoot got) refl refl
+goes_on_in c m order got (Waiting (wait.StoreRoot address)) is = refl
+goes_on_in c m order got (Waiting (wait.ClearAnswer r)) is = refl
+goes_on_in c m order got (Entering enter.Raise next) is = cc
+goes_on_in c m order got (Entering enter.Look next) is = cc
+goes_on_in c m order got (Entering enter.Lower next) is = cc
+goes_on_in c m order got (Entering enter.Await next) is = cc
+goes_on_in c m order got (Entering enter.Inside next) is = goes_in next
+  where
+    goes_in : (n : Entered) → IsIn (after_enter n enter.Inside)
+    goes_in Call = refl
+    goes_in Waited = refl
+goes_on_in c m order got _ is = cc
+
+-- its access is of a word that is not of the handshake
+pub other_word : (c : Config) (seat made : ℕ) (kept : Kept) (order : Order) (spot : Spot) → standing_at spot ≡ inside → (((at : EnterSpot) (next : Entered) → spot ≡ Entering at next → ⊥)) → is_other (touch_at c seat made kept order spot).word ≡ true
+other_word c seat made kept order LoadPhase is apart = refl
+other_word c seat made kept order LoadSet is apart = refl
+other_word c seat made kept order (Loading load.First) is apart = refl
+other_word c seat made kept order (Loading (load.Second first)) is apart = refl
+other_word c seat made kept order (Loading (load.Third first second)) is apart = refl
+other_word c seat made kept order (Loading (load.Shape object second third)) is apart = refl
+other_word c seat made kept order (OnField object fields.Load) is apart = refl
+other_word c seat made kept order (OnField object (fields.LoadExpected expect value)) is apart = refl
+other_word c seat made kept order (OnField object (fields.Store value)) is apart = refl
+other_word c seat made kept order (OnField object (fields.Swap value)) is apart = refl
+other_word c seat made kept order (OnField object (fields.Exchange found expect value)) is apart = refl
+other_word c seat made kept order (OnNumber object refs numbers.Load) is apart = refl
+other_word c seat made kept order (OnNumber object refs numbers.Store) is apart = refl
+other_word c seat made kept order (Showing value show.LoadName) is apart = refl
+other_word c seat made kept order (Showing value (show.StoreRoot r)) is apart = refl
+other_word c seat made kept order (StoreRoot value) is apart = refl
+other_word c seat made kept order (Making (make.Taking take.LoadCurrent)) is apart = refl
+other_word c seat made kept order (Making (make.Taking (take.LoadTop region))) is apart = refl
+other_word c seat made kept order (Making (make.Taking take.LoadFree)) is apart = refl
+other_word c seat made kept order (Making (make.Taking (take.TakeRegion region))) is apart = refl
+other_word c seat made kept order (Making (make.Taking (take.StoreCurrent region))) is apart = refl
+other_word c seat made kept order (Making (make.Taking (take.StoreTop region top))) is apart = refl
+other_word c seat made kept order (Making (make.Taking (take.Ended taken))) is apart = refl
+other_word c seat made kept order (Making (make.StoreWord address done)) is apart = refl
+other_word c seat made kept order (Making (make.StoreRoot address)) is apart = refl
+other_word c seat made kept order AskCycle is apart = refl
+other_word c seat made kept order (Waiting wait.StoreRequest) is apart = refl
+other_word c seat made kept order (Waiting wait.AskRoom) is apart = refl
+other_word c seat made kept order (Waiting wait.StepOut) is apart = cc
+other_word c seat made kept order (Waiting wait.Poll) is apart = cc
+other_word c seat made kept order (Waiting wait.LoadAnswer) is apart = refl
+other_word c seat made kept order (Waiting (wait.StoreRoot address)) is apart = refl
+other_word c seat made kept order (Waiting (wait.ClearAnswer r)) is apart = refl
+other_word c seat made kept order (Entering at next) is apart = absurd (apart at next refl)
+other_word c seat made kept order _ is apart = cc

@@ -1,0 +1,27 @@
+-- Which words machines can go on from, by their roles.
+use Rattle.std.specs.Prelude.{ℕ, ◌≡◌, ◌+◌, List, [], ◌∷◌, ◌++◌}
+use Rattle.heap_words.specs.declared.config.Config.{Config}
+use Rattle.shen_graph.specs.declared.order.Order.{Order}
+use Rattle.shen_graph.specs.Graph.{Graph}
+use Rattle.heap_world.specs.Asking.{Asking}
+use Rattle.heap_world.specs.Represents.{Represents}
+use Rattle.heap_world.specs.Change.{image_view, image_words}
+use Rattle.mutator.specs.Fit.{IsFit}
+use Rattle.control_steps.specs.declared.spot.ControlSpot.{ControlSpot}
+use Rattle.control_steps.specs.declared.spot.ControlSpot.TheVariants.{LoadWord}
+use Rattle.step_core.specs.Actor.{Machine, mutating, helping, controlling}
+
+-- an image stands for some graph, with the requests of some threads
+abbrev pub StandsForSome : Config → List ℕ → Type 0
+StandsForSome c image = ∥ ((g : Graph) × (asking : ℕ → Asking) × Represents c (image_view c image) g asking) ∥₁
+
+-- the last word of an image was loaded, and the image stands for some graph
+abbrev pub IsWhole : Config → ControlSpot → List ℕ → ℕ → Type 0
+IsWhole c (LoadWord index) image got = index + 1 ≡ image_words c → StandsForSome c (image ++ got ∷ [])
+IsWhole c _ image got = Unit {0}
+
+-- a machine can go on from a word
+abbrev pub IsFitFor : Config → Order → ℕ → Machine → Type 0
+IsFitFor c order got (mutating m) = IsFit c m order got
+IsFitFor c order got (helping h) = Unit {0}
+IsFitFor c order got (controlling k) = IsWhole c k.spot k.image got

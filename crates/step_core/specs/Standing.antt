@@ -1,0 +1,36 @@
+-- Where the machines of a heap stand, as far as entering, leaving and stopping go.
+use Rattle.handshake.specs.Standing.{Standing, outside, inside, leaves, idle, works, goes, enter_standing, stop_standing}
+use Rattle.mutator.specs.declared.spot.Spot.{Spot}
+use Rattle.mutator.specs.declared.spot.Spot.TheVariants.{Rest, Ended, Entering, Waiting, Leave, Gone}
+use Rattle.mutator.specs.declared.waits.WaitSpot.{WaitSpot}
+use Rattle.mutator.specs.declared.waits.WaitSpot.TheVariants as wait
+use Rattle.control_steps.specs.declared.spot.ControlSpot.{ControlSpot}
+use Rattle.control_steps.specs.declared.spot.ControlSpot.TheVariants.{Stopping, LoadWord, StoreWord, Go}
+use Rattle.step_core.specs.Actor.{Machine, mutating, helping, controlling}
+
+-- an allocation that waits is outside while it looks for its answer
+abbrev pub wait_standing : WaitSpot → Standing
+wait_standing wait.StepOut = leaves
+wait_standing wait.Poll = outside
+wait_standing _ = inside
+
+abbrev pub standing_at : Spot → Standing
+standing_at Rest = outside
+standing_at (Ended reply) = outside
+standing_at Gone = outside
+standing_at (Entering at then_on) = enter_standing at
+standing_at (Waiting at) = wait_standing at
+standing_at (Leave reply) = leaves
+standing_at _ = inside
+
+abbrev pub control_standing : ControlSpot → Standing
+control_standing (Stopping at) = stop_standing at
+control_standing (LoadWord index) = works
+control_standing (StoreWord index) = works
+control_standing Go = goes
+control_standing _ = idle
+
+abbrev pub standing_of : Machine → Standing
+standing_of (mutating m) = standing_at m.spot
+standing_of (helping h) = outside
+standing_of (controlling k) = control_standing k.spot
