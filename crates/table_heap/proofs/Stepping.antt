@@ -17,7 +17,10 @@ use Rattle.heap_machines.specs.Shown.{shown, order_of, heap_of, has_turn}
 use Rattle.heap_machines.proofs.Turns.{role_stays}
 use Rattle.step_core.specs.Actor as actors
 use Rattle.step_core.specs.Actor.{Actor}
-use Rattle.step_core.specs.Machines.{takes_of, plan_of, machine_after, is_mutating, IsFitIn}
+use Rattle.heap_machines.specs.Roles.{is_mutating}
+use Rattle.pause_laws.specs.Image.{full_image}
+use Rattle.step_core.specs.Fit.{IsFitFor}
+use Rattle.step_core.specs.Machines.{takes_of, plan_of, machine_after}
 use Rattle.table_heap.specs.Core.{heap_kind, heap_opening, machine_in}
 use Rattle.table_heap.specs.Known.{IsOfHeap, AreOfHeap}
 use Rattle.table_heap.proofs.Core.{kind_takes, kind_plan, kind_took, found_fits}
@@ -29,39 +32,39 @@ module _ {S : Type 0} (c : Config) (items : View Machine) (before : Me S (View A
   seen_here = ap (λ v. machine_of v number) kept ∙ shows_here shown items number m here
 
   -- it can make its access
-  pub can : (access : Access) → heap_of m ≡ c → has_turn m ≡ true → access ≡ plan_of (heap_of m) (shown m)
+  pub can : (access : Access) → heap_of m ≡ c → has_turn m ≡ true → access ≡ plan_of (heap_of m) (order_of m) (shown m)
       → (a : Actor) × (machine_of before.0 number ≡ Some a) × ((heap_kind c).takes a (order_of m) ≡ true) × ((heap_kind c).plan a (order_of m) ≡ access)
   can access heap takes row =
       kept_can (heap_kind c) (heap_opening c) machine_in before.0 number (order_of m) (shown m) access seen_here
       (λ a is. (
         kind_takes c a (order_of m) ∙ ap (λ x. takes_of x (order_of m)) is ∙ takes,
-        kind_plan c a (order_of m) ∙ ap (plan_of c) is ∙ ap (λ k. plan_of k (shown m)) (sym heap) ∙ sym row,
+        kind_plan c a (order_of m) ∙ ap (plan_of c (order_of m)) is ∙ ap (λ k. plan_of k (order_of m) (shown m)) (sym heap) ∙ sym row,
       ))
 
   module _ (told : ℕ) (after : Me S (View Actor)) (took : Took (heap_kind c) (heap_opening c) number (order_of m) before told after) where
     -- the word that it found is fit
-    pub fits : heap_of m ≡ c → IsFitIn (heap_of m) (order_of m) told (shown m)
+    pub fits : heap_of m ≡ c → IsFitFor (heap_of m) (order_of m) told (shown m)
     fits heap =
         let found = kept_finds (heap_kind c) (heap_opening c) machine_in number (order_of m) before after told (shown m) took seen_here in
-        subst (λ k. IsFitIn k (order_of m) told (shown m)) (sym heap)
-        (subst (λ x. IsFitIn c (order_of m) told x) found.1 (found_fits c number found.0 (order_of m) told found.2))
+        subst (λ k. IsFitFor k (order_of m) told (shown m)) (sym heap)
+        (subst (λ x. IsFitFor c (order_of m) told x) found.1 (found_fits c number found.0 (order_of m) told found.2))
 
     -- the bundle has the same numbers
     pub numbers_stay : SameNumbers before.0 after.0
     numbers_stay = subst (λ (v : View Actor). SameNumbers before.0 v) (sym took.view) (same_step before.0 number took.machine _ took.here)
 
-    module _ (n : Machine) (shown_is : shown n ≡ machine_after (heap_of m) (order_of m) told (shown m)) (heap : heap_of m ≡ c) where
+    module _ (n : Machine) (shown_is : shown n ≡ machine_after full_image (heap_of m) (order_of m) told (shown m)) (heap : heap_of m ≡ c) where
       -- memory keeps what the view has
       pub kept_after : kept_of machine_in after.0 ≡ kept_of shown (slice_set items number (Some n))
       kept_after =
           kept_step (heap_kind c) (heap_opening c) machine_in number (order_of m) before after told (shown m) (shown n) took seen_here
-          (λ a is. ap machine_in (kind_took c a (order_of m) told) ∙ ap (machine_after c (order_of m) told) is ∙ ap (λ k. machine_after k (order_of m) told (shown m)) (sym heap) ∙ sym shown_is)
+          (λ a is. ap machine_in (kind_took c a (order_of m) told) ∙ ap (machine_after full_image c (order_of m) told) is ∙ ap (λ k. machine_after full_image k (order_of m) told (shown m)) (sym heap) ∙ sym shown_is)
           ∙ ap (λ v. slice_set v number (Some (shown n))) kept
           ∙ sym (kept-set shown items number (Some n))
 
       -- its machines are still of the heap
       pub role_after : is_mutating (shown n) ≡ is_mutating (shown m)
-      role_after = ap is_mutating shown_is ∙ role_stays (heap_of m) (order_of m) told (shown m)
+      role_after = ap is_mutating shown_is ∙ role_stays full_image (heap_of m) (order_of m) told (shown m)
 
 -- the same step, with other names for key and order
 pub took_as : {S : Type 0} (k c : Config) (number : ℕ) (o p : Order) (before : Me S (View Actor)) (told : ℕ) (after : Me S (View Actor)) → k ≡ c → o ≡ p

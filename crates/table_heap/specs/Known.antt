@@ -4,7 +4,7 @@ use Rattle.heap_words.specs.declared.config.Config.{Config}
 use Rattle.shared_steps.specs.Views.{View, machine_of}
 use Rattle.heap_machines.specs.declared.machine.Machine.{Machine}
 use Rattle.heap_machines.specs.Shown.{shown, heap_of}
-use Rattle.step_core.specs.Machines.{is_mutating}
+use Rattle.heap_machines.specs.Roles.{is_mutating}
 
 -- they are machines of the heap, and those of the first numbers are its mutators
 pub record IsOfHeap (c : Config) (number : ℕ) (m : Machine) : Type 0 where

@@ -9,7 +9,8 @@ use Rattle.shen_graph.specs.Valid.{IsValid}
 use Rattle.shen_graph.specs.Work as work
 use Rattle.heap_machines.specs.Scripts.{IsOnScript, HasDoneScript}
 use Rattle.step_core.specs.Actor.{Actor}
-use Rattle.step_core.specs.Machines.{order_for, made_of_machine, at_hand_of}
+use Rattle.heap_machines.specs.Turn.{order_for}
+use Rattle.step_core.specs.Machines.{made_of_machine, at_hand_of}
 use Rattle.table_heap.specs.declared.bundle.Bundle.{Bundle}
 use Rattle.table_heap.specs.State.{view_of, orders_of, machine_at}
 

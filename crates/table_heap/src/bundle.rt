@@ -93,6 +93,20 @@ impl Bundle {
         machine.begin(command);
     }
 
+    /// Orders the end: the mutator's next step is its last one. Between two calls only, of a mutator that has not ended.
+    pub fn finish(&mut self, number: usize)
+        requires here { HasMachine self.old number }
+        requires rest { may_begin (machine_at self.old number) ≡ true }
+        ensures order { orders_of self.new ≡ slice_set (orders_of self.old) number (Some Order.End) }
+        ensures takes { takes_of (machine_at self.old number) Order.End ≡ true }
+        ensures unmoved { IsUnmoved self.old self.new }
+    {
+        let Some(machine) = self.machines[number].as_mut() else {
+            unreachable!()
+        };
+        machine.finish();
+    }
+
     /// Gives a machine of the bundle one step, which is one access of the heap's table. It waits for nothing, and takes no
     /// memory.
     pub fn step(&mut self, heap: &Heap, number: usize) -> Stepped
@@ -104,7 +118,7 @@ impl Bundle {
         ensures same { IsSameBundle self.old self.new }
 
         // A call ends exactly where its mutator leaves the heap, and its reply is at hand then.
-        ensures done { (result ≡ Stepped.Done) ↔ ((has_turn self.old number ≡ true) × (place_in (machine_at self.old number) ≡ places.LV)) }
+        ensures done { (result ≡ Stepped.Done) ↔ ((has_turn self.old number ≡ true) × (place_in (order_at self.old number) (machine_at self.old number) ≡ places.LV)) }
         ensures replied { result ≡ Stepped.Done → reply_in (machine_at self.new number) ≢ None }
     {
         let Some(machine) = self.machines[number].as_mut() else {
