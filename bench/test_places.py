@@ -14,11 +14,25 @@ TOP = os.path.dirname(os.path.dirname(os.path.abspath(__file__)))
 PLACES = [os.path.join(TOP, "crates", "shenrun", "out", "shenrun"), os.path.join(TOP, "out", "shenrun")]
 PROGRAM = next((it for it in PLACES if os.access(it, os.X_OK)), None)
 
-# For each row of the table: the commands before the one that it is of, and the command.
+# For each row of the table: the commands before the one that it is of, and that command; the heap, where it is not one of eight
+# regions without a reserve. PAUSE among the commands before stands for the pause that a `gc` has asked for.
+PAUSE = "pause"
 RUNS = {
     ("`new`", "the thread has no current region yet"): ([], "new 1 1 2"),
     ("`new`", "its current region has room"): (["new 1 0 0"], "new 2 2 1"),
     ("`new`", "its current region has too little room"): (["new 1 16 16"], "new 2 16 16"),
+    ("`new`", "a pause makes the object; the thread has no current region"): ([], "new 1 16 16", "8 64 7"),
+    ("`new`", "a pause makes the object; its current region has too little room"): (["new 1 16 16"] * 3, "new 1 16 16", "4 64 0"),
+    ("`new`", "the answer is `full`; the thread has no current region"): (
+        [f"new {root} 16 16" for root in (1, 2, 3, 4)],
+        "new 5 16 16",
+        "4 64 0",
+    ),
+    ("`new`", "the answer is `full`; its current region has too little room"): (
+        ["new 1 16 16", "new 2 16 16", "gc", PAUSE, "new 3 16 16", "new 4 16 16"],
+        "new 5 16 16",
+        "4 64 0",
+    ),
     ("`get`", "the field has an object"): (["set 0 0 0"], "get 1 0 0"),
     ("`get`", "the field is null"): ([], "get 1 0 0"),
     ("`set`", ""): ([], "set 0 0 1"),
@@ -50,15 +64,45 @@ def rows():
             yield cells
 
 
-def stands_at(before, command, number, code, steps):
-    """Whether the command, before its step of that number, stands at the place: then `n@code` makes no step. The steps that
-    are made after it leave a `set` one step before its store, and a second thread looks whether it was made."""
-    lines = [f"1 {it}" for it in [*before, command, "set 0 15 0"]] + ["2 get 1 0 15"]
-    items = [f"1={len(before)}"] * bool(before) + [f"1:{number - 1}"] * (number > 1)
-    items += [f"1@{code}", f"1:{steps - number + 6}", "2=1"]
-    trace = "\n".join(["shen 1", "heap 8 64 0", "threads 2 0", *lines, "! " + " ".join(items), ""])
-    ran = subprocess.run([PROGRAM, "replay"], input=trace.encode(), stdout=subprocess.PIPE)
-    return ran.returncode == 0 and b"\n2 -\n" in ran.stdout
+def replies(before):
+    """The items that make these commands and pauses."""
+    items, made = [], 0
+    for it in before:
+        made += it != PAUSE
+        items.append("3@P3 3@I0" if it == PAUSE else f"1={made}")
+    return items
+
+
+def stands_at(before, command, heap, codes, number):
+    """Whether the command, before its step of that number, stands at its place: then `n@code` makes no step."""
+    made = [f"1:{number - 1}", f"1@{codes[number - 1]}"]
+    if "WP" not in codes:
+        return stops_before_store(before, command, heap, [*made, f"1:{len(codes) - number + 1}"])
+    waits = codes.index("WP")
+    if number <= waits:
+        return holds_the_pause(before, command, heap, [*made, f"1:{waits - number}"])
+    made = [f"1:{waits}", "3@P3", "3@I0", f"1:{number - 1 - waits}", *made[1:], f"1:{len(codes) - number + 1}"]
+    return stops_before_store(before, command, heap, made)
+
+
+def stops_before_store(before, command, heap, steps):
+    """Whether these steps are exactly those of the command: then the next seven leave a `set` before its store, and a second
+    thread finds nothing stored."""
+    answer = answer_to(heap, [*before, command, "set 0 15 0"], "get 1 0 15", [*replies(before), *steps, "1:7", "2=1"])
+    return b"\n2 -\n" in answer
+
+
+def holds_the_pause(before, command, heap, steps):
+    """Whether these steps leave the command at WO, before it steps out: then the control cannot make the pause that it wants, and
+    holds a second thread outside."""
+    items = [*replies(before), *steps, "3:2000", "2:9", f"1={len([it for it in before if it != PAUSE]) + 2}"]
+    return b"\n1 -\n2 ok\n" in answer_to(heap, [*before, command, "get 9 0 14"], "set 0 14 0", items)
+
+
+def answer_to(heap, first, second, items):
+    lines = [f"1 {it}" for it in first if it != PAUSE] + [f"2 {second}", "! " + " ".join(it for it in items if it != "1:0")]
+    trace = "\n".join(["shen 1", f"heap {heap}", "threads 2 0", *lines, ""])
+    return subprocess.run([PROGRAM, "replay", "--steps", "100000"], input=trace.encode(), stdout=subprocess.PIPE).stdout
 
 
 def main():
@@ -72,7 +116,7 @@ def main():
             print(f"no run for the row {command}, {where}")
             failed += 1
             continue
-        before, line = RUNS[command, where]
+        before, line, heap = (*RUNS[command, where], "8 64 0")[:3]
         numbers = line.split()[2:]
         words = 3 + sum(map(int, numbers)) if line.startswith("new") else 0
         codes = places.replace(", IW for each word,", " IW" * words).split()
@@ -81,7 +125,7 @@ def main():
             print(f"{line}: {len(codes)} places, and {wanted} steps")
             failed += 1
         for number, code in enumerate(codes, 1):
-            if not stands_at(before, line, number, code, len(codes)):
+            if not stands_at(before, line, heap, codes, number):
                 print(f"{line}: step {number} is not at {code}")
                 failed += 1
     for row in RUNS.keys() - seen:

@@ -2,4 +2,3 @@ pub mod Clearing
 pub mod Cleared
 pub mod Images
 pub mod Loading
-pub mod Copied

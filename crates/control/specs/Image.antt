@@ -20,9 +20,3 @@ words_seen _ image = []
 abbrev pub is_storing : ControlSpot → Bool
 is_storing (StoreWord index) = true
 is_storing _ = false
-
--- whether it has words of the image
-abbrev pub has_words : ControlSpot → Bool
-has_words (LoadWord index) = true
-has_words (StoreWord index) = true
-has_words _ = false

@@ -3,11 +3,10 @@ ghost use Rattle.image_graph.specs.State.{config_of};
 ghost use Rattle.control_steps.specs.Ready.{is_ready};
 ghost use Rattle.control.specs.Clear.{IsClear};
 
-use crate::pause::{clear, copy_image, take_word};
+use crate::pause::{clear, take_word};
 use control_steps::ControlSpot;
 use heap_words::{Access, Config, Place, Took};
 use image_graph::Image;
-use shen_graph::GraphText;
 
 /// The machine that collects a heap. Its steps are one access each; between two of them it does constant work, but for the
 /// step that loads the last word of the image: there it collects, in time linear in the words of the heap. Only `new` is given
@@ -24,18 +23,15 @@ pub struct Control {
 }
 
 impl Control {
-    ghost use Rattle.std.specs.Prelude.{ℕ, ◌<◌, ◌≤◌, ◌↔◌, [], length, false, Option};
+    ghost use Rattle.std.specs.Prelude.{◌<◌, ◌↔◌, [], false};
     ghost use Rattle.heap_words.specs.Access.{place_of};
-    ghost use Rattle.heap_words.specs.Words.{Free, table_words, heap_size, heap_in, roots_in};
-    ghost use Rattle.shen_graph.specs.declared.name.Name.{Name};
-    ghost use Rattle.shen_graph.specs.Graph.{Graph};
-    ghost use Rattle.heap_graph.specs.Shows.{Shows, WordsStand, StandForSome};
+    ghost use Rattle.heap_words.specs.Words.{Free, table_words};
     ghost use Rattle.image_graph.specs.State.{memory_of};
     ghost use Rattle.control_steps.specs.Rows.{is_gone, control_place, control_access, control_next, control_says};
     ghost use Rattle.control_steps.specs.Waits.{WaitsAt};
     ghost use Rattle.pause_laws.specs.Image.{full_image};
     ghost use Rattle.control.specs.Fit.{IsFit};
-    ghost use Rattle.control.specs.Image.{has_words, is_storing};
+    ghost use Rattle.control.specs.Image.{is_storing};
     ghost use Rattle.control.specs.Seen.{config_in, seen_control};
 
     /// The control of the image's heap. It has seen the image's free word. Nothing else of the image matters.
@@ -106,26 +102,5 @@ impl Control {
         let config = self.image.config();
         self.spot = before.after(config, seen, got);
         before.says(config, seen, got)
-    }
-
-    /// Writes the graph that the words of the heap's table stand for, as `Image::answer_graph` does. The control must not
-    /// have words of the image, which it has from the first one that it has loaded to the last one that it has to store; its
-    /// image serves as the place where this works. Nothing of what it does next changes. No memory is taken, and time is
-    /// linear in the words, but for the sort of the objects.
-    pub fn answer_graph(&mut self, table: &[u64], text: &mut GraphText)
-        requires outside { has_words (seen_control self.old).spot ≡ false }
-        requires table { length table.now ≡ table_words (config_in self.old) }
-        requires room { heap_size (config_in self.old) ≤ text.old.room }
-        requires threads { length text.old.roots ≡ (config_in self.old).mutators }
-        requires stand { StandForSome (config_in self.old).region_words (heap_in (config_in self.old) table.now) (roots_in (config_in self.old) table.now) }
-        ensures config { config_in self.new ≡ config_in self.old }
-        ensures unchanged { seen_control self.new ≡ seen_control self.old }
-        ensures shows { (at : ℕ → Option Name) (g : Graph) → WordsStand (config_in self.old).region_words (heap_in (config_in self.old) table.now) (roots_in (config_in self.old) table.now) at g
-            → Shows text.new (config_in self.old).mutators g }
-        ensures same_room { text.new.room ≡ text.old.room }
-        ensures same_threads { length text.new.roots ≡ length text.old.roots }
-    {
-        copy_image(&mut self.image, table);
-        self.image.answer_graph(text);
     }
 }

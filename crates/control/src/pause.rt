@@ -1,7 +1,7 @@
 //! What a pause does with the image.
 
-ghost use Rattle.std.specs.Prelude.{◌≡◌, ◌+◌, ◌<◌, length, take, drop, slice_set};
-ghost use Rattle.heap_words.specs.Words.{image_start, table_words};
+ghost use Rattle.std.specs.Prelude.{◌≡◌, ◌+◌, ◌<◌, take, slice_set};
+ghost use Rattle.heap_words.specs.Words.{image_start};
 ghost use Rattle.heap_world.specs.Change.{image_view, image_words};
 ghost use Rattle.image_graph.specs.State.{config_of};
 ghost use Rattle.image_graph.specs.Holds.{HoldsSome};
@@ -67,18 +67,4 @@ pub(crate) fn take_word(image: &mut Image, index: usize, seen: u64, word: u64) -
     }
     collect(image);
     image.word(image.config().free_at())
-}
-
-// Puts all words of the image as a table has them.
-pub(crate) fn copy_image(image: &mut Image, table: &[u64])
-    requires table { length table.now ≡ table_words (config_of image.old) }
-    requires clear { IsClear image.old }
-    ensures config { config_of image.new ≡ config_of image.old }
-    ensures image { image_in image.new ≡ drop (image_start (config_of image.old)) table.now }
-    ensures clear { IsClear image.new }
-{
-    let config = image.config();
-    for at in config.image_start()..config.table_words() {
-        image.set_word(at, table[at]);
-    }
 }

@@ -1,5 +1,6 @@
 -- How a schedule goes on.
 use Rattle.std.proofs.Common.{◌≡◌, ◌<◌, ℕ, zero, suc, ◌-◌, Bool, true, false, List, [], ◌∷◌, ◌++◌, length, Some, None, refl, sym, ap, ◌∙◌, subst, arith, append_assoc}
+use Rattle.pause_laws.specs.Image.{full_image}
 use Rattle.std.proofs.lemmas.List.{length-append, length-map}
 use Rattle.std.specs.Prelude.{nat_le}
 use Rattle.heap_words.specs.declared.config.Config.{Config}
@@ -9,7 +10,7 @@ use Rattle.steps_base.proofs.Runs.{go-none, go-first, go-append}
 use Rattle.shen_graph.specs.declared.order.Order.{Order}
 use Rattle.step_core.specs.Actor.{Actor}
 use Rattle.step_core.specs.Machines.{kind, stands_in}
-use Rattle.step_core.specs.Schedule.{Scripts, turn, waits, stands_at, stands_of, given, given_of, Task, steps, until, replies, moves, move_of, control_after, Agenda, next, next_by, after_move, and_then, scheduled}
+use Rattle.step_core.specs.Schedule.{Scripts, turn, waits_then, stands_at, given, given_of, Task, steps, until, replies, moves, move_of, control_after, Agenda, next, next_by, after_move, and_then, scheduled}
 use Rattle.shen_core.specs.declared.plain.Plain.{Plain}
 use Rattle.shen_core.specs.State.{config_of, words_of, machines_of, machine_at, seats_of, Shows}
 use Rattle.heap_machines.specs.Shown.{shown}
@@ -24,21 +25,21 @@ use Rattle.heap_machines.specs.declared.stepped.Stepped.TheVariants.{More, Again
 module _ (c : Config) (scripts : Scripts) where
   -- with no event it stays
   pub goes_none : (s : Stage Actor) (todo : Agenda) (left : ℕ) → Goes c scripts s todo left s todo left
-  goes_none s todo left = record { done = []; leads = go-none (kind c) s; events = refl; count = omega arith }
+  goes_none s todo left = record { done = []; leads = go-none (kind full_image c) s; events = refl; count = omega arith }
 
   -- two parts follow each other
   pub goes_then : (s t u : Stage Actor) (todo rest more : Agenda) (left later last : ℕ) → Goes c scripts s todo left t rest later → Goes c scripts t rest later u more last → Goes c scripts s todo left u more last
   goes_then s t u todo rest more left later last one two = record {
     done = one.done ++ two.done;
-    leads = go-append (kind c) s one.done two.done ∙ ap (λ x. go (kind c) x two.done) one.leads ∙ two.leads;
-    events = one.events ∙ ap (λ es. one.done ++ es) two.events ∙ sym (append_assoc one.done two.done (scheduled c scripts last more u));
+    leads = go-append (kind full_image c) s one.done two.done ∙ ap (λ x. go (kind full_image c) x two.done) one.leads ∙ two.leads;
+    events = one.events ∙ ap (λ es. one.done ++ es) two.events ∙ sym (append_assoc one.done two.done (scheduled full_image c scripts last more u));
     count = (let a = one.count in let b = two.count in let d = length-append one.done two.done in omega arith);
   }
 
   -- where no event is left, it does not matter what is to be done
   pub goes_out : (s : Stage Actor) (todo rest : Agenda) → Goes c scripts s todo 0 s rest 0
   unfolding scheduled
-  goes_out s todo rest = record { done = []; leads = go-none (kind c) s; events = refl; count = omega arith }
+  goes_out s todo rest = record { done = []; leads = go-none (kind full_image c) s; events = refl; count = omega arith }
 
   -- where the next event is the same, it goes on the same
   pub goes_same : (s : Stage Actor) (todo rest : Agenda) (left : ℕ) → next c scripts s todo ≡ next c scripts s rest → Goes c scripts s todo left s rest left
@@ -46,20 +47,20 @@ module _ (c : Config) (scripts : Scripts) where
   goes_same s todo rest zero same = goes_out s todo rest
   goes_same s todo rest (suc n) same = record {
     done = [];
-    leads = go-none (kind c) s;
-    events = ap (λ x. and_then x (λ y. scheduled c scripts n y.agenda (act (kind c) s y.event))) same;
+    leads = go-none (kind full_image c) s;
+    events = ap (λ x. and_then x (λ y. scheduled full_image c scripts n y.agenda (act (kind full_image c) s y.event))) same;
     count = omega arith;
   }
 
   -- the next event
-  pub goes_next : (s : Stage Actor) (todo rest : Agenda) (e : Event Order) (left : ℕ) → 0 < left → next c scripts s todo ≡ Some (record { event = e; agenda = rest }) → Goes c scripts s todo left (act (kind c) s e) rest (left - 1)
+  pub goes_next : (s : Stage Actor) (todo rest : Agenda) (e : Event Order) (left : ℕ) → 0 < left → next c scripts s todo ≡ Some (record { event = e; agenda = rest }) → Goes c scripts s todo left (act (kind full_image c) s e) rest (left - 1)
   unfolding scheduled
   goes_next s todo rest e zero some is = absurd (omega arith)
   goes_next s todo rest e (suc n) some is = record {
     done = e ∷ [];
-    leads = go-first (kind c) s e [] ∙ go-none (kind c) (act (kind c) s e);
-    events = ap (λ x. and_then x (λ y. scheduled c scripts n y.agenda (act (kind c) s y.event))) is
-        ∙ ap (λ k. e ∷ scheduled c scripts k rest (act (kind c) s e)) (omega arith);
+    leads = go-first (kind full_image c) s e [] ∙ go-none (kind full_image c) (act (kind full_image c) s e);
+    events = ap (λ x. and_then x (λ y. scheduled full_image c scripts n y.agenda (act (kind full_image c) s y.event))) is
+        ∙ ap (λ k. e ∷ scheduled full_image c scripts k rest (act (kind full_image c) s e)) (omega arith);
     count = omega arith;
   }
 
@@ -70,7 +71,7 @@ module _ (c : Config) (scripts : Scripts) where
 
   -- an event of a task
   pub goes_task : (s : Stage Actor) (task : Task) (more tasks : List Task) (from : ℕ) (e : Event Order) (left : ℕ) → 0 < left → move_of c scripts s task ≡ Some (record { event = e; tasks = more })
-      → Goes c scripts s (agenda (task ∷ tasks) from) left (act (kind c) s e) (agenda (more ++ tasks) from) (left - 1)
+      → Goes c scripts s (agenda (task ∷ tasks) from) left (act (kind full_image c) s e) (agenda (more ++ tasks) from) (left - 1)
   goes_task s task more tasks from e left some is = goes_next s (agenda (task ∷ tasks) from) (agenda (more ++ tasks) from) e left some
       (ap (λ m. after_move m tasks from (next_by c scripts s tasks from)) is)
 
@@ -80,11 +81,11 @@ module _ (c : Config) (scripts : Scripts) where
   steps_move s number (suc k) some = ap (λ n. moves (turn scripts s number) (steps number n ∷ [])) (omega arith)
 
   -- a task ends where its machine has come to the place
-  pub until_there : (s : Stage Actor) (number : ℕ) (place : Place) → stands_at s number place ≡ true → move_of c scripts s (until number place) ≡ None
+  pub until_there : (s : Stage Actor) (number : ℕ) (place : Place) → stands_at scripts s number place ≡ true → move_of c scripts s (until number place) ≡ None
   until_there s number place there = rw there refl
 
   -- before that its machine has a turn
-  pub until_move : (s : Stage Actor) (number : ℕ) (place : Place) → stands_at s number place ≡ false → move_of c scripts s (until number place) ≡ moves (turn scripts s number) (until number place ∷ [])
+  pub until_move : (s : Stage Actor) (number : ℕ) (place : Place) → stands_at scripts s number place ≡ false → move_of c scripts s (until number place) ≡ moves (turn scripts s number) (until number place ∷ [])
   until_move s number place away = rw away refl
 
   -- a task ends where the replies were given
@@ -92,7 +93,7 @@ module _ (c : Config) (scripts : Scripts) where
   replies_given s number count enough = rw enough refl
 
   -- before that its machine has a turn
-  pub replies_move : (s : Stage Actor) (number count : ℕ) → nat_le count (given s number) ≡ false → move_of c scripts s (replies number count) ≡ moves (turn scripts s number) (control_after (waits c s number) ++ replies number count ∷ [])
+  pub replies_move : (s : Stage Actor) (number count : ℕ) → nat_le count (given s number) ≡ false → move_of c scripts s (replies number count) ≡ moves (turn scripts s number) (control_after (waits_then c s (turn scripts s number)) ++ replies number count ∷ [])
   replies_move s number count few = rw few refl
 
 -- whether a step has said that it waits
@@ -146,14 +147,14 @@ task_idles p q jobs later number result task left turned idle none tasks from sc
 
 -- a turn for a task that makes an event
 pub task_moves : (p q : Plain) (jobs later : Jobs) (number : ℕ) (result : Stepped) (task : Task) (more : List Task) (left : ℕ) → HasTurned p jobs number q later result → (result ≡ Idle → ⊥) → 0 < left
-    → ((scripts : Scripts) (s : Stage Actor) → Shows p s → Tells (config_of p) scripts jobs s → waits (config_of p) s number ≡ waiting_of result → move_of (config_of p) scripts s task ≡ moves (turn scripts s number) more)
+    → ((scripts : Scripts) (s : Stage Actor) → Shows p s → Tells (config_of p) scripts jobs s → waits_then (config_of p) s (turn scripts s number) ≡ waiting_of result → move_of (config_of p) scripts s task ≡ moves (turn scripts s number) more)
     → (tasks : List Task) (from : ℕ) → Runs p jobs (agenda (task ∷ tasks) from) left q later (agenda (more ++ tasks) from) (left - 1)
 task_moves p q jobs later number result task more left turned busy some move tasks from scripts s shows tells =
     let moved = moved_of (config_of p) scripts s number q later result busy (turned scripts s shows tells) in
     record {
-      stage = act (kind (config_of p)) s moved.event;
+      stage = act (kind full_image (config_of p)) s moved.event;
       goes = goes_task (config_of p) scripts s task more tasks from moved.event left some
-          (move scripts s shows tells moved.waits_is ∙ ap (λ e. moves e more) moved.is);
+          (move scripts s shows tells (ap (waits_then (config_of p) s) moved.is ∙ moved.waits_is) ∙ ap (λ e. moves e more) moved.is);
       shows = moved.shows;
       tells = moved.tells;
     }
@@ -164,12 +165,6 @@ plain_within p q number same below =
     let count : length (machines_of q) ≡ seats_of q = length-map q.machines.items shown ∙ q.all_machines in
     let seats : seats_of q ≡ seats_of p = ap (λ c. seat_count c.mutators c.helpers) same in
     omega arith
-
--- the place of a machine that memory shows
-pub stands_shown : (q : Plain) (number : ℕ) (place : Place) (s : Stage Actor) → number < length (machines_of q) → Shows q s → stands_at s number place ≡ stands_in place (machine_at q number)
-stands_shown q number place s below shows =
-    let found = shown_actor (words_of q) (machines_of q) s number (machine_at q number) shows (machine_within (machines_of q) number below) in
-    ap (stands_of place) found.1 ∙ ap (stands_in place) found.2
 
 -- the replies of a mutator that memory shows
 pub given_told : (q : Plain) (jobs : Jobs) (number : ℕ) (scripts : Scripts) (s : Stage Actor) → number < length (machines_of q) → number < (config_of q).mutators → Shows q s → Tells (config_of q) scripts jobs s → given s number ≡ length (work.replies_of jobs number)

@@ -1,5 +1,7 @@
 -- The turn of a machine, in each stage that memory shows.
 use Rattle.std.proofs.Common.{◌≡◌, ◌<◌, ℕ, Bool, true, false, List, length, Option, Some, None, refl, sym, ap, ◌∙◌, subst, All, arith}
+use Rattle.pause_laws.proofs.Pauses.{full_is_pause}
+use Rattle.pause_laws.specs.Image.{full_image}
 use Rattle.std.specs.Prelude.{nat_lt, slice_get, slice_index, slice_index_or, IfSome, is_some, if◌then◌else◌}
 use Rattle.heap_words.specs.Access.{place_of}
 use Rattle.std.specs.Option.{option_map}
@@ -14,14 +16,18 @@ use Rattle.shen_graph.specs.declared.command.Command.{Command}
 use Rattle.shen_graph.specs.Work as work
 use Rattle.shen_graph.specs.Valid.{IsValid}
 use Rattle.shen_graph.specs.declared.order.Order.{Order}
-use Rattle.heap_machines.proofs.Turns.{role_of, order_alike, rest_is_mutating}
+use Rattle.heap_machines.proofs.Turns.{role_of, order_alike, rest_is_mutating, begins_at_rest, order_of_script}
 use Rattle.heap_machines.proofs.Replies.{rest_at_hand}
-use Rattle.step_core.specs.Actor.{Machine, fresh_control, Actor}
-use Rattle.step_core.specs.Machines.{takes_of, plan_of, IsFitIn, order_for, is_resting, is_mutating, made_of_machine, kind}
+use Rattle.step_core.specs.Actor.{Machine, fresh_helper, Actor}
+use Rattle.step_core.specs.Machines.{takes_of, plan_of, order_by, stands_in, is_resting, may_begin, made_of_machine, kind}
+use Rattle.heap_machines.specs.Roles.{is_mutating}
+use Rattle.heap_machines.specs.Turn.{order_for}
+use Rattle.step_core.specs.Fit.{IsFitFor}
 use Rattle.step_core.specs.Begins.{ending}
-use Rattle.step_core.specs.Schedule.{Scripts, script_of, turn, turn_of}
+use Rattle.step_core.specs.Schedule.{Scripts, script_of, turn, turn_of, stands_at, stands_of}
+use Rattle.heap_words.specs.declared.place.Place.{Place}
 use Rattle.step_core.proofs.Theorem.{run_sound, found_fit}
-use Rattle.step_core.proofs.Roles.{fit_is_prop}
+use Rattle.heap_machines.proofs.Fit.{fit_is_prop}
 use Rattle.shen_core.specs.declared.plain.Plain.{Plain}
 use Rattle.shen_core.specs.State.{config_of, words_of, machines_of, machine_at, Shows}
 use Rattle.shen_core.specs.Runs.{IsShownBySome, event}
@@ -31,24 +37,24 @@ use Rattle.shen_core.proofs.Events.{shown_actor}
 -- the machine of a number is a mutator where the number is one of a mutator
 pub role_shown : (c : Config) (words : List ℕ) (machines : List Machine) (number : ℕ) (machine : Machine) → ∥ IsShownBySome c words machines ∥₁ → slice_get machines number ≡ Some machine → is_mutating machine ≡ nat_lt number c.mutators
 role_shown c words machines number machine some here = ∥∥₁_elim some (hlevel (Bool-set)) (λ shown.
-    let found = shown_actor words machines (ending c shown.run) number machine shown.shows here in
-    ap is_mutating (sym found.2) ∙ role_of c number found.0.machine ((run_sound c shown.run).of_heap.roles number found.0 found.1))
+    let found = shown_actor words machines (ending full_image c shown.run) number machine shown.shows here in
+    ap is_mutating (sym found.2) ∙ role_of c number found.0.machine ((run_sound full_image full_is_pause c shown.run).of_heap.roles number found.0 found.1))
 
 -- the word that a machine finds is fit
 pub fit_shown : (c : Config) (words : List ℕ) (machines : List Machine) (number : ℕ) (machine : Machine) (order : Order) → ∥ IsShownBySome c words machines ∥₁ → slice_get machines number ≡ Some machine → takes_of machine order ≡ true
-    → IsFitIn c order (slice_index words (place_of (plan_of c machine))) machine
+    → IsFitFor c order (slice_index words (place_of (plan_of c order machine))) machine
 unfolding kind
-fit_shown c words machines number machine order some here takes = ∥∥₁_elim some (fit_is_prop c order (slice_index words (place_of (plan_of c machine))) machine) (λ shown.
-    let found = shown_actor words machines (ending c shown.run) number machine shown.shows here in
-    let finds : Finds (kind c) shown.run.start number found.0 order (slice_index words (place_of (plan_of c machine))) = record {
-      stage = ending c shown.run;
+fit_shown c words machines number machine order some here takes = ∥∥₁_elim some (fit_is_prop c order (slice_index words (place_of (plan_of c order machine))) machine) (λ shown.
+    let found = shown_actor words machines (ending full_image c shown.run) number machine shown.shows here in
+    let finds : Finds (kind full_image c) shown.run.start number found.0 order (slice_index words (place_of (plan_of c order machine))) = record {
+      stage = ending full_image c shown.run;
       reached = record { events = shown.run.events; ends = refl };
       here = found.1;
       takes = ap (λ x. takes_of x order) found.2 ∙ takes;
-      found = ap (λ ws. slice_index ws (place_of (plan_of c machine))) (sym shown.shows.words_are) ∙ ap (λ x. slice_index (ending c shown.run).words (place_of (plan_of c x))) (sym found.2);
+      found = ap (λ ws. slice_index ws (place_of (plan_of c order machine))) (sym shown.shows.words_are) ∙ ap (λ x. slice_index (ending full_image c shown.run).words (place_of (plan_of c order x))) (sym found.2);
     } in
-    subst (λ x. IsFitIn c order (slice_index words (place_of (plan_of c machine))) x) found.2
-    (found_fit c shown.run.start shown.run.graph shown.run.begins number found.0 order (slice_index words (place_of (plan_of c machine))) finds))
+    subst (λ x. IsFitFor c order (slice_index words (place_of (plan_of c order machine))) x) found.2
+    (found_fit full_image full_is_pause c shown.run.start shown.run.graph shown.run.begins number found.0 order (slice_index words (place_of (plan_of c order machine))) finds))
 
 -- a map of a map of an option
 map_of_map : {A B C : Type 0} (f : B → C) (g : A → B) (o : Option A) → option_map f (option_map g o) ≡ option_map (λ x. f (g x)) o
@@ -57,7 +63,7 @@ map_of_map f g (Some x) = refl
 
 -- the turn of an actor, by its machine
 pub actor_turn : (scripts : Scripts) (s : Stage Actor) (number : ℕ) (a : Actor) → slice_get s.machines number ≡ Some a → turn scripts s number ≡ option_map (λ order. event number order) (order_for (slice_get (script_of scripts number) (length a.calls)) a.machine)
-actor_turn scripts s number a here = ap (turn_of scripts number) here
+actor_turn scripts s number a here = ap (turn_of scripts number) here ∙ ap (option_map (λ order. event number order)) (order_of_script (script_of scripts number) a.calls a.machine)
 
 -- the event of a turn is of the machine whose turn it is
 pub turn_number : (scripts : Scripts) (s : Stage Actor) (k : ℕ) (e : Event Order) → turn scripts s k ≡ Some e → e.number ≡ k
@@ -69,11 +75,30 @@ turn_number scripts s k e is = by_actor (slice_get s.machines k) is
 
     by_actor : (a : Option Actor) → turn_of scripts k a ≡ Some e → e.number ≡ k
     by_actor None is = cc
-    by_actor (Some a) is = by_order (order_for (slice_get (script_of scripts k) (length a.calls)) a.machine) is
+    by_actor (Some a) is = by_order (order_by (script_of scripts k) a.calls a.machine) is
 
 -- there is a machine at each number
-pub machine_within : (machines : List Machine) (number : ℕ) → number < length machines → slice_get machines number ≡ Some (slice_index_or machines number fresh_control)
-machine_within machines number below = slice_get-get_or machines number fresh_control below
+pub machine_within : (machines : List Machine) (number : ℕ) → number < length machines → slice_get machines number ≡ Some (slice_index_or machines number fresh_helper)
+machine_within machines number below = slice_get-get_or machines number fresh_helper below
+
+-- so a machine of memory is a mutator by its number
+role_within : (p : Plain) (number : ℕ) → number < length (machines_of p) → is_mutating (machine_at p number) ≡ nat_lt number (config_of p).mutators
+role_within p number within = role_shown p.config p.words.items (machines_of p) number (machine_at p number) p.reached (machine_within (machines_of p) number within)
+
+-- what follows in its script, and so what it does
+order_now : (p : Plain) (jobs : Jobs) (number : ℕ) → is_mutating (machine_at p number) ≡ nat_lt number (config_of p).mutators → (scripts : Scripts) (s : Stage Actor) → Tells (config_of p) scripts jobs s
+    → (a : Actor) → slice_get s.machines number ≡ Some a
+    → order_for (slice_get (script_of scripts number) (length a.calls)) (machine_at p number) ≡ order_for (next_for (config_of p) jobs number) (machine_at p number)
+order_now p jobs number role scripts s tells a here = by_role (nat_lt number (config_of p).mutators) refl
+  where
+    by_role : (b : Bool) → nat_lt number (config_of p).mutators ≡ b
+        → order_for (slice_get (script_of scripts number) (length a.calls)) (machine_at p number) ≡ order_for (if nat_lt number (config_of p).mutators then work.next_of jobs number else None) (machine_at p number)
+    by_role true is =
+        let below : number < (config_of p).mutators = ltb-true number (config_of p).mutators is in
+        ap (λ script. order_for (slice_get script (length a.calls)) (machine_at p number)) (sym (tells.scripts_are number below))
+        ∙ ap (λ k. order_for (slice_get (work.script_of jobs number) k) (machine_at p number)) (sym (ap length (tells.replies number a below here) ∙ length-map a.calls (λ e. e.reply)))
+        ∙ ap (λ b. order_for (if b then work.next_of jobs number else None) (machine_at p number)) (sym is)
+    by_role false is = order_alike (machine_at p number) _ _ (role ∙ is)
 
 -- what a machine does on its turn, in a stage that memory shows
 pub turn_shown : (p : Plain) (jobs : Jobs) (number : ℕ) → number < length (machines_of p) → is_mutating (machine_at p number) ≡ nat_lt number (config_of p).mutators
@@ -83,16 +108,7 @@ turn_shown p jobs number within role scripts s shows tells =
     let a = found.0 in
     actor_turn scripts s number a found.1
     ∙ ap (λ machine. option_map (λ order. event number order) (order_for (slice_get (script_of scripts number) (length a.calls)) machine)) found.2
-    ∙ ap (option_map (λ order. event number order)) (by_role a found.1 (nat_lt number (config_of p).mutators) refl)
-  where
-    by_role : (a : Actor) → slice_get s.machines number ≡ Some a → (b : Bool) → nat_lt number (config_of p).mutators ≡ b
-        → order_for (slice_get (script_of scripts number) (length a.calls)) (machine_at p number) ≡ order_for (if nat_lt number (config_of p).mutators then work.next_of jobs number else None) (machine_at p number)
-    by_role a here true is =
-        let below : number < (config_of p).mutators = ltb-true number (config_of p).mutators is in
-        ap (λ script. order_for (slice_get script (length a.calls)) (machine_at p number)) (sym (tells.scripts_are number below))
-        ∙ ap (λ k. order_for (slice_get (work.script_of jobs number) k) (machine_at p number)) (sym (ap length (tells.replies number a below here) ∙ length-map a.calls (λ e. e.reply)))
-        ∙ ap (λ b. order_for (if b then work.next_of jobs number else None) (machine_at p number)) (sym is)
-    by_role a here false is = order_alike (machine_at p number) _ _ (role ∙ is)
+    ∙ ap (option_map (λ order. event number order)) (order_now p jobs number role scripts s tells a found.1)
 
 -- so the event is that of its order
 pub is_turn : (p : Plain) (jobs : Jobs) (number : ℕ) (has : Bool) (order : Order) → number < length (machines_of p) → is_mutating (machine_at p number) ≡ nat_lt number (config_of p).mutators → IsNextTurn p jobs number has order → IsTurn p jobs number has order
@@ -102,14 +118,31 @@ is_turn p jobs number has order within role next scripts s shows tells = turn_sh
     by_has true = refl
     by_has false = refl
 
--- whether there is a turn
-pub some_turn : (p : Plain) (jobs : Jobs) (number : ℕ) → number < length (machines_of p) → is_mutating (machine_at p number) ≡ nat_lt number (config_of p).mutators
-    → (scripts : Scripts) (s : Stage Actor) → Shows p s → Tells (config_of p) scripts jobs s → is_some (turn scripts s number) ≡ is_some (order_for (next_for (config_of p) jobs number) (machine_at p number))
-some_turn p jobs number within role scripts s shows tells = ap is_some (turn_shown p jobs number within role scripts s shows tells) ∙ by_some (order_for (next_for (config_of p) jobs number) (machine_at p number))
+-- whether there is a turn, whatever commands would follow
+pub some_turn : (p : Plain) (number : ℕ) (has : Bool) → number < length (machines_of p) → ((next : Option Command) → is_some (order_for next (machine_at p number)) ≡ has)
+    → (scripts : Scripts) (s : Stage Actor) → Shows p s → is_some (turn scripts s number) ≡ has
+some_turn p number has within is scripts s shows =
+    let found = shown_actor (words_of p) (machines_of p) s number (machine_at p number) shows (machine_within (machines_of p) number within) in
+    let a = found.0 in
+    ap is_some (actor_turn scripts s number a found.1)
+    ∙ by_some (order_for (slice_get (script_of scripts number) (length a.calls)) a.machine)
+    ∙ ap (λ machine. is_some (order_for (slice_get (script_of scripts number) (length a.calls)) machine)) found.2
+    ∙ is (slice_get (script_of scripts number) (length a.calls))
   where
     by_some : (o : Option Order) → is_some (option_map (λ x. event number x) o) ≡ is_some o
     by_some None = refl
     by_some (Some x) = refl
+
+-- where the next access of a machine stands on its turn, in a stage that memory shows
+pub stands_shown : (p : Plain) (jobs : Jobs) (number : ℕ) (place : Place) → number < length (machines_of p)
+    → (scripts : Scripts) (s : Stage Actor) → Shows p s → Tells (config_of p) scripts jobs s → stands_at scripts s number place ≡ stands_in place (machine_at p number) (order_for (next_for (config_of p) jobs number) (machine_at p number))
+stands_shown p jobs number place within scripts s shows tells =
+    let found = shown_actor (words_of p) (machines_of p) s number (machine_at p number) shows (machine_within (machines_of p) number within) in
+    let a = found.0 in
+    ap (stands_of scripts number place) found.1
+    ∙ ap (stands_in place a.machine) (order_of_script (script_of scripts number) a.calls a.machine)
+    ∙ ap (λ machine. stands_in place machine (order_for (slice_get (script_of scripts number) (length a.calls)) machine)) found.2
+    ∙ ap (stands_in place (machine_at p number)) (order_now p jobs number (role_within p number within) scripts s tells a found.1)
 
 -- a command that is there is one of the list
 one_of_these : {A : Type 0} (P : A → Type 0) (xs : List A) (k : ℕ) (x : A) → All P xs → slice_get xs k ≡ Some x → P x
@@ -117,16 +150,17 @@ one_of_these P xs k x all here = subst P (get_or_from_slice_get xs k x x here) (
 
 -- the command that follows can be given
 pub next_fits : (p : Plain) (jobs : Jobs) (number : ℕ) → CanRun p jobs → number < length (machines_of p) → is_mutating (machine_at p number) ≡ nat_lt number (config_of p).mutators
-    → is_resting (machine_at p number) ≡ true → IfSome (next_for (config_of p) jobs number) (λ command. IsValid command × (made_of_machine (machine_at p number) < 4294967295))
-next_fits p jobs number can within role rest =
+    → may_begin (machine_at p number) ≡ true → IfSome (next_for (config_of p) jobs number) (λ command. IsValid command × (made_of_machine (machine_at p number) < 4294967295))
+next_fits p jobs number can within role may =
+    let rest : is_resting (machine_at p number) ≡ true = begins_at_rest (machine_at p number) may in
     let is : nat_lt number (config_of p).mutators ≡ true = sym role ∙ rest_is_mutating (machine_at p number) rest in
     let below : number < (config_of p).mutators = ltb-true number (config_of p).mutators is in
     subst (λ b. IfSome (if b then work.next_of jobs number else None) (λ command. IsValid command × (made_of_machine (machine_at p number) < 4294967295))) (sym is)
-    (by_next below (work.next_of jobs number) refl)
+    (by_next below rest (work.next_of jobs number) refl)
   where
-    by_next : number < (config_of p).mutators → (o : Option Command) → work.next_of jobs number ≡ o → IfSome o (λ command. IsValid command × (made_of_machine (machine_at p number) < 4294967295))
-    by_next below None here = tt
-    by_next below (Some command) here = (
+    by_next : number < (config_of p).mutators → is_resting (machine_at p number) ≡ true → (o : Option Command) → work.next_of jobs number ≡ o → IfSome o (λ command. IsValid command × (made_of_machine (machine_at p number) < 4294967295))
+    by_next below rest None here = tt
+    by_next below rest (Some command) here = (
       one_of_these IsValid (work.script_of jobs number) (length (work.replies_of jobs number)) command (can.commands number below) here,
       (let few = can.made number below in
           let more = slice_get_within (work.script_of jobs number) (length (work.replies_of jobs number)) command here in

@@ -117,9 +117,9 @@ DoesTask p jobs task left q later remaining = (tasks : List Task) (from : ℕ) �
 abbrev pub AreIdle : Config → Scripts → Stage Actor → Type 0
 AreIdle c scripts s = (number : ℕ) → number < seat_count c.mutators c.helpers → turn scripts s number ≡ None
 
--- whatever stage memory shows, no machine has a turn there, by any scripts
-abbrev pub AllIdle : Plain → Type 0
-AllIdle p = (scripts : Scripts) (s : Stage Actor) → Shows p s → AreIdle (config_of p) scripts s
+-- whatever stage memory shows, no machine has a turn there
+abbrev pub AllIdle : Plain → Jobs → Type 0
+AllIdle p jobs = (scripts : Scripts) (s : Stage Actor) → Shows p s → Tells (config_of p) scripts jobs s → AreIdle (config_of p) scripts s
 
 -- the machine of an item is one of the heap, and where replies are counted a mutator
 abbrev pub IsInSeats : Config → Item → Type 0
@@ -127,9 +127,9 @@ IsInSeats c (Steps number count) = number < seat_count c.mutators c.helpers
 IsInSeats c (Until number place) = number < seat_count c.mutators c.helpers
 IsInSeats c (Replies number count) = number < c.mutators
 
--- whatever stage memory shows, some machine has a turn there, by any scripts
-abbrev pub SomeBusy : Plain → Type 0
-SomeBusy p = (scripts : Scripts) (s : Stage Actor) → Shows p s → AreIdle (config_of p) scripts s → ⊥
+-- whatever stage memory shows, some machine has a turn there
+abbrev pub SomeBusy : Plain → Jobs → Type 0
+SomeBusy p jobs = (scripts : Scripts) (s : Stage Actor) → Shows p s → Tells (config_of p) scripts jobs s → AreIdle (config_of p) scripts s → ⊥
 
 -- whatever stage memory shows, the machine has a turn there, or has none, by any scripts
 abbrev pub HasNext : Plain → ℕ → Bool → Type 0

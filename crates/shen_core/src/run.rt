@@ -2,7 +2,7 @@ ghost use Rattle.std.specs.Prelude.{◌≡◌, ◌<◌, ◌≤◌, true, false, 
 ghost use Rattle.shen_graph.specs.Work.{replies_of, script_of};
 ghost use Rattle.shen_core.specs.State.{config_of, words_of, machines_of, orders_of, order_at, seats_of, has_turn, IsUnchanged};
 ghost use Rattle.shen_graph.specs.declared.order.Order.TheVariants.{Nothing};
-ghost use Rattle.shen_core.specs.Progress.{CanRun, IsTurn, HasTurned, Runs, DoesTask, AllIdle, SomeBusy, HasNext, IsInSeats, agenda};
+ghost use Rattle.shen_core.specs.Progress.{Jobs, CanRun, IsTurn, HasTurned, Runs, DoesTask, AllIdle, SomeBusy, HasNext, IsInSeats, agenda};
 ghost use Rattle.step_core.specs.Schedule.{steps, until, replies, control, task_of};
 
 use crate::plain::Plain;
@@ -136,8 +136,8 @@ impl Plain {
     // Whether any machine would make a step on its turn.
     fn any_next(&self) -> bool
         requires { All (λ order. order ≡ Nothing) (orders_of self.now) }
-        ensures idle { result ≡ false → AllIdle self.now }
-        ensures busy { result ≡ true → SomeBusy self.now }
+        ensures idle { result ≡ false → (jobs : Jobs) → AllIdle self.now jobs }
+        ensures busy { result ≡ true → (jobs : Jobs) → SomeBusy self.now jobs }
     {
         for number in 0..self.seats() {
             if self.has_next(number) {
@@ -154,7 +154,7 @@ impl Plain {
         ensures config { config_of self.new ≡ config_of self.old }
         ensures less { result ≤ limit }
         ensures round { Runs self.old work.old (agenda [] 0) limit self.new work.new (agenda [] 0) result }
-        ensures idle { result ≡ limit → 0 < limit → AllIdle self.new }
+        ensures idle { result ≡ limit → 0 < limit → AllIdle self.new work.new }
     {
         let mut left = limit;
         let seats = self.seats();

@@ -134,13 +134,13 @@ const SCHEDULED: &[Row] = &[
     // As many steps as the thread has to make, less the store.
     Row {
         words: REPLAY,
-        trace: "shen 1\nheap 8 64 0\nthreads 2 0\n1 new 1 0 0\n1 cas 0 0 2 1\n2 new 1 0 0\n2 set 0 0 1\n! 2:17 1=2\n",
+        trace: "shen 1\nheap 8 64 0\nthreads 2 0\n1 new 1 0 0\n1 cas 0 0 2 1\n2 new 1 0 0\n2 set 0 0 1\n! 2:21 1=2\n",
         answer: "1 1.1\n1 yes\n2 2.1\n2 ok\ngraph\nobject 0.1 2.1 - - - - - - - - - - - - - - - /\nobject 1.1 /\nobject 2.1 /\nroots 1 0.1 1.1 - - - - - - - - - - - - - -\nroots 2 0.1 2.1 - - - - - - - - - - - - - -\n",
     },
     // One step more, and the store is made.
     Row {
         words: REPLAY,
-        trace: "shen 1\nheap 8 64 0\nthreads 2 0\n1 new 1 0 0\n1 cas 0 0 2 1\n2 new 1 0 0\n2 set 0 0 1\n! 2:18 1=2\n",
+        trace: "shen 1\nheap 8 64 0\nthreads 2 0\n1 new 1 0 0\n1 cas 0 0 2 1\n2 new 1 0 0\n2 set 0 0 1\n! 2:22 1=2\n",
         answer: "1 1.1\n1 no\n2 2.1\n2 ok\ngraph\nobject 0.1 2.1 - - - - - - - - - - - - - - - /\nobject 1.1 /\nobject 2.1 /\nroots 1 0.1 1.1 - - - - - - - - - - - - - -\nroots 2 0.1 2.1 - - - - - - - - - - - - - -\n",
     },
     // More replies than the script has commands.
@@ -149,10 +149,10 @@ const SCHEDULED: &[Row] = &[
         trace: "shen 1\nheap 8 64 0\nthreads 2 0\n1 new 1 0 0\n1 cas 0 0 2 1\n2 new 1 0 0\n2 set 0 0 1\n! 1=9 2=1\n",
         answer: "1 1.1\n1 yes\n2 2.1\n2 ok\ngraph\nobject 0.1 2.1 - - - - - - - - - - - - - - - /\nobject 1.1 /\nobject 2.1 /\nroots 1 0.1 1.1 - - - - - - - - - - - - - -\nroots 2 0.1 2.1 - - - - - - - - - - - - - -\n",
     },
-    // The control has nothing to do.
+    // The control looks for something to do, and finds nothing.
     Row {
         words: REPLAY,
-        trace: "shen 1\nheap 8 64 0\nthreads 2 0\n1 new 1 0 0\n1 cas 0 0 2 1\n2 new 1 0 0\n2 set 0 0 1\n! 3:5 3@PL 2=2\n",
+        trace: "shen 1\nheap 8 64 0\nthreads 2 0\n1 new 1 0 0\n1 cas 0 0 2 1\n2 new 1 0 0\n2 set 0 0 1\n! 3:5 2=2\n",
         answer: "1 1.1\n1 no\n2 2.1\n2 ok\ngraph\nobject 0.1 2.1 - - - - - - - - - - - - - - - /\nobject 1.1 /\nobject 2.1 /\nroots 1 0.1 1.1 - - - - - - - - - - - - - -\nroots 2 0.1 2.1 - - - - - - - - - - - - - -\n",
     },
     // Helpers have nothing to do.
@@ -170,7 +170,7 @@ const SCHEDULED: &[Row] = &[
     // Both stand at the first place of a call at first.
     Row {
         words: REPLAY,
-        trace: "shen 1\nheap 8 64 0\nthreads 2 0\n1 new 1 0 0\n1 cas 0 0 2 1\n2 new 1 0 0\n2 set 0 0 1\n! 2@PH 1@PH 2=2\n",
+        trace: "shen 1\nheap 8 64 0\nthreads 2 0\n1 new 1 0 0\n1 cas 0 0 2 1\n2 new 1 0 0\n2 set 0 0 1\n! 2@E1 1@E1 2=2\n",
         answer: "1 1.1\n1 no\n2 2.1\n2 ok\ngraph\nobject 0.1 2.1 - - - - - - - - - - - - - - - /\nobject 1.1 /\nobject 2.1 /\nroots 1 0.1 1.1 - - - - - - - - - - - - - -\nroots 2 0.1 2.1 - - - - - - - - - - - - - -\n",
     },
     // Several lines of items are one schedule.
@@ -269,23 +269,23 @@ const SCHEDULED: &[Row] = &[
         trace: "shen 1\nheap 8 64 0\nthreads 2 0\n1 new 1 0 0\n1 xchg 2 0 0 1\n2 new 1 0 0\n2 xchg 2 0 0 1\n! 2=2 1=1 1@NM 2:9\n",
         answer: "1 1.1\n1 2.1\n2 2.1\n2 -\ngraph\nobject 0.1 1.1 - - - - - - - - - - - - - - - /\nobject 1.1 /\nobject 2.1 /\nroots 1 0.1 1.1 2.1 - - - - - - - - - - - - -\nroots 2 0.1 2.1 - - - - - - - - - - - - - -\n",
     },
-    // Three helpers and the control are named and idle.
+    // Three helpers are idle, and the control is named.
     Row {
         words: REPLAY,
         trace: "shen 1\nheap 8 64 0\nthreads 1 3\n1 copy 3 0\n1 same 0 3\n1 drop 0\n1 same 0 3\n1 same 0 4\n! 5:1 4:2 3@KX 2@MC 1:1 1@RL 1=2 1:1 2:9\n",
         answer: "1 ok\n1 yes\n1 ok\n1 no\n1 yes\ngraph\nobject 0.1 - - - - - - - - - - - - - - - - /\nroots 1 - - - 0.1 - - - - - - - - - - - -\n",
     },
-    // All 24 steps are made.
+    // All 37 steps are made: the last one is that of the control, which ends after the thread.
     Row {
-        words: &["replay", "--steps", "24"],
+        words: &["replay", "--steps", "37"],
         trace: "shen 1\nheap 8 64 0\nthreads 1 0\n1 copy 3 0\n1 same 0 3\n1 drop 0\n1 same 0 3\n1 same 0 4\n! 1:4000000000\n",
         answer: "1 ok\n1 yes\n1 ok\n1 no\n1 yes\ngraph\nobject 0.1 - - - - - - - - - - - - - - - - /\nroots 1 - - - 0.1 - - - - - - - - - - - -\n",
     },
     // One step fewer.
     Row {
-        words: &["replay", "--steps", "23"],
+        words: &["replay", "--steps", "36"],
         trace: "shen 1\nheap 8 64 0\nthreads 1 0\n1 copy 3 0\n1 same 0 3\n1 drop 0\n1 same 0 3\n1 same 0 4\n! 1:4000000000\n",
-        answer: "unfinished after 23 steps\n",
+        answer: "unfinished after 36 steps\n",
     },
     // Three threads pass an object on.
     Row {
@@ -311,29 +311,57 @@ const SCHEDULED: &[Row] = &[
         trace: "shen 1\nheap 8 64 0\nthreads 2 0\n1 gc\n2 gc\n! 1@AK 2=1 1@LV\n",
         answer: "1 ok\n2 ok\ngraph\nobject 0.1 - - - - - - - - - - - - - - - - /\nroots 1 0.1 - - - - - - - - - - - - - - -\nroots 2 0.1 - - - - - - - - - - - - - - -\n",
     },
-    // Eight steps for both.
+    // Between two calls a thread stands before the next one: the first runs no further than the end of its first call.
     Row {
-        words: &["replay", "--steps", "8"],
-        trace: "shen 1\nheap 8 64 0\nthreads 2 0\n1 gc\n2 gc\n! 2@AK\n",
-        answer: "1 ok\n2 ok\ngraph\nobject 0.1 - - - - - - - - - - - - - - - - /\nroots 1 0.1 - - - - - - - - - - - - - - -\nroots 2 0.1 - - - - - - - - - - - - - - -\n",
+        words: REPLAY,
+        trace: "shen 1\nheap 8 64 0\nthreads 2 0\n1 new 1 0 0\n1 cas 0 0 2 1\n2 new 1 0 0\n2 set 0 0 1\n! 1:1 1@E1 2=2\n",
+        answer: "1 1.1\n1 no\n2 2.1\n2 ok\ngraph\nobject 0.1 2.1 - - - - - - - - - - - - - - - /\nobject 1.1 /\nobject 2.1 /\nroots 1 0.1 1.1 - - - - - - - - - - - - - -\nroots 2 0.1 2.1 - - - - - - - - - - - - - -\n",
     },
-    // Seven are too few.
+    // A thread stands before its end once it has made all calls.
     Row {
-        words: &["replay", "--steps", "7"],
-        trace: "shen 1\nheap 8 64 0\nthreads 2 0\n1 gc\n2 gc\n! 2@AK\n",
-        answer: "unfinished after 7 steps\n",
+        words: REPLAY,
+        trace: "shen 1\nheap 8 64 0\nthreads 2 0\n1 new 1 0 0\n1 cas 0 0 2 1\n2 new 1 0 0\n2 set 0 0 1\n! 1@ML 2=2\n",
+        answer: "1 1.1\n1 yes\n2 2.1\n2 ok\ngraph\nobject 0.1 2.1 - - - - - - - - - - - - - - - /\nobject 1.1 /\nobject 2.1 /\nroots 1 0.1 1.1 - - - - - - - - - - - - - -\nroots 2 0.1 2.1 - - - - - - - - - - - - - -\n",
+    },
+];
+
+/// Traces of heaps that collect.
+const PAUSED: &[Row] = &[
+    // The fourth large object waits for a pause, in which two that are garbage are collected, and it is made.
+    Row {
+        words: REPLAY,
+        trace: "shen 1\nheap 4 64 0\nthreads 1 0\n1 new 1 16 16\n1 new 1 16 16\n1 new 1 16 16\n1 new 1 16 16\n",
+        answer: "1 1.1\n1 1.2\n1 1.3\n1 1.4\ngraph\nobject 0.1 - - - - - - - - - - - - - - - - /\nobject 1.4 - - - - - - - - - - - - - - - - / 0 0 0 0 0 0 0 0 0 0 0 0 0 0 0 0\nroots 1 0.1 1.4 - - - - - - - - - - - - - -\n",
+    },
+    // All objects live: the pause gives room to the fourth, and none to the fifth, whose root stays null.
+    Row {
+        words: REPLAY,
+        trace: "shen 1\nheap 4 64 0\nthreads 1 0\n1 new 1 16 16\n1 new 2 16 16\n1 new 3 16 16\n1 new 4 16 16\n1 new 5 16 16\n1 drop 1\n1 drop 2\n1 drop 3\n1 drop 4\n",
+        answer: "1 1.1\n1 1.2\n1 1.3\n1 1.4\n1 full\n1 ok\n1 ok\n1 ok\n1 ok\ngraph\nobject 0.1 - - - - - - - - - - - - - - - - /\nroots 1 0.1 - - - - - - - - - - - - - - -\n",
+    },
+    // Two threads wait for one pause. There is room for one object, and the first thread gets it.
+    Row {
+        words: REPLAY,
+        trace: "shen 1\nheap 4 64 0\nthreads 2 0\n1 new 1 16 16\n1 new 2 16 16\n1 new 3 16 16\n1 new 4 16 16\n1 drop 1\n1 drop 2\n1 drop 3\n1 drop 4\n2 new 1 16 16\n! 1=3 1@WP 2@WP\n",
+        answer: "1 1.1\n1 1.2\n1 1.3\n1 1.4\n1 ok\n1 ok\n1 ok\n1 ok\n2 full\ngraph\nobject 0.1 - - - - - - - - - - - - - - - - /\nroots 1 0.1 - - - - - - - - - - - - - - -\nroots 2 0.1 - - - - - - - - - - - - - - -\n",
+    },
+    // Of three free regions only one may be taken where two are kept back. The second object is made in a pause.
+    Row {
+        words: REPLAY,
+        trace: "shen 1\nheap 4 64 2\nthreads 1 0\n1 new 1 16 16\n1 new 1 16 16\n",
+        answer: "1 1.1\n1 1.2\ngraph\nobject 0.1 - - - - - - - - - - - - - - - - /\nobject 1.2 - - - - - - - - - - - - - - - - / 0 0 0 0 0 0 0 0 0 0 0 0 0 0 0 0\nroots 1 0.1 1.2 - - - - - - - - - - - - - -\n",
+    },
+    // A pause that was asked for moves an object. Its number and its field go with it.
+    Row {
+        words: REPLAY,
+        trace: "shen 1\nheap 4 64 0\nthreads 1 0\n1 new 2 16 16\n1 new 1 1 1\n1 wr 1 0 5\n1 set 1 0 0\n1 drop 2\n1 gc\n1 rd 1 0\n1 get 3 1 0\n! 1=6 2@P3 2@I0\n",
+        answer: "1 1.1\n1 1.2\n1 ok\n1 ok\n1 ok\n1 ok\n1 5\n1 0.1\ngraph\nobject 0.1 - - - - - - - - - - - - - - - - /\nobject 1.2 0.1 / 5\nroots 1 0.1 1.2 - 0.1 - - - - - - - - - - - -\n",
     },
 ];
 
 /// Traces whose machines are not all idle after so many steps.
 const CUT: &[Row] = &[
-    // Of three free regions only one may be taken where two are kept back.
-    Row {
-        words: &["replay", "--steps", "1000"],
-        trace: "shen 1\nheap 4 64 2\nthreads 1 0\n1 new 1 16 16\n1 new 2 16 16\n",
-        answer: "unfinished after 1000 steps\n",
-    },
-    // Ten steps end in the second command.
+    // Ten steps end in the first command: the control makes every second one.
     Row {
         words: &["replay", "--steps", "10"],
         trace: "shen 1\nheap 4 64 0\nthreads 1 0\n1 new 1 1 1\n1 set 0 3 1\n1 get 2 0 3\n",
@@ -341,21 +369,27 @@ const CUT: &[Row] = &[
     },
     // All but the last step.
     Row {
-        words: &["replay", "--steps", "28"],
+        words: &["replay", "--steps", "73"],
         trace: "shen 1\nheap 4 64 0\nthreads 1 0\n1 new 1 1 1\n1 set 0 3 1\n1 get 2 0 3\n",
-        answer: "unfinished after 28 steps\n",
+        answer: "unfinished after 73 steps\n",
     },
-    // There is no room for a fourth large object, and it is looked for again and again.
+    // A fourth large object waits for a pause, which takes more steps.
     Row {
         words: &["replay", "--steps", "1000"],
         trace: "shen 1\nheap 4 64 0\nthreads 1 0\n1 new 1 16 16\n1 new 2 16 16\n1 new 3 16 16\n1 new 4 16 16\n",
         answer: "unfinished after 1000 steps\n",
     },
-    // Items count too, and what they leave is for the rounds.
+    // Items count too, and so do the steps that the control makes while a thread waits.
     Row {
-        words: &["replay", "--steps", "5000"],
+        words: &["replay", "--steps", "1000"],
         trace: "shen 1\nheap 4 64 0\nthreads 1 0\n1 new 1 16 16\n1 new 2 16 16\n1 new 3 16 16\n1 new 4 16 16\n! 1=4 2:7\n",
-        answer: "unfinished after 5000 steps\n",
+        answer: "unfinished after 1000 steps\n",
+    },
+    // The control comes to no pause, and is not idle as long as a thread has not ended.
+    Row {
+        words: &["replay", "--steps", "1000"],
+        trace: "shen 1\nheap 4 64 0\nthreads 1 0\n! 2@PL\n",
+        answer: "unfinished after 1000 steps\n",
     },
 ];
 
@@ -522,11 +556,16 @@ fn schedules_are_followed(rt: HostRuntime) -> Result<(), Fail> {
 }
 
 #[test]
+fn pauses_collect(rt: HostRuntime) -> Result<(), Fail> {
+    answers(&rt, rt.alloc(), PAUSED)
+}
+
+#[test]
 fn steps_are_counted(rt: HostRuntime) -> Result<(), Fail> {
     answers(&rt, rt.alloc(), CUT)?;
     let (status, _) = outcome(
         rt.alloc(),
-        &["replay", "--steps", "28"],
+        &["replay", "--steps", "73"],
         STORED.as_bytes(),
         8,
         &[],
@@ -535,7 +574,7 @@ fn steps_are_counted(rt: HostRuntime) -> Result<(), Fail> {
     assert_eq!(rt; status, Status::Unfinished);
     let (status, written) = outcome(
         rt.alloc(),
-        &["replay", "--steps", "29"],
+        &["replay", "--steps", "74"],
         STORED.as_bytes(),
         8,
         &[],

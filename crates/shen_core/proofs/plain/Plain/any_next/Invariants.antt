@@ -2,9 +2,8 @@ use Rattle.std.proofs.Common.{◌≡◌, ◌<◌, ℕ, None}
 use Rattle.steps_base.specs.Steps.{Stage}
 use Rattle.step_core.specs.Actor.{Actor}
 use Rattle.step_core.specs.Schedule.{Scripts, turn}
-use Rattle.shen_core.specs.State.{config_of, Shows}
-use Rattle.shen_core.specs.Progress.{Tells}
+use Rattle.shen_core.specs.State.{Shows}
 use Rattle.shen_core.proofs.plain.Plain.any_next.Given as goal
 
 abbrev pub invariant-loop-number : goal.invariant-loop-number
-invariant-loop-number l = (scripts : Scripts) (s : Stage Actor) → Shows l.self s → Tells (config_of l.self) scripts l.work s → (k : ℕ) → k < l.number → turn scripts s k ≡ None
+invariant-loop-number l = (scripts : Scripts) (s : Stage Actor) → Shows l.self s → (k : ℕ) → k < l.number → turn scripts s k ≡ None

@@ -5,7 +5,9 @@ use Rattle.std.proofs.Math.Logic.{∥∥₁_map}
 use Rattle.shen_graph.specs.Valid.{IsValid}
 use Rattle.shen_graph.specs.declared.order.Order.TheVariants.{Nothing}
 use Rattle.heap_machines.specs.Shown.{shown, order_of}
-use Rattle.step_core.specs.Machines.{takes_of, order_for, is_resting, is_mutating, made_of_machine}
+use Rattle.step_core.specs.Machines.{takes_of, may_begin, made_of_machine}
+use Rattle.heap_machines.specs.Roles.{is_mutating}
+use Rattle.heap_machines.specs.Turn.{order_for}
 use Rattle.shen_core.specs.State.{config_of}
 use Rattle.shen_core.specs.Progress.{next_for}
 use Rattle.shen_core.specs.Runs.{IsShownBySome}
@@ -21,7 +23,7 @@ order_next-requires-clause-none c =
     none_here p.machines.items c.args.number m c.requires.run.orders here
 
 pub order_next-requires-clause-next : goal.order_next-requires-clause-next
-order_next-requires-clause-next c = λ rest.
+order_next-requires-clause-next c = λ may.
     let p = c.args.self.now in
     let m = c.index_mut.result.now in
     let here = from_read p.machines.items c.args.number m (omega (arith, p.all_machines, c.requires.number)) c.index_mut.ensures.value in
@@ -29,7 +31,7 @@ order_next-requires-clause-next c = λ rest.
     subst (λ next. IfSome next (λ command. IsValid command × (made_of_machine (shown m) < 4294967295))) (sym c.next_command-next.ensures)
     (subst (λ machine. IfSome (next_for (config_of p) c.args.work.now c.args.number) (λ command. IsValid command × (made_of_machine machine < 4294967295))) at
     (next_fits p c.args.work.now c.args.number c.requires.run (omega (arith, length-map p.machines.items shown, p.all_machines, c.requires.number))
-    (ap is_mutating at ∙ role_shown p.config p.words.items _ c.args.number (shown m) p.reached (shown_here p.machines.items c.args.number m here)) (ap is_resting at ∙ rest)))
+    (ap is_mutating at ∙ role_shown p.config p.words.items _ c.args.number (shown m) p.reached (shown_here p.machines.items c.args.number m here)) (ap may_begin at ∙ may)))
 
 pub invariant_of-self : goal.invariant_of-self
 invariant_of-self c =

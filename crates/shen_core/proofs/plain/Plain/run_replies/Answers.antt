@@ -1,6 +1,6 @@
 use Rattle.std.proofs.Common.{◌<◌, ◌-◌, [], ◌∷◌, ◌++◌, length, refl, sym, ap, ◌∙◌, subst, arith}
 use Rattle.std.proofs.lemmas.Bool.{le-leb, lt-leb}
-use Rattle.step_core.specs.Schedule.{turn, waits, replies, control, control_after, moves}
+use Rattle.step_core.specs.Schedule.{turn, waits_then, replies, control, control_after, moves}
 use Rattle.shen_core.specs.State.{config_of}
 use Rattle.shen_core.specs.Progress.{agenda}
 use Rattle.shen_core.proofs.Going.{plain_within, waiting_of, given_told, waiting_not, runs_none, runs_then, runs_out, task_done, task_idles, task_moves, replies_given, replies_move}
@@ -13,7 +13,7 @@ pub returns-in-Idle-clause-task : goal.returns-in-Idle-clause-task
 returns-in-Idle-clause-task c = λ tasks from.
     runs_then c.args.self.now c.loop-left.self c.turn.new.self c.args.work.now c.loop-left.work c.turn.new.work _ (agenda (replies c.args.number c.args.count ∷ tasks) from) (agenda tasks from) _ c.loop-left.left _ c.loop-left.invariant.config (c.loop-left.invariant.runs tasks from)
     (task_idles c.loop-left.self c.turn.new.self c.loop-left.work c.turn.new.work c.args.number c.turn.result (replies c.args.number c.args.count) c.loop-left.left c.turn.ensures.turned c.in-Idle.is
-    (λ scripts s shows tells none. replies_move (config_of c.loop-left.self) scripts s c.args.number c.args.count (let told = given_told c.loop-left.self c.loop-left.work c.args.number scripts s (plain_within c.args.self.now c.loop-left.self c.args.number c.loop-left.invariant.config (omega (arith, c.requires.number))) (subst (λ k. c.args.number < k.mutators) (sym c.loop-left.invariant.config) c.requires.number) shows tells in let list = ap length (c.list.ensures ∙ c.replies.ensures.replies) in (lt-leb _ _ (omega arith))) ∙ ap (λ e. moves e (control_after (waits (config_of c.loop-left.self) s c.args.number) ++ replies c.args.number c.args.count ∷ [])) none) tasks from)
+    (λ scripts s shows tells none. replies_move (config_of c.loop-left.self) scripts s c.args.number c.args.count (let told = given_told c.loop-left.self c.loop-left.work c.args.number scripts s (plain_within c.args.self.now c.loop-left.self c.args.number c.loop-left.invariant.config (omega (arith, c.requires.number))) (subst (λ k. c.args.number < k.mutators) (sym c.loop-left.invariant.config) c.requires.number) shows tells in let list = ap length (c.list.ensures ∙ c.replies.ensures.replies) in (lt-leb _ _ (omega arith))) ∙ ap (λ e. moves e (control_after (waits_then (config_of c.loop-left.self) s e) ++ replies c.args.number c.args.count ∷ [])) none) tasks from)
 
 pub loop-left-preserved-in-Again : goal.loop-left-preserved-in-Again
 loop-left-preserved-in-Again c = record {

@@ -10,11 +10,11 @@ loop-left-init c = record { run = c.requires; config = refl; runs = runs_none _ 
 
 pub returns-then-any_next-clause-ends : goal.returns-then-any_next-clause-ends
 returns-then-any_next-clause-ends c = ends_then c.args.self.now c.loop-left.self c.loop-left.self c.args.work.now c.loop-left.work c.loop-left.work (agenda [] 0) (agenda [] 0) c.args.limit c.loop-left.left Unfinished c.loop-left.invariant.config c.loop-left.invariant.runs
-    (ends_out c.loop-left.self c.loop-left.work c.loop-left.left c.if-left-eq0.true (c.any_next.ensures.busy c.if-any_next.true))
+    (ends_out c.loop-left.self c.loop-left.work c.loop-left.left c.if-left-eq0.true (c.any_next.ensures.busy c.if-any_next.true c.loop-left.work))
 
 pub returns-else-any_next-clause-ends : goal.returns-else-any_next-clause-ends
 returns-else-any_next-clause-ends c = ends_then c.args.self.now c.loop-left.self c.loop-left.self c.args.work.now c.loop-left.work c.loop-left.work (agenda [] 0) (agenda [] 0) c.args.limit c.loop-left.left Finished c.loop-left.invariant.config c.loop-left.invariant.runs
-    (ends_idle c.loop-left.self c.loop-left.work c.loop-left.left (c.any_next.ensures.idle c.if-any_next.false))
+    (ends_idle c.loop-left.self c.loop-left.work c.loop-left.left (c.any_next.ensures.idle c.if-any_next.false c.loop-left.work))
 
 pub returns-then-left-before-clause-ends : goal.returns-then-left-before-clause-ends
 returns-then-left-before-clause-ends c =

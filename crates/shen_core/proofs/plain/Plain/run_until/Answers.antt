@@ -2,7 +2,8 @@ use Rattle.std.proofs.Common.{[], ◌∷◌, refl, sym, ap, ◌∙◌, arith}
 use Rattle.step_core.specs.Schedule.{until, moves}
 use Rattle.shen_core.specs.State.{config_of}
 use Rattle.shen_core.specs.Progress.{agenda}
-use Rattle.shen_core.proofs.Going.{plain_within, stands_shown, runs_none, runs_then, runs_out, task_done, task_idles, task_moves, until_there, until_move}
+use Rattle.shen_core.proofs.Turns.{stands_shown}
+use Rattle.shen_core.proofs.Going.{plain_within, runs_none, runs_then, runs_out, task_done, task_idles, task_moves, until_there, until_move}
 use Rattle.shen_core.proofs.plain.Plain.run_until.Goals as goal
 
 pub loop-left-init : goal.loop-left-init
@@ -12,7 +13,7 @@ pub returns-in-Idle-clause-task : goal.returns-in-Idle-clause-task
 returns-in-Idle-clause-task c = λ tasks from.
     runs_then c.args.self.now c.loop-left.self c.turn.new.self c.args.work.now c.loop-left.work c.turn.new.work _ (agenda (until c.args.number c.args.place ∷ tasks) from) (agenda tasks from) _ c.loop-left.left _ c.loop-left.invariant.config (c.loop-left.invariant.runs tasks from)
     (task_idles c.loop-left.self c.turn.new.self c.loop-left.work c.turn.new.work c.args.number c.turn.result (until c.args.number c.args.place) c.loop-left.left c.turn.ensures.turned c.in-Idle.is
-    (λ scripts s shows tells none. until_move (config_of c.loop-left.self) scripts s c.args.number c.args.place (stands_shown c.loop-left.self c.args.number c.args.place s (plain_within c.args.self.now c.loop-left.self c.args.number c.loop-left.invariant.config c.requires.number) shows ∙ sym c.stands_at.ensures ∙ c.if-not-stands_at.true) ∙ ap (λ e. moves e (until c.args.number c.args.place ∷ [])) none) tasks from)
+    (λ scripts s shows tells none. until_move (config_of c.loop-left.self) scripts s c.args.number c.args.place (stands_shown c.loop-left.self c.loop-left.work c.args.number c.args.place (plain_within c.args.self.now c.loop-left.self c.args.number c.loop-left.invariant.config c.requires.number) scripts s shows tells ∙ sym c.stands_at.ensures ∙ c.if-not-stands_at.true) ∙ ap (λ e. moves e (until c.args.number c.args.place ∷ [])) none) tasks from)
 
 pub loop-left-preserved : goal.loop-left-preserved
 loop-left-preserved c = record {
@@ -21,13 +22,13 @@ loop-left-preserved c = record {
   runs = λ tasks from.
       runs_then c.args.self.now c.loop-left.self c.turn.new.self c.args.work.now c.loop-left.work c.turn.new.work _ (agenda (until c.args.number c.args.place ∷ tasks) from) (agenda (until c.args.number c.args.place ∷ tasks) from) _ c.loop-left.left _ c.loop-left.invariant.config (c.loop-left.invariant.runs tasks from)
       (task_moves c.loop-left.self c.turn.new.self c.loop-left.work c.turn.new.work c.args.number c.turn.result (until c.args.number c.args.place) (until c.args.number c.args.place ∷ []) c.loop-left.left c.turn.ensures.turned c.in_default.not-Idle c.loop-left-test.true
-      (λ scripts s shows tells waits. until_move (config_of c.loop-left.self) scripts s c.args.number c.args.place (stands_shown c.loop-left.self c.args.number c.args.place s (plain_within c.args.self.now c.loop-left.self c.args.number c.loop-left.invariant.config c.requires.number) shows ∙ sym c.stands_at.ensures ∙ c.if-not-stands_at.true)) tasks from);
+      (λ scripts s shows tells waits. until_move (config_of c.loop-left.self) scripts s c.args.number c.args.place (stands_shown c.loop-left.self c.loop-left.work c.args.number c.args.place (plain_within c.args.self.now c.loop-left.self c.args.number c.loop-left.invariant.config c.requires.number) scripts s shows tells ∙ sym c.stands_at.ensures ∙ c.if-not-stands_at.true)) tasks from);
 }
 
 pub returns-else-not-stands_at-clause-task : goal.returns-else-not-stands_at-clause-task
 returns-else-not-stands_at-clause-task c = λ tasks from.
     runs_then c.args.self.now c.loop-left.self c.loop-left.self c.args.work.now c.loop-left.work c.loop-left.work _ (agenda (until c.args.number c.args.place ∷ tasks) from) (agenda tasks from) _ c.loop-left.left _ c.loop-left.invariant.config (c.loop-left.invariant.runs tasks from)
-    (task_done c.loop-left.self c.loop-left.work (until c.args.number c.args.place) c.loop-left.left (λ scripts s shows tells. until_there (config_of c.loop-left.self) scripts s c.args.number c.args.place (stands_shown c.loop-left.self c.args.number c.args.place s (plain_within c.args.self.now c.loop-left.self c.args.number c.loop-left.invariant.config c.requires.number) shows ∙ sym c.stands_at.ensures ∙ c.if-not-stands_at.false)) tasks from)
+    (task_done c.loop-left.self c.loop-left.work (until c.args.number c.args.place) c.loop-left.left (λ scripts s shows tells. until_there (config_of c.loop-left.self) scripts s c.args.number c.args.place (stands_shown c.loop-left.self c.loop-left.work c.args.number c.args.place (plain_within c.args.self.now c.loop-left.self c.args.number c.loop-left.invariant.config c.requires.number) scripts s shows tells ∙ sym c.stands_at.ensures ∙ c.if-not-stands_at.false)) tasks from)
 
 pub returns-after-loop-left-clause-task : goal.returns-after-loop-left-clause-task
 returns-after-loop-left-clause-task c = λ tasks from.

@@ -8,7 +8,8 @@ use Rattle.heap_words.specs.declared.access.Took.TheVariants as took
 use Rattle.heap_machines.specs.declared.stepped.Stepped.TheVariants as stepped
 use Rattle.heap_machines.specs.Answer.{stepped_of}
 use Rattle.heap_machines.specs.Shown.{shown, order_of}
-use Rattle.step_core.specs.Machines.{plan_of, reply_in, IsFitIn}
+use Rattle.step_core.specs.Machines.{plan_of, reply_in}
+use Rattle.step_core.specs.Fit.{IsFitFor}
 use Rattle.shen_core.proofs.Memory.{from_read, shown_here, heap_here, machine_now, made_from, made_step, made_shown, made_heap, made_orders, made_machines}
 use Rattle.shen_core.proofs.Turns.{fit_shown}
 use Rattle.shen_core.proofs.plain.Plain.step.Goals as goal
@@ -25,10 +26,10 @@ took-requires-clause-fit c =
     let m = c.index_mut-machine.result.now in
     let here = from_read p.machines.items c.args.number m (omega (arith, p.all_machines, c.requires)) c.index_mut-machine.ensures.value in
     let heap = heap_here p.config p.machines.items c.args.number m p.one_heap here in
-    let got : c.make_access-found.result ≡ slice_index p.words.items (place_of (plan_of p.config (shown m))) =
-    c.make_access-found.ensures.told ∙ ap (λ x. slice_index p.words.items (place_of x)) (c.plan.ensures.row ∙ ap (λ k. plan_of k (shown m)) heap) in
-    subst (λ k. IsFitIn k (order_of m) c.make_access-found.result (shown m)) (sym heap)
-    (subst (λ x. IsFitIn p.config (order_of m) x (shown m)) (sym got)
+    let got : c.make_access-found.result ≡ slice_index p.words.items (place_of (plan_of p.config (order_of m) (shown m))) =
+    c.make_access-found.ensures.told ∙ ap (λ x. slice_index p.words.items (place_of x)) (c.plan.ensures.row ∙ ap (λ k. plan_of k (order_of m) (shown m)) heap) in
+    subst (λ k. IsFitFor k (order_of m) c.make_access-found.result (shown m)) (sym heap)
+    (subst (λ x. IsFitFor p.config (order_of m) x (shown m)) (sym got)
     (fit_shown p.config p.words.items _ c.args.number (shown m) (order_of m) p.reached (shown_here p.machines.items c.args.number m here) (c.is_idle.ensures ∙ ap not c.if-is_idle.false)))
 
 pub invariant_of-self-2 : goal.invariant_of-self-2

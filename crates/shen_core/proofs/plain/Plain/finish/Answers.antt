@@ -1,0 +1,34 @@
+use Rattle.std.proofs.Common.{sym, ap, ◌∙◌, subst, arith}
+use Rattle.std.proofs.lemmas.List.{length-set}
+use Rattle.std.proofs.Math.Logic.{∥∥₁_map}
+use Rattle.step_core.specs.Machines.{may_begin}
+use Rattle.shen_core.specs.Runs.{IsShownBySome}
+use Rattle.shen_core.proofs.Memory.{from_read, machine_here, ordered_machines, ordered_orders, ordered_heap}
+use Rattle.shen_core.proofs.plain.Plain.finish.Goals as goal
+
+pub finish-requires : goal.finish-requires
+finish-requires c =
+    let here = from_read c.args.self.now.machines.items c.args.number c.index_mut.result.now (omega (arith, c.args.self.now.all_machines, c.requires.number)) c.index_mut.ensures.value in
+    ap may_begin (sym (machine_here c.args.self.now.machines.items c.args.number c.index_mut.result.now here)) ∙ c.requires.rest
+
+pub invariant_of-self : goal.invariant_of-self
+invariant_of-self c =
+    let p = c.args.self.now in
+    let here = from_read p.machines.items c.args.number c.index_mut.result.now (omega (arith, p.all_machines, c.requires.number)) c.index_mut.ensures.value in
+    record {
+      all_words = p.all_words;
+      all_machines = length-set p.machines.items _ _ ∙ p.all_machines;
+      all_marks = p.all_marks;
+      enough_addresses = p.enough_addresses;
+      one_heap = ordered_heap p.config p.machines.items c.args.number c.index_mut.result.now c.finish.new.self here c.finish.ensures.heap p.one_heap;
+      reached = ∥∥₁_map p.reached (subst (λ machines. IsShownBySome p.config p.words.items machines)
+          (sym (ordered_machines p.machines.items c.args.number c.index_mut.result.now c.finish.new.self here c.finish.ensures.shown)));
+    }
+
+pub returns-clause-order : goal.returns-clause-order
+returns-clause-order c = ordered_orders c.args.self.now.machines.items c.args.number c.finish.new.self _ c.finish.ensures.order
+
+pub returns-clause-machines : goal.returns-clause-machines
+returns-clause-machines c =
+    let here = from_read c.args.self.now.machines.items c.args.number c.index_mut.result.now (omega (arith, c.args.self.now.all_machines, c.requires.number)) c.index_mut.ensures.value in
+    ordered_machines c.args.self.now.machines.items c.args.number c.index_mut.result.now c.finish.new.self here c.finish.ensures.shown
