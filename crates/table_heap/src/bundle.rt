@@ -9,9 +9,7 @@ use crate::heap::Heap;
 use crate::machines::{Acting, OfHeaps};
 use heap_machines::{Machine, Stepped};
 use heap_words::{Config, NoMemory};
-use shared_steps::{
-    ViewSeat, deal_bundle, deal_machines, join_bundle, join_machines, make_step,
-};
+use shared_steps::{ViewSeat, deal_bundle, deal_machines, join_bundle, join_machines, make_step};
 use shen_graph::{Command, Order, Reply};
 use std::alloc::Global;
 use std::marker::Brand;

@@ -52,8 +52,7 @@ returns-then-is_idle-clause-idle c =
     let inside = within shown b.machines.items c.args.number c.requires.here in
     let here = read_here shown b.machines.items c.args.number c.index_mut.result.now m inside c.index_mut.ensures.value (sym c.as_mut.ensures.value ∙ ap option_copied_mut c.in-Some.is) in
     let at = shows_as shown b.machines.items c.args.number m fresh_helper here in
-    let given = shows_as order_of b.machines.items c.args.number m Nothing here in
-    (
+    let given = shows_as order_of b.machines.items c.args.number m Nothing here in (
       (λ is. ap (λ x. takes_of x (order_at b c.args.number)) at ∙ ap (takes_of (shown m)) given ∙ c.is_idle.ensures ∙ ap not c.if-is_idle.true),
       (λ none. refl),
     )
@@ -89,8 +88,7 @@ returns-then-is_idle-clause-done c =
     let inside = within shown b.machines.items c.args.number c.requires.here in
     let here = read_here shown b.machines.items c.args.number c.index_mut.result.now m inside c.index_mut.ensures.value (sym c.as_mut.ensures.value ∙ ap option_copied_mut c.in-Some.is) in
     let at = shows_as shown b.machines.items c.args.number m fresh_helper here in
-    let given = shows_as order_of b.machines.items c.args.number m Nothing here in
-    (
+    let given = shows_as order_of b.machines.items c.args.number m Nothing here in (
       (λ is. absurd cc),
       (λ both. absurd (false≢true (sym (ap (λ x. takes_of x (order_at b c.args.number)) at ∙ ap (takes_of (shown m)) given ∙ c.is_idle.ensures ∙ ap not c.if-is_idle.true) ∙ both.0))),
     )
@@ -211,8 +209,7 @@ returns-clause-done c =
     let turn = c.is_idle.ensures ∙ ap not c.if-is_idle.false in
     let at = shows_as shown b.machines.items c.args.number m fresh_helper here in
     let given = shows_as order_of b.machines.items c.args.number m Nothing here in
-    let has : State.has_turn b c.args.number ≡ true = ap (λ x. takes_of x (order_at b c.args.number)) at ∙ ap (takes_of (shown m)) given ∙ turn in
-    (
+    let has : State.has_turn b c.args.number ≡ true = ap (λ x. takes_of x (order_at b c.args.number)) at ∙ ap (takes_of (shown m)) given ∙ turn in (
       (λ is. (has, (ap (place_in (State.order_at b c.args.number)) at ∙ ap (λ o. place_in o (shown m)) given) ∙ c.took.ensures.done.0 (done_only c.took.result (sym c.of.ensures ∙ is)))),
       (λ both. c.of.ensures ∙ ap stepped_of (c.took.ensures.done.1 (sym (ap (place_in (State.order_at b c.args.number)) at ∙ ap (λ o. place_in o (shown m)) given) ∙ both.1))),
     )
