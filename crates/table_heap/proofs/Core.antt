@@ -1,6 +1,5 @@
 -- What the machines of a heap do as a kind. Nothing else here opens a definition of the core.
 use Rattle.std.proofs.Common.{◌≡◌, ℕ, refl}
-use Rattle.heap_words.specs.declared.access.Access.{Access}
 use Rattle.heap_words.specs.declared.config.Config.{Config}
 use Rattle.shen_graph.specs.declared.order.Order.{Order}
 use Rattle.steps_base.specs.Steps.{Finds}

@@ -1,5 +1,5 @@
 -- A heap before its first event, and its machines as they are dealt to bundles.
-use Rattle.std.proofs.Common.{◌≡◌, ℕ, zero, suc, ◌+◌, ◌-◌, ◌<◌, Bool, true, false, not, nat_lt, List, [], ◌∷◌, ◌++◌, length, get_or, map, All, Option, Some, None, refl, sym, ap, ◌∙◌, subst, arith}
+use Rattle.std.proofs.Common.{◌≡◌, ℕ, zero, suc, ◌+◌, ◌-◌, Bool, true, false, not, List, [], ◌∷◌, ◌++◌, length, get_or, map, All, Option, Some, None, refl, sym, ap, ◌∙◌, subst, arith}
 use Rattle.std.specs.Prelude.{slice_get, if◌then◌else◌}
 use Rattle.std.specs.Option.{option_map}
 use Rattle.std.specs.List.{range_with_len}
@@ -23,7 +23,7 @@ use Rattle.step_core.specs.Actor.{fresh_helper}
 use Rattle.heap_machines.specs.Roles.{is_mutating}
 use Rattle.step_core.specs.Opening.{opening_machine}
 use Rattle.table_heap.specs.Core.{heap_opening, machine_in}
-use Rattle.table_heap.specs.Known.{IsOfHeap, AreOfHeap}
+use Rattle.table_heap.specs.Known.{AreOfHeap}
 
 module _ (c : Config) (machines : List Machine) (first : map shown machines ≡ map (opening_machine c) (range_with_len 0 (seat_count c.mutators c.helpers))) where
   pub opened_count : length (whole machines) ≡ seat_count c.mutators c.helpers

@@ -1,10 +1,9 @@
 -- The machine under a number, in memory and in the view.
-use Rattle.std.proofs.Common.{◌≡◌, ◌<◌, ℕ, zero, suc, Bool, true, false, nat_lt, [], ◌∷◌, length, get_or, Option, Some, None, refl, sym, ap, ◌∙◌, arith}
+use Rattle.std.proofs.Common.{◌≡◌, ◌<◌, ℕ, zero, suc, true, false, [], ◌∷◌, length, get_or, Option, Some, None, refl, sym, ap, ◌∙◌, arith}
 use Rattle.std.specs.Option.{is_some}
-use Rattle.std.proofs.lemmas.Bool.Decides.{nat_tests}
 use Rattle.shared_steps.specs.Views.{View, machine_of, kept_of, kept_one}
-use Rattle.shared_steps.proofs.ChangeHands.{machine_of-index, machine_of-past, here_within, some_there}
-use Rattle.shared_steps.proofs.Kept.{machine_of-kept, kept_some, length-kept}
+use Rattle.shared_steps.proofs.ChangeHands.{machine_of-index, machine_of-past, here_within}
+use Rattle.shared_steps.proofs.Kept.{machine_of-kept, kept_some}
 use Rattle.std.specs.Prelude.{unwrap_or, slice_set}
 
 module _ {T S : Type 0} (f : T → S) where

@@ -1,7 +1,6 @@
 -- The step of a machine of a bundle.
-use Rattle.std.proofs.Common.{◌≡◌, ℕ, Bool, true, false, Option, Some, None, refl, sym, ap, ◌∙◌, subst, arith, length}
+use Rattle.std.proofs.Common.{◌≡◌, ℕ, Bool, true, false, Option, Some, None, refl, sym, ap, ◌∙◌, subst, arith}
 use Rattle.std.specs.Prelude.{slice_set, ◌==◌, if◌then◌else◌}
-use Rattle.std.specs.Option.{is_some}
 use Rattle.std.proofs.lemmas.Bool.Decides.{nat_tests}
 use Rattle.atomic_table.specs.Table.{Me}
 use Rattle.heap_words.specs.declared.access.Access.{Access}
@@ -15,7 +14,6 @@ use Rattle.shared_steps.proofs.Shown.{machine_of-set, machine_of-picked, machine
 use Rattle.heap_machines.specs.declared.machine.Machine.{Machine}
 use Rattle.heap_machines.specs.Shown.{shown, order_of, heap_of, has_turn}
 use Rattle.heap_machines.proofs.Turns.{role_stays}
-use Rattle.step_core.specs.Actor as actors
 use Rattle.step_core.specs.Actor.{Actor}
 use Rattle.heap_machines.specs.Roles.{is_mutating}
 use Rattle.pause_laws.specs.Image.{full_image}

@@ -1,5 +1,5 @@
 -- What callers know of a heap that threads share, and of a bundle of its machines.
-use Rattle.std.specs.Prelude.{ℕ, ◌≡◌, Bool, true, Option, Some, unwrap_or, slice_set}
+use Rattle.std.specs.Prelude.{ℕ, ◌≡◌, Bool, true, Some, unwrap_or, slice_set}
 use Rattle.std.specs.Option.{is_some}
 use Rattle.heap_words.specs.declared.config.Config.{Config}
 use Rattle.shared_steps.specs.Views.{View, machine_of, kept_of, SameNumbers}

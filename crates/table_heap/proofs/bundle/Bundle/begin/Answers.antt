@@ -1,10 +1,9 @@
-use Rattle.std.proofs.Common.{◌≡◌, ◌<◌, true, false, not, length, Some, None, refl, sym, ap, ◌∙◌, subst, arith}
-use Rattle.std.specs.Prelude.{unwrap_or, slice_set}
-use Rattle.std.specs.Option.{is_some}
+use Rattle.std.proofs.Common.{◌<◌, Some, sym, ap, ◌∙◌, subst, arith}
+use Rattle.std.specs.Prelude.{slice_set}
 use Rattle.std.proofs.lemmas.List.{length-set}
-use Rattle.shared_steps.specs.Views.{machine_of, kept_of}
+use Rattle.shared_steps.specs.Views.{kept_of}
 use Rattle.shared_steps.proofs.Kept.{kept-set}
-use Rattle.heap_machines.specs.Shown.{shown, order_of, heap_of, has_turn}
+use Rattle.heap_machines.specs.Shown.{shown, order_of}
 use Rattle.std.specs.Option.{option_copied_mut}
 use Rattle.shen_graph.specs.declared.order.Order.TheVariants.{Begin}
 use Rattle.step_core.specs.Actor.{fresh_helper}

@@ -1,4 +1,4 @@
-use Rattle.std.proofs.Common.{◌≡◌, length, not, refl, sym, ap, ◌∙◌, subst}
+use Rattle.std.proofs.Common.{length, not, sym, ap, ◌∙◌, subst}
 use Rattle.shared_steps.specs.Views.{is_dealt_to, dealt_to, left_over, kept_of}
 use Rattle.shared_steps.proofs.Dealing.{length-picked}
 use Rattle.shared_steps.proofs.Kept.{kept-picked}

@@ -1,15 +1,14 @@
-use Rattle.std.proofs.Common.{◌≡◌, ◌<◌, true, false, not, length, Some, None, refl, sym, ap, ◌∙◌, subst, arith}
-use Rattle.std.specs.Prelude.{unwrap_or, slice_set}
-use Rattle.std.specs.Option.{is_some}
+use Rattle.std.proofs.Common.{Some, sym, ap, ◌∙◌, arith}
+use Rattle.std.specs.Prelude.{slice_set}
 use Rattle.std.proofs.lemmas.List.{length-set}
-use Rattle.shared_steps.specs.Views.{machine_of, kept_of}
+use Rattle.shared_steps.specs.Views.{kept_of}
 use Rattle.shared_steps.proofs.Kept.{kept-set}
-use Rattle.heap_machines.specs.Shown.{shown, order_of, heap_of, has_turn}
+use Rattle.heap_machines.specs.Shown.{shown, order_of}
 use Rattle.std.specs.Option.{option_copied_mut}
 use Rattle.shen_graph.specs.declared.order.Order.TheVariants.{End}
 use Rattle.step_core.specs.Actor.{fresh_helper}
 use Rattle.heap_machines.specs.Roles.{is_mutating}
-use Rattle.step_core.specs.Machines.{takes_of, may_begin, made_of_machine}
+use Rattle.step_core.specs.Machines.{takes_of, may_begin}
 use Rattle.table_heap.proofs.Places.{within, read_here, never_none, shows_as, put_same}
 use Rattle.table_heap.proofs.Stepping.{heap_put}
 use Rattle.table_heap.proofs.bundle.Bundle.finish.Goals as goal

@@ -1,9 +1,8 @@
-use Rattle.std.proofs.Common.{◌≡◌, ℕ, length, Option, Some, None, refl, sym, ap, ◌∙◌, subst}
+use Rattle.std.proofs.Common.{◌≡◌, length, sym, ap, ◌∙◌, subst}
 use Rattle.heap_words.specs.Ranges.{seat_count}
-use Rattle.shared_steps.specs.Views.{View, machine_of, merged, one_of, kept_of}
+use Rattle.shared_steps.specs.Views.{merged, kept_of}
 use Rattle.shared_steps.proofs.Dealing.{length-merged}
 use Rattle.shared_steps.proofs.Kept.{kept-merged}
-use Rattle.shared_steps.proofs.Shown.{machine_of-merged}
 use Rattle.heap_machines.specs.Shown.{shown, order_of}
 use Rattle.table_heap.specs.Core.{machine_in}
 use Rattle.table_heap.specs.Known.{AreOfHeap}

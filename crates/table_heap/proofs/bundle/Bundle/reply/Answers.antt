@@ -1,4 +1,4 @@
-use Rattle.std.proofs.Common.{◌≡◌, ◌≢◌, ◌<◌, length, Some, None, sym, ap, ◌∙◌, subst, arith}
+use Rattle.std.proofs.Common.{◌≢◌, None, ap, ◌∙◌, subst, arith}
 use Rattle.heap_machines.specs.Shown.{shown}
 use Rattle.step_core.specs.Actor.{fresh_helper}
 use Rattle.step_core.specs.Machines.{reply_in}

@@ -1,20 +1,18 @@
-use Rattle.std.proofs.Common.{◌≡◌, ◌≢◌, ◌<◌, true, false, not, length, Some, None, refl, sym, ap, ◌∙◌, subst, arith}
-use Rattle.std.specs.Prelude.{unwrap_or, slice_set, ◌↔◌}
-use Rattle.std.specs.Option.{is_some, option_copied_mut}
+use Rattle.std.proofs.Common.{◌≡◌, ◌<◌, true, not, Some, refl, sym, ap, ◌∙◌, subst, arith}
+use Rattle.std.specs.Prelude.{slice_set}
+use Rattle.std.specs.Option.{option_copied_mut}
 use Rattle.std.proofs.lemmas.Bool.{false≢true}
 use Rattle.std.proofs.lemmas.List.{length-set}
 use Rattle.heap_words.specs.Access.{place_of}
 use Rattle.heap_words.specs.Words.{table_words}
-use Rattle.heap_words.specs.declared.access.Took.TheVariants as took
 use Rattle.shen_graph.specs.declared.order.Order.TheVariants.{Nothing}
-use Rattle.shared_steps.specs.Views.{machine_of, kept_of}
+use Rattle.shared_steps.specs.Views.{kept_of}
 use Rattle.shared_steps.proofs.Kept.{kept-set}
 use Rattle.shared_steps.proofs.Numbers.{same_none}
 use Rattle.heap_machines.specs.Answer.{stepped_of, stepped_by, says}
-use Rattle.heap_machines.specs.declared.stepped.Stepped.TheVariants as stepped
-use Rattle.heap_machines.specs.Shown.{shown, order_of, heap_of, has_turn}
+use Rattle.heap_machines.specs.Shown.{shown, order_of, heap_of}
 use Rattle.step_core.specs.Actor.{fresh_helper}
-use Rattle.step_core.specs.Machines.{takes_of, plan_of, answer_of, place_in, reply_in}
+use Rattle.step_core.specs.Machines.{takes_of, place_in, reply_in}
 use Rattle.table_heap.specs.State as State
 use Rattle.table_heap.specs.State.{order_at}
 use Rattle.table_heap.proofs.Places.{within, read_here, never_none, shows_as, put_same, put_there}

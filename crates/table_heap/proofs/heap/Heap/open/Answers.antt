@@ -1,10 +1,8 @@
-use Rattle.std.proofs.Common.{◌≡◌, ℕ, ◌+◌, not, [], ◌∷◌, ◌++◌, length, Some, refl, sym, ap, ◌∙◌, subst, arith}
+use Rattle.std.proofs.Common.{◌+◌, not, [], ◌∷◌, length, sym, ap, ◌∙◌, arith}
 use Rattle.std.specs.Prelude.{slice_get}
 use Rattle.std.proofs.lemmas.List.{length-append}
-use Rattle.shared_steps.specs.Views.{View, machine_of, whole, left_over, is_dealt_below, is_dealt_to, dealt_to}
-use Rattle.shen_graph.specs.declared.order.Order.TheVariants.{Nothing}
+use Rattle.shared_steps.specs.Views.{View, machine_of, whole, left_over, is_dealt_to, dealt_to}
 use Rattle.step_core.specs.Actor.{Actor}
-use Rattle.table_heap.specs.declared.bundle.Bundle.{Bundle}
 use Rattle.table_heap.specs.Core.{heap_opening}
 use Rattle.table_heap.specs.State.{IsFresh, orders_of}
 use Rattle.table_heap.proofs.Opened.{picked_some, left_first, dealt_next, left_next, each_more}

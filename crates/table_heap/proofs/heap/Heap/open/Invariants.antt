@@ -5,7 +5,7 @@ use Rattle.shen_graph.specs.declared.order.Order.{Order}
 use Rattle.shen_graph.specs.declared.order.Order.TheVariants.{Nothing}
 use Rattle.table_heap.specs.declared.bundle.Bundle.{Bundle}
 use Rattle.table_heap.specs.Core.{heap_opening}
-use Rattle.table_heap.specs.State.{config_of, view_of, orders_of, IsOf, IsFresh}
+use Rattle.table_heap.specs.State.{view_of, orders_of, IsOf, IsFresh}
 use Rattle.table_heap.proofs.heap.Heap.open.Given as goal
 
 abbrev pub invariant-loop-bundle : goal.invariant-loop-bundle

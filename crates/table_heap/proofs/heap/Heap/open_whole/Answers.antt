@@ -1,8 +1,8 @@
-use Rattle.std.proofs.Common.{◌≡◌, length, refl, sym, ap, ◌∙◌, subst}
-use Rattle.shared_steps.specs.Views.{machine_of, whole, kept_of}
+use Rattle.std.proofs.Common.{length, refl, sym, ap, ◌∙◌, subst}
+use Rattle.shared_steps.specs.Views.{machine_of, kept_of}
 use Rattle.step_core.proofs.OpeningStands.{length-opening}
 use Rattle.heap_machines.specs.Shown.{shown, order_of}
-use Rattle.table_heap.specs.Core.{heap_opening, machine_in}
+use Rattle.table_heap.specs.Core.{machine_in}
 use Rattle.table_heap.specs.Known.{AreOfHeap}
 use Rattle.table_heap.proofs.Core.{first_words}
 use Rattle.table_heap.proofs.Opened.{opened_count, opened_kept, opened_of_heap, opened_orders}
