@@ -60,7 +60,7 @@ fn steps_of(words: &[String]) -> Option<u64>
     }
 }
 
-/// Runs the schedule of a trace, and then rounds, on a heap of its own, until all machines are idle.
+/// Runs the schedule of a trace, and then rounds, on a heap of its own, until all mutators have ended and the control has.
 fn run(alloc: Global, trace: Trace, steps: u64) -> Result<(Work, Plain), Refusal>
     requires { (bytes : List ℕ) × Reads bytes trace.config trace.scripts trace.schedule }
     ensures finished { IfOk result (λ x. HasFinished trace.config trace.scripts trace.schedule steps x.0 x.1) }
@@ -155,9 +155,9 @@ fn replay<S: Source, K: Sink>(alloc: Global, steps: u64, source: &mut S, sink: &
 }
 
 /// Runs the program on these words of the command line, which are without the program's name. `replay` reads a trace from
-/// the source to its end, runs its schedule and then rounds, and writes the replies and the final graph to the sink; with
-/// `--steps N` it makes N steps at most. Any other words are refused before anything is read. Where there is no answer one
-/// line says why; if that cannot be written either, the status is `WriteFault`.
+/// the source to its end, runs its schedule and then rounds on a heap that collects in pauses, and writes the replies and the
+/// final graph to the sink; with `--steps N` it makes N steps at most. Any other words are refused before anything is read.
+/// Where there is no answer one line says why; if that cannot be written either, the status is `WriteFault`.
 pub fn shenrun<S: Source, K: Sink>(
     alloc: Global,
     words: &[String],
@@ -165,7 +165,9 @@ pub fn shenrun<S: Source, K: Sink>(
     sink: &mut K,
 ) -> Status
     // The replies and the graph that are written are those of one legal history, that of exactly the events of the schedule
-    // and of the rounds after it, in which each thread's commands are its script.
+    // and of the rounds after it, in which each thread's commands are its script. It is a history of a graph that never
+    // moves or frees an object, whatever pauses collect; and it has an allocation that was refused only where live objects
+    // and the other threads' allocations that were not answered yet crowded the regions.
     ensures headline { result ≡ Status.Ok → (steps : ℕ) × IsReplay (map string_bytes words.now) steps × ((bytes : List ℕ) × ((out : List ℕ)
         × Came (S.left source.old) (S.left source.new) bytes × IsReplayed bytes steps out × Appends (K.written sink.old) (K.written sink.new) out)) }
 
