@@ -28,14 +28,6 @@ module _ {R O : Type 0} (kind : Kind R O) (start : Stage R) {S : Type 0} where
     dealt = subst (λ (x : Stage R). IsDealt x.machines (whole start.machines ∷ [])) (sym (go-none kind start)) (dealt_first start.machines);
   }
 
-  names : (from : Stage R) (named : ℕ) (given : Option O) (number : ℕ) (order : O) (before : Me S (View R)) (told : ℕ) (after : Me S (View R))
-      → from ≡ start → named ≡ number → given ≡ Some order → Took kind start number order before told after → TookAs kind from named given before told after
-  names from named given number order before told after same_start same_number same_order took o is =
-      let same : order ≡ o = cc (same_order, is) in
-      let a : Took kind start number o before told after = subst (λ (p : O). Took kind start number p before told after) same took in
-      let b : Took kind start named o before told after = subst (λ (n : ℕ). Took kind start n o before told after) (sym same_number) a in
-      subst (λ (x : Stage R). Took kind x named o before told after) (sym same_start) b
-
   module _ (id number : ℕ) (me : Me S (View R)) (r : R) (order : O) (here : machine_of me.0 number ≡ Some r) (takes : kind.takes r order ≡ true) where
     -- the words and views after the step are those after one more event
     planned_move : (s : State S (View R)) (kept : Rule kind start s) → get_elem? s.views id ≡ some me.0
@@ -83,33 +75,6 @@ module _ {R O : Type 0} (kind : Kind R O) (start : Stage R) {S : Type 0} where
         subst (λ (a : Access). Allows (Rule kind start) slots id me (place_of a) (made_of a) (λ found. Took kind start number order me found)) planned
         (λ s kept homes at small. let m = planned_move s kept at in (_, keeps, tt, m.0, m.1))
 
-    -- the same with the machine and the order as a step of the table names them
-    pub asks : (slots : ℕ) (from : Stage R) (named : ℕ) (given : Option O) → from ≡ start → named ≡ number → given ≡ Some order
-        → (access : Access) → kind.plan r order ≡ access
-        → Allows (Rule kind start) slots id me (place_of access) (made_of access) (TookAs kind from named given me)
-    asks slots from named given same_start same_number same_order access planned s kept homes at small =
-        let m = moves slots access planned s kept homes at small in
-        (m.0, m.1, m.2, m.3, names from named given number order me _ _ same_start same_number same_order m.4)
-
-  -- what a step of the table asks, where the access has this form
-  pub can_step : (id number : ℕ) (me : Me S (View R)) (order : O) (slots words : ℕ) (from : Stage R) (named : ℕ) (given : Option O) (access form : Access)
-      → (from ≡ start) × (named ≡ number) × (given ≡ Some order)
-      → (r : R) × (machine_of me.0 number ≡ Some r) × (kind.takes r order ≡ true) × (kind.plan r order ≡ access)
-      → place_of access < words → access ≡ form
-      → (place_of form < words) × Allows (Rule kind start) slots id me (place_of form) (made_of form) (TookAs kind from named given me)
-  can_step id number me order slots words from named given access form turn m inside is = (
-    subst (λ (a : Access). place_of a < words) is inside,
-    asks id number me m.0 order m.1 m.2 slots from named given turn.0 turn.1 turn.2 form (m.3 ∙ is),
-  )
-
-  -- what a step of the table tells
-  pub step_told : (number : ℕ) (before : Me S (View R)) (order : O) (from : Stage R) (named : ℕ) (given : Option O) (told : ℕ) (after : Me S (View R))
-      → (from ≡ start) × (named ≡ number) × (given ≡ Some order) → TookAs kind from named given before told after → Took kind start number order before told after
-  step_told number before order from named given told after turn told_as =
-      let a : Took kind from named order before told after = told_as order turn.2 in
-      let b : Took kind from number order before told after = subst (λ (n : ℕ). Took kind from n order before told after) turn.1 a in
-      subst (λ (x : Stage R). Took kind x number order before told after) turn.0 b
-
   pub splits : (id : ℕ) (view : View R) (test : ℕ → Bool) → Splits (Rule kind start {S = S}) id view (left_over test view) (picked test view)
   splits id view test s kept at = record {
     events = kept.events;
@@ -151,3 +116,34 @@ module _ {R O : Type 0} (kind : Kind R O) (start : Stage R) {S : Type 0} where
     tells = tells;
     begins = begins kind start;
   }
+
+-- The same of a table whose key says which kind and which opening, with the key, the machine and the order as a step names
+-- them.
+module _ {R O K : Type 0} (kinds : K → Kind R O) (starts : K → Stage R) (key : K) {S : Type 0} where
+  names : (at : Option K) (named : ℕ) (given : Option O) (number : ℕ) (order : O) (before : Me S (View R)) (told : ℕ) (after : Me S (View R))
+      → at ≡ Some key → named ≡ number → given ≡ Some order → Took (kinds key) (starts key) number order before told after → TookAs kinds starts at named given before told after
+  names at named given number order before told after same_key same_number same_order took k o is_key is_order =
+      let key_is : key ≡ k = cc (same_key, is_key) in
+      let order_is : order ≡ o = cc (same_order, is_order) in
+      let a : Took (kinds key) (starts key) number o before told after = subst (λ (p : O). Took (kinds key) (starts key) number p before told after) order_is took in
+      let b : Took (kinds key) (starts key) named o before told after = subst (λ (n : ℕ). Took (kinds key) (starts key) n o before told after) (sym same_number) a in
+      subst (λ (x : K). Took (kinds x) (starts x) named o before told after) key_is b
+
+  -- what a step of the table asks, where the access has this form
+  pub can_step : (id number : ℕ) (me : Me S (View R)) (order : O) (slots words : ℕ) (at : Option K) (named : ℕ) (given : Option O) (access form : Access)
+      → (at ≡ Some key) × (named ≡ number) × (given ≡ Some order)
+      → (r : R) × (machine_of me.0 number ≡ Some r) × ((kinds key).takes r order ≡ true) × ((kinds key).plan r order ≡ access)
+      → place_of access < words → access ≡ form
+      → (place_of form < words) × Allows (Rule (kinds key) (starts key)) slots id me (place_of form) (made_of form) (TookAs kinds starts at named given me)
+  can_step id number me order slots words at named given access form turn m inside is = (
+    subst (λ (a : Access). place_of a < words) is inside,
+    (λ s kept homes there small.
+    let step = moves (kinds key) (starts key) id number me m.0 order m.1 m.2 slots form (m.3 ∙ is) s kept homes there small in
+    (step.0, step.1, step.2, step.3, names at named given number order me _ _ turn.0 turn.1 turn.2 step.4)),
+  )
+
+  -- what a step of the table tells
+  pub step_told : (number : ℕ) (before : Me S (View R)) (order : O) (at : Option K) (named : ℕ) (given : Option O) (told : ℕ) (after : Me S (View R))
+      → (at ≡ Some key) × (named ≡ number) × (given ≡ Some order) → TookAs kinds starts at named given before told after → Took (kinds key) (starts key) number order before told after
+  step_told number before order at named given told after turn told_as =
+      subst (λ (n : ℕ). Took (kinds key) (starts key) n order before told after) turn.1 (told_as key order turn.0 turn.2)

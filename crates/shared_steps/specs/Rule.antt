@@ -33,6 +33,7 @@ module _ {R O : Type 0} (kind : Kind R O) (start : Stage R) where
   abbrev pub AreReached : View R → Type 0
   AreReached view = (number : ℕ) (r : R) → machine_of view number ≡ Some r → ∥ HasReached kind start number r ∥₁
 
--- the same, of the order that is named
-abbrev pub TookAs : {R O S : Type 0} → Kind R O → Stage R → ℕ → Option O → Me S (View R) → ℕ → Me S (View R) → Type 0
-TookAs {R} {O} {S} kind start number order before told after = (named : O) → order ≡ Some named → Took kind start number named before told after
+-- the same, of a table whose key says which kind and which opening, where key and order are named
+abbrev pub TookAs : {R O K S : Type 0} → (K → Kind R O) → (K → Stage R) → Option K → ℕ → Option O → Me S (View R) → ℕ → Me S (View R) → Type 0
+TookAs {R} {O} {K} {S} kinds starts key number order before told after =
+    (at : K) (named : O) → key ≡ Some at → order ≡ Some named → Took (kinds at) (starts at) number named before told after

@@ -56,7 +56,7 @@ pub fn close_table<R, O, K, M: Machines<R, O, K>>(
     requires all { IsWhole (length (M.opening table.shared.key).machines) seat.me.0 }
     ensures words { IsFull result.words × (slots_len result.words ≡ table.shared.table_id.words) }
     ensures slots { slots_len result.slots ≡ table.shared.table_id.slots }
-    ensures reached { IsReached M.kind (M.opening table.shared.key) (record { words = slots_items result.words; machines = machines_of seat.me.0 }) }
+    ensures reached { IsReached (M.kind table.shared.key) (M.opening table.shared.key) (record { words = slots_items result.words; machines = machines_of seat.me.0 }) }
 {
     table.close_with(seat)
 }

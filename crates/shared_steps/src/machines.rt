@@ -20,9 +20,9 @@ pub type SharedWords<R, O, K, M> = Shared<(), View<R>, K, StepsRule<R, O, M>>;
 /// The right to make the steps of the machines of its view. It has no bytes.
 pub type ViewSeat<R> = Seat<(), View<R>>;
 
-/// A kind of machine, by its records `R`, its orders `O`, and what a table of them begins with, by a key.
+/// A kind of machine by a key, with records `R` and orders `O`, and what a table of them begins with.
 pub trait Machines<R, O, K> {
-    ghost kind: { Kind R O };
+    ghost kind: { K → Kind R O };
 
     ghost opening: { K → Stage R };
 }
@@ -34,22 +34,22 @@ pub struct StepsRule<R, O, M> {
 }
 
 impl<R, O, K, M: Machines<R, O, K>> TableRule<(), View<R>, K> for StepsRule<R, O, M> {
-    ghost holds = { λ key. Rule M.kind (M.opening key) };
+    ghost holds = { λ key. Rule (M.kind key) (M.opening key) };
 
     ghost first = { λ key. whole (M.opening key).machines };
 }
 
-/// Whose turn it is at a step: of a table with this opening, the machine with this number, under this order.
-pub trait Turn<R, O> {
-    ghost start: { Stage R };
+/// Whose turn it is at a step: of a table with this key, the machine with this number, under this order.
+pub trait Turn<K, O> {
+    ghost key: { Option K };
 
     ghost number: { ℕ };
 
     ghost order: { Option O };
 }
 
-impl<R, O> Turn<R, O> for Brand {
-    ghost start = { record { words = []; machines = [] } };
+impl<K, O> Turn<K, O> for Brand {
+    ghost key = { None };
 
     ghost number = { 0 };
 
@@ -61,8 +61,8 @@ pub struct Turns<R, O, K, M, G> {
     marker: PhantomData<(R, O, K, M, G)>,
 }
 
-impl<R, O, K, M: Machines<R, O, K>, G: Turn<R, O>> Play<(), View<R>> for Turns<R, O, K, M, G> {
-    ghost then = { λ _. TookAs M.kind G.start G.number G.order };
+impl<R, O, K, M: Machines<R, O, K>, G: Turn<K, O>> Play<(), View<R>> for Turns<R, O, K, M, G> {
+    ghost then = { λ _. TookAs M.kind M.opening G.key G.number G.order };
 }
 
 /// How a bundle is dealt from others: of so many bundles, which one.

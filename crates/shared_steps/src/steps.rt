@@ -9,7 +9,7 @@ use heap_words::Access;
 /// Makes the access of the next step of the seat's machine `number` under this order, and returns the word that it found.
 /// The access is one of any form; a store is a swap, so that the word before it is known. Called with `Brand` for `G`, whose
 /// members the caller's proof picks from the arguments.
-pub fn make_step<R, O, K, M: Machines<R, O, K>, G: Turn<R, O>>(
+pub fn make_step<R, O, K, M: Machines<R, O, K>, G: Turn<K, O>>(
     table: &SharedWords<R, O, K, M>,
     seat: &mut ViewSeat<R>,
     number: usize,
@@ -18,10 +18,10 @@ pub fn make_step<R, O, K, M: Machines<R, O, K>, G: Turn<R, O>>(
 ) -> u64
     requires table { seat.old.table_id ≡ table.now.table_id }
     requires inside { place_of access < table.now.table_id.words }
-    requires turn { (G.start ≡ M.opening table.now.key) × (G.number ≡ number) × (G.order ≡ Some order.now) }
-    requires machine { (machine : R) × (machine_of seat.old.me.0 number ≡ Some machine) × (M.kind.takes machine order.now ≡ true) × (M.kind.plan machine order.now ≡ access) }
+    requires turn { (G.key ≡ Some table.now.key) × (G.number ≡ number) × (G.order ≡ Some order.now) }
+    requires machine { (machine : R) × (machine_of seat.old.me.0 number ≡ Some machine) × ((M.kind table.now.key).takes machine order.now ≡ true) × ((M.kind table.now.key).plan machine order.now ≡ access) }
     ensures table { (seat.new.table_id ≡ seat.old.table_id) × (seat.new.id ≡ seat.old.id) }
-    ensures took { Took M.kind (M.opening table.now.key) number order.now seat.old.me result seat.new.me }
+    ensures took { Took (M.kind table.now.key) (M.opening table.now.key) number order.now seat.old.me result seat.new.me }
 {
     match access {
         Access::Load { at } => table.load::<Turns<R, O, K, M, G>>(seat, at),

@@ -17,7 +17,7 @@ use std::thread::{Threads, join};
 pub struct OfAdders;
 
 impl Machines<Worker, Wish, usize> for OfAdders {
-    ghost kind = { adders_kind };
+    ghost kind = { λ _. adders_kind };
 
     ghost opening = { opening };
 }

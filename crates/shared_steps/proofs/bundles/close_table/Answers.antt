@@ -5,5 +5,5 @@ use Rattle.shared_steps.proofs.bundles.close_table.Goals as goal
 
 pub returns-clause-reached : goal.returns-clause-reached
 returns-clause-reached g c =
-    closes g.M.Machines.kind (g.M.Machines.opening c.args.table.shared.key) c.args.seat.id c.args.seat.me.0 (slots_items c.close_with.result.words) (slots_items c.close_with.result.slots)
+    closes (g.M.Machines.kind c.args.table.shared.key) (g.M.Machines.opening c.args.table.shared.key) c.args.seat.id c.args.seat.me.0 (slots_items c.close_with.result.words) (slots_items c.close_with.result.slots)
     c.requires.all c.close_with.ensures.values.2

@@ -7,5 +7,5 @@ pub split_seat-requires : goal.split_seat-requires
 split_seat-requires g c = (
   c.requires.table.0,
   c.requires.table.1,
-  splits g.M.Machines.kind (g.M.Machines.opening c.args.table.now.key) c.args.seat.now.id c.args.seat.now.me.0 (is_dealt_to g.G.Cut.bundles g.G.Cut.bundle),
+  splits (g.M.Machines.kind c.args.table.now.key) (g.M.Machines.opening c.args.table.now.key) c.args.seat.now.id c.args.seat.now.me.0 (is_dealt_to g.G.Cut.bundles g.G.Cut.bundle),
 )

@@ -8,5 +8,5 @@ join_seat-requires g c = (
   c.requires.table.1,
   c.requires.slots,
   c.requires.table.2,
-  joins g.M.Machines.kind (g.M.Machines.opening c.args.table.now.key) c.args.seat.now.id c.args.other.id c.args.seat.now.me.0 c.args.other.me.0,
+  joins (g.M.Machines.kind c.args.table.now.key) (g.M.Machines.opening c.args.table.now.key) c.args.seat.now.id c.args.other.id c.args.seat.now.me.0 c.args.other.me.0,
 )

@@ -1,0 +1,5 @@
+pub mod Core
+pub mod Places
+pub mod Said
+pub mod Stepping
+pub mod Opened

@@ -1,0 +1,25 @@
+-- What a step that was made says.
+use Rattle.std.proofs.Common.{◌≡◌, Some, refl}
+use Rattle.heap_words.specs.declared.access.Took.{Took}
+use Rattle.heap_words.specs.declared.access.Took.TheVariants as took
+use Rattle.heap_machines.specs.declared.stepped.Stepped.TheVariants as stepped
+use Rattle.heap_machines.specs.Answer.{stepped_of, stepped_by}
+use Rattle.std.specs.Prelude.{Option, None}
+
+-- a machine that makes a step does not say that it is idle
+pub never_idle : (said : Took) → stepped_of said ≡ stepped.Idle → ⊥
+never_idle took.More is = cc
+never_idle took.Again is = cc
+never_idle took.Done is = cc
+
+-- one that has ended its call says so, and no other does
+pub done_only : (said : Took) → stepped_of said ≡ stepped.Done → said ≡ took.Done
+done_only took.More is = absurd cc
+done_only took.Again is = absurd cc
+done_only took.Done is = refl
+
+pub done_by : (o : Option Took) → stepped_by o ≡ stepped.Done → o ≡ Some took.Done
+done_by None is = absurd cc
+done_by (Some took.More) is = absurd cc
+done_by (Some took.Again) is = absurd cc
+done_by (Some took.Done) is = refl

@@ -1,0 +1,107 @@
+-- The step of a machine of a bundle.
+use Rattle.std.proofs.Common.{◌≡◌, ℕ, Bool, true, false, Option, Some, None, refl, sym, ap, ◌∙◌, subst, arith}
+use Rattle.std.specs.Prelude.{slice_set, ◌==◌, if◌then◌else◌}
+use Rattle.std.proofs.lemmas.Bool.Decides.{nat_tests}
+use Rattle.atomic_table.specs.Table.{Me}
+use Rattle.heap_words.specs.declared.access.Access.{Access}
+use Rattle.heap_words.specs.declared.config.Config.{Config}
+use Rattle.shen_graph.specs.declared.order.Order.{Order}
+use Rattle.shared_steps.specs.Rule.{Took}
+use Rattle.shared_steps.specs.Views.{View, machine_of, kept_of, picked, merged, one_of, SameNumbers}
+use Rattle.shared_steps.proofs.Kept.{kept_can, kept_finds, kept_step, kept-set}
+use Rattle.shared_steps.proofs.Numbers.{same_step}
+use Rattle.shared_steps.proofs.Shown.{machine_of-set, machine_of-picked, machine_of-merged}
+use Rattle.heap_machines.specs.declared.machine.Machine.{Machine}
+use Rattle.heap_machines.specs.Shown.{shown, order_of, heap_of, has_turn}
+use Rattle.heap_machines.proofs.Turns.{role_stays}
+use Rattle.step_core.specs.Actor.{Actor}
+use Rattle.heap_machines.specs.Roles.{is_mutating}
+use Rattle.pause_laws.specs.Image.{full_image}
+use Rattle.step_core.specs.Fit.{IsFitFor}
+use Rattle.step_core.specs.Machines.{takes_of, plan_of, machine_after}
+use Rattle.table_heap.specs.Core.{heap_kind, heap_opening, machine_in}
+use Rattle.table_heap.specs.Known.{IsOfHeap, AreOfHeap}
+use Rattle.table_heap.proofs.Core.{kind_takes, kind_plan, kind_took, found_fits}
+use Rattle.table_heap.proofs.Places.{shows_here}
+
+module _ {S : Type 0} (c : Config) (items : View Machine) (before : Me S (View Actor)) (kept : kept_of machine_in before.0 ≡ kept_of shown items) (number : ℕ) (m : Machine) (here : machine_of items number ≡ Some m) where
+  -- memory has the machine of the view
+  seen_here : machine_of (kept_of machine_in before.0) number ≡ Some (shown m)
+  seen_here = ap (λ v. machine_of v number) kept ∙ shows_here shown items number m here
+
+  -- it can make its access
+  pub can : (access : Access) → heap_of m ≡ c → has_turn m ≡ true → access ≡ plan_of (heap_of m) (order_of m) (shown m)
+      → (a : Actor) × (machine_of before.0 number ≡ Some a) × ((heap_kind c).takes a (order_of m) ≡ true) × ((heap_kind c).plan a (order_of m) ≡ access)
+  can access heap takes row =
+      kept_can (heap_kind c) (heap_opening c) machine_in before.0 number (order_of m) (shown m) access seen_here
+      (λ a is. (
+        kind_takes c a (order_of m) ∙ ap (λ x. takes_of x (order_of m)) is ∙ takes,
+        kind_plan c a (order_of m) ∙ ap (plan_of c (order_of m)) is ∙ ap (λ k. plan_of k (order_of m) (shown m)) (sym heap) ∙ sym row,
+      ))
+
+  module _ (told : ℕ) (after : Me S (View Actor)) (took : Took (heap_kind c) (heap_opening c) number (order_of m) before told after) where
+    -- the word that it found is fit
+    pub fits : heap_of m ≡ c → IsFitFor (heap_of m) (order_of m) told (shown m)
+    fits heap =
+        let found = kept_finds (heap_kind c) (heap_opening c) machine_in number (order_of m) before after told (shown m) took seen_here in
+        subst (λ k. IsFitFor k (order_of m) told (shown m)) (sym heap)
+        (subst (λ x. IsFitFor c (order_of m) told x) found.1 (found_fits c number found.0 (order_of m) told found.2))
+
+    -- the bundle has the same numbers
+    pub numbers_stay : SameNumbers before.0 after.0
+    numbers_stay = subst (λ (v : View Actor). SameNumbers before.0 v) (sym took.view) (same_step before.0 number took.machine _ took.here)
+
+    module _ (n : Machine) (shown_is : shown n ≡ machine_after full_image (heap_of m) (order_of m) told (shown m)) (heap : heap_of m ≡ c) where
+      -- memory keeps what the view has
+      pub kept_after : kept_of machine_in after.0 ≡ kept_of shown (slice_set items number (Some n))
+      kept_after =
+          kept_step (heap_kind c) (heap_opening c) machine_in number (order_of m) before after told (shown m) (shown n) took seen_here
+          (λ a is. ap machine_in (kind_took c a (order_of m) told) ∙ ap (machine_after full_image c (order_of m) told) is ∙ ap (λ k. machine_after full_image k (order_of m) told (shown m)) (sym heap) ∙ sym shown_is)
+          ∙ ap (λ v. slice_set v number (Some (shown n))) kept
+          ∙ sym (kept-set shown items number (Some n))
+
+      -- its machines are still of the heap
+      pub role_after : is_mutating (shown n) ≡ is_mutating (shown m)
+      role_after = ap is_mutating shown_is ∙ role_stays full_image (heap_of m) (order_of m) told (shown m)
+
+-- the same step, with other names for key and order
+pub took_as : {S : Type 0} (k c : Config) (number : ℕ) (o p : Order) (before : Me S (View Actor)) (told : ℕ) (after : Me S (View Actor)) → k ≡ c → o ≡ p
+    → Took (heap_kind k) (heap_opening k) number o before told after → Took (heap_kind c) (heap_opening c) number p before told after
+took_as k c number o p before told after same order took =
+    subst (λ (x : Config). Took (heap_kind x) (heap_opening x) number p before told after) same
+    (subst (λ (x : Order). Took (heap_kind k) (heap_opening k) number x before told after) order took)
+
+pub can_as : (k c : Config) (view : View Actor) (number : ℕ) (o p : Order) (access : Access) → k ≡ c → o ≡ p
+    → (a : Actor) × (machine_of view number ≡ Some a) × ((heap_kind c).takes a p ≡ true) × ((heap_kind c).plan a p ≡ access)
+    → (a : Actor) × (machine_of view number ≡ Some a) × ((heap_kind k).takes a o ≡ true) × ((heap_kind k).plan a o ≡ access)
+can_as k c view number o p access same order can_it =
+    subst (λ (x : Config). (a : Actor) × (machine_of view number ≡ Some a) × ((heap_kind x).takes a o ≡ true) × ((heap_kind x).plan a o ≡ access)) (sym same)
+    (subst (λ (x : Order). (a : Actor) × (machine_of view number ≡ Some a) × ((heap_kind c).takes a x ≡ true) × ((heap_kind c).plan a x ≡ access)) (sym order) can_it)
+
+-- a machine that is put in the place of another of the same heap and role
+pub heap_put : (c : Config) (items : View Machine) (number : ℕ) (m n : Machine) → machine_of items number ≡ Some m → heap_of n ≡ heap_of m → is_mutating (shown n) ≡ is_mutating (shown m) → AreOfHeap c items → AreOfHeap c (slice_set items number (Some n))
+heap_put c items number m n here heap role are k x there = by_number (k == number) refl (sym (machine_of-set items number m (Some n) here k) ∙ there)
+  where
+    by_number : (b : Bool) → (k == number) ≡ b → (if k == number then Some n else machine_of items k) ≡ Some x → IsOfHeap c k x
+    by_number true is found =
+        let same : k ≡ number = grind (arith, nat_tests) in
+        let new : n ≡ x = cc (rw is at found) in
+        let old = are number m here in
+        subst (λ y. IsOfHeap c k y) new (subst (λ j. IsOfHeap c j n) (sym same) (record { heap = heap ∙ old.heap; role = role ∙ old.role }))
+    by_number false is found = are k x (rw is at found)
+
+-- so are some of its machines
+pub heap_picked : (c : Config) (test : ℕ → Bool) (v : View Machine) → AreOfHeap c v → AreOfHeap c (picked test v)
+heap_picked c test v are k x there = by_test (test k) (sym (machine_of-picked test v k) ∙ there)
+  where
+    by_test : (b : Bool) → (if b then machine_of v k else None) ≡ Some x → IsOfHeap c k x
+    by_test true found = are k x found
+    by_test false found = absurd cc
+
+-- the machines of two bundles of a heap are of it
+pub heap_merged : (c : Config) (v w : View Machine) → AreOfHeap c v → AreOfHeap c w → AreOfHeap c (merged v w)
+heap_merged c v w first second k x there = by_first (machine_of v k) refl (sym (machine_of-merged v w k) ∙ there)
+  where
+    by_first : (o : Option Machine) → machine_of v k ≡ o → one_of (machine_of v k) (machine_of w k) ≡ Some x → IsOfHeap c k x
+    by_first None is found = second k x (sym (ap (λ y. one_of y (machine_of w k)) is) ∙ found)
+    by_first (Some m) is found = first k x (is ∙ sym (ap (λ y. one_of y (machine_of w k)) is) ∙ found)

@@ -1,0 +1,56 @@
+use Rattle.std.proofs.Common.{Some, sym, ap, ◌∙◌, arith}
+use Rattle.std.specs.Prelude.{slice_set}
+use Rattle.std.proofs.lemmas.List.{length-set}
+use Rattle.shared_steps.specs.Views.{kept_of}
+use Rattle.shared_steps.proofs.Kept.{kept-set}
+use Rattle.heap_machines.specs.Shown.{shown, order_of}
+use Rattle.std.specs.Option.{option_copied_mut}
+use Rattle.shen_graph.specs.declared.order.Order.TheVariants.{End}
+use Rattle.step_core.specs.Actor.{fresh_helper}
+use Rattle.heap_machines.specs.Roles.{is_mutating}
+use Rattle.step_core.specs.Machines.{takes_of, may_begin}
+use Rattle.table_heap.proofs.Places.{within, read_here, never_none, shows_as, put_same}
+use Rattle.table_heap.proofs.Stepping.{heap_put}
+use Rattle.table_heap.proofs.bundle.Bundle.finish.Goals as goal
+
+pub index_mut-requires : goal.index_mut-requires
+index_mut-requires c = let inside = within shown c.args.self.now.machines.items c.args.number c.requires.here in omega arith
+
+pub unreachable-requires : goal.unreachable-requires
+unreachable-requires c =
+    never_none shown c.args.self.now.machines.items c.args.number c.index_mut.result.now c.requires.here c.index_mut.ensures.value
+    (sym c.as_mut.ensures.value ∙ ap option_copied_mut c.in_default.is)
+
+pub finish-requires : goal.finish-requires
+finish-requires c =
+    let b = c.args.self.now in
+    let m = c.in-Some.machine.now in
+    let inside = within shown b.machines.items c.args.number c.requires.here in
+    let here = read_here shown b.machines.items c.args.number c.index_mut.result.now m inside c.index_mut.ensures.value (sym c.as_mut.ensures.value ∙ ap option_copied_mut c.in-Some.is) in
+    ap may_begin (sym (shows_as shown b.machines.items c.args.number m fresh_helper here)) ∙ c.requires.rest
+
+pub invariant_of-self : goal.invariant_of-self
+invariant_of-self c =
+    let b = c.args.self.now in
+    let m = c.in-Some.machine.now in
+    let inside = within shown b.machines.items c.args.number c.requires.here in
+    let here = read_here shown b.machines.items c.args.number c.index_mut.result.now m inside c.index_mut.ensures.value (sym c.as_mut.ensures.value ∙ ap option_copied_mut c.in-Some.is) in
+    let n = c.finish.new.self in
+    record {
+      seats = length-set b.machines.items _ _ ∙ b.seats;
+      kept = b.kept ∙ sym (put_same shown b.machines.items c.args.number m n here c.finish.ensures.shown);
+      slots = b.slots;
+      of_heap = heap_put b.config b.machines.items c.args.number m n here c.finish.ensures.heap (ap is_mutating c.finish.ensures.shown) b.of_heap;
+    }
+
+pub returns-clause-order : goal.returns-clause-order
+returns-clause-order c =
+    kept-set order_of c.args.self.now.machines.items c.args.number (Some c.finish.new.self) ∙ ap (λ o. slice_set (kept_of order_of c.args.self.now.machines.items) c.args.number (Some o)) c.finish.ensures.order
+
+pub returns-clause-takes : goal.returns-clause-takes
+returns-clause-takes c =
+    let b = c.args.self.now in
+    let m = c.in-Some.machine.now in
+    let inside = within shown b.machines.items c.args.number c.requires.here in
+    let here = read_here shown b.machines.items c.args.number c.index_mut.result.now m inside c.index_mut.ensures.value (sym c.as_mut.ensures.value ∙ ap option_copied_mut c.in-Some.is) in
+    ap (λ x. takes_of x (End)) (shows_as shown b.machines.items c.args.number m fresh_helper here) ∙ c.finish.ensures.takes

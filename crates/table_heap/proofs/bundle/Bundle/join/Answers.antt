@@ -1,0 +1,33 @@
+use Rattle.std.proofs.Common.{◌≡◌, length, sym, ap, ◌∙◌, subst}
+use Rattle.heap_words.specs.Ranges.{seat_count}
+use Rattle.shared_steps.specs.Views.{merged, kept_of}
+use Rattle.shared_steps.proofs.Dealing.{length-merged}
+use Rattle.shared_steps.proofs.Kept.{kept-merged}
+use Rattle.heap_machines.specs.Shown.{shown, order_of}
+use Rattle.table_heap.specs.Core.{machine_in}
+use Rattle.table_heap.specs.Known.{AreOfHeap}
+use Rattle.table_heap.proofs.Stepping.{heap_merged}
+use Rattle.table_heap.proofs.bundle.Bundle.join.Goals as goal
+
+pub join_machines-requires : goal.join_machines-requires
+join_machines-requires c =
+    c.args.self.seats ∙ ap (λ k. seat_count k.mutators k.helpers) (c.requires.this.config ∙ sym c.requires.other.config) ∙ sym c.args.other.seats
+
+pub invariant_of-self : goal.invariant_of-self
+invariant_of-self c =
+    let a = c.args.self in
+    let b = c.args.other in
+    let long : length a.machines.items ≡ length b.machines.items =
+    a.seats ∙ ap (λ k. seat_count k.mutators k.helpers) (c.requires.this.config ∙ sym c.requires.other.config) ∙ sym b.seats in
+    record {
+      seats = ap length c.join_machines.ensures ∙ length-merged a.machines.items b.machines.items long ∙ a.seats;
+      kept = ap (λ me. kept_of machine_in me.0) c.join_bundle.ensures.1 ∙ kept-merged machine_in a.seat.me.0 b.seat.me.0
+          ∙ ap (λ v. merged v (kept_of machine_in b.seat.me.0)) a.kept ∙ ap (merged (kept_of shown a.machines.items)) b.kept
+          ∙ sym (ap (kept_of shown) c.join_machines.ensures ∙ kept-merged shown a.machines.items b.machines.items);
+      slots = ap (λ me. me.1) c.join_bundle.ensures.1 ∙ a.slots;
+      of_heap = subst (AreOfHeap a.config) (sym c.join_machines.ensures)
+          (heap_merged a.config a.machines.items b.machines.items a.of_heap (subst (λ k. AreOfHeap k b.machines.items) (c.requires.other.config ∙ sym c.requires.this.config) b.of_heap));
+    }
+
+pub returns-clause-orders : goal.returns-clause-orders
+returns-clause-orders c = ap (kept_of order_of) c.join_machines.ensures ∙ kept-merged order_of c.args.self.machines.items c.args.other.machines.items

@@ -1,0 +1,28 @@
+use Rattle.std.proofs.Common.{◌≢◌, None, ap, ◌∙◌, subst, arith}
+use Rattle.heap_machines.specs.Shown.{shown}
+use Rattle.step_core.specs.Actor.{fresh_helper}
+use Rattle.step_core.specs.Machines.{reply_in}
+use Rattle.table_heap.proofs.Places.{within, read_here, never_none, shows_as}
+use Rattle.table_heap.proofs.bundle.Bundle.reply.Goals as goal
+
+pub index-requires : goal.index-requires
+index-requires c = let inside = within shown c.args.self.now.machines.items c.args.number c.requires.here in omega arith
+
+pub unreachable-requires : goal.unreachable-requires
+unreachable-requires c = never_none shown c.args.self.now.machines.items c.args.number c.index.result.now c.requires.here c.index.ensures c.in_default.is
+
+pub reply-requires : goal.reply-requires
+reply-requires c =
+    let b = c.args.self.now in
+    let m = c.in-Some.machine in
+    let inside = within shown b.machines.items c.args.number c.requires.here in
+    let here = read_here shown b.machines.items c.args.number c.index.result.now m inside c.index.ensures c.in-Some.is in
+    subst (λ x. reply_in x ≢ None) (shows_as shown b.machines.items c.args.number m fresh_helper here) c.requires.ended
+
+pub returns : goal.returns
+returns c =
+    let b = c.args.self.now in
+    let m = c.in-Some.machine in
+    let inside = within shown b.machines.items c.args.number c.requires.here in
+    let here = read_here shown b.machines.items c.args.number c.index.result.now m inside c.index.ensures c.in-Some.is in
+    ap reply_in (shows_as shown b.machines.items c.args.number m fresh_helper here) ∙ c.reply.ensures

@@ -1,0 +1,223 @@
+use Rattle.std.proofs.Common.{◌≡◌, ◌<◌, true, not, Some, refl, sym, ap, ◌∙◌, subst, arith}
+use Rattle.std.specs.Prelude.{slice_set}
+use Rattle.std.specs.Option.{option_copied_mut}
+use Rattle.std.proofs.lemmas.Bool.{false≢true}
+use Rattle.std.proofs.lemmas.List.{length-set}
+use Rattle.heap_words.specs.Access.{place_of}
+use Rattle.heap_words.specs.Words.{table_words}
+use Rattle.shen_graph.specs.declared.order.Order.TheVariants.{Nothing}
+use Rattle.shared_steps.specs.Views.{kept_of}
+use Rattle.shared_steps.proofs.Kept.{kept-set}
+use Rattle.shared_steps.proofs.Numbers.{same_none}
+use Rattle.heap_machines.specs.Answer.{stepped_of, stepped_by, says}
+use Rattle.heap_machines.specs.Shown.{shown, order_of, heap_of}
+use Rattle.step_core.specs.Actor.{fresh_helper}
+use Rattle.step_core.specs.Machines.{takes_of, place_in, reply_in}
+use Rattle.table_heap.specs.State as State
+use Rattle.table_heap.specs.State.{order_at}
+use Rattle.table_heap.proofs.Places.{within, read_here, never_none, shows_as, put_same, put_there}
+use Rattle.table_heap.proofs.Said.{never_idle, done_only}
+use Rattle.table_heap.proofs.Stepping.{can, can_as, took_as, fits, numbers_stay, kept_after, role_after, heap_put}
+use Rattle.table_heap.proofs.bundle.Bundle.step.Goals as goal
+
+pub index_mut-requires : goal.index_mut-requires
+index_mut-requires c = let inside = within shown c.args.self.now.machines.items c.args.number c.requires.here in omega arith
+
+pub unreachable-requires : goal.unreachable-requires
+unreachable-requires c =
+    never_none shown c.args.self.now.machines.items c.args.number c.index_mut.result.now c.requires.here c.index_mut.ensures.value
+    (sym c.as_mut.ensures.value ∙ ap option_copied_mut c.in_default.is)
+
+-- ---- an idle machine
+
+pub invariant_of-self : goal.invariant_of-self
+invariant_of-self c =
+    let b = c.args.self.now in
+    let m = c.in-Some.machine.now in
+    let inside = within shown b.machines.items c.args.number c.requires.here in
+    let here = read_here shown b.machines.items c.args.number c.index_mut.result.now m inside c.index_mut.ensures.value (sym c.as_mut.ensures.value ∙ ap option_copied_mut c.in-Some.is) in
+    record {
+      seats = length-set b.machines.items _ _ ∙ b.seats;
+      kept = b.kept ∙ sym (put_same shown b.machines.items c.args.number m m here refl);
+      slots = b.slots;
+      of_heap = heap_put b.config b.machines.items c.args.number m m here refl refl b.of_heap;
+    }
+
+pub returns-then-is_idle-clause-idle : goal.returns-then-is_idle-clause-idle
+returns-then-is_idle-clause-idle c =
+    let b = c.args.self.now in
+    let m = c.in-Some.machine.now in
+    let inside = within shown b.machines.items c.args.number c.requires.here in
+    let here = read_here shown b.machines.items c.args.number c.index_mut.result.now m inside c.index_mut.ensures.value (sym c.as_mut.ensures.value ∙ ap option_copied_mut c.in-Some.is) in
+    let at = shows_as shown b.machines.items c.args.number m fresh_helper here in
+    let given = shows_as order_of b.machines.items c.args.number m Nothing here in (
+      (λ is. ap (λ x. takes_of x (order_at b c.args.number)) at ∙ ap (takes_of (shown m)) given ∙ c.is_idle.ensures ∙ ap not c.if-is_idle.true),
+      (λ none. refl),
+    )
+
+pub returns-then-is_idle-clause-event : goal.returns-then-is_idle-clause-event
+returns-then-is_idle-clause-event c = λ turn.
+    let b = c.args.self.now in
+    let m = c.in-Some.machine.now in
+    let inside = within shown b.machines.items c.args.number c.requires.here in
+    let here = read_here shown b.machines.items c.args.number c.index_mut.result.now m inside c.index_mut.ensures.value (sym c.as_mut.ensures.value ∙ ap option_copied_mut c.in-Some.is) in
+    let at = shows_as shown b.machines.items c.args.number m fresh_helper here in
+    let given = shows_as order_of b.machines.items c.args.number m Nothing here in
+    absurd (false≢true (sym (ap (λ x. takes_of x (order_at b c.args.number)) at ∙ ap (takes_of (shown m)) given ∙ c.is_idle.ensures ∙ ap not c.if-is_idle.true) ∙ turn))
+
+pub returns-then-is_idle-clause-unchanged : goal.returns-then-is_idle-clause-unchanged
+returns-then-is_idle-clause-unchanged c = λ none.
+    let b = c.args.self.now in
+    let m = c.in-Some.machine.now in
+    let inside = within shown b.machines.items c.args.number c.requires.here in
+    let here = read_here shown b.machines.items c.args.number c.index_mut.result.now m inside c.index_mut.ensures.value (sym c.as_mut.ensures.value ∙ ap option_copied_mut c.in-Some.is) in
+    record {
+      unmoved = record { same = record { table = refl; config = refl; numbers = same_none b.seat.me.0 }; view = refl };
+      orders = put_same order_of b.machines.items c.args.number m m here refl;
+    }
+
+pub returns-then-is_idle-clause-same : goal.returns-then-is_idle-clause-same
+returns-then-is_idle-clause-same c = record { table = refl; config = refl; numbers = same_none c.args.self.now.seat.me.0 }
+
+pub returns-then-is_idle-clause-done : goal.returns-then-is_idle-clause-done
+returns-then-is_idle-clause-done c =
+    let b = c.args.self.now in
+    let m = c.in-Some.machine.now in
+    let inside = within shown b.machines.items c.args.number c.requires.here in
+    let here = read_here shown b.machines.items c.args.number c.index_mut.result.now m inside c.index_mut.ensures.value (sym c.as_mut.ensures.value ∙ ap option_copied_mut c.in-Some.is) in
+    let at = shows_as shown b.machines.items c.args.number m fresh_helper here in
+    let given = shows_as order_of b.machines.items c.args.number m Nothing here in (
+      (λ is. absurd cc),
+      (λ both. absurd (false≢true (sym (ap (λ x. takes_of x (order_at b c.args.number)) at ∙ ap (takes_of (shown m)) given ∙ c.is_idle.ensures ∙ ap not c.if-is_idle.true) ∙ both.0))),
+    )
+
+-- ---- a machine that makes a step
+
+pub make_step-told-requires-clause-inside : goal.make_step-told-requires-clause-inside
+make_step-told-requires-clause-inside c =
+    let b = c.args.self.now in
+    let m = c.in-Some.machine.now in
+    let inside = within shown b.machines.items c.args.number c.requires.here in
+    let here = read_here shown b.machines.items c.args.number c.index_mut.result.now m inside c.index_mut.ensures.value (sym c.as_mut.ensures.value ∙ ap option_copied_mut c.in-Some.is) in
+    let heap = (b.of_heap c.args.number m here).heap in
+    let key = c.args.heap.now.key ∙ sym c.requires.heap.config in
+    let words : c.args.heap.now.table.shared.table_id.words ≡ table_words (heap_of m) = c.args.heap.now.all_words ∙ ap table_words (sym c.requires.heap.config ∙ sym heap) in
+    subst (λ n. place_of c.plan.result < n) (sym words) c.plan.ensures.inside
+
+pub make_step-told-requires-clause-machine : goal.make_step-told-requires-clause-machine
+make_step-told-requires-clause-machine c =
+    let b = c.args.self.now in
+    let m = c.in-Some.machine.now in
+    let inside = within shown b.machines.items c.args.number c.requires.here in
+    let here = read_here shown b.machines.items c.args.number c.index_mut.result.now m inside c.index_mut.ensures.value (sym c.as_mut.ensures.value ∙ ap option_copied_mut c.in-Some.is) in
+    let heap = (b.of_heap c.args.number m here).heap in
+    let key = c.args.heap.now.key ∙ sym c.requires.heap.config in
+    let turn = c.is_idle.ensures ∙ ap not c.if-is_idle.false in
+    can_as c.args.heap.now.table.shared.key b.config b.seat.me.0 c.args.number c.order.result (order_of m) c.plan.result key c.order.ensures
+    (can b.config b.machines.items b.seat.me b.kept c.args.number m here c.plan.result heap turn c.plan.ensures.row)
+
+pub took-requires-clause-fit : goal.took-requires-clause-fit
+took-requires-clause-fit c =
+    let b = c.args.self.now in
+    let m = c.in-Some.machine.now in
+    let inside = within shown b.machines.items c.args.number c.requires.here in
+    let here = read_here shown b.machines.items c.args.number c.index_mut.result.now m inside c.index_mut.ensures.value (sym c.as_mut.ensures.value ∙ ap option_copied_mut c.in-Some.is) in
+    let heap = (b.of_heap c.args.number m here).heap in
+    let key = c.args.heap.now.key ∙ sym c.requires.heap.config in
+    let took = took_as c.args.heap.now.table.shared.key b.config c.args.number c.order.result (order_of m) b.seat.me c.make_step-told.result c.make_step-told.new.seat.me key c.order.ensures c.make_step-told.ensures.took in
+    fits b.config b.machines.items b.seat.me b.kept c.args.number m here c.make_step-told.result c.make_step-told.new.seat.me took heap
+
+pub invariant_of-self-2 : goal.invariant_of-self-2
+invariant_of-self-2 c =
+    let b = c.args.self.now in
+    let m = c.in-Some.machine.now in
+    let inside = within shown b.machines.items c.args.number c.requires.here in
+    let here = read_here shown b.machines.items c.args.number c.index_mut.result.now m inside c.index_mut.ensures.value (sym c.as_mut.ensures.value ∙ ap option_copied_mut c.in-Some.is) in
+    let heap = (b.of_heap c.args.number m here).heap in
+    let key = c.args.heap.now.key ∙ sym c.requires.heap.config in
+    let took = took_as c.args.heap.now.table.shared.key b.config c.args.number c.order.result (order_of m) b.seat.me c.make_step-told.result c.make_step-told.new.seat.me key c.order.ensures c.make_step-told.ensures.took in
+    let n = c.took.new.self in
+    record {
+      seats = length-set b.machines.items _ _ ∙ b.seats;
+      kept = kept_after b.config b.machines.items b.seat.me b.kept c.args.number m here c.make_step-told.result c.make_step-told.new.seat.me took n c.took.ensures.shown heap;
+      slots = took.slots ∙ b.slots;
+      of_heap = heap_put b.config b.machines.items c.args.number m n here c.took.ensures.heap
+          (role_after b.config b.machines.items b.seat.me b.kept c.args.number m here c.make_step-told.result c.make_step-told.new.seat.me took n c.took.ensures.shown heap) b.of_heap;
+    }
+
+pub returns-clause-event : goal.returns-clause-event
+returns-clause-event c = λ _.
+    let b = c.args.self.now in
+    let m = c.in-Some.machine.now in
+    let inside = within shown b.machines.items c.args.number c.requires.here in
+    let here = read_here shown b.machines.items c.args.number c.index_mut.result.now m inside c.index_mut.ensures.value (sym c.as_mut.ensures.value ∙ ap option_copied_mut c.in-Some.is) in
+    let heap = (b.of_heap c.args.number m here).heap in
+    let key = c.args.heap.now.key ∙ sym c.requires.heap.config in
+    let at = shows_as shown b.machines.items c.args.number m fresh_helper here in
+    let given = shows_as order_of b.machines.items c.args.number m Nothing here in
+    let n = c.took.new.self in
+    record {
+      told = c.make_step-told.result;
+      took = took_as c.args.heap.now.table.shared.key b.config c.args.number c.order.result (order_at b c.args.number) b.seat.me c.make_step-told.result c.make_step-told.new.seat.me key (c.order.ensures ∙ sym given) c.make_step-told.ensures.took;
+      said_is = c.of.ensures ∙ ap stepped_by (sym c.took.ensures.answer) ∙ ap (λ k. says k (shown m) c.make_step-told.result) heap ∙ ap (λ x. says b.config x c.make_step-told.result) (sym at);
+      orders = kept-set order_of b.machines.items c.args.number (Some n) ∙ ap (λ o. slice_set (kept_of order_of b.machines.items) c.args.number (Some o)) c.took.ensures.order;
+    }
+
+pub returns-clause-same : goal.returns-clause-same
+returns-clause-same c =
+    let b = c.args.self.now in
+    let m = c.in-Some.machine.now in
+    let inside = within shown b.machines.items c.args.number c.requires.here in
+    let here = read_here shown b.machines.items c.args.number c.index_mut.result.now m inside c.index_mut.ensures.value (sym c.as_mut.ensures.value ∙ ap option_copied_mut c.in-Some.is) in
+    let heap = (b.of_heap c.args.number m here).heap in
+    let key = c.args.heap.now.key ∙ sym c.requires.heap.config in
+    let took = took_as c.args.heap.now.table.shared.key b.config c.args.number c.order.result (order_of m) b.seat.me c.make_step-told.result c.make_step-told.new.seat.me key c.order.ensures c.make_step-told.ensures.took in
+    record { table = c.make_step-told.ensures.table.0; config = refl; numbers = numbers_stay b.config b.machines.items b.seat.me b.kept c.args.number m here c.make_step-told.result c.make_step-told.new.seat.me took }
+
+pub returns-clause-idle : goal.returns-clause-idle
+returns-clause-idle c =
+    let b = c.args.self.now in
+    let m = c.in-Some.machine.now in
+    let inside = within shown b.machines.items c.args.number c.requires.here in
+    let here = read_here shown b.machines.items c.args.number c.index_mut.result.now m inside c.index_mut.ensures.value (sym c.as_mut.ensures.value ∙ ap option_copied_mut c.in-Some.is) in
+    let turn = c.is_idle.ensures ∙ ap not c.if-is_idle.false in
+    let at = shows_as shown b.machines.items c.args.number m fresh_helper here in
+    let given = shows_as order_of b.machines.items c.args.number m Nothing here in
+    let has : State.has_turn b c.args.number ≡ true = ap (λ x. takes_of x (order_at b c.args.number)) at ∙ ap (takes_of (shown m)) given ∙ turn in
+    ((λ is. absurd (never_idle c.took.result (sym c.of.ensures ∙ is))), (λ none. absurd (false≢true (sym none ∙ has))))
+
+pub returns-clause-unchanged : goal.returns-clause-unchanged
+returns-clause-unchanged c = λ none.
+    let b = c.args.self.now in
+    let m = c.in-Some.machine.now in
+    let inside = within shown b.machines.items c.args.number c.requires.here in
+    let here = read_here shown b.machines.items c.args.number c.index_mut.result.now m inside c.index_mut.ensures.value (sym c.as_mut.ensures.value ∙ ap option_copied_mut c.in-Some.is) in
+    let turn = c.is_idle.ensures ∙ ap not c.if-is_idle.false in
+    let at = shows_as shown b.machines.items c.args.number m fresh_helper here in
+    let given = shows_as order_of b.machines.items c.args.number m Nothing here in
+    let has : State.has_turn b c.args.number ≡ true = ap (λ x. takes_of x (order_at b c.args.number)) at ∙ ap (takes_of (shown m)) given ∙ turn in
+    absurd (false≢true (sym none ∙ has))
+
+pub returns-clause-done : goal.returns-clause-done
+returns-clause-done c =
+    let b = c.args.self.now in
+    let m = c.in-Some.machine.now in
+    let inside = within shown b.machines.items c.args.number c.requires.here in
+    let here = read_here shown b.machines.items c.args.number c.index_mut.result.now m inside c.index_mut.ensures.value (sym c.as_mut.ensures.value ∙ ap option_copied_mut c.in-Some.is) in
+    let turn = c.is_idle.ensures ∙ ap not c.if-is_idle.false in
+    let at = shows_as shown b.machines.items c.args.number m fresh_helper here in
+    let given = shows_as order_of b.machines.items c.args.number m Nothing here in
+    let has : State.has_turn b c.args.number ≡ true = ap (λ x. takes_of x (order_at b c.args.number)) at ∙ ap (takes_of (shown m)) given ∙ turn in (
+      (λ is. (has, (ap (place_in (State.order_at b c.args.number)) at ∙ ap (λ o. place_in o (shown m)) given) ∙ c.took.ensures.done.0 (done_only c.took.result (sym c.of.ensures ∙ is)))),
+      (λ both. c.of.ensures ∙ ap stepped_of (c.took.ensures.done.1 (sym (ap (place_in (State.order_at b c.args.number)) at ∙ ap (λ o. place_in o (shown m)) given) ∙ both.1))),
+    )
+
+pub returns-clause-replied : goal.returns-clause-replied
+returns-clause-replied c = λ is none.
+    let b = c.args.self.now in
+    let m = c.in-Some.machine.now in
+    let inside = within shown b.machines.items c.args.number c.requires.here in
+    let here = read_here shown b.machines.items c.args.number c.index_mut.result.now m inside c.index_mut.ensures.value (sym c.as_mut.ensures.value ∙ ap option_copied_mut c.in-Some.is) in
+    let n = c.took.new.self in
+    c.took.ensures.replied (done_only c.took.result (sym c.of.ensures ∙ is))
+    (sym (ap reply_in (shows_as shown (slice_set b.machines.items c.args.number (Some n)) c.args.number n fresh_helper (put_there shown b.machines.items c.args.number m n here))) ∙ none)

@@ -1,0 +1,48 @@
+use Rattle.std.proofs.Common.{◌+◌, not, [], ◌∷◌, length, sym, ap, ◌∙◌, arith}
+use Rattle.std.specs.Prelude.{slice_get}
+use Rattle.std.proofs.lemmas.List.{length-append}
+use Rattle.shared_steps.specs.Views.{View, machine_of, whole, left_over, is_dealt_to, dealt_to}
+use Rattle.step_core.specs.Actor.{Actor}
+use Rattle.table_heap.specs.Core.{heap_opening}
+use Rattle.table_heap.specs.State.{IsFresh, orders_of}
+use Rattle.table_heap.proofs.Opened.{picked_some, left_first, dealt_next, left_next, each_more}
+use Rattle.table_heap.proofs.heap.Heap.open.Goals as goal
+
+pub loop-bundle-init : goal.loop-bundle-init
+loop-bundle-init c =
+    let fresh = c.in_ok-heap.ensures.bundle in
+    record {
+      of = fresh.of;
+      view = fresh.machines ∙ sym (left_first c.args.workers (whole (heap_opening c.args.config).machines));
+      orders = fresh.orders;
+      count = ap length c.in-Ok.ensures.items;
+      each = λ k b there. absurd (let none = ap (λ xs. slice_get xs k) c.in-Ok.ensures.items in cc);
+    }
+
+pub deal-requires-clause-heap : goal.deal-requires-clause-heap
+deal-requires-clause-heap c = c.loop-bundle.invariant.of
+
+pub loop-bundle-preserved : goal.loop-bundle-preserved
+loop-bundle-preserved c =
+    let l = c.loop-bundle in
+    let dealt = c.in_ok-dealt.ensures in
+    let all : View Actor = whole (heap_opening c.args.config).machines in
+    record {
+      of = dealt.heap;
+      view = dealt.left.0 ∙ ap (left_over (is_dealt_to c.args.workers l.bundle)) l.invariant.view ∙ left_next c.args.workers all l.bundle;
+      orders = λ number order there.
+          l.invariant.orders number order (picked_some (λ k. not (is_dealt_to c.args.workers l.bundle k)) (orders_of l.all) number order (ap (λ v. machine_of v number) (sym dealt.left.1) ∙ there));
+      count = ap length c.in-Ok-push.ensures.items ∙ length-append l.bundles.items (c.in_ok-dealt.dealt ∷ []) ∙ ap (λ n. n + 1) l.invariant.count;
+      each = λ k b there.
+          each_more (λ j x. IsFresh c.in_ok-heap.heap x (dealt_to c.args.workers j all)) l.bundles.items c.in_ok-dealt.dealt l.bundle l.invariant.count l.invariant.each
+          (record {
+            of = dealt.dealt.0;
+            machines = dealt.dealt.1 ∙ ap (dealt_to c.args.workers l.bundle) l.invariant.view ∙ dealt_next c.args.workers all l.bundle;
+            orders = λ number order there.
+                l.invariant.orders number order (picked_some (is_dealt_to c.args.workers l.bundle) (orders_of l.all) number order (ap (λ v. machine_of v number) (sym dealt.dealt.2) ∙ there));
+          })
+          k b (ap (λ xs. slice_get xs k) (sym c.in-Ok-push.ensures.items) ∙ there);
+    }
+
+pub returns-clause-count : goal.returns-clause-count
+returns-clause-count c = c.loop-bundle.invariant.count ∙ omega (arith, c.loop-bundle-test.false, c.loop-bundle.auto.bundle-end)

@@ -1,0 +1,25 @@
+-- The machines of a heap as a kind of machine. A pause of the control is a full collection.
+use Rattle.std.specs.Prelude.{[]}
+use Rattle.heap_words.specs.declared.config.Config.{Config}
+use Rattle.shen_graph.specs.declared.command.Command.TheVariants.{Gc}
+use Rattle.shen_graph.specs.declared.order.Order.{Order}
+use Rattle.steps_base.specs.Steps.{Kind, Stage}
+use Rattle.pause_laws.specs.Image.{full_image}
+use Rattle.step_core.specs.Actor.{Machine, Actor, fresh_helper}
+use Rattle.step_core.specs.Machines.{kind}
+use Rattle.step_core.specs.Opening.{opening}
+
+abbrev pub heap_kind : Config → Kind Actor Order
+heap_kind c = kind full_image c
+
+-- the words and machines with which a heap begins
+abbrev pub heap_opening : Config → Stage Actor
+heap_opening c = opening c
+
+-- what memory keeps of a machine
+abbrev pub machine_in : Actor → Machine
+machine_in a = a.machine
+
+-- an actor of no heap
+abbrev pub nobody : Actor
+nobody = record { machine = fresh_helper; command = Gc; calls = [] }

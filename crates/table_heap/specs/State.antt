@@ -1,0 +1,85 @@
+-- What callers know of a heap that threads share, and of a bundle of its machines.
+use Rattle.std.specs.Prelude.{ℕ, ◌≡◌, Bool, true, Some, unwrap_or, slice_set}
+use Rattle.std.specs.Option.{is_some}
+use Rattle.heap_words.specs.declared.config.Config.{Config}
+use Rattle.shared_steps.specs.Views.{View, machine_of, kept_of, SameNumbers}
+use Rattle.shared_steps.specs.Rule.{Took}
+use Rattle.shen_graph.specs.declared.order.Order.{Order}
+use Rattle.shen_graph.specs.declared.order.Order.TheVariants.{Nothing}
+use Rattle.heap_machines.specs.Answer.{says}
+use Rattle.heap_machines.specs.declared.stepped.Stepped.{Stepped}
+use Rattle.heap_machines.specs.Shown.{shown, order_of}
+use Rattle.step_core.specs.Actor.{Machine, Actor, fresh_helper}
+use Rattle.step_core.specs.Machines.{takes_of}
+use Rattle.table_heap.specs.declared.heap.Heap.{Heap}
+use Rattle.table_heap.specs.declared.bundle.Bundle.{Bundle}
+use Rattle.table_heap.specs.Core.{heap_kind, heap_opening}
+
+-- the configuration of a heap, and of a bundle
+abbrev pub config_of : Heap → Config
+config_of h = h.config
+
+abbrev pub heap_of : Bundle → Config
+heap_of b = b.config
+
+-- the bundle's machines by their numbers, as their events see them
+abbrev pub view_of : Bundle → View Actor
+view_of b = b.seat.me.0
+
+-- the same without what memory does not keep
+abbrev pub machines_of : Bundle → View Machine
+machines_of b = kept_of shown b.machines.items
+
+-- the orders that they were given
+abbrev pub orders_of : Bundle → View Order
+orders_of b = kept_of order_of b.machines.items
+
+-- the bundle is one of this heap
+pub record IsOf (b : Bundle) (h : Heap) : Type 0 where
+  pub table : b.seat.table_id ≡ h.table.shared.table_id
+  pub config : b.config ≡ h.config
+
+-- the bundle has the machine of this number
+abbrev pub HasMachine : Bundle → ℕ → Type 0
+HasMachine b number = is_some (machine_of (machines_of b) number) ≡ true
+
+-- that machine, and its order
+abbrev pub machine_at : Bundle → ℕ → Machine
+machine_at b number = unwrap_or (machine_of (machines_of b) number) fresh_helper
+
+abbrev pub order_at : Bundle → ℕ → Order
+order_at b number = unwrap_or (machine_of (orders_of b) number) Nothing
+
+-- whether it makes a step: it takes the order that it was given
+abbrev pub has_turn : Bundle → ℕ → Bool
+has_turn b number = takes_of (machine_at b number) (order_at b number)
+
+-- it is still a bundle of the same heap, with machines under the same numbers
+pub record IsSameBundle (old new : Bundle) : Type 0 where
+  pub table : new.seat.table_id ≡ old.seat.table_id
+  pub config : new.config ≡ old.config
+  pub numbers : SameNumbers (view_of old) (view_of new)
+
+-- its machines are as they were
+pub record IsUnmoved (old new : Bundle) : Type 0 where
+  pub same : IsSameBundle old new
+  pub view : view_of new ≡ view_of old
+
+-- and so are their orders
+pub record IsUnchanged (old new : Bundle) : Type 0 where
+  pub unmoved : IsUnmoved old new
+  pub orders : orders_of new ≡ orders_of old
+
+-- The step of a machine was one event of the heap's machines: its access told it this word, and so it said this. No other
+-- machine of the bundle has changed.
+pub record IsStep (old new : Bundle) (number : ℕ) (said : Stepped) : Type 0 where
+  pub told : ℕ
+  pub took : Took (heap_kind old.config) (heap_opening old.config) number (order_at old number) old.seat.me told new.seat.me
+  pub said_is : said ≡ says old.config (machine_at old number) told
+  pub orders : orders_of new ≡ slice_set (orders_of old) number (Some Nothing)
+
+-- A bundle of the heap before the first event: its machines are these, and none has an order.
+pub record IsFresh (h : Heap) (b : Bundle) (view : View Actor) : Type 0 where
+  pub of : IsOf b h
+  pub machines : view_of b ≡ view
+  pub orders : (number : ℕ) (order : Order) → machine_of (orders_of b) number ≡ Some order → order ≡ Nothing

@@ -1,0 +1,167 @@
+ghost use Rattle.std.specs.Prelude.{◌≡◌, [], length};
+ghost use Rattle.heap_words.specs.Ranges.{seat_count};
+ghost use Rattle.heap_machines.specs.Shown.{shown};
+ghost use Rattle.shared_steps.specs.Views.{kept_of};
+ghost use Rattle.table_heap.specs.Core.{machine_in};
+ghost use Rattle.table_heap.specs.Known.{AreOfHeap};
+
+use crate::heap::Heap;
+use crate::machines::{Acting, OfHeaps};
+use heap_machines::{Machine, Stepped};
+use heap_words::{Config, NoMemory};
+use shared_steps::{ViewSeat, deal_bundle, deal_machines, join_bundle, join_machines, make_step};
+use shen_graph::{Command, Order, Reply};
+use std::alloc::Global;
+use std::marker::Brand;
+
+/// Machines of a heap that one thread steps, each under its number. There is a place for each number, also for those of other
+/// bundles.
+#[derive(Drop)]
+pub struct Bundle {
+    pub(crate) config: Config,
+    pub(crate) seat: ViewSeat<Acting>,
+    pub(crate) machines: Vec<Option<Machine>>,
+    ghost seats: { length machines.items ≡ seat_count config.mutators config.helpers },
+    ghost kept: { kept_of machine_in seat.me.0 ≡ kept_of shown machines.items },
+    ghost slots: { seat.me.1 ≡ [] },
+    ghost of_heap: { AreOfHeap config machines.items },
+}
+
+impl Bundle {
+    ghost use Rattle.std.specs.Prelude.{◌<◌, ◌↔◌, ◌≢◌, true, false, Some, None, IfOk, slice_set};
+    ghost use Rattle.std.specs.Option.{is_some};
+    ghost use Rattle.heap_words.specs.declared.place.Place.TheVariants as places;
+    ghost use Rattle.shared_steps.specs.Views.{machine_of, merged, dealt_to, left_over, is_dealt_to};
+    ghost use Rattle.shen_graph.specs.Valid.{IsValid};
+    ghost use Rattle.step_core.specs.Machines.{takes_of, reply_in, place_in, may_begin, made_of_machine};
+    ghost use Rattle.table_heap.specs.State.{heap_of, view_of, machines_of, orders_of, IsOf, HasMachine, machine_at, order_at, has_turn, IsSameBundle, IsUnmoved, IsUnchanged, IsStep};
+
+    /// Gives the machines of one bundle, of so many, to a bundle of their own: those whose numbers have the remainder `bundle`.
+    /// The error is that memory was refused.
+    pub(crate) fn deal(
+        &mut self,
+        alloc: Global,
+        heap: &Heap,
+        bundles: usize,
+        bundle: usize,
+    ) -> Result<Bundle, NoMemory>
+        requires heap { IsOf self.old heap.now }
+        requires some { 0 < bundles }
+        ensures dealt { IfOk result (λ dealt. IsOf dealt heap.now × (view_of dealt ≡ dealt_to bundles bundle (view_of self.old)) × (orders_of dealt ≡ dealt_to bundles bundle (orders_of self.old))) }
+        ensures heap { IsOf self.new heap.now }
+        ensures left { IfOk result (λ _. (view_of self.new ≡ left_over (is_dealt_to bundles bundle) (view_of self.old)) × (orders_of self.new ≡ left_over (is_dealt_to bundles bundle) (orders_of self.old))) }
+    {
+        let Ok(machines) = deal_machines(alloc, &mut self.machines, bundles, bundle) else {
+            return Err(NoMemory);
+        };
+        let seat = deal_bundle::<Acting, Order, Config, OfHeaps, Brand>(
+            &heap.table.shared,
+            &mut self.seat,
+            bundles,
+            bundle,
+        );
+        Ok(Bundle {
+            config: self.config,
+            seat,
+            machines,
+        })
+    }
+
+    /// Whether the bundle has the machine.
+    pub fn has(&self, number: usize) -> bool
+        ensures machine { result ≡ is_some (machine_of (machines_of self.now) number) }
+        ensures view { result ≡ is_some (machine_of (view_of self.now) number) }
+    {
+        number < self.machines.len() && self.machines[number].is_some()
+    }
+
+    /// Orders the command, which the mutator's next step begins. Between two calls only.
+    pub fn begin(&mut self, number: usize, command: Command)
+        requires here { HasMachine self.old number }
+        requires rest { may_begin (machine_at self.old number) ≡ true }
+        requires valid { IsValid command }
+        requires made { made_of_machine (machine_at self.old number) < 4294967295 }
+        ensures order { orders_of self.new ≡ slice_set (orders_of self.old) number (Some (Order.Begin command)) }
+        ensures takes { takes_of (machine_at self.old number) (Order.Begin command) ≡ true }
+        ensures unmoved { IsUnmoved self.old self.new }
+    {
+        let Some(machine) = self.machines[number].as_mut() else {
+            unreachable!()
+        };
+        machine.begin(command);
+    }
+
+    /// Orders the end: the mutator's next step is its last one. Between two calls only, of a mutator that has not ended.
+    pub fn finish(&mut self, number: usize)
+        requires here { HasMachine self.old number }
+        requires rest { may_begin (machine_at self.old number) ≡ true }
+        ensures order { orders_of self.new ≡ slice_set (orders_of self.old) number (Some Order.End) }
+        ensures takes { takes_of (machine_at self.old number) Order.End ≡ true }
+        ensures unmoved { IsUnmoved self.old self.new }
+    {
+        let Some(machine) = self.machines[number].as_mut() else {
+            unreachable!()
+        };
+        machine.finish();
+    }
+
+    /// Gives a machine of the bundle one step, which is one access of the heap's table. It waits for nothing, and takes no
+    /// memory.
+    pub fn step(&mut self, heap: &Heap, number: usize) -> Stepped
+        requires heap { IsOf self.old heap.now }
+        requires here { HasMachine self.old number }
+        ensures idle { (result ≡ Stepped.Idle) ↔ (has_turn self.old number ≡ false) }
+        ensures unchanged { has_turn self.old number ≡ false → IsUnchanged self.old self.new }
+        ensures event { has_turn self.old number ≡ true → IsStep self.old self.new number result }
+        ensures same { IsSameBundle self.old self.new }
+
+        // A call ends exactly where its mutator leaves the heap, and its reply is at hand then.
+        ensures done { (result ≡ Stepped.Done) ↔ ((has_turn self.old number ≡ true) × (place_in (order_at self.old number) (machine_at self.old number) ≡ places.LV)) }
+        ensures replied { result ≡ Stepped.Done → reply_in (machine_at self.new number) ≢ None }
+    {
+        let Some(machine) = self.machines[number].as_mut() else {
+            unreachable!()
+        };
+        if machine.is_idle() {
+            return Stepped::Idle;
+        }
+        let told = make_step::<Acting, Order, Config, OfHeaps, Brand>(
+            &heap.table.shared,
+            &mut self.seat,
+            number,
+            &machine.order(),
+            machine.plan(),
+        );
+        Stepped::of(machine.took(told))
+    }
+
+    /// The reply of the last call that the mutator has ended, until the next one is ordered.
+    pub fn reply(&self, number: usize) -> Reply
+        requires here { HasMachine self.now number }
+        requires ended { reply_in (machine_at self.now number) ≢ None }
+        ensures { reply_in (machine_at self.now number) ≡ Some result }
+    {
+        let Some(machine) = &self.machines[number] else {
+            unreachable!()
+        };
+        machine.reply()
+    }
+
+    /// The machines of both bundles.
+    pub fn join(mut self, heap: &Heap, other: Bundle) -> Bundle
+        requires this { IsOf self heap.now }
+        requires other { IsOf other heap.now }
+        ensures heap { IsOf result heap.now }
+        ensures view { view_of result ≡ merged (view_of self) (view_of other) }
+        ensures orders { orders_of result ≡ merged (orders_of self) (orders_of other) }
+    {
+        let Bundle {
+            config: _,
+            seat,
+            machines,
+        } = other;
+        join_machines(&mut self.machines, machines);
+        join_bundle::<Acting, Order, Config, OfHeaps>(&heap.table.shared, &mut self.seat, seat);
+        self
+    }
+}

@@ -1,0 +1,103 @@
+ghost use Rattle.std.specs.Prelude.{◌≡◌, ◌≤◌, length, vec_capacity, IfOk};
+ghost use Rattle.shared_steps.specs.Views.{whole};
+ghost use Rattle.heap_words.specs.Words.{table_words, heap_size};
+
+use crate::bundle::Bundle;
+use crate::machines::{Acting, OfHeaps};
+use heap_machines::{Machine, open_machines};
+use heap_words::{Config, NoMemory};
+use shared_steps::{StepsTable, open_table};
+use shen_graph::Order;
+use std::alloc::Global;
+use step_core::open_words;
+
+/// A heap that threads share, by a `&`. Its machines are in bundles, each of which is one thread's own.
+#[derive(Drop)]
+pub struct Heap {
+    pub(crate) config: Config,
+    pub(crate) table: StepsTable<Acting, Order, Config, OfHeaps>,
+    // Where the graph is found in the end.
+    pub(crate) words: Vec<u64>,
+    pub(crate) marks: Vec<bool>,
+    pub(crate) addresses: Vec<u64>,
+    ghost key: { table.shared.key ≡ config },
+    ghost all_words: { table.shared.table_id.words ≡ table_words config },
+    ghost no_slots: { table.shared.table_id.slots ≡ 0 },
+    ghost room_for_words: { length words.items ≡ table_words config },
+    ghost all_marks: { length marks.items ≡ heap_size config },
+    ghost enough_addresses: { heap_size config ≤ vec_capacity addresses },
+}
+
+// Machines, each in its place.
+fn placed(alloc: Global, machines: Vec<Machine>) -> Result<Vec<Option<Machine>>, NoMemory>
+    ensures { IfOk result (λ places. places.items ≡ whole machines.items) }
+{
+    let Ok(places) = machines.into_iter().map(Some).collect(alloc) else {
+        return Err(NoMemory);
+    };
+    Ok(places)
+}
+
+impl Heap {
+    ghost use Rattle.std.specs.Prelude.{ℕ, Some, slice_get};
+    ghost use Rattle.shared_steps.specs.Views.{dealt_to};
+    ghost use Rattle.table_heap.specs.Core.{heap_opening};
+    ghost use Rattle.table_heap.specs.State.{config_of, view_of, IsOf, IsFresh};
+    ghost use Rattle.table_heap.specs.declared.bundle.Bundle.{Bundle as Bundles};
+
+    // The heap of this configuration before the first event, with all its machines in one bundle.
+    fn open_whole(alloc: Global, config: Config) -> Result<(Heap, Bundle), NoMemory>
+        ensures config { IfOk result (λ t. config_of t.0 ≡ config) }
+        ensures bundle { IfOk result (λ t. IsFresh t.0 t.1 (whole (heap_opening config).machines)) }
+    {
+        let words = open_words(alloc, config)?;
+        let machines = placed(alloc, open_machines(alloc, config)?)?;
+        let Ok(marks) = vec![in alloc; false; config.heap_size()] else {
+            return Err(NoMemory);
+        };
+        let Ok(addresses) = Vec::with_capacity(alloc, config.heap_size()) else {
+            return Err(NoMemory);
+        };
+        let Ok((table, seat)) = open_table(alloc, &words, &config) else {
+            return Err(NoMemory);
+        };
+        let heap = Heap {
+            config,
+            table,
+            words,
+            marks,
+            addresses,
+        };
+        let bundle = Bundle {
+            config,
+            seat,
+            machines,
+        };
+        Ok((heap, bundle))
+    }
+
+    /// The heap of this configuration before the first event, and its machines in so many bundles: machine i, counted from 0,
+    /// is in that of the number i modulo `workers`. The error is that memory was refused.
+    pub fn open(
+        alloc: Global,
+        config: Config,
+        workers: usize,
+    ) -> Result<(Heap, Vec<Bundle>), NoMemory>
+        requires { 1 ≤ workers }
+        ensures config { IfOk result (λ t. config_of t.0 ≡ config) }
+        ensures count { IfOk result (λ t. length t.1.items ≡ workers) }
+        ensures bundles { IfOk result (λ t. (k : ℕ) (b : Bundles) → slice_get t.1.items k ≡ Some b → IsFresh t.0 b (dealt_to workers k (whole (heap_opening config).machines))) }
+    {
+        let (heap, mut all) = Heap::open_whole(alloc, config)?;
+        let Ok(mut bundles) = Vec::with_capacity(alloc, workers) else {
+            return Err(NoMemory);
+        };
+        for bundle in 0..workers {
+            let dealt = all.deal(alloc, &heap, workers, bundle)?;
+            let Ok(()) = bundles.push(dealt) else {
+                return Err(NoMemory);
+            };
+        }
+        Ok((heap, bundles))
+    }
+}

@@ -1,0 +1,14 @@
+//! The heap that threads share: its words lie in a table of atomic words, and each thread makes the steps of the machines of
+//! its own bundle. A step is one access of the table, and one event of the heap's machines.
+#![tactic(auto)]
+
+mod bundle;
+mod gate;
+mod heap;
+mod machines;
+
+pub use bundle::Bundle;
+pub use gate::{Gate, OpenGate};
+pub use heap::Heap;
+pub use heap_machines::Stepped;
+pub use machines::{Acting, OfHeaps};
