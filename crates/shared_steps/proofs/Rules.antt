@@ -138,8 +138,8 @@ module _ {R O K : Type 0} (kinds : K → Kind R O) (starts : K → Stage R) (key
   can_step id number me order slots words at named given access form turn m inside is = (
     subst (λ (a : Access). place_of a < words) is inside,
     (λ s kept homes there small.
-    let step = moves (kinds key) (starts key) id number me m.0 order m.1 m.2 slots form (m.3 ∙ is) s kept homes there small in
-    (step.0, step.1, step.2, step.3, names at named given number order me _ _ turn.0 turn.1 turn.2 step.4)),
+        let step = moves (kinds key) (starts key) id number me m.0 order m.1 m.2 slots form (m.3 ∙ is) s kept homes there small in
+        (step.0, step.1, step.2, step.3, names at named given number order me _ _ turn.0 turn.1 turn.2 step.4)),
   )
 
   -- what a step of the table tells
