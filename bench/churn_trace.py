@@ -5,7 +5,7 @@ usage: churn_trace.py [COMMANDS] > FILE
 
 The heap has 64 regions of 1024 words, and the threads have so many commands in all (200000 if left out). Each works below
 its own field of the hub, on an object of 16 references and on 16 small ones, by stores, loads, compare-exchanges and
-exchanges. It makes no more objects than fit, since nothing is collected.
+exchanges. It makes no more objects than fit, so that hardly any step is one of a pause.
 """
 import itertools
 import sys
