@@ -6,8 +6,12 @@ use Rattle.heap_words.specs.Words.{Word, same_word, write}
 use Rattle.heap_words.proofs.Stores.{same_word_true}
 use Rattle.shen_graph.specs.declared.name.Name.{Name}
 use Rattle.shen_graph.specs.Graph.{Reference}
-use Rattle.heap_world.specs.World.{World, Plot, Points, name_at}
+use Rattle.heap_world.specs.World.{World, Plot, no_ghost, IsUncollected, Points, name_at}
 use Rattle.heap_world.specs.Rely.{Keeps, Rely}
+
+-- nobody marks, copies or works in no ghost state
+pub none_collects : IsUncollected no_ghost.snapshot no_ghost.recording no_ghost.scanning no_ghost.copying no_ghost.working
+none_collects = record { empty = refl; records_none = λ seat. refl; scans_none = λ seat. refl; copies_none = λ seat. refl; works_none = λ seat. refl }
 
 -- a word stands for what it stood for where names stay
 pub points_stay : (u w : Plot) → ((a : ℕ) (name : Name) → name_at (u a) ≡ Some name → name_at (w a) ≡ Some name) → (word : ℕ) (reference : Reference) → Points u word reference → Points w word reference

@@ -32,8 +32,8 @@ pub record Rely (seat : ℕ) (u w : World) : Type 0 where
   pub no_promises : (a words : ℕ) → w.block a ≡ Some (promised seat words) → u.block a ≡ Some (promised seat words)
   pub promise_words : (a words k : ℕ) → u.block a ≡ Some (promised seat words) → k < words → w.memory (Heap (a + k)) ≡ u.memory (Heap (a + k))
   pub current : w.memory (Current seat) ≡ u.memory (Current seat)
-  pub owners : (r : ℕ) → u.owner r ≡ Some seat → w.owner r ≡ Some seat
-  pub tops : (r : ℕ) → u.owner r ≡ Some seat → w.memory (Top r) ≡ u.memory (Top r)
+  pub owners : (r : ℕ) → u.ghost.owner r ≡ Some seat → w.ghost.owner r ≡ Some seat
+  pub tops : (r : ℕ) → u.ghost.owner r ≡ Some seat → w.memory (Top r) ≡ u.memory (Top r)
   pub root_words : (i : ℕ) → w.memory (Root seat i) ≡ u.memory (Root seat i)
   pub roots : (i : ℕ) → w.graph.root (seat + 1) i ≡ u.graph.root (seat + 1) i
   pub count : w.graph.count (seat + 1) ≡ u.graph.count (seat + 1)

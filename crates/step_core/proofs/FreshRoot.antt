@@ -5,7 +5,7 @@ use Rattle.std.specs.Prelude.{◌==◌, ◌&&◌}
 use Rattle.std.proofs.lemmas.Bool.{cond-false, ne_eqb, and_left}
 use Rattle.heap_words.specs.declared.config.Config.{Config}
 use Rattle.heap_words.specs.Encoding.{fresh_word}
-use Rattle.heap_words.specs.Words.{Root, Top, Heap, Current}
+use Rattle.heap_words.specs.Words.{Free, Root, Top, Heap, Current}
 use Rattle.steps_base.specs.Touch.{touch, stores, touched}
 use Rattle.shen_graph.specs.declared.name.Name.{Name}
 use Rattle.shen_graph.specs.declared.command.Command.{Command}
@@ -19,7 +19,7 @@ use Rattle.heap_world.specs.World.{World, Block, thing, hand, promised, words_of
 use Rattle.heap_world.specs.Rely.{Rely}
 use Rattle.heap_world.proofs.Updates.{updated, updated_there}
 use Rattle.heap_world.proofs.Keeping.{points_stay}
-use Rattle.heap_world.proofs.NewObject.{new_object, stays, names_stay, things_stay, old_hand, old_promise, plotted_again, filled_again, objects_again, rooms_again, promises_again, given_again, with_count, count_own}
+use Rattle.heap_world.proofs.NewObject.{new_object, stays, names_stay, things_stay, old_hand, old_promise, parsable_again, objects_again, owned_again, unfilled_again, given_again, with_count, count_own}
 use Rattle.step_core.specs.Stepped.{IsMaking, LegalBy, graph_by}
 use Rattle.step_core.proofs.Settling.{legal_answer, graph_answer}
 use Rattle.step_core.proofs.RootStores.{roots_written}
@@ -61,7 +61,7 @@ module _ {c : Config} {u : World} {seat made : ℕ} {command k : Command} {fixed
   made_world = record {
     memory = touched u.memory (touch (Root seat (dst_of k)) (stores address));
     block = updated u.block address (Some (thing name refs nums));
-    owner = u.owner;
+    ghost = u.ghost;
     graph = with_root (with_fresh u.graph (seat + 1) (blank refs nums)) (seat + 1) (dst_of k) (Some name);
   }
 
@@ -79,7 +79,7 @@ module _ {c : Config} {u : World} {seat made : ℕ} {command k : Command} {fixed
 
   -- no object has it
   not_given : (o : Object) → u.graph.object name ≡ Some o → ⊥
-  not_given o is = let given = has.shared.given name o is in let most = given.by_thread (omega arith) in omega (arith, most)
+  not_given o is = let given = has.shared.contents.given name o is in let most = given.by_thread (omega arith) in omega (arith, most)
 
   -- its words are those of a blank object
   new_is : IsThing (λ a. u.memory (Heap a)) made_world.block address refs nums name (blank refs nums)
@@ -99,15 +99,15 @@ module _ {c : Config} {u : World} {seat made : ℕ} {command k : Command} {fixed
   -- machines share what they should
   pub shared_made : Shared c made_world
   shared_made = record {
-    plotted = plotted_again c top u.block address refs nums name has.piece has.unnamed has.long has.here has.shared.plotted;
-    filled = filled_again c top u.block address refs nums name has.piece has.unnamed has.long has.here has.shared.filled;
-    objects = objects_again c top u.block address refs nums name has.piece has.unnamed has.long has.here (λ a. u.memory (Heap a)) u.graph.object has.shared.objects not_given (blank refs nums) new_is;
-    given = given_again c u.graph.count u.graph.object name (blank refs nums) has.shared.given is_given;
+    parsable = parsable_again c top u.block address refs nums name has.piece has.unnamed has.long has.here has.shared.parsable;
+    contents = record {
+      objects = objects_again c top u.block address refs nums name has.piece has.unnamed has.long has.here (λ a. u.memory (Heap a)) u.graph.object has.shared.contents.objects not_given (blank refs nums) new_is;
+      given = given_again c u.graph.count u.graph.object name (blank refs nums) has.shared.contents.given is_given;
+    };
+    owned = owned_again c top u.block address refs nums name has.piece has.unnamed has.long has.here (u.memory Free) (λ s. u.memory (Current s)) u.ghost.owner has.shared.owned;
     calm = has.shared.calm;
-    free_word = has.shared.free_word;
-    currents = has.shared.currents;
-    rooms = rooms_again c top u.block address refs nums name has.piece has.unnamed has.long has.here (λ s. u.memory (Current s)) has.shared.rooms;
-    promises = promises_again c top u.block address refs nums name has.piece has.unnamed has.long has.here has.shared.promises;
+    uncollected = has.shared.uncollected;
+    unfilled = unfilled_again c top u.block address refs nums name has.piece has.unnamed has.long has.here has.shared.unfilled;
   }
 
   -- room in hand was in hand before, elsewhere

@@ -58,7 +58,7 @@ root_small made _ i next below = absurd (omega arith)
 -- the object of a command whose first root is not null
 abbrev object_of : (c : Config) (u : World) (seat : ℕ) (k : Command) (object : ℕ) → Shared c u → is_on_object k ≡ true → HasFirst u seat k object → HasObject u seat (root_of k 0) object
 object_of c u seat k object shared on first =
-    let named = named_if_not_0 c _ u.block shared.plotted object _ (first.first_is first.some) (first.not_null on) in
+    let named = named_if_not_0 c _ u.block shared.parsable.plotted object _ (first.first_is first.some) (first.not_null on) in
     let piece = named_thing (u.block object) named.0 named.2 in
     record { name = named.0; refs = piece.0; nums = piece.1; root_is = named.1; target = record { piece = piece.2 } }
 
@@ -197,7 +197,7 @@ module _ (c : Config) (u : World) (seat made : ℕ) (kept : Kept) (command : Com
       let value_is : Points u.block first (u.graph.root (seat + 1) src) = has.first_is has.some in
       record {
         seated = mine.seated;
-        ready = ready_of _ _ (grind (arith, nat_tests)) (number_small first (points_small c _ u.block shared.plotted first _ value_is));
+        ready = ready_of _ _ (grind (arith, nat_tests)) (number_small first (points_small c _ u.block shared.parsable.plotted first _ value_is));
         roots = mine.roots;
         hands = mine.hands;
         facts = (mine.facts.unsettled, small, inl (record { src = src; is = mine.facts.is; value_is = value_is }));
@@ -214,7 +214,7 @@ module _ (c : Config) (u : World) (seat made : ℕ) (kept : Kept) (command : Com
   root_lacks : (k : Command) → Shared c u → HasBegun k → 0 < length (roots_of k) → lacks_object k (u.memory (Root seat (root_of k 0))) ≡ true → Stepped c u (at_call k (Loading load.First)) command Nothing fixed
   root_lacks k shared mine some lacks =
       let parts = and_parts _ _ lacks in
-      let null : u.graph.root (seat + 1) (root_of k 0) ≡ None = null_if_0 c _ u.block shared.plotted _ _ (root_has k 0 mine some) (eqb-true _ _ parts.1) in
+      let null : u.graph.root (seat + 1) (root_of k 0) ≡ None = null_if_0 c _ u.block shared.parsable.plotted _ _ (root_has k 0 mine some) (eqb-true _ _ parts.1) in
       replies c u (at_call k (Loading load.First)) (Root seat (root_of k 0)) command fixed reply.Bad refl
       (cond-true _ _ _ lacks) refl mine.facts.unsettled refl
       (ap (λ x. outcome u.graph (seat + 1) x) mine.facts.is ∙ bad_on_null u.graph (seat + 1) k parts.0 null)
@@ -295,7 +295,7 @@ module _ (c : Config) (u : World) (seat made : ℕ) (kept : Kept) (command : Com
       let value_is : Points u.block second (u.graph.root (seat + 1) val) = has.second_is (omega arith) in
       record {
         seated = mine.seated;
-        ready = ready_of _ _ (word_in c u shared seat obj object (object + 3 + field) (3 + field) of (omega arith) (omega arith)) (number_small second (points_small c _ u.block shared.plotted second _ value_is));
+        ready = ready_of _ _ (word_in c u shared seat obj object (object + 3 + field) (3 + field) of (omega arith) (omega arith)) (number_small second (points_small c _ u.block shared.parsable.plotted second _ value_is));
         roots = mine.roots;
         hands = mine.hands;
         facts = (mine.facts.unsettled, record { obj = obj; val = val; is = mine.facts.is; of = of; below = below; value_is = value_is });
@@ -318,7 +318,7 @@ module _ (c : Config) (u : World) (seat made : ℕ) (kept : Kept) (command : Com
       let value_is : Points u.block second (u.graph.root (seat + 1) val) = has.second_is (omega arith) in
       record {
         seated = mine.seated;
-        ready = ready_of _ _ (word_in c u shared seat obj object (object + 3 + field) (3 + field) of (omega arith) (omega arith)) (number_small second (points_small c _ u.block shared.plotted second _ value_is));
+        ready = ready_of _ _ (word_in c u shared seat obj object (object + 3 + field) (3 + field) of (omega arith) (omega arith)) (number_small second (points_small c _ u.block shared.parsable.plotted second _ value_is));
         roots = mine.roots;
         hands = mine.hands;
         facts = (mine.facts.unsettled, record { obj = obj; val = val; is = mine.facts.is; small = grind (arith, nat_tests); of = of; below = below; value_is = value_is });

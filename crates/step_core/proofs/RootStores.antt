@@ -68,7 +68,7 @@ module _ (c : Config) (u : World) (seat made : ℕ) (kept : Kept) (command : Com
       → outcome u.graph (seat + 1) command ≡ answers reply.Ok (with_root u.graph (seat + 1) dst v) → Points u.block value v
       → Stepped c u (at_spot (StoreRoot value)) command Nothing fixed
   root_step value v shared mine is stands = record {
-    world = record { memory = touched u.memory (touch_of c (at_spot (StoreRoot value)) Nothing); block = u.block; owner = u.owner; graph = with_root u.graph (seat + 1) dst v };
+    world = record { memory = touched u.memory (touch_of c (at_spot (StoreRoot value)) Nothing); block = u.block; ghost = u.ghost; graph = with_root u.graph (seat + 1) dst v };
     memory = refl;
     graph = sym (graph_answer u.graph seat command reply.Ok refl ∙ ap (λ o. o.graph) is);
     legal = legal_answer u.graph seat command reply.Ok refl (ap (λ o. o.reply) is);

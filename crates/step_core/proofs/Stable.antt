@@ -256,5 +256,5 @@ mine_stays c u w m command fixed shared rely mine = let keeps : Keeps m.seat u w
   ready = mine.ready;
   roots = λ i below. rw (now_stays c u w m.seat keeps m.kept m.spot i) (root_stays c u w m.seat keeps _ i (mine.roots i below));
   hands = λ a words is. mine.hands a words (rely.no_hands a words is);
-  facts = facts_stay c u w m.seat keeps m.made m.kept command fixed (take_stays c u w m.seat rely (λ r is. shared.currents.own m.seat r is)) m.spot mine.facts;
+  facts = facts_stay c u w m.seat keeps m.made m.kept command fixed (take_stays c u w m.seat rely (λ r is. shared.owned.currents.own m.seat r is)) m.spot mine.facts;
 }

@@ -163,7 +163,7 @@ module _ (c : Config) (u : World) (seat made : ℕ) (kept : Kept) (command : Com
       by_full false other = ⊎_elim
           (λ given. record {
             seated = mine.seated;
-            ready = given_ready c seat made kept command fixed given.0 (λ r. u.memory (Top r)) u.block (u.memory (Answer seat)) shared.plotted given.1.2.here mine.seated.below;
+            ready = given_ready c seat made kept command fixed given.0 (λ r. u.memory (Top r)) u.block (u.memory (Answer seat)) shared.parsable.plotted given.1.2.here mine.seated.below;
             roots = mine.roots;
             hands = mine.hands;
             facts = (given, refl);
