@@ -121,7 +121,7 @@ stored u at value g = record { memory = write u.memory (Heap at) value; block = 
 abbrev pub changed : Graph → Name → Object → (ℕ → ℕ → Reference) → Graph
 changed g name o root = record { object = where_object g.object name o; root = root; count = g.count }
 
-module _ (c : Config) (u : World) (a refs nums at value : ℕ) (name : Name) (o : Object) (root : ℕ → ℕ → Reference) (shared : Shared c u) (target : Target u a refs nums name) where
+module _ (c : Config) (u : World) (a refs nums at value : ℕ) (name : Name) (o : Object) (root : ℕ → ℕ → Reference) (shared : Shared c u) (target : Target u.block a refs nums name) where
   -- what machines share, after a word of an object and the graph's object have changed
   pub shared_stored : a ≤ at → at < a + (3 + refs + nums) → IsThing (updated (λ b. u.memory (Heap b)) at value) u.block a refs nums name o
       → Shared c (stored u at value (changed u.graph name o root))

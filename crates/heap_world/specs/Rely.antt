@@ -8,7 +8,7 @@ use Rattle.heap_world.specs.World.{World, Target, hand, promised, name_at}
 -- the roots, the count, the words in hand, what is asked and what is promised of the seat stay as they are.
 pub record Keeps (seat : ℕ) (u w : World) : Type 0 where
   pub names : (a : ℕ) (name : Name) → name_at (u.block a) ≡ Some name → name_at (w.block a) ≡ Some name
-  pub targets : (a refs nums : ℕ) (name : Name) → Target u a refs nums name → Target w a refs nums name
+  pub targets : (a refs nums : ℕ) (name : Name) → Target u.block a refs nums name → Target w.block a refs nums name
   pub hands : (a words : ℕ) → u.block a ≡ Some (hand seat words) → w.block a ≡ Some (hand seat words)
   pub hand_words : (a words k : ℕ) → u.block a ≡ Some (hand seat words) → k < words → w.memory (Heap (a + k)) ≡ u.memory (Heap (a + k))
   pub promises : (a words : ℕ) → u.block a ≡ Some (promised seat words) → w.block a ≡ Some (promised seat words)
@@ -24,7 +24,7 @@ pub record Keeps (seat : ℕ) (u w : World) : Type 0 where
 -- seat's own stays as it is; and phase and collection set stay, which only a pause changes.
 pub record Rely (seat : ℕ) (u w : World) : Type 0 where
   pub names : (a : ℕ) (name : Name) → name_at (u.block a) ≡ Some name → name_at (w.block a) ≡ Some name
-  pub targets : (a refs nums : ℕ) (name : Name) → Target u a refs nums name → Target w a refs nums name
+  pub targets : (a refs nums : ℕ) (name : Name) → Target u.block a refs nums name → Target w.block a refs nums name
   pub hands : (a words : ℕ) → u.block a ≡ Some (hand seat words) → w.block a ≡ Some (hand seat words)
   pub no_hands : (a words : ℕ) → w.block a ≡ Some (hand seat words) → u.block a ≡ Some (hand seat words)
   pub hand_words : (a words k : ℕ) → u.block a ≡ Some (hand seat words) → k < words → w.memory (Heap (a + k)) ≡ u.memory (Heap (a + k))

@@ -1,5 +1,5 @@
 -- What it means that the words of a heap stand for a graph.
-use Rattle.std.specs.Prelude.{ℕ, ◌≡◌, ◌+◌, ◌<◌, ◌≤◌, ◌^◌, Bool, false, Option, Some, None}
+use Rattle.std.specs.Prelude.{ℕ, ◌≡◌, ◌⊎◌, ◌+◌, ◌<◌, ◌≤◌, ◌^◌, Bool, false, Option, Some, None}
 use Rattle.heap_words.specs.declared.config.Config.{Config}
 use Rattle.heap_words.specs.Words.{Word, Phase, Cset, Free, Evac, Top, Current, Heap}
 use Rattle.heap_words.specs.Ranges.{seat_count}
@@ -84,8 +84,12 @@ abbrev pub Points : Plot → ℕ → Reference → Type 0
 Points block word reference = Refers (λ a. name_at (block a)) word reference
 
 -- the object's current copy, with so many references and numbers, is at the address
-pub record Target (w : World) (address refs nums : ℕ) (name : Name) : Type 0 where
-  pub piece : w.block address ≡ Some (thing name refs nums)
+pub record Target (block : Plot) (address refs nums : ℕ) (name : Name) : Type 0 where
+  pub piece : block address ≡ Some (thing name refs nums)
+
+-- a word may be used as a reference: it is null, or the object's current copy is there
+abbrev pub IsUsable : Plot → ℕ → Type 0
+IsUsable block word = (word ≡ 0) ⊎ ((name : Name) × (refs : ℕ) × (nums : ℕ) × Target block word refs nums name)
 
 -- so many words from an address on lie in the part of a region that is in use
 pub record IsInUse (c : Config) (top : ℕ → ℕ) (address words : ℕ) : Type 0 where

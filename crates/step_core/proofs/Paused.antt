@@ -26,6 +26,7 @@ use Rattle.mutator.specs.declared.waits.WaitSpot.TheVariants as wait
 use Rattle.mutator.specs.Commands.{dst_of, refs_of, nums_of}
 use Rattle.mutator.specs.Orders.{is_waiting}
 use Rattle.mutator.specs.Rows.{Mutating}
+use Rattle.heap_world.proofs.Keeping.{usable_now}
 use Rattle.heap_world.specs.World.{Ghost, World, Plot, hand, Points, Shared}
 use Rattle.heap_world.specs.Asking.{Asking, nothing, asks, refused, given, IsAsked}
 use Rattle.heap_world.specs.Change.{Change, Answers, IsPause, IsPaused, image_view, image_words, words_given}
@@ -92,7 +93,12 @@ module _ (c : Config) (words : List ℕ) (u w : World) (t made : ℕ) (kept : Ke
   mine_outside : (spot : Spot) (fixed : Option Reply) → is_within (standing_at spot) ≡ false → Mine c u (mutator_at t made kept spot) b.command fixed
       → (is_waiting spot ≡ false → IsAsked w.memory w.block w.graph.count t nothing) → SpotFacts c w t made kept b.command fixed spot → Mine c w (mutator_at t made kept spot) b.command fixed
   mine_outside spot fixed out mine unasked facts = record {
-    seated = record { below = mine.seated.below; counted = ap (λ g. g.count (t + 1)) graph ∙ mine.seated.counted; unasked = unasked };
+    seated = record {
+      below = mine.seated.below;
+      counted = ap (λ g. g.count (t + 1)) graph ∙ mine.seated.counted;
+      usable = λ i small. usable_now w.block _ _ (roots i small);
+      unasked = unasked;
+    };
     ready = mine.ready;
     roots = λ i small. subst (λ word. Points w.block word (w.graph.root (t + 1) i)) (sym (root_outside w t kept spot i out)) (roots i small);
     hands = λ a more is. absurd (none a more is);

@@ -83,7 +83,7 @@ module _ (c : Config) (words image : List ℕ) (block : Plot) (ghost : Ghost) (g
     number_is = refl;
     valid = thread.valid;
     mine = record {
-      seated = record { below = thread.mine.seated.below; counted = thread.mine.seated.counted; unasked = λ e. absurd (cc (e)) };
+      seated = record { below = thread.mine.seated.below; counted = thread.mine.seated.counted; usable = thread.mine.seated.usable; unasked = λ e. absurd (cc (e)) };
       ready = raise_ready c seat made kept thread.mine.seated.below;
       roots = thread.mine.roots;
       hands = thread.mine.hands;
