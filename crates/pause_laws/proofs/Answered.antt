@@ -6,6 +6,7 @@ use Rattle.heap_words.specs.declared.config.Config.{Config}
 use Rattle.heap_words.specs.Words.{Word, Phase, Cset, Evac, Current, Wait, Answer}
 use Rattle.heap_words.specs.Encoding.{request_shape_in, refs_in, nums_in}
 use Rattle.shen_graph.specs.Graph.{Graph, fresh}
+use Rattle.heap_world.specs.World.{no_ghost}
 use Rattle.heap_world.specs.Asking.{Asking, nothing, asks, refused, given, IsAsked}
 use Rattle.heap_world.specs.Represents.{Represents}
 use Rattle.heap_world.specs.Change.{Answers}
@@ -107,7 +108,7 @@ module _ (c : Config) (m : Word → ℕ) (g : Graph) (asking : ℕ → Asking) (
       let facts = is_after c m g asking r in
       record {
         block = plot_then c m g asking r;
-        owner = λ s. None;
+        ghost = no_ghost;
         shared = shared_facts c (full c m) (plot c m g asking r) g q facts (full c m Phase) (full c m Cset) (full c m Evac) (λ s. full c m (Current s))
             (full_phase c m) (full_cset c m) (full_evac c m) (full_current c m);
         roots = roots_left c (full c m) (plot c m g asking r) g q facts;
