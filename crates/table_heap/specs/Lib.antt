@@ -1,3 +1,4 @@
+pub mod Closed
 pub mod Core
 pub mod Known
 pub mod State

@@ -3,11 +3,13 @@
 #![tactic(auto)]
 
 mod bundle;
+mod closed;
 mod gate;
 mod heap;
 mod machines;
 
 pub use bundle::Bundle;
+pub use closed::Closed;
 pub use gate::{Gate, OpenGate};
 pub use heap::Heap;
 pub use heap_machines::Stepped;
