@@ -1,3 +1,4 @@
 pub mod Core
 pub mod Known
 pub mod State
+pub mod Running

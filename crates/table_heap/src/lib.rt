@@ -6,6 +6,7 @@ mod bundle;
 mod gate;
 mod heap;
 mod machines;
+mod run;
 
 pub use bundle::Bundle;
 pub use gate::{Gate, OpenGate};
