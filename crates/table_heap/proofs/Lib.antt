@@ -3,3 +3,8 @@ pub mod Places
 pub mod Said
 pub mod Stepping
 pub mod Opened
+pub mod Jobs
+pub mod AtWork
+pub mod Running
+pub mod Turning
+pub mod Rounds
