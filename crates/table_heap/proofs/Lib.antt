@@ -5,3 +5,8 @@ pub mod Stepping
 pub mod Opened
 pub mod Closing
 pub mod Graphs
+pub mod Jobs
+pub mod AtWork
+pub mod Running
+pub mod Turning
+pub mod Rounds
