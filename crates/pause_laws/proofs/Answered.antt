@@ -10,15 +10,15 @@ use Rattle.heap_world.specs.World.{no_ghost}
 use Rattle.heap_world.specs.Asking.{Asking, nothing, asks, refused, given, IsAsked}
 use Rattle.heap_world.specs.Represents.{Represents}
 use Rattle.heap_world.specs.Change.{Answers}
-use Rattle.image_laws.specs.Full.{full}
+use Rattle.image_laws.specs.Full.{packed_in, full}
 use Rattle.image_laws.specs.Promised.{Promises}
 use Rattle.image_laws.specs.Serving.{served_promises}
 use Rattle.pause_laws.proofs.Promises.{promised_ref, promised_refs, promised_nums, promises_of, ref_of, refs_of, nums_of}
 use Rattle.pause_laws.proofs.Holding.{request_reads, waits_for}
-use Rattle.pause_laws.proofs.Turned.{SamePromise, IsPromisedAsAsked, promise_after}
+use Rattle.image_laws.proofs.Turned.{SamePromise, IsPromisedAsAsked, promise_after}
 use Rattle.pause_laws.proofs.After.{gone, no_hands, shared_facts, roots_left}
 use Rattle.pause_laws.proofs.Made.{promised_if_some, some_if_promised, no_promise, promise}
-use Rattle.pause_laws.proofs.Still.{packed_in, full_phase, full_cset, full_evac, full_current, full_wait, packed_wait}
+use Rattle.image_laws.proofs.Still.{full_phase, full_cset, full_evac, full_current, full_wait, packed_wait}
 use Rattle.pause_laws.proofs.Paused.{then_of, packed_answer, asked_then, plot, is_after, plot_then, answer_left, answer_found}
 
 -- an asking is answered as it should be

@@ -19,7 +19,7 @@ use Rattle.heap_world.proofs.Pointing.{named_thing}
 use Rattle.image_laws.specs.Held.{IsAmong}
 use Rattle.image_laws.specs.Pack.{CanPack}
 use Rattle.image_laws.specs.Plot.{packed_block}
-use Rattle.image_laws.specs.Full.{now_in, root_words, kept_in, asked_in, packed, full}
+use Rattle.image_laws.specs.Full.{packed_in, now_in, root_words, kept_in, asked_in, packed, full}
 use Rattle.image_laws.specs.Promised.{Promises, with_promised}
 use Rattle.image_laws.specs.Image.{ImageStands}
 use Rattle.image_laws.specs.Serving.{asked_name, served_block, served_promises}
@@ -32,9 +32,9 @@ use Rattle.image_laws.proofs.Walked.{walk_keeps}
 use Rattle.pause_laws.proofs.Promises.{promises_of, promised_one}
 use Rattle.pause_laws.proofs.Before.{plain, not_next, kind_at, reached_at}
 use Rattle.pause_laws.proofs.Holding.{next_asked, holds_by}
-use Rattle.pause_laws.proofs.Turned.{SamePromise, IsPromisedAsAsked, promise_after, piece_after}
+use Rattle.image_laws.proofs.Turned.{SamePromise, IsPromisedAsAsked, promise_after, piece_after}
 use Rattle.pause_laws.proofs.After.{IsKnown, IsAfter, taken}
-use Rattle.pause_laws.proofs.Still.{packed_in, packed_wait}
+use Rattle.image_laws.proofs.Still.{packed_wait}
 
 -- what a mutator that asked has been answered
 abbrev pub then_of : Asking → (answer : ℕ) → Asking
