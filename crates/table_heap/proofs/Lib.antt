@@ -8,3 +8,4 @@ pub mod AtWork
 pub mod Running
 pub mod Turning
 pub mod Rounds
+pub mod Starting
