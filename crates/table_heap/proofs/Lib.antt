@@ -9,3 +9,4 @@ pub mod Running
 pub mod Turning
 pub mod Rounds
 pub mod Starting
+pub mod Ended
