@@ -10,3 +10,5 @@ pub mod AtWork
 pub mod Running
 pub mod Turning
 pub mod Rounds
+pub mod Starting
+pub mod Ended
