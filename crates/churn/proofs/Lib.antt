@@ -7,3 +7,5 @@ pub mod Opening
 pub mod Bounds
 pub mod Refusals
 pub mod Turns
+pub mod Numbers
+pub mod Sums

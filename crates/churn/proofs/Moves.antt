@@ -78,7 +78,7 @@ moved_root t g h g' h' r v w thread m same low high box leaf =
     })
 
 -- an object that is another, and one that is not
-object_case : (P : Object → Type 0) (g : Graph) (m n : Name) (o : Object) → (m ≡ n → P o) → P (named g (Some m)) → P (named (with_object g n o) (Some m))
+pub object_case : (P : Object → Type 0) (g : Graph) (m n : Name) (o : Object) → (m ≡ n → P o) → P (named g (Some m)) → P (named (with_object g n o) (Some m))
 object_case P g m n o here there =
     at (same_name m n) refl
   where
@@ -219,7 +219,7 @@ abbrev pub hub_with : Graph → ℕ → Reference → Object
 hub_with g t v = record { refs = set (fields_of g hub) t v; nums = (named g (Some hub)).nums }
 
 -- of the fields of an object one is another
-field_case : (P : ℕ → Reference → Type 0) (xs : List Reference) (i : ℕ) (v : Reference) → ((f : ℕ) → P f (get_or xs f None)) → P i v → (f : ℕ) → P f (get_or (set xs i v) f None)
+pub field_case : (P : ℕ → Reference → Type 0) (xs : List Reference) (i : ℕ) (v : Reference) → ((f : ℕ) → P f (get_or xs f None)) → P i v → (f : ℕ) → P f (get_or (set xs i v) f None)
 field_case P xs i v before now f =
     elim (eqb_tells f i) [
       | inl w ↦ elim (cases_lt i (length xs)) [
