@@ -9,3 +9,4 @@ pub mod Refusals
 pub mod Turns
 pub mod Numbers
 pub mod Sums
+pub mod TestLemmas

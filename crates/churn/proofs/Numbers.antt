@@ -1,12 +1,10 @@
 -- How large the numbers of the workload can be, and how many replies it has.
-use Rattle.std.proofs.Common.{ℕ, zero, suc, ◌≡◌, ◌+◌, ◌*◌, ◌<◌, ◌≤◌, ◌⊎◌, Bool, true, false, List, [], ◌∷◌, ◌++◌, length, map, get_or, set, replicate, Option, Some, None, refl, ap, ◌∙◌, sym, subst, inl, inr, arith, length-append, get_or-set_same, get_or-set_other, length-set}
-use Rattle.std.specs.Prelude.{◌≢◌, ◌==◌, if◌then◌else◌, slice_get, sum_by, unwrap_or}
+use Rattle.std.proofs.Common.{ℕ, zero, suc, ◌≡◌, ◌+◌, ◌*◌, ◌<◌, ◌≤◌, ◌⊎◌, Bool, true, false, List, [], ◌∷◌, ◌++◌, length, get_or, set, replicate, Option, Some, None, refl, ap, ◌∙◌, sym, subst, inl, inr, arith, length-append, get_or-set_same, get_or-set_other, length-set}
+use Rattle.std.specs.Prelude.{if◌then◌else◌, sum_by, unwrap_or}
 use Rattle.std.specs.List.{AllByRecursion, flat_map, range_with_len}
 use Rattle.std.proofs.lemmas.Bool.{cases_lt}
 use Rattle.std.proofs.lemmas.Bool.Decides.{eqb_tells}
 use Rattle.std.proofs.lemmas.List.{get_or_past, get_or-replicate, length-replicate, length-map}
-use Rattle.std.proofs.lemmas.List.Concat.{flat_map-cons}
-use Rattle.std.proofs.lemmas.List.FromFn.{length-range_with_len}
 use Rattle.std.proofs.lemmas.List.Sums.{sum_by-cons}
 use Rattle.std.proofs.lemmas.Option.{get_or_from_slice_get}
 use Rattle.shen_graph.specs.declared.command.Command.{Command}
@@ -16,13 +14,13 @@ use Rattle.shen_graph.specs.declared.command.Reply.TheVariants as reply
 use Rattle.shen_graph.specs.declared.name.Name.{Name}
 use Rattle.shen_graph.specs.Graph.{Graph, Object, Reference, named, same_reference, field_at, number_at, with_root, with_object, with_named, with_field, with_number, fresh, blank, hub, same_name, opening}
 use Rattle.shen_graph.specs.Step.{Outcome, IsLegal, outcome, answers, on, shown, yes_or_no}
-use Rattle.shen_graph.specs.History.{Entry, is_full, after_entry, after, EachIsLegal, of_thread, commands_of, replies_of, Follows}
+use Rattle.shen_graph.specs.History.{Entry, after_entry, EachIsLegal, of_thread, commands_of, replies_of, Follows}
 use Rattle.churn.specs.Script.{round, churn_script, churn_scripts}
 use Rattle.churn.specs.Summary.{number_told}
 use Rattle.churn.specs.Laws.{in_turn}
 use Rattle.churn.proofs.Parts.{IsThread}
-use Rattle.churn.proofs.Moves.{object_case, field_case, eqb_itself}
-use Rattle.churn.proofs.Runs.{of_thread-here, of_thread-there, thread_or_not, Going}
+use Rattle.churn.proofs.Moves.{object_case}
+use Rattle.churn.proofs.Runs.{of_thread-here, of_thread-there, thread_or_not}
 use Rattle.churn.proofs.Opening.{script_is, script_none, all_append}
 
 -- no number of an object is above

@@ -1,5 +1,5 @@
 -- What a run tells, summed up.
-use Rattle.std.proofs.Common.{ℕ, ◌≡◌, ◌+◌, ◌*◌, ◌<◌, ◌≤◌, List, [], ◌∷◌, ◌++◌, length, map, Option, Some, refl, ap, ◌∙◌, sym, subst, arith}
+use Rattle.std.proofs.Common.{ℕ, ◌≡◌, ◌+◌, ◌*◌, ◌≤◌, List, [], ◌∷◌, ◌++◌, length, map, Option, Some, refl, ap, ◌∙◌, sym, subst, arith}
 use Rattle.std.specs.Prelude.{sum_by}
 use Rattle.std.proofs.lemmas.List.{length-map, map-append}
 use Rattle.std.proofs.lemmas.List.Sums.{sum_by-cons}
@@ -10,10 +10,9 @@ use Rattle.shen_graph.specs.History.{Entry, after, of_thread}
 use Rattle.shen_graph.specs.History as history
 use Rattle.shen_graph.specs.GraphText.{Row, row_in}
 use Rattle.shen_graph.specs.Reach.{IsReach, size}
-use Rattle.shen_graph.specs.Work.{Progress, replies_of}
-use Rattle.churn.specs.declared.summary.Summary.{Summary}
-use Rattle.churn.specs.Summary.{IsSummary, summary_of, all_replies, number_told, row_words}
-use Rattle.churn.specs.Laws.{IsRun, IsRunInTurn, in_turn, Tells, SumsUpTurns, CanSumUp, RunsCanBeSummedUp}
+use Rattle.shen_graph.specs.Work.{Progress}
+use Rattle.churn.specs.Summary.{summary_of, all_replies, number_told, row_words}
+use Rattle.churn.specs.Laws.{in_turn, Tells, SumsUpTurns, RunsCanBeSummedUp}
 use Rattle.churn.proofs.Parts.{Tidy, Same-itself}
 use Rattle.churn.proofs.Runs.{solo}
 use Rattle.churn.proofs.Opening.{tidy_opening, going_opening}
