@@ -7,3 +7,6 @@ pub mod Opening
 pub mod Bounds
 pub mod Refusals
 pub mod Turns
+pub mod Numbers
+pub mod Sums
+pub mod TestLemmas

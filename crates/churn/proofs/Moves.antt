@@ -1,14 +1,14 @@
 -- What changes of one thread's part keep.
-use Rattle.std.proofs.Common.{ℕ, ◌≡◌, ◌+◌, ◌<◌, ◌≤◌, ◌⊎◌, Bool, true, false, List, [], ◌∷◌, length, get_or, set, eqb, replicate, Some, None, refl, ap, ◌∙◌, sym, subst, inl, inr, arith, get_or-set_same, get_or-set_other, length-set}
+use Rattle.std.proofs.Common.{ℕ, ◌≡◌, ◌+◌, ◌<◌, ◌≤◌, Bool, true, false, List, [], length, get_or, set, eqb, replicate, Some, None, refl, ap, ◌∙◌, sym, subst, inl, inr, arith, get_or-set_same, get_or-set_other, length-set}
 use Rattle.std.specs.Prelude.{◌≢◌, ◌==◌, ◌&&◌, if◌then◌else◌, unwrap_or}
 use Rattle.std.proofs.lemmas.Bool.{cases_lt}
 use Rattle.std.proofs.lemmas.Bool.Decides.{nat_tests, eqb_tells}
 use Rattle.std.proofs.lemmas.List.{get_or_past, get_or-replicate, length-replicate}
 use Rattle.shen_graph.specs.declared.name.Name.{Name}
-use Rattle.shen_graph.specs.Graph.{Graph, Object, Reference, named, hub, same_name, with_root, with_object, with_named, with_fresh, fresh, blank}
+use Rattle.shen_graph.specs.Graph.{Graph, Object, Reference, named, hub, same_name, with_root, with_object, with_named, with_fresh, blank}
 use Rattle.shen_graph.specs.Reach.{size}
-use Rattle.shen_graph.proofs.PlainLemmas.{same_name-true, same_name-itself}
-use Rattle.churn.proofs.Parts.{IsThread, own, fields_of, field_of, IsOf, IsBox, IsLeaf, IsLink, Same, Tidy, Fits, Same-itself, Same-flip, Same-join, box_of, leaf_of, name_of, named_same}
+use Rattle.shen_graph.proofs.PlainLemmas.{same_name-true}
+use Rattle.churn.proofs.Parts.{IsThread, own, fields_of, field_of, IsBox, IsLeaf, IsLink, Same, Tidy, Fits, Same-itself, Same-join, name_of, named_same}
 
 -- Two graphs go on from two that are the same to a thread, by a change of what belongs to it.
 pub record Moved (t : ℕ) (g h g' h' : Graph) : Type 0 where
@@ -78,7 +78,7 @@ moved_root t g h g' h' r v w thread m same low high box leaf =
     })
 
 -- an object that is another, and one that is not
-object_case : (P : Object → Type 0) (g : Graph) (m n : Name) (o : Object) → (m ≡ n → P o) → P (named g (Some m)) → P (named (with_object g n o) (Some m))
+pub object_case : (P : Object → Type 0) (g : Graph) (m n : Name) (o : Object) → (m ≡ n → P o) → P (named g (Some m)) → P (named (with_object g n o) (Some m))
 object_case P g m n o here there =
     at (same_name m n) refl
   where
@@ -219,7 +219,7 @@ abbrev pub hub_with : Graph → ℕ → Reference → Object
 hub_with g t v = record { refs = set (fields_of g hub) t v; nums = (named g (Some hub)).nums }
 
 -- of the fields of an object one is another
-field_case : (P : ℕ → Reference → Type 0) (xs : List Reference) (i : ℕ) (v : Reference) → ((f : ℕ) → P f (get_or xs f None)) → P i v → (f : ℕ) → P f (get_or (set xs i v) f None)
+pub field_case : (P : ℕ → Reference → Type 0) (xs : List Reference) (i : ℕ) (v : Reference) → ((f : ℕ) → P f (get_or xs f None)) → P i v → (f : ℕ) → P f (get_or (set xs i v) f None)
 field_case P xs i v before now f =
     elim (eqb_tells f i) [
       | inl w ↦ elim (cases_lt i (length xs)) [

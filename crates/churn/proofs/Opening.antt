@@ -1,14 +1,12 @@
 -- How the workload begins.
-use Rattle.std.proofs.Common.{ℕ, zero, suc, ◌≡◌, ◌+◌, ◌<◌, ◌≤◌, ◌⊎◌, true, false, List, [], ◌∷◌, ◌++◌, length, map, get_or, Some, None, refl, ap, ◌∙◌, sym, subst, inl, inr, arith}
+use Rattle.std.proofs.Common.{ℕ, zero, suc, ◌≡◌, ◌≤◌, ◌⊎◌, true, false, List, [], ◌∷◌, ◌++◌, length, get_or, Some, None, refl, ap, ◌∙◌, sym, subst, inl, inr, arith}
 use Rattle.std.specs.Prelude.{if◌then◌else◌, ◌&&◌, ◌==◌, nat_le}
 use Rattle.std.specs.List.{AllByRecursion, flat_map, range_with_len}
 use Rattle.std.proofs.lemmas.Bool.{cases_lt}
 use Rattle.std.proofs.lemmas.Bool.Decides.{nat_tests}
 use Rattle.std.proofs.lemmas.List.{get_or_past}
-use Rattle.shen_graph.specs.declared.command.Command.{Command}
-use Rattle.shen_graph.specs.declared.command.Command.TheVariants.{New, Set}
-use Rattle.shen_graph.specs.declared.name.Name.{Name}
-use Rattle.shen_graph.specs.Graph.{Graph, Object, Reference, named, hub, opening, same_name}
+use Rattle.shen_graph.specs.declared.command.Command.TheVariants.{Set}
+use Rattle.shen_graph.specs.Graph.{Object, named, hub, opening}
 use Rattle.shen_graph.specs.Reach.{size}
 use Rattle.shen_graph.specs.History.{Entry, of_thread, commands_of, script_of, Follows}
 use Rattle.churn.specs.Script.{round, churn_script, churn_scripts}
@@ -16,7 +14,7 @@ use Rattle.churn.proofs.Parts.{IsThread, own, IsLeaf, IsLink, IsBox, field_of, T
 use Rattle.churn.proofs.Moves.{not_hub_too, none_in}
 use Rattle.churn.proofs.Steps.{IsLater}
 use Rattle.churn.proofs.Steps.IsLater.{makes, writes, links, stores, drops, loads, reads, swaps, exchanges}
-use Rattle.churn.proofs.Runs.{Ahead, Going, thread_or_not}
+use Rattle.churn.proofs.Runs.{Going}
 
 pub thread_cases : (t : ℕ) → IsThread t → (t ≡ 1) ⊎ ((t ≡ 2) ⊎ (t ≡ 3))
 thread_cases t is =
@@ -70,7 +68,7 @@ tidy_opening = record {
 
 -- the commands after a thread's first
 
-all_append : {A : Type 0} (P : A → Type 0) (xs ys : List A) → AllByRecursion P xs → AllByRecursion P ys → AllByRecursion P (xs ++ ys)
+pub all_append : {A : Type 0} (P : A → Type 0) (xs ys : List A) → AllByRecursion P xs → AllByRecursion P ys → AllByRecursion P (xs ++ ys)
 all_append P [] ys h k = k
 all_append P (x ∷ xs) ys h k = (h.0, all_append P xs ys h.1 k)
 

@@ -1,16 +1,15 @@
 -- What a command of the workload answers and changes.
-use Rattle.std.proofs.Common.{ℕ, ◌≡◌, ◌+◌, ◌<◌, ◌≤◌, Bool, true, false, List, [], ◌∷◌, length, get_or, set, Option, Some, None, refl, ap, ◌∙◌, sym, subst, arith}
-use Rattle.std.specs.Prelude.{◌≢◌, if◌then◌else◌, slice_get}
+use Rattle.std.proofs.Common.{ℕ, ◌≡◌, ◌+◌, ◌<◌, ◌≤◌, true, false, Option, Some, None, refl, ap, ◌∙◌, sym, subst, arith}
+use Rattle.std.specs.Prelude.{if◌then◌else◌, slice_get}
 use Rattle.std.proofs.lemmas.Option.{slice_get-get_or, get_or_from_slice_get}
 use Rattle.shen_graph.specs.declared.command.Command.{Command}
 use Rattle.shen_graph.specs.declared.command.Command.TheVariants.{New, Get, Set, Cas, Xchg, Rd, Wr, Drop}
-use Rattle.shen_graph.specs.declared.command.Reply.{Reply}
 use Rattle.shen_graph.specs.declared.command.Reply.TheVariants as reply
 use Rattle.shen_graph.specs.declared.name.Name.{Name}
 use Rattle.shen_graph.specs.Graph.{Graph, Object, Reference, named, hub, same_reference, field_at, number_at, with_root, with_field, with_number, with_named, with_fresh, fresh, blank}
 use Rattle.shen_graph.specs.Step.{Outcome, outcome, answers, on, shown}
 use Rattle.churn.proofs.Parts.{IsThread, own, fields_of, field_of, IsOf, IsBox, IsLeaf, Same, Tidy, Fits, box_of, leaf_of, name_of, named_same}
-use Rattle.churn.proofs.Moves.{Moved, stays, moved_root, moved_fresh, moved_hub, moved_box, moved_leaf, hub_with, with_slot, with_value, first-fits, later-fits}
+use Rattle.churn.proofs.Moves.{Moved, stays, moved_root, moved_fresh, moved_hub, moved_box, moved_leaf, with_slot, with_value, first-fits, later-fits}
 
 -- the commands of a thread after its first, which makes its box
 pub data IsLater (t : ℕ) : Command → Type 0 where

@@ -1,23 +1,19 @@
 -- Each history of the workload tells the same as the one in which the threads run one after the other.
-use Rattle.std.proofs.Common.{ℕ, zero, suc, ◌≡◌, ◌+◌, ◌<◌, ◌≤◌, ◌⊎◌, Bool, true, false, eqb, List, [], ◌∷◌, ◌++◌, length, get_or, map, Some, None, refl, ap, ◌∙◌, sym, subst, inl, inr, arith}
-use Rattle.std.specs.Prelude.{◌≢◌, ◌==◌, if◌then◌else◌, All, slice_get}
+use Rattle.std.proofs.Common.{ℕ, zero, suc, ◌≡◌, Bool, true, false, eqb, List, [], ◌∷◌, ◌++◌, Some, None, refl, ap, ◌∙◌, sym, subst, inl, inr, arith}
+use Rattle.std.specs.Prelude.{◌≢◌, ◌==◌, if◌then◌else◌, slice_get}
 use Rattle.std.specs.List.{AllByRecursion}
-use Rattle.std.proofs.lemmas.Bool.{cases_lt}
-use Rattle.std.proofs.lemmas.Bool.Decides.{nat_tests, eqb_tells}
+use Rattle.std.proofs.lemmas.Bool.Decides.{eqb_tells}
 use Rattle.std.proofs.lemmas.List.{append-nil, ext_get_or}
 use Rattle.std.proofs.lemmas.List.Elements.{filter-append, All-nil, All-cons}
-use Rattle.shen_graph.specs.declared.command.Reply.TheVariants as reply
 use Rattle.shen_graph.specs.declared.name.Name.{Name}
-use Rattle.shen_graph.specs.Graph.{Graph, Object, Reference, named, hub, opening, same_name}
-use Rattle.shen_graph.specs.Step.{Outcome, IsLegal, outcome, answers}
-use Rattle.shen_graph.specs.History.{Entry, after_entry, after, EachIsLegal, of_thread, commands_of, Follows, IsWithoutFull}
-use Rattle.shen_graph.specs.Crowd.{IsLegalHistory, AreCrowded, IsCrowded}
+use Rattle.shen_graph.specs.Graph.{Graph, Reference, named, hub, opening, same_name}
+use Rattle.shen_graph.specs.Step.{Outcome, IsLegal, outcome}
+use Rattle.shen_graph.specs.History.{Entry, after_entry, after, EachIsLegal, of_thread, commands_of, IsWithoutFull}
 use Rattle.shen_graph.proofs.PlainLemmas.{fun_ext, same_name-true}
-use Rattle.churn.specs.Script.{churn_scripts}
-use Rattle.churn.specs.Laws.{IsRun, in_turn, IsRunInTurn, TellTheSame, NoneIsFull, RunsAreInTurn, OneInTurn}
-use Rattle.churn.proofs.Parts.{IsThread, own, fields_of, field_of, IsLink, Same, Tidy, Same-itself, Same-flip, Same-join, name_of}
+use Rattle.churn.specs.Laws.{IsRun, in_turn, NoneIsFull, RunsAreInTurn, OneInTurn}
+use Rattle.churn.proofs.Parts.{IsThread, fields_of, field_of, IsLink, Same, Tidy, Same-itself, Same-join}
 use Rattle.churn.proofs.Moves.{eqb_itself, eqb_apart}
-use Rattle.churn.proofs.Runs.{IsGiven, Going, Solo, solo, thread_or_not}
+use Rattle.churn.proofs.Runs.{IsGiven, Going, solo, thread_or_not}
 use Rattle.churn.proofs.Opening.{tidy_opening, going_opening, thread_cases}
 use Rattle.churn.proofs.Refusals.{none_from, after-append, legal-append}
 

@@ -1,5 +1,6 @@
 ghost use Rattle.std.specs.Prelude.{◌≡◌, ◌+◌, ◌<◌, ◌≤◌, ◌^◌, [], ◌∷◌, length, sum_by};
 ghost use Rattle.shen_graph.specs.Work.{HasScript};
+ghost use Rattle.churn.specs.Laws.{SumsUpTurns};
 ghost use Rattle.churn.specs.Summary.{summary_of, all_replies, number_told, row_words, with_replies, with_rows};
 
 use shen_graph::{GraphText, Reply, Work};
@@ -84,8 +85,8 @@ impl Summary {
     }
 }
 
-/// The summary of the replies of three threads and the objects of a graph, each looked at once.
-pub fn summarize(seed: u64, count: u64, replies: &Work, graph: &GraphText) -> Summary
+// The summary of replies and objects, whoever gave them.
+fn counted(seed: u64, count: u64, replies: &Work, graph: &GraphText) -> Summary
     requires scripts { HasScript replies.now 0 × HasScript replies.now 1 × HasScript replies.now 2 }
     requires commands { length (all_replies replies.now) < 2 ^ 64 }
     requires sum { sum_by number_told (all_replies replies.now) < 2 ^ 64 }
@@ -98,4 +99,17 @@ pub fn summarize(seed: u64, count: u64, replies: &Work, graph: &GraphText) -> Su
     summary.add_replies(replies.replies(2).list());
     summary.add_objects(graph);
     summary
+}
+
+/// The summary of the replies of three threads and the objects of a graph, each looked at once. Where they are those of a
+/// run, it is the summary of the run in which the threads run one after the other.
+pub fn summarize(seed: u64, count: u64, replies: &Work, graph: &GraphText) -> Summary
+    requires scripts { HasScript replies.now 0 × HasScript replies.now 1 × HasScript replies.now 2 }
+    requires commands { length (all_replies replies.now) < 2 ^ 64 }
+    requires sum { sum_by number_told (all_replies replies.now) < 2 ^ 64 }
+    requires words { sum_by row_words graph.now.rows < 2 ^ 64 }
+    ensures counts { result ≡ summary_of seed count (all_replies replies.now) graph.now.rows }
+    ensures turns { SumsUpTurns seed count replies.now graph.now.rows result }
+{
+    counted(seed, count, replies, graph)
 }

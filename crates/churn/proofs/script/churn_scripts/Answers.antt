@@ -1,4 +1,4 @@
-use Rattle.std.proofs.Common.{◌∙◌, sym, arith}
+use Rattle.std.proofs.Common.{◌∙◌, arith}
 use Rattle.churn.specs.Script.{churn_script}
 use Rattle.churn.proofs.ScriptLemmas.{scripts_more, scripts_all}
 use Rattle.churn.proofs.script.churn_scripts.Goals as goal
