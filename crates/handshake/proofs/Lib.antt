@@ -5,3 +5,4 @@ pub mod Still
 pub mod Parts
 pub mod Counting
 pub mod Beginnings
+pub mod Ending

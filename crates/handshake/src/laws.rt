@@ -9,6 +9,7 @@ ghost use Rattle.handshake.specs.Standing.{Standing};
 ghost use Rattle.handshake.specs.Obeys.{RowsObey};
 ghost use Rattle.handshake.specs.Shaken.{IsShaken, EachObeys, IsPausing, IsStill};
 ghost use Rattle.handshake.specs.Left.{IsCounted, EachCounts};
+ghost use Rattle.handshake.specs.Ending.{IsEndWord, EachKeepsEnd};
 
 /// The law of the handshake: whatever list of events is made of which each one obeys, state words and pause word go on to say
 /// where the machines stand; and from the last check of a pause to its end no mutator or helper is in the heap, and none makes
@@ -34,4 +35,11 @@ pub fn mutators_are_counted<R, O>()
         → IsCounted c left s → slice_get s.machines number ≡ Some r → left r ≡ true → view c s.words Left ≢ 0 }
     ensures none_stays { (c : Config) (kind : Kind R O) (left : R → Bool) (s : Stage R) (events : List (Event O))
         → IsCounted c left s → EachCounts c kind left s events → view c s.words Left ≡ 0 → view c (go kind s events).words Left ≡ 0 }
+{}
+
+/// The law of the word that says that the control has ended: whatever list of events is made of which each one keeps it, the word
+/// goes on to be 1 where a machine has ended so, and 0 where none has.
+pub fn end_is_known<R, O>()
+    ensures { (c : Config) (kind : Kind R O) (ended : R → Bool) (s : Stage R) (events : List (Event O))
+        → IsEndWord c ended s → EachKeepsEnd c kind ended s events → IsEndWord c ended (go kind s events) }
 {}
