@@ -51,3 +51,4 @@ pub mod Crowding
 pub mod Replies
 pub mod Requests
 pub mod Theorem
+pub mod Ending

@@ -187,15 +187,15 @@ module _ (c : Config) (m : Mutating) (order : Order) where
   ObeysAt spot = Obeys c m.seat (standing_at spot) (placed c (touch_at c m.seat m.made m.kept order spot)) (λ got. standing_at (next_of c (record m { spot = spot }) order got).spot)
 
   -- the step stays in the heap: it is of a word of the image, and its next spot is in the heap
-  record StaysIn (spot : Spot) : Type 0 where
-    image : is_image (touch_at c m.seat m.made m.kept order spot).word ≡ true
-    next : (got : ℕ) → in_heap (next_of c (record m { spot = spot }) order got).spot ≡ true
+  pub record StaysIn (spot : Spot) : Type 0 where
+    pub image : is_image (touch_at c m.seat m.made m.kept order spot).word ≡ true
+    pub next : (got : ℕ) → in_heap (next_of c (record m { spot = spot }) order got).spot ≡ true
 
   answered : (got : ℕ) (b : Bool) → in_heap (Waiting (if b then wait.ClearAnswer Full else wait.StoreRoot got)) ≡ true
   answered got true = refl
   answered got false = refl
 
-  waits_in : (at : WaitSpot) → wait_standing at ≡ inside → StaysIn (Waiting at)
+  pub waits_in : (at : WaitSpot) → wait_standing at ≡ inside → StaysIn (Waiting at)
   waits_in wait.StepOut is = absurd (cc (is))
   waits_in wait.Poll is = absurd (cc (is))
   waits_in wait.LoadAnswer is = record { image = refl; next = λ got. answered got (nat_eq got 1) }
@@ -211,7 +211,7 @@ module _ (c : Config) (m : Mutating) (order : Order) where
   not_inside Lower on is = cc
   not_inside Await on is = cc
 
-  stays_in : (spot : Spot) → numbers_fit c m.made m.kept spot ≡ true → standing_at spot ≡ inside → StaysIn spot
+  pub stays_in : (spot : Spot) → numbers_fit c m.made m.kept spot ≡ true → standing_at spot ≡ inside → StaysIn spot
   stays_in LoadPhase on is = record { image = refl; next = λ got. refl }
   stays_in LoadSet on is = record { image = refl; next = λ got. first_in m.kept.command }
   stays_in (Loading at) on is = record { image = load_image c m.seat m.made m.kept order at; next = λ got. load_in m.kept.command at got }
@@ -246,12 +246,12 @@ module _ (c : Config) (m : Mutating) (order : Order) where
   waits_obey (wait.StoreRoot address) word = on (Waiting (wait.StoreRoot address)) (waits_in (wait.StoreRoot address) refl) word
   waits_obey (wait.ClearAnswer reply) word = on (Waiting (wait.ClearAnswer reply)) (waits_in (wait.ClearAnswer reply) refl) word
 
-  given_order : (o : Order) → takes_at Rest m.made o ≡ true → o ≡ Nothing → ⊥
+  pub given_order : (o : Order) → takes_at Rest m.made o ≡ true → o ≡ Nothing → ⊥
   given_order Nothing takes is = cc
   given_order (Begin command) takes is = cc
   given_order End takes is = cc
 
-  given_ended : (reply : Reply) (o : Order) → takes_at (Ended reply) m.made o ≡ true → o ≡ Nothing → ⊥
+  pub given_ended : (reply : Reply) (o : Order) → takes_at (Ended reply) m.made o ≡ true → o ≡ Nothing → ⊥
   given_ended reply Nothing takes is = cc
   given_ended reply (Begin command) takes is = cc
   given_ended reply End takes is = cc
@@ -324,10 +324,10 @@ module _ (c : Config) (m : Mutating) (order : Order) where
   spot_counts AskCycle takes going word = counts_in AskCycle (stays_in AskCycle going refl) refl word
 
 -- a mutator that is ready has its numbers in range, and makes an access of a word of the table
-ready_fits : (c : Config) (m : Mutating) → IsReady c m → numbers_fit c m.made m.kept m.spot ≡ true
+pub ready_fits : (c : Config) (m : Mutating) → IsReady c m → numbers_fit c m.made m.kept m.spot ≡ true
 ready_fits c m ready = (and_parts (touch_fits c (touch_of c m Nothing)) (numbers_fit c m.made m.kept m.spot) ready).1
 
-ready_word : (c : Config) (m : Mutating) → IsReady c m → IsWord c (touch_of c m Nothing).word
+pub ready_word : (c : Config) (m : Mutating) → IsReady c m → IsWord c (touch_of c m Nothing).word
 ready_word c m ready =
     is_word_true c (touch_of c m Nothing).word
     (and_parts (is_word c (touch_of c m Nothing).word) (form_fits (touch_of c m Nothing).form)

@@ -13,3 +13,4 @@ pub mod Begins
 pub mod Sound
 pub mod Pausing
 pub mod Schedule
+pub mod Ending

@@ -7,7 +7,7 @@ mod opening;
 ghost use Rattle.std.specs.Prelude.{ℕ, ◌≡◌, ◌<◌, true, List};
 ghost use Rattle.heap_words.specs.declared.config.Config.{Config};
 ghost use Rattle.heap_words.specs.Access.{place_of};
-ghost use Rattle.heap_words.specs.Words.{table_words};
+ghost use Rattle.heap_words.specs.Words.{End, view, table_words};
 ghost use Rattle.steps_base.specs.Steps.{Stage, Event, go, HasReached, Finds};
 ghost use Rattle.shen_graph.specs.declared.order.Order.{Order};
 ghost use Rattle.shen_graph.specs.Graph.{Graph};
@@ -26,6 +26,8 @@ ghost use Rattle.step_core.specs.Opening.{opening};
 ghost use Rattle.step_core.specs.Begins.{Begins, first_graph};
 ghost use Rattle.step_core.specs.Pausing.{IsInPause, IsEmpty};
 ghost use Rattle.step_core.specs.Sound.{IsMutator, IsSound};
+ghost use Rattle.step_core.specs.Ending.{has_ended};
+ghost use Rattle.handshake.specs.Ending.{IsEndWord};
 
 pub use opening::{first_free, open_words};
 
@@ -57,6 +59,12 @@ pub fn found_words_are_fit()
 /// that the pause may change, but to look for its answer.
 pub fn pauses_are_empty()
     ensures { (change : Change) → IsPause change → (c : Config) (s : Stage Actor) (g : Graph) → Begins c s g → (events : List (Event Order)) → IsInPause c (go (kind change c) s events) → IsEmpty c (go (kind change c) s events) }
+{}
+
+/// A law: where the word of the end is 0 before the first step, it is 1 after a list of steps where the control has ended, and
+/// 0 where it has not.
+pub fn end_is_known()
+    ensures { (change : Change) → IsPause change → (c : Config) (s : Stage Actor) (g : Graph) → Begins c s g → view c s.words End ≡ 0 → (events : List (Event Order)) → IsEndWord c has_ended (go (kind change c) s events) }
 {}
 
 /// A law: a mutator that is about to look for a free region has a current region with less room than it wants, or none.
