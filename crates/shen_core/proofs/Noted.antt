@@ -2,7 +2,7 @@
 use Rattle.std.proofs.Common.{◌≡◌, ◌≢◌, ◌<◌, ⊎_elim, ℕ, Bool, true, false, List, [], ◌∷◌, ◌++◌, length, get_or, map, All, Option, Some, None, refl, sym, ap, ◌∙◌, subst, arith}
 use Rattle.pause_laws.specs.Image.{full_image}
 use Rattle.std.specs.Prelude.{◌+◌, slice_get, slice_set, slice_index, nat_lt, if◌then◌else◌}
-use Rattle.std.proofs.lemmas.List.{length-append, map-append, get_or-set_same, get_or-set_other, append-nil, set-set}
+use Rattle.std.proofs.lemmas.List.{length-append, get_or-set_same, get_or-set_other, append-nil, set-set}
 use Rattle.std.proofs.lemmas.List.Elements.{All-set}
 use Rattle.std.proofs.lemmas.Option.{same_Some, slice_get_within}
 use Rattle.std.proofs.lemmas.Bool.{false≢true, cases_eq, ltb-true, lt-ltb}
@@ -26,7 +26,7 @@ use Rattle.heap_machines.proofs.Replies.{listed, took_replies, done_gives, other
 use Rattle.heap_machines.proofs.Names.{HasNames, names_on, names_noted}
 use Rattle.heap_machines.proofs.OnScript.{begins, goes_on_with}
 use Rattle.step_core.specs.Actor.{Machine, fresh_helper, Actor}
-use Rattle.step_core.specs.Machines.{takes_of, plan_of, answer_of, machine_after, kind, is_again, again_by, is_resting, may_begin, reply_in, made_of_machine, at_hand_of, ended_by}
+use Rattle.step_core.specs.Machines.{takes_of, plan_of, answer_of, machine_after, kind, is_again, again_by, is_resting, may_begin, reply_in, made_of_machine, at_hand_of}
 use Rattle.heap_machines.specs.Roles.{is_mutating, given_in}
 use Rattle.step_core.specs.Schedule.{Scripts, waits, waits_of, waits_in}
 use Rattle.shen_core.specs.declared.plain.Plain.{Plain}

@@ -1,5 +1,5 @@
 -- The turn of a machine, in each stage that memory shows.
-use Rattle.std.proofs.Common.{◌≡◌, ◌<◌, ℕ, Bool, true, false, List, length, Option, Some, None, refl, sym, ap, ◌∙◌, subst, All, arith}
+use Rattle.std.proofs.Common.{◌≡◌, ◌<◌, ℕ, Bool, true, false, List, length, Option, Some, None, refl, sym, ap, ◌∙◌, subst}
 use Rattle.pause_laws.proofs.Pauses.{full_is_pause}
 use Rattle.pause_laws.specs.Image.{full_image}
 use Rattle.std.specs.Prelude.{nat_lt, slice_get, slice_index, slice_index_or, IfSome, is_some, if◌then◌else◌}
@@ -8,7 +8,7 @@ use Rattle.std.specs.Option.{option_map}
 use Rattle.std.proofs.Math.Logic.{∥∥₁_elim}
 use Rattle.std.proofs.Math.Bool.{Bool-set}
 use Rattle.std.proofs.lemmas.List.{length-map}
-use Rattle.std.proofs.lemmas.Option.{same_Some, slice_get-get_or, slice_get_within, get_or_from_slice_get}
+use Rattle.std.proofs.lemmas.Option.{same_Some, slice_get-get_or}
 use Rattle.std.proofs.lemmas.Bool.{ltb-true}
 use Rattle.heap_words.specs.declared.config.Config.{Config}
 use Rattle.steps_base.specs.Steps.{Stage, Event, Finds}
