@@ -1,6 +1,7 @@
 pub mod Turns
 mod GoesOn
 pub mod Replies
+pub mod Names
 pub mod OnScript
 pub mod Openings
 pub mod Standing

@@ -1,5 +1,6 @@
 -- The replies that machines give, by their roles.
-use Rattle.std.proofs.Common.{◌≡◌, ℕ, ◌+◌, ◌≤◌, true, false, List, [], ◌∷◌, map, Option, Some, None, refl, ap, arith}
+use Rattle.std.proofs.Common.{◌≡◌, ℕ, ◌+◌, ◌≤◌, true, false, List, [], ◌∷◌, ◌++◌, map, Option, Some, None, refl, ap, ◌∙◌, arith}
+use Rattle.std.proofs.lemmas.List.{map-append}
 use Rattle.heap_words.specs.declared.config.Config.{Config}
 use Rattle.std.specs.Prelude.{◌==◌, Bool, if◌then◌else◌}
 use Rattle.heap_words.specs.declared.access.Took.{Took}
@@ -20,7 +21,7 @@ use Rattle.mutator.specs.declared.makes.MakeSpot.TheVariants as make
 use Rattle.mutator.specs.Orders.{is_between_calls, takes_commands}
 use Rattle.mutator.specs.Rows.{Mutating, begun, given_at, answer_at, reply_at, next_at}
 use Rattle.mutator.proofs.Done as ends
-use Rattle.step_core.specs.Actor.{Machine, mutating, helping, controlling, entries_of}
+use Rattle.step_core.specs.Actor.{Machine, mutating, helping, controlling, Actor, entries_of}
 use Rattle.heap_world.specs.Change.{Change}
 use Rattle.step_core.specs.Machines.{machine_after, answer_of, ended_by, reply_in, is_resting, may_begin, made_of_machine, at_hand, at_hand_of}
 use Rattle.heap_machines.specs.Roles.{given_in, is_mutating}
@@ -189,3 +190,9 @@ ended_replies command (mutating m) = by_given (given_at m.spot)
     by_given (Some r) = refl
 ended_replies command (helping h) = refl
 ended_replies command (controlling k) = refl
+
+-- the replies of an actor's calls after its step
+pub took_replies : (a : Actor) → map (λ e. e.reply) (a.calls ++ ended_by a.command a.machine) ≡ map (λ e. e.reply) a.calls ++ listed (given_in a.machine)
+took_replies a =
+    map-append (λ e. e.reply) a.calls (ended_by a.command a.machine)
+    ∙ ap (λ rs. map (λ e. e.reply) a.calls ++ rs) (ended_replies a.command a.machine)

@@ -2,7 +2,7 @@
 use Rattle.std.proofs.Common.{◌≡◌, ◌≢◌, ◌<◌, ⊎_elim, ℕ, Bool, true, false, List, [], ◌∷◌, ◌++◌, length, get_or, map, All, Option, Some, None, refl, sym, ap, ◌∙◌, subst, arith}
 use Rattle.pause_laws.specs.Image.{full_image}
 use Rattle.std.specs.Prelude.{◌+◌, slice_get, slice_set, slice_index, nat_lt, if◌then◌else◌}
-use Rattle.std.proofs.lemmas.List.{length-append, map-append, get_or-set_same, get_or-set_other, append-nil, set-set}
+use Rattle.std.proofs.lemmas.List.{length-append, get_or-set_same, get_or-set_other, append-nil, set-set}
 use Rattle.std.proofs.lemmas.List.Elements.{All-set}
 use Rattle.std.proofs.lemmas.Option.{same_Some, slice_get_within}
 use Rattle.std.proofs.lemmas.Bool.{false≢true, cases_eq, ltb-true, lt-ltb}
@@ -22,10 +22,11 @@ use Rattle.heap_machines.specs.declared.stepped.Stepped.{Stepped}
 use Rattle.heap_machines.specs.declared.stepped.Stepped.TheVariants as stepped
 use Rattle.heap_machines.specs.Answer.{stepped_of, stepped_by, says}
 use Rattle.heap_machines.proofs.Turns.{says_some}
-use Rattle.heap_machines.proofs.Replies.{listed, ended_replies, done_gives, other_gives, given_after, none_after}
+use Rattle.heap_machines.proofs.Replies.{listed, took_replies, done_gives, other_gives, given_after}
+use Rattle.heap_machines.proofs.Names.{HasNames, names_on, names_noted}
 use Rattle.heap_machines.proofs.OnScript.{begins, goes_on_with}
 use Rattle.step_core.specs.Actor.{Machine, fresh_helper, Actor}
-use Rattle.step_core.specs.Machines.{takes_of, plan_of, answer_of, machine_after, kind, is_again, again_by, is_resting, may_begin, reply_in, made_of_machine, at_hand_of, ended_by}
+use Rattle.step_core.specs.Machines.{takes_of, plan_of, answer_of, machine_after, kind, is_again, again_by, is_resting, may_begin, reply_in, made_of_machine, at_hand_of}
 use Rattle.heap_machines.specs.Roles.{is_mutating, given_in}
 use Rattle.step_core.specs.Schedule.{Scripts, waits, waits_of, waits_in}
 use Rattle.shen_core.specs.declared.plain.Plain.{Plain}
@@ -42,12 +43,6 @@ orders_after old mid new number order mid_is new_is none =
     subst (λ xs. All (λ o. o ≡ Nothing) xs) (sym (new_is ∙ ap (λ xs. slice_set xs number Nothing) mid_is ∙ set-set old number order Nothing))
     (All-set (λ o. o ≡ Nothing) old number Nothing refl none)
 
--- the replies of an actor after its step
-took_replies : (a : Actor) (machine : Machine) → map (λ e. e.reply) (a.calls ++ ended_by a.command machine) ≡ map (λ e. e.reply) a.calls ++ listed (given_in machine)
-took_replies a machine =
-    map-append (λ e. e.reply) a.calls (ended_by a.command machine)
-    ∙ ap (λ rs. map (λ e. e.reply) a.calls ++ rs) (ended_replies a.command machine)
-
 -- the replies of the machine's actor after its event
 pub acted_replies : (c : Config) (s : Stage Actor) (number : ℕ) (order : Order) (a : Actor) (machine : Machine) → slice_get s.machines number ≡ Some a → a.machine ≡ machine → takes_of machine order ≡ true
     → (b : Actor) → slice_get (act (kind full_image c) s (event number order)).machines number ≡ Some b → map (λ e. e.reply) b.calls ≡ map (λ e. e.reply) a.calls ++ listed (given_in machine)
@@ -58,7 +53,7 @@ acted_replies c s number order a machine here is takes b there =
     let found = ap (λ x. slice_get x.machines number) (act-event (kind full_image c) s (event number order) a one) ∙ slice_get-set_same s.machines number a _ here in
     let same = same_Some _ b (sym found ∙ there) in
     ap (λ x. map (λ e. e.reply) x.calls) (sym same)
-    ∙ took_replies a a.machine
+    ∙ took_replies a
     ∙ ap (λ x. map (λ e. e.reply) a.calls ++ listed (given_in x)) is
 
 -- the work tells the replies after an event that gives none
@@ -226,12 +221,11 @@ module _ (p mid q : Plain) (jobs : Jobs) (number : ℕ) (said : Stepped) (facts 
   -- the work is as it was
   pub can_run_on : given_in (machine_at mid number) ≡ None → CanRun p jobs → CanRun q jobs
   can_run_on none before =
-      let step = none_after full_image (config_of mid) (order_at mid number) got (machine_at mid number) none in
       can_run_after p q jobs jobs number (next_machine mid number)
       (after_turn jobs before (λ t h. h) (λ t. refl) (λ t other. refl) (more_now before)
       (λ below.
-      let now = subst (λ machine. made_of_machine machine + length (work.script_of jobs number) < 4294967295 + (length (work.replies_of jobs number) + at_hand_of machine)) (sym same_machine) (before.made number below) in
-      omega (arith, step, now))) before
+      names_on full_image (config_of mid) (order_at mid number) got (machine_at mid number) (length (work.script_of jobs number)) (length (work.replies_of jobs number))
+      (subst (λ machine. HasNames machine (length (work.script_of jobs number)) (length (work.replies_of jobs number))) (sym same_machine) (before.made number below)) none)) before
 
   -- the reply is noted
   pub can_run_noted : (r : Reply) → given_in (machine_at mid number) ≡ Some r → CanRun p jobs → CanRun q (work.with_reply jobs number r)
@@ -239,15 +233,14 @@ module _ (p mid q : Plain) (jobs : Jobs) (number : ℕ) (said : Stepped) (facts 
       let below_it = below_now r gives in
       let has = before.jobs_are number below_it in
       let step = given_after full_image (config_of mid) (order_at mid number) got (machine_at mid number) r gives in
-      let now = subst (λ machine. made_of_machine machine + length (work.script_of jobs number) < 4294967295 + (length (work.replies_of jobs number) + at_hand_of machine)) (sym same_machine) (before.made number below_it) in
+      let now = subst (λ machine. HasNames machine (length (work.script_of jobs number)) (length (work.replies_of jobs number))) (sym same_machine) (before.made number below_it) in
+      let names = names_noted full_image (config_of mid) (order_at mid number) got (machine_at mid number) (length (work.script_of jobs number)) (length (work.replies_of jobs number)) now r gives in
       let script : length (work.script_of (work.with_reply jobs number r) number) ≡ length (work.script_of jobs number) = ap length (script_kept jobs number r number has) in
       let replies : length (work.replies_of (work.with_reply jobs number r) number) ≡ length (work.replies_of jobs number) + 1 = ap length (replies_same jobs number r has) ∙ length-append (work.replies_of jobs number) (r ∷ []) in
-      let made = step.made in
-      let at_hand_before = step.was_at_hand in
       can_run_after p q jobs (work.with_reply jobs number r) number (next_machine mid number)
       (after_turn (work.with_reply jobs number r) before (λ t h. script_stays jobs number r t has h) (λ t. script_kept jobs number r t has) (λ t other. replies_other jobs number r t other)
       (λ below busy. absurd (false≢true (sym busy ∙ step.rest)))
-      (λ below. omega (arith, made, at_hand_before, now, script, replies))) before
+      (λ below. omega (arith, names, script, replies))) before
 
   -- the order changes nothing that is shown
   shows_mid : (s : Stage Actor) → Shows (words_of p) (machines_of p) s → Shows (words_of mid) (machines_of mid) s

@@ -1,5 +1,5 @@
 -- The turn of a machine, in each stage that memory shows.
-use Rattle.std.proofs.Common.{◌≡◌, ◌<◌, ℕ, Bool, true, false, List, length, Option, Some, None, refl, sym, ap, ◌∙◌, subst, All, arith}
+use Rattle.std.proofs.Common.{◌≡◌, ◌<◌, ℕ, Bool, true, false, List, length, Option, Some, None, refl, sym, ap, ◌∙◌, subst}
 use Rattle.pause_laws.proofs.Pauses.{full_is_pause}
 use Rattle.pause_laws.specs.Image.{full_image}
 use Rattle.std.specs.Prelude.{nat_lt, slice_get, slice_index, slice_index_or, IfSome, is_some, if◌then◌else◌}
@@ -8,7 +8,7 @@ use Rattle.std.specs.Option.{option_map}
 use Rattle.std.proofs.Math.Logic.{∥∥₁_elim}
 use Rattle.std.proofs.Math.Bool.{Bool-set}
 use Rattle.std.proofs.lemmas.List.{length-map}
-use Rattle.std.proofs.lemmas.Option.{same_Some, slice_get-get_or, slice_get_within, get_or_from_slice_get}
+use Rattle.std.proofs.lemmas.Option.{same_Some, slice_get-get_or}
 use Rattle.std.proofs.lemmas.Bool.{ltb-true}
 use Rattle.heap_words.specs.declared.config.Config.{Config}
 use Rattle.steps_base.specs.Steps.{Stage, Event, Finds}
@@ -17,7 +17,7 @@ use Rattle.shen_graph.specs.Work as work
 use Rattle.shen_graph.specs.Valid.{IsValid}
 use Rattle.shen_graph.specs.declared.order.Order.{Order}
 use Rattle.heap_machines.proofs.Turns.{role_of, order_alike, rest_is_mutating, begins_at_rest, order_of_script}
-use Rattle.heap_machines.proofs.Replies.{rest_at_hand}
+use Rattle.heap_machines.proofs.Names.{command_fits}
 use Rattle.step_core.specs.Actor.{Machine, fresh_helper, Actor}
 use Rattle.step_core.specs.Machines.{takes_of, plan_of, order_by, stands_in, is_resting, may_begin, made_of_machine, kind}
 use Rattle.heap_machines.specs.Roles.{is_mutating}
@@ -139,10 +139,6 @@ stands_shown p jobs number place within scripts s shows tells =
     ∙ ap (λ machine. stands_in place machine (order_for (slice_get (script_of scripts number) (length a.calls)) machine)) found.2
     ∙ ap (stands_in place (machine_at p number)) (order_now p jobs number (role_within p number within) scripts s tells a found.1)
 
--- a command that is there is one of the list
-one_of_these : {A : Type 0} (P : A → Type 0) (xs : List A) (k : ℕ) (x : A) → All P xs → slice_get xs k ≡ Some x → P x
-one_of_these P xs k x all here = subst P (get_or_from_slice_get xs k x x here) (all k x (slice_get_within xs k x here))
-
 -- the command that follows can be given
 pub next_fits : (p : Plain) (jobs : Jobs) (number : ℕ) → CanRun p jobs → number < length (machines_of p) → is_mutating (machine_at p number) ≡ nat_lt number (config_of p).mutators
     → may_begin (machine_at p number) ≡ true → IfSome (next_for (config_of p) jobs number) (λ command. IsValid command × (made_of_machine (machine_at p number) < 4294967295))
@@ -151,14 +147,4 @@ next_fits p jobs number can within role may =
     let is : nat_lt number (config_of p).mutators ≡ true = sym role ∙ rest_is_mutating (machine_at p number) rest in
     let below : number < (config_of p).mutators = ltb-true number (config_of p).mutators is in
     subst (λ b. IfSome (if b then work.next_of jobs number else None) (λ command. IsValid command × (made_of_machine (machine_at p number) < 4294967295))) (sym is)
-    (by_next below rest (work.next_of jobs number) refl)
-  where
-    by_next : number < (config_of p).mutators → is_resting (machine_at p number) ≡ true → (o : Option Command) → work.next_of jobs number ≡ o → IfSome o (λ command. IsValid command × (made_of_machine (machine_at p number) < 4294967295))
-    by_next below rest None here = tt
-    by_next below rest (Some command) here = (
-      one_of_these IsValid (work.script_of jobs number) (length (work.replies_of jobs number)) command (can.commands number below) here,
-      (let few = can.made number below in
-          let more = slice_get_within (work.script_of jobs number) (length (work.replies_of jobs number)) command here in
-          let none = rest_at_hand (machine_at p number) rest in
-          omega (arith, few, more, none)),
-    )
+    (command_fits (machine_at p number) (work.script_of jobs number) (length (work.replies_of jobs number)) (can.commands number below) (can.made number below) may)

@@ -1,9 +1,9 @@
 -- One mutator and what it has done of its script: what stays from turn to turn.
-use Rattle.std.proofs.Common.{◌≡◌, ◌<◌, ℕ, ◌+◌, Bool, true, false, List, [], ◌∷◌, ◌++◌, length, take, map, All, Option, Some, None, refl, sym, ap, ◌∙◌, subst, arith}
+use Rattle.std.proofs.Common.{◌≡◌, ◌<◌, ℕ, Bool, true, false, List, [], ◌∷◌, ◌++◌, length, take, map, All, Option, Some, None, refl, sym, ap, ◌∙◌, subst, arith}
 use Rattle.std.specs.Prelude.{slice_get, IfSome}
 use Rattle.std.proofs.lemmas.Bool.{false≢true}
-use Rattle.std.proofs.lemmas.List.{length-append, length-map, map-append, append-nil}
-use Rattle.std.proofs.lemmas.Option.{slice_get_within, get_or_from_slice_get}
+use Rattle.std.proofs.lemmas.List.{length-append, length-map, append-nil}
+use Rattle.std.proofs.lemmas.Option.{slice_get_within}
 use Rattle.heap_words.specs.declared.config.Config.{Config}
 use Rattle.pause_laws.specs.Image.{full_image}
 use Rattle.shen_graph.specs.declared.command.Command.{Command}
@@ -14,13 +14,14 @@ use Rattle.shen_graph.specs.History as history
 use Rattle.shen_graph.specs.Valid.{IsValid}
 use Rattle.shen_graph.specs.Work.{Progress, answered}
 use Rattle.step_core.specs.Actor.{Machine, Actor}
-use Rattle.step_core.specs.Machines.{is_resting, may_begin, made_of_machine, took_of, ended_by}
+use Rattle.step_core.specs.Machines.{is_resting, may_begin, made_of_machine, took_of, machine_after}
 use Rattle.heap_machines.specs.Roles.{is_mutating, given_in}
 use Rattle.heap_machines.specs.Scripts.{IsOnScript}
 use Rattle.heap_machines.specs.Turn.{order_for}
 use Rattle.heap_machines.proofs.OnScript.{script_step, script_done}
-use Rattle.heap_machines.proofs.Replies.{listed, ended_replies, given_after, none_after, rest_at_hand}
-use Rattle.heap_machines.proofs.Turns.{turn_in_call, turn_at_rest, begins_at_rest}
+use Rattle.heap_machines.proofs.Replies.{listed, took_replies, given_after}
+use Rattle.heap_machines.proofs.Names.{HasNames, names_on, names_noted, command_fits}
+use Rattle.heap_machines.proofs.Turns.{turn_in_call, turn_at_rest}
 use Rattle.table_heap.specs.Running.{Jobs, CanStartOn, IsAtWork, IsAtWorkOn, IsIdleForGood, HasDone}
 use Rattle.table_heap.proofs.Jobs.{progress_there, script_here, replies_here}
 
@@ -50,10 +51,6 @@ starts jobs number a can =
       },
     )
 
--- a command that is there is one of the list
-one_of_these : {A : Type 0} (P : A → Type 0) (xs : List A) (k : ℕ) (x : A) → All P xs → slice_get xs k ≡ Some x → P x
-one_of_these P xs k x all here = subst P (get_or_from_slice_get xs k x x here) (all k x (slice_get_within xs k x here))
-
 module _ (p : Progress) (a : Actor) (at : IsAtWork p a) where
   -- as many replies as calls
   pub count : length p.replies ≡ length a.calls
@@ -61,17 +58,7 @@ module _ (p : Progress) (a : Actor) (at : IsAtWork p a) where
 
   -- the command that follows can be given
   pub next_fits : may_begin a.machine ≡ true → IfSome (slice_get p.script (length p.replies)) (λ command. IsValid command × (made_of_machine a.machine < 4294967295))
-  next_fits may = by_next (slice_get p.script (length p.replies)) refl
-    where
-      by_next : (o : Option Command) → slice_get p.script (length p.replies) ≡ o → IfSome o (λ command. IsValid command × (made_of_machine a.machine < 4294967295))
-      by_next None here = tt
-      by_next (Some command) here = (
-        one_of_these IsValid p.script (length p.replies) command at.commands here,
-        (let few = at.made in
-            let more = slice_get_within p.script (length p.replies) command here in
-            let none = rest_at_hand a.machine (begins_at_rest a.machine may) in
-            omega (arith, few, more, none)),
-      )
+  next_fits may = command_fits a.machine p.script (length p.replies) at.commands at.made may
 
   -- it has called its whole script where it is idle for good
   pub done : is_mutating a.machine ≡ true → IsIdleForGood a.machine → HasDone p.script p.replies a
@@ -91,10 +78,7 @@ module _ (p : Progress) (a : Actor) (at : IsAtWork p a) where
 
     -- the replies of its calls
     replies_then : map (λ e. e.reply) then_is.calls ≡ p.replies ++ listed (given_in a.machine)
-    replies_then =
-        map-append (λ e. e.reply) a.calls (ended_by a.command a.machine)
-        ∙ ap (λ rs. map (λ e. e.reply) a.calls ++ rs) (ended_replies a.command a.machine)
-        ∙ ap (λ rs. rs ++ listed (given_in a.machine)) (sym at.replies)
+    replies_then = took_replies a ∙ ap (λ rs. rs ++ listed (given_in a.machine)) (sym at.replies)
 
     -- no reply was given
     pub goes_on : given_in a.machine ≡ None → IsAtWork p then_is
@@ -102,7 +86,7 @@ module _ (p : Progress) (a : Actor) (at : IsAtWork p a) where
       on = on_then;
       replies = sym (replies_then ∙ ap (λ g. p.replies ++ listed g) none ∙ append-nil p.replies);
       commands = at.commands;
-      made = (let step = none_after full_image c order got a.machine none in let now = at.made in omega (arith, step, now));
+      made = names_on full_image c order got a.machine (length p.script) (length p.replies) at.made none;
     }
 
     module _ (reply : Reply) (gives : given_in a.machine ≡ Some reply) where
@@ -119,12 +103,8 @@ module _ (p : Progress) (a : Actor) (at : IsAtWork p a) where
         on = on_then;
         replies = sym (replies_then ∙ ap (λ g. p.replies ++ listed g) gives);
         commands = at.commands;
-        made = (let step = given_after full_image c order got a.machine reply gives in
-            let made = step.made in
-            let at_hand_before = step.was_at_hand in
-            let now = at.made in
-            let long : length (p.replies ++ reply ∷ []) ≡ length p.replies + 1 = length-append p.replies (reply ∷ []) in
-            omega (arith, made, at_hand_before, now, long));
+        made = subst (λ n. HasNames (machine_after full_image c order got a.machine) (length p.script) n) (sym (length-append p.replies (reply ∷ [])))
+            (names_noted full_image c order got a.machine (length p.script) (length p.replies) at.made reply gives);
       }
 
 -- a machine that has no turn whatever follows has none by any command

@@ -1,34 +1,11 @@
--- The work of mutators where a reply is noted.
-use Rattle.std.proofs.Common.{◌≡◌, ◌≢◌, ◌<◌, ◌≤◌, ⊎_elim, ℕ, [], length, Some, None, Option, refl, sym, ap, ◌∙◌, subst}
+-- What the work has for a mutator, before and after a reply is noted.
+use Rattle.std.proofs.Common.{◌≡◌, ⊎_elim, ℕ, [], length, Some, None, Option, refl, sym, ap, ◌∙◌, subst}
 use Rattle.std.specs.Prelude.{slice_get, IsSome, unwrap_or, is_some}
-use Rattle.std.proofs.lemmas.List.{get_or-set_same, get_or-set_other, get_or_past}
-use Rattle.std.proofs.lemmas.Bool.{false≢true, cases_eq, cases_lt}
+use Rattle.std.proofs.lemmas.Bool.{false≢true, cases_eq}
 use Rattle.shen_graph.specs.declared.command.Reply.{Reply}
 use Rattle.shen_graph.specs.Work.{Progress, HasScript, progress_of, script_of, replies_of, next_of, begun, answered, with_reply}
+use Rattle.shen_graph.proofs.Noted.{progress_same, progress_other}
 use Rattle.table_heap.specs.Running.{Jobs}
-
--- a script that is there lies in the work
-has_within : (jobs : Jobs) (number : ℕ) → HasScript jobs number → number < length jobs
-has_within jobs number has = ⊎_elim
-    (λ (below : number < length jobs). below)
-    (λ (past : length jobs ≤ number). absurd (let none : progress_of jobs number ≡ None = get_or_past jobs number None past in false≢true (subst (λ o. IsSome o) none has)))
-    (cases_lt number (length jobs))
-
--- the progress of a script after a reply
-pub progress_same : (jobs : Jobs) (number : ℕ) (reply : Reply) → HasScript jobs number → progress_of (with_reply jobs number reply) number ≡ Some (answered (unwrap_or (progress_of jobs number) (begun [])) reply)
-progress_same jobs number reply has = get_or-set_same jobs number _ None (has_within jobs number has)
-
--- that of another
-pub progress_other : (jobs : Jobs) (number : ℕ) (reply : Reply) (t : ℕ) → t ≢ number → progress_of (with_reply jobs number reply) t ≡ progress_of jobs t
-progress_other jobs number reply t other = get_or-set_other jobs number t _ None other
-
--- scripts stay
-pub script_kept : (jobs : Jobs) (number : ℕ) (reply : Reply) (t : ℕ) → HasScript jobs number → script_of (with_reply jobs number reply) t ≡ script_of jobs t
-script_kept jobs number reply t has = ⊎_elim
-    (λ (same : t ≡ number). subst (λ n. script_of (with_reply jobs number reply) n ≡ script_of jobs n) (sym same)
-    (ap (λ o. (unwrap_or o (begun [])).script) (progress_same jobs number reply has)))
-    (λ (other : t ≡ number → ⊥). ap (λ o. (unwrap_or o (begun [])).script) (progress_other jobs number reply t other))
-    (cases_eq t number)
 
 -- what the work has for a number, by its progress there
 module _ (jobs : Jobs) (number : ℕ) (p : Progress) (here : progress_of jobs number ≡ Some p) where

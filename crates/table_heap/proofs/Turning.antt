@@ -24,7 +24,8 @@ use Rattle.table_heap.specs.declared.bundle.Bundle.{Bundle}
 use Rattle.table_heap.specs.State.{view_of, orders_of, machine_at, order_at, IsUnmoved, IsUnchanged, IsStep}
 use Rattle.table_heap.specs.Running.{Jobs, HasNoOrder, EachMutator, IsAtWorkOn, AreAtWork, next_for, AreSameJobs}
 use Rattle.table_heap.proofs.Core.{kind_took}
-use Rattle.table_heap.proofs.Jobs.{has_here, script_here, replies_here, next_here, noted_here, progress_other, script_kept, numbers_kept}
+use Rattle.shen_graph.proofs.Noted.{progress_other, script_kept}
+use Rattle.table_heap.proofs.Jobs.{has_here, script_here, replies_here, next_here, noted_here, numbers_kept}
 use Rattle.table_heap.proofs.AtWork.{goes_on, noted, more}
 use Rattle.table_heap.proofs.Places.{put_there}
 use Rattle.table_heap.proofs.Running.{at_number, role_at}

@@ -1,0 +1,51 @@
+-- Names that are left for what the commands of a script may make that are still to come.
+use Rattle.std.proofs.Common.{◌≡◌, ◌<◌, ℕ, ◌+◌, true, List, length, All, Option, Some, None, refl, subst, arith}
+use Rattle.std.specs.Prelude.{slice_get, IfSome}
+use Rattle.std.proofs.lemmas.Option.{slice_get_within, get_or_from_slice_get}
+use Rattle.heap_words.specs.declared.config.Config.{Config}
+use Rattle.shen_graph.specs.declared.command.Command.{Command}
+use Rattle.shen_graph.specs.declared.command.Reply.{Reply}
+use Rattle.shen_graph.specs.declared.order.Order.{Order}
+use Rattle.shen_graph.specs.Valid.{IsValid}
+use Rattle.heap_world.specs.Change.{Change}
+use Rattle.step_core.specs.Actor.{Machine}
+use Rattle.step_core.specs.Machines.{machine_after, may_begin, made_of_machine, at_hand_of}
+use Rattle.heap_machines.specs.Roles.{given_in}
+use Rattle.heap_machines.proofs.Replies.{given_after, none_after, rest_at_hand}
+use Rattle.heap_machines.proofs.Turns.{begins_at_rest}
+
+-- What it has made and the commands that are not answered are fewer than there are names, where a reply that is at hand counts as
+-- given.
+abbrev pub HasNames : Machine → (script replies : ℕ) → Type 0
+HasNames machine script replies = made_of_machine machine + script < 4294967295 + (replies + at_hand_of machine)
+
+module _ (change : Change) (c : Config) (order : Order) (got : ℕ) (machine : Machine) (script replies : ℕ) (names : HasNames machine script replies) where
+  -- after a step that gives no reply
+  pub names_on : given_in machine ≡ None → HasNames (machine_after change c order got machine) script replies
+  names_on none = let step = none_after change c order got machine none in omega (arith, step, names)
+
+  -- and after one whose reply was noted
+  pub names_noted : (r : Reply) → given_in machine ≡ Some r → HasNames (machine_after change c order got machine) script (replies + 1)
+  names_noted r gives =
+      let step = given_after change c order got machine r gives in
+      let made = step.made in
+      let at_hand_before = step.was_at_hand in
+      omega (arith, made, at_hand_before, names)
+
+-- a command that is there is one of the list
+one_of_these : {A : Type 0} (P : A → Type 0) (xs : List A) (k : ℕ) (x : A) → All P xs → slice_get xs k ≡ Some x → P x
+one_of_these P xs k x all here = subst P (get_or_from_slice_get xs k x x here) (all k x (slice_get_within xs k x here))
+
+-- the command that follows in its script can be given
+pub command_fits : (machine : Machine) (script : List Command) (replies : ℕ) → All IsValid script → HasNames machine (length script) replies → may_begin machine ≡ true
+    → IfSome (slice_get script replies) (λ command. IsValid command × (made_of_machine machine < 4294967295))
+command_fits machine script replies commands names may = by_next (slice_get script replies) refl
+  where
+    by_next : (o : Option Command) → slice_get script replies ≡ o → IfSome o (λ command. IsValid command × (made_of_machine machine < 4294967295))
+    by_next None here = tt
+    by_next (Some command) here = (
+      one_of_these IsValid script replies command commands here,
+      (let more = slice_get_within script replies command here in
+          let none = rest_at_hand machine (begins_at_rest machine may) in
+          omega (arith, names, more, none)),
+    )
