@@ -53,5 +53,5 @@ one_order (a ∷ xs) (b ∷ ys) first second there back =
     let rest = one_order xs ys (order_rest a xs first) (order_rest b ys second) (among_rest a b xs ys same first there) (among_rest b a ys xs (sym same) second back) in
     ap (λ n. n ∷ xs) same ∙ ap (λ l. b ∷ l) rest
 
-one_reach : (g : Graph) (xs ys : List Name) → IsReach g xs → IsReach g ys → xs ≡ ys
+pub one_reach : (g : Graph) (xs ys : List Name) → IsReach g xs → IsReach g ys → xs ≡ ys
 one_reach g xs ys a b = one_order xs ys a.in_order b.in_order (λ n there. b.all n (a.only n there)) (λ n there. a.all n (b.only n there))

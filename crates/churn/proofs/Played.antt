@@ -1,24 +1,21 @@
 -- There is a run: the commands of the threads, one thread after the other, each with its outcome.
-use Rattle.std.proofs.Common.{ℕ, zero, suc, ◌≡◌, ◌+◌, ◌≤◌, ◌⊎◌, Bool, true, false, eqb, List, [], ◌∷◌, ◌++◌, Option, Some, None, refl, ap, ◌∙◌, sym, subst, inl, inr, arith}
-use Rattle.std.specs.Prelude.{◌≢◌, ◌==◌, if◌then◌else◌, slice_get}
+use Rattle.std.proofs.Common.{ℕ, ◌≡◌, Bool, true, false, List, [], ◌∷◌, ◌++◌, Option, Some, None, refl, ap, ◌∙◌, sym, subst, inl, inr, arith}
+use Rattle.std.specs.Prelude.{◌==◌, if◌then◌else◌}
 use Rattle.std.specs.List.{AllByRecursion}
-use Rattle.std.proofs.lemmas.Bool.Decides.{eqb_tells}
 use Rattle.std.proofs.lemmas.List.{append-nil}
 use Rattle.std.proofs.lemmas.List.Elements.{filter-append}
 use Rattle.shen_graph.specs.declared.command.Command.{Command}
 use Rattle.shen_graph.specs.declared.command.Command.TheVariants.{New, Get, Set, Cas, Xchg, Rd, Wr, Copy, Drop, Same, Gc}
-use Rattle.shen_graph.specs.declared.command.Reply.{Reply}
 use Rattle.shen_graph.specs.declared.command.Reply.TheVariants as reply
 use Rattle.shen_graph.specs.Graph.{Graph, Reference, field_at, number_at, same_reference, with_root, with_field, with_number, opening}
 use Rattle.shen_graph.specs.Step.{Outcome, IsLegal, outcome, answers, on, shown, yes_or_no}
 use Rattle.shen_graph.specs.History.{Entry, is_full, after_entry, after, EachIsLegal, of_thread, commands_of, script_of, Follows}
 use Rattle.churn.specs.Script.{churn_script, churn_scripts}
-use Rattle.churn.specs.Laws.{IsRun, in_turn, IsRunInTurn, OneInTurn, ThereIsOneInTurn}
+use Rattle.churn.specs.Laws.{IsRun, in_turn, ThereIsOneInTurn}
 use Rattle.churn.proofs.Parts.{IsThread}
-use Rattle.churn.proofs.Moves.{eqb_itself, eqb_apart}
 use Rattle.churn.proofs.Runs.{IsGiven, thread_or_not}
-use Rattle.churn.proofs.Opening.{thread_cases, script_is, script_none}
-use Rattle.churn.proofs.Refusals.{after-append, legal-append}
+use Rattle.churn.proofs.Opening.{thread_cases, script_none}
+use Rattle.churn.proofs.Refusals.{legal-append}
 use Rattle.churn.proofs.Turns.{AreOf, all_of, none_of, given_append, given_at, runs_are_in_turn}
 
 -- an outcome is never Full

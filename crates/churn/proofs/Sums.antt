@@ -1,10 +1,7 @@
 -- What a run tells, summed up.
-use Rattle.std.proofs.Common.{ℕ, inl, inr, ◌≡◌, ◌+◌, ◌*◌, ◌≤◌, List, [], ◌∷◌, ◌++◌, length, map, Option, Some, refl, ap, ◌∙◌, sym, subst, arith}
-use Rattle.std.specs.Prelude.{Contains, sum_by}
+use Rattle.std.proofs.Common.{ℕ, ◌≡◌, ◌+◌, ◌*◌, ◌≤◌, List, [], ◌∷◌, ◌++◌, length, map, Option, Some, refl, ap, ◌∙◌, sym, subst, arith}
+use Rattle.std.specs.Prelude.{sum_by}
 use Rattle.std.proofs.lemmas.List.{length-map, map-append}
-use Rattle.std.proofs.lemmas.Bool.Decides.{nat_tests}
-use Rattle.std.proofs.lemmas.List.Elements.{Contains-append_right}
-use Rattle.shen_graph.proofs.ReachLemmas.{Contains-nil, Contains-cons_cases}
 use Rattle.std.proofs.lemmas.List.Sums.{sum_by-cons}
 use Rattle.shen_graph.specs.declared.name.Name.{Name}
 use Rattle.shen_graph.specs.declared.command.Reply.{Reply}
@@ -15,7 +12,7 @@ use Rattle.shen_graph.specs.GraphText.{Row, row_in}
 use Rattle.shen_graph.specs.Reach.{IsReach, size}
 use Rattle.shen_graph.specs.Work.{Progress}
 use Rattle.churn.specs.Summary.{IsSummary, summary_of, all_replies, number_told, row_words}
-use Rattle.churn.specs.Laws.{in_turn, Tells, SumsUpTurns, SumsUpRuns, OneSummary, RunsCanBeSummedUp}
+use Rattle.churn.specs.Laws.{in_turn, Tells, SumsUpRuns, OneSummary, RunsCanBeSummedUp}
 use Rattle.churn.proofs.Parts.{Tidy, Same-itself}
 use Rattle.churn.proofs.Runs.{solo}
 use Rattle.churn.proofs.Opening.{tidy_opening, going_opening}
