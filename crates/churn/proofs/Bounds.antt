@@ -154,7 +154,7 @@ known_named g n known =
 before_apart : (a b : Name) → IsBefore a b → same_name a b ≡ false
 before_apart a b before = grind (arith, nat_tests)
 
-before_join : (a b c : Name) → IsBefore a b → IsBefore b c → IsBefore a c
+pub before_join : (a b c : Name) → IsBefore a b → IsBefore b c → IsBefore a c
 before_join a b c ab bc = grind (arith, nat_tests)
 
 before_all : (a : Name) (ns : List Name) → ((b : Name) (ms : List Name) → ns ≡ b ∷ ms → IsBefore a b) → InOrder ns → AllByRecursion (λ y. same_name a y ≡ false) ns

@@ -10,3 +10,5 @@ pub mod Turns
 pub mod Numbers
 pub mod Sums
 pub mod TestLemmas
+pub mod Played
+pub mod OneReach

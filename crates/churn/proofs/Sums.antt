@@ -11,14 +11,15 @@ use Rattle.shen_graph.specs.History as history
 use Rattle.shen_graph.specs.GraphText.{Row, row_in}
 use Rattle.shen_graph.specs.Reach.{IsReach, size}
 use Rattle.shen_graph.specs.Work.{Progress}
-use Rattle.churn.specs.Summary.{summary_of, all_replies, number_told, row_words}
-use Rattle.churn.specs.Laws.{in_turn, Tells, SumsUpTurns, RunsCanBeSummedUp}
+use Rattle.churn.specs.Summary.{IsSummary, summary_of, all_replies, number_told, row_words}
+use Rattle.churn.specs.Laws.{in_turn, Tells, SumsUpRuns, OneSummary, RunsCanBeSummedUp}
 use Rattle.churn.proofs.Parts.{Tidy, Same-itself}
 use Rattle.churn.proofs.Runs.{solo}
 use Rattle.churn.proofs.Opening.{tidy_opening, going_opening}
 use Rattle.churn.proofs.Bounds.{few_live}
+use Rattle.churn.proofs.OneReach.{one_reach}
 use Rattle.churn.proofs.Numbers.{run_below, run_long}
-use Rattle.churn.proofs.Turns.{run_given, runs_are_in_turn}
+use Rattle.churn.proofs.Turns.{run_given, runs_are_in_turn, one_in_turn}
 
 -- the replies of the three threads are those of the run thread by thread
 replies_in_turn : (es : List Entry) (work : List (Option Progress)) (rows : List Row) → Tells es work rows → all_replies work ≡ history.replies_of (in_turn es)
@@ -29,15 +30,20 @@ replies_in_turn es work rows tells =
     let three = tells.replies 2 (omega arith) in
     rw (one, two, three) (sym (map-append reply (of_thread es 1) (of_thread es 2 ++ of_thread es 3) ∙ ap (λ l. map reply (of_thread es 1) ++ l) (map-append reply (of_thread es 2) (of_thread es 3))))
 
-pub sums_up : (seed count : ℕ) (work : List (Option Progress)) (rows : List Row) → SumsUpTurns seed count work rows (summary_of seed count (all_replies work) rows)
+pub sums_up : (seed count : ℕ) (work : List (Option Progress)) (rows : List Row) → SumsUpRuns seed count work rows (summary_of seed count (all_replies work) rows)
 sums_up seed count work rows es run tells =
-    let same = (runs_are_in_turn seed count es run).1.graph in
+    let turns = runs_are_in_turn seed count es run in
+    let same = turns.1.graph in
     let k = after (opening 3) (in_turn es) in
     let rows_are : rows ≡ map (row_in k) tells.names = tells.objects ∙ ap (λ (g : Graph). map (row_in g) tells.names) same in
     record {
-      names = tells.names;
-      reach = subst (λ (g : Graph). IsReach g tells.names) same tells.reach;
-      is = ap (λ rs. summary_of seed count rs rows) (replies_in_turn es work rows tells) ∙ ap (summary_of seed count (history.replies_of (in_turn es))) rows_are;
+      entries = in_turn es;
+      run = turns.0;
+      summary = record {
+        names = tells.names;
+        reach = subst (λ (g : Graph). IsReach g tells.names) same tells.reach;
+        is = ap (λ rs. summary_of seed count rs rows) (replies_in_turn es work rows tells) ∙ ap (summary_of seed count (history.replies_of (in_turn es))) rows_are;
+      };
     }
 
 words_of_rows : (g : Graph) (names : List Name) → sum_by row_words (map (row_in g) names) ≡ sum_by (λ n. size (named g (Some n))) names
@@ -61,3 +67,11 @@ runs_can_be_summed_up seed count es work rows run tells =
           (subst (λ (rs : List Reply). sum_by number_told rs ≤ length (history.replies_of (in_turn es)) * (seed + count)) (sym replies) sum);
       words = subst (λ (n : ℕ). n ≤ 1159) (sym (ap (sum_by row_words) tells.objects ∙ words_of_rows g tells.names)) live;
     }
+
+pub one_summary : OneSummary
+one_summary seed count a b first second =
+    let entries = one_in_turn seed count first.entries second.entries first.run second.run in
+    let s : IsSummary seed count second.entries a = subst (λ (es : List Entry). IsSummary seed count es a) entries first.summary in
+    let g = after (opening 3) second.entries in
+    let names = one_reach g s.names second.summary.names s.reach second.summary.reach in
+    s.is ∙ ap (λ ns. summary_of seed count (history.replies_of second.entries) (map (row_in g) ns)) names ∙ sym second.summary.is

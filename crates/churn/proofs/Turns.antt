@@ -65,7 +65,7 @@ all_given : (es : List Entry) → AllByRecursion IsGiven es → IsWithoutFull es
 all_given [] h = All-nil IsGiven
 all_given (e ∷ es) h = All-cons IsGiven e es h.0 (all_given es h.1)
 
-given_append : (xs ys : List Entry) → AllByRecursion IsGiven xs → AllByRecursion IsGiven ys → AllByRecursion IsGiven (xs ++ ys)
+pub given_append : (xs ys : List Entry) → AllByRecursion IsGiven xs → AllByRecursion IsGiven ys → AllByRecursion IsGiven (xs ++ ys)
 given_append [] ys h k = k
 given_append (x ∷ xs) ys h k = (h.0, given_append xs ys h.1 k)
 
@@ -82,7 +82,7 @@ run_given seed count es run =
 pub none_is_full : NoneIsFull
 none_is_full seed count es run = all_given es (run_given seed count es run)
 
-given_at : (es : List Entry) (k : ℕ) (e : Entry) → AllByRecursion IsGiven es → slice_get es k ≡ Some e → IsGiven e
+pub given_at : (es : List Entry) (k : ℕ) (e : Entry) → AllByRecursion IsGiven es → slice_get es k ≡ Some e → IsGiven e
 given_at [] k e h is = cc
 given_at (x ∷ es) zero e h is = let same : x ≡ e = cc in subst IsGiven same h.0
 given_at (x ∷ es) (suc k) e h is = given_at es k e h.1 is
@@ -100,13 +100,13 @@ of_thread-are t (e ∷ es) =
       | inr w ↦ rw w.0 (of_thread-are t es)
     ]
 
-all_of : (t : ℕ) (es : List Entry) → AreOf t es → of_thread es t ≡ es
+pub all_of : (t : ℕ) (es : List Entry) → AreOf t es → of_thread es t ≡ es
 all_of t [] h = refl
 all_of t (e ∷ es) h =
     let here : eqb e.thread t ≡ true = ap (λ u. eqb u t) h.0 ∙ eqb_itself t in
     rw here (ap (λ l. e ∷ l) (all_of t es h.1))
 
-none_of : (t u : ℕ) (es : List Entry) → u ≢ t → AreOf t es → of_thread es u ≡ []
+pub none_of : (t u : ℕ) (es : List Entry) → u ≢ t → AreOf t es → of_thread es u ≡ []
 none_of t u [] apart h = refl
 none_of t u (e ∷ es) apart h =
     let there : eqb e.thread u ≡ false = ap (λ v. eqb v u) h.0 ∙ eqb_apart t u (λ is. apart (sym is)) in

@@ -39,9 +39,15 @@ pub record Tells (entries : List Entry) (work : List (Option Progress)) (rows : 
   pub reach : IsReach (after (opening 3) entries) names
   pub objects : rows ≡ map (row_in (after (opening 3) entries)) names
 
--- Of whatever run these replies and rows tell, the summary is that of its entries thread by thread.
-abbrev pub SumsUpTurns : (seed count : ℕ) → List (Option Progress) → List Row → Summary → Type 0
-SumsUpTurns seed count work rows s = (entries : List Entry) → IsRun seed count entries → Tells entries work rows → IsSummary seed count (in_turn entries) s
+-- The summary is that of the run in which the threads run one after the other.
+pub record SumsUpTurns (seed count : ℕ) (s : Summary) : Type 0 where
+  pub entries : List Entry
+  pub run : IsRunInTurn seed count entries
+  pub summary : IsSummary seed count entries s
+
+-- It is, if these replies and rows are what some run tells.
+abbrev pub SumsUpRuns : (seed count : ℕ) → List (Option Progress) → List Row → Summary → Type 0
+SumsUpRuns seed count work rows s = (entries : List Entry) → IsRun seed count entries → Tells entries work rows → SumsUpTurns seed count s
 
 -- No allocation of a run is refused.
 abbrev pub NoneIsFull : Type 0
@@ -51,9 +57,17 @@ NoneIsFull = (seed count : ℕ) (entries : List Entry) → IsRun seed count entr
 abbrev pub RunsAreInTurn : Type 0
 RunsAreInTurn = (seed count : ℕ) (entries : List Entry) → IsRun seed count entries → IsRunInTurn seed count (in_turn entries) × TellTheSame entries (in_turn entries)
 
--- There is one run thread by thread.
+-- There is a run thread by thread, and it is the only one.
+
+abbrev pub ThereIsOneInTurn : Type 0
+ThereIsOneInTurn = (seed count : ℕ) → (entries : List Entry) × IsRunInTurn seed count entries
+
 abbrev pub OneInTurn : Type 0
 OneInTurn = (seed count : ℕ) (a b : List Entry) → IsRunInTurn seed count a → IsRunInTurn seed count b → a ≡ b
+
+-- So a seed and a count have one summary.
+abbrev pub OneSummary : Type 0
+OneSummary = (seed count : ℕ) (a b : Summary) → SumsUpTurns seed count a → SumsUpTurns seed count b → a ≡ b
 
 -- What a run tells can be summed up: so many commands, and numbers that are not large.
 pub record CanSumUp (seed count : ℕ) (work : List (Option Progress)) (rows : List Row) : Type 0 where

@@ -2,7 +2,7 @@
 //! runs tell the same.
 #![tactic(auto)]
 
-ghost use Rattle.churn.specs.Laws.{NoneIsFull, RunsAreInTurn, OneInTurn, RunsCanBeSummedUp};
+ghost use Rattle.churn.specs.Laws.{NoneIsFull, RunsAreInTurn, ThereIsOneInTurn, OneInTurn, OneSummary, RunsCanBeSummedUp};
 
 mod script;
 mod summary;
@@ -23,9 +23,19 @@ pub fn runs_are_in_turn()
     ensures { RunsAreInTurn }
 {}
 
-/// A law: there is one run in which the threads run one after the other.
+/// A law: there is a run in which the threads run one after the other.
+pub fn there_is_one_in_turn()
+    ensures { ThereIsOneInTurn }
+{}
+
+/// A law: there is only one run in which the threads run one after the other.
 pub fn one_in_turn()
     ensures { OneInTurn }
+{}
+
+/// A law: the summary of that run depends on the seed and the count alone.
+pub fn one_summary()
+    ensures { OneSummary }
 {}
 
 /// A law: what a run tells meets what `summarize` asks, for seeds and counts that are not very large.

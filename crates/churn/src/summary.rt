@@ -1,6 +1,6 @@
 ghost use Rattle.std.specs.Prelude.{◌≡◌, ◌+◌, ◌<◌, ◌≤◌, ◌^◌, [], ◌∷◌, length, sum_by};
 ghost use Rattle.shen_graph.specs.Work.{HasScript};
-ghost use Rattle.churn.specs.Laws.{SumsUpTurns};
+ghost use Rattle.churn.specs.Laws.{SumsUpRuns};
 ghost use Rattle.churn.specs.Summary.{summary_of, all_replies, number_told, row_words, with_replies, with_rows};
 
 use shen_graph::{GraphText, Reply, Work};
@@ -109,7 +109,7 @@ pub fn summarize(seed: u64, count: u64, replies: &Work, graph: &GraphText) -> Su
     requires sum { sum_by number_told (all_replies replies.now) < 2 ^ 64 }
     requires words { sum_by row_words graph.now.rows < 2 ^ 64 }
     ensures counts { result ≡ summary_of seed count (all_replies replies.now) graph.now.rows }
-    ensures turns { SumsUpTurns seed count replies.now graph.now.rows result }
+    ensures turns { SumsUpRuns seed count replies.now graph.now.rows result }
 {
     counted(seed, count, replies, graph)
 }

@@ -1,0 +1,160 @@
+-- There is a run: the commands of the threads, one thread after the other, each with its outcome.
+use Rattle.std.proofs.Common.{ℕ, ◌≡◌, Bool, true, false, List, [], ◌∷◌, ◌++◌, Option, Some, None, refl, ap, ◌∙◌, sym, subst, inl, inr, arith}
+use Rattle.std.specs.Prelude.{◌==◌, if◌then◌else◌}
+use Rattle.std.specs.List.{AllByRecursion}
+use Rattle.std.proofs.lemmas.List.{append-nil}
+use Rattle.std.proofs.lemmas.List.Elements.{filter-append}
+use Rattle.shen_graph.specs.declared.command.Command.{Command}
+use Rattle.shen_graph.specs.declared.command.Command.TheVariants.{New, Get, Set, Cas, Xchg, Rd, Wr, Copy, Drop, Same, Gc}
+use Rattle.shen_graph.specs.declared.command.Reply.TheVariants as reply
+use Rattle.shen_graph.specs.Graph.{Graph, Reference, field_at, number_at, same_reference, with_root, with_field, with_number, opening}
+use Rattle.shen_graph.specs.Step.{Outcome, IsLegal, outcome, answers, on, shown, yes_or_no}
+use Rattle.shen_graph.specs.History.{Entry, is_full, after_entry, after, EachIsLegal, of_thread, commands_of, script_of, Follows}
+use Rattle.churn.specs.Script.{churn_script, churn_scripts}
+use Rattle.churn.specs.Laws.{IsRun, in_turn, ThereIsOneInTurn}
+use Rattle.churn.proofs.Parts.{IsThread}
+use Rattle.churn.proofs.Runs.{IsGiven, thread_or_not}
+use Rattle.churn.proofs.Opening.{thread_cases, script_none}
+use Rattle.churn.proofs.Refusals.{legal-append}
+use Rattle.churn.proofs.Turns.{AreOf, all_of, none_of, given_append, given_at, runs_are_in_turn}
+
+-- an outcome is never Full
+
+shown_given : (r : Reference) → is_full (shown r) ≡ false
+shown_given None = refl
+shown_given (Some n) = refl
+
+either_given : (b : Bool) → is_full (yes_or_no b) ≡ false
+either_given true = refl
+either_given false = refl
+
+on_given : {A : Type 0} (x : Option A) (g : Graph) (f : A → Outcome) → ((v : A) → is_full (f v).reply ≡ false) → is_full (on x g f).reply ≡ false
+on_given None g f h = refl
+on_given (Some v) g f h = h v
+
+outcome_given : (g : Graph) (t : ℕ) (c : Command) → is_full (outcome g t c).reply ≡ false
+outcome_given g t (New dst refs nums) = refl
+outcome_given g t (Get dst src field) = on_given (field_at g t src field) g (λ v. answers (shown v) (with_root g t dst v)) shown_given
+outcome_given g t (Set obj field val) = on_given (field_at g t obj field) g (λ _. answers reply.Ok (with_field g t obj field (g.root t val))) (λ _. refl)
+outcome_given g t (Cas obj field expect val) =
+    on_given (field_at g t obj field) g (λ v. if same_reference v (g.root t expect) then answers reply.Yes (with_field g t obj field (g.root t val)) else answers reply.No g)
+    (λ v. elim (same_reference v (g.root t expect)) as (λ b. is_full (if b then answers reply.Yes (with_field g t obj field (g.root t val)) else answers reply.No g).reply ≡ false) [ true ↦ refl | false ↦ refl ])
+outcome_given g t (Xchg dst obj field val) = on_given (field_at g t obj field) g (λ v. answers (shown v) (with_root (with_field g t obj field (g.root t val)) t dst v)) shown_given
+outcome_given g t (Rd obj index) = on_given (number_at g t obj index) g (λ n. answers (reply.Number n) g) (λ _. refl)
+outcome_given g t (Wr obj index value) = on_given (number_at g t obj index) g (λ _. answers reply.Ok (with_number g t obj index value)) (λ _. refl)
+outcome_given g t (Copy dst src) = refl
+outcome_given g t (Drop dst) = refl
+outcome_given g t (Same a b) = either_given (same_reference (g.root t a) (g.root t b))
+outcome_given g t Gc = refl
+
+-- the commands of a thread, each with its outcome
+abbrev pub played : Graph → ℕ → List Command → List Entry
+played g t [] = []
+played g t (c ∷ cs) = record { thread = t; command = c; reply = (outcome g t c).reply } ∷ played (outcome g t c).graph t cs
+
+played_after : (g : Graph) (t : ℕ) (c : Command) → after_entry g (record { thread = t; command = c; reply = (outcome g t c).reply }) ≡ (outcome g t c).graph
+played_after g t c = rw (outcome_given g t c) refl
+
+played_legal : (g : Graph) (t : ℕ) (cs : List Command) → EachIsLegal g (played g t cs)
+played_legal g t [] = tt
+played_legal g t (c ∷ cs) =
+    let e : Entry = record { thread = t; command = c; reply = (outcome g t c).reply } in
+    let left = played_after g t c in (
+      subst (λ (h : Graph). IsLegal g t c (outcome g t c).reply h) (sym left) (inl refl),
+      subst (λ (h : Graph). EachIsLegal h (played (outcome g t c).graph t cs)) (sym left) (played_legal (outcome g t c).graph t cs),
+    )
+
+played_given : (g : Graph) (t : ℕ) (cs : List Command) → AllByRecursion IsGiven (played g t cs)
+played_given g t [] = tt
+played_given g t (c ∷ cs) =
+    (λ full. let e : true ≡ false = ap is_full (sym full) ∙ outcome_given g t c in cc, played_given (outcome g t c).graph t cs)
+
+played_of : (g : Graph) (t : ℕ) (cs : List Command) → AreOf t (played g t cs)
+played_of g t [] = tt
+played_of g t (c ∷ cs) = (refl, played_of (outcome g t c).graph t cs)
+
+played_commands : (g : Graph) (t : ℕ) (cs : List Command) → commands_of (played g t cs) ≡ cs
+played_commands g t [] = refl
+played_commands g t (c ∷ cs) = ap (λ l. c ∷ l) (played_commands (outcome g t c).graph t cs)
+
+-- three threads, one after the other
+abbrev pub first_part : ℕ → ℕ → List Entry
+first_part seed count = played (opening 3) 1 (churn_script seed count 1)
+
+abbrev pub after_first : ℕ → ℕ → Graph
+after_first seed count = after (opening 3) (first_part seed count)
+
+abbrev pub second_part : ℕ → ℕ → List Entry
+second_part seed count = played (after_first seed count) 2 (churn_script seed count 2)
+
+abbrev pub after_second : ℕ → ℕ → Graph
+after_second seed count = after (after_first seed count) (second_part seed count)
+
+abbrev pub third_part : ℕ → ℕ → List Entry
+third_part seed count = played (after_second seed count) 3 (churn_script seed count 3)
+
+abbrev pub whole : ℕ → ℕ → List Entry
+whole seed count = first_part seed count ++ (second_part seed count ++ third_part seed count)
+
+-- which of three parts a thread has
+
+pick : (a b c : List Entry) (t : ℕ) → AreOf 1 a → AreOf 2 b → AreOf 3 c → of_thread (a ++ (b ++ c)) t ≡ of_thread a t ++ (of_thread b t ++ of_thread c t)
+pick a b c t one two three =
+    filter-append (λ (e : Entry). e.thread == t) a (b ++ c) ∙ ap (λ l. of_thread a t ++ l) (filter-append (λ (e : Entry). e.thread == t) b c)
+
+picked_first : (a b c : List Entry) → AreOf 1 a → AreOf 2 b → AreOf 3 c → of_thread (a ++ (b ++ c)) 1 ≡ a
+picked_first a b c one two three =
+    pick a b c 1 one two three ∙ rw (all_of 1 a one, none_of 2 1 b (λ e. omega arith) two, none_of 3 1 c (λ e. omega arith) three) (append-nil a)
+
+picked_second : (a b c : List Entry) → AreOf 1 a → AreOf 2 b → AreOf 3 c → of_thread (a ++ (b ++ c)) 2 ≡ b
+picked_second a b c one two three =
+    pick a b c 2 one two three ∙ rw (none_of 1 2 a (λ e. omega arith) one, all_of 2 b two, none_of 3 2 c (λ e. omega arith) three) (append-nil b)
+
+picked_third : (a b c : List Entry) → AreOf 1 a → AreOf 2 b → AreOf 3 c → of_thread (a ++ (b ++ c)) 3 ≡ c
+picked_third a b c one two three =
+    pick a b c 3 one two three ∙ rw (none_of 1 3 a (λ e. omega arith) one, none_of 2 3 b (λ e. omega arith) two, all_of 3 c three) refl
+
+picked_none : (a b c : List Entry) (t : ℕ) → (IsThread t → ⊥) → AreOf 1 a → AreOf 2 b → AreOf 3 c → of_thread (a ++ (b ++ c)) t ≡ []
+picked_none a b c t out one two three =
+    pick a b c t one two three
+    ∙ rw (none_of 1 t a (λ e. out (omega arith, omega arith)) one, none_of 2 t b (λ e. out (omega arith, omega arith)) two, none_of 3 t c (λ e. out (omega arith, omega arith)) three) refl
+
+whole_follows : (seed count : ℕ) → Follows (churn_scripts seed count) (whole seed count)
+whole_follows seed count t =
+    let a = first_part seed count in
+    let b = second_part seed count in
+    let c = third_part seed count in
+    let one = played_of (opening 3) 1 (churn_script seed count 1) in
+    let two = played_of (after_first seed count) 2 (churn_script seed count 2) in
+    let three = played_of (after_second seed count) 3 (churn_script seed count 3) in
+    elim (thread_or_not t) as (λ _. commands_of (of_thread (whole seed count) t) ≡ script_of (churn_scripts seed count) t) [
+      | inl is ↦ elim (thread_cases t is) as (λ _. commands_of (of_thread (whole seed count) t) ≡ script_of (churn_scripts seed count) t) [
+        | inl at ↦ subst (λ (u : ℕ). commands_of (of_thread (whole seed count) u) ≡ script_of (churn_scripts seed count) u) (sym at)
+            (ap commands_of (picked_first a b c one two three) ∙ played_commands (opening 3) 1 (churn_script seed count 1))
+        | inr more ↦ elim more as (λ _. commands_of (of_thread (whole seed count) t) ≡ script_of (churn_scripts seed count) t) [
+          | inl at ↦ subst (λ (u : ℕ). commands_of (of_thread (whole seed count) u) ≡ script_of (churn_scripts seed count) u) (sym at)
+              (ap commands_of (picked_second a b c one two three) ∙ played_commands (after_first seed count) 2 (churn_script seed count 2))
+          | inr at ↦ subst (λ (u : ℕ). commands_of (of_thread (whole seed count) u) ≡ script_of (churn_scripts seed count) u) (sym at)
+              (ap commands_of (picked_third a b c one two three) ∙ played_commands (after_second seed count) 3 (churn_script seed count 3))
+        ]
+      ]
+      | inr out ↦ ap commands_of (picked_none a b c t out one two three) ∙ sym (script_none seed count t out)
+    ]
+
+whole_given : (seed count : ℕ) → AllByRecursion IsGiven (whole seed count)
+whole_given seed count =
+    given_append (first_part seed count) (second_part seed count ++ third_part seed count) (played_given (opening 3) 1 (churn_script seed count 1))
+    (given_append (second_part seed count) (third_part seed count) (played_given (after_first seed count) 2 (churn_script seed count 2)) (played_given (after_second seed count) 3 (churn_script seed count 3)))
+
+whole_run : (seed count : ℕ) → IsRun seed count (whole seed count)
+whole_run seed count = record {
+  follows = whole_follows seed count;
+  legal = record {
+    each = legal-append (opening 3) (first_part seed count) (second_part seed count ++ third_part seed count) (played_legal (opening 3) 1 (churn_script seed count 1))
+        (legal-append (after_first seed count) (second_part seed count) (third_part seed count) (played_legal (after_first seed count) 2 (churn_script seed count 2)) (played_legal (after_second seed count) 3 (churn_script seed count 3)));
+    crowded = λ k e at full. absurd (given_at (whole seed count) k e (whole_given seed count) at full);
+  };
+}
+
+pub there_is_one_in_turn : ThereIsOneInTurn
+there_is_one_in_turn seed count = (in_turn (whole seed count), (runs_are_in_turn seed count (whole seed count) (whole_run seed count)).0)
