@@ -9,3 +9,4 @@ pub mod FreeRegions
 pub mod Objects
 pub mod NewObject
 pub mod SharedOut
+pub mod RootChanges

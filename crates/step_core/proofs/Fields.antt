@@ -26,7 +26,8 @@ use Rattle.step_core.proofs.Spots.{mutator_at}
 use Rattle.step_core.proofs.Ready.{leaving, ready_of, number_small}
 use Rattle.heap_world.proofs.Pointing.{points_small}
 use Rattle.step_core.proofs.Naming.{same_words, names_agree, name_there, name_read, shown_is, field_in, number_in, word_in}
-use Rattle.step_core.proofs.Loading.{looks, replies, replies_root, roots_then}
+use Rattle.step_core.proofs.Loading.{looks, replies, replies_root}
+use Rattle.heap_world.proofs.RootChanges.{roots_then}
 use Rattle.step_core.proofs.InHand.{shown_not_full, field_mine}
 
 module _ (c : Config) (u : World) (seat made : ℕ) (kept : Kept) (command : Command) (fixed : Option Reply) where

@@ -22,7 +22,7 @@ use Rattle.heap_world.proofs.Keeping.{points_stay, usable_stays}
 use Rattle.heap_world.proofs.NewObject.{new_object, stays, names_stay, things_stay, old_hand, old_promise, parsable_again, objects_again, owned_again, unfilled_again, given_again, with_count, count_own}
 use Rattle.step_core.specs.Stepped.{IsMaking, LegalBy, graph_by}
 use Rattle.step_core.proofs.Settling.{legal_answer, graph_answer}
-use Rattle.step_core.proofs.RootStores.{roots_written, usable_written}
+use Rattle.heap_world.proofs.RootChanges.{roots_written, usable_written}
 
 -- a piece that is no other seat's: neither in its hand nor promised to it
 pub record IsOwn (seat : ℕ) (piece : Block) : Type 0 where

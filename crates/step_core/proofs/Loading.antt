@@ -1,7 +1,5 @@
 -- Steps that load a word: what they settle, and what they leave as it was.
-use Rattle.std.proofs.Common.{◌≡◌, ℕ, ◌+◌, ◌<◌, true, false, Option, Some, None, refl, sym, ap, ◌∙◌, arith}
-use Rattle.std.specs.Prelude.{◌==◌, ◌&&◌, if◌then◌else◌}
-use Rattle.std.proofs.lemmas.Bool.{eq-eqb}
+use Rattle.std.proofs.Common.{◌≡◌, ℕ, ◌+◌, false, Option, Some, None, refl, sym, ap, ◌∙◌, arith}
 use Rattle.std.proofs.lemmas.Bool.Decides.{nat_tests}
 use Rattle.heap_words.specs.declared.config.Config.{Config}
 use Rattle.heap_words.specs.Words.{Word}
@@ -14,7 +12,7 @@ use Rattle.shen_graph.specs.History.{is_full}
 use Rattle.shen_graph.specs.declared.order.Order.TheVariants.{Nothing}
 use Rattle.mutator.specs.Rows.{Mutating, touch_of, next_of, given_at}
 use Rattle.mutator.specs.Told.{told_of}
-use Rattle.heap_world.specs.World.{World, Plot, Points, Shared}
+use Rattle.heap_world.specs.World.{World, Shared}
 use Rattle.step_core.specs.Stepped.{Mine, Stepped}
 use Rattle.heap_world.proofs.Keeping.{load_keeps, rely_same}
 use Rattle.step_core.proofs.Settling.{legal_answer, graph_answer}
@@ -67,11 +65,3 @@ replies_root c u m at command fixed r dst v loaded told given unsettled other is
   mine = rw (loaded, told) mine;
   others = λ j d. search (arith, nat_tests);
 }
-
--- Words that stand for a mutator's roots do so after one of them became another, if the word of that one is another too.
-pub roots_then : (block : Plot) (words : ℕ → ℕ) (root : ℕ → ℕ → Reference) (t dst value : ℕ) (v : Reference)
-    → ((i : ℕ) → i < 16 → Points block (words i) (root t i)) → Points block value v
-    → (i : ℕ) → i < 16 → Points block (if i == dst then value else words i) (if (t == t) && (i == dst) then v else root t i)
-roots_then block words root t dst value v roots is i below =
-    rw (eq-eqb t t refl)
-    (elim (i == dst) as (λ b. Points block (if b then value else words i) (if b then v else root t i)) [ true ↦ is | false ↦ roots i below ])

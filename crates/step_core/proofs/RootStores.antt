@@ -1,7 +1,7 @@
 -- The steps that store a reference into a root.
-use Rattle.std.proofs.Common.{◌≡◌, ℕ, ◌+◌, ◌<◌, inl, true, false, ⊎_elim, Option, None, refl, sym, ap, ◌∙◌, subst, arith}
-use Rattle.std.specs.Prelude.{◌==◌, ◌&&◌, if◌then◌else◌}
-use Rattle.std.proofs.lemmas.Bool.{eq-eqb, cond-true, cond-false, cases_Bool}
+use Rattle.std.proofs.Common.{◌≡◌, ℕ, ◌+◌, inl, false, ⊎_elim, Option, None, refl, sym, ap, ◌∙◌, subst, arith}
+use Rattle.std.specs.Prelude.{◌==◌}
+use Rattle.std.proofs.lemmas.Bool.{eq-eqb, cond-true}
 use Rattle.std.proofs.lemmas.Bool.Decides.{nat_tests}
 use Rattle.heap_words.specs.declared.config.Config.{Config}
 use Rattle.heap_words.specs.Words.{Word, Root, Wait, Answer, write}
@@ -18,35 +18,13 @@ use Rattle.mutator.specs.declared.spot.Kept.{Kept}
 use Rattle.shen_graph.specs.declared.order.Order.TheVariants.{Nothing}
 use Rattle.mutator.specs.Commands.{dst_of}
 use Rattle.mutator.specs.Rows.{Mutating, touch_of}
-use Rattle.heap_world.specs.World.{World, Plot, Points, IsUsable, Shared}
+use Rattle.heap_world.specs.World.{World, Points, IsUsable, Shared}
 use Rattle.step_core.specs.Stepped.{IsSeatedIn, Mine, Stepped, Row}
 use Rattle.heap_world.proofs.Keeping.{usable_now}
 use Rattle.step_core.proofs.Spots.{mutator_at, accessed}
 use Rattle.step_core.proofs.Settling.{legal_answer, graph_answer}
 use Rattle.step_core.proofs.Ready.{leaving}
-use Rattle.step_core.proofs.Loading.{roots_then}
-
--- a mutator's roots, after a number was stored into one of them
-root_written : (memory : Word → ℕ) (seat dst value i : ℕ) → (if i == dst then value else memory (Root seat i)) ≡ write memory (Root seat dst) value (Root seat i)
-root_written memory seat dst value i =
-    let turned : (dst == i) ≡ (i == dst) = grind (arith, nat_tests) in
-    rw (eq-eqb seat seat refl, turned) refl
-
--- Words that stand for a mutator's roots do so after a reference was stored into one of them.
-pub roots_written : (block : Plot) (memory : Word → ℕ) (root : ℕ → ℕ → Reference) (seat dst value : ℕ) (v : Reference)
-    → ((i : ℕ) → i < 16 → Points block (memory (Root seat i)) (root (seat + 1) i)) → Points block value v → (i : ℕ) → i < 16
-    → Points block (write memory (Root seat dst) value (Root seat i)) (if ((seat + 1) == (seat + 1)) && (i == dst) then v else root (seat + 1) i)
-roots_written block memory root seat dst value v roots stands i below =
-    subst (λ word. Points block word (if ((seat + 1) == (seat + 1)) && (i == dst) then v else root (seat + 1) i)) (root_written memory seat dst value i)
-    (roots_then block (λ k. memory (Root seat k)) root (seat + 1) dst value v roots stands i below)
-
--- Words of a mutator's roots may be used after one that may be used was stored into one of them.
-pub usable_written : (block : Plot) (memory : Word → ℕ) (seat dst value : ℕ) → ((i : ℕ) → i < 16 → IsUsable block (memory (Root seat i))) → IsUsable block value → (i : ℕ) → i < 16
-    → IsUsable block (write memory (Root seat dst) value (Root seat i))
-usable_written block memory seat dst value usable new i below = subst (λ word. IsUsable block word) (root_written memory seat dst value i) (⊎_elim
-    (λ (same : (i == dst) ≡ true). subst (λ word. IsUsable block word) (sym (cond-true (i == dst) value (memory (Root seat i)) same)) new)
-    (λ (other : (i == dst) ≡ false). subst (λ word. IsUsable block word) (sym (cond-false (i == dst) value (memory (Root seat i)) other)) (usable i below))
-    (cases_Bool (i == dst)))
+use Rattle.heap_world.proofs.RootChanges.{root_written, roots_written, usable_written}
 
 -- the facts of a seat after a word that may be used was stored into a root
 seated_written : (c : Config) (u w : World) (seat made dst value : ℕ) → w.block ≡ u.block → w.graph.count ≡ u.graph.count → w.memory ≡ write u.memory (Root seat dst) value

@@ -32,7 +32,7 @@ use Rattle.heap_world.proofs.Objects.{field_stored, number_stored, stored, chang
 use Rattle.step_core.proofs.Settling.{legal_answer, graph_answer}
 use Rattle.step_core.proofs.Spots.{mutator_at}
 use Rattle.step_core.proofs.InHand.{shown_not_full, field_mine}
-use Rattle.step_core.proofs.Loading.{roots_then}
+use Rattle.heap_world.proofs.RootChanges.{roots_then}
 use Rattle.heap_world.proofs.Keeping.{load_keeps, rely_same}
 
 -- an object with another reference in a field, and with another number
