@@ -7,10 +7,8 @@ use Rattle.std.proofs.lemmas.Bool.Decides.{nat_tests}
 use Rattle.heap_words.specs.declared.config.Config.{Config}
 use Rattle.heap_words.specs.Ranges.{seat_count}
 use Rattle.shen_graph.specs.declared.order.Order.TheVariants.{Nothing}
-use Rattle.shared_steps.specs.Views.{machine_of, whole, kept_of, kept_one, dealt_to, is_dealt_to}
-use Rattle.shared_steps.proofs.ChangeHands.{machine_of-index}
+use Rattle.shared_steps.specs.Views.{machine_of, whole, kept_one, dealt_to, is_dealt_to}
 use Rattle.shared_steps.proofs.Kept.{machine_of-kept, kept_some}
-use Rattle.shared_steps.proofs.Numbers.{same_none}
 use Rattle.shared_steps.proofs.Shown.{machine_of-whole, machine_of-picked}
 use Rattle.heap_machines.specs.declared.machine.Machine as memory
 use Rattle.heap_machines.specs.Shown.{shown, has_turn}
