@@ -1,5 +1,5 @@
 -- The end of the sharing: all words are read, and all machines are there.
-use Rattle.std.proofs.Common.{◌≡◌, ℕ, zero, suc, ◌+◌, ◌<◌, ◌≢◌, Bool, true, false, List, [], ◌∷◌, length, Option, Some, None, refl, sym, ap, ◌∙◌, subst, arith}
+use Rattle.std.proofs.Common.{◌≡◌, ℕ, zero, suc, ◌+◌, ◌<◌, ◌≢◌, Bool, true, false, List, [], ◌∷◌, length, Some, None, refl, sym, ap, ◌∙◌, subst, arith}
 use Rattle.std.specs.Prelude.{slice_get, slice_index, slice_set, ◌==◌}
 use Rattle.std.specs.Option.{is_some}
 use Rattle.std.proofs.lemmas.Bool.Decides.{nat_tests}
@@ -18,7 +18,8 @@ use Rattle.step_core.specs.Actor.{Machine, Actor}
 use Rattle.step_core.specs.Machines.{takes_of}
 use Rattle.step_core.specs.Settled.{image_of}
 use Rattle.table_heap.specs.Core.{heap_kind, heap_opening, machine_in}
-use Rattle.table_heap.proofs.Core.{first_count, idle_is_calm}
+use Rattle.heap_machines.proofs.Openings.{first_count}
+use Rattle.table_heap.proofs.Core.{idle_is_calm}
 
 -- the word under a number
 number_at : (xs : List ℕ) (k x : ℕ) → get_elem? xs k ≡ some x → slice_index xs k ≡ x
@@ -53,11 +54,7 @@ view_is_whole c view items kept long here = record {
 -- where the control of a view is idle it stores no image
 pub view_is_calm : (view : View Actor) (number : ℕ) → view ≡ whole (machines_of view) → ((a : Actor) → machine_of view number ≡ Some a → takes_of a.machine Nothing ≡ false)
     → image_of (slice_get (machines_of view) number) ≡ None
-view_is_calm view number all idle = by_actor (slice_get (machines_of view) number) refl
-  where
-    by_actor : (o : Option Actor) → slice_get (machines_of view) number ≡ o → image_of o ≡ None
-    by_actor None is = refl
-    by_actor (Some a) is = idle_is_calm a.machine (idle a (ap (λ v. machine_of v number) all ∙ machine_of-whole (machines_of view) number ∙ is))
+view_is_calm view number all idle = idle_is_calm (slice_get (machines_of view) number) (λ a is. idle a (ap (λ v. machine_of v number) all ∙ machine_of-whole (machines_of view) number ∙ is))
 
 -- the same stage, with other names for the configuration, the words and the view
 pub reached_as : (k c : Config) (words read : List ℕ) (view seen : View Actor) → k ≡ c → words ≡ read → view ≡ seen

@@ -1,23 +1,25 @@
 -- What the machines of a heap do as a kind. Nothing else here opens a definition of the core.
-use Rattle.std.proofs.Common.{◌≡◌, ℕ, true, false, ◌&&◌, List, length, None, refl}
+use Rattle.std.proofs.Common.{◌≡◌, ℕ, true, false, ◌&&◌, List, Option, None, Some, refl}
 use Rattle.std.specs.Prelude.{if◌then◌else◌}
-use Rattle.std.proofs.lemmas.List.FromFn.{length-map-range_with_len}
 use Rattle.heap_words.specs.declared.config.Config.{Config}
-use Rattle.heap_words.specs.Ranges.{seat_count}
 use Rattle.shen_graph.specs.declared.order.Order.{Order}
 use Rattle.shen_graph.specs.declared.order.Order.TheVariants.{Nothing}
 use Rattle.steps_base.specs.Steps.{Event, Finds}
 use Rattle.control_steps.specs.declared.spot.ControlSpot.{ControlSpot}
 use Rattle.control_steps.specs.declared.spot.ControlSpot.TheVariants.{StoreWord}
 use Rattle.control_steps.specs.Rows.{is_gone}
+use Rattle.heap_machines.specs.declared.machine.Machine as memory
+use Rattle.heap_machines.specs.declared.machine.Machine.TheVariants as memories
+use Rattle.heap_machines.specs.Shown.{shown, has_turn}
+use Rattle.heap_machines.specs.Roles.{is_mutating}
 use Rattle.step_core.specs.Actor.{Machine, mutating, helping, controlling, Actor}
 use Rattle.pause_laws.specs.Image.{full_image}
 use Rattle.pause_laws.proofs.Pauses.{full_is_pause}
 use Rattle.step_core.specs.Begins.{Run, first_graph}
 use Rattle.step_core.specs.Fit.{IsFitFor}
 use Rattle.step_core.specs.Machines.{takes_of, plan_of, took_of, kind}
-use Rattle.step_core.specs.Opening.{opening_words, opening_actor, opening}
-use Rattle.step_core.specs.Settled.{stored_image, image_in}
+use Rattle.step_core.specs.Opening.{opening_words, opening}
+use Rattle.step_core.specs.Settled.{stored_image, image_in, image_of}
 use Rattle.step_core.proofs.FirstFacts.{opening_begins}
 use Rattle.step_core.proofs.Theorem.{found_fit}
 use Rattle.table_heap.specs.Core.{heap_kind, heap_opening}
@@ -43,11 +45,6 @@ pub first_words : (c : Config) → (heap_opening c).words ≡ opening_words c
 unfolding opening
 first_words c = refl
 
--- and how many machines it has
-pub first_count : (c : Config) → length (heap_opening c).machines ≡ seat_count c.mutators c.helpers
-unfolding opening
-first_count c = length-map-range_with_len (opening_actor c) 0 (seat_count c.mutators c.helpers)
-
 -- events from the opening are a run
 abbrev pub run_of : (c : Config) → List (Event Order) → Run c
 run_of c events = record { start = opening c; graph = first_graph c; begins = opening_begins c; events = events }
@@ -57,7 +54,17 @@ gone_is_calm : (spot : ControlSpot) (image : List ℕ) → (true && (if is_gone 
 gone_is_calm (StoreWord index) image gone = absurd cc
 gone_is_calm _ image gone = refl
 
-pub idle_is_calm : (machine : Machine) → takes_of machine Nothing ≡ false → image_in machine ≡ None
-idle_is_calm (mutating m) idle = refl
-idle_is_calm (helping h) idle = refl
-idle_is_calm (controlling k) idle = gone_is_calm k.spot k.image idle
+machine_is_calm : (machine : Machine) → takes_of machine Nothing ≡ false → image_in machine ≡ None
+machine_is_calm (mutating m) idle = refl
+machine_is_calm (helping h) idle = refl
+machine_is_calm (controlling k) idle = gone_is_calm k.spot k.image idle
+
+pub idle_is_calm : (o : Option Actor) → ((a : Actor) → o ≡ Some a → takes_of a.machine Nothing ≡ false) → image_of o ≡ None
+idle_is_calm None idle = refl
+idle_is_calm (Some a) idle = machine_is_calm a.machine (idle a refl)
+
+-- a machine that is no mutator and has no turn takes no order
+pub no_turn : (m : memory.Machine) → is_mutating (shown m) ≡ false → has_turn m ≡ false → takes_of (shown m) Nothing ≡ false
+no_turn (memories.Mutator m) other none = absurd cc
+no_turn (memories.Helper config) other none = refl
+no_turn (memories.Control k) other none = none

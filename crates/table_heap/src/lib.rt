@@ -18,3 +18,5 @@ pub use machines::{Acting, OfHeaps};
 
 #[cfg(test)]
 mod tests;
+#[cfg(test)]
+mod thread_tests;
