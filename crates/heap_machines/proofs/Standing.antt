@@ -165,8 +165,8 @@ module _ (c : Config) (run : Run c) (rest : (t : ℕ) (a : Actor) → t < c.muta
   represents : Represents c (image_view c image) graph asking
   represents = record {
     block = sound.stands.block;
-    owner = sound.stands.owner;
-    shared = subst (λ (memory : Word → ℕ). Shared c (record { memory = memory; block = sound.stands.block; owner = sound.stands.owner; graph = graph })) (table_counts ∙ whole) sound.stands.shared;
+    ghost = sound.stands.ghost;
+    shared = subst (λ (memory : Word → ℕ). Shared c (record { memory = memory; block = sound.stands.block; ghost = sound.stands.ghost; graph = graph })) (table_counts ∙ whole) sound.stands.shared;
     roots = λ t i below small. subst (λ (memory : Word → ℕ). Points sound.stands.block (memory (Root t i)) (graph.root (t + 1) i)) (table_counts ∙ whole) (own_roots t i below small);
     none = no_hands;
     asked = λ t below. asked_same (mixed c (ending full_image c run).words image) (image_view c image) sound.stands.block graph.count t (asking t) refl refl (λ a. refl)
@@ -177,7 +177,7 @@ module _ (c : Config) (run : Run c) (rest : (t : ℕ) (a : Actor) → t < c.muta
 
   -- and hold it, with no region in the collection set
   pub image_holds : Holds c (image_view c image) graph
-  image_holds = (plain c (image_view c image) graph asking represents, represents.owner, promises_of c graph asking, holds_by c (image_view c image) graph asking represents)
+  image_holds = (plain c (image_view c image) graph asking represents, represents.ghost.owner, promises_of c graph asking, holds_by c (image_view c image) graph asking represents)
 
   pub image_calm : image_view c image Cset ≡ 0
   image_calm = represents.shared.calm.cset_is
