@@ -1,6 +1,7 @@
 -- Images of which only the words of the image matter.
-use Rattle.std.proofs.Common.{◌≡◌, ℕ, ◌+◌, ◌<◌, List, [], ◌∷◌, ◌++◌, length, get_or, take, drop, set, replicate, sym, ap, ◌∙◌, subst, arith, length-drop, length-set}
-use Rattle.std.proofs.lemmas.List.{take_more_set, get_or-replicate, length-replicate}
+use Rattle.std.proofs.Common.{◌≡◌, ℕ, ◌+◌, ◌<◌, List, [], ◌∷◌, ◌++◌, length, get_or, take, drop, set, replicate, refl, sym, ap, ◌∙◌, subst, arith, length-drop, length-set}
+use Rattle.std.proofs.lemmas.Grind.{same_number_lists}
+use Rattle.std.proofs.lemmas.List.{take_more_set, get_or-replicate, get_or-drop, length-replicate}
 use Rattle.std.proofs.Math.ListN.{get_or-append}
 use Rattle.std.proofs.Math.Seq.{take-length, drop-append_seam}
 use Rattle.heap_words.specs.declared.config.Config.{Config}
@@ -13,7 +14,9 @@ use Rattle.image_laws.specs.Full.{full}
 use Rattle.pause_laws.specs.Image.{full_image}
 use Rattle.pause_laws.proofs.Pauses.{is_whole}
 use Rattle.control.specs.Clear.{IsClear}
-use Rattle.control.specs.Image.{image_in}
+use Rattle.control_steps.specs.declared.spot.ControlSpot.{ControlSpot}
+use Rattle.control_steps.specs.declared.spot.ControlSpot.TheVariants.{LoadWord, StoreWord}
+use Rattle.control.specs.Image.{image_in, image_from, words_seen, IsLoadedFrom}
 use Rattle.control.proofs.Clearing.{view-clear}
 
 -- all its words are those of the image, and 0 before them
@@ -82,3 +85,23 @@ module _ (old mid new : Image) (index word : ℕ) (last : index + 1 ≡ image_wo
     word-last clear w =
         ap (λ memory. memory w) (memory-image_in new clear) ∙ ap (λ c. image_view c (image_in new) w) (config_then ∙ config)
         ∙ ap (λ image. image_view (config_of old) image w) image-last
+
+-- an image into which all words of a table were put
+pub image-loaded : (c : Config) (i : Image) (table : List ℕ) → config_of i ≡ c → length table ≡ table_words c
+    → ((k : ℕ) → k < image_words c → get_or (image_in i) k 0 ≡ get_or table (image_start c + k) 0) → image_in i ≡ image_from c table
+image-loaded c i table config long same =
+    let all : length (image_in i) ≡ image_words c = length-image_in i ∙ ap image_words config in
+    let rest : length (image_from c table) ≡ image_words c = omega (arith, length-drop (image_start c) table, long) in
+    same_number_lists (image_in i) (image_from c table) (all ∙ sym rest) (λ k below.
+    let inside : k < image_words c = omega (arith, below, all) in
+    same k inside ∙ sym (get_or-drop (image_start c) table k 0))
+
+-- by name they are the words of the table's image
+pub memory-loaded : (c : Config) (i : Image) (table : List ℕ) → IsClear i → config_of i ≡ c → image_in i ≡ image_from c table → memory_of i ≡ image_view c (image_from c table)
+memory-loaded c i table clear config is = memory-image_in i clear ∙ ap (λ d. image_view d (image_in i)) config ∙ ap (image_view c) is
+
+-- what events see of a control stays, where it has loaded words of that table
+pub seen-loaded : (table : List ℕ) (spot : ControlSpot) (old new : List ℕ) → new ≡ table → IsLoadedFrom table spot (words_seen spot old) → words_seen spot new ≡ words_seen spot old
+seen-loaded table (LoadWord index) old new is loaded = ap (take index) is ∙ sym loaded
+seen-loaded table (StoreWord index) old new is loaded = absurd loaded
+seen-loaded table _ old new is loaded = refl

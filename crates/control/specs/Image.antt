@@ -1,5 +1,6 @@
 -- The words of the image that a control keeps.
-use Rattle.std.specs.Prelude.{ℕ, Bool, true, false, List, [], take, drop}
+use Rattle.std.specs.Prelude.{ℕ, ◌≡◌, Bool, true, false, List, [], take, drop}
+use Rattle.heap_words.specs.declared.config.Config.{Config}
 use Rattle.heap_words.specs.Words.{image_start}
 use Rattle.image_graph.specs.declared.image.Image.{Image}
 use Rattle.image_graph.specs.State.{config_of, words_of}
@@ -20,3 +21,13 @@ words_seen _ image = []
 abbrev pub is_storing : ControlSpot → Bool
 is_storing (StoreWord index) = true
 is_storing _ = false
+
+-- the words of the image in a table
+abbrev pub image_from : Config → List ℕ → List ℕ
+image_from c words = drop (image_start c) words
+
+-- no other words than those of this table were loaded, and none are stored
+abbrev pub IsLoadedFrom : List ℕ → ControlSpot → List ℕ → Type 0
+IsLoadedFrom table (LoadWord index) image = image ≡ take index table
+IsLoadedFrom table (StoreWord index) image = ⊥
+IsLoadedFrom table _ image = Unit {0}

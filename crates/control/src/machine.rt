@@ -3,10 +3,11 @@ ghost use Rattle.image_graph.specs.State.{config_of};
 ghost use Rattle.control_steps.specs.Ready.{is_ready};
 ghost use Rattle.control.specs.Clear.{IsClear};
 
-use crate::pause::{clear, take_word};
+use crate::pause::{clear, load, take_word};
 use control_steps::ControlSpot;
 use heap_words::{Access, Config, Place, Took};
 use image_graph::Image;
+use shen_graph::GraphText;
 
 /// The machine that collects a heap. Its steps are one access each; between two of them it does constant work, but for the
 /// step that loads the last word of the image: there it collects, in time linear in the words of the heap. Only `new` is given
@@ -16,22 +17,25 @@ pub struct Control {
     spot: ControlSpot,
     // The free word at the end of the last pause.
     seen: u64,
-    // In a pause the words loaded so far, and once all are, the words to be stored.
+    // In a pause the words loaded so far, and once all are, the words to be stored. What it is else does not matter.
     image: Image,
     ghost ready: { is_ready (config_of image) spot ≡ true },
     ghost clear: { IsClear image },
 }
 
 impl Control {
-    ghost use Rattle.std.specs.Prelude.{◌<◌, ◌↔◌, [], false};
+    ghost use Rattle.std.specs.Prelude.{◌<◌, ◌≤◌, ◌↔◌, [], length, false};
     ghost use Rattle.heap_words.specs.Access.{place_of};
-    ghost use Rattle.heap_words.specs.Words.{Free, table_words};
+    ghost use Rattle.heap_words.specs.Words.{Free, Cset, table_words, heap_size};
+    ghost use Rattle.heap_world.specs.Change.{image_view};
     ghost use Rattle.image_graph.specs.State.{memory_of};
+    ghost use Rattle.image_graph.specs.Holds.{HoldsSome};
+    ghost use Rattle.image_graph.specs.Left.{ShowsTheGraph};
     ghost use Rattle.control_steps.specs.Rows.{is_gone, control_place, control_access, control_next, control_says};
     ghost use Rattle.control_steps.specs.Waits.{WaitsAt};
     ghost use Rattle.pause_laws.specs.Image.{full_image};
     ghost use Rattle.control.specs.Fit.{IsFit};
-    ghost use Rattle.control.specs.Image.{is_storing};
+    ghost use Rattle.control.specs.Image.{image_from, is_storing, IsLoadedFrom};
     ghost use Rattle.control.specs.Seen.{config_in, seen_control};
 
     /// The control of the image's heap. It has seen the image's free word. Nothing else of the image matters.
@@ -102,5 +106,25 @@ impl Control {
         let config = self.image.config();
         self.spot = before.after(config, seen, got);
         before.says(config, seen, got)
+    }
+
+    /// Writes the graph that the words of the heap's table hold, as `Image::answer_graph` does: it is the only place in a
+    /// heap that has the memory for that. The control is not storing a new image, and what it has loaded in a pause so far
+    /// are words of this table. As events see it, it stays as it is.
+    pub fn answer_graph(&mut self, words: &[u64], text: &mut GraphText)
+        requires words { length words.now ≡ table_words (config_in self.old) }
+        requires loaded { IsLoadedFrom (image_from (config_in self.old) words.now) (seen_control self.old).spot (seen_control self.old).image }
+        requires room { heap_size (config_in self.old) ≤ text.old.room }
+        requires threads { length text.old.roots ≡ (config_in self.old).mutators }
+        requires holds { HoldsSome (config_in self.old) (image_view (config_in self.old) (image_from (config_in self.old) words.now)) }
+        requires calm { image_view (config_in self.old) (image_from (config_in self.old) words.now) Cset ≡ 0 }
+        ensures config { config_in self.new ≡ config_in self.old }
+        ensures same { seen_control self.new ≡ seen_control self.old }
+        ensures shows { ShowsTheGraph (config_in self.old) (image_view (config_in self.old) (image_from (config_in self.old) words.now)) text.new }
+        ensures same_room { text.new.room ≡ text.old.room }
+        ensures same_threads { length text.new.roots ≡ length text.old.roots }
+    {
+        load(&mut self.image, words);
+        self.image.answer_graph(text);
     }
 }

@@ -1,7 +1,7 @@
 //! What a pause does with the image.
 
-ghost use Rattle.std.specs.Prelude.{◌≡◌, ◌+◌, ◌<◌, take, slice_set};
-ghost use Rattle.heap_words.specs.Words.{image_start};
+ghost use Rattle.std.specs.Prelude.{◌≡◌, ◌+◌, ◌<◌, length, take, slice_set};
+ghost use Rattle.heap_words.specs.Words.{image_start, table_words};
 ghost use Rattle.heap_world.specs.Change.{image_view, image_words};
 ghost use Rattle.image_graph.specs.State.{config_of};
 ghost use Rattle.image_graph.specs.Holds.{HoldsSome};
@@ -10,7 +10,7 @@ ghost use Rattle.control_steps.specs.Rows.{next_spot, next_image, next_seen};
 ghost use Rattle.pause_laws.specs.Image.{full_image};
 ghost use Rattle.control.specs.Clear.{IsClear};
 ghost use Rattle.control.specs.Fit.{holds_with};
-ghost use Rattle.control.specs.Image.{image_in, words_seen};
+ghost use Rattle.control.specs.Image.{image_in, image_from, words_seen};
 
 use control_steps::image_words;
 use full_cycle::full;
@@ -37,6 +37,21 @@ fn put_word(image: &mut Image, index: usize, word: u64)
 {
     let start = image.config().image_start();
     image.set_word(start + index, word);
+}
+
+// Puts all words of the image, as a table has them.
+pub(crate) fn load(image: &mut Image, words: &[u64])
+    requires words { length words.now ≡ table_words (config_of image.old) }
+    requires clear { IsClear image.old }
+    ensures config { config_of image.new ≡ config_of image.old }
+    ensures image { image_in image.new ≡ image_from (config_of image.old) words.now }
+    ensures clear { IsClear image.new }
+{
+    let config = image.config();
+    let start = config.image_start();
+    for index in 0..image_words(config) {
+        put_word(image, index, words[start + index]);
+    }
 }
 
 // Collects the whole heap.

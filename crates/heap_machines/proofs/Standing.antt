@@ -1,10 +1,12 @@
 -- Where a run has led to a stage whose mutators rest and whose control stores no image: its words stand for the graph after the run, and the entries of each
 -- thread are its calls.
-use Rattle.std.proofs.Common.{None, ◌≡◌, ℕ, ◌+◌, ◌<◌, true, Option, Some, refl, ap, ◌∙◌, subst}
-use Rattle.std.proofs.lemmas.List.{append-nil}
+use Rattle.std.proofs.Common.{None, ◌≡◌, ℕ, ◌+◌, ◌<◌, ◌≤◌, ◌⊎◌, inl, inr, true, false, List, length, take, Option, Some, refl, sym, ap, ◌∙◌, subst, arith, length-take, length-drop}
+use Rattle.std.proofs.lemmas.Bool.{ltb-true, cases_lt}
+use Rattle.std.proofs.lemmas.Grind.{same_number_lists}
+use Rattle.std.proofs.lemmas.List.{append-nil, get_or-take, get_or-drop}
 use Rattle.std.specs.Prelude.{slice_get, ◌++◌}
 use Rattle.heap_words.specs.declared.config.Config.{Config}
-use Rattle.heap_words.specs.Words.{Word, Root, view, heap_in, roots_in}
+use Rattle.heap_words.specs.Words.{Word, Root, Cset, view, heap_in, roots_in, image_start}
 use Rattle.shen_graph.specs.declared.name.Name.{Name}
 use Rattle.shen_graph.specs.declared.command.Reply.{Reply}
 use Rattle.shen_graph.specs.Graph.{Graph}
@@ -14,18 +16,33 @@ use Rattle.mutator.specs.declared.spot.Spot.{Spot}
 use Rattle.mutator.specs.declared.spot.Spot.TheVariants.{Rest, Ended, Gone}
 use Rattle.mutator.specs.Orders.{is_between_calls}
 use Rattle.mutator.specs.Rows.{Mutating}
-use Rattle.heap_world.specs.World.{World, Shared, name_at, Points}
+use Rattle.heap_world.specs.World.{World, Shared, name_at, Points, hand}
+use Rattle.heap_world.specs.Asking.{Asking, nothing, IsAsked}
+use Rattle.heap_world.specs.Change.{image_view, image_words}
+use Rattle.heap_world.specs.Represents.{Represents}
+use Rattle.image_graph.specs.Holds.{Holds}
+use Rattle.control_steps.specs.declared.spot.ControlSpot.{ControlSpot}
+use Rattle.control_steps.specs.declared.spot.ControlSpot.TheVariants.{LoadWord, StoreWord}
+use Rattle.control_steps.specs.Ready.{is_ready}
+use Rattle.control.specs.Image.{image_from, IsLoadedFrom}
+use Rattle.heap_machines.specs.Roles.{CanShow}
 use Rattle.heap_graph.specs.Shows.{WordsStand}
 use Rattle.heap_graph.proofs.Tables.{table_stands}
 use Rattle.step_core.specs.Actor.{Machine, mutating, helping, controlling, Actor, entries_of}
-use Rattle.step_core.specs.Own.{root_now}
-use Rattle.step_core.specs.Machines.{is_resting}
-use Rattle.step_core.specs.Settled.{settled, settled_by, image_of, control_number}
-use Rattle.step_core.specs.Sound.{world_of, IsSound}
+use Rattle.step_core.specs.Own.{root_now, IsInHand}
+use Rattle.step_core.specs.Machines.{is_resting, HasNumber}
+use Rattle.step_core.specs.Settled.{settled, settled_by, mixed, stored_image, image_in, image_of, control_number}
+use Rattle.step_core.specs.Sound.{world_of, is_clearing, IsSound}
 use Rattle.step_core.specs.Begins.{Run, ending, history_in, graph_after}
 use Rattle.pause_laws.specs.Image.{full_image}
+use Rattle.pause_laws.proofs.Before.{plain}
+use Rattle.pause_laws.proofs.Promises.{promises_of}
+use Rattle.pause_laws.proofs.Holding.{holds_by}
 use Rattle.pause_laws.proofs.Pauses.{full_is_pause}
-use Rattle.step_core.proofs.Theorem.{run_sound}
+use Rattle.step_core.proofs.Asked.{asked_same}
+use Rattle.step_core.proofs.Facts.{IsAim}
+use Rattle.step_core.proofs.Images.{mixed_whole}
+use Rattle.step_core.proofs.Theorem.{run_sound, run_aims}
 
 -- a machine that rests is a mutator between two calls
 rest_parts : (machine : Machine) → is_resting machine ≡ true → (m : Mutating) × (machine ≡ mutating m) × (is_between_calls m.spot ≡ true)
@@ -46,6 +63,20 @@ entries_at_rest c run t a here rest =
     let parts = rest_parts a.machine rest in
     let thread = (run_sound full_image full_is_pause c run).threads t a parts.0 (record { here = here; is = parts.1 }) in
     thread.entries_are ∙ ap (λ (o : Option Reply). a.calls ++ entries_of t a.command o) (thread.between_calls parts.2) ∙ append-nil a.calls
+
+-- it is not about to clear an answer
+not_clearing : (spot : Spot) → is_between_calls spot ≡ true → is_clearing spot ≡ false
+not_clearing Rest rest = refl
+not_clearing (Ended reply) rest = refl
+not_clearing Gone rest = refl
+not_clearing _ rest = absurd cc
+
+-- and has no room in hand
+none_at_rest : (kept : Kept) (spot : Spot) (a words : ℕ) → is_between_calls spot ≡ true → IsInHand kept spot a words → ⊥
+none_at_rest kept Rest a words rest is = is
+none_at_rest kept (Ended reply) a words rest is = is
+none_at_rest kept Gone a words rest is = is
+none_at_rest kept _ a words rest is = absurd cc
 
 module _ (c : Config) (run : Run c) (rest : (t : ℕ) (a : Actor) → t < c.mutators → slice_get (ending full_image c run).machines t ≡ Some a → is_resting a.machine ≡ true)
     (calm : image_of (slice_get (ending full_image c run).machines (control_number c)) ≡ None) where
@@ -83,3 +114,93 @@ module _ (c : Config) (run : Run c) (rest : (t : ℕ) (a : Actor) → t < c.muta
       (subst (λ (memory : Word → ℕ). Shared c (record { memory = memory; block = sound.stands.block; ghost = sound.stands.ghost; graph = graph })) table_counts sound.stands.shared)
       (λ t i below small. subst (λ (memory : Word → ℕ). Points sound.stands.block (memory (Root t i)) (graph.root (t + 1) i)) table_counts (own_roots t i below small))
       sound.no_more
+
+  -- A mutator that rests has asked for something, or for nothing.
+  abbrev HasAskedFor : ℕ → Asking → Type 0
+  HasAskedFor t x = IsAsked (view c (ending full_image c run).words) sound.stands.block graph.count t x
+
+  asked_one : (t : ℕ) → t < c.mutators → (x : Asking) × HasAskedFor t x
+  asked_one t below =
+      let some = sound.of_heap.mutators t below in
+      let m = some.mutator in
+      let seat : m.seat ≡ t = (sound.of_heap.numbers t some.actor m some.here).0 in
+      let at_rest : is_between_calls m.spot ≡ true = subst (λ machine. is_resting machine ≡ true) some.here.is (rest t some.actor below some.here.here) in
+      let asked = sound.stands.asked t some.actor m some.here (not_clearing m.spot at_rest) in (
+        asked.asking,
+        subst (λ (memory : Word → ℕ). IsAsked memory sound.stands.block graph.count t asked.asking) table_counts
+            (subst (λ k. IsAsked (settled c (ending full_image c run)) sound.stands.block graph.count k asked.asking) seat asked.is),
+      )
+
+  asking_by : (t : ℕ) → (t < c.mutators) ⊎ (c.mutators ≤ t) → Asking
+  asking_by t (inl below) = (asked_one t below).0
+  asking_by t (inr past) = nothing
+
+  asked_by : (t : ℕ) (either : (t < c.mutators) ⊎ (c.mutators ≤ t)) → t < c.mutators → HasAskedFor t (asking_by t either)
+  unfolding asking_by asked_one
+  asked_by t (inl below) less = (asked_one t below).1
+  asked_by t (inr past) less = absurd (omega arith)
+
+  abbrev asking : ℕ → Asking
+  asking t = asking_by t (cases_lt t c.mutators)
+
+  -- nobody has room in hand
+  no_hands : (a seat more : ℕ) → sound.stands.block a ≡ Some (hand seat more) → ⊥
+  no_hands a t more is =
+      let below = sound.stands.in_hand a t more is in
+      let some = sound.of_heap.mutators t below in
+      let m = some.mutator in
+      let seat : m.seat ≡ t = (sound.of_heap.numbers t some.actor m some.here).0 in
+      let at_rest : is_between_calls m.spot ≡ true = subst (λ machine. is_resting machine ≡ true) some.here.is (rest t some.actor below some.here.here) in
+      none_at_rest m.kept m.spot a more at_rest
+      ((sound.stands.mutators t some.actor m some.here).hands a more (subst (λ k. sound.stands.block a ≡ Some (hand k more)) (sym seat) is))
+
+  -- the words of the image, as the table has them
+  abbrev image : List ℕ
+  image = image_from c (ending full_image c run).words
+
+  whole : view c (ending full_image c run).words ≡ mixed c (ending full_image c run).words image
+  whole = sym (mixed_whole c (ending full_image c run).words image (λ i below. get_or-drop (image_start c) (ending full_image c run).words i 0))
+
+  -- they represent the graph
+  represents : Represents c (image_view c image) graph asking
+  represents = record {
+    block = sound.stands.block;
+    ghost = sound.stands.ghost;
+    shared = subst (λ (memory : Word → ℕ). Shared c (record { memory = memory; block = sound.stands.block; ghost = sound.stands.ghost; graph = graph })) (table_counts ∙ whole) sound.stands.shared;
+    roots = λ t i below small. subst (λ (memory : Word → ℕ). Points sound.stands.block (memory (Root t i)) (graph.root (t + 1) i)) (table_counts ∙ whole) (own_roots t i below small);
+    none = no_hands;
+    asked = λ t below. asked_same (mixed c (ending full_image c run).words image) (image_view c image) sound.stands.block graph.count t (asking t) refl refl (λ a. refl)
+        (subst (λ memory. IsAsked memory sound.stands.block graph.count t (asking t)) whole (asked_by t (cases_lt t c.mutators) below));
+    promised_to = sound.stands.promised_to;
+    no_more = sound.no_more;
+  }
+
+  -- and hold it, with no region in the collection set
+  pub image_holds : Holds c (image_view c image) graph
+  image_holds = (plain c (image_view c image) graph asking represents, represents.ghost.owner, promises_of c graph asking, holds_by c (image_view c image) graph asking represents)
+
+  pub image_calm : image_view c image Cset ≡ 0
+  image_calm = represents.shared.calm.cset_is
+
+  -- what the control has loaded are words of the image
+  loaded_by : (spot : ControlSpot) (some : List ℕ) → stored_image spot some ≡ None → is_ready c spot ≡ true → IsAim c (ending full_image c run).words spot some → IsLoadedFrom image spot some
+  loaded_by (LoadWord index) some stored ready aims =
+      let less : index < image_words c = ltb-true index (image_words c) ready in
+      let long : length image ≡ image_words c = omega (arith, length-drop (image_start c) (ending full_image c run).words, sound.of_heap.words) in
+      let taken : length (take index image) ≡ index = omega (arith, length-take index image, long, less) in
+      same_number_lists some (take index image) (aims.0 ∙ sym taken) (λ i below.
+      let inside : i < index = omega (arith, below, aims.0) in
+      aims.1 i inside ∙ sym (get_or-take index image i 0 inside ∙ get_or-drop (image_start c) (ending full_image c run).words i 0))
+  loaded_by (StoreWord index) some stored ready aims = absurd cc
+  loaded_by _ some stored ready aims = tt
+
+  -- the control can work on them
+  pub can_show : (a : Actor) → slice_get (ending full_image c run).machines (control_number c) ≡ Some a → CanShow image a.machine
+  can_show a here = by_machine a.machine refl
+    where
+      by_machine : (machine : Machine) → a.machine ≡ machine → CanShow image machine
+      by_machine (mutating m) is = absurd (let number = subst (HasNumber c (control_number c)) is (sound.of_heap.roles (control_number c) a here) in omega (arith, number.1))
+      by_machine (helping h) is = absurd (let number = subst (HasNumber c (control_number c)) is (sound.of_heap.roles (control_number c) a here) in omega (arith, number.1))
+      by_machine (controlling k) is =
+          let aims = run_aims full_image full_is_pause c run.start run.graph run.begins run.events (control_number c) a k here is in
+          loaded_by k.spot k.image (ap image_in (sym is) ∙ ap image_of (sym here) ∙ calm) aims.0 aims.1

@@ -8,7 +8,7 @@ use control::Control;
 use heap_words::{Access, Config, NoMemory, Place, Took};
 use image_graph::Image;
 use mutator::Mutator;
-use shen_graph::{Command, Order, Reply};
+use shen_graph::{Command, GraphText, Order, Reply};
 use std::alloc::Global;
 use step_core::first_free;
 
@@ -27,9 +27,13 @@ pub enum Machine {
 }
 
 impl Machine {
-    ghost use Rattle.std.specs.Prelude.{◌≡◌, ◌<◌, ◌↔◌, ◌≢◌, true, false, not, Option, Some, None, IfOk, IfSome, is_some, if◌then◌else◌};
+    ghost use Rattle.std.specs.Prelude.{◌≡◌, ◌<◌, ◌≤◌, ◌↔◌, ◌≢◌, length, true, false, not, Option, Some, None, IfOk, IfSome, is_some, if◌then◌else◌};
     ghost use Rattle.heap_words.specs.Access.{place_of};
-    ghost use Rattle.heap_words.specs.Words.{table_words};
+    ghost use Rattle.heap_words.specs.Words.{Cset, table_words, heap_size};
+    ghost use Rattle.heap_world.specs.Change.{image_view};
+    ghost use Rattle.image_graph.specs.Holds.{HoldsSome};
+    ghost use Rattle.image_graph.specs.Left.{ShowsTheGraph};
+    ghost use Rattle.control.specs.Image.{image_from};
     ghost use Rattle.shen_graph.specs.Valid.{IsValid};
     ghost use Rattle.shen_graph.specs.declared.command.Command.{Command as Commands};
     ghost use Rattle.pause_laws.specs.Image.{full_image};
@@ -38,6 +42,7 @@ impl Machine {
     ghost use Rattle.step_core.specs.Machines.{takes_of, plan_of, place_in, machine_after, answer_of, stands_in, reply_in, is_resting, may_begin, made_of_machine, WaitsIn};
     ghost use Rattle.step_core.specs.Fit.{IsFitFor};
     ghost use Rattle.heap_machines.specs.Shown.{shown, order_of, heap_of, has_turn};
+    ghost use Rattle.heap_machines.specs.Roles.{CanShow};
     ghost use Rattle.heap_machines.specs.Turn.{order_for};
 
     /// The machine of a number, as a heap begins with it. The error is that memory for the control's image was refused.
@@ -232,6 +237,28 @@ impl Machine {
         match self {
             Machine::Mutator(mutator) => mutator.reply(),
             Machine::Helper { .. } | Machine::Control(_) => unreachable!(),
+        }
+    }
+
+    /// Writes the graph that the words of the heap's table hold. Of the control, while it is not storing a new image; what
+    /// it has loaded in a pause so far are words of this table. As events see it, it stays as it is. No memory is taken.
+    pub fn answer_graph(&mut self, words: &[u64], text: &mut GraphText)
+        requires control { CanShow (image_from (heap_of self.old) words.now) (shown self.old) }
+        requires words { length words.now ≡ table_words (heap_of self.old) }
+        requires room { heap_size (heap_of self.old) ≤ text.old.room }
+        requires threads { length text.old.roots ≡ (heap_of self.old).mutators }
+        requires holds { HoldsSome (heap_of self.old) (image_view (heap_of self.old) (image_from (heap_of self.old) words.now)) }
+        requires calm { image_view (heap_of self.old) (image_from (heap_of self.old) words.now) Cset ≡ 0 }
+        ensures shown { shown self.new ≡ shown self.old }
+        ensures order { order_of self.new ≡ order_of self.old }
+        ensures heap { heap_of self.new ≡ heap_of self.old }
+        ensures shows { ShowsTheGraph (heap_of self.old) (image_view (heap_of self.old) (image_from (heap_of self.old) words.now)) text.new }
+        ensures same_room { text.new.room ≡ text.old.room }
+        ensures same_threads { length text.new.roots ≡ length text.old.roots }
+    {
+        match self {
+            Machine::Control(control) => control.answer_graph(words, text),
+            Machine::Mutator(_) | Machine::Helper { .. } => unreachable!(),
         }
     }
 }

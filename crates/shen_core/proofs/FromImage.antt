@@ -1,6 +1,6 @@
 -- Heaps that begin from the words of an image.
 use Rattle.std.proofs.Common.{◌≡◌, ℕ, ◌+◌, ◌<◌, Bool, true, false, List, [], ◌∷◌, ◌++◌, length, map, Some, refl, sym, ap, ◌∙◌, subst, arith}
-use Rattle.std.specs.Prelude.{slice_get, slice_index, nat_lt, if◌then◌else◌, Result, Ok, Err, IfOk, All}
+use Rattle.std.specs.Prelude.{slice_get, slice_index, nat_lt, if◌then◌else◌, All}
 use Rattle.std.specs.List.{range_with_len}
 use Rattle.std.proofs.Math.Logic.{∥∥₁_map}
 use Rattle.std.proofs.lemmas.Bool.{lt-ltb, le-ltb, ltb-true, ltb-false}
@@ -11,7 +11,6 @@ use Rattle.std.proofs.lemmas.Simd.{map-map}
 use Rattle.heap_words.specs.declared.config.Config.{Config}
 use Rattle.heap_words.specs.Ranges.{seat_count}
 use Rattle.heap_words.specs.Words.{Free, view, table_words}
-use Rattle.heap_words.specs.declared.schedule.NoMemory.{NoMemory}
 use Rattle.shen_graph.specs.declared.order.Order.{Order}
 use Rattle.shen_graph.specs.declared.order.Order.TheVariants.{Nothing}
 use Rattle.steps_base.specs.Steps.{Stage}
@@ -116,12 +115,9 @@ shown_from c words counts held machines long shows some = ∥∥₁_map some (λ
   shows = subst (λ s. Shows held machines s) (sym (go-none (kind full_image c) (stage_from c words counts))) shows;
 })
 
--- what is known of a result that is a heap of words and machines
-pub opened_shows : (r : Result Plain NoMemory) (words : List ℕ) (machines : List actors.Machine) (s : Stage Actor) → IfOk r (λ p. words_of p ≡ words) → IfOk r (λ p. machines_of p ≡ machines) → Shows words machines s
-    → IfOk r (λ p. Shows (words_of p) (machines_of p) s)
-opened_shows (Ok p) words machines s words_are machines_are shows = record { words_are = shows.words_are ∙ sym words_are; machines_are = shows.machines_are ∙ sym machines_are }
-opened_shows (Err e) words machines s words_are machines_are shows = tt
+-- what is known of a heap of words and machines
+pub opened_shows : (p : Plain) (words : List ℕ) (machines : List actors.Machine) (s : Stage Actor) → words_of p ≡ words → machines_of p ≡ machines → Shows words machines s → Shows (words_of p) (machines_of p) s
+opened_shows p words machines s words_are machines_are shows = record { words_are = shows.words_are ∙ sym words_are; machines_are = shows.machines_are ∙ sym machines_are }
 
-pub opened_orders : (r : Result Plain NoMemory) (orders : List Order) → IfOk r (λ p. orders_of p ≡ orders) → All (λ order. order ≡ Nothing) orders → IfOk r (λ p. All (λ order. order ≡ Nothing) (orders_of p))
-opened_orders (Ok p) orders is none = subst (λ os. All (λ order. order ≡ Nothing) os) (sym is) none
-opened_orders (Err e) orders is none = tt
+pub opened_orders : (p : Plain) (orders : List Order) → orders_of p ≡ orders → All (λ order. order ≡ Nothing) orders → All (λ order. order ≡ Nothing) (orders_of p)
+opened_orders p orders is none = subst (λ os. All (λ order. order ≡ Nothing) os) (sym is) none

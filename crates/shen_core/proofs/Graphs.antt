@@ -1,20 +1,38 @@
--- The words of a `Plain` between calls stand for the graph of each run that leads to them.
-use Rattle.std.proofs.Common.{◌≡◌, ℕ, ◌<◌, true, List, Option, Some, sym, ap, ◌∙◌, subst, None, refl}
+-- The words of a `Plain` between calls hold the graph of each run that leads to them.
+use Rattle.std.proofs.Common.{◌≡◌, ℕ, ◌<◌, true, List, take, Option, Some, sym, ap, ◌∙◌, subst, None, refl}
 use Rattle.pause_laws.specs.Image.{full_image}
 use Rattle.std.specs.Prelude.{slice_get, slice_index_or}
 use Rattle.std.specs.Option.{option_map}
-use Rattle.std.proofs.Math.Logic.{∥∥₁_map}
+use mathlib.Core.List.{is_set}
+use Rattle.std.proofs.Math.Nat.{ℕ_set}
+use Rattle.std.proofs.Math.Logic.{∥∥₁_map, ∥∥₁_elim}
 use Rattle.std.proofs.lemmas.Option.{slice_get-map, get_or_from_slice_get}
 use Rattle.heap_words.specs.declared.config.Config.{Config}
-use Rattle.heap_words.specs.Words.{heap_in, roots_in}
-use Rattle.heap_graph.specs.Shows.{WordsStand, StandForSome}
+use Rattle.heap_words.specs.Words.{Cset}
+use Rattle.heap_world.specs.Change.{image_view}
+use Rattle.image_graph.specs.Holds.{Holds, HoldsSome}
+use Rattle.control_steps.specs.declared.spot.ControlSpot.{ControlSpot}
+use Rattle.control_steps.specs.declared.spot.ControlSpot.TheVariants.{LoadWord, StoreWord}
+use Rattle.control.specs.Image.{image_from, IsLoadedFrom}
+use Rattle.heap_machines.specs.Roles.{CanShow}
 use Rattle.heap_machines.proofs.Standing as standing
-use Rattle.shen_graph.specs.declared.name.Name.{Name}
-use Rattle.step_core.specs.Actor.{Machine, fresh_helper, Actor}
+use Rattle.step_core.specs.Actor.{Machine, mutating, helping, controlling, fresh_helper, Actor}
 use Rattle.step_core.specs.Begins.{Run, ending, graph_after}
 use Rattle.step_core.specs.Settled.{image_in, image_of, control_number}
 use Rattle.step_core.specs.Machines.{is_resting}
 use Rattle.shen_core.specs.Runs.{Shows, IsShownBySome}
+use Rattle.shen_core.proofs.Events.{shown_actor}
+
+-- that the control can work on words is one fact
+loaded_is_prop : (table : List ℕ) (spot : ControlSpot) (image : List ℕ) → IsProp (IsLoadedFrom table spot image)
+loaded_is_prop table (LoadWord index) image = is_set ℕ_set image (take index table)
+loaded_is_prop table (StoreWord index) image = hlevel
+loaded_is_prop table _ image = hlevel
+
+can_show_is_prop : (table : List ℕ) (machine : Machine) → IsProp (CanShow table machine)
+can_show_is_prop table (mutating m) = hlevel
+can_show_is_prop table (helping h) = hlevel
+can_show_is_prop table (controlling k) = loaded_is_prop table k.spot k.image
 
 module _ (c : Config) (words : List ℕ) (machines : List Machine) (rest : (number : ℕ) → number < c.mutators → is_resting (slice_index_or machines number fresh_helper) ≡ true)
     (calm : image_in (slice_index_or machines (control_number c) fresh_helper) ≡ None) (run : Run c) (shows : Shows words machines (ending full_image c run)) where
@@ -37,17 +55,28 @@ module _ (c : Config) (words : List ℕ) (machines : List Machine) (rest : (numb
       by_actor None here = refl
       by_actor (Some a) here = ap image_in (machine_of (control_number c) a here) ∙ calm
 
-  -- the names of the objects by their addresses
-  abbrev pub names : ℕ → Option Name
-  names = standing.names c run at_rest is_calm
+  -- the control can work on the words of the image
+  pub can_show : (machine : Machine) → slice_get machines (control_number c) ≡ Some machine → CanShow (image_from c words) machine
+  can_show machine here =
+      let found = shown_actor words machines (ending full_image c run) (control_number c) machine shows here in
+      subst (λ ws. CanShow (image_from c ws) machine) shows.words_are (subst (CanShow (image_from c (ending full_image c run).words)) found.2 (standing.can_show c run at_rest is_calm found.0 found.1))
 
-  -- the words stand for the graph after the run
-  pub words_stand : WordsStand c.region_words (heap_in c words) (roots_in c words) names (graph_after full_image c run)
-  words_stand = subst (λ ws. WordsStand c.region_words (heap_in c ws) (roots_in c ws) names (graph_after full_image c run)) shows.words_are (standing.words_stand c run at_rest is_calm)
+  -- they hold the graph after the run
+  pub holds : Holds c (image_view c (image_from c words)) (graph_after full_image c run)
+  holds = subst (λ ws. Holds c (image_view c (image_from c ws)) (graph_after full_image c run)) shows.words_are (standing.image_holds c run at_rest is_calm)
 
--- so they do for those that led to the words
-pub some_stand : (c : Config) (words : List ℕ) (machines : List Machine)
-    → ((number : ℕ) → number < c.mutators → is_resting (slice_index_or machines number fresh_helper) ≡ true) → image_in (slice_index_or machines (control_number c) fresh_helper) ≡ None
-    → ∥ IsShownBySome c words machines ∥₁ → StandForSome c.region_words (heap_in c words) (roots_in c words)
-some_stand c words machines rest calm some =
-    ∥∥₁_map some (λ shown. (names c words machines rest calm shown.run shown.shows, (graph_after full_image c shown.run, words_stand c words machines rest calm shown.run shown.shows)))
+  -- with no region in the collection set
+  pub calm_set : image_view c (image_from c words) Cset ≡ 0
+  calm_set = subst (λ ws. image_view c (image_from c ws) Cset ≡ 0) shows.words_are (standing.image_calm c run at_rest is_calm)
+
+-- so it is of those that led to the words
+module _ (c : Config) (words : List ℕ) (machines : List Machine) (rest : (number : ℕ) → number < c.mutators → is_resting (slice_index_or machines number fresh_helper) ≡ true)
+    (calm : image_in (slice_index_or machines (control_number c) fresh_helper) ≡ None) (some : ∥ IsShownBySome c words machines ∥₁) where
+  pub some_can_show : (machine : Machine) → slice_get machines (control_number c) ≡ Some machine → CanShow (image_from c words) machine
+  some_can_show machine here = ∥∥₁_elim some (can_show_is_prop (image_from c words) machine) (λ s. can_show c words machines rest calm s.run s.shows machine here)
+
+  pub some_hold : HoldsSome c (image_view c (image_from c words))
+  some_hold = ∥∥₁_map some (λ s. (graph_after full_image c s.run, holds c words machines rest calm s.run s.shows))
+
+  pub some_calm : image_view c (image_from c words) Cset ≡ 0
+  some_calm = let prop : IsProp (image_view c (image_from c words) Cset ≡ 0) = ℕ_set (image_view c (image_from c words) Cset) 0 in ∥∥₁_elim some prop (λ s. calm_set c words machines rest calm s.run s.shows)

@@ -1,13 +1,12 @@
-ghost use Rattle.std.specs.Prelude.{◌≡◌, ◌≤◌, length, map, All, vec_capacity};
+ghost use Rattle.std.specs.Prelude.{◌≡◌, ◌≤◌, length, map, All};
 ghost use Rattle.heap_words.specs.Words.{table_words, heap_size};
 ghost use Rattle.heap_words.specs.Ranges.{seat_count};
 ghost use Rattle.heap_machines.specs.Shown.{shown, order_of, heap_of};
 ghost use Rattle.shen_core.specs.Runs.{IsShownBySome};
 
 use crate::from_image::{machines_from, words_from};
-use heap_graph::write_graph;
 use heap_machines::{Machine, Stepped, open_machines};
-use heap_words::{Access, Config, NoMemory, Place, heap_in, roots_in};
+use heap_words::{Access, Config, NoMemory, Place};
 use image_graph::Image;
 use shen_graph::{Command, GraphText, Reply, Work};
 use std::alloc::Global;
@@ -20,13 +19,8 @@ pub struct Plain {
     config: Config,
     words: Vec<u64>,
     machines: Vec<Machine>,
-    // Where `graph` works.
-    marks: Vec<bool>,
-    addresses: Vec<u64>,
     ghost all_words: { length words.items ≡ table_words config },
     ghost all_machines: { length machines.items ≡ seat_count config.mutators config.helpers },
-    ghost all_marks: { length marks.items ≡ heap_size config },
-    ghost enough_addresses: { heap_size config ≤ vec_capacity addresses },
     ghost one_heap: { All (λ m. heap_of m ≡ config) machines.items },
     ghost reached: { ∥ IsShownBySome config words.items (map shown machines.items) ∥₁ },
 }
@@ -57,7 +51,7 @@ impl Plain {
     {
         let words = open_words(alloc, config)?;
         let machines = open_machines(alloc, config)?;
-        Plain::of(alloc, config, words, machines)
+        Ok(Plain::of(config, words, machines))
     }
 
     /// The heap of an image's words, before the first event. Each thread has made so many objects before as `counts` says, in
@@ -74,38 +68,25 @@ impl Plain {
         let config = image.config();
         let words = words_from(alloc, &image)?;
         let machines = machines_from(alloc, image, counts)?;
-        Plain::of(alloc, config, words, machines)
+        Ok(Plain::of(config, words, machines))
     }
 
     // The heap of these words and machines.
-    fn of(
-        alloc: Global,
-        config: Config,
-        words: Vec<u64>,
-        machines: Vec<Machine>,
-    ) -> Result<Plain, NoMemory>
+    fn of(config: Config, words: Vec<u64>, machines: Vec<Machine>) -> Plain
         requires words { length words.items ≡ table_words config }
         requires machines { length machines.items ≡ seat_count config.mutators config.helpers }
         requires heap { All (λ m. heap_of m ≡ config) machines.items }
         requires reached { ∥ IsShownBySome config words.items (map shown machines.items) ∥₁ }
-        ensures config { IfOk result (λ plain. config_of plain ≡ config) }
-        ensures words { IfOk result (λ plain. words_of plain ≡ words.items) }
-        ensures machines { IfOk result (λ plain. machines_of plain ≡ map shown machines.items) }
-        ensures orders { IfOk result (λ plain. orders_of plain ≡ map order_of machines.items) }
+        ensures config { config_of result ≡ config }
+        ensures words { words_of result ≡ words.items }
+        ensures machines { machines_of result ≡ map shown machines.items }
+        ensures orders { orders_of result ≡ map order_of machines.items }
     {
-        let Ok(marks) = vec![in alloc; false; config.heap_size()] else {
-            return Err(NoMemory);
-        };
-        let Ok(addresses) = Vec::with_capacity(alloc, config.heap_size()) else {
-            return Err(NoMemory);
-        };
-        Ok(Plain {
+        Plain {
             config,
             words,
             machines,
-            marks,
-            addresses,
-        })
+        }
     }
 
     /// Orders the command, which the mutator's next step begins. Between two calls only, of a mutator that has not ended.
@@ -280,7 +261,7 @@ impl Plain {
     /// Writes the graph that words and machines stand for: the objects that the mutators' roots lead to, in the order of
     /// their names, and the roots of each mutator. No mutator has a call in progress, the control is not storing a new
     /// image, and the text was opened for at least as many words as the heap has, and for the heap's mutators. No memory is
-    /// taken. The time is linear in the words, but for the sort of the objects.
+    /// taken: the control's image is where it works. The time is linear in the words, but for the sort of the objects.
     pub fn graph(&mut self, text: &mut GraphText)
         requires rest { AllRest self.old }
         requires room { heap_size (config_of self.old) ≤ text.old.room }
@@ -292,13 +273,7 @@ impl Plain {
         ensures same_room { text.new.room ≡ text.old.room }
         ensures same_threads { length text.new.roots ≡ length text.old.roots }
     {
-        write_graph(
-            self.config.region_words() as u64,
-            heap_in(self.config, &self.words),
-            roots_in(self.config, &self.words),
-            &mut self.marks,
-            &mut self.addresses,
-            text,
-        );
+        let control = self.config.seats() - 1;
+        self.machines[control].answer_graph(&self.words, text);
     }
 }

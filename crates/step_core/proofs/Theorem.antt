@@ -34,7 +34,8 @@ use Rattle.heap_world.specs.World.{World, hand}
 use Rattle.heap_world.specs.Change.{Change, IsPause}
 use Rattle.control_steps.specs.declared.spot.ControlSpot.{ControlSpot}
 use Rattle.control_steps.specs.declared.spot.ControlSpot.TheVariants.{LoadWord}
-use Rattle.control_steps.specs.Rows.{control_access, word_stored}
+use Rattle.control_steps.specs.Ready.{is_ready}
+use Rattle.control_steps.specs.Rows.{Controlling, control_access, word_stored}
 use Rattle.control_steps.proofs.Ready.{accesses_inside}
 use Rattle.step_core.specs.Actor.{Machine, mutating, helping, controlling, Actor}
 use Rattle.step_core.specs.Begins.{Begins, Run, ending, history_in, first_graph, reached, past}
@@ -49,7 +50,7 @@ use Rattle.step_core.specs.Stepped.{SpotFacts}
 use Rattle.step_core.proofs.Adapter.{gives_settled}
 use Rattle.step_core.proofs.Beginning.{goes_begins}
 use Rattle.step_core.proofs.Crowding.{run_crowded}
-use Rattle.step_core.proofs.Facts.{IsSeen, IsThread, IsMachine}
+use Rattle.step_core.proofs.Facts.{IsSeen, IsThread, IsAim, IsMachine}
 use Rattle.step_core.proofs.FirstFacts.{opening_run}
 use Rattle.step_core.proofs.Images.{found-placed}
 use Rattle.step_core.proofs.ControlEvents.{whole_stands}
@@ -225,6 +226,12 @@ module _ (change : Change) (law : IsPause change) (c : Config) (g : Graph) (s : 
       let thread = thread_of number a m here in
       (subst (λ spot. SpotFacts c the_world m.seat m.made m.kept a.command thread.fixed spot) at thread.mine.facts).1
 
+  -- what the control has read of the image is as the table has it
+  aims_of : (number : ℕ) (a : Actor) (k : Controlling) → slice_get s.machines number ≡ Some a → a.machine ≡ controlling k → (is_ready c k.spot ≡ true) × IsAim c s.words k.spot k.image
+  aims_of number a k here is =
+      let facts = subst (λ machine. IsMachine c s.words the_world (of_thread h (number + 1)) number a machine) is (known number a here) in
+      (facts.ready, facts.aims)
+
 -- In a pause no mutator is in the heap, and each leaves the image alone.
 pause_is_empty : (change : Change) → IsPause change → (c : Config) (g : Graph) (s : Stage Actor) (h : List Entry) → Goes c g s h → IsInPause c s → IsEmpty c s
 pause_is_empty change law c g s h goes pause = record {
@@ -269,6 +276,11 @@ module _ (change : Change) (law : IsPause change) (c : Config) (s : Stage Actor)
       (reached_has (kind change c) (λ t. slice_get t.machines number ≡ Some a → told_it ≡ slice_index t.words (place_of (plan_of c order a.machine)) → IsFitFor c order told_it a.machine) s f.stage
       (λ events here found. subst (λ n. IsFitFor c order n a.machine) (sym found) (((every_run events).fit number a here).fit order f.takes))
       f.reached) f.here f.found
+
+  -- what the control has read of the image is as the table has it
+  pub run_aims : (events : List (Event Order)) (number : ℕ) (a : Actor) (k : Controlling)
+      → slice_get (go (kind change c) s events).machines number ≡ Some a → a.machine ≡ controlling k → (is_ready c k.spot ≡ true) × IsAim c (go (kind change c) s events).words k.spot k.image
+  run_aims events = aims_of change law c g (go (kind change c) s events) (history change c s events) (goes_all events)
 
   -- a mutator that is about to look for a free region lacks room
   pub run_lacks_room : (events : List (Event Order)) (number : ℕ) (a : Actor) (m : Mutating)

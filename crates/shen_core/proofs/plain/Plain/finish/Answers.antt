@@ -18,8 +18,6 @@ invariant_of-self c =
     record {
       all_words = p.all_words;
       all_machines = length-set p.machines.items _ _ ∙ p.all_machines;
-      all_marks = p.all_marks;
-      enough_addresses = p.enough_addresses;
       one_heap = ordered_heap p.config p.machines.items c.args.number c.index_mut.result.now c.finish.new.self here c.finish.ensures.heap p.one_heap;
       reached = ∥∥₁_map p.reached (subst (λ machines. IsShownBySome p.config p.words.items machines)
           (sym (ordered_machines p.machines.items c.args.number c.index_mut.result.now c.finish.new.self here c.finish.ensures.shown)));

@@ -1,24 +1,86 @@
-use Rattle.std.proofs.Common.{map, subst}
+use Rattle.std.proofs.Common.{Some, ◌≡◌, ◌∙◌, map, refl, sym, ap, subst, arith}
+use Rattle.std.specs.Prelude.{slice_get, ◌-◌}
+use Rattle.std.proofs.lemmas.List.{length-set}
+use Rattle.std.proofs.Math.Logic.{∥∥₁_map}
+use Rattle.heap_words.specs.declared.config.Config.{Config}
+use Rattle.heap_words.specs.Words.{Cset}
+use Rattle.heap_world.specs.Change.{image_view}
+use Rattle.image_graph.specs.Holds.{HoldsSome}
+use Rattle.image_graph.specs.Left.{ShowsTheGraph}
+use Rattle.control.specs.Image.{image_from}
 use Rattle.pause_laws.specs.Image.{full_image}
 use Rattle.step_core.specs.Begins.{graph_after}
-use Rattle.heap_graph.specs.Shows as texts
 use Rattle.heap_machines.specs.Shown.{shown}
-use Rattle.shen_core.proofs.Graphs.{names, words_stand, some_stand}
+use Rattle.shen_core.specs.Runs.{IsShownBySome}
+use Rattle.shen_core.proofs.Memory.{from_read, heap_here, shown_here, ordered_machines, ordered_none, ordered_heap}
+use Rattle.shen_core.proofs.Graphs.{holds, some_can_show, some_hold, some_calm}
+use Rattle.step_core.specs.Settled.{control_number}
+use Rattle.heap_machines.specs.Roles.{CanShow}
 use Rattle.shen_core.proofs.plain.Plain.graph.Goals as goal
 
-pub write_graph-requires-clause-stand : goal.write_graph-requires-clause-stand
-write_graph-requires-clause-stand c =
-    let plain = c.args.self.now in
-    rw (c.region_words.ensures, c.heap_in.ensures, c.deref.ensures.value, c.roots_in.ensures, c.deref-2.ensures.value)
-    (some_stand plain.config plain.words.items (map shown plain.machines.items) c.requires.rest.mutators c.requires.rest.control plain.reached)
+pub answer_graph-requires-clause-control : goal.answer_graph-requires-clause-control
+answer_graph-requires-clause-control c =
+    let p = c.args.self.now in
+    let m = c.index_mut.result.now in
+    let number : c.seats-control.result - 1 ≡ control_number p.config = omega (arith, c.seats-control.ensures) in
+    let here = from_read p.machines.items (c.seats-control.result - 1) m (omega (arith, p.all_machines, c.seats-control.ensures)) c.index_mut.ensures.value in
+    let at : slice_get (map shown p.machines.items) (control_number p.config) ≡ Some (shown m) =
+    ap (slice_get (map shown p.machines.items)) (sym number) ∙ shown_here p.machines.items (c.seats-control.result - 1) m here in
+    subst (λ (e : Config). CanShow (image_from e c.deref.result.now) (shown m)) (sym (heap_here p.config p.machines.items (c.seats-control.result - 1) m p.one_heap here))
+    (subst (λ ws. CanShow (image_from p.config ws) (shown m)) (sym c.deref.ensures.value)
+    (some_can_show p.config p.words.items (map shown p.machines.items) c.requires.rest.mutators c.requires.rest.control p.reached (shown m) at))
+
+pub answer_graph-requires-clause-holds : goal.answer_graph-requires-clause-holds
+answer_graph-requires-clause-holds c =
+    let p = c.args.self.now in
+    let m = c.index_mut.result.now in
+    let here = from_read p.machines.items (c.seats-control.result - 1) m (omega (arith, p.all_machines, c.seats-control.ensures)) c.index_mut.ensures.value in
+    subst (λ (e : Config). HoldsSome e (image_view e (image_from e c.deref.result.now))) (sym (heap_here p.config p.machines.items (c.seats-control.result - 1) m p.one_heap here))
+    (subst (λ ws. HoldsSome p.config (image_view p.config (image_from p.config ws))) (sym c.deref.ensures.value)
+    (some_hold p.config p.words.items (map shown p.machines.items) c.requires.rest.mutators c.requires.rest.control p.reached))
+
+pub answer_graph-requires-clause-calm : goal.answer_graph-requires-clause-calm
+answer_graph-requires-clause-calm c =
+    let p = c.args.self.now in
+    let m = c.index_mut.result.now in
+    let here = from_read p.machines.items (c.seats-control.result - 1) m (omega (arith, p.all_machines, c.seats-control.ensures)) c.index_mut.ensures.value in
+    subst (λ (e : Config). image_view e (image_from e c.deref.result.now) Cset ≡ 0) (sym (heap_here p.config p.machines.items (c.seats-control.result - 1) m p.one_heap here))
+    (subst (λ ws. image_view p.config (image_from p.config ws) Cset ≡ 0) (sym c.deref.ensures.value)
+    (some_calm p.config p.words.items (map shown p.machines.items) c.requires.rest.mutators c.requires.rest.control p.reached))
+
+pub invariant_of-self : goal.invariant_of-self
+invariant_of-self c =
+    let p = c.args.self.now in
+    let m = c.index_mut.result.now in
+    let here = from_read p.machines.items (c.seats-control.result - 1) m (omega (arith, p.all_machines, c.seats-control.ensures)) c.index_mut.ensures.value in
+    record {
+      all_words = p.all_words;
+      all_machines = length-set p.machines.items _ _ ∙ p.all_machines;
+      one_heap = ordered_heap p.config p.machines.items (c.seats-control.result - 1) m c.answer_graph.new.self here c.answer_graph.ensures.heap p.one_heap;
+      reached = ∥∥₁_map p.reached (subst (λ machines. IsShownBySome p.config p.words.items machines)
+          (sym (ordered_machines p.machines.items (c.seats-control.result - 1) m c.answer_graph.new.self here c.answer_graph.ensures.shown)));
+    }
+
+pub returns-clause-unchanged : goal.returns-clause-unchanged
+returns-clause-unchanged c =
+    let p = c.args.self.now in
+    let m = c.index_mut.result.now in
+    let here = from_read p.machines.items (c.seats-control.result - 1) m (omega (arith, p.all_machines, c.seats-control.ensures)) c.index_mut.ensures.value in
+    record {
+      config = refl;
+      words = refl;
+      machines = ordered_machines p.machines.items (c.seats-control.result - 1) m c.answer_graph.new.self here c.answer_graph.ensures.shown;
+      orders = ordered_none p.machines.items (c.seats-control.result - 1) m c.answer_graph.new.self here c.answer_graph.ensures.order;
+    }
 
 pub returns-clause-shows : goal.returns-clause-shows
 returns-clause-shows c run shown_by =
-    let plain = c.args.self.now in
-    let machines = map shown plain.machines.items in
-    let g = graph_after full_image plain.config run in
-    let at = names plain.config plain.words.items machines c.requires.rest.mutators c.requires.rest.control run shown_by in
-    subst (λ threads. texts.Shows c.write_graph.new.text threads g) c.requires.threads
-    (c.write_graph.ensures.shows at g
-    (rw (c.region_words.ensures, c.heap_in.ensures, c.deref.ensures.value, c.roots_in.ensures, c.deref-2.ensures.value)
-    (words_stand plain.config plain.words.items machines c.requires.rest.mutators c.requires.rest.control run shown_by)))
+    let p = c.args.self.now in
+    let m = c.index_mut.result.now in
+    let here = from_read p.machines.items (c.seats-control.result - 1) m (omega (arith, p.all_machines, c.seats-control.ensures)) c.index_mut.ensures.value in
+    let graph = graph_after full_image p.config run in
+    let held = holds p.config p.words.items (map shown p.machines.items) c.requires.rest.mutators c.requires.rest.control run shown_by in
+    let shows = subst (λ ws. ShowsTheGraph p.config (image_view p.config (image_from p.config ws)) c.answer_graph.new.text) c.deref.ensures.value
+    (subst (λ (e : Config). ShowsTheGraph e (image_view e (image_from e c.deref.result.now)) c.answer_graph.new.text) (heap_here p.config p.machines.items (c.seats-control.result - 1) m p.one_heap here)
+    c.answer_graph.ensures.shows) in
+    shows held.0 held.1 held.2 graph held.3

@@ -41,8 +41,6 @@ invariant_of-self c =
     record {
       all_words = p.all_words;
       all_machines = length-set p.machines.items _ _ ∙ p.all_machines;
-      all_marks = p.all_marks;
-      enough_addresses = p.enough_addresses;
       one_heap = ordered_heap p.config p.machines.items c.args.number m c.order_next.new.self here c.order_next.ensures.heap p.one_heap;
       reached = ∥∥₁_map p.reached (subst (λ machines. IsShownBySome p.config p.words.items machines)
           (sym (ordered_machines p.machines.items c.args.number m c.order_next.new.self here c.order_next.ensures.shown)));

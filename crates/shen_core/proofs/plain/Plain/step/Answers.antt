@@ -43,8 +43,6 @@ invariant_of-self-2 c =
     record {
       all_words = ap length c.make_access-found.ensures.words ∙ length-set p.words.items _ _ ∙ p.all_words;
       all_machines = length-set p.machines.items _ _ ∙ p.all_machines;
-      all_marks = p.all_marks;
-      enough_addresses = p.enough_addresses;
       one_heap = made_heap _ _ _ _ _ _ _ made c.took.ensures.heap p.one_heap;
       reached = ∥∥₁_map p.reached (made_shown _ _ _ _ _ _ _ made);
     }
