@@ -1,10 +1,7 @@
-use Rattle.std.proofs.Common.{◌≡◌, ◌<◌, ◌-◌, ℕ, [], ◌∷◌, ◌++◌, length, Some, refl, sym, ap, ◌∙◌, subst, arith}
-use Rattle.std.specs.Prelude.{slice_get, slice_index_or}
+use Rattle.std.proofs.Common.{◌≡◌, ◌-◌, [], ◌∷◌, ◌++◌, length, Some, sym, ap, ◌∙◌, arith}
+use Rattle.std.specs.Prelude.{slice_index_or}
 use Rattle.std.proofs.lemmas.Option.{slice_get-get_or}
-use Rattle.shared_steps.specs.Views.{whole, dealt_to}
-use Rattle.shen_graph.specs.Work.{progress_of, begun, opened}
-use Rattle.table_heap.specs.Core.{heap_opening}
-use Rattle.table_heap.specs.State.{IsFresh}
+use Rattle.shen_graph.specs.Work.{progress_of, opened}
 use Rattle.table_heap.proofs.Starting.{fresh_can_start}
 use Rattle.table_heap.proofs.tests.opened.Goals as goal
 
