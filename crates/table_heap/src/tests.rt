@@ -4,10 +4,11 @@ ghost use Rattle.shen_graph.specs.Work.{HasScript};
 ghost use Rattle.table_heap.specs.State.{IsOf};
 ghost use Rattle.table_heap.specs.Running.{CanStart};
 
-use crate::{Bundle, Heap, OpenGate};
+use crate::{Bundle, Gate, Heap, OpenGate};
 use heap_words::Config;
 use shen_graph::{Command, Name, Reply, Script, Work};
 use std::alloc::Global;
+use std::sync::atomic::{AtomicU64, Ordering};
 use std::test::Fail;
 
 // A script of those of these commands that are in range.
@@ -71,5 +72,39 @@ fn a_script_is_run(rt: HostRuntime) -> Result<(), Fail> {
         work.replies(0).list(),
         [Reply::Ref(made), Reply::Ok, Reply::Ref(made)].as_slice()
     );
+    Ok(())
+}
+
+// How often the mutator and the control have passed.
+#[derive(Drop)]
+struct Passes {
+    mutator: AtomicU64,
+    control: AtomicU64,
+}
+
+impl Gate for Passes {
+    fn pass(&self, number: usize) {
+        let passes = if number == 0 {
+            &self.mutator
+        } else {
+            &self.control
+        };
+        passes.fetch_add(1, Ordering::SeqCst);
+    }
+}
+
+// Each command takes six steps, and the end of the mutator one: thirteen. The control makes one step in each round too, and looks
+// in every third whether a mutator is left, so it sees in the thirteenth that there is none, and ends in the next.
+#[test]
+fn each_step_passes_the_gate(rt: HostRuntime) -> Result<(), Fail> {
+    let clear = Command::Drop { dst: 1 };
+    let (heap, mut bundle, mut work) = opened(rt.alloc(), &[clear, clear])?;
+    let gate = Passes {
+        mutator: AtomicU64::new(0),
+        control: AtomicU64::new(0),
+    };
+    bundle.run(&rt, &heap, &mut work, &gate);
+    assert_eq!(rt; gate.mutator.load(Ordering::SeqCst), 13);
+    assert_eq!(rt; gate.control.load(Ordering::SeqCst), 14);
     Ok(())
 }
