@@ -12,3 +12,4 @@ pub mod Sums
 pub mod TestLemmas
 pub mod Played
 pub mod OneReach
+pub mod Good

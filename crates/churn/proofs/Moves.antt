@@ -23,7 +23,7 @@ pub stays : (t : ℕ) (g h : Graph) → Tidy g → Tidy h → Same t g h → Mov
 stays t g h tidy other same = record { same = same; tidy = tidy; other = other; frame = λ u _ _. Same-itself u g; beside = λ u _ _. Same-itself u h; grows = omega arith }
 
 -- a root that was set, and one that was not
-root_case : (P : Reference → Type 0) (u t s r : ℕ) (v w : Reference) → (u ≡ t → s ≡ r → P v) → P w → P (if (u == t) && (s == r) then v else w)
+pub root_case : (P : Reference → Type 0) (u t s r : ℕ) (v w : Reference) → (u ≡ t → s ≡ r → P v) → P w → P (if (u == t) && (s == r) then v else w)
 root_case P u t s r v w here there =
     elim (eqb_tells u t) [
       | inl a ↦ elim (eqb_tells s r) [ inl b ↦ rw (a.0, b.0) (here a.1 b.1) | inr b ↦ rw (a.0, b.0) there ]

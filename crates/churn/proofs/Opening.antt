@@ -23,7 +23,7 @@ thread_cases t is =
       | inr more ↦ elim (cases_lt t 3) [ inl two ↦ inr (inl (omega arith)) | inr three ↦ inr (inr (omega arith)) ]
     ]
 
-begins_none : (t r : ℕ) → 1 ≤ r → (opening 3).root t r ≡ None
+pub begins_none : (t r : ℕ) → 1 ≤ r → (opening 3).root t r ≡ None
 begins_none t r low =
     let e : (nat_le 1 t && nat_le t 3 && (r == 0)) ≡ false = grind (arith, nat_tests) in
     rw e refl

@@ -95,7 +95,7 @@ not_full reply.No given = refl
 not_full (reply.Number n) given = refl
 not_full reply.Bad given = refl
 
-after_given : (g : Graph) (e : Entry) → IsGiven e → after_entry g e ≡ (outcome g e.thread e.command).graph
+pub after_given : (g : Graph) (e : Entry) → IsGiven e → after_entry g e ≡ (outcome g e.thread e.command).graph
 after_given g e given = rw (not_full e.reply given) refl
 
 pub entry-step : (g h : Graph) (e : Entry) (es : List Entry) → Tidy g → Tidy h → Same e.thread g h → Going g (e ∷ es)

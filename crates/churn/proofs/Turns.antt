@@ -69,7 +69,7 @@ pub given_append : (xs ys : List Entry) → AllByRecursion IsGiven xs → AllByR
 given_append [] ys h k = k
 given_append (x ∷ xs) ys h k = (h.0, given_append xs ys h.1 k)
 
-given_of : (t : ℕ) (es : List Entry) → AllByRecursion IsGiven es → AllByRecursion IsGiven (of_thread es t)
+pub given_of : (t : ℕ) (es : List Entry) → AllByRecursion IsGiven es → AllByRecursion IsGiven (of_thread es t)
 given_of t [] h = tt
 given_of t (e ∷ es) h =
     elim (e.thread == t) as (λ b. AllByRecursion IsGiven (if b then e ∷ of_thread es t else of_thread es t))
@@ -92,7 +92,7 @@ given_at (x ∷ es) (suc k) e h is = given_at es k e h.1 is
 abbrev pub AreOf : ℕ → List Entry → Type 0
 AreOf t es = AllByRecursion (λ e. e.thread ≡ t) es
 
-of_thread-are : (t : ℕ) (es : List Entry) → AreOf t (of_thread es t)
+pub of_thread-are : (t : ℕ) (es : List Entry) → AreOf t (of_thread es t)
 of_thread-are t [] = tt
 of_thread-are t (e ∷ es) =
     elim (eqb_tells e.thread t) as (λ _. AreOf t (of_thread (e ∷ es) t)) [
@@ -218,7 +218,7 @@ ask_one t (x ∷ xs) (y ∷ ys) h k same =
     let rest : commands_of xs ≡ commands_of ys = cc in
     (h.0 ∙ sym k.0, head, ask_one t xs ys h.1 k.1 rest)
 
-replied : (g h : Graph) (e : Entry) → IsLegal g e.thread e.command e.reply h → IsGiven e → e.reply ≡ (outcome g e.thread e.command).reply
+pub replied : (g h : Graph) (e : Entry) → IsLegal g e.thread e.command e.reply h → IsGiven e → e.reply ≡ (outcome g e.thread e.command).reply
 replied g h e legal given = elim legal [ inl done ↦ ap (λ (o : Outcome). o.reply) done | inr full ↦ absurd (given full.1) ]
 
 one_answer : (g : Graph) (xs ys : List Entry) → AskTheSame xs ys → EachIsLegal g xs → EachIsLegal g ys → AllByRecursion IsGiven xs → AllByRecursion IsGiven ys → xs ≡ ys

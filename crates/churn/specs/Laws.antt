@@ -1,6 +1,7 @@
 -- What all histories of the workload have in common.
-use Rattle.std.specs.Prelude.{ℕ, ◌≡◌, ◌+◌, ◌*◌, ◌<◌, ◌≤◌, List, ◌++◌, length, map, sum_by, Option}
+use Rattle.std.specs.Prelude.{ℕ, ◌≡◌, ◌≢◌, ◌+◌, ◌*◌, ◌<◌, ◌≤◌, List, ◌++◌, length, map, sum_by, Option, All}
 use Rattle.shen_graph.specs.declared.name.Name.{Name}
+use Rattle.shen_graph.specs.declared.command.Reply.TheVariants as reply
 use Rattle.shen_graph.specs.Graph.{opening}
 use Rattle.shen_graph.specs.History.{Entry, after, of_thread, Follows, IsWithoutFull}
 use Rattle.shen_graph.specs.History as history
@@ -52,6 +53,10 @@ SumsUpRuns seed count work rows s = (entries : List Entry) → IsRun seed count 
 -- No allocation of a run is refused.
 abbrev pub NoneIsFull : Type 0
 NoneIsFull = (seed count : ℕ) (entries : List Entry) → IsRun seed count entries → IsWithoutFull entries
+
+-- No command of a run is answered Bad.
+abbrev pub NoneIsBad : Type 0
+NoneIsBad = (seed count : ℕ) (entries : List Entry) → IsRun seed count entries → All (λ e. e.reply ≢ reply.Bad) entries
 
 -- Each run tells the same as the run of its entries thread by thread.
 abbrev pub RunsAreInTurn : Type 0

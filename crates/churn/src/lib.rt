@@ -2,7 +2,7 @@
 //! runs tell the same.
 #![tactic(auto)]
 
-ghost use Rattle.churn.specs.Laws.{NoneIsFull, RunsAreInTurn, ThereIsOneInTurn, OneInTurn, OneSummary, RunsCanBeSummedUp};
+ghost use Rattle.churn.specs.Laws.{NoneIsFull, NoneIsBad, RunsAreInTurn, ThereIsOneInTurn, OneInTurn, OneSummary, RunsCanBeSummedUp};
 
 mod script;
 mod summary;
@@ -16,6 +16,11 @@ mod tests;
 /// A law: no allocation of a run of the workload is refused.
 pub fn none_is_full()
     ensures { NoneIsFull }
+{}
+
+/// A law: no command of a run is answered `Bad`.
+pub fn none_is_bad()
+    ensures { NoneIsBad }
 {}
 
 /// A law: each run tells the same as one in which the threads run one after the other.
