@@ -1,0 +1,156 @@
+#!/usr/bin/env python3
+"""Measures what pauses cost the proved program.
+
+usage: measure_pauses.py [COMMANDS]
+
+First a churn of three threads whose heap of 16 regions of 256 words must be collected all the time (collect_trace.py, with so
+many commands, 20000 if left out), beside the same commands on a heap that is never collected: steps, pauses, and commands
+and steps a second. Then pauses alone, on half-full heaps of several sizes: the steps and the time of one pause, and the time
+for each word of the heap. It is the same for all sizes where a pause is linear. Times are the least of five runs, without
+those of reading the trace, and mean something only beside each other, from one run.
+
+The program prints no steps. All counts here are exact, and found so:
+
+- The steps of a trace are the fewest with which it is answered.
+- A pause loads each word of the image once (place PL) and stores each once (PS). How many words the image has, follows from
+  the sizes alone.
+- How many pauses the churn has, is told by helpers, which have nothing to do. One helper more is a word more of the image,
+  and a seat more at which the control looks before it begins: three steps more of the control in each pause, while each of
+  the three threads looks once more whether the pause has ended for each of these steps. So each pause is twelve steps longer,
+  and all else is as it was. The script takes one, two and three helpers, and stops where they do not tell the same number.
+- Pauses alone are made on purpose, by a schedule, one for each `gc`, and a trace with more of them has so many steps more. Beside
+  PL and PS these are eleven: six of the `gc`, and five of the control, which looks twice, wants the pause, looks whether the one
+  thread is out, and lets it go. The script stops where there are more or fewer.
+"""
+import os
+import subprocess
+import sys
+import tempfile
+import time
+
+HERE = os.path.dirname(os.path.abspath(__file__))
+TOP = os.path.dirname(HERE)
+PLACES = [os.path.join(TOP, "crates", "shenrun", "out", "shenrun"), os.path.join(TOP, "out", "shenrun")]
+PROGRAM = next((it for it in PLACES if os.access(it, os.X_OK)), None)
+MOST_STEPS = 100_000_000
+CHURN = (16, 256)
+ROOMY = (64, 1024)
+SIZES = ((16, 256), (32, 256), (16, 512), (32, 512))
+FEW, MANY = 20, 220
+BESIDE = 11
+
+
+def stop(why):
+    print(f"measure_pauses.py: {why}", file=sys.stderr)
+    sys.exit(2)
+
+
+def image_words(regions, size, threads, helpers):
+    """The words of the image of a heap, all of which a pause loads and stores: six of its own, one for each machine, three for
+    each region, 27 for each thread, two bits for each word of the heap, and the heap."""
+    words = regions * size
+    return 6 + (threads + helpers + 1) + 3 * regions + 27 * threads + 2 * ((words + 63) // 64) + words
+
+
+def run(trace, *words):
+    """The seconds of a run, and its exit number."""
+    with open(trace, "rb") as source:
+        start = time.monotonic()
+        status = subprocess.run((PROGRAM, "replay", *words), stdin=source, stdout=subprocess.DEVNULL).returncode
+        return time.monotonic() - start, status
+
+
+def steps_of(trace):
+    """The steps that a trace takes: the fewest with which it is answered."""
+    low, high = 0, MOST_STEPS
+    if run(trace)[1] != 0:
+        stop("a trace is not answered")
+    while high - low > 1:
+        middle = (low + high) // 2
+        if run(trace, "--steps", str(middle))[1] == 0:
+            high = middle
+        else:
+            low = middle
+    return high
+
+
+def seconds_of(trace):
+    """The seconds that its steps take: those of a whole run without those of one that makes a single step."""
+    return min(run(trace)[0] for _ in range(5)) - min(run(trace, "--steps", "1")[0] for _ in range(5))
+
+
+def churn(commands, regions, size, helpers, file):
+    """Writes the churn on a heap of these sizes."""
+    made = subprocess.run(
+        (sys.executable, os.path.join(HERE, "collect_trace.py"), str(commands), str(regions), str(size)), capture_output=True, text=True, check=True
+    ).stdout
+    file.write(made.replace("threads 3 0", f"threads 3 {helpers}", 1))
+    file.flush()
+    return sum(1 for line in made.splitlines() if line[:1].isdigit())
+
+
+def pauses(count, regions, size, file):
+    """Writes a trace that fills half of a heap with a list of objects of 16 words, and then makes so many pauses."""
+    objects = regions * size // 32
+    lines = ["shen 1", f"heap {regions} {size} 0", "threads 1 0"]
+    for _ in range(objects):
+        lines += ["1 new 1 1 12", "1 set 1 0 2", "1 copy 2 1"]
+    lines += ["1 gc"] * count
+    items = [f"1={3 * objects}"] + [f"1={3 * objects + i} 2@P3 2@I0" for i in range(1, count + 1)]
+    lines += [f"! {item}" for item in items]
+    file.write("\n".join(lines) + "\n")
+    file.flush()
+
+
+def fresh():
+    return tempfile.NamedTemporaryFile("w", suffix=".trace")
+
+
+def measure_churn(commands):
+    regions, size = CHURN
+    found = []
+    for helpers in range(4):
+        with fresh() as file:
+            made = churn(commands, regions, size, helpers, file)
+            found.append(steps_of(file.name))
+            if helpers == 0:
+                seconds = seconds_of(file.name)
+    counts = {(more - found[0]) / (12 * helpers) for helpers, more in enumerate(found) if helpers}
+    if len(counts) != 1 or not next(iter(counts)).is_integer():
+        stop(f"the helpers do not tell the same number of pauses: {found}")
+    count = int(counts.pop())
+    copied = 2 * count * image_words(regions, size, 3, 0)
+    with fresh() as file:
+        churn(commands, *ROOMY, 0, file)
+        roomy_steps, roomy_seconds = steps_of(file.name), seconds_of(file.name)
+    print(f"{made} commands of three threads")
+    for what, steps, took in ((f"{regions} regions of {size}", found[0], seconds), ("never collected", roomy_steps, roomy_seconds)):
+        print(f"{what:>20}: {steps} steps, {steps / took / 1e6:.1f} million a second, {made / took / 1e6:.2f} million commands a second")
+    print(f"{count} pauses, one for {made / count:.0f} commands; PL and PS are {copied} steps, {100 * copied / found[0]:.1f} % of all")
+
+
+def measure_size(regions, size):
+    with fresh() as few, fresh() as many:
+        pauses(FEW, regions, size, few)
+        pauses(MANY, regions, size, many)
+        steps = steps_of(many.name) - steps_of(few.name)
+        took = (seconds_of(many.name) - seconds_of(few.name)) / (MANY - FEW)
+    image = image_words(regions, size, 1, 0)
+    words = regions * size
+    if steps != (MANY - FEW) * (2 * image + BESIDE):
+        stop(f"{MANY - FEW} pauses take {steps} steps, which is not 2 x {image} + {BESIDE} for each")
+    print(f"{regions:>4} x {size:<4}{words:>6} words, image {image:>5}: {2 * image + BESIDE:>5} steps, {took * 1e6:>5.0f} us, {took / words * 1e9:.0f} ns a word of the heap")
+
+
+def main():
+    if len(sys.argv) > 2 or not all(word.isdecimal() for word in sys.argv[1:]):
+        stop("it wants no word, or a number of commands")
+    if not PROGRAM:
+        stop("there is no proved program yet: rt ci makes it")
+    measure_churn(int(sys.argv[1]) if len(sys.argv) == 2 else 20000)
+    print("one pause of a half-full heap")
+    for regions, size in SIZES:
+        measure_size(regions, size)
+
+
+main()
