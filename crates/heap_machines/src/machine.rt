@@ -116,6 +116,16 @@ impl Machine {
         }
     }
 
+    /// How many objects its thread has made, if it is a mutator.
+    pub fn made(&self) -> u32
+        ensures { result ≡ made_of_machine (shown self.now) }
+    {
+        match self {
+            Machine::Mutator(mutator) => mutator.made(),
+            Machine::Helper { .. } | Machine::Control(_) => 0,
+        }
+    }
+
     /// Whether it is the control, and stores words of a new image. Words of the table are out of date then.
     pub fn is_storing(&self) -> bool
         ensures { result ≡ is_some (image_in (shown self.now)) }

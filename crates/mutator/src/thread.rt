@@ -119,6 +119,13 @@ impl Mutator {
         matches!(self.spot, Spot::Rest | Spot::Ended { .. })
     }
 
+    /// How many objects its thread has made.
+    pub fn made(&self) -> u32
+        ensures { result ≡ (seen self.now).made }
+    {
+        self.made
+    }
+
     /// The order that it was given.
     pub fn order(&self) -> Order
         ensures { result ≡ order_of self.now }

@@ -1,6 +1,6 @@
 -- Heaps that begin from the words of an image.
 use Rattle.std.proofs.Common.{◌≡◌, ℕ, ◌+◌, ◌<◌, Bool, true, false, List, [], ◌∷◌, ◌++◌, length, map, Some, refl, sym, ap, ◌∙◌, subst, arith}
-use Rattle.std.specs.Prelude.{slice_get, slice_index, nat_lt, if◌then◌else◌, All}
+use Rattle.std.specs.Prelude.{slice_get, slice_index, slice_index_or, nat_lt, if◌then◌else◌, All}
 use Rattle.std.specs.List.{range_with_len}
 use Rattle.std.proofs.Math.Logic.{∥∥₁_map}
 use Rattle.std.proofs.lemmas.Bool.{lt-ltb, le-ltb, ltb-true, ltb-false}
@@ -121,3 +121,12 @@ opened_shows p words machines s words_are machines_are shows = record { words_ar
 
 pub opened_orders : (p : Plain) (orders : List Order) → orders_of p ≡ orders → All (λ order. order ≡ Nothing) orders → All (λ order. order ≡ Nothing) (orders_of p)
 opened_orders p orders is none = subst (λ os. All (λ order. order ≡ Nothing) os) (sym is) none
+
+-- the first machine, where there is a mutator: it is one of a thread that has made so many objects
+pub first_from : (c : Config) (words counts : List ℕ) (machines : List actors.Machine) → map (λ a. a.machine) (stage_from c words counts).machines ≡ machines → 0 < c.mutators
+    → slice_index_or machines 0 fresh_helper ≡ mutating (mutator_after 0 (slice_index counts 0))
+first_from c words counts machines is some =
+    let made = machine_from c counts (view c words Free) in
+    ap (λ ms. slice_index_or ms 0 fresh_helper) (sym is ∙ stage_machines c words counts)
+    ∙ get_or-map-range_with_len made 0 (seat_count c.mutators c.helpers) 0 0 fresh_helper (omega arith) refl
+    ∙ sym (mutator_is c counts (view c words Free) 0 some)

@@ -37,7 +37,7 @@ can_show_is_prop table (controlling k) = loaded_is_prop table k.spot k.image
 module _ (c : Config) (words : List ℕ) (machines : List Machine) (rest : (number : ℕ) → number < c.mutators → is_resting (slice_index_or machines number fresh_helper) ≡ true)
     (calm : image_in (slice_index_or machines (control_number c) fresh_helper) ≡ None) (run : Run c) (shows : Shows words machines (ending full_image c run)) where
   -- the machine of an actor of the stage
-  machine_of : (number : ℕ) (a : Actor) → slice_get (ending full_image c run).machines number ≡ Some a → a.machine ≡ slice_index_or machines number fresh_helper
+  pub machine_of : (number : ℕ) (a : Actor) → slice_get (ending full_image c run).machines number ≡ Some a → a.machine ≡ slice_index_or machines number fresh_helper
   machine_of number a here =
       let there : slice_get machines number ≡ Some a.machine =
       ap (λ ms. slice_get ms number) (sym shows.machines_are) ∙ slice_get-map (λ b. b.machine) (ending full_image c run).machines number ∙ ap (option_map (λ b. b.machine)) here in

@@ -9,3 +9,4 @@ pub mod Rounds
 pub mod Fresh
 mod Graphs
 mod FromImage
+mod Rested

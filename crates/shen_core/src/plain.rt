@@ -213,6 +213,14 @@ impl Plain {
         self.machines[number].reply()
     }
 
+    /// How many objects the thread of a mutator has made: the count with which a heap goes on from an image of these words.
+    pub fn made(&self, number: usize) -> u32
+        requires { number < seats_of self.now }
+        ensures { result ≡ made_of_machine (machine_at self.now number) }
+    {
+        self.machines[number].made()
+    }
+
     /// The word at a place of the table.
     pub fn word(&self, at: usize) -> u64
         requires { at < table_words (config_of self.now) }

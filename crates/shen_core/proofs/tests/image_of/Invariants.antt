@@ -1,0 +1,10 @@
+use Rattle.std.proofs.Common.{◌≡◌, take}
+use Rattle.image_graph.specs.State.{config_of, words_of}
+use Rattle.shen_core.specs.State as plains
+use Rattle.shen_core.proofs.tests.image_of.Given as goal
+
+abbrev pub invariant-loop-at : goal.invariant-loop-at
+invariant-loop-at l = record {
+  config : config_of l.image ≡ l.fn.config;
+  words : take l.at (words_of l.image) ≡ take l.at (plains.words_of l.plain);
+}
