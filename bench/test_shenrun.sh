@@ -49,7 +49,7 @@ for tool in wc tr; do ln -s "$(command -v "$tool")" "$room/tools/$tool"; done
 checkout() {
     rm -rf "$1"
     mkdir -p "$1"
-    cp "$top/shenrun" "$top/crates.txt" "$top/HANDLES" "$1"
+    cp "$top/shenrun" "$top/program.sh" "$top/crates.txt" "$top/HANDLES" "$1"
     (cd "$top" && find crates/*/src crates/*/specs -type f) | while read -r file; do
         mkdir -p "$1/$(dirname "$file")"
         cp "$top/$file" "$1/$file"

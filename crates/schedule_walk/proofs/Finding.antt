@@ -10,7 +10,7 @@ use Rattle.step_core.specs.Settled.{control_number}
 use Rattle.step_core.specs.Schedule.{Scripts, turn, waits, task_of, moves, control_after, next, next_by, after_move}
 use Rattle.shen_core.specs.declared.plain.Plain.{Plain}
 use Rattle.shen_core.specs.State.{config_of, seats_of, Shows}
-use Rattle.shen_core.specs.Progress.{Jobs, HasNext, agenda}
+use Rattle.shen_core.specs.Progress.{Jobs, HasNext, AllIdle, agenda}
 use Rattle.shen_core.proofs.Rounds.{round_pass, round_move, round_again, idle_round}
 use Rattle.schedule_walk.specs.declared.walk.Walk.{Walk}
 use Rattle.schedule_walk.specs.Agendas.{tasks_of, later_in, agenda_in, after_by, agenda_after, HasNoItem}
@@ -40,6 +40,13 @@ passes_round p a b within below later sooner scripts s shows =
     passes p a (seats_of p) within (omega arith) later scripts s shows
     ∙ round_again (config_of p) scripts s
     ∙ passes p 0 b (omega arith) below sooner scripts s shows
+
+-- all are idle
+pub none_busy : (p : Plain) (jobs : Jobs) (a : ℕ) → AreIdleFrom p a (seats_of p) → AreIdleFrom p 0 a → AllIdle p jobs
+none_busy p jobs a later sooner scripts s shows tells k below = ⊎_elim
+    (λ (before : k < a). sooner scripts s shows k (omega arith) before)
+    (λ (after : a ≤ k). later scripts s shows k after below)
+    (cases_lt k a)
 
 -- where all are idle, there is no event
 pub none_round : (p : Plain) (a : ℕ) → a ≤ seats_of p → AreIdleFrom p a (seats_of p) → AreIdleFrom p 0 a → (scripts : Scripts) (s : Stage Actor) → Shows p s → next (config_of p) scripts s (agenda [] a) ≡ None

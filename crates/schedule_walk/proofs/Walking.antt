@@ -1,5 +1,5 @@
 -- Events one after the other.
-use Rattle.std.proofs.Common.{◌≡◌, ◌<◌, ℕ, ◌-◌, Some, None, sym, ◌∙◌}
+use Rattle.std.proofs.Common.{arith, ◌≡◌, ◌<◌, ◌≤◌, ℕ, ◌+◌, ◌-◌, Some, None, sym, ◌∙◌, subst}
 use Rattle.steps_base.specs.Steps.{act}
 use Rattle.pause_laws.specs.Image.{full_image}
 use Rattle.step_core.specs.Machines.{kind}
@@ -9,7 +9,7 @@ use Rattle.shen_core.specs.State.{config_of}
 use Rattle.shen_core.specs.Progress.{Jobs, Runs}
 use Rattle.shen_core.proofs.Going.{goes_next, goes_same, runs_then}
 use Rattle.schedule_walk.specs.declared.seen.Seen.{Seen}
-use Rattle.schedule_walk.specs.Nexts.{MakesNext}
+use Rattle.schedule_walk.specs.Nexts.{MakesNext, RunsOn}
 
 -- where there was no next event, the schedule goes on with none
 pub runs_none_next : (p q : Plain) (jobs later : Jobs) (todo rest : Agenda) (left : ℕ) → MakesNext p jobs todo q later rest None → Runs p jobs todo left q later rest left
@@ -36,3 +36,17 @@ runs_more first p q start jobs later begin todo rest seen limit left same runs m
 -- or no more
 pub runs_end : (first p q : Plain) (start jobs later : Jobs) (begin todo rest : Agenda) (limit left : ℕ) → config_of p ≡ config_of first → Runs first start begin limit p jobs todo left → MakesNext p jobs todo q later rest None → Runs first start begin limit q later rest left
 runs_end first p q start jobs later begin todo rest limit left same runs makes = runs_then first p q start jobs later begin todo rest limit left _ same runs (runs_none_next p q jobs later todo rest left makes)
+
+-- and where a higher limit was meant
+pub runs_on : (first p q : Plain) (start jobs later : Jobs) (begin todo rest : Agenda) (seen : Seen) (limit left : ℕ) → config_of p ≡ config_of first → RunsOn first start begin limit p jobs todo left → MakesNext p jobs todo q later rest (Some seen) → 0 < left
+    → RunsOn first start begin limit q later rest (left - 1)
+runs_on first p q start jobs later begin todo rest seen limit left same runs makes some more =
+    subst (λ n. Runs first start begin (limit + more) q later rest n) (omega arith)
+    (runs_more first p q start jobs later begin todo rest seen (limit + more) (left + more) same (runs more) makes (omega arith))
+
+-- the rest of a higher limit
+pub runs_rest : (first p q : Plain) (start jobs later : Jobs) (begin todo rest : Agenda) (steps passed missing limit left : ℕ) → config_of p ≡ config_of first → passed ≤ steps → limit + passed ≡ steps + missing → RunsOn first start begin passed p jobs todo missing → Runs p jobs todo limit q later rest left
+    → Runs first start begin steps q later rest left
+runs_rest first p q start jobs later begin todo rest steps passed missing limit left same less all one two =
+    runs_then first p q start jobs later begin todo rest steps limit left same
+    (subst (λ n. Runs first start begin steps p jobs todo n) (omega arith) (subst (λ n. Runs first start begin n p jobs todo (missing + (steps - passed))) (omega arith) (one (steps - passed)))) two

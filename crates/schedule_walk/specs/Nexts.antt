@@ -1,5 +1,5 @@
 -- The next event of a walk, in each stage that memory shows.
-use Rattle.std.specs.Prelude.{ℕ, ◌≡◌, ◌<◌, ◌≤◌, true, false, [], drop, Option, Some, None}
+use Rattle.std.specs.Prelude.{ℕ, ◌≡◌, ◌+◌, ◌<◌, ◌≤◌, true, false, [], drop, Option, Some, None}
 use Rattle.heap_words.specs.declared.config.Config.{Config}
 use Rattle.heap_words.specs.declared.schedule.Item.{Item}
 use Rattle.steps_base.specs.Steps.{Stage, Event, act}
@@ -10,7 +10,7 @@ use Rattle.step_core.specs.Machines.{kind}
 use Rattle.step_core.specs.Schedule.{Scripts, turn, waits, waits_then, task_of, moves, move_of, Agenda, next}
 use Rattle.shen_core.specs.declared.plain.Plain.{Plain}
 use Rattle.shen_core.specs.State.{config_of, seats_of, Shows}
-use Rattle.shen_core.specs.Progress.{Jobs, Tells, HasNext}
+use Rattle.shen_core.specs.Progress.{Jobs, Tells, HasNext, Runs}
 use Rattle.schedule_walk.specs.declared.seen.Seen.{Seen}
 use Rattle.schedule_walk.specs.declared.walk.Walk.{Walk}
 use Rattle.schedule_walk.specs.Seen.{Sees}
@@ -73,3 +73,8 @@ IsNext c scripts s todo q later rest (Some seen) = IsMade c scripts s todo q lat
 -- whatever stage memory showed, the next event of the agenda was made there, and the rest is to be done; or there was none
 abbrev pub MakesNext : Plain → Jobs → Agenda → Plain → Jobs → Agenda → Option Seen → Type 0
 MakesNext p jobs todo q later rest result = (scripts : Scripts) (s : Stage Actor) → Shows p s → Tells (config_of p) scripts jobs s → IsNext (config_of p) scripts s todo q later rest result
+
+-- The events of an agenda were made, as many as a limit allows or all that there are; where the limit is higher, the schedule
+-- goes on from there.
+abbrev pub RunsOn : Plain → Jobs → Agenda → ℕ → Plain → Jobs → Agenda → ℕ → Type 0
+RunsOn p jobs todo limit q later rest left = (more : ℕ) → Runs p jobs todo (limit + more) q later rest (left + more)

@@ -92,14 +92,14 @@ impl Walk {
     ghost use Rattle.heap_words.specs.declared.config.Config.{Config};
     ghost use Rattle.heap_words.specs.Ranges.{seat_count};
     ghost use Rattle.step_core.specs.Schedule.{agenda_of};
-    ghost use Rattle.shen_core.specs.Progress.{Runs};
+    ghost use Rattle.shen_core.specs.Progress.{AllIdle};
     ghost use Rattle.schedule_walk.specs.Agendas.{agenda_in, agenda_after, weight_in, IsWalkOf, HasNoItem};
-    ghost use Rattle.schedule_walk.specs.Nexts.{HasSameNext, HasNoNext, IsDue, MakesNext};
+    ghost use Rattle.schedule_walk.specs.Nexts.{HasSameNext, HasNoNext, IsDue, MakesNext, RunsOn};
 
     /// The walk before the first event of a schedule.
     pub fn open(schedule: Schedule) -> Walk
         ensures agenda { agenda_in result ≡ agenda_of schedule }
-        ensures schedule { result.schedule ≡ schedule }
+        ensures fits { (c : Config) → All (IsInSeats c) schedule → IsWalkOf c result }
     {
         Walk {
             schedule,
@@ -178,6 +178,7 @@ impl Walk {
         ensures same { HasSameNext plain.now work.now (agenda_in self.old) (agenda_in self.new) }
         ensures due { IfSome result (λ number. IsDue plain.now work.now self.new number) }
         ensures none { result ≡ None → HasNoNext plain.now work.now (agenda_in self.new) }
+        ensures idle { result ≡ None → AllIdle plain.now work.now }
     {
         let later = first_busy(plain, self.from, plain.seats());
         if let Some(number) = later {
@@ -220,6 +221,7 @@ impl Walk {
         ensures same { HasSameNext plain.now work.now (agenda_in self.old) (agenda_in self.new) }
         ensures due { IfSome result (λ number. IsDue plain.now work.now self.new number) }
         ensures none { result ≡ None → HasNoNext plain.now work.now (agenda_in self.new) }
+        ensures idle { result ≡ None → AllIdle plain.now work.now }
     {
         let control = self.find_control(plain, work);
         if control.is_some() {
@@ -262,6 +264,7 @@ impl Walk {
         ensures walk { IsWalkOf (config_of plain.new) self.new }
         ensures next { MakesNext plain.old work.old (agenda_in self.old) plain.new work.new (agenda_in self.new) result }
         ensures none { result ≡ None → HasNoNext plain.new work.new (agenda_in self.new) }
+        ensures idle { result ≡ None → AllIdle plain.new work.new }
     {
         let Some(number) = self.find(plain, work) else {
             return None;
@@ -280,8 +283,10 @@ impl Walk {
         ensures run { CanRun plain.new work.new }
         ensures config { config_of plain.new ≡ config_of plain.old }
         ensures walk { IsWalkOf (config_of plain.new) self.new }
-        ensures events { Runs plain.old work.old (agenda_in self.old) count plain.new work.new (agenda_in self.new) result }
+        ensures events { RunsOn plain.old work.old (agenda_in self.old) count plain.new work.new (agenda_in self.new) result }
+        ensures less { result ≤ count }
         ensures ended { 0 < result → HasNoNext plain.new work.new (agenda_in self.new) }
+        ensures idle { 0 < result → AllIdle plain.new work.new }
     {
         let mut left = count;
         while left > 0 {

@@ -141,6 +141,13 @@ impl Plain {
         Stepped::of(machine.took(found))
     }
 
+    /// Its heap.
+    pub fn config(&self) -> Config
+        ensures { result ≡ config_of self.now }
+    {
+        self.config
+    }
+
     /// Its mutators, its helpers and its control.
     pub fn seats(&self) -> usize
         ensures { result ≡ seats_of self.now }

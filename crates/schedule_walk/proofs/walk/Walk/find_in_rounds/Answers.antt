@@ -1,6 +1,6 @@
 use Rattle.std.proofs.Common.{arith, subst}
 use Rattle.schedule_walk.specs.Nexts.{AreIdleFrom}
-use Rattle.schedule_walk.proofs.Finding.{rounds_later, rounds_sooner, rounds_none, rounds_due}
+use Rattle.schedule_walk.proofs.Finding.{rounds_later, rounds_sooner, rounds_none, rounds_due, none_busy}
 use Rattle.schedule_walk.proofs.walk.Walk.find_in_rounds.Goals as goal
 
 pub returns-in-Some-clause-same : goal.returns-in-Some-clause-same
@@ -28,3 +28,8 @@ pub returns-in_default-sooner-clause-none : goal.returns-in_default-sooner-claus
 returns-in_default-sooner-clause-none c = λ is.
     rounds_none c.args.plain.now c.args.work.now c.args.self.now c.requires.none c.requires.walk.from
     (subst (λ end. AreIdleFrom c.args.plain.now c.args.self.now.from end) c.seats.ensures (c.in_default.ensures)) (c.in_default-sooner.ensures)
+
+pub returns-in_default-sooner-clause-idle : goal.returns-in_default-sooner-clause-idle
+returns-in_default-sooner-clause-idle c = λ is.
+    none_busy c.args.plain.now c.args.work.now c.args.self.now.from
+    (subst (λ end. AreIdleFrom c.args.plain.now c.args.self.now.from end) c.seats.ensures c.in_default.ensures) c.in_default-sooner.ensures

@@ -1,0 +1,24 @@
+use Rattle.std.proofs.Common.{List, All, length, ap, sym, subst, ◌∙◌, arith}
+use Rattle.heap_words.specs.declared.config.Config.{Config}
+use Rattle.shen_graph.specs.declared.command.Command.{Command}
+use Rattle.shen_graph.specs.Work.{opened}
+use Rattle.shen_core.specs.Progress.{IsInSeats}
+use Rattle.shensteps.proofs.Scripts.{count_scripts, runnable_scripts, items_in_seats, can_run}
+use Rattle.shensteps.proofs.list.list_trace.Goals as goal
+
+pub of-requires : goal.of-requires
+of-requires g c =
+    let count = count_scripts c.requires.0 c.args.trace.config c.args.trace.scripts c.args.trace.schedule c.requires.1 in
+    let same = ap (λ (scripts : List (List Command)). length scripts) c.into_vec.ensures in
+    omega (arith, count, same)
+
+pub list-listed-requires-clause-run : goal.list-listed-requires-clause-run
+list-listed-requires-clause-run g c =
+    let t = c.args.trace in
+    can_run c.in-Ok-open.plain t.config t.scripts c.in-Ok.work c.in-Ok-open.ensures.config c.in-Ok-open.ensures.opening c.in-Ok-open.ensures.orders (count_scripts c.requires.0 t.config t.scripts t.schedule c.requires.1)
+    (runnable_scripts c.requires.0 t.config t.scripts t.schedule c.requires.1) (c.in-Ok.ensures ∙ ap opened c.into_vec.ensures)
+
+pub list-listed-requires-clause-items : goal.list-listed-requires-clause-items
+list-listed-requires-clause-items g c =
+    let t = c.args.trace in
+    subst (λ (d : Config). All (IsInSeats d) t.schedule) (sym c.in-Ok-open.ensures.config) (items_in_seats c.requires.0 t.config t.scripts t.schedule c.requires.1)

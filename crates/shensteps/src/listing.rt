@@ -1,0 +1,252 @@
+//! The listing: a line an event, in columns, under headings for the parts of the schedule.
+
+ghost use Rattle.shen_core.specs.Progress.{CanRun};
+
+use crate::commands::put_command;
+use crate::heap::put_heap;
+use crate::row::Row;
+use crate::terms::{Within, look_within, put_access, put_item, put_machine, put_reply, put_value};
+use crate::view::base;
+use crate::words::Wanted;
+use heap_words::{Access, Item, Place, WordName};
+use schedule_walk::{Seen, Walk};
+use shen_base::Sink;
+use shen_core::{Plain, Stepped};
+use shen_graph::Work;
+use text_writer::{Block, WriteFault};
+
+// The columns: the number ends before the first.
+const NUMBER: usize = 6;
+
+const MACHINE: usize = 8;
+
+const PLACE: usize = 18;
+
+const ACCESS: usize = 22;
+
+const FOUND: usize = 62;
+
+const SAYS: usize = 80;
+
+// The most machines of a heap.
+const MACHINES: usize = 12;
+
+/// A listing on its way to a sink.
+#[derive(Drop)]
+pub struct Listing {
+    wanted: Wanted,
+    // The events that were made.
+    made: u64,
+    // The items whose headings were written, and whether that of the rounds was.
+    headed: usize,
+    in_rounds: bool,
+    // Of each machine: whether it is in a call, and where its room begins that is no object yet, or 0.
+    in_call: [bool; 12],
+    rooms: [u64; 12],
+    row: Row,
+    block: Block,
+}
+
+impl Listing {
+    /// A listing before its first line.
+    pub fn open(wanted: Wanted) -> Listing {
+        Listing {
+            wanted,
+            made: 0,
+            headed: 0,
+            in_rounds: false,
+            in_call: [false; 12],
+            rooms: [0; 12],
+            row: Row::new(),
+            block: Block::new(),
+        }
+    }
+
+    /// Takes down that so many events were made that are not listed.
+    pub fn pass(&mut self, events: u64, walk: &Walk) {
+        self.made = self.made.saturating_add(events);
+        self.headed = if walk.is_at_item() {
+            walk.begun().saturating_sub(1)
+        } else {
+            walk.begun()
+        };
+    }
+
+    /// Writes the line that names the columns.
+    pub fn columns<K: Sink>(&mut self, sink: &mut K) {
+        let row = &mut self.row;
+        row.put(b" event");
+        row.tab(MACHINE);
+        row.put(b"machine");
+        row.tab(PLACE);
+        row.put(b"at");
+        row.tab(ACCESS);
+        row.put(b"access");
+        row.tab(FOUND);
+        row.put(b"found");
+        row.tab(SAYS);
+        row.put(b"says");
+        row.send(&mut self.block, sink);
+    }
+
+    // Writes the heap, if it is wanted.
+    fn heap<K: Sink>(&mut self, plain: &Plain, sink: &mut K) {
+        if self.wanted.heap {
+            put_heap(&mut self.row, &mut self.block, sink, plain, &self.rooms);
+        }
+    }
+
+    // Writes the heading of an item, counted from 0, and before it the heap as the part before has left it.
+    fn item<K: Sink>(&mut self, plain: &Plain, number: usize, item: Item, sink: &mut K) {
+        if number > 0 {
+            self.heap(plain, sink);
+        }
+        self.row.put(b"-- item ");
+        self.row.put_number((number as u64).saturating_add(1));
+        self.row.put(b": ");
+        put_item(&mut self.row, item);
+        self.row.send(&mut self.block, sink);
+    }
+
+    /// Writes the headings of the parts that have begun since the last event.
+    pub fn headings<K: Sink>(&mut self, plain: &Plain, walk: &Walk, sink: &mut K) {
+        for number in self.headed..walk.begun() {
+            if let Some(item) = walk.items().get(number) {
+                self.item(plain, number, *item, sink);
+            }
+        }
+        self.headed = walk.begun();
+    }
+
+    /// Writes the heading of the rounds, where they have begun since the last event.
+    pub fn rounds<K: Sink>(&mut self, plain: &Plain, walk: &Walk, sink: &mut K) {
+        if walk.is_at_item() || self.in_rounds {
+            return;
+        }
+        if self.headed > 0 {
+            self.heap(plain, sink);
+        }
+        self.in_rounds = true;
+        self.row.put(b"-- rounds");
+        self.row.send(&mut self.block, sink);
+    }
+
+    // Where the word of an access lies.
+    fn within(&self, plain: &Plain, seen: &Seen) -> Within {
+        let room = self.rooms[seen.number % MACHINES];
+        match seen.place {
+            Place::PS => Within::Elsewhere,
+            Place::IW if room > 0 => Within::Room(room),
+            _ => look_within(plain, seen.access.at()),
+        }
+    }
+
+    // Takes down where the machine has room in hand: from the step that raises the top on, to the last that stores a word.
+    fn note_room(&mut self, plain: &Plain, seen: &Seen) {
+        let config = plain.config();
+        let slot = seen.number % MACHINES;
+        if seen.place == Place::TS {
+            if seen.access.at() < config.table_words() {
+                if let WordName::Top { region } = config.name_of(seen.access.at()) {
+                    self.rooms[slot] = base(plain, region).saturating_add(seen.found);
+                }
+            }
+        } else if seen.place != Place::IW {
+            self.rooms[slot] = 0;
+        }
+    }
+
+    // Puts what the step of a machine says. It may be the first of a call, that of the command which follows in the script.
+    fn put_says(&mut self, plain: &Plain, work: &Work, seen: &Seen)
+        requires { CanRun plain.now work.now }
+    {
+        let slot = seen.number % MACHINES;
+        if let Access::Exchange { expect, .. } = seen.access {
+            self.row.put(if seen.found == expect {
+                b"won".as_slice()
+            } else {
+                b"lost".as_slice()
+            });
+        }
+        if seen.place == Place::E1 && !self.in_call[slot] {
+            self.in_call[slot] = true;
+            if seen.number < plain.config().mutators() {
+                if let Some(command) = work.next(seen.number) {
+                    self.row.put(b"begins ");
+                    put_command(&mut self.row, command);
+                }
+            }
+        }
+        match seen.said {
+            Stepped::Again if seen.place == Place::CX => self.row.put(b", again"),
+            Stepped::Again => self.row.put(b"again"),
+            Stepped::Done => self.put_replied(plain, work, seen),
+            Stepped::More | Stepped::Idle => {}
+        }
+    }
+
+    // Puts the reply of the call that has ended.
+    fn put_replied(&mut self, plain: &Plain, work: &Work, seen: &Seen)
+        requires { CanRun plain.now work.now }
+    {
+        self.in_call[seen.number % MACHINES] = false;
+        if seen.number < plain.config().mutators() {
+            if let Some(reply) = work.replies(seen.number).list().last() {
+                self.row.put(b"replies ");
+                put_reply(&mut self.row, *reply);
+            }
+        }
+    }
+
+    // Sets the line of an event.
+    fn set(&mut self, plain: &Plain, work: &Work, seen: &Seen)
+        requires { CanRun plain.now work.now }
+    {
+        let within = self.within(plain, seen);
+        self.row.put_number_to(self.made, NUMBER);
+        self.row.tab(MACHINE);
+        put_machine(&mut self.row, plain.config(), seen.number);
+        self.row.tab(PLACE);
+        self.row.put(&seen.place.code());
+        self.row.tab(ACCESS);
+        let kind = put_access(&mut self.row, plain, seen.access, within);
+        self.row.tab(FOUND);
+        put_value(&mut self.row, plain, kind, seen.found);
+        self.row.tab(SAYS);
+        self.put_says(plain, work, seen);
+    }
+
+    /// Writes the line of an event that was made, if it is wanted.
+    pub fn event<K: Sink>(&mut self, plain: &Plain, work: &Work, seen: &Seen, sink: &mut K)
+        requires { CanRun plain.now work.now }
+    {
+        self.made = self.made.saturating_add(1);
+        self.set(plain, work, seen);
+        self.note_room(plain, seen);
+        let wanted = match self.wanted.only {
+            Some(machine) => (seen.number as u64).saturating_add(1) == machine,
+            None => true,
+        };
+        if wanted {
+            self.row.send(&mut self.block, sink);
+        } else {
+            self.row.clear();
+        }
+    }
+
+    /// Writes the heap at the end, and how many events there were where that is all.
+    pub fn end<K: Sink>(&mut self, plain: &Plain, finished: bool, sink: &mut K) {
+        self.heap(plain, sink);
+        if finished {
+            self.row.put(b"all machines are idle after ");
+            self.row.put_number(self.made);
+            self.row.put(b" events");
+            self.row.send(&mut self.block, sink);
+        }
+    }
+
+    /// Sends what is not sent yet, and tells whether all was written.
+    pub fn finish<K: Sink>(self, sink: &mut K) -> Result<(), WriteFault> {
+        self.block.finish(sink)
+    }
+}

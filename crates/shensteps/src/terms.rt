@@ -1,0 +1,332 @@
+//! Words of the heap, values and commands as the listing spells them.
+
+use crate::row::Row;
+use crate::view::{Kind, Part, kind_of, kind_of_part, name_at, object_with, part_of, region_of};
+use heap_words::{
+    Access, Config, Item, WordName, count_of, forwarded, nums_of, refs_of, request_count,
+    request_shape, thread_of,
+};
+use shen_core::Plain;
+use shen_graph::{Command, Name, Reply};
+
+/// Puts the machine of a number, counted from 0.
+pub fn put_machine(row: &mut Row, config: Config, number: usize) {
+    if number < config.mutators() {
+        row.put(b"thread ");
+        row.put_number(number as u64 + 1);
+    } else if number < config.mutators() + config.helpers() {
+        row.put(b"helper ");
+        row.put_number((number - config.mutators()) as u64 + 1);
+    } else {
+        row.put(b"control");
+    }
+}
+
+/// Puts the name of an object.
+pub fn put_name(row: &mut Row, name: Name) {
+    row.put_number(name.thread as u64);
+    row.put(b".");
+    row.put_number(name.count as u64);
+}
+
+/// Puts a reference: the name of the object at the address, or - for null.
+pub fn put_reference(row: &mut Row, plain: &Plain, address: u64) {
+    if address == 0 {
+        row.put(b"-");
+    } else if region_of(plain, address).is_some() {
+        put_name(row, name_at(plain, address));
+    } else {
+        row.put_number(address);
+    }
+}
+
+/// Puts a set of regions, which are counted from 0.
+pub fn put_regions(row: &mut Row, config: Config, set: u64) {
+    row.put(b"{");
+    let mut first = true;
+    let mut left = set;
+    for region in 0..config.regions() {
+        if left % 2 == 1 {
+            if !first {
+                row.put(b" ");
+            }
+            row.put_number(region as u64);
+            first = false;
+        }
+        left /= 2;
+    }
+    row.put(b"}");
+}
+
+// Puts what is asked for.
+fn put_ask(row: &mut Row, word: u64) {
+    row.put(match word % 4 {
+        0 => b"nothing".as_slice(),
+        1 => b"a cycle".as_slice(),
+        2 => b"room".as_slice(),
+        _ => b"a cycle, room".as_slice(),
+    });
+}
+
+// Puts a shape: references and numbers.
+fn put_shape(row: &mut Row, shape: u64) {
+    row.put_number(refs_of(shape));
+    row.put(b"/");
+    row.put_number(nums_of(shape));
+}
+
+// Puts a request.
+fn put_request(row: &mut Row, request: u64) {
+    if request == 0 {
+        row.put(b"none");
+    } else {
+        row.put(b"object ");
+        row.put_number(request_count(request) as u64);
+        row.put(b" of ");
+        put_shape(row, request_shape(request));
+    }
+}
+
+// Puts an answer.
+fn put_answer(row: &mut Row, plain: &Plain, answer: u64) {
+    match answer {
+        0 => row.put(b"none"),
+        1 => row.put(b"full"),
+        _ => put_reference(row, plain, answer),
+    }
+}
+
+/// Puts a word as it is to be read.
+pub fn put_value(row: &mut Row, plain: &Plain, kind: Kind, word: u64) {
+    match kind {
+        Kind::Number => row.put_number(word),
+        Kind::Reference => put_reference(row, plain, word),
+        Kind::Answer => put_answer(row, plain, word),
+        Kind::Regions => put_regions(row, plain.config(), word),
+        Kind::Current if word == 0 => row.put(b"none"),
+        Kind::Current => row.put_number(word.saturating_sub(1)),
+        Kind::Ask => put_ask(row, word),
+        Kind::State if word == 0 => row.put(b"out"),
+        Kind::State => row.put(b"in"),
+        Kind::Request => put_request(row, word),
+        Kind::Shape => put_shape(row, word),
+        Kind::Name if word == 0 => row.put(b"0"),
+        Kind::Name => put_name(
+            row,
+            Name {
+                thread: thread_of(word),
+                count: count_of(word),
+            },
+        ),
+    }
+}
+
+// Puts a word of a thread.
+fn put_of_thread(row: &mut Row, what: &[u8], mutator: usize) {
+    row.put(what);
+    row.put(b" of thread ");
+    row.put_number((mutator as u64).saturating_add(1));
+}
+
+// Puts a word with a number.
+fn put_numbered(row: &mut Row, what: &[u8], number: usize) {
+    row.put(what);
+    row.put(b" ");
+    row.put_number(number as u64);
+}
+
+// Puts a word of a seat.
+fn put_of_seat(row: &mut Row, config: Config, what: &[u8], seat: usize) {
+    row.put(what);
+    row.put(b" of ");
+    put_machine(row, config, seat);
+}
+
+/// Puts the name of a word outside the heap.
+pub fn put_word(row: &mut Row, config: Config, name: WordName) {
+    match name {
+        WordName::Pause => row.put(b"pause word"),
+        WordName::Left => row.put(b"threads left"),
+        WordName::End => row.put(b"end word"),
+        WordName::State { seat } => put_of_seat(row, config, b"state", seat),
+        WordName::Phase => row.put(b"phase"),
+        WordName::Cset => row.put(b"collection set"),
+        WordName::Free => row.put(b"free regions"),
+        WordName::Evac => row.put(b"copiers"),
+        WordName::Claim => row.put(b"claimed work"),
+        WordName::Ask => row.put(b"what is asked for"),
+        WordName::Top { region } => put_numbered(row, b"top of region", region),
+        WordName::Tams { region } => put_numbered(row, b"mark start of region", region),
+        WordName::Limit { region } => put_numbered(row, b"limit of region", region),
+        WordName::Current { seat } => put_of_seat(row, config, b"current region", seat),
+        WordName::Root { mutator, index } => {
+            put_numbered(row, b"root", index);
+            put_of_thread(row, b"", mutator);
+        }
+        WordName::Count { mutator } => put_of_thread(row, b"buffer count", mutator),
+        WordName::Buffer { mutator, entry } => {
+            put_numbered(row, b"buffer entry", entry);
+            put_of_thread(row, b"", mutator);
+        }
+        WordName::Wait { mutator } => put_of_thread(row, b"request", mutator),
+        WordName::Answer { mutator } => put_of_thread(row, b"answer", mutator),
+        WordName::Grey { word } => put_numbered(row, b"grey word", word),
+        WordName::Black { word } => put_numbered(row, b"black word", word),
+        WordName::Heap { address } => {
+            row.put(b"word ");
+            row.put_number(address);
+        }
+    }
+}
+
+/// Puts a part of an object.
+pub fn put_part(row: &mut Row, part: Part) {
+    match part {
+        Part::Header => row.put(b"header"),
+        Part::Shape => row.put(b"shape"),
+        Part::Name => row.put(b"name"),
+        Part::Field(index) => {
+            row.put(b"field ");
+            row.put_number(index);
+        }
+        Part::Number(index) => {
+            row.put(b"number ");
+            row.put_number(index);
+        }
+    }
+}
+
+/// Where a word of the heap lies.
+#[derive(Clone, Copy, Debug, PartialEq, Eq)]
+pub enum Within {
+    /// In the object at this address.
+    Object(u64),
+    /// In the room at this address, which is to become an object.
+    Room(u64),
+    /// In no object, or that is not told.
+    Elsewhere,
+}
+
+/// Puts the word at a place of the table, and says how it is to be read.
+pub fn put_word_at(row: &mut Row, plain: &Plain, at: usize, within: Within) -> Kind {
+    let config = plain.config();
+    if at >= config.table_words() {
+        row.put(b"?");
+        return Kind::Number;
+    }
+    match (config.name_of(at), within) {
+        (WordName::Heap { address }, Within::Object(object)) => {
+            let part = part_of(plain, object, address);
+            put_part(row, part);
+            row.put(b" of ");
+            put_name(row, name_at(plain, object));
+            kind_of_part(part)
+        }
+        (WordName::Heap { address }, Within::Room(room)) => {
+            let part = part_of(plain, room, address);
+            put_part(row, part);
+            row.put(b" of the new object");
+            kind_of_part(part)
+        }
+        (name, _) => {
+            put_word(row, config, name);
+            kind_of(name)
+        }
+    }
+}
+
+/// The address of the heap's word at a place of the table.
+pub fn address_at(config: Config, at: usize) -> Option<u64> {
+    if at >= config.table_words() {
+        return None;
+    }
+    match config.name_of(at) {
+        WordName::Heap { address } => Some(address),
+        _ => None,
+    }
+}
+
+/// Where the word at a place of the table lies: in an object if it is one of the heap.
+pub fn look_within(plain: &Plain, at: usize) -> Within {
+    match address_at(plain.config(), at) {
+        Some(address) => match object_with(plain, address) {
+            Some(object) => Within::Object(object),
+            None => Within::Elsewhere,
+        },
+        None => Within::Elsewhere,
+    }
+}
+
+// Puts a verb and the word that it is of, and says how that is to be read.
+fn put_verb(row: &mut Row, plain: &Plain, verb: &[u8], at: usize, within: Within) -> Kind {
+    row.put(verb);
+    row.put(b" ");
+    put_word_at(row, plain, at, within)
+}
+
+/// Puts an access with its values, and says how its word is to be read.
+pub fn put_access(row: &mut Row, plain: &Plain, access: Access, within: Within) -> Kind {
+    let (verb, value) = match access {
+        Access::Load { .. } => (b"load".as_slice(), None),
+        Access::Store { value, .. } => (b"store".as_slice(), Some(value)),
+        Access::Swap { value, .. } => (b"swap".as_slice(), Some(value)),
+        Access::Add { value, .. } => (b"add to".as_slice(), Some(value)),
+        Access::Sub { value, .. } => (b"subtract from".as_slice(), Some(value)),
+        Access::And { value, .. } => (b"clear in".as_slice(), Some(!value)),
+        Access::Or { value, .. } => (b"set in".as_slice(), Some(value)),
+        Access::Exchange { value, .. } => (b"exchange".as_slice(), Some(value)),
+    };
+    let kind = put_verb(row, plain, verb, access.at(), within);
+    if let Some(value) = value {
+        row.put(b": ");
+        if let Access::Exchange { expect, .. } = access {
+            put_value(row, plain, kind, expect);
+            row.put(b" to ");
+        }
+        put_value(row, plain, kind, value);
+    }
+    kind
+}
+
+/// Puts a reply.
+pub fn put_reply(row: &mut Row, reply: Reply) {
+    match reply {
+        Reply::Ref(name) => put_name(row, name),
+        Reply::Null => row.put(b"-"),
+        Reply::Ok => row.put(b"ok"),
+        Reply::Yes => row.put(b"yes"),
+        Reply::No => row.put(b"no"),
+        Reply::Number(value) => row.put_number(value),
+        Reply::Bad => row.put(b"bad"),
+        Reply::Full => row.put(b"full"),
+    }
+}
+
+// Puts the numbers of a command, each after a space.
+fn put_numbers(row: &mut Row, numbers: &[u64]) {
+    for number in numbers {
+        row.put(b" ");
+        row.put_number(*number);
+    }
+}
+
+/// Puts an item of a schedule as a trace spells it.
+pub fn put_item(row: &mut Row, item: Item) {
+    match item {
+        Item::Steps { number, count } => {
+            row.put_number((number as u64).saturating_add(1));
+            row.put(b":");
+            row.put_number(count);
+        }
+        Item::Until { number, place } => {
+            row.put_number((number as u64).saturating_add(1));
+            row.put(b"@");
+            row.put(&place.code());
+        }
+        Item::Replies { number, count } => {
+            row.put_number((number as u64).saturating_add(1));
+            row.put(b"=");
+            row.put_number(count);
+        }
+    }
+}

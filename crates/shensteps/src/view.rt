@@ -1,0 +1,164 @@
+ghost use Rattle.std.specs.Prelude.{◌≤◌};
+
+use heap_words::{WordName, count_of, refs_of, thread_of, words_of};
+use shen_core::Plain;
+use shen_graph::Name;
+
+/// The word at a place of the table, or 0 beyond its end.
+pub fn word(plain: &Plain, at: usize) -> u64 {
+    if at < plain.config().table_words() {
+        plain.word(at)
+    } else {
+        0
+    }
+}
+
+/// The heap's word of an address, or 0 where no word has it.
+pub fn heap_word(plain: &Plain, address: u64) -> u64 {
+    let config = plain.config();
+    let start = config.region_words() as u64;
+    if address < start || address - start >= config.heap_size() as u64 {
+        return 0;
+    }
+    word(plain, config.heap_start() + (address - start) as usize)
+}
+
+/// The used words of a region, counted from 0.
+pub fn top(plain: &Plain, region: usize) -> u64 {
+    let config = plain.config();
+    if region < config.regions() {
+        word(plain, config.top_at(region))
+    } else {
+        0
+    }
+}
+
+/// The first address of a region.
+pub fn base(plain: &Plain, region: usize) -> u64 {
+    let words = plain.config().region_words() as u64;
+    (region.min(64) as u64 + 1) * words
+}
+
+/// The region of an address, or None where no word of the heap has it.
+pub fn region_of(plain: &Plain, address: u64) -> Option<usize> {
+    let config = plain.config();
+    let words = config.region_words() as u64;
+    if words == 0 || address < words {
+        return None;
+    }
+    let region = address / words - 1;
+    if region < config.regions() as u64 {
+        Some(region as usize)
+    } else {
+        None
+    }
+}
+
+/// The words of the object at an address.
+pub fn size_at(plain: &Plain, address: u64) -> u64 {
+    words_of(heap_word(plain, address.saturating_add(1)))
+}
+
+/// The name of the object at an address.
+pub fn name_at(plain: &Plain, address: u64) -> Name {
+    let word = heap_word(plain, address.saturating_add(2));
+    Name {
+        thread: thread_of(word),
+        count: count_of(word),
+    }
+}
+
+/// The address of the object in which an address lies, by a walk through its region; None where it lies in none.
+pub fn object_with(plain: &Plain, address: u64) -> Option<u64> {
+    let region = region_of(plain, address)?;
+    let mut at = base(plain, region);
+    let end = at.saturating_add(top(plain, region));
+    for _ in 0..1024 {
+        let next = at.saturating_add(size_at(plain, at));
+        if next > end {
+            return None;
+        }
+        if address < next {
+            return Some(at);
+        }
+        at = next;
+    }
+    None
+}
+
+/// A word of an object.
+#[derive(Clone, Copy, Debug, PartialEq, Eq)]
+pub enum Part {
+    /// The header.
+    Header,
+    /// The shape word.
+    Shape,
+    /// The name word.
+    Name,
+    /// A reference, counted from 0.
+    Field(u64),
+    /// A number, counted from 0.
+    Number(u64),
+}
+
+/// Which word of the object at `object` an address is.
+pub fn part_of(plain: &Plain, object: u64, address: u64) -> Part {
+    let refs = refs_of(heap_word(plain, object.saturating_add(1)));
+    match address.saturating_sub(object) {
+        0 => Part::Header,
+        1 => Part::Shape,
+        2 => Part::Name,
+        offset if offset - 3 < refs => Part::Field(offset - 3),
+        offset => Part::Number((offset - 3).saturating_sub(refs)),
+    }
+}
+
+/// How a word is to be read.
+#[derive(Clone, Copy, Debug, PartialEq, Eq)]
+pub enum Kind {
+    /// As a number.
+    Number,
+    /// As a reference.
+    Reference,
+    /// As an answer: none, full, or a reference.
+    Answer,
+    /// As a set of regions.
+    Regions,
+    /// As a region, or none.
+    Current,
+    /// As what is asked for.
+    Ask,
+    /// As a state: in or out.
+    State,
+    /// As a request.
+    Request,
+    /// As a shape.
+    Shape,
+    /// As a name.
+    Name,
+}
+
+/// How a word of an object is to be read.
+pub fn kind_of_part(part: Part) -> Kind {
+    match part {
+        Part::Header => Kind::Number,
+        Part::Shape => Kind::Shape,
+        Part::Name => Kind::Name,
+        Part::Field(_) => Kind::Reference,
+        Part::Number(_) => Kind::Number,
+    }
+}
+
+/// How a word outside the heap is to be read.
+pub fn kind_of(name: WordName) -> Kind {
+    match name {
+        WordName::State { .. } => Kind::State,
+        WordName::Cset | WordName::Free => Kind::Regions,
+        WordName::Ask => Kind::Ask,
+        WordName::Current { .. } => Kind::Current,
+        WordName::Root { .. } | WordName::Buffer { .. } => Kind::Reference,
+        WordName::Wait { .. } => Kind::Request,
+        WordName::Answer { .. } => Kind::Answer,
+        _ => Kind::Number,
+    }
+}
