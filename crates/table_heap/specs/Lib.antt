@@ -1,3 +1,5 @@
+pub mod Closed
 pub mod Core
 pub mod Known
 pub mod State
+pub mod Running

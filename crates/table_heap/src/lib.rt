@@ -3,12 +3,18 @@
 #![tactic(auto)]
 
 mod bundle;
+mod closed;
 mod gate;
 mod heap;
 mod machines;
+mod run;
 
 pub use bundle::Bundle;
+pub use closed::Closed;
 pub use gate::{Gate, OpenGate};
 pub use heap::Heap;
 pub use heap_machines::Stepped;
 pub use machines::{Acting, OfHeaps};
+
+#[cfg(test)]
+mod tests;

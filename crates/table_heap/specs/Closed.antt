@@ -1,0 +1,46 @@
+-- What callers know of a heap that no thread shares any more.
+use Rattle.std.specs.Prelude.{ℕ, ◌≡◌, ◌<◌, true, false, List, Some, slice_get}
+use Rattle.heap_words.specs.declared.config.Config.{Config}
+use Rattle.heap_words.specs.Ranges.{seat_count}
+use Rattle.steps_base.specs.Steps.{Stage}
+use Rattle.shen_graph.specs.declared.order.Order.TheVariants.{Nothing}
+use Rattle.shared_steps.specs.Views as views
+use Rattle.step_core.specs.Actor.{Actor}
+use Rattle.step_core.specs.Machines.{takes_of, is_resting}
+use Rattle.step_core.specs.Settled.{control_number}
+use Rattle.table_heap.specs.declared.bundle.Bundle.{Bundle}
+use Rattle.table_heap.specs.declared.closed.Closed.{Closed}
+use Rattle.table_heap.specs.State as state
+
+-- the bundle has all machines of its heap
+abbrev pub HasAll : Bundle → Type 0
+HasAll b = (number : ℕ) → number < seat_count (state.heap_of b).mutators (state.heap_of b).helpers → state.HasMachine b number
+
+-- its control has made its last access
+abbrev pub IsControlIdle : Bundle → Type 0
+IsControlIdle b = (a : Actor) → views.machine_of (state.view_of b) (control_number (state.heap_of b)) ≡ Some a → takes_of a.machine Nothing ≡ false
+
+-- the configuration
+abbrev pub config_of : Closed → Config
+config_of h = h.config
+
+-- its words, in the order of their places
+abbrev pub words_of : Closed → List ℕ
+words_of h = h.words.items
+
+-- its machines by their numbers, as their events see them
+abbrev pub machines_of : Closed → List Actor
+machines_of h = views.machines_of h.seat.value.me.0
+
+-- words and machines together
+abbrev pub stage_of : Closed → Stage Actor
+stage_of h = record { words = words_of h; machines = machines_of h }
+
+-- no mutator has a call in progress
+abbrev pub AllRest : Closed → Type 0
+AllRest h = (number : ℕ) (a : Actor) → number < (config_of h).mutators → slice_get (machines_of h) number ≡ Some a → is_resting a.machine ≡ true
+
+-- all is as it was
+pub record IsUnchanged (old new : Closed) : Type 0 where
+  pub config : config_of new ≡ config_of old
+  pub stage : stage_of new ≡ stage_of old

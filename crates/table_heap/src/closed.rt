@@ -1,0 +1,129 @@
+ghost use Rattle.std.specs.Prelude.{◌≡◌, ◌≤◌, None, length, vec_capacity, slice_get};
+ghost use Rattle.std.specs.Slots.{slots_items, slots_len, IsFull};
+ghost use Rattle.heap_words.specs.Words.{table_words, heap_size};
+ghost use Rattle.steps_base.specs.Steps.{IsReached};
+ghost use Rattle.shared_steps.specs.Views.{machines_of};
+ghost use Rattle.step_core.specs.Settled.{image_of, control_number};
+ghost use Rattle.table_heap.specs.Core.{heap_kind, heap_opening};
+
+use crate::bundle::Bundle;
+use crate::heap::Heap;
+use crate::machines::{Acting, OfHeaps};
+use atomic_table::Closed as Rows;
+use heap_graph::write_graph;
+use heap_words::{Config, heap_in, roots_in};
+use shared_steps::{ViewSeat, close_table};
+use shen_graph::{GraphText, Order};
+use std::alloc::Global;
+use std::snapshot::Snapshot;
+
+/// A heap that no thread shares any more: its words as the last event left them.
+#[derive(Drop)]
+pub struct Closed {
+    config: Config,
+    words: Vec<u64>,
+    // Where `graph` works.
+    marks: Vec<bool>,
+    addresses: Vec<u64>,
+    // Which machines led to the words.
+    seat: Snapshot<ViewSeat<Acting>>,
+    ghost all_words: { length words.items ≡ table_words config },
+    ghost all_marks: { length marks.items ≡ heap_size config },
+    ghost enough_addresses: { heap_size config ≤ vec_capacity addresses },
+    ghost reached: { ∥ IsReached (heap_kind config) (heap_opening config) (record { words = words.items; machines = machines_of seat.value.me.0 }) ∥₁ },
+    ghost calm: { image_of (slice_get (machines_of seat.value.me.0) (control_number config)) ≡ None },
+}
+
+// Reads all words of a table.
+fn read_words(rows: &Rows<(), Global>, words: &mut Vec<u64>)
+    requires full { IsFull rows.now.words }
+    requires room { length words.old.items ≡ slots_len rows.now.words }
+    ensures { words.new.items ≡ slots_items rows.now.words }
+{
+    for at in 0..words.len() {
+        words[at] = rows.word(at);
+    }
+}
+
+impl Heap {
+    ghost use Rattle.shared_steps.specs.Views.{whole};
+    ghost use Rattle.table_heap.specs.State as state;
+    ghost use Rattle.table_heap.specs.Closed.{HasAll, IsControlIdle, config_of, machines_of as actors_of, stage_of};
+
+    /// Ends the sharing, by a bundle that has all machines. The control is idle. No memory is taken.
+    pub fn close(self, bundle: Bundle) -> Closed
+        requires heap { state.IsOf bundle self }
+        requires all { HasAll bundle }
+        requires control { IsControlIdle bundle }
+        ensures config { config_of result ≡ state.config_of self }
+        ensures machines { state.view_of bundle ≡ whole (actors_of result) }
+
+        // Some events lead from the opening to just these words and machines.
+        ensures reached { IsReached (heap_kind (state.config_of self)) (heap_opening (state.config_of self)) (stage_of result) }
+    {
+        let Heap {
+            config,
+            table,
+            mut words,
+            marks,
+            addresses,
+        } = self;
+        let Bundle {
+            config: _,
+            seat,
+            machines: _,
+        } = bundle;
+        let last = Snapshot::of(&seat);
+        let rows = close_table::<Acting, Order, Config, OfHeaps>(table, seat);
+        read_words(&rows, &mut words);
+        rows.free();
+        Closed {
+            config,
+            words,
+            marks,
+            addresses,
+            seat: last,
+        }
+    }
+}
+
+impl Closed {
+    ghost use Rattle.std.specs.Prelude.{◌<◌, slice_index};
+    ghost use Rattle.pause_laws.specs.Image.{full_image};
+    ghost use Rattle.step_core.specs.Begins.{Run, ending, graph_after};
+    ghost use Rattle.heap_graph.specs.Shows.{Shows};
+    ghost use Rattle.table_heap.specs.Closed.{config_of, words_of, stage_of, AllRest, IsUnchanged};
+
+    /// The word at a place of the table.
+    pub fn word(&self, at: usize) -> u64
+        requires { at < table_words (config_of self.now) }
+        ensures { result ≡ slice_index (words_of self.now) at }
+    {
+        self.words[at]
+    }
+
+    /// Writes the graph that words and machines stand for: the objects that the mutators' roots lead to, in the order of
+    /// their names, and the roots of each mutator. No mutator has a call in progress, and the text was opened for at least
+    /// as many words as the heap has, and for the heap's mutators. No memory is taken. The time is linear in the words, but
+    /// for the sort of the objects.
+    pub fn graph(&mut self, text: &mut GraphText)
+        requires rest { AllRest self.old }
+        requires room { heap_size (config_of self.old) ≤ text.old.room }
+        requires threads { length text.old.roots ≡ (config_of self.old).mutators }
+        ensures shows { (run : Run (config_of self.old)) → ending full_image (config_of self.old) run ≡ stage_of self.old → Shows text.new (config_of self.old).mutators (graph_after full_image (config_of self.old) run) }
+
+        // Nothing else changes.
+        ensures unchanged { IsUnchanged self.old self.new }
+        ensures same_room { text.new.room ≡ text.old.room }
+        ensures same_threads { length text.new.roots ≡ length text.old.roots }
+    {
+        write_graph(
+            self.config.region_words() as u64,
+            heap_in(self.config, &self.words),
+            roots_in(self.config, &self.words),
+            &mut self.marks,
+            &mut self.addresses,
+            text,
+        );
+    }
+}
