@@ -7,6 +7,7 @@ mod closed;
 mod gate;
 mod heap;
 mod machines;
+mod run;
 
 pub use bundle::Bundle;
 pub use closed::Closed;

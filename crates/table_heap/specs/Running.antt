@@ -1,0 +1,94 @@
+-- What is known of the mutators of a bundle, and of the work for them, before a run of their scripts, during it and after it.
+use Rattle.std.specs.Prelude.{ℕ, ◌≡◌, ◌+◌, ◌<◌, true, false, List, [], length, All, Option, Some, None, is_some, nat_lt, if◌then◌else◌}
+use Rattle.heap_words.specs.declared.config.Config.{Config}
+use Rattle.shared_steps.specs.Views.{machine_of}
+use Rattle.shen_graph.specs.declared.command.Command.{Command}
+use Rattle.shen_graph.specs.declared.command.Reply.{Reply}
+use Rattle.shen_graph.specs.declared.order.Order.{Order}
+use Rattle.shen_graph.specs.declared.order.Order.TheVariants.{Nothing}
+use Rattle.shen_graph.specs.History as history
+use Rattle.shen_graph.specs.Valid.{IsValid}
+use Rattle.shen_graph.specs.Work.{Progress, HasScript, progress_of, script_of, replies_of, next_of}
+use Rattle.step_core.specs.Actor.{Machine, Actor}
+use Rattle.step_core.specs.Machines.{is_resting, may_begin, made_of_machine, at_hand_of}
+use Rattle.heap_machines.specs.Roles.{is_mutating}
+use Rattle.heap_machines.specs.Scripts.{IsOnScript, HasDoneScript}
+use Rattle.heap_machines.specs.Turn.{order_for}
+use Rattle.table_heap.specs.declared.bundle.Bundle.{Bundle}
+use Rattle.table_heap.specs.State.{view_of, orders_of}
+
+-- the work of the mutators, as contracts see it
+abbrev pub Jobs : Type 0
+Jobs = List (Option Progress)
+
+-- no order is pending
+abbrev pub HasNoOrder : Bundle → Type 0
+HasNoOrder b = (number : ℕ) (order : Order) → machine_of (orders_of b) number ≡ Some order → order ≡ Nothing
+
+-- something holds of each mutator of the bundle, and of its number
+abbrev pub EachMutator : Bundle → (ℕ → Actor → Type 0) → Type 0
+EachMutator b P = (number : ℕ) (a : Actor) → machine_of (view_of b) number ≡ Some a → is_mutating a.machine ≡ true → P number a
+
+-- the bundle has no mutator of this number
+abbrev pub HasNoMutator : Bundle → ℕ → Type 0
+HasNoMutator b number = (a : Actor) → machine_of (view_of b) number ≡ Some a → is_mutating a.machine ≡ false
+
+-- A mutator has ended no call, made no object, and may begin a call. The work has a script for it, with no reply, whose commands
+-- are in range, and no more than there are names for what they make.
+pub record CanStartOn (jobs : Jobs) (number : ℕ) (a : Actor) : Type 0 where
+  pub calls : a.calls ≡ []
+  pub rest : is_resting a.machine ≡ true
+  pub free : may_begin a.machine ≡ true
+  pub made : made_of_machine a.machine ≡ 0
+  pub script : HasScript jobs number
+  pub replies : replies_of jobs number ≡ []
+  pub commands : All IsValid (script_of jobs number)
+  pub few : length (script_of jobs number) < 4294967295
+
+-- a bundle and the work for its mutators, before they begin
+pub record CanStart (b : Bundle) (jobs : Jobs) : Type 0 where
+  pub orders : HasNoOrder b
+  pub mutators : EachMutator b (CanStartOn jobs)
+
+-- A mutator with this much of its script behind it: the replies are those of its calls, and there are names left for what the
+-- commands to come may make.
+pub record IsAtWork (p : Progress) (a : Actor) : Type 0 where
+  pub on : IsOnScript p.script a
+  pub replies : p.replies ≡ history.replies_of a.calls
+  pub commands : All IsValid p.script
+  pub made : made_of_machine a.machine + length p.script < 4294967295 + (length p.replies + at_hand_of a.machine)
+
+abbrev pub IsAtWorkOn : Jobs → ℕ → Actor → Type 0
+IsAtWorkOn jobs number a = (p : Progress) × (progress_of jobs number ≡ Some p) × IsAtWork p a
+
+-- a bundle and the work for its mutators, between two turns
+pub record AreAtWork (b : Bundle) (jobs : Jobs) : Type 0 where
+  pub orders : HasNoOrder b
+  pub mutators : EachMutator b (IsAtWorkOn jobs)
+
+-- the next command of a machine's script, which only a mutator has
+abbrev pub next_for : Config → Jobs → ℕ → Option Command
+next_for c jobs number = if nat_lt number c.mutators then next_of jobs number else None
+
+-- no command gives it a turn any more: it is a mutator that has ended, a control that has ended, or a helper
+abbrev pub IsIdleForGood : Machine → Type 0
+IsIdleForGood machine = (next : Option Command) → order_for next machine ≡ None
+
+-- so it is of all machines of the bundle
+abbrev pub AreIdleForGood : Bundle → Type 0
+AreIdleForGood b = (number : ℕ) (a : Actor) → machine_of (view_of b) number ≡ Some a → IsIdleForGood a.machine
+
+-- the mutator has called its whole script, and these are the replies of its calls
+pub record HasDone (script : List Command) (replies : List Reply) (a : Actor) : Type 0 where
+  pub script : HasDoneScript script a
+  pub replies : replies ≡ history.replies_of a.calls
+
+-- so has each mutator of the bundle, where the first work has the scripts and the second the replies
+abbrev pub HaveDone : Bundle → Jobs → Jobs → Type 0
+HaveDone b jobs later = EachMutator b (λ number a. HasDone (script_of jobs number) (replies_of later number) a)
+
+-- The work has the same scripts under the same numbers, and what it has for others than the bundle's mutators is as it was.
+pub record AreSameJobs (b : Bundle) (jobs later : Jobs) : Type 0 where
+  pub scripts : (number : ℕ) → script_of later number ≡ script_of jobs number
+  pub numbers : (number : ℕ) → is_some (progress_of later number) ≡ is_some (progress_of jobs number)
+  pub others : (number : ℕ) → HasNoMutator b number → progress_of later number ≡ progress_of jobs number

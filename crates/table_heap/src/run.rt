@@ -1,0 +1,136 @@
+ghost use Rattle.std.specs.Prelude.{◌≡◌, ◌↔◌, true, false, Some, None, if◌then◌else◌, slice_set};
+ghost use Rattle.heap_machines.specs.Turn.{order_for};
+ghost use Rattle.table_heap.specs.State.{heap_of, orders_of, IsOf, HasMachine, machine_at, order_at, has_turn, IsSameBundle, IsUnmoved, IsUnchanged};
+ghost use Rattle.table_heap.specs.Running.{HasNoOrder, CanStart, AreAtWork, next_for, IsIdleForGood, AreIdleForGood, HaveDone, AreSameJobs};
+
+use crate::bundle::Bundle;
+use crate::gate::Gate;
+use crate::heap::Heap;
+use crossbeam_utils::Backoff;
+use heap_machines::Stepped;
+use shen_graph::{Command, Work};
+use std::sync::Wait;
+
+// What the machines of a bundle did in a round.
+#[derive(Clone, Copy, Debug, PartialEq, Eq)]
+enum Round {
+    // None made a step.
+    Idle,
+    // Some made a step, and each of these waits.
+    Waiting,
+    // One made a step and goes on.
+    Moving,
+}
+
+impl Round {
+    // The round with one turn more.
+    fn and(self, said: Stepped) -> Round
+        ensures idle { (result ≡ Round.Idle) ↔ ((self ≡ Round.Idle) × (said ≡ Stepped.Idle)) }
+    {
+        match said {
+            Stepped::Idle => self,
+            Stepped::Again => match self {
+                Round::Idle | Round::Waiting => Round::Waiting,
+                Round::Moving => Round::Moving,
+            },
+            Stepped::More | Stepped::Done => Round::Moving,
+        }
+    }
+}
+
+impl Bundle {
+    // The next command of the machine's script, if it is a mutator.
+    fn next_command(&self, work: &Work, number: usize) -> Option<Command>
+        requires here { HasMachine self.now number }
+        requires work { AreAtWork self.now work.now }
+        ensures { result ≡ next_for (heap_of self.now) work.now number }
+    {
+        if number < self.config.mutators() {
+            work.next(number)
+        } else {
+            None
+        }
+    }
+
+    // Gives the machine its order for its turn, if it has one: a mutator between two calls begins the next command of its
+    // script, and ends where there is none.
+    fn order_next(&mut self, work: &Work, number: usize) -> bool
+        requires here { HasMachine self.old number }
+        requires work { AreAtWork self.old work.now }
+        ensures turn { order_for (next_for (heap_of self.old) work.now number) (machine_at self.old number) ≡ (if result then Some (order_at self.new number) else None) }
+        ensures has { has_turn self.new number ≡ result }
+        ensures orders { orders_of self.new ≡ slice_set (orders_of self.old) number (Some (order_at self.new number)) }
+        ensures unchanged { result ≡ false → IsUnchanged self.old self.new }
+        ensures unmoved { IsUnmoved self.old self.new }
+    {
+        let next = self.next_command(work, number);
+        let Some(machine) = self.machines[number].as_mut() else {
+            unreachable!()
+        };
+        machine.order_next(next)
+    }
+
+    // One turn of a machine: it goes on with its call, begins the next command of its script, or ends.
+    fn turn<G: Gate>(&mut self, heap: &Heap, work: &mut Work, gate: &G, number: usize) -> Stepped
+        requires heap { IsOf self.old heap.now }
+        requires here { HasMachine self.old number }
+        requires work { AreAtWork self.old work.old }
+        ensures work { AreAtWork self.new work.new }
+        ensures same { IsSameBundle self.old self.new }
+        ensures jobs { AreSameJobs self.old work.old work.new }
+        ensures unchanged { result ≡ Stepped.Idle → IsUnchanged self.old self.new }
+        ensures idle { result ≡ Stepped.Idle → IsIdleForGood (machine_at self.old number) }
+    {
+        if !self.order_next(work, number) {
+            return Stepped::Idle;
+        }
+        gate.pass(number);
+        let stepped = self.step(heap, number);
+        if let Stepped::Done = stepped {
+            work.told(number, self.reply(number));
+        }
+        stepped
+    }
+
+    // One turn of each machine of the bundle, in the order of their numbers.
+    fn round<G: Gate>(&mut self, heap: &Heap, work: &mut Work, gate: &G) -> Round
+        requires heap { IsOf self.old heap.now }
+        requires work { AreAtWork self.old work.old }
+        ensures work { AreAtWork self.new work.new }
+        ensures same { IsSameBundle self.old self.new }
+        ensures jobs { AreSameJobs self.old work.old work.new }
+        ensures idle { result ≡ Round.Idle → AreIdleForGood self.new }
+    {
+        let mut round = Round::Idle;
+        for number in 0..self.machines.len() {
+            if self.has(number) {
+                round = round.and(self.turn(heap, work, gate, number));
+            }
+        }
+        round
+    }
+
+    /// Runs the scripts of the bundle's mutators, whose replies it notes in `work`, until all machines of the bundle are idle.
+    /// In a round each machine that is not idle makes one step, in the order of their numbers, when it has passed the gate. A
+    /// mutator between two calls begins the next command of its script, and ends where there is none; the control ends when
+    /// all mutators of the heap have. After a round in which every step waits for another machine the thread backs off. No
+    /// memory is taken.
+    pub fn run<R: Wait, G: Gate>(&mut self, rt: &R, heap: &Heap, work: &mut Work, gate: &G)
+        requires heap { IsOf self.old heap.now }
+        requires start { CanStart self.old work.old }
+        ensures same { IsSameBundle self.old self.new }
+        ensures orders { HasNoOrder self.new }
+        ensures idle { AreIdleForGood self.new }
+        ensures done { HaveDone self.new work.old work.new }
+        ensures jobs { AreSameJobs self.old work.old work.new }
+    {
+        let backoff = Backoff::new();
+        for _ in rt.forever() {
+            match self.round(heap, work, gate) {
+                Round::Idle => return,
+                Round::Waiting => backoff.snooze(),
+                Round::Moving => backoff.reset(),
+            }
+        }
+    }
+}
