@@ -1,12 +1,15 @@
 //! The program's worked examples: words and bytes in, bytes and a status out.
 ghost use Rattle.std.specs.Prelude.{◌≤◌};
 
-use crate::replay::shenrun;
 use crate::status::Status;
+use crate::top::shenrun;
 use shen_base::{Failed, MemorySink, MemorySource, Source};
 use std::alloc::Global;
 use std::process::Abort;
+use std::sync::Wait;
 use std::test::Fail;
+use std::thread::Threads;
+use table_heap::OpenGate;
 
 /// A trace, the words that run it, and what is written: the answer, or the line that stands in its place.
 struct Row {
@@ -500,7 +503,8 @@ const HEAD: &str = "shen 1\nheap 4 64 0\nthreads 1 0\n";
 
 /// Runs the program on words and bytes. The source and the sink move at most `piece` bytes a call, and the calls with
 /// these numbers fail.
-fn outcome(
+fn outcome<R: Threads + Wait + Sync>(
+    rt: &R,
     alloc: Global,
     words: &[&str],
     bytes: &[u8],
@@ -517,15 +521,20 @@ fn outcome(
     let bytes = Vec::from_slice(alloc, bytes)?;
     let mut source = MemorySource::new(bytes, piece, Vec::from_slice(alloc, reads)?);
     let mut sink = MemorySink::with_room(alloc, 4096, piece, Vec::from_slice(alloc, writes)?)?;
-    let status = shenrun(alloc, &list, &mut source, &mut sink);
+    let status = shenrun(rt, alloc, &list, &mut source, &mut sink, &OpenGate);
     Ok((status, Vec::from_slice(alloc, sink.bytes())?))
 }
 
 /// Gives each trace in pieces of several sizes, and looks at the status and at what is written.
-fn answers(rt: &impl Abort, alloc: Global, rows: &[Row]) -> Result<(), Fail> {
+fn answers<R: Threads + Wait + Abort + Sync>(
+    rt: &R,
+    alloc: Global,
+    rows: &[Row],
+) -> Result<(), Fail> {
     for (row, case) in rows.iter().enumerate() {
         for piece in [7, 4096] {
             let (status, written) = outcome(
+                rt,
                 alloc,
                 case.words,
                 case.trace.as_bytes(),
@@ -564,6 +573,7 @@ fn pauses_collect(rt: HostRuntime) -> Result<(), Fail> {
 fn steps_are_counted(rt: HostRuntime) -> Result<(), Fail> {
     answers(&rt, rt.alloc(), CUT)?;
     let (status, _) = outcome(
+        &rt,
         rt.alloc(),
         &["replay", "--steps", "73"],
         STORED.as_bytes(),
@@ -573,6 +583,7 @@ fn steps_are_counted(rt: HostRuntime) -> Result<(), Fail> {
     )?;
     assert_eq!(rt; status, Status::Unfinished);
     let (status, written) = outcome(
+        &rt,
         rt.alloc(),
         &["replay", "--steps", "74"],
         STORED.as_bytes(),
@@ -588,14 +599,14 @@ fn steps_are_counted(rt: HostRuntime) -> Result<(), Fail> {
 #[test]
 fn other_traces_are_refused(rt: HostRuntime) -> Result<(), Fail> {
     for (row, (trace, line)) in BAD_HEADS.iter().enumerate() {
-        let (status, written) = outcome(rt.alloc(), REPLAY, trace.as_bytes(), 8, &[], &[])?;
+        let (status, written) = outcome(&rt, rt.alloc(), REPLAY, trace.as_bytes(), 8, &[], &[])?;
         assert_eq!(rt; status, Status::BadTrace, "head {row}");
         assert_eq!(rt; written.as_slice(), line.as_bytes(), "head {row}");
     }
     for (row, (lines, line)) in REFUSED.iter().enumerate() {
         let mut bytes = Vec::from_slice(rt.alloc(), HEAD.as_bytes())?;
         bytes.extend_from_slice(lines.as_bytes())?;
-        let (status, written) = outcome(rt.alloc(), REPLAY, &bytes, 8, &[], &[])?;
+        let (status, written) = outcome(&rt, rt.alloc(), REPLAY, &bytes, 8, &[], &[])?;
         assert_eq!(rt; status, Status::BadTrace, "row {row}");
         assert_eq!(rt; written.as_slice(), line.as_bytes(), "row {row}");
     }
@@ -609,7 +620,7 @@ fn cut_traces_are_refused(rt: HostRuntime) -> Result<(), Fail> {
     let bytes = STORED.as_bytes();
     let ends = [7, 19, 31, 43, 55, 67];
     for length in 0..bytes.len() + 1 {
-        let (status, written) = outcome(rt.alloc(), REPLAY, &bytes[..length], 8, &[], &[])?;
+        let (status, written) = outcome(&rt, rt.alloc(), REPLAY, &bytes[..length], 8, &[], &[])?;
         if length >= 31 && ends.contains(&length) {
             assert_eq!(rt; status, Status::Ok, "length {length}");
         } else {
@@ -663,7 +674,7 @@ fn other_words_are_refused(rt: HostRuntime) -> Result<(), Fail> {
         &["replay", "--steps", "5", "--steps", "5"],
     ];
     for words in lists {
-        let (status, written) = outcome(rt.alloc(), words, STORED.as_bytes(), 8, &[1], &[])?;
+        let (status, written) = outcome(&rt, rt.alloc(), words, STORED.as_bytes(), 8, &[1], &[])?;
         assert_eq!(rt; status, Status::BadWords);
         assert_eq!(rt; written.as_slice(), b"bad words\n".as_slice());
     }
@@ -672,7 +683,13 @@ fn other_words_are_refused(rt: HostRuntime) -> Result<(), Fail> {
 }
 
 /// Lets each of so many calls of the source fail in turn, and then each of the sink's.
-fn faults(rt: &impl Abort, alloc: Global, piece: usize, reads: u64, writes: u64) -> Result<(), Fail>
+fn faults<R: Threads + Wait + Abort + Sync>(
+    rt: &R,
+    alloc: Global,
+    piece: usize,
+    reads: u64,
+    writes: u64,
+) -> Result<(), Fail>
     requires least { 1 ≤ piece }
     requires most { piece ≤ 8 }
     requires reads { reads ≤ 100 }
@@ -681,17 +698,17 @@ fn faults(rt: &impl Abort, alloc: Global, piece: usize, reads: u64, writes: u64)
     let bytes = STORED.as_bytes();
     let answer = STORED_ANSWER.as_bytes();
     for call in 1..reads + 1 {
-        let (status, written) = outcome(alloc, REPLAY, bytes, piece, &[call], &[])?;
+        let (status, written) = outcome(rt, alloc, REPLAY, bytes, piece, &[call], &[])?;
         assert_eq!(rt; status, Status::ReadFault, "call {call}");
         assert_eq!(rt; written.as_slice(), b"read fault\n".as_slice());
     }
     for call in 1..writes + 1 {
-        let (status, written) = outcome(alloc, REPLAY, bytes, piece, &[], &[call])?;
+        let (status, written) = outcome(rt, alloc, REPLAY, bytes, piece, &[], &[call])?;
         assert_eq!(rt; status, Status::WriteFault, "call {call}");
         assert_eq!(rt; written.len(), piece * (call as usize - 1));
         assert!(rt; answer.starts_with(&written));
     }
-    let (status, written) = outcome(alloc, REPLAY, bytes, piece, &[reads + 1], &[writes + 1])?;
+    let (status, written) = outcome(rt, alloc, REPLAY, bytes, piece, &[reads + 1], &[writes + 1])?;
     assert_eq!(rt; status, Status::Ok);
     assert_eq!(rt; written.as_slice(), answer);
     Ok(())
@@ -752,7 +769,11 @@ impl Source for OneLine {
 }
 
 /// What is said of one line of so many bytes.
-fn said_of_one_line(alloc: Global, bytes: usize) -> Result<Vec<u8>, Fail> {
+fn said_of_one_line<R: Threads + Wait + Sync>(
+    rt: &R,
+    alloc: Global,
+    bytes: usize,
+) -> Result<Vec<u8>, Fail> {
     let mut words = Vec::new(alloc);
     words.push(String::from_str(alloc, "replay")?)?;
     let mut sink = MemorySink::with_room(alloc, 100, 100, Vec::new(alloc))?;
@@ -760,18 +781,18 @@ fn said_of_one_line(alloc: Global, bytes: usize) -> Result<Vec<u8>, Fail> {
         left: bytes,
         calls: 0,
     };
-    shenrun(alloc, &words, &mut source, &mut sink);
+    shenrun(rt, alloc, &words, &mut source, &mut sink, &OpenGate);
     Ok(Vec::from_slice(alloc, sink.bytes())?)
 }
 
 #[test]
 fn one_long_line_is_refused(rt: HostRuntime) -> Result<(), Fail> {
-    let most = said_of_one_line(rt.alloc(), 16_777_216)?;
+    let most = said_of_one_line(&rt, rt.alloc(), 16_777_216)?;
     assert_eq!(rt;
         most.as_slice(),
         b"bad line 1: end of line wanted\n".as_slice()
     );
-    let more = said_of_one_line(rt.alloc(), 16_777_217)?;
+    let more = said_of_one_line(&rt, rt.alloc(), 16_777_217)?;
     assert_eq!(rt;
         more.as_slice(),
         b"too long: more than 16777216 bytes\n".as_slice()
@@ -784,7 +805,14 @@ fn too_many_bytes_are_refused(rt: HostRuntime) -> Result<(), Fail> {
     let mut words = Vec::new(rt.alloc());
     words.push(String::from_str(rt.alloc(), "replay")?)?;
     let mut sink = MemorySink::with_room(rt.alloc(), 100, 100, Vec::new(rt.alloc()))?;
-    let status = shenrun(rt.alloc(), &words, &mut Endless { calls: 0 }, &mut sink);
+    let status = shenrun(
+        &rt,
+        rt.alloc(),
+        &words,
+        &mut Endless { calls: 0 },
+        &mut sink,
+        &OpenGate,
+    );
     assert_eq!(rt; status, Status::BadTrace);
     assert_eq!(rt;
         sink.bytes(),

@@ -7,7 +7,7 @@ use Rattle.shenrun.specs.declared.status.Status.TheVariants.{BadWords}
 use Rattle.shenrun.specs.Answered.{Input, Output}
 use Rattle.shenrun.proofs.Ends.{said, row_of_ok}
 use Rattle.shenrun.proofs.Complete.{complete}
-use Rattle.shenrun.proofs.replay.shenrun.Goals as goal
+use Rattle.shenrun.proofs.replay.alone.Goals as goal
 
 pub returns-in-Some-clause-headline : goal.returns-in-Some-clause-headline
 returns-in-Some-clause-headline g c = λ e.
