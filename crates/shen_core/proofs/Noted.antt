@@ -1,11 +1,11 @@
 -- After a turn: the machines, the orders and the work.
-use Rattle.std.proofs.Common.{◌≡◌, ◌≢◌, ◌<◌, ◌≤◌, ⊎_elim, ℕ, Bool, true, false, List, [], ◌∷◌, ◌++◌, length, get_or, map, All, Option, Some, None, refl, sym, ap, ◌∙◌, subst, arith}
+use Rattle.std.proofs.Common.{◌≡◌, ◌≢◌, ◌<◌, ⊎_elim, ℕ, Bool, true, false, List, [], ◌∷◌, ◌++◌, length, get_or, map, All, Option, Some, None, refl, sym, ap, ◌∙◌, subst, arith}
 use Rattle.pause_laws.specs.Image.{full_image}
-use Rattle.std.specs.Prelude.{◌+◌, slice_get, slice_set, slice_index, IsSome, unwrap_or, nat_lt, if◌then◌else◌}
-use Rattle.std.proofs.lemmas.List.{length-append, map-append, get_or-set_same, get_or-set_other, get_or_past, append-nil, set-set}
+use Rattle.std.specs.Prelude.{◌+◌, slice_get, slice_set, slice_index, nat_lt, if◌then◌else◌}
+use Rattle.std.proofs.lemmas.List.{length-append, map-append, get_or-set_same, get_or-set_other, append-nil, set-set}
 use Rattle.std.proofs.lemmas.List.Elements.{All-set}
 use Rattle.std.proofs.lemmas.Option.{same_Some, slice_get_within}
-use Rattle.std.proofs.lemmas.Bool.{false≢true, cases_eq, cases_lt, ltb-true, lt-ltb}
+use Rattle.std.proofs.lemmas.Bool.{false≢true, cases_eq, ltb-true, lt-ltb}
 use Rattle.heap_words.specs.declared.config.Config.{Config}
 use Rattle.heap_words.specs.declared.access.Took.{Took}
 use Rattle.heap_words.specs.declared.access.Took.TheVariants as took
@@ -15,6 +15,7 @@ use Rattle.steps_base.proofs.Laws.{act-event, machines_other}
 use Rattle.steps_base.proofs.Places.{slice_get-set_same}
 use Rattle.shen_graph.specs.declared.command.Reply.{Reply}
 use Rattle.shen_graph.specs.Work as work
+use Rattle.shen_graph.proofs.Noted.{script_kept, replies_same, replies_other, script_stays}
 use Rattle.shen_graph.specs.declared.order.Order.{Order}
 use Rattle.shen_graph.specs.declared.order.Order.TheVariants.{Nothing}
 use Rattle.heap_machines.specs.declared.stepped.Stepped.{Stepped}
@@ -40,44 +41,6 @@ pub orders_after : (old mid new : List Order) (number : ℕ) (order : Order) →
 orders_after old mid new number order mid_is new_is none =
     subst (λ xs. All (λ o. o ≡ Nothing) xs) (sym (new_is ∙ ap (λ xs. slice_set xs number Nothing) mid_is ∙ set-set old number order Nothing))
     (All-set (λ o. o ≡ Nothing) old number Nothing refl none)
-
--- a script that is there lies in the work
-pub has_within : (jobs : Jobs) (number : ℕ) → work.HasScript jobs number → number < length jobs
-has_within jobs number has = ⊎_elim
-    (λ (below : number < length jobs). below)
-    (λ (past : length jobs ≤ number). absurd (let none : work.progress_of jobs number ≡ None = get_or_past jobs number None past in false≢true (subst (λ o. IsSome o) none has)))
-    (cases_lt number (length jobs))
-
--- the progress of a script after a reply
-pub progress_same : (jobs : Jobs) (number : ℕ) (reply : Reply) → work.HasScript jobs number → work.progress_of (work.with_reply jobs number reply) number ≡ Some (work.answered (unwrap_or (work.progress_of jobs number) (work.begun [])) reply)
-progress_same jobs number reply has = get_or-set_same jobs number _ None (has_within jobs number has)
-
--- that of another
-pub progress_other : (jobs : Jobs) (number : ℕ) (reply : Reply) (t : ℕ) → t ≢ number → work.progress_of (work.with_reply jobs number reply) t ≡ work.progress_of jobs t
-progress_other jobs number reply t other = get_or-set_other jobs number t _ None other
-
--- scripts stay
-pub script_kept : (jobs : Jobs) (number : ℕ) (reply : Reply) (t : ℕ) → work.HasScript jobs number → work.script_of (work.with_reply jobs number reply) t ≡ work.script_of jobs t
-script_kept jobs number reply t has = ⊎_elim
-    (λ (same : t ≡ number). subst (λ n. work.script_of (work.with_reply jobs number reply) n ≡ work.script_of jobs n) (sym same)
-    (ap (λ o. (unwrap_or o (work.begun [])).script) (progress_same jobs number reply has)))
-    (λ (other : t ≡ number → ⊥). ap (λ o. (unwrap_or o (work.begun [])).script) (progress_other jobs number reply t other))
-    (cases_eq t number)
-
--- its replies are one more
-pub replies_same : (jobs : Jobs) (number : ℕ) (reply : Reply) → work.HasScript jobs number → work.replies_of (work.with_reply jobs number reply) number ≡ work.replies_of jobs number ++ reply ∷ []
-replies_same jobs number reply has = ap (λ o. (unwrap_or o (work.begun [])).replies) (progress_same jobs number reply has)
-
--- those of another stay
-pub replies_other : (jobs : Jobs) (number : ℕ) (reply : Reply) (t : ℕ) → t ≢ number → work.replies_of (work.with_reply jobs number reply) t ≡ work.replies_of jobs t
-replies_other jobs number reply t other = ap (λ o. (unwrap_or o (work.begun [])).replies) (progress_other jobs number reply t other)
-
--- no script is lost
-pub script_stays : (jobs : Jobs) (number : ℕ) (reply : Reply) (t : ℕ) → work.HasScript jobs number → work.HasScript jobs t → work.HasScript (work.with_reply jobs number reply) t
-script_stays jobs number reply t has here = ⊎_elim
-    (λ (same : t ≡ number). subst (λ n. work.HasScript (work.with_reply jobs number reply) n) (sym same) (subst (λ o. IsSome o) (sym (progress_same jobs number reply has)) refl))
-    (λ (other : t ≡ number → ⊥). subst (λ o. IsSome o) (sym (progress_other jobs number reply t other)) here)
-    (cases_eq t number)
 
 -- the replies of an actor after its step
 took_replies : (a : Actor) (machine : Machine) → map (λ e. e.reply) (a.calls ++ ended_by a.command machine) ≡ map (λ e. e.reply) a.calls ++ listed (given_in machine)

@@ -4,3 +4,5 @@ pub mod PlainLemmas
 pub mod ReachLemmas
 pub mod StepLemmas
 pub mod ValidLemmas
+pub mod Noted
+pub mod Parts

@@ -1,6 +1,7 @@
 //! What no clause says: that each call which may be refused memory is not, and the answers to traces of one thread.
 
-ghost use Rattle.std.specs.Prelude.{◌<◌, length};
+ghost use Rattle.std.specs.Prelude.{◌≡◌, ◌<◌, [], ◌∷◌, length, IfOk};
+ghost use Rattle.shen_graph.specs.declared.command.Command.TheVariants.{Drop};
 
 use crate::{Command, GraphText, Name, NoMemory, PlainGraph, Reply, Script, Work};
 use std::alloc::Global;
@@ -182,6 +183,34 @@ fn scripts_move_into_a_work(rt: HostRuntime) -> Result<(), Fail> {
     let work = Work::of(alloc, scripts)?;
     assert_eq!(rt; work.next(0), Some(Command::Gc));
     assert!(rt; work.replies(0).list().is_empty());
+    Ok(())
+}
+
+// The script of a mutator that drops one root.
+fn dropping(alloc: Global, dst: u32) -> Result<Script, NoMemory>
+    ensures { IfOk result (λ script. script ≡ Drop dst ∷ []) }
+{
+    let mut script = Script::open(alloc)?;
+    script.push(alloc, Command::Drop { dst })?;
+    Ok(script)
+}
+
+#[test]
+fn work_is_cut_and_joined(rt: HostRuntime) -> Result<(), Fail> {
+    let alloc = rt.alloc();
+    let scripts = [
+        dropping(alloc, 0)?,
+        dropping(alloc, 1)?,
+        dropping(alloc, 2)?,
+    ];
+    let mut work = Work::open(alloc, &scripts)?;
+    let mut odd = work.part(2, 1);
+    odd.told(1, Reply::Ok);
+    work.told(2, Reply::Bad);
+    work.join(odd);
+    assert_eq!(rt; work.next(0), Some(Command::Drop { dst: 0 }));
+    assert_eq!(rt; work.replies(1).list(), [Reply::Ok].as_slice());
+    assert_eq!(rt; work.replies(2).list(), [Reply::Bad].as_slice());
     Ok(())
 }
 

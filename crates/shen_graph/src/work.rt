@@ -1,5 +1,5 @@
-ghost use Rattle.std.specs.Prelude.{◌≡◌, ◌+◌, ◌<◌, ◌≤◌, [], ◌∷◌, ◌++◌, length, IfOk, slice_get};
-ghost use Rattle.shen_graph.specs.Work.{HasScript, script_of, replies_of, next_of, with_reply, opened};
+ghost use Rattle.std.specs.Prelude.{◌≡◌, ◌+◌, ◌<◌, ◌≤◌, ℕ, [], ◌∷◌, ◌++◌, length, IfOk, slice_get};
+ghost use Rattle.shen_graph.specs.Work.{HasScript, script_of, replies_of, next_of, with_reply, opened, parted, left_over, joined};
 
 use crate::NoMemory;
 use crate::command::{Command, Reply};
@@ -182,6 +182,37 @@ impl Work {
         match &mut jobs[mutator] {
             Some(job) => job.told(reply),
             None => unreachable!(),
+        }
+    }
+
+    /// Moves out the scripts of the mutators whose number leaves the rest `part` when divided by `workers`, each with its
+    /// replies. They keep their numbers. It takes no memory.
+    pub fn part(&mut self, workers: usize, part: usize) -> Work
+        requires { part < workers }
+        ensures parted { result ≡ parted workers part self.old }
+        ensures left { self.new ≡ left_over workers part self.old }
+    {
+        let mut jobs = [None, None, None, None, None, None, None, None];
+        let own = &mut self.jobs;
+        for mutator in 0..8 {
+            if mutator % workers == part {
+                jobs[mutator] = own[mutator].take();
+            }
+        }
+        Work { jobs }
+    }
+
+    /// Moves in the scripts of other work, each with its replies, such as a part that was moved out. It takes no memory.
+    pub fn join(&mut self, other: Work)
+        requires { (mutator : ℕ) → HasScript self.old mutator → HasScript other mutator → ⊥ }
+        ensures { self.new ≡ joined self.old other }
+    {
+        let mut others = other.jobs;
+        let own = &mut self.jobs;
+        for mutator in 0..8 {
+            if others[mutator].is_some() {
+                own[mutator] = others[mutator].take();
+            }
         }
     }
 }

@@ -1,0 +1,25 @@
+use Rattle.std.proofs.Common.{◌≡◌, ◌∙◌, Bool, true, false, not, Option, None, refl, ap, subst, arith}
+use Rattle.std.specs.Prelude.{if◌then◌else◌}
+use Rattle.std.proofs.lemmas.Bool.{lt-ltb}
+use Rattle.shen_graph.specs.Work.{Progress, progress_of, is_in_part, picked}
+use Rattle.shen_graph.proofs.Parts.{all_picked}
+use Rattle.shen_graph.proofs.work.Work.part.Goals as goal
+
+turned : (b : Bool) (o : Option Progress) → (if b then None else o) ≡ (if not b then o else None)
+turned true o = refl
+turned false o = refl
+
+pub returns-clause-parted : goal.returns-clause-parted
+returns-clause-parted c =
+    subst (λ work. c.loop-mutator.jobs ≡ picked (is_in_part c.args.workers c.args.part) work) c.self.view_is
+    (all_picked (is_in_part c.args.workers c.args.part) c.self.inside.jobs c.loop-mutator.jobs c.loop-mutator.invariant.part_places
+    (λ k below. let l = c.loop-mutator in l.invariant.moved k
+    ∙ ap (λ b. if b then (if is_in_part c.args.workers c.args.part k then progress_of c.self.inside.jobs k else None) else None) (lt-ltb k l.mutator (omega (arith, c.loop-mutator-test.false)))))
+
+pub returns-clause-left : goal.returns-clause-left
+returns-clause-left c =
+    subst (λ work. c.loop-mutator.own ≡ picked (λ k. not (is_in_part c.args.workers c.args.part k)) work) c.self.view_is
+    (all_picked (λ k. not (is_in_part c.args.workers c.args.part k)) c.self.inside.jobs c.loop-mutator.own c.loop-mutator.invariant.places
+    (λ k below. let l = c.loop-mutator in l.invariant.left k
+    ∙ ap (λ b. if b then (if is_in_part c.args.workers c.args.part k then None else progress_of c.self.inside.jobs k) else progress_of c.self.inside.jobs k) (lt-ltb k l.mutator (omega (arith, c.loop-mutator-test.false)))
+    ∙ turned (is_in_part c.args.workers c.args.part k) (progress_of c.self.inside.jobs k)))
