@@ -1,15 +1,23 @@
 -- What the machines of a heap do as a kind. Nothing else here opens a definition of the core.
-use Rattle.std.proofs.Common.{◌≡◌, ℕ, refl}
+use Rattle.std.proofs.Common.{◌≡◌, ℕ, true, false, ◌&&◌, List, length, None, refl}
+use Rattle.std.specs.Prelude.{if◌then◌else◌}
+use Rattle.std.proofs.lemmas.List.FromFn.{length-map-range_with_len}
 use Rattle.heap_words.specs.declared.config.Config.{Config}
+use Rattle.heap_words.specs.Ranges.{seat_count}
 use Rattle.shen_graph.specs.declared.order.Order.{Order}
-use Rattle.steps_base.specs.Steps.{Finds}
-use Rattle.step_core.specs.Actor.{Actor}
+use Rattle.shen_graph.specs.declared.order.Order.TheVariants.{Nothing}
+use Rattle.steps_base.specs.Steps.{Event, Finds}
+use Rattle.control_steps.specs.declared.spot.ControlSpot.{ControlSpot}
+use Rattle.control_steps.specs.declared.spot.ControlSpot.TheVariants.{StoreWord}
+use Rattle.control_steps.specs.Rows.{is_gone}
+use Rattle.step_core.specs.Actor.{Machine, mutating, helping, controlling, Actor}
 use Rattle.pause_laws.specs.Image.{full_image}
 use Rattle.pause_laws.proofs.Pauses.{full_is_pause}
-use Rattle.step_core.specs.Begins.{first_graph}
+use Rattle.step_core.specs.Begins.{Run, first_graph}
 use Rattle.step_core.specs.Fit.{IsFitFor}
 use Rattle.step_core.specs.Machines.{takes_of, plan_of, took_of, kind}
-use Rattle.step_core.specs.Opening.{opening_words, opening}
+use Rattle.step_core.specs.Opening.{opening_words, opening_actor, opening}
+use Rattle.step_core.specs.Settled.{stored_image, image_in}
 use Rattle.step_core.proofs.FirstFacts.{opening_begins}
 use Rattle.step_core.proofs.Theorem.{found_fit}
 use Rattle.table_heap.specs.Core.{heap_kind, heap_opening}
@@ -34,3 +42,22 @@ found_fits c number a order told finds = found_fit full_image full_is_pause c (o
 pub first_words : (c : Config) → (heap_opening c).words ≡ opening_words c
 unfolding opening
 first_words c = refl
+
+-- and how many machines it has
+pub first_count : (c : Config) → length (heap_opening c).machines ≡ seat_count c.mutators c.helpers
+unfolding opening
+first_count c = length-map-range_with_len (opening_actor c) 0 (seat_count c.mutators c.helpers)
+
+-- events from the opening are a run
+abbrev pub run_of : (c : Config) → List (Event Order) → Run c
+run_of c events = record { start = opening c; graph = first_graph c; begins = opening_begins c; events = events }
+
+-- a control that has made its last access stores no image
+gone_is_calm : (spot : ControlSpot) (image : List ℕ) → (true && (if is_gone spot then false else true)) ≡ false → stored_image spot image ≡ None
+gone_is_calm (StoreWord index) image gone = absurd cc
+gone_is_calm _ image gone = refl
+
+pub idle_is_calm : (machine : Machine) → takes_of machine Nothing ≡ false → image_in machine ≡ None
+idle_is_calm (mutating m) idle = refl
+idle_is_calm (helping h) idle = refl
+idle_is_calm (controlling k) idle = gone_is_calm k.spot k.image idle

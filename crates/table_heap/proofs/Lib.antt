@@ -3,3 +3,5 @@ pub mod Places
 pub mod Said
 pub mod Stepping
 pub mod Opened
+pub mod Closing
+pub mod Graphs

@@ -46,7 +46,7 @@ fn read_words(rows: &Rows<(), Global>, words: &mut Vec<u64>)
 }
 
 impl Heap {
-    ghost use Rattle.shared_steps.specs.Views as views;
+    ghost use Rattle.shared_steps.specs.Views.{whole};
     ghost use Rattle.table_heap.specs.State as state;
     ghost use Rattle.table_heap.specs.Closed.{HasAll, IsControlIdle, config_of, machines_of as actors_of, stage_of};
 
@@ -56,7 +56,7 @@ impl Heap {
         requires all { HasAll bundle }
         requires control { IsControlIdle bundle }
         ensures config { config_of result ≡ state.config_of self }
-        ensures machines { actors_of result ≡ views.machines_of (state.view_of bundle) }
+        ensures machines { state.view_of bundle ≡ whole (actors_of result) }
 
         // Some events lead from the opening to just these words and machines.
         ensures reached { IsReached (heap_kind (state.config_of self)) (heap_opening (state.config_of self)) (stage_of result) }
