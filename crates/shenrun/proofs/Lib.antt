@@ -4,3 +4,4 @@ pub mod Scripts
 pub mod Ran
 pub mod Whole
 pub mod Complete
+pub mod PartLaws

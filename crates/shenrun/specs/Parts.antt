@@ -49,12 +49,12 @@ pub record IsPart (h : Heap) (scripts : Scripts) (workers first beyond : ℕ) (p
 
 -- a part before its run
 pub record IsReady (h : Heap) (scripts : Scripts) (workers first beyond : ℕ) (part : Part) : Type 0 where
-  pub part : IsPart h scripts workers first beyond part
+  pub has : IsPart h scripts workers first beyond part
   pub start : CanStart part.bundle part.work
 
 -- a part after its run
 pub record IsDone (h : Heap) (scripts : Scripts) (workers first beyond : ℕ) (part : Part) : Type 0 where
-  pub part : IsPart h scripts workers first beyond part
+  pub has : IsPart h scripts workers first beyond part
   pub idle : AreIdleForGood part.bundle
   pub done : EachMutator (view_of part.bundle) (λ number a. HasDone (script_of scripts number) (work.replies_of part.work number) a)
 

@@ -644,7 +644,7 @@ fn a_full_sink_has_a_front(rt: HostRuntime) -> Result<(), Fail> {
         let bytes = Vec::from_slice(alloc, STORED.as_bytes())?;
         let mut source = MemorySource::new(bytes, 8, Vec::new(alloc));
         let mut sink = MemorySink::with_room(alloc, room, 5, Vec::new(alloc))?;
-        let status = shenrun(alloc, &words, &mut source, &mut sink);
+        let status = shenrun(&rt, alloc, &words, &mut source, &mut sink, &OpenGate);
         let whole = room == answer.len();
         let wanted = if whole {
             Status::Ok
