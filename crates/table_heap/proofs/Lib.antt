@@ -5,3 +5,10 @@ pub mod Stepping
 pub mod Opened
 pub mod Closing
 pub mod Graphs
+pub mod Jobs
+pub mod AtWork
+pub mod Running
+pub mod Turning
+pub mod Rounds
+pub mod Starting
+pub mod Ended

@@ -98,10 +98,15 @@ heap_picked c test v are k x there = by_test (test k) (sym (machine_of-picked te
     by_test true found = are k x found
     by_test false found = absurd cc
 
+-- what holds of each machine of two bundles holds of each where they are joined
+pub each_merged : {R : Type 0} (P : ℕ → R → Type 0) (v w : View R) → ((k : ℕ) (r : R) → machine_of v k ≡ Some r → P k r) → ((k : ℕ) (r : R) → machine_of w k ≡ Some r → P k r)
+    → (k : ℕ) (r : R) → machine_of (merged v w) k ≡ Some r → P k r
+each_merged {R} P v w first second k r there = by_first (machine_of v k) refl (sym (machine_of-merged v w k) ∙ there)
+  where
+    by_first : (o : Option R) → machine_of v k ≡ o → one_of (machine_of v k) (machine_of w k) ≡ Some r → P k r
+    by_first None is found = second k r (sym (ap (λ y. one_of y (machine_of w k)) is) ∙ found)
+    by_first (Some m) is found = first k r (is ∙ sym (ap (λ y. one_of y (machine_of w k)) is) ∙ found)
+
 -- the machines of two bundles of a heap are of it
 pub heap_merged : (c : Config) (v w : View Machine) → AreOfHeap c v → AreOfHeap c w → AreOfHeap c (merged v w)
-heap_merged c v w first second k x there = by_first (machine_of v k) refl (sym (machine_of-merged v w k) ∙ there)
-  where
-    by_first : (o : Option Machine) → machine_of v k ≡ o → one_of (machine_of v k) (machine_of w k) ≡ Some x → IsOfHeap c k x
-    by_first None is found = second k x (sym (ap (λ y. one_of y (machine_of w k)) is) ∙ found)
-    by_first (Some m) is found = first k x (is ∙ sym (ap (λ y. one_of y (machine_of w k)) is) ∙ found)
+heap_merged c v w first second = each_merged (IsOfHeap c) v w first second

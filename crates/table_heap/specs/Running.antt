@@ -1,7 +1,7 @@
 -- What is known of the mutators of a bundle, and of the work for them, before a run of their scripts, during it and after it.
 use Rattle.std.specs.Prelude.{ℕ, ◌≡◌, ◌+◌, ◌<◌, true, false, List, [], length, All, Option, Some, None, is_some, nat_lt, if◌then◌else◌}
 use Rattle.heap_words.specs.declared.config.Config.{Config}
-use Rattle.shared_steps.specs.Views.{machine_of}
+use Rattle.shared_steps.specs.Views.{View, machine_of}
 use Rattle.shen_graph.specs.declared.command.Command.{Command}
 use Rattle.shen_graph.specs.declared.command.Reply.{Reply}
 use Rattle.shen_graph.specs.declared.order.Order.{Order}
@@ -25,13 +25,13 @@ Jobs = List (Option Progress)
 abbrev pub HasNoOrder : Bundle → Type 0
 HasNoOrder b = (number : ℕ) (order : Order) → machine_of (orders_of b) number ≡ Some order → order ≡ Nothing
 
--- something holds of each mutator of the bundle, and of its number
-abbrev pub EachMutator : Bundle → (ℕ → Actor → Type 0) → Type 0
-EachMutator b P = (number : ℕ) (a : Actor) → machine_of (view_of b) number ≡ Some a → is_mutating a.machine ≡ true → P number a
+-- something holds of each mutator of a bundle, and of its number
+abbrev pub EachMutator : View Actor → (ℕ → Actor → Type 0) → Type 0
+EachMutator view P = (number : ℕ) (a : Actor) → machine_of view number ≡ Some a → is_mutating a.machine ≡ true → P number a
 
 -- the bundle has no mutator of this number
-abbrev pub HasNoMutator : Bundle → ℕ → Type 0
-HasNoMutator b number = (a : Actor) → machine_of (view_of b) number ≡ Some a → is_mutating a.machine ≡ false
+abbrev pub HasNoMutator : View Actor → ℕ → Type 0
+HasNoMutator view number = (a : Actor) → machine_of view number ≡ Some a → is_mutating a.machine ≡ false
 
 -- A mutator has ended no call, made no object, and may begin a call. The work has a script for it, with no reply, whose commands
 -- are in range, and no more than there are names for what they make.
@@ -48,7 +48,7 @@ pub record CanStartOn (jobs : Jobs) (number : ℕ) (a : Actor) : Type 0 where
 -- a bundle and the work for its mutators, before they begin
 pub record CanStart (b : Bundle) (jobs : Jobs) : Type 0 where
   pub orders : HasNoOrder b
-  pub mutators : EachMutator b (CanStartOn jobs)
+  pub mutators : EachMutator (view_of b) (CanStartOn jobs)
 
 -- A mutator with this much of its script behind it: the replies are those of its calls, and there are names left for what the
 -- commands to come may make.
@@ -64,7 +64,7 @@ IsAtWorkOn jobs number a = (p : Progress) × (progress_of jobs number ≡ Some p
 -- a bundle and the work for its mutators, between two turns
 pub record AreAtWork (b : Bundle) (jobs : Jobs) : Type 0 where
   pub orders : HasNoOrder b
-  pub mutators : EachMutator b (IsAtWorkOn jobs)
+  pub mutators : EachMutator (view_of b) (IsAtWorkOn jobs)
 
 -- the next command of a machine's script, which only a mutator has
 abbrev pub next_for : Config → Jobs → ℕ → Option Command
@@ -80,15 +80,15 @@ AreIdleForGood b = (number : ℕ) (a : Actor) → machine_of (view_of b) number 
 
 -- the mutator has called its whole script, and these are the replies of its calls
 pub record HasDone (script : List Command) (replies : List Reply) (a : Actor) : Type 0 where
-  pub script : HasDoneScript script a
-  pub replies : replies ≡ history.replies_of a.calls
+  pub whole : HasDoneScript script a
+  pub told : replies ≡ history.replies_of a.calls
 
 -- so has each mutator of the bundle, where the first work has the scripts and the second the replies
 abbrev pub HaveDone : Bundle → Jobs → Jobs → Type 0
-HaveDone b jobs later = EachMutator b (λ number a. HasDone (script_of jobs number) (replies_of later number) a)
+HaveDone b jobs later = EachMutator (view_of b) (λ number a. HasDone (script_of jobs number) (replies_of later number) a)
 
 -- The work has the same scripts under the same numbers, and what it has for others than the bundle's mutators is as it was.
-pub record AreSameJobs (b : Bundle) (jobs later : Jobs) : Type 0 where
+pub record AreSameJobs (view : View Actor) (jobs later : Jobs) : Type 0 where
   pub scripts : (number : ℕ) → script_of later number ≡ script_of jobs number
   pub numbers : (number : ℕ) → is_some (progress_of later number) ≡ is_some (progress_of jobs number)
-  pub others : (number : ℕ) → HasNoMutator b number → progress_of later number ≡ progress_of jobs number
+  pub others : (number : ℕ) → HasNoMutator view number → progress_of later number ≡ progress_of jobs number

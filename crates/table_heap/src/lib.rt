@@ -15,3 +15,6 @@ pub use gate::{Gate, OpenGate};
 pub use heap::Heap;
 pub use heap_machines::Stepped;
 pub use machines::{Acting, OfHeaps};
+
+#[cfg(test)]
+mod tests;

@@ -1,6 +1,6 @@
-ghost use Rattle.std.specs.Prelude.{◌≡◌, ◌↔◌, true, false, Some, None, if◌then◌else◌, slice_set};
+ghost use Rattle.std.specs.Prelude.{◌≡◌, ◌≢◌, ◌↔◌, true, false, Some, None, if◌then◌else◌, slice_set};
 ghost use Rattle.heap_machines.specs.Turn.{order_for};
-ghost use Rattle.table_heap.specs.State.{heap_of, orders_of, IsOf, HasMachine, machine_at, order_at, has_turn, IsSameBundle, IsUnmoved, IsUnchanged};
+ghost use Rattle.table_heap.specs.State.{heap_of, view_of, orders_of, IsOf, HasMachine, machine_at, order_at, has_turn, IsSameBundle, IsUnmoved, IsUnchanged};
 ghost use Rattle.table_heap.specs.Running.{HasNoOrder, CanStart, AreAtWork, next_for, IsIdleForGood, AreIdleForGood, HaveDone, AreSameJobs};
 
 use crate::bundle::Bundle;
@@ -26,6 +26,7 @@ impl Round {
     // The round with one turn more.
     fn and(self, said: Stepped) -> Round
         ensures idle { (result ≡ Round.Idle) ↔ ((self ≡ Round.Idle) × (said ≡ Stepped.Idle)) }
+        ensures calm { (result ≢ Round.Moving) ↔ ((self ≢ Round.Moving) × (said ≢ Stepped.More) × (said ≢ Stepped.Done)) }
     {
         match said {
             Stepped::Idle => self,
@@ -77,7 +78,7 @@ impl Bundle {
         requires work { AreAtWork self.old work.old }
         ensures work { AreAtWork self.new work.new }
         ensures same { IsSameBundle self.old self.new }
-        ensures jobs { AreSameJobs self.old work.old work.new }
+        ensures jobs { AreSameJobs (view_of self.old) work.old work.new }
         ensures unchanged { result ≡ Stepped.Idle → IsUnchanged self.old self.new }
         ensures idle { result ≡ Stepped.Idle → IsIdleForGood (machine_at self.old number) }
     {
@@ -98,7 +99,7 @@ impl Bundle {
         requires work { AreAtWork self.old work.old }
         ensures work { AreAtWork self.new work.new }
         ensures same { IsSameBundle self.old self.new }
-        ensures jobs { AreSameJobs self.old work.old work.new }
+        ensures jobs { AreSameJobs (view_of self.old) work.old work.new }
         ensures idle { result ≡ Round.Idle → AreIdleForGood self.new }
     {
         let mut round = Round::Idle;
@@ -122,7 +123,7 @@ impl Bundle {
         ensures orders { HasNoOrder self.new }
         ensures idle { AreIdleForGood self.new }
         ensures done { HaveDone self.new work.old work.new }
-        ensures jobs { AreSameJobs self.old work.old work.new }
+        ensures jobs { AreSameJobs (view_of self.old) work.old work.new }
     {
         let backoff = Backoff::new();
         for _ in rt.forever() {

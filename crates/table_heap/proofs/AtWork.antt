@@ -1,0 +1,136 @@
+-- One mutator and what it has done of its script: what stays from turn to turn.
+use Rattle.std.proofs.Common.{◌≡◌, ◌<◌, ℕ, ◌+◌, Bool, true, false, List, [], ◌∷◌, ◌++◌, length, take, map, All, Option, Some, None, refl, sym, ap, ◌∙◌, subst, arith}
+use Rattle.std.specs.Prelude.{slice_get, IfSome}
+use Rattle.std.proofs.lemmas.Bool.{false≢true}
+use Rattle.std.proofs.lemmas.List.{length-append, length-map, map-append, append-nil}
+use Rattle.std.proofs.lemmas.Option.{slice_get_within, get_or_from_slice_get}
+use Rattle.heap_words.specs.declared.config.Config.{Config}
+use Rattle.pause_laws.specs.Image.{full_image}
+use Rattle.shen_graph.specs.declared.command.Command.{Command}
+use Rattle.shen_graph.specs.declared.command.Reply.{Reply}
+use Rattle.shen_graph.specs.declared.order.Order.{Order}
+use Rattle.shen_graph.specs.History.{Entry, commands_of}
+use Rattle.shen_graph.specs.History as history
+use Rattle.shen_graph.specs.Valid.{IsValid}
+use Rattle.shen_graph.specs.Work.{Progress, answered}
+use Rattle.step_core.specs.Actor.{Machine, Actor}
+use Rattle.step_core.specs.Machines.{is_resting, may_begin, made_of_machine, took_of, ended_by}
+use Rattle.heap_machines.specs.Roles.{is_mutating, given_in}
+use Rattle.heap_machines.specs.Scripts.{IsOnScript}
+use Rattle.heap_machines.specs.Turn.{order_for}
+use Rattle.heap_machines.proofs.OnScript.{script_step, script_done}
+use Rattle.heap_machines.proofs.Replies.{listed, ended_replies, given_after, none_after, rest_at_hand}
+use Rattle.heap_machines.proofs.Turns.{turn_in_call, turn_at_rest, begins_at_rest}
+use Rattle.table_heap.specs.Running.{Jobs, CanStartOn, IsAtWork, IsAtWorkOn, IsIdleForGood, HasDone}
+use Rattle.table_heap.proofs.Jobs.{progress_there, script_here, replies_here}
+
+-- a mutator that has called nothing is on any script
+on_first : (script : List Command) (a : Actor) → a.calls ≡ [] → is_resting a.machine ≡ true → may_begin a.machine ≡ true → IsOnScript script a
+on_first script a none rest free = record {
+  done = ap commands_of none ∙ ap (λ (es : List Entry). take (length es) script) (sym none);
+  doing = λ busy. absurd (false≢true (sym busy ∙ rest));
+  ended = λ _ gone. absurd (false≢true (sym gone ∙ free));
+}
+
+-- it is at work before it begins
+pub starts : (jobs : Jobs) (number : ℕ) (a : Actor) → CanStartOn jobs number a → IsAtWorkOn jobs number a
+starts jobs number a can =
+    let there = progress_there jobs number can.script in
+    let script = script_here jobs number there.0 there.1 in
+    let replies : there.0.replies ≡ [] = sym (replies_here jobs number there.0 there.1) ∙ can.replies in
+    let few : length there.0.script < 4294967295 = subst (λ xs. length xs < 4294967295) script can.few in
+    let none = can.made in (
+      there.0,
+      there.1,
+      record {
+        on = on_first there.0.script a can.calls can.rest can.free;
+        replies = replies ∙ sym (ap history.replies_of can.calls);
+        commands = subst (λ xs. All IsValid xs) script can.commands;
+        made = omega (arith, few, none);
+      },
+    )
+
+-- a command that is there is one of the list
+one_of_these : {A : Type 0} (P : A → Type 0) (xs : List A) (k : ℕ) (x : A) → All P xs → slice_get xs k ≡ Some x → P x
+one_of_these P xs k x all here = subst P (get_or_from_slice_get xs k x x here) (all k x (slice_get_within xs k x here))
+
+module _ (p : Progress) (a : Actor) (at : IsAtWork p a) where
+  -- as many replies as calls
+  pub count : length p.replies ≡ length a.calls
+  count = ap length at.replies ∙ length-map a.calls (λ e. e.reply)
+
+  -- the command that follows can be given
+  pub next_fits : may_begin a.machine ≡ true → IfSome (slice_get p.script (length p.replies)) (λ command. IsValid command × (made_of_machine a.machine < 4294967295))
+  next_fits may = by_next (slice_get p.script (length p.replies)) refl
+    where
+      by_next : (o : Option Command) → slice_get p.script (length p.replies) ≡ o → IfSome o (λ command. IsValid command × (made_of_machine a.machine < 4294967295))
+      by_next None here = tt
+      by_next (Some command) here = (
+        one_of_these IsValid p.script (length p.replies) command at.commands here,
+        (let few = at.made in
+            let more = slice_get_within p.script (length p.replies) command here in
+            let none = rest_at_hand a.machine (begins_at_rest a.machine may) in
+            omega (arith, few, more, none)),
+      )
+
+  -- it has called its whole script where it is idle for good
+  pub done : is_mutating a.machine ≡ true → IsIdleForGood a.machine → HasDone p.script p.replies a
+  done role idle = record {
+    whole = script_done p.script a role at.on (idle (slice_get p.script (length a.calls)));
+    told = at.replies;
+  }
+
+  module _ (c : Config) (order : Order) (got : ℕ) (next : order_for (slice_get p.script (length p.replies)) a.machine ≡ Some order) where
+    -- the mutator after its turn
+    abbrev then_is : Actor
+    then_is = took_of full_image c a order got a.machine
+
+    -- it is on its script
+    on_then : IsOnScript p.script then_is
+    on_then = script_step full_image c p.script a order got at.on (ap (λ n. order_for (slice_get p.script n) a.machine) (sym count) ∙ next)
+
+    -- the replies of its calls
+    replies_then : map (λ e. e.reply) then_is.calls ≡ p.replies ++ listed (given_in a.machine)
+    replies_then =
+        map-append (λ e. e.reply) a.calls (ended_by a.command a.machine)
+        ∙ ap (λ rs. map (λ e. e.reply) a.calls ++ rs) (ended_replies a.command a.machine)
+        ∙ ap (λ rs. rs ++ listed (given_in a.machine)) (sym at.replies)
+
+    -- no reply was given
+    pub goes_on : given_in a.machine ≡ None → IsAtWork p then_is
+    goes_on none = record {
+      on = on_then;
+      replies = sym (replies_then ∙ ap (λ g. p.replies ++ listed g) none ∙ append-nil p.replies);
+      commands = at.commands;
+      made = (let step = none_after full_image c order got a.machine none in let now = at.made in omega (arith, step, now));
+    }
+
+    module _ (reply : Reply) (gives : given_in a.machine ≡ Some reply) where
+      -- in its call there are more commands than replies
+      pub more : length p.replies < length p.script
+      more =
+          let busy = (given_after full_image c order got a.machine reply gives).busy in
+          let within = slice_get_within p.script (length a.calls) a.command (at.on.doing busy) in
+          omega (arith, within, count)
+
+      -- the reply is noted
+      pub noted : IsAtWork (answered p reply) then_is
+      noted = record {
+        on = on_then;
+        replies = sym (replies_then ∙ ap (λ g. p.replies ++ listed g) gives);
+        commands = at.commands;
+        made = (let step = given_after full_image c order got a.machine reply gives in
+            let made = step.made in
+            let at_hand_before = step.was_at_hand in
+            let now = at.made in
+            let long : length (p.replies ++ reply ∷ []) ≡ length p.replies + 1 = length-append p.replies (reply ∷ []) in
+            omega (arith, made, at_hand_before, now, long));
+      }
+
+-- a machine that has no turn whatever follows has none by any command
+pub idle_for_good : (machine : Machine) (next : Option Command) → order_for next machine ≡ None → IsIdleForGood machine
+idle_for_good machine next idle other = by_may (may_begin machine) refl
+  where
+    by_may : (b : Bool) → may_begin machine ≡ b → order_for other machine ≡ None
+    by_may true may = absurd (let e = sym (turn_at_rest machine next may) ∙ idle in cc)
+    by_may false none = turn_in_call machine other none ∙ sym (turn_in_call machine next none) ∙ idle

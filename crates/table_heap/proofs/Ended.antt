@@ -1,0 +1,30 @@
+-- What callers learn of machines that are idle for good.
+use Rattle.std.proofs.Common.{◌≡◌, ℕ, Bool, true, false, length, Option, Some, None, refl, sym, ap, ◌∙◌}
+use Rattle.std.specs.Prelude.{slice_get, if◌then◌else◌}
+use Rattle.std.specs.Option.{option_map}
+use Rattle.shen_graph.specs.declared.order.Order.{Order}
+use Rattle.shen_graph.specs.declared.order.Order.TheVariants.{Nothing}
+use Rattle.steps_base.specs.Steps.{Stage}
+use Rattle.step_core.specs.Actor.{Machine, Actor}
+use Rattle.step_core.specs.Machines.{takes_of, may_begin}
+use Rattle.step_core.specs.Schedule.{Scripts, script_of, turn, turn_of}
+use Rattle.heap_machines.proofs.Turns.{turn_in_call, turn_at_rest, order_of_script}
+use Rattle.table_heap.specs.Running.{IsIdleForGood}
+
+-- a machine that is idle for good makes no step without an order
+pub idle_takes : (machine : Machine) → IsIdleForGood machine → takes_of machine Nothing ≡ false
+idle_takes machine idle = by_may (may_begin machine) refl
+  where
+    by_takes : (b : Bool) → takes_of machine Nothing ≡ b → ◌≡◌ {A = Option Order} (if b then Some Nothing else None) None → takes_of machine Nothing ≡ false
+    by_takes true takes none = absurd cc
+    by_takes false takes none = takes
+
+    by_may : (b : Bool) → may_begin machine ≡ b → takes_of machine Nothing ≡ false
+    by_may true may = absurd (let e = sym (turn_at_rest machine None may) ∙ idle None in cc)
+    by_may false none = by_takes (takes_of machine Nothing) refl (sym (turn_in_call machine None none) ∙ idle None)
+
+-- it has no turn in any stage, whatever scripts there are
+pub idle_turn : (scripts : Scripts) (s : Stage Actor) (number : ℕ) (a : Actor) → slice_get s.machines number ≡ Some a → IsIdleForGood a.machine → turn scripts s number ≡ None
+idle_turn scripts s number a here idle =
+    ap (turn_of scripts number) here
+    ∙ ap (option_map (λ order. record { number = number; order = order })) (order_of_script (script_of scripts number) a.calls a.machine ∙ idle (slice_get (script_of scripts number) (length a.calls)))

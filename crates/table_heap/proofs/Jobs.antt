@@ -1,0 +1,67 @@
+-- The work of mutators where a reply is noted.
+use Rattle.std.proofs.Common.{◌≡◌, ◌≢◌, ◌<◌, ◌≤◌, ⊎_elim, ℕ, [], length, Some, None, Option, refl, sym, ap, ◌∙◌, subst}
+use Rattle.std.specs.Prelude.{slice_get, IsSome, unwrap_or, is_some}
+use Rattle.std.proofs.lemmas.List.{get_or-set_same, get_or-set_other, get_or_past}
+use Rattle.std.proofs.lemmas.Bool.{false≢true, cases_eq, cases_lt}
+use Rattle.shen_graph.specs.declared.command.Reply.{Reply}
+use Rattle.shen_graph.specs.Work.{Progress, HasScript, progress_of, script_of, replies_of, next_of, begun, answered, with_reply}
+use Rattle.table_heap.specs.Running.{Jobs}
+
+-- a script that is there lies in the work
+has_within : (jobs : Jobs) (number : ℕ) → HasScript jobs number → number < length jobs
+has_within jobs number has = ⊎_elim
+    (λ (below : number < length jobs). below)
+    (λ (past : length jobs ≤ number). absurd (let none : progress_of jobs number ≡ None = get_or_past jobs number None past in false≢true (subst (λ o. IsSome o) none has)))
+    (cases_lt number (length jobs))
+
+-- the progress of a script after a reply
+pub progress_same : (jobs : Jobs) (number : ℕ) (reply : Reply) → HasScript jobs number → progress_of (with_reply jobs number reply) number ≡ Some (answered (unwrap_or (progress_of jobs number) (begun [])) reply)
+progress_same jobs number reply has = get_or-set_same jobs number _ None (has_within jobs number has)
+
+-- that of another
+pub progress_other : (jobs : Jobs) (number : ℕ) (reply : Reply) (t : ℕ) → t ≢ number → progress_of (with_reply jobs number reply) t ≡ progress_of jobs t
+progress_other jobs number reply t other = get_or-set_other jobs number t _ None other
+
+-- scripts stay
+pub script_kept : (jobs : Jobs) (number : ℕ) (reply : Reply) (t : ℕ) → HasScript jobs number → script_of (with_reply jobs number reply) t ≡ script_of jobs t
+script_kept jobs number reply t has = ⊎_elim
+    (λ (same : t ≡ number). subst (λ n. script_of (with_reply jobs number reply) n ≡ script_of jobs n) (sym same)
+    (ap (λ o. (unwrap_or o (begun [])).script) (progress_same jobs number reply has)))
+    (λ (other : t ≡ number → ⊥). ap (λ o. (unwrap_or o (begun [])).script) (progress_other jobs number reply t other))
+    (cases_eq t number)
+
+-- what the work has for a number, by its progress there
+module _ (jobs : Jobs) (number : ℕ) (p : Progress) (here : progress_of jobs number ≡ Some p) where
+  pub has_here : HasScript jobs number
+  has_here = subst (λ o. IsSome o) (sym here) refl
+
+  pub script_here : script_of jobs number ≡ p.script
+  script_here = ap (λ o. (unwrap_or o (begun [])).script) here
+
+  pub replies_here : replies_of jobs number ≡ p.replies
+  replies_here = ap (λ o. (unwrap_or o (begun [])).replies) here
+
+  pub next_here : next_of jobs number ≡ slice_get p.script (length p.replies)
+  next_here = ap (λ o. slice_get (unwrap_or o (begun [])).script (length (unwrap_or o (begun [])).replies)) here
+
+  -- and where the next reply is noted
+  pub noted_here : (reply : Reply) → progress_of (with_reply jobs number reply) number ≡ Some (answered p reply)
+  noted_here reply = progress_same jobs number reply has_here ∙ ap (λ o. Some (answered (unwrap_or o (begun [])) reply)) here
+
+-- where there is a script there is progress
+pub progress_there : (jobs : Jobs) (number : ℕ) → HasScript jobs number → (p : Progress) × (progress_of jobs number ≡ Some p)
+progress_there jobs number has = by_progress (progress_of jobs number) refl
+  where
+    by_progress : (o : Option Progress) → progress_of jobs number ≡ o → (p : Progress) × (progress_of jobs number ≡ Some p)
+    by_progress None is = absurd (false≢true (subst (λ o. IsSome o) is has))
+    by_progress (Some p) is = (p, is)
+
+-- the same numbers have scripts
+pub numbers_kept : (jobs : Jobs) (number : ℕ) (reply : Reply) (t : ℕ) → HasScript jobs number → is_some (progress_of (with_reply jobs number reply) t) ≡ is_some (progress_of jobs t)
+numbers_kept jobs number reply t has = ⊎_elim
+    (λ (same : t ≡ number).
+    let there = progress_there jobs number has in
+    ap (λ n. is_some (progress_of (with_reply jobs number reply) n)) same ∙ ap is_some (progress_same jobs number reply has)
+    ∙ sym (ap (λ n. is_some (progress_of jobs n)) same ∙ ap is_some there.1))
+    (λ (other : t ≡ number → ⊥). ap is_some (progress_other jobs number reply t other))
+    (cases_eq t number)

@@ -1,0 +1,101 @@
+-- The mutators of a bundle and the work for them: what stays from turn to turn.
+use Rattle.std.proofs.Common.{◌≡◌, ◌<◌, ℕ, true, length, Option, Some, None, refl, sym, ap, ◌∙◌, subst}
+use Rattle.std.specs.Prelude.{slice_get, nat_lt, is_some, IfSome, unwrap_or, if◌then◌else◌}
+use Rattle.std.proofs.lemmas.Bool.{false≢true}
+use Rattle.shared_steps.specs.Views.{View, machine_of}
+use Rattle.shared_steps.proofs.Kept.{kept_here, kept_some}
+use Rattle.shared_steps.proofs.Numbers.{same_none, same_more}
+use Rattle.shen_graph.specs.Valid.{IsValid}
+use Rattle.shen_graph.specs.Work.{HasScript, next_of}
+use Rattle.step_core.specs.Actor.{Actor, fresh_helper}
+use Rattle.step_core.specs.Machines.{may_begin, made_of_machine}
+use Rattle.heap_machines.specs.Roles.{is_mutating}
+use Rattle.heap_machines.specs.Shown.{shown}
+use Rattle.heap_machines.proofs.Turns.{rest_is_mutating, begins_at_rest}
+use Rattle.table_heap.specs.declared.bundle.Bundle.{Bundle}
+use Rattle.table_heap.specs.Core.{machine_in}
+use Rattle.table_heap.specs.State.{view_of, machines_of, HasMachine, machine_at, IsSameBundle}
+use Rattle.table_heap.specs.Running.{Jobs, HasNoMutator, AreAtWork, next_for, AreSameJobs}
+use Rattle.table_heap.proofs.Places.{shows_here}
+use Rattle.table_heap.proofs.Jobs.{has_here, next_here}
+use Rattle.table_heap.proofs.AtWork.{next_fits}
+
+-- a machine of the view is in memory
+pub in_memory : (b : Bundle) (number : ℕ) (a : Actor) → machine_of (view_of b) number ≡ Some a → machine_of (machines_of b) number ≡ Some a.machine
+in_memory b number a here = ap (λ v. machine_of v number) (sym b.kept) ∙ shows_here machine_in (view_of b) number a here
+
+pub at_number : (b : Bundle) (number : ℕ) (a : Actor) → machine_of (view_of b) number ≡ Some a → machine_at b number ≡ a.machine
+at_number b number a here = ap (λ o. unwrap_or o fresh_helper) (in_memory b number a here)
+
+pub has_number : (b : Bundle) (number : ℕ) (a : Actor) → machine_of (view_of b) number ≡ Some a → HasMachine b number
+has_number b number a here = ap is_some (in_memory b number a here)
+
+-- and a machine in memory is one of the view
+pub in_view : (b : Bundle) (number : ℕ) → HasMachine b number → (a : Actor) × (machine_of (view_of b) number ≡ Some a)
+in_view b number here = by_machine (machine_of (view_of b) number) refl
+  where
+    by_machine : (o : Option Actor) → machine_of (view_of b) number ≡ o → (a : Actor) × (machine_of (view_of b) number ≡ Some a)
+    by_machine None is =
+        absurd (false≢true (sym (ap is_some is) ∙ sym (kept_some machine_in (view_of b) number) ∙ ap (λ v. is_some (machine_of v number)) b.kept ∙ here))
+    by_machine (Some a) is = (a, is)
+
+-- its role is by its number
+pub role_at : (b : Bundle) (number : ℕ) (a : Actor) → machine_of (view_of b) number ≡ Some a → is_mutating a.machine ≡ nat_lt number b.config.mutators
+role_at b number a here =
+    let found = kept_here shown b.machines.items number a.machine (in_memory b number a here) in
+    ap is_mutating (sym found.2) ∙ (b.of_heap number found.0 found.1).role
+
+-- the next command of a mutator's script can be given
+pub command_fits : (b : Bundle) (jobs : Jobs) (number : ℕ) → AreAtWork b jobs → HasMachine b number → may_begin (machine_at b number) ≡ true
+    → IfSome (next_for b.config jobs number) (λ command. IsValid command × (made_of_machine (machine_at b number) < 4294967295))
+command_fits b jobs number work here may =
+    let seen = in_view b number here in
+    let a = seen.0 in
+    let at = at_number b number a seen.1 in
+    let free : may_begin a.machine ≡ true = ap may_begin (sym at) ∙ may in
+    let role : is_mutating a.machine ≡ true = rest_is_mutating a.machine (begins_at_rest a.machine free) in
+    let is : nat_lt number b.config.mutators ≡ true = sym (role_at b number a seen.1) ∙ role in
+    let job = work.mutators number a seen.1 role in
+    let next : next_for b.config jobs number ≡ slice_get job.0.script (length job.0.replies) = ap (λ t. if t then next_of jobs number else None) is ∙ next_here jobs number job.0 job.1 in
+    subst (λ o. IfSome o (λ command. IsValid command × (made_of_machine (machine_at b number) < 4294967295))) (sym next)
+    (subst (λ machine. IfSome (slice_get job.0.script (length job.0.replies)) (λ command. IsValid command × (made_of_machine machine < 4294967295))) (sym at)
+    (next_fits job.0 a job.2 free))
+
+-- a mutator of the bundle has a script
+pub has_script : (b : Bundle) (jobs : Jobs) (number : ℕ) → AreAtWork b jobs → HasMachine b number → nat_lt number b.config.mutators ≡ true → HasScript jobs number
+has_script b jobs number work here below =
+    let seen = in_view b number here in
+    let job = work.mutators number seen.0 seen.1 (role_at b number seen.0 seen.1 ∙ below) in
+    has_here jobs number job.0 job.1
+
+-- roles stay in the same bundle
+pub no_mutator_stays : (old new : Bundle) (number : ℕ) → IsSameBundle old new → HasNoMutator (view_of old) number → HasNoMutator (view_of new) number
+no_mutator_stays old new number same none a here =
+    let seen = in_old (machine_of (view_of old) number) refl in
+    role_at new number a here ∙ ap (λ c. nat_lt number c.mutators) same.config ∙ sym (role_at old number seen.0 seen.1) ∙ none seen.0 seen.1
+  where
+    in_old : (o : Option Actor) → machine_of (view_of old) number ≡ o → (z : Actor) × (machine_of (view_of old) number ≡ Some z)
+    in_old None is = absurd (false≢true (sym (ap is_some is) ∙ sym (same.numbers.here number) ∙ ap is_some here))
+    in_old (Some z) is = (z, is)
+
+-- the same work
+pub same_jobs : (view : View Actor) (jobs : Jobs) → AreSameJobs view jobs jobs
+same_jobs view jobs = record { scripts = λ t. refl; numbers = λ t. refl; others = λ t none. refl }
+
+pub same_jobs_more : (old mid : Bundle) (jobs between later : Jobs) → IsSameBundle old mid → AreSameJobs (view_of old) jobs between → AreSameJobs (view_of mid) between later → AreSameJobs (view_of old) jobs later
+same_jobs_more old mid jobs between later same first second = record {
+  scripts = λ t. second.scripts t ∙ first.scripts t;
+  numbers = λ t. second.numbers t ∙ first.numbers t;
+  others = λ t none. second.others t (no_mutator_stays old mid t same none) ∙ first.others t none;
+}
+
+-- the same bundle
+pub same_bundle : (b : Bundle) → IsSameBundle b b
+same_bundle b = record { table = refl; config = refl; numbers = same_none (view_of b) }
+
+pub same_bundle_more : (old mid new : Bundle) → IsSameBundle old mid → IsSameBundle mid new → IsSameBundle old new
+same_bundle_more old mid new first second = record {
+  table = second.table ∙ first.table;
+  config = second.config ∙ first.config;
+  numbers = same_more (view_of old) (view_of mid) (view_of new) first.numbers second.numbers;
+}

@@ -1,0 +1,59 @@
+-- A bundle of a heap before its first event can start with scripts for its mutators.
+use Rattle.std.proofs.Common.{◌≡◌, ◌<◌, ℕ, Bool, true, false, List, length, All, Some, None, refl, sym, ap, ◌∙◌, subst}
+use Rattle.std.specs.Prelude.{nat_lt, if◌then◌else◌}
+use Rattle.std.proofs.lemmas.Bool.{ltb-true}
+use Rattle.heap_words.specs.declared.config.Config.{Config}
+use Rattle.shared_steps.specs.Views.{View, machine_of, whole, dealt_to, is_dealt_to}
+use Rattle.shared_steps.proofs.Shown.{machine_of-whole, machine_of-picked}
+use Rattle.shen_graph.specs.declared.command.Command.{Command}
+use Rattle.shen_graph.specs.Valid.{IsValid}
+use Rattle.shen_graph.specs.Work.{progress_of, begun}
+use Rattle.step_core.specs.Actor.{Actor}
+use Rattle.step_core.specs.Machines.{is_resting, may_begin, made_of_machine}
+use Rattle.heap_machines.specs.Roles.{is_mutating}
+use Rattle.heap_machines.proofs.Openings.{first_is, first_role, first_rests, first_free_to_begin, first_made}
+use Rattle.table_heap.specs.declared.bundle.Bundle.{Bundle}
+use Rattle.table_heap.specs.declared.heap.Heap.{Heap}
+use Rattle.table_heap.specs.Core.{heap_opening}
+use Rattle.table_heap.specs.State.{IsFresh}
+use Rattle.table_heap.specs.Running.{Jobs, CanStart}
+use Rattle.table_heap.proofs.Jobs.{has_here, script_here, replies_here}
+use Rattle.table_heap.proofs.Opened.{picked_some}
+
+-- a machine that was dealt to the bundle
+dealt_here : {R : Type 0} (test : ℕ → Bool) (v : View R) (k : ℕ) (r : R) → (if test k then machine_of v k else None) ≡ Some r → test k ≡ true
+dealt_here {R} test v k r there = by_test (test k) refl there
+  where
+    by_test : (b : Bool) → test k ≡ b → (if b then machine_of v k else None) ≡ Some r → test k ≡ true
+    by_test true is found = is
+    by_test false is found = absurd cc
+
+-- A bundle that was dealt from the machines of the opening, where the work has for each mutator that is dealt to it a script that
+-- is not begun, of commands in range, and no more than there are names for what they make.
+pub fresh_can_start : (h : Heap) (b : Bundle) (c : Config) (workers bundle : ℕ) (jobs : Jobs) → IsFresh h b (dealt_to workers bundle (whole (heap_opening c).machines))
+    → ((number : ℕ) → number < c.mutators → is_dealt_to workers bundle number ≡ true → (script : List Command) × (progress_of jobs number ≡ Some (begun script)) × All IsValid script × (length script < 4294967295))
+    → CanStart b jobs
+fresh_can_start h b c workers bundle jobs fresh scripts = record {
+  orders = fresh.orders;
+  mutators = λ number a here role.
+      let test : ℕ → Bool = is_dealt_to workers bundle in
+      let all : View Actor = whole (heap_opening c).machines in
+      let there : machine_of (dealt_to workers bundle all) number ≡ Some a = ap (λ v. machine_of v number) (sym fresh.machines) ∙ here in
+      let dealt = dealt_here test all number a (sym (machine_of-picked test all number) ∙ there) in
+      let first = first_is c number a (sym (machine_of-whole (heap_opening c).machines number) ∙ picked_some test all number a there) in
+      let is = first.1 in
+      let mutates : nat_lt number c.mutators ≡ true = sym (first_role c number) ∙ ap (λ x. is_mutating x.machine) is ∙ role in
+      let below : number < c.mutators = ltb-true number c.mutators mutates in
+      let job = scripts number below dealt in
+      let script = script_here jobs number (begun job.0) job.1 in
+      record {
+        calls = ap (λ x. x.calls) (sym is);
+        rest = ap (λ x. is_resting x.machine) (sym is) ∙ first_rests c number below;
+        free = ap (λ x. may_begin x.machine) (sym is) ∙ first_free_to_begin c number below;
+        made = ap (λ x. made_of_machine x.machine) (sym is) ∙ first_made c number;
+        script = has_here jobs number (begun job.0) job.1;
+        replies = replies_here jobs number (begun job.0) job.1;
+        commands = subst (λ xs. All IsValid xs) (sym script) job.2;
+        few = subst (λ xs. length xs < 4294967295) (sym script) job.3;
+      };
+}

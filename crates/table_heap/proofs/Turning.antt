@@ -1,0 +1,187 @@
+-- One turn of a machine of a bundle that makes a step.
+use Rattle.std.proofs.Common.{◌≡◌, ◌≢◌, ◌<◌, ℕ, zero, suc, Bool, true, false, [], ◌∷◌, length, Some, None, refl, sym, ap, ◌∙◌, subst, arith}
+use Rattle.std.specs.Prelude.{slice_get, slice_set, ◌==◌, nat_lt, if◌then◌else◌}
+use Rattle.std.proofs.lemmas.Bool.{false≢true}
+use Rattle.std.proofs.lemmas.Bool.Decides.{nat_tests}
+use Rattle.std.proofs.lemmas.List.{set-set}
+use Rattle.pause_laws.specs.Image.{full_image}
+use Rattle.shared_steps.specs.Views.{View, machine_of}
+use Rattle.shared_steps.proofs.Shown.{machine_of-set}
+use Rattle.shen_graph.specs.declared.command.Reply.{Reply}
+use Rattle.shen_graph.specs.declared.order.Order.{Order}
+use Rattle.shen_graph.specs.declared.order.Order.TheVariants.{Nothing}
+use Rattle.shen_graph.specs.Work.{HasScript, script_of, replies_of, next_of, answered, with_reply}
+use Rattle.step_core.specs.Actor.{Actor}
+use Rattle.step_core.specs.Machines.{answer_of, took_of, reply_in}
+use Rattle.heap_machines.specs.Answer.{stepped_by, says}
+use Rattle.heap_machines.specs.declared.stepped.Stepped.{Stepped}
+use Rattle.heap_machines.specs.declared.stepped.Stepped.TheVariants as stepped
+use Rattle.heap_machines.specs.Roles.{is_mutating, given_in}
+use Rattle.heap_machines.specs.Turn.{order_for}
+use Rattle.heap_machines.proofs.Replies.{done_gives, other_gives, given_after}
+use Rattle.heap_machines.proofs.Turns.{role_stays}
+use Rattle.table_heap.specs.declared.bundle.Bundle.{Bundle}
+use Rattle.table_heap.specs.State.{view_of, orders_of, machine_at, order_at, IsUnmoved, IsUnchanged, IsStep}
+use Rattle.table_heap.specs.Running.{Jobs, HasNoOrder, EachMutator, IsAtWorkOn, AreAtWork, next_for, AreSameJobs}
+use Rattle.table_heap.proofs.Core.{kind_took}
+use Rattle.table_heap.proofs.Jobs.{has_here, script_here, replies_here, next_here, noted_here, progress_other, script_kept, numbers_kept}
+use Rattle.table_heap.proofs.AtWork.{goes_on, noted, more}
+use Rattle.table_heap.proofs.Places.{put_there}
+use Rattle.table_heap.proofs.Running.{at_number, role_at}
+use Rattle.table_heap.proofs.Said.{done_by}
+
+-- no order is pending where the one of a number was taken
+no_order_after : (v : View Order) (number : ℕ) → ((k : ℕ) (order : Order) → machine_of v k ≡ Some order → order ≡ Nothing)
+    → (k : ℕ) (order : Order) → machine_of (slice_set v number (Some Nothing)) k ≡ Some order → order ≡ Nothing
+no_order_after [] number none k order there = none k order there
+no_order_after (x ∷ xs) zero none zero order there = cc there
+no_order_after (x ∷ xs) zero none (suc k) order there = none (suc k) order there
+no_order_after (x ∷ xs) (suc number) none zero order there = none zero order there
+no_order_after (x ∷ xs) (suc number) none (suc k) order there = no_order_after xs number (λ j. none (suc j)) k order there
+
+-- what holds of each mutator where one machine has gone on
+each_after : (view new : View Actor) (number : ℕ) (a b : Actor) (P Q : ℕ → Actor → Type 0) → machine_of view number ≡ Some a → new ≡ slice_set view number (Some b) → EachMutator view P
+    → (is_mutating b.machine ≡ true → Q number b) → ((k : ℕ) (x : Actor) → k ≢ number → P k x → Q k x) → EachMutator new Q
+each_after view new number a b P Q here new_is each one others k x there role =
+    by_number (k == number) refl (sym (machine_of-set view number a (Some b) here k) ∙ ap (λ v. machine_of v k) (sym new_is) ∙ there)
+  where
+    by_number : (t : Bool) → (k == number) ≡ t → (if k == number then Some b else machine_of view k) ≡ Some x → Q k x
+    by_number true is found =
+        let same : k ≡ number = grind (arith, nat_tests) in
+        let next : b ≡ x = cc (rw is at found) in
+        subst (λ y. Q k y) next (subst (λ j. Q j b) (sym same) (one (ap (λ y. is_mutating y.machine) next ∙ role)))
+    by_number false is found =
+        let other : k ≢ number = grind (arith, nat_tests) in
+        others k x other (each k x (rw is at found) role)
+
+-- a bundle, with the order for a machine, and after that machine's step, which said so
+pub record IsTurn (old mid new : Bundle) (jobs : Jobs) (number : ℕ) (said : Stepped) : Type 0 where
+  pub unmoved : IsUnmoved old mid
+  pub turn : order_for (next_for old.config jobs number) (machine_at old number) ≡ Some (order_at mid number)
+  pub orders : orders_of mid ≡ slice_set (orders_of old) number (Some (order_at mid number))
+  pub step : IsStep mid new number said
+
+module _ (old mid new : Bundle) (jobs : Jobs) (number : ℕ) (said : Stepped) (made : IsTurn old mid new jobs number said) (before : AreAtWork old jobs) where
+  -- the machine, before and after
+  abbrev was : Actor
+  was = made.step.took.machine
+
+  abbrev order : Order
+  order = order_at mid number
+
+  abbrev then_is : Actor
+  then_is = took_of full_image mid.config was order made.step.told was.machine
+
+  here : machine_of (view_of old) number ≡ Some was
+  here = ap (λ v. machine_of v number) (sym made.unmoved.view) ∙ made.step.took.here
+
+  view_is : view_of new ≡ slice_set (view_of old) number (Some then_is)
+  view_is =
+      made.step.took.view ∙ ap (λ x. slice_set (view_of mid) number (Some x)) (kind_took mid.config was order made.step.told)
+      ∙ ap (λ v. slice_set v number (Some then_is)) made.unmoved.view
+
+  there : machine_of (view_of new) number ≡ Some then_is
+  there = ap (λ v. machine_of v number) view_is ∙ put_there (λ (x : Actor). x) (view_of old) number was then_is here
+
+  -- no order is pending
+  no_order : HasNoOrder new
+  no_order k x there =
+      no_order_after (orders_of old) number before.orders k x
+      (ap (λ v. machine_of v k) (sym (made.step.orders ∙ ap (λ v. slice_set v number (Some Nothing)) made.orders ∙ set-set (orders_of old) number _ _)) ∙ there)
+
+  -- its order is by the next command of its script
+  module _ (role : is_mutating was.machine ≡ true) where
+    abbrev job : IsAtWorkOn jobs number was
+    job = before.mutators number was here role
+
+    turn_is : order_for (slice_get job.0.script (length job.0.replies)) was.machine ≡ Some order
+    turn_is =
+        let below : nat_lt number old.config.mutators ≡ true = sym (role_at old number was here) ∙ role in
+        let next : next_for old.config jobs number ≡ slice_get job.0.script (length job.0.replies) = ap (λ t. if t then next_of jobs number else None) below ∙ next_here jobs number job.0 job.1 in
+        ap (λ o. order_for o was.machine) (sym next) ∙ ap (order_for (next_for old.config jobs number)) (sym (at_number old number was here)) ∙ made.turn
+
+  role_then : is_mutating then_is.machine ≡ is_mutating was.machine
+  role_then = role_stays full_image mid.config order made.step.told was.machine
+
+  -- what its step said
+  said_is : said ≡ stepped_by (answer_of mid.config was.machine made.step.told)
+  said_is = made.step.said_is ∙ ap (λ machine. says mid.config machine made.step.told) (at_number mid number was made.step.took.here)
+
+  -- a step that is not done gives no reply
+  none_given : (said ≡ stepped.Done → ⊥) → given_in was.machine ≡ None
+  none_given other = other_gives mid.config was.machine made.step.told (λ is. other (said_is ∙ ap stepped_by is))
+
+  -- the work is as it was
+  pub turned_on : (said ≡ stepped.Done → ⊥) → AreAtWork new jobs
+  turned_on other = record {
+    orders = no_order;
+    mutators = each_after (view_of old) (view_of new) number was then_is (IsAtWorkOn jobs) (IsAtWorkOn jobs) here view_is before.mutators
+        (λ mutates.
+        let role = sym role_then ∙ mutates in
+        ((job role).0, (job role).1, goes_on (job role).0 was (job role).2 mid.config order made.step.told (turn_is role) (none_given other)))
+        (λ k x different at. at);
+  }
+
+  -- a step that is done gives one
+  some_given : said ≡ stepped.Done → (r : Reply) × (given_in was.machine ≡ Some r)
+  some_given done = done_gives mid.config was.machine made.step.told (done_by (answer_of mid.config was.machine made.step.told) (sym said_is ∙ done))
+
+  -- a machine that gives a reply is a mutator
+  role_given : (r : Reply) → given_in was.machine ≡ Some r → is_mutating was.machine ≡ true
+  role_given r gives = (given_after full_image mid.config order made.step.told was.machine r gives).role
+
+  -- it has a script, and the reply can be noted
+  pub can_tell : said ≡ stepped.Done → HasScript jobs number × (length (replies_of jobs number) < length (script_of jobs number))
+  can_tell done =
+      let given = some_given done in
+      let role = role_given given.0 given.1 in
+      let at = job role in (
+        has_here jobs number at.0 at.1,
+        subst (λ rs. length rs < length (script_of jobs number)) (sym (replies_here jobs number at.0 at.1))
+            (subst (λ ks. length at.0.replies < length ks) (sym (script_here jobs number at.0 at.1))
+            (more at.0 was at.2 mid.config order made.step.told (turn_is role) given.0 given.1)),
+      )
+
+  -- the reply that is at hand is the one that the step gave
+  pub reply_given : (r : Reply) → said ≡ stepped.Done → reply_in (machine_at new number) ≡ Some r → given_in was.machine ≡ Some r
+  reply_given r done at_hand =
+      let given = some_given done in
+      let replied = (given_after full_image mid.config order made.step.told was.machine given.0 given.1).replied in
+      given.1 ∙ sym replied ∙ ap reply_in (sym (at_number new number then_is there)) ∙ at_hand
+
+  module _ (r : Reply) (done : said ≡ stepped.Done) (at_hand : reply_in (machine_at new number) ≡ Some r) where
+    abbrev gives : given_in was.machine ≡ Some r
+    gives = reply_given r done at_hand
+
+    abbrev role : is_mutating was.machine ≡ true
+    role = role_given r gives
+
+    -- the reply is noted
+    pub turned_noted : AreAtWork new (with_reply jobs number r)
+    turned_noted = record {
+      orders = no_order;
+      mutators = each_after (view_of old) (view_of new) number was then_is (IsAtWorkOn jobs) (IsAtWorkOn (with_reply jobs number r)) here view_is before.mutators
+          (λ mutates. (
+            answered (job role).0 r,
+            noted_here jobs number (job role).0 (job role).1 r,
+            noted (job role).0 was (job role).2 mid.config order made.step.told (turn_is role) r gives,
+          ))
+          (λ k x different at. (at.0, progress_other jobs number r k different ∙ at.1, at.2));
+    }
+
+    -- and it is one of the bundle's mutators to whom it belongs
+    pub jobs_noted : AreSameJobs (view_of old) jobs (with_reply jobs number r)
+    jobs_noted =
+        let has = (can_tell done).0 in
+        record {
+          scripts = λ t. script_kept jobs number r t has;
+          numbers = λ t. numbers_kept jobs number r t has;
+          others = λ t none. progress_other jobs number r t (λ same. false≢true (sym (none was (ap (machine_of (view_of old)) same ∙ here)) ∙ role));
+        }
+
+-- a machine that has no turn
+pub turned_idle : (old new : Bundle) (jobs : Jobs) → IsUnchanged old new → AreAtWork old jobs → AreAtWork new jobs
+turned_idle old new jobs same before = record {
+  orders = λ k order there. before.orders k order (ap (λ v. machine_of v k) (sym same.orders) ∙ there);
+  mutators = λ k a there role. before.mutators k a (ap (λ v. machine_of v k) (sym same.unmoved.view) ∙ there) role;
+}

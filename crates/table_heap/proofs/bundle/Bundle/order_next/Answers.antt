@@ -1,0 +1,109 @@
+use Rattle.std.proofs.Common.{◌<◌, Some, None, refl, sym, ap, ◌∙◌, subst, arith}
+use Rattle.std.specs.Prelude.{IfSome, slice_set, unwrap_or, if◌then◌else◌}
+use Rattle.std.specs.Option.{option_copied_mut}
+use Rattle.std.proofs.lemmas.List.{length-set}
+use Rattle.shared_steps.specs.Views.{machine_of, kept_of}
+use Rattle.shared_steps.proofs.Kept.{kept-set}
+use Rattle.shared_steps.proofs.Numbers.{same_none}
+use Rattle.shen_graph.specs.Valid.{IsValid}
+use Rattle.shen_graph.specs.declared.order.Order.TheVariants.{Nothing}
+use Rattle.step_core.specs.Actor.{fresh_helper}
+use Rattle.step_core.specs.Machines.{takes_of, may_begin, made_of_machine}
+use Rattle.heap_machines.specs.Roles.{is_mutating}
+use Rattle.heap_machines.specs.Shown.{shown, order_of}
+use Rattle.heap_machines.specs.Turn.{order_for}
+use Rattle.table_heap.specs.State.{machine_at}
+use Rattle.table_heap.specs.Running.{next_for}
+use Rattle.table_heap.proofs.Places.{within, read_here, never_none, shows_here, shows_as, put_same, put_there}
+use Rattle.table_heap.proofs.Running.{command_fits}
+use Rattle.table_heap.proofs.Stepping.{heap_put}
+use Rattle.table_heap.proofs.bundle.Bundle.order_next.Goals as goal
+
+pub index_mut-requires : goal.index_mut-requires
+index_mut-requires c = let inside = within shown c.args.self.now.machines.items c.args.number c.requires.here in omega arith
+
+pub unreachable-requires : goal.unreachable-requires
+unreachable-requires c =
+    never_none shown c.args.self.now.machines.items c.args.number c.index_mut.result.now c.requires.here c.index_mut.ensures.value
+    (sym c.as_mut.ensures.value ∙ ap option_copied_mut c.in_default.is)
+
+pub order_next-requires-clause-none : goal.order_next-requires-clause-none
+order_next-requires-clause-none c =
+    let b = c.args.self.now in
+    let m = c.in-Some.machine.now in
+    let inside = within shown b.machines.items c.args.number c.requires.here in
+    let here = read_here shown b.machines.items c.args.number c.index_mut.result.now m inside c.index_mut.ensures.value (sym c.as_mut.ensures.value ∙ ap option_copied_mut c.in-Some.is) in
+    c.requires.work.orders c.args.number (order_of m) (shows_here order_of b.machines.items c.args.number m here)
+
+pub order_next-requires-clause-next : goal.order_next-requires-clause-next
+order_next-requires-clause-next c = λ may.
+    let b = c.args.self.now in
+    let m = c.in-Some.machine.now in
+    let inside = within shown b.machines.items c.args.number c.requires.here in
+    let here = read_here shown b.machines.items c.args.number c.index_mut.result.now m inside c.index_mut.ensures.value (sym c.as_mut.ensures.value ∙ ap option_copied_mut c.in-Some.is) in
+    let at = shows_as shown b.machines.items c.args.number m fresh_helper here in
+    subst (λ next. IfSome next (λ command. IsValid command × (made_of_machine (shown m) < 4294967295))) (sym c.next_command-next.ensures)
+    (subst (λ machine. IfSome (next_for b.config c.args.work.now c.args.number) (λ command. IsValid command × (made_of_machine machine < 4294967295))) at
+    (command_fits b c.args.work.now c.args.number c.requires.work c.requires.here (ap may_begin at ∙ may)))
+
+pub invariant_of-self : goal.invariant_of-self
+invariant_of-self c =
+    let b = c.args.self.now in
+    let m = c.in-Some.machine.now in
+    let inside = within shown b.machines.items c.args.number c.requires.here in
+    let here = read_here shown b.machines.items c.args.number c.index_mut.result.now m inside c.index_mut.ensures.value (sym c.as_mut.ensures.value ∙ ap option_copied_mut c.in-Some.is) in
+    let n = c.order_next.new.self in
+    record {
+      seats = length-set b.machines.items _ _ ∙ b.seats;
+      kept = b.kept ∙ sym (put_same shown b.machines.items c.args.number m n here c.order_next.ensures.shown);
+      slots = b.slots;
+      of_heap = heap_put b.config b.machines.items c.args.number m n here c.order_next.ensures.heap (ap is_mutating c.order_next.ensures.shown) b.of_heap;
+    }
+
+pub returns-clause-turn : goal.returns-clause-turn
+returns-clause-turn c =
+    let b = c.args.self.now in
+    let m = c.in-Some.machine.now in
+    let inside = within shown b.machines.items c.args.number c.requires.here in
+    let here = read_here shown b.machines.items c.args.number c.index_mut.result.now m inside c.index_mut.ensures.value (sym c.as_mut.ensures.value ∙ ap option_copied_mut c.in-Some.is) in
+    let n = c.order_next.new.self in
+    let at = shows_as shown b.machines.items c.args.number m fresh_helper here in
+    let given = shows_as order_of (slice_set b.machines.items c.args.number (Some n)) c.args.number n Nothing (put_there order_of b.machines.items c.args.number m n here) in
+    ap (λ o. order_for o (machine_at b c.args.number)) (sym c.next_command-next.ensures) ∙ ap (order_for c.next_command-next.result) at
+    ∙ c.order_next.ensures.turn ∙ ap (λ o. if c.order_next.result then Some o else None) (sym given)
+
+pub returns-clause-has : goal.returns-clause-has
+returns-clause-has c =
+    let b = c.args.self.now in
+    let m = c.in-Some.machine.now in
+    let inside = within shown b.machines.items c.args.number c.requires.here in
+    let here = read_here shown b.machines.items c.args.number c.index_mut.result.now m inside c.index_mut.ensures.value (sym c.as_mut.ensures.value ∙ ap option_copied_mut c.in-Some.is) in
+    let n = c.order_next.new.self in
+    let items = slice_set b.machines.items c.args.number (Some n) in
+    let there = put_there shown b.machines.items c.args.number m n here in
+    let at = shows_as shown items c.args.number n fresh_helper there in
+    let given = shows_as order_of items c.args.number n Nothing there in
+    ap (λ machine. takes_of machine (unwrap_or (machine_of (kept_of order_of items) c.args.number) Nothing)) at ∙ ap (takes_of (shown n)) given ∙ ap (λ machine. takes_of machine (order_of n)) c.order_next.ensures.shown ∙ c.order_next.ensures.takes
+
+pub returns-clause-orders : goal.returns-clause-orders
+returns-clause-orders c =
+    let b = c.args.self.now in
+    let m = c.in-Some.machine.now in
+    let inside = within shown b.machines.items c.args.number c.requires.here in
+    let here = read_here shown b.machines.items c.args.number c.index_mut.result.now m inside c.index_mut.ensures.value (sym c.as_mut.ensures.value ∙ ap option_copied_mut c.in-Some.is) in
+    let n = c.order_next.new.self in
+    let given = shows_as order_of (slice_set b.machines.items c.args.number (Some n)) c.args.number n Nothing (put_there order_of b.machines.items c.args.number m n here) in
+    kept-set order_of b.machines.items c.args.number (Some n) ∙ ap (λ o. slice_set (kept_of order_of b.machines.items) c.args.number (Some o)) (sym given)
+
+pub returns-clause-unchanged : goal.returns-clause-unchanged
+returns-clause-unchanged c = λ none.
+    let b = c.args.self.now in
+    let m = c.in-Some.machine.now in
+    let inside = within shown b.machines.items c.args.number c.requires.here in
+    let here = read_here shown b.machines.items c.args.number c.index_mut.result.now m inside c.index_mut.ensures.value (sym c.as_mut.ensures.value ∙ ap option_copied_mut c.in-Some.is) in
+    let n = c.order_next.new.self in
+    let was = c.requires.work.orders c.args.number (order_of m) (shows_here order_of b.machines.items c.args.number m here) in
+    record {
+      unmoved = record { same = record { table = refl; config = refl; numbers = same_none b.seat.me.0 }; view = refl };
+      orders = put_same order_of b.machines.items c.args.number m n here (c.order_next.ensures.idle none ∙ sym was);
+    }

@@ -1,0 +1,43 @@
+use Rattle.std.proofs.Common.{◌∙◌}
+use Rattle.table_heap.proofs.Running.{same_bundle, same_bundle_more, same_jobs, same_jobs_more}
+use Rattle.table_heap.proofs.Rounds.{at_start, have_done}
+use Rattle.table_heap.proofs.bundle.Bundle.run.Goals as goal
+
+pub loop-init : goal.loop-init
+loop-init g c = record { work = at_start c.args.self.now c.args.work.now c.requires.start; same = same_bundle c.args.self.now; jobs = same_jobs _ c.args.work.now }
+
+pub round-requires-clause-heap : goal.round-requires-clause-heap
+round-requires-clause-heap g c = λ _ _. record { table = c.loop.invariant.same.table ∙ c.requires.heap.table; config = c.loop.invariant.same.config ∙ c.requires.heap.config }
+
+pub returns-in-Idle-clause-same : goal.returns-in-Idle-clause-same
+returns-in-Idle-clause-same g c = same_bundle_more c.args.self.now c.loop.self c.round.new.self c.loop.invariant.same c.round.ensures.same
+
+pub returns-in-Idle-clause-done : goal.returns-in-Idle-clause-done
+returns-in-Idle-clause-done g c =
+    let l = c.loop in
+    have_done c.args.self.now c.round.new.self c.args.work.now c.round.new.work
+    (same_jobs_more c.args.self.now l.self c.args.work.now l.work c.round.new.work l.invariant.same l.invariant.jobs c.round.ensures.jobs)
+    c.round.ensures.work (c.round.ensures.idle c.in-Idle.is)
+
+pub returns-in-Idle-clause-jobs : goal.returns-in-Idle-clause-jobs
+returns-in-Idle-clause-jobs g c =
+    let l = c.loop in
+    same_jobs_more c.args.self.now l.self c.args.work.now l.work c.round.new.work l.invariant.same l.invariant.jobs c.round.ensures.jobs
+
+pub loop-preserved-in-Waiting : goal.loop-preserved-in-Waiting
+loop-preserved-in-Waiting g c =
+    let l = c.loop in
+    record {
+      work = c.round.ensures.work;
+      same = same_bundle_more c.args.self.now l.self c.round.new.self l.invariant.same c.round.ensures.same;
+      jobs = same_jobs_more c.args.self.now l.self c.args.work.now l.work c.round.new.work l.invariant.same l.invariant.jobs c.round.ensures.jobs;
+    }
+
+pub loop-preserved : goal.loop-preserved
+loop-preserved g c =
+    let l = c.loop in
+    record {
+      work = c.round.ensures.work;
+      same = same_bundle_more c.args.self.now l.self c.round.new.self l.invariant.same c.round.ensures.same;
+      jobs = same_jobs_more c.args.self.now l.self c.args.work.now l.work c.round.new.work l.invariant.same l.invariant.jobs c.round.ensures.jobs;
+    }
