@@ -5,3 +5,5 @@ pub mod Ran
 pub mod Whole
 pub mod Complete
 pub mod PartLaws
+pub mod Dealing
+pub mod Coming

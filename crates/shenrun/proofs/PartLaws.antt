@@ -137,14 +137,14 @@ module _ (h : Heap) (scripts : Scripts) (w a b c : ℕ) (p q r : Part) (of : IsO
           → ((machine_of (view_of p.bundle) n ≡ Some x) × (progress_of p.work n ≡ progress_of r.work n)) ⊎ ((machine_of (view_of q.bundle) n ≡ Some x) × (progress_of q.work n ≡ progress_of r.work n))
       by_machine None e =
           let none : progress_of p.work n ≡ None =
-              none_from (progress_of p.work n) (is.jobs n ∙ is_seat n (config_of h).mutators (config_of h).helpers (is_dealt w a b n) (sym (is.machines n) ∙ ap is_some e)) in
+          none_from (progress_of p.work n) (is.jobs n ∙ is_seat n (config_of h).mutators (config_of h).helpers (is_dealt w a b n) (sym (is.machines n) ∙ ap is_some e)) in
           inr (
             sym (ap (λ o. views.one_of o (machine_of (view_of q.bundle) n)) e) ∙ sym (machine_here n) ∙ here,
             sym (job_here n ∙ ap (λ o. one_of o (progress_of q.work n)) none),
           )
       by_machine (Some y) e =
           let none : progress_of q.work n ≡ None =
-              none_from (progress_of q.work n) (other.jobs n ∙ never_both (nat_lt n (seat_count (config_of h).mutators (config_of h).helpers)) (nat_lt n (config_of h).mutators) (n % w) a b c (sym (is.machines n) ∙ ap is_some e)) in
+          none_from (progress_of q.work n) (other.jobs n ∙ never_both (nat_lt n (seat_count (config_of h).mutators (config_of h).helpers)) (nat_lt n (config_of h).mutators) (n % w) a b c (sym (is.machines n) ∙ ap is_some e)) in
           inl (
             e ∙ sym (ap (λ o. views.one_of o (machine_of (view_of q.bundle) n)) e) ∙ sym (machine_here n) ∙ here,
             sym (job_here n ∙ ap (one_of (progress_of p.work n)) none ∙ first_of (progress_of p.work n)),
@@ -190,7 +190,7 @@ module _ (h : Heap) (scripts : Scripts) (w a b c : ℕ) (p q r : Part) (of : IsO
 role_of : (b : Bundle) (n : ℕ) (x : Actor) → machine_of (view_of b) n ≡ Some x → is_mutating x.machine ≡ nat_lt n b.config.mutators
 role_of b n x here =
     let there : machine_of (views.kept_of shown b.machines.items) n ≡ Some x.machine =
-        ap (λ v. machine_of v n) (sym b.kept) ∙ machine_of-kept machine_in (view_of b) n ∙ ap (views.kept_one machine_in) here in
+    ap (λ v. machine_of v n) (sym b.kept) ∙ machine_of-kept machine_in (view_of b) n ∙ ap (views.kept_one machine_in) here in
     let found = kept_here shown b.machines.items n x.machine there in
     ap is_mutating (sym found.2) ∙ (b.of_heap n found.0 found.1).role
 
@@ -218,5 +218,5 @@ ended_done h scripts w a b p q ready ended = record {
     has_job n x here role =
         let low : nat_lt n (config_of h).mutators ≡ true = ap (λ (c : Config). nat_lt n c.mutators) (sym config) ∙ sym (role_of q.bundle n x here) ∙ role in
         let its : is_dealt w a b n ≡ true =
-            dealt (nat_lt n (seat_count (config_of h).mutators (config_of h).helpers)) (is_dealt w a b n) (sym (ready.has.machines n) ∙ sym (ended.same.numbers.here n) ∙ ap is_some here) in
+        dealt (nat_lt n (seat_count (config_of h).mutators (config_of h).helpers)) (is_dealt w a b n) (sym (ready.has.machines n) ∙ sym (ended.same.numbers.here n) ∙ ap is_some here) in
         ap (λ m. m && is_dealt w a b n) low ∙ its

@@ -56,7 +56,7 @@ use Rattle.shenrun.specs.Running.{HasFinished}
 -- ---- the entries of each thread
 
 -- the entries of a mutator that has called its script are its calls
-entries_called : (c : Config) (scripts : Scripts) (events : List (Event Order)) (t : ℕ) → (called : HasCalled scripts (reached full_image c events) t) → of_thread (past full_image c events) (t + 1) ≡ called.actor.calls
+pub entries_called : (c : Config) (scripts : Scripts) (events : List (Event Order)) (t : ℕ) → (called : HasCalled scripts (reached full_image c events) t) → of_thread (past full_image c events) (t + 1) ≡ called.actor.calls
 entries_called c scripts events t called = entries_at_rest c (opening_run c events) t called.actor called.here called.called.rest
 
 -- a thread that is none has no entry
@@ -177,7 +177,7 @@ root_shown text g n t i low high lt e =
     ∙ ap (λ (row : List Reference). get_or row i None) (get_or-map-range_with_len (λ k. map (g.root k) (range_with_len 0 16)) 1 n (t - 1) t none (omega arith) (omega arith))
     ∙ get_or-map-range_with_len (g.root t) 0 16 i i None lt (omega arith)
 
-text_shown : (n : ℕ) (jobs : Jobs) (h : List Entry) (text : Text) → length text.roots ≡ n → texts.Shows text n (after (graph_opening n) h)
+pub text_shown : (n : ℕ) (jobs : Jobs) (h : List Entry) (text : Text) → length text.roots ≡ n → texts.Shows text n (after (graph_opening n) h)
     → ((t : ℕ) → 1 ≤ t → t ≤ n → work.replies_of jobs (t - 1) ≡ history.replies_of (of_thread h t))
     → answer_text (length text.roots) (λ t. work.replies_of jobs (t - 1)) text.rows (root_of text) ≡ answer_text n (λ t. history.replies_of (of_thread h t)) (map (row_in (after (graph_opening n) h)) (names_of text)) (after (graph_opening n) h).root
 text_shown n jobs h text count shows told =

@@ -38,14 +38,7 @@ fn main(rt: HostRuntime) -> ExitCode {
     }
     let mut source = InSource::new(rt.stdin());
     let mut sink = OutSink::new(rt.stdout());
-    let status = shenrun(
-        &rt,
-        rt.alloc(),
-        &words,
-        &mut source,
-        &mut sink,
-        &OpenGate,
-    );
+    let status = shenrun(&rt, rt.alloc(), &words, &mut source, &mut sink, &OpenGate);
     ExitCode::from(status.number())
 }
 

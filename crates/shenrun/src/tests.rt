@@ -4,12 +4,15 @@ ghost use Rattle.std.specs.Prelude.{◌≤◌};
 use crate::status::Status;
 use crate::top::shenrun;
 use shen_base::{Failed, MemorySink, MemorySource, Source};
+use shen_graph::{Command, Name, PlainGraph, Reply};
 use std::alloc::Global;
 use std::process::Abort;
 use std::sync::Wait;
+use std::sync::atomic::{AtomicBool, AtomicU64, Ordering};
 use std::test::Fail;
+use std::thread;
 use std::thread::Threads;
-use table_heap::OpenGate;
+use table_heap::{Gate, OpenGate};
 
 /// A trace, the words that run it, and what is written: the answer, or the line that stands in its place.
 struct Row {
@@ -19,6 +22,8 @@ struct Row {
 }
 
 const REPLAY: &[&str] = &["replay"];
+
+const RUN: &[&str] = &["run"];
 
 /// Traces of one thread.
 const PLAIN: &[Row] = &[
@@ -63,6 +68,30 @@ const PLAIN: &[Row] = &[
         words: REPLAY,
         trace: "shen 1\nheap 4 64 1\nthreads 1 0\n1 new 1 16 16\n1 new 2 16 16\n",
         answer: "1 1.1\n1 1.2\ngraph\nobject 0.1 - - - - - - - - - - - - - - - - /\nobject 1.1 - - - - - - - - - - - - - - - - / 0 0 0 0 0 0 0 0 0 0 0 0 0 0 0 0\nobject 1.2 - - - - - - - - - - - - - - - - / 0 0 0 0 0 0 0 0 0 0 0 0 0 0 0 0\nroots 1 0.1 1.1 1.2 - - - - - - - - - - - - -\n",
+    },
+];
+
+/// Traces of one thread, which a run answers as a replay does.
+const RUNS: &[Row] = &[
+    Row {
+        words: RUN,
+        trace: STORED,
+        answer: STORED_ANSWER,
+    },
+    Row {
+        words: &["run", "--workers", "1"],
+        trace: STORED,
+        answer: STORED_ANSWER,
+    },
+    Row {
+        words: RUN,
+        trace: "shen 1\nheap 4 64 0\nthreads 1 0\n1 get 1 5 0\n1 get 1 0 16\n1 new 1 0 2\n1 rd 1 2\n1 rd 1 1\n",
+        answer: "1 bad\n1 bad\n1 1.1\n1 bad\n1 0\ngraph\nobject 0.1 - - - - - - - - - - - - - - - - /\nobject 1.1 / 0 0\nroots 1 0.1 1.1 - - - - - - - - - - - - - -\n",
+    },
+    Row {
+        words: &["run", "--workers", "12"],
+        trace: "shen 1\nheap 4 64 0\nthreads 1 0\n1 new 1 0 1\n1 wr 1 0 18446744073709551615\n1 rd 1 0\n1 copy 2 1\n1 same 1 2\n1 same 3 4\n1 same 1 3\n1 cas 0 0 3 1\n1 cas 0 0 3 2\n",
+        answer: "1 1.1\n1 ok\n1 18446744073709551615\n1 ok\n1 yes\n1 yes\n1 no\n1 yes\n1 no\ngraph\nobject 0.1 1.1 - - - - - - - - - - - - - - - /\nobject 1.1 / 18446744073709551615\nroots 1 0.1 1.1 1.1 - - - - - - - - - - - - -\n",
     },
 ];
 
@@ -514,6 +543,22 @@ fn outcome<R: Threads + Wait + Sync>(
 ) -> Result<(Status, Vec<u8>), Fail>
     requires { 1 ≤ piece }
 {
+    outcome_at(rt, alloc, words, bytes, piece, reads, writes, &OpenGate)
+}
+
+/// The same, where machines pass a gate.
+fn outcome_at<R: Threads + Wait + Sync, G: Gate>(
+    rt: &R,
+    alloc: Global,
+    words: &[&str],
+    bytes: &[u8],
+    piece: usize,
+    reads: &[u64],
+    writes: &[u64],
+    gate: &G,
+) -> Result<(Status, Vec<u8>), Fail>
+    requires { 1 ≤ piece }
+{
     let mut list = Vec::new(alloc);
     for word in words {
         list.push(String::from_str(alloc, word)?)?;
@@ -521,7 +566,7 @@ fn outcome<R: Threads + Wait + Sync>(
     let bytes = Vec::from_slice(alloc, bytes)?;
     let mut source = MemorySource::new(bytes, piece, Vec::from_slice(alloc, reads)?);
     let mut sink = MemorySink::with_room(alloc, 4096, piece, Vec::from_slice(alloc, writes)?)?;
-    let status = shenrun(rt, alloc, &list, &mut source, &mut sink, &OpenGate);
+    let status = shenrun(rt, alloc, &list, &mut source, &mut sink, gate);
     Ok((status, Vec::from_slice(alloc, sink.bytes())?))
 }
 
@@ -659,9 +704,14 @@ fn a_full_sink_has_a_front(rt: HostRuntime) -> Result<(), Fail> {
 
 #[test]
 fn other_words_are_refused(rt: HostRuntime) -> Result<(), Fail> {
-    let lists: [&[&str]; 12] = [
+    let lists: [&[&str]; 17] = [
         &[],
-        &["run"],
+        &["run", "run"],
+        &["run", "--workers"],
+        &["run", "--workers=2"],
+        &["run", "--workers", "0"],
+        &["run", "--workers", "13"],
+        &["run", "--workers", "2", "--workers", "2"],
         &["replay", "replay"],
         &["Replay"],
         &["--", "replay"],
@@ -719,6 +769,183 @@ fn each_fault_is_told(rt: HostRuntime) -> Result<(), Fail> {
     faults(&rt, rt.alloc(), 1, 68, 133)?;
     faults(&rt, rt.alloc(), 7, 11, 19)?;
     faults(&rt, rt.alloc(), 8, 10, 17)?;
+    Ok(())
+}
+
+#[test]
+fn runs_are_answered(rt: HostRuntime) -> Result<(), Fail> {
+    answers(&rt, rt.alloc(), RUNS)?;
+    let stored = STORED.as_bytes();
+    let (status, _) = outcome(&rt, rt.alloc(), RUN, stored, 8, &[2], &[])?;
+    assert_eq!(rt; status, Status::ReadFault);
+    let (status, _) = outcome(&rt, rt.alloc(), RUN, stored, 8, &[], &[1])?;
+    assert_eq!(rt; status, Status::WriteFault);
+    let (status, _) = outcome(&rt, rt.alloc(), RUN, b"shen 2\n", 8, &[], &[])?;
+    assert_eq!(rt; status, Status::BadTrace);
+    Ok(())
+}
+
+/// A gate that holds machine 0 in its first pass until machine 1 has passed so often. It notes where that does not come about.
+#[derive(Drop)]
+struct Held {
+    wanted: u64,
+    first: AtomicU64,
+    second: AtomicU64,
+    late: AtomicBool,
+}
+
+impl Held {
+    fn until(wanted: u64) -> Held {
+        Held {
+            wanted,
+            first: AtomicU64::new(0),
+            second: AtomicU64::new(0),
+            late: AtomicBool::new(false),
+        }
+    }
+
+    fn hold(&self) {
+        for _ in 0..100_000_000u64 {
+            if self.second.load(Ordering::SeqCst) >= self.wanted {
+                return;
+            }
+            thread::yield_now();
+        }
+        self.late.store(true, Ordering::SeqCst);
+    }
+}
+
+impl Gate for Held {
+    fn pass(&self, number: usize) {
+        if number == 1 {
+            self.second.fetch_add(1, Ordering::SeqCst);
+        }
+        if number == 0 && self.first.fetch_add(1, Ordering::SeqCst) == 0 {
+            self.hold();
+        }
+    }
+}
+
+/// The machines step in threads of their own: one makes its steps while the other stands at the gate. Each command takes six
+/// steps at least.
+#[test]
+fn gate_two_threads(rt: HostRuntime) -> Result<(), Fail> {
+    let trace =
+        "shen 1\nheap 8 64 0\nthreads 2 0\n1 new 1 0 0\n1 set 0 0 1\n1 get 2 0 1\n2 new 1 0 0\n2 set 0 1 1\n2 get 2 0 0\n";
+    let gate = Held::until(1);
+    let (status, _) = outcome_at(&rt, rt.alloc(), RUN, trace.as_bytes(), 64, &[], &[], &gate)?;
+    assert_eq!(rt; status, Status::Ok);
+    assert!(rt; !gate.late.load(Ordering::SeqCst));
+    assert!(rt; gate.first.load(Ordering::SeqCst) >= 18);
+    assert!(rt; gate.second.load(Ordering::SeqCst) >= 18);
+    Ok(())
+}
+
+/// What one thread stores the other loads, where that one is held until the store is done.
+#[test]
+fn gate_orders(rt: HostRuntime) -> Result<(), Fail> {
+    let trace =
+        "shen 1\nheap 8 64 0\nthreads 2 0\n1 get 1 0 0\n2 new 1 0 0\n2 set 0 0 1\n2 copy 2 1\n";
+    let gate = Held::until(30);
+    let (status, written) = outcome_at(
+        &rt,
+        rt.alloc(),
+        RUN,
+        trace.as_bytes(),
+        64,
+        &[],
+        &[],
+        &gate,
+    )?;
+    assert_eq!(rt; status, Status::Ok);
+    assert!(rt; !gate.late.load(Ordering::SeqCst));
+    assert_eq!(rt;
+        written.as_slice(),
+        b"1 2.1\n2 2.1\n2 ok\n2 ok\ngraph\nobject 0.1 2.1 - - - - - - - - - - - - - - - /\nobject 2.1 /\nroots 1 0.1 2.1 - - - - - - - - - - - - - -\nroots 2 0.1 2.1 2.1 - - - - - - - - - - - - -\n".as_slice()
+    );
+    Ok(())
+}
+
+/// Eight threads make an object each, and exchange it for what is in one field.
+const CONTENDED: &str =
+    "shen 1\nheap 8 64 0\nthreads 8 0\n1 new 1 0 0\n1 xchg 2 0 0 1\n2 new 1 0 0\n2 xchg 2 0 0 1\n3 new 1 0 0\n3 xchg 2 0 0 1\n4 new 1 0 0\n4 xchg 2 0 0 1\n5 new 1 0 0\n5 xchg 2 0 0 1\n6 new 1 0 0\n6 xchg 2 0 0 1\n7 new 1 0 0\n7 xchg 2 0 0 1\n8 new 1 0 0\n8 xchg 2 0 0 1\n";
+
+/// Whose object the line of a reply names, as `3 5.1` does that of thread 5: 0 where it names none.
+fn owner_in(line: &[u8]) -> u32 {
+    match line {
+        [_, b' ', thread @ b'1'..=b'8', b'.', b'1'] => u32::from(*thread - b'0'),
+        _ => 0,
+    }
+}
+
+/// What each thread got for its object, by the second of its two replies.
+fn got_by_each(alloc: Global, written: &[u8]) -> Result<Vec<u32>, Fail> {
+    let mut got = Vec::new(alloc);
+    let Ok(text) = str::from_utf8(written) else {
+        return Ok(got);
+    };
+    for (at, line) in text.lines().take(16).enumerate() {
+        if at % 2 == 1 {
+            got.push(owner_in(line.as_bytes()))?;
+        }
+    }
+    Ok(got)
+}
+
+/// The exchanges have one order at most: first that which got nothing, and then each time that which got what the last one put in.
+/// In this order one thread gets the same replies.
+fn is_one_order(rt: &impl Abort, alloc: Global, got: &[u32]) -> Result<u32, Fail> {
+    assert_eq!(rt; got.len(), 8);
+    let mut plain = PlainGraph::open(alloc, 8)?;
+    let mut last: u32 = 0;
+    for _ in 0..8 {
+        let next = got.iter().position(|owner| *owner == last);
+        assert!(rt; next.is_some(), "who got the object of {last}");
+        let thread = next.map_or(1, |at| at as u32 + 1);
+        let new = Command::New {
+            dst: 1,
+            refs: 0,
+            nums: 0,
+        };
+        let own = Name { thread, count: 1 };
+        assert_eq!(rt; plain.apply(alloc, thread, &new)?, Reply::Ref(own));
+        let exchange = Command::Xchg {
+            dst: 2,
+            obj: 0,
+            field: 0,
+            val: 1,
+        };
+        let wanted = if last == 0 {
+            Reply::Null
+        } else {
+            Reply::Ref(Name {
+                thread: last,
+                count: 1,
+            })
+        };
+        assert_eq!(rt; plain.apply(alloc, thread, &exchange)?, wanted);
+        last = thread;
+    }
+    Ok(last)
+}
+
+/// Eight threads, fifty times.
+#[test]
+fn threads_contend(rt: HostRuntime) -> Result<(), Fail> {
+    for round in 0..50 {
+        let (status, written) = outcome(
+            &rt,
+            rt.alloc(),
+            RUN,
+            CONTENDED.as_bytes(),
+            4096,
+            &[],
+            &[],
+        )?;
+        assert_eq!(rt; status, Status::Ok, "round {round}");
+        let got = got_by_each(rt.alloc(), &written)?;
+        is_one_order(&rt, rt.alloc(), &got)?;
+    }
     Ok(())
 }
 

@@ -184,7 +184,8 @@ fn flags(alloc: Global, count: usize) -> Result<Vec<AtomicBool>, NoMemory>
     let Ok(mut flags) = Vec::with_capacity(alloc, count) else {
         return Err(NoMemory);
     };
-    for _ in 0..count {
+    for made in 0..count {
+        prove!(made < count);
         let Ok(()) = flags.push(AtomicBool::new(false)) else {
             return Err(NoMemory);
         };
@@ -219,7 +220,7 @@ pub fn run_parts<R: Threads + Wait + Sync, G: Gate>(
             requires none { threads.items ≡ [] }
             requires room { length parts.items ≤ vec_capacity threads }
             requires ready { (scripts : Scripts) × AreReady heap.now scripts (length parts.items) parts.items }
-            ensures { (scripts : Scripts) → AreReady heap.entry.now scripts (length parts.entry.items) parts.entry.items → IsDone heap.entry.now scripts (length parts.entry.items) 0 (length parts.entry.items) result }
+            ensures { (scripts : Scripts) → AreReady heap.entry.now scripts (length parts.items) parts.items → IsDone heap.entry.now scripts (length parts.items) 0 (length parts.items) result }
         { run_in(scope, rt, heap, gate, flags, parts, threads) },
     ))
 }

@@ -1,12 +1,13 @@
-use Rattle.std.proofs.Common.{ℕ, List, map, refl}
+use Rattle.std.proofs.Common.{ℕ, List, map, refl, ◌≡◌}
 use Rattle.std.specs.String.{string_bytes}
 use Rattle.trace_writing.specs.Message.{line_text}
 use Rattle.trace_writing.specs.declared.message.Line.TheVariants as line
 use Rattle.text_writer.specs.Sending.{outlet}
 use Rattle.shenrun.specs.declared.status.Status.TheVariants.{BadWords}
 use Rattle.shenrun.specs.Answered.{Input, Output}
-use Rattle.shenrun.proofs.Ends.{said, row_of_ok}
+use Rattle.shenrun.proofs.Ends.{said, row_of_replay}
 use Rattle.shenrun.proofs.Complete.{complete}
+use Rattle.shenrun.proofs.Words.{run_begins, asks_neither}
 use Rattle.shenrun.proofs.replay.alone.Goals as goal
 
 pub returns-in-Some-clause-headline : goal.returns-in-Some-clause-headline
@@ -17,9 +18,7 @@ returns-in-Some-clause-headline g c = λ e.
       before = outlet (g.K.Sink.written c.args.sink.now) (g.K.Sink.faults c.args.sink.now) (g.K.Sink.calls c.args.sink.now);
       after = outlet (g.K.Sink.written c.replay.new.sink) (g.K.Sink.faults c.replay.new.sink) (g.K.Sink.calls c.replay.new.sink);
     } in
-    let written = row_of_ok words input output c.replay.result (c.replay.ensures words c.in-Some.ensures) e in
-    let row = written.1 in
-    (row.0, row.1, (row.2.0, (written.0, row.2.1, row.2.2, written.2)))
+    row_of_replay words input output c.replay.result (λ asked. c.requires (run_begins words asked)) (c.replay.ensures words c.in-Some.ensures) e
 
 pub returns-in-Some-clause-answered : goal.returns-in-Some-clause-answered
 returns-in-Some-clause-answered g c = c.replay.ensures (map string_bytes c.args.words.now) c.in-Some.ensures
@@ -30,4 +29,5 @@ returns-in-Some-clause-complete g c = λ bytes config scripts items asked told r
 
 pub returns-in-None-clause-answered : goal.returns-in-None-clause-answered
 returns-in-None-clause-answered g c =
-    said (map string_bytes c.args.words.now) _ _ (line_text line.BadWords) BadWords c.say.result (c.in-None.ensures, refl) c.say.ensures
+    let words : List (List ℕ) = map string_bytes c.args.words.now in
+    said words _ _ (line_text line.BadWords) BadWords c.say.result (asks_neither words c.in-None.ensures (λ asked. c.requires (run_begins words asked)), refl) c.say.ensures
