@@ -16,10 +16,8 @@ use Rattle.shen_graph.specs.History as history
 use Rattle.shen_graph.specs.Work as work
 use Rattle.heap_graph.specs.Shows as texts
 use Rattle.pause_laws.specs.Image.{full_image}
-use Rattle.shared_steps.specs.Views as views
 use Rattle.shared_steps.specs.Views.{machine_of, whole}
-use Rattle.shared_steps.proofs.Kept.{kept_some, length-kept}
-use Rattle.shared_steps.proofs.Numbers.{all_here}
+use Rattle.shared_steps.proofs.Kept.{kept_some}
 use Rattle.shared_steps.proofs.Shown.{machine_of-whole}
 use Rattle.step_core.specs.Actor.{Actor}
 use Rattle.step_core.specs.Machines.{is_resting}
@@ -67,18 +65,13 @@ module _ (h : Heap) (scripts : Scripts) (w : ℕ) (all : Part) (some : 0 < w) (d
   pub control_idle : IsControlIdle all.bundle
   control_idle a here = idle_takes a.machine (done.idle _ a here)
 
-  count : length (view_of all.bundle) ≡ seat_count (config_of h).mutators (config_of h).helpers
-  count = sym (length-kept machine_in (view_of all.bundle)) ∙ ap length all.bundle.kept ∙ length-kept _ all.bundle.machines.items ∙ all.bundle.seats ∙ ap (λ (c : Config). seat_count c.mutators c.helpers) same
-
-  at : (n : ℕ) → machine_of (view_of all.bundle) n ≡ slice_get (views.machines_of (view_of all.bundle)) n
-  at n =
-      ap (λ v. machine_of v n) (all_here (view_of all.bundle) (λ k within. machine_there k (subst (λ m. k < m) count within)))
-      ∙ machine_of-whole (views.machines_of (view_of all.bundle)) n
-
-  module _ (end : Closed) (config : closed.config_of end ≡ config_of h) (machines : closed.machines_of end ≡ views.machines_of (view_of all.bundle))
+  module _ (end : Closed) (config : closed.config_of end ≡ config_of h) (view : view_of all.bundle ≡ whole (closed.machines_of end))
       (leads : IsReached (heap_kind (config_of h)) (heap_opening (config_of h)) (closed.stage_of end)) where
+    at : (n : ℕ) → machine_of (view_of all.bundle) n ≡ slice_get (closed.machines_of end) n
+    at n = ap (λ v. machine_of v n) view ∙ machine_of-whole (closed.machines_of end) n
+
     seen : (n : ℕ) (a : Actor) → slice_get (closed.machines_of end) n ≡ Some a → machine_of (view_of all.bundle) n ≡ Some a
-    seen n a here = at n ∙ ap (λ ms. slice_get ms n) (sym machines) ∙ here
+    seen n a here = at n ∙ here
 
     pub come : HasCome (config_of h) scripts all.work end
     come = record {
@@ -88,7 +81,7 @@ module _ (h : Heap) (scripts : Scripts) (w : ℕ) (all : Part) (some : 0 < w) (d
       called = λ t below.
           let found = some_from (machine_of (view_of all.bundle) t) (machine_there t (omega (arith, below))) in
           let did = done.done t found.0 found.1 (mutates t found.0 found.1 below) in
-          record { actor = found.0; here = ap (λ ms. slice_get ms t) machines ∙ sym (at t) ∙ found.1; called = did.whole };
+          record { actor = found.0; here = sym (at t) ∙ found.1; called = did.whole };
       replies = λ t a below here. (done.done t a (seen t a here) (mutates t a (seen t a here) below)).told;
       jobs_are = λ t below. done.has.jobs t ∙ all_dealt (t % w) w t (config_of h).mutators (mod-lt t some) below;
     }

@@ -6,6 +6,7 @@ use Rattle.std.proofs.lemmas.Option.{slice_get-get_or, slice_get_past, get_or_fr
 use Rattle.std.proofs.lemmas.List.Elements.{All-get_or}
 use Rattle.std.proofs.lemmas.Bool.{cases_lt, lt-ltb, false≢true}
 use Rattle.std.proofs.lemmas.Bool.Decides.{nat_tests}
+use Rattle.heap_words.specs.declared.config.Config.{Config}
 use Rattle.heap_words.specs.Ranges.{seat_count}
 use Rattle.shen_graph.specs.declared.command.Command.{Command}
 use Rattle.shen_graph.specs.Work.{Progress, HasScript, progress_of, script_of, begun, opened, picked, parted, left_over, is_in_part}
@@ -132,3 +133,16 @@ module _ (h : Heap) (scripts : Scripts) (first : Jobs) (bundles : List Bundle) (
       script_at n false o is p e has = absurd (false≢true (subst (λ x. IsSome x) e has))
       script_at n true None is p e has = absurd (false≢true (subst (λ x. IsSome x) (e ∙ ap (option_map begun) is) has))
       script_at n true (Some s) is p e has = ap (λ x. (unwrap_or x (begun [])).script) (e ∙ ap (option_map begun) is) ∙ sym (get_or_from_slice_get scripts n s [] is)
+
+-- the bundles that a heap was opened with
+pub can_be_dealt : (h : Heap) (c : Config) (scripts : Scripts) (jobs : Jobs) (bundles : List Bundle) (w : ℕ) → config_of h ≡ c → length bundles ≡ w
+    → ((k : ℕ) (b : Bundle) → slice_get bundles k ≡ Some b → IsFresh h b (dealt_to w k (whole (heap_opening c).machines))) → jobs ≡ opened scripts → length scripts ≡ c.mutators → All IsRunnable scripts
+    → CanBeDealt h scripts jobs bundles
+can_be_dealt h c scripts jobs bundles w config count fresh jobs_are many runnable = record {
+  fresh = λ k b here.
+      subst (λ n. IsFresh h b (dealt_to n k (whole (heap_opening (config_of h)).machines))) (sym count)
+      (subst (λ (d : Config). IsFresh h b (dealt_to w k (whole (heap_opening d).machines))) (sym config) (fresh k b here));
+  jobs_are = jobs_are;
+  count = many ∙ ap (λ (d : Config). d.mutators) (sym config);
+  runnable = runnable;
+}

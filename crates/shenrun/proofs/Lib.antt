@@ -7,3 +7,4 @@ pub mod Complete
 pub mod PartLaws
 pub mod Dealing
 pub mod Coming
+pub mod Loops

@@ -118,3 +118,8 @@ first_word f (x ∷ xs) w text r some is e = (
 pub told_by : {P : Type 0} (r : Bool) → (r ≡ true → P) × (P → r ≡ true) → MatchBool r P (P → ⊥)
 told_by true both = both.0 refl
 told_by false both = λ p. false≢true (both.1 p)
+
+-- a run has one bundle at least
+pub some_workers : (words : List (List ℕ)) (workers : ℕ) → IsRunBy words workers → 1 ≤ workers
+some_workers words workers (inl one) = omega (arith, one.1)
+some_workers words workers (inr three) = three.1.0

@@ -1,7 +1,7 @@
 //! Runs of a heap's machines in threads: each part in a thread of its own, but those that the caller keeps.
 ghost use Rattle.std.specs.Prelude.{◌≡◌, ◌+◌, ◌≤◌, ◌<◌, ℕ, [], IfOk, IfErr, length, vec_capacity};
 ghost use Rattle.step_core.specs.Schedule.{Scripts};
-ghost use Rattle.shenrun.specs.Parts.{CanRun, IsGivenBack, IsDone, AreReady};
+ghost use Rattle.shenrun.specs.Parts.{CanRun, IsGivenBack, IsReady, IsDone, AreReady};
 ghost use Rattle.shenrun.specs.Started.{IsThread, AreThreads, AreSplit};
 
 use crate::parts::{Part, Returned, together};
@@ -49,7 +49,7 @@ fn run_unless<R: Wait, G: Gate>(
     Returned { part, ran: true }
 }
 
-// Starts a thread that runs the part. Where none can be made the part comes back, in fact as it was given.
+// Starts a thread that runs the part. Where none can be made the part comes back as it was given.
 fn start<'s, E, R: Wait + Sync, G: Gate>(
     scope: &Scope<'s, E>,
     rt: &'s R,
@@ -57,10 +57,10 @@ fn start<'s, E, R: Wait + Sync, G: Gate>(
     gate: &'s G,
     stays: &'s AtomicBool,
     part: Part,
-) -> Result<PromisedHandle<Returned, Given>, Returned>
+) -> Result<Thread, Part>
     requires { CanRun heap.now part }
-    ensures ok { IfOk result (λ h. h.promise.0.value ≡ part) }
-    ensures err { IfErr result (λ back. IsGivenBack part back) }
+    ensures ok { IfOk result (λ thread. (scripts : Scripts) (workers k : ℕ) → IsReady heap.now scripts workers k (k + 1) part → IsThread heap.now scripts workers k thread) }
+    ensures err { IfErr result (λ back. back ≡ part) }
 {
     let given = Given(Snapshot::of(&part));
     let started = scope.spawn_with(
@@ -71,10 +71,15 @@ fn start<'s, E, R: Wait + Sync, G: Gate>(
         { run_unless(rt, heap, gate, stays, part) },
     );
     match started {
-        Ok(handle) => Ok(handle),
+        Ok(handle) => Ok(Thread::Running(handle)),
         Err(refused) => {
             stays.store(true, Ordering::SeqCst);
-            Err((refused.value)())
+            let Returned { part, ran } = (refused.value)();
+            if ran {
+                Ok(Thread::Over(part))
+            } else {
+                Err(part)
+            }
         }
     }
 }
@@ -101,21 +106,19 @@ fn start_all<'s, E, R: Wait + Sync, G: Gate>(
         let Some(part) = parts.pop() else {
             unreachable!()
         };
-        let thread = match start(scope, rt, heap, gate, &stays[parts.len()], part) {
-            Ok(handle) => Thread::Running(handle),
-            Err(back) => {
-                if !back.ran {
-                    let Ok(()) = parts.push(back.part) else {
-                        unreachable!()
-                    };
-                    return;
-                }
-                Thread::Over(back.part)
+        match start(scope, rt, heap, gate, &stays[parts.len()], part) {
+            Ok(thread) => {
+                let Ok(()) = threads.push(thread) else {
+                    unreachable!()
+                };
             }
-        };
-        let Ok(()) = threads.push(thread) else {
-            unreachable!()
-        };
+            Err(part) => {
+                let Ok(()) = parts.push(part) else {
+                    unreachable!()
+                };
+                return;
+            }
+        }
     }
 }
 

@@ -41,3 +41,6 @@ returns g c = λ words asked.
     } in
     said words input output (text_of c.in-Ok-answer_to.answer) Ok c.give.result (inl (c.args.steps, asked, (read.0, read.1, c.in-Ok-answer_to.ensures.ok read.0 read.2)))
     (subst (λ s. EndsWith (text_of c.in-Ok-answer_to.answer) Ok c.give.result (outlet (g.K.Sink.written s) (g.K.Sink.faults s) (g.K.Sink.calls s)) output.after) c.in-Ok.ensures.unused c.give.ensures)
+
+pub returns-in-Err : goal.returns-in-Err
+returns-in-Err g c = λ words asked. c.in-Err.ensures.refused words (inl (c.args.steps, asked))

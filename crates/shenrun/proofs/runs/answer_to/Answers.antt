@@ -4,10 +4,10 @@ use Rattle.shenrun.proofs.Coming.{come_rest, answered}
 use Rattle.shenrun.proofs.runs.answer_to.Goals as goal
 
 pub graph_of-requires-clause-rest : goal.graph_of-requires-clause-rest
-graph_of-requires-clause-rest c = come_rest c.args.trace.config c.args.trace.scripts c.in_ok-replies.replies c.in_ok-replies.heap c.in_ok-replies.ensures
+graph_of-requires-clause-rest g c = come_rest c.args.trace.config c.args.trace.scripts c.in_ok-replies.replies c.in_ok-replies.heap c.in_ok-replies.ensures
 
 pub returns-clause-ok : goal.returns-clause-ok
-returns-clause-ok c = λ bytes reads.
+returns-clause-ok g c = λ bytes reads.
     let config = c.args.trace.config in
     let scripts = c.args.trace.scripts in
     let items = c.args.trace.schedule in
