@@ -43,10 +43,3 @@ pub runs_on : (first p q : Plain) (start jobs later : Jobs) (begin todo rest : A
 runs_on first p q start jobs later begin todo rest seen limit left same runs makes some more =
     subst (λ n. Runs first start begin (limit + more) q later rest n) (omega arith)
     (runs_more first p q start jobs later begin todo rest seen (limit + more) (left + more) same (runs more) makes (omega arith))
-
--- the rest of a higher limit
-pub runs_rest : (first p q : Plain) (start jobs later : Jobs) (begin todo rest : Agenda) (steps passed missing limit left : ℕ) → config_of p ≡ config_of first → passed ≤ steps → limit + passed ≡ steps + missing → RunsOn first start begin passed p jobs todo missing → Runs p jobs todo limit q later rest left
-    → Runs first start begin steps q later rest left
-runs_rest first p q start jobs later begin todo rest steps passed missing limit left same less all one two =
-    runs_then first p q start jobs later begin todo rest steps limit left same
-    (subst (λ n. Runs first start begin steps p jobs todo n) (omega arith) (subst (λ n. Runs first start begin n p jobs todo (missing + (steps - passed))) (omega arith) (one (steps - passed)))) two

@@ -1,4 +1,4 @@
--- Where the words ask for a replay, a trace comes and nothing fails, the other statuses cannot be.
+-- Where the words ask for a replay or a run, a trace comes and nothing fails, the other statuses cannot be.
 use Rattle.std.proofs.Common.{◌≡◌, ◌⊎◌, inl, inr, ℕ, ◌≤◌, List, ◌++◌, length, Option, Some, None, sym, ap, subst, ◌∙◌, arith}
 use Rattle.std.specs.Io.KnownBytes.{Consumes, IsAtEnd}
 use Rattle.std.proofs.lemmas.List.{length-append, append-nil}
@@ -12,7 +12,7 @@ use Rattle.trace_writing.specs.Message.{line_text}
 use Rattle.trace_writing.specs.declared.message.Line.TheVariants.{TooLong}
 use Rattle.shenrun.specs.declared.status.Status.{Status}
 use Rattle.shenrun.specs.declared.status.Status.TheVariants.{Ok, BadWords, BadTrace, Unfinished, ReadFault, WriteFault, NoMemory}
-use Rattle.shenrun.specs.Words.{AskReplay}
+use Rattle.shenrun.specs.Words.{Ask}
 use Rattle.shenrun.specs.Answered.{Input, Output, IsRefused, IsTooLong, IsAnswered, IsAnswer}
 
 -- what came from known bytes to their end is these bytes
@@ -39,12 +39,12 @@ no_bad_trace input out bytes config scripts items told reads (inr long) =
     absurd (omega (arith, came_short bytes long.0.0 input.before input.after told long.0.1, long.0.2, reads.short))
 
 pub complete : (words : List (List ℕ)) (input : Input) (output : Output) (status : Status) → IsAnswered words input output status
-    → (bytes : List ℕ) (config : Config) (scripts : List (List Command)) (items : List Item) → AskReplay words → input.before ≡ Some bytes → Reads bytes config scripts items
-    → (Rose input.faults_before input.faults_after → ⊥) → (Rose output.before.faults output.after.faults → ⊥) → IsAnswer status
+    → (bytes : List ℕ) (config : Config) (scripts : List (List Command)) (items : List Item) → Ask words → input.before ≡ Some bytes → Reads bytes config scripts items
+    → (Rose input.faults_before input.faults_after → ⊥) → (Rose output.before.faults output.after.faults → ⊥) → IsAnswer words status
 complete words input output Ok answered bytes config scripts items asked told reads read_fine written_fine = tt
 complete words input output BadWords answered bytes config scripts items asked told reads read_fine written_fine = answered.1.0 asked
 complete words input output BadTrace answered bytes config scripts items asked told reads read_fine written_fine = no_bad_trace input answered.0 bytes config scripts items told reads answered.1.1
-complete words input output Unfinished answered bytes config scripts items asked told reads read_fine written_fine = tt
+complete words input output Unfinished answered bytes config scripts items asked told reads read_fine written_fine = (answered.1.0, answered.1.1)
 complete words input output ReadFault answered bytes config scripts items asked told reads read_fine written_fine = read_fine answered.1.1
 complete words input output WriteFault answered bytes config scripts items asked told reads read_fine written_fine = written_fine answered.0
 complete words input output NoMemory answered bytes config scripts items asked told reads read_fine written_fine = tt

@@ -4,3 +4,7 @@ pub mod Scripts
 pub mod Ran
 pub mod Whole
 pub mod Complete
+pub mod PartLaws
+pub mod Dealing
+pub mod Coming
+pub mod Loops

@@ -56,7 +56,7 @@ use Rattle.shenrun.specs.Running.{HasFinished}
 -- ---- the entries of each thread
 
 -- the entries of a mutator that has called its script are its calls
-entries_called : (c : Config) (scripts : Scripts) (events : List (Event Order)) (t : ℕ) → (called : HasCalled scripts (reached full_image c events) t) → of_thread (past full_image c events) (t + 1) ≡ called.actor.calls
+pub entries_called : (c : Config) (scripts : Scripts) (events : List (Event Order)) (t : ℕ) → (called : HasCalled scripts (reached full_image c events) t) → of_thread (past full_image c events) (t + 1) ≡ called.actor.calls
 entries_called c scripts events t called = entries_at_rest c (opening_run c events) t called.actor called.here called.called.rest
 
 -- a thread that is none has no entry
@@ -71,8 +71,8 @@ none_of threads (e ∷ h) t all out = rw (other e.thread (All-head (IsSettled th
 -- ---- the whole history
 
 -- what holds of the end
-end_sound : (c : Config) (scripts : Scripts) (items : List Item) (limit : ℕ) → IsSound c (first_graph c) (end_of c scripts items limit) (history_of c scripts items limit)
-end_sound c scripts items limit = every_list full_image full_is_pause c (events_of c scripts items limit)
+end_sound : (c : Config) (events : List (Event Order)) → IsSound c (first_graph c) (reached full_image c events) (past full_image c events)
+end_sound c events = every_list full_image full_is_pause c events
 
 -- a mutator that has called its script has begun these commands
 begun_script : (script : List Command) (a : Actor) → HasDoneScript script a → begun_by a ≡ script
@@ -88,32 +88,32 @@ begun_scripts c scripts s count seats all_called =
     let called = all_called t below in
     begun_is c s seats t called.actor below called.here ∙ begun_script (get_or scripts t []) called.actor called.called)
 
-pub whole : (c : Config) (scripts : Scripts) (items : List Item) (limit : ℕ) → length scripts ≡ c.mutators → AreIdle c scripts (end_of c scripts items limit) → AllHaveCalled c scripts (end_of c scripts items limit) → IsWhole c scripts items limit
-whole c scripts items limit count idle all_called = record { idle = idle; follows = follows; legal = record { each = each; crowded = crowded } }
+pub whole : (c : Config) (scripts : Scripts) (events : List (Event Order)) → length scripts ≡ c.mutators → AreIdle c scripts (reached full_image c events) → AllHaveCalled c scripts (reached full_image c events) → IsWhole c scripts events
+whole c scripts events count idle all_called = record { idle = idle; follows = follows; legal = record { each = each; crowded = crowded } }
   where
-    sound : IsSound c (first_graph c) (end_of c scripts items limit) (history_of c scripts items limit)
-    sound = end_sound c scripts items limit
+    sound : IsSound c (first_graph c) (reached full_image c events) (past full_image c events)
+    sound = end_sound c events
 
-    each : EachIsLegal (graph_opening (length scripts)) (history_of c scripts items limit)
-    each = subst (λ (n : ℕ). EachIsLegal (graph_opening n) (history_of c scripts items limit)) (sym count) sound.legal
+    each : EachIsLegal (graph_opening (length scripts)) (past full_image c events)
+    each = subst (λ (n : ℕ). EachIsLegal (graph_opening n) (past full_image c events)) (sym count) sound.legal
 
-    crowded : AreCrowded c.regions c.region_words (graph_opening (length scripts)) scripts (history_of c scripts items limit)
+    crowded : AreCrowded c.regions c.region_words (graph_opening (length scripts)) scripts (past full_image c events)
     crowded =
-        subst (λ (n : ℕ). AreCrowded c.regions c.region_words (graph_opening n) scripts (history_of c scripts items limit)) (sym count)
-        (subst (λ (begun_then : Scripts). AreCrowded c.regions c.region_words (first_graph c) begun_then (history_of c scripts items limit))
-        (begun_scripts c scripts (end_of c scripts items limit) count sound.of_heap.machines all_called) sound.crowded)
+        subst (λ (n : ℕ). AreCrowded c.regions c.region_words (graph_opening n) scripts (past full_image c events)) (sym count)
+        (subst (λ (begun_then : Scripts). AreCrowded c.regions c.region_words (first_graph c) begun_then (past full_image c events))
+        (begun_scripts c scripts (reached full_image c events) count sound.of_heap.machines all_called) sound.crowded)
 
-    follows : (thread : ℕ) → commands_of (of_thread (history_of c scripts items limit) thread) ≡ history.script_of scripts thread
-    follows zero = ap commands_of (none_of c.mutators (history_of c scripts items limit) 0 sound.entries (inl refl))
+    follows : (thread : ℕ) → commands_of (of_thread (past full_image c events) thread) ≡ history.script_of scripts thread
+    follows zero = ap commands_of (none_of c.mutators (past full_image c events) 0 sound.entries (inl refl))
     follows (suc t) = by_thread (cases_lt t c.mutators)
       where
-        by_thread : (t < c.mutators) ⊎ (c.mutators ≤ t) → commands_of (of_thread (history_of c scripts items limit) (suc t)) ≡ slice_index_or scripts t []
+        by_thread : (t < c.mutators) ⊎ (c.mutators ≤ t) → commands_of (of_thread (past full_image c events) (suc t)) ≡ slice_index_or scripts t []
         by_thread (inl below) =
             let called = all_called t below in
             let next : suc t ≡ t + 1 = omega arith in
-            ap (λ (n : ℕ). commands_of (of_thread (history_of c scripts items limit) n)) next ∙ ap commands_of (entries_called c scripts (events_of c scripts items limit) t called) ∙ called.called.commands
+            ap (λ (n : ℕ). commands_of (of_thread (past full_image c events) n)) next ∙ ap commands_of (entries_called c scripts (events) t called) ∙ called.called.commands
         by_thread (inr past_all) =
-            ap commands_of (none_of c.mutators (history_of c scripts items limit) (suc t) sound.entries (inr (omega arith))) ∙ sym (get_or_past scripts t [] (omega arith))
+            ap commands_of (none_of c.mutators (past full_image c events) (suc t) sound.entries (inr (omega arith))) ∙ sym (get_or_past scripts t [] (omega arith))
 
 -- ---- memory in the end
 
@@ -155,7 +155,7 @@ all_rest c scripts items limit jobs p done = record {
       let called = done.called t (subst (λ (e : Config). t < e.mutators) done.config below) in
       ap is_resting (machine_shown p (end_of c scripts items limit) t called.actor done.shows called.here) ∙ called.called.rest;
   control = subst (λ (e : Config). image_in (machine_at p (control_number e)) ≡ None) (sym done.config)
-      (none_stored c scripts (end_of c scripts items limit) p (end_sound c scripts items limit).of_heap.machines done.idle done.shows);
+      (none_stored c scripts (end_of c scripts items limit) p (end_sound c (events_of c scripts items limit)).of_heap.machines done.idle done.shows);
 }
 
 -- the work has the replies of the history
@@ -177,7 +177,7 @@ root_shown text g n t i low high lt e =
     ∙ ap (λ (row : List Reference). get_or row i None) (get_or-map-range_with_len (λ k. map (g.root k) (range_with_len 0 16)) 1 n (t - 1) t none (omega arith) (omega arith))
     ∙ get_or-map-range_with_len (g.root t) 0 16 i i None lt (omega arith)
 
-text_shown : (n : ℕ) (jobs : Jobs) (h : List Entry) (text : Text) → length text.roots ≡ n → texts.ShowsGraph text n (after (graph_opening n) h)
+pub text_shown : (n : ℕ) (jobs : Jobs) (h : List Entry) (text : Text) → length text.roots ≡ n → texts.ShowsGraph text n (after (graph_opening n) h)
     → ((t : ℕ) → 1 ≤ t → t ≤ n → work.replies_of jobs (t - 1) ≡ history.replies_of (of_thread h t))
     → answer_text (length text.roots) (λ t. work.replies_of jobs (t - 1)) text.rows (root_of text) ≡ answer_text n (λ t. history.replies_of (of_thread h t)) (map (row_in (after (graph_opening n) h)) (names_of text)) (after (graph_opening n) h).root
 text_shown n jobs h text count shows told =
@@ -197,6 +197,6 @@ replayed bytes c scripts items limit jobs p text reads count done roots shows = 
   scripts = scripts;
   items = items;
   reads = reads;
-  whole = whole c scripts items limit count done.idle done.called;
+  whole = whole c scripts (events_of c scripts items limit) count done.idle done.called;
   text = record { names = names_of text; reach = shows.reach; text = text_shown c.mutators jobs (history_of c scripts items limit) text roots shows (replies_shown c scripts items limit jobs p done) };
 }

@@ -1,11 +1,11 @@
 -- The words of the command line.
-use Rattle.std.proofs.Common.{◌≡◌, ℕ, ◌&&◌, ◌<◌, ◌≤◌, Bool, true, false, eqb, List, [], ◌∷◌, length, get_or, map, inl, inr, refl, sym, ap, ◌∙◌, arith}
-use Rattle.std.specs.Prelude.{codes, Option, Some, None, MatchOption}
+use Rattle.std.proofs.Common.{◌≡◌, ℕ, ◌&&◌, ◌<◌, ◌≤◌, Bool, true, false, eqb, List, [], ◌∷◌, length, get_or, map, inl, inr, refl, sym, ap, subst, ◌∙◌, arith}
+use Rattle.std.specs.Prelude.{codes, Option, Some, None, MatchOption, MatchBool}
 use Rattle.std.specs.Fmt.{decimal}
 use Rattle.std.specs.Cmp.Lexicographic.{pointwise}
-use Rattle.std.proofs.lemmas.Bool.{eqb-true}
+use Rattle.std.proofs.lemmas.Bool.{eqb-true, false≢true}
 use Rattle.trace_grammar.specs.Spelling.{IsUpTo}
-use Rattle.shenrun.specs.Words.{IsReplay, AskReplay}
+use Rattle.shenrun.specs.Words.{IsReplay, AskReplay, IsRunBy, AskRun, Ask, BeginWith}
 use Rattle.std.proofs.lemmas.Bool.Decides.{nat_tests}
 
 same_from_test : (xs ys : List ℕ) → pointwise eqb xs ys ≡ true → xs ≡ ys
@@ -60,3 +60,66 @@ steps_named words number None are none = λ asked. by_form asked.0 asked.1
       where
         third : (a b : List ℕ) → codes "replay" ∷ codes "--steps" ∷ a ∷ [] ≡ codes "replay" ∷ codes "--steps" ∷ b ∷ [] → a ≡ b
         third a b e = ap (λ (ws : List (List ℕ)). get_or ws 2 []) e
+
+pub workers_named : (words : List (List ℕ)) (number : List ℕ) (r : Option ℕ) → words ≡ codes "run" ∷ codes "--workers" ∷ number ∷ []
+    → MatchOption r ((n : ℕ) → IsUpTo 12 n → number ≡ decimal n → ⊥) (λ n. IsUpTo 12 n × (number ≡ decimal n))
+    → MatchOption r (AskRun words → ⊥) (IsRunBy words)
+workers_named words number (Some n) are read = inr (are ∙ ap (λ (t : List ℕ). codes "run" ∷ codes "--workers" ∷ t ∷ []) read.1, read.0)
+workers_named words number None are none = λ asked. by_form asked.0 asked.1
+  where
+    by_form : (workers : ℕ) → IsRunBy words workers → ⊥
+    by_form workers (inl one) = absurd (omega (arith, ap length (sym are ∙ one.0)))
+    by_form workers (inr three) = none workers three.1 (third number (decimal workers) (sym are ∙ three.0))
+      where
+        third : (a b : List ℕ) → codes "run" ∷ codes "--workers" ∷ a ∷ [] ≡ codes "run" ∷ codes "--workers" ∷ b ∷ [] → a ≡ b
+        third a b e = ap (λ (ws : List (List ℕ)). get_or ws 2 []) e
+
+-- ---- the first word
+
+begins_as : (words more : List (List ℕ)) (word : List ℕ) → words ≡ word ∷ more → BeginWith word words
+begins_as words more word are = subst (BeginWith word) (sym are) refl
+
+-- who asks for a run begins with it
+pub run_begins : (words : List (List ℕ)) → AskRun words → BeginWith (codes "run") words
+run_begins words asked = by_form asked.0 asked.1
+  where
+    by_form : (workers : ℕ) → IsRunBy words workers → BeginWith (codes "run") words
+    by_form workers (inl one) = begins_as words [] (codes "run") one.0
+    by_form workers (inr three) = begins_as words (codes "--workers" ∷ decimal workers ∷ []) (codes "run") three.0
+
+-- and who asks for a replay does not
+pub replay_begins : (words : List (List ℕ)) → AskReplay words → BeginWith (codes "run") words → ⊥
+replay_begins words asked = by_form asked.0 asked.1
+  where
+    other : (more : List (List ℕ)) → words ≡ codes "replay" ∷ more → BeginWith (codes "run") words → ⊥
+    other more are begins =
+        let same : codes "replay" ≡ codes "run" = subst (BeginWith (codes "run")) are begins in
+        absurd (omega (arith, ap length same))
+
+    by_form : (steps : ℕ) → IsReplay words steps → BeginWith (codes "run") words → ⊥
+    by_form steps (inl one) begins = other [] one.0 begins
+    by_form steps (inr three) begins = other (codes "--steps" ∷ decimal steps ∷ []) three.0 begins
+
+-- words that ask for nothing
+pub asks_neither : (words : List (List ℕ)) → (AskReplay words → ⊥) → (AskRun words → ⊥) → Ask words → ⊥
+asks_neither words replay run (inl asked) = replay asked
+asks_neither words replay run (inr asked) = run asked
+
+-- a list that is not empty begins with its first word
+pub first_word : {X : Type 0} (f : X → List ℕ) (words : List X) (w : X) (text : List ℕ) (r : Bool) → 1 ≤ length words → w ≡ get_or words 0 w → r ≡ pointwise eqb (f w) text
+    → (r ≡ true → BeginWith text (map f words)) × (BeginWith text (map f words) → r ≡ true)
+first_word f [] w text r some is e = absurd (omega arith)
+first_word f (x ∷ xs) w text r some is e = (
+  (λ h. sym (ap f is) ∙ same_from_test (f w) text (sym e ∙ h)),
+  (λ begins. e ∙ ap (λ (t : List ℕ). pointwise eqb t text) (ap f is ∙ begins) ∙ test_itself text),
+)
+
+-- so the test tells whether it does
+pub told_by : {P : Type 0} (r : Bool) → (r ≡ true → P) × (P → r ≡ true) → MatchBool r P (P → ⊥)
+told_by true both = both.0 refl
+told_by false both = λ p. false≢true (both.1 p)
+
+-- a run has one bundle at least
+pub some_workers : (words : List (List ℕ)) (workers : ℕ) → IsRunBy words workers → 1 ≤ workers
+some_workers words workers (inl one) = omega (arith, one.1)
+some_workers words workers (inr three) = three.1.0

@@ -10,8 +10,8 @@ use Rattle.trace_writing.specs.Message.{line_text}
 use Rattle.trace_writing.specs.declared.message.Line.TheVariants as line
 use Rattle.shenrun.specs.declared.status.Status.{Status}
 use Rattle.shenrun.specs.declared.status.Status.TheVariants.{Ok, BadWords, BadTrace, Unfinished, ReadFault, WriteFault, NoMemory}
-use Rattle.shenrun.specs.Words.{IsReplay, AskReplay}
-use Rattle.shenrun.specs.Replayed.{IsReplayed, IsUnfinished}
+use Rattle.shenrun.specs.Words.{IsReplay, AskReplay, AskRun, Ask}
+use Rattle.shenrun.specs.Replayed.{IsReplayed, IsRun, IsUnfinished}
 
 -- all that the source had came, it is refused, and the line that is written says where and why
 abbrev pub IsRefused : (before after : Option (List ℕ)) → List ℕ → Type 0
@@ -30,16 +30,17 @@ pub record Input : Type 0 where
 
 -- The texts that go with each status but that of a write fault.
 abbrev pub Allows : List (List ℕ) → Input → Status → List ℕ → Type 0
-Allows words input Ok out = (steps : ℕ) × IsReplay words steps × ((bytes : List ℕ) × Came input.before input.after bytes × IsReplayed bytes steps out)
-Allows words input BadWords out = (AskReplay words → ⊥) × (out ≡ line_text line.BadWords)
-Allows words input BadTrace out = AskReplay words
+Allows words input Ok out = ((steps : ℕ) × IsReplay words steps × ((bytes : List ℕ) × Came input.before input.after bytes × IsReplayed bytes steps out))
+    ⊎ (AskRun words × ((bytes : List ℕ) × Came input.before input.after bytes × IsRun bytes out))
+Allows words input BadWords out = (Ask words → ⊥) × (out ≡ line_text line.BadWords)
+Allows words input BadTrace out = Ask words
     × (IsRefused input.before input.after out
     ⊎ (IsTooLong input.before input.after × (out ≡ line_text line.TooLong)))
 Allows words input Unfinished out = (steps : ℕ) × IsReplay words steps × ((bytes : List ℕ) × Came input.before input.after bytes × IsUnfinished bytes steps)
     × (out ≡ line_text (line.Unfinished steps))
-Allows words input ReadFault out = AskReplay words × Rose input.faults_before input.faults_after × (out ≡ line_text line.ReadFault)
+Allows words input ReadFault out = Ask words × Rose input.faults_before input.faults_after × (out ≡ line_text line.ReadFault)
 Allows words input WriteFault out = ⊥
-Allows words input NoMemory out = AskReplay words × (out ≡ line_text line.NoMemory)
+Allows words input NoMemory out = Ask words × (out ≡ line_text line.NoMemory)
 
 -- The sink before the call and after it.
 pub record Output : Type 0 where
@@ -65,12 +66,12 @@ IsAnswered words input output Unfinished = IsWritten words input output Unfinish
 IsAnswered words input output ReadFault = IsWritten words input output ReadFault
 IsAnswered words input output NoMemory = IsWritten words input output NoMemory
 
--- The statuses that are left where the words ask for a replay, a trace comes, and nothing fails.
-abbrev pub IsAnswer : Status → Type 0
-IsAnswer Ok = Unit {0}
-IsAnswer BadWords = ⊥
-IsAnswer BadTrace = ⊥
-IsAnswer Unfinished = Unit {0}
-IsAnswer ReadFault = ⊥
-IsAnswer WriteFault = ⊥
-IsAnswer NoMemory = Unit {0}
+-- The statuses that are left where the words ask for a replay or for a run, a trace comes, and nothing fails.
+abbrev pub IsAnswer : List (List ℕ) → Status → Type 0
+IsAnswer words Ok = Unit {0}
+IsAnswer words BadWords = ⊥
+IsAnswer words BadTrace = ⊥
+IsAnswer words Unfinished = AskReplay words
+IsAnswer words ReadFault = ⊥
+IsAnswer words WriteFault = ⊥
+IsAnswer words NoMemory = Unit {0}

@@ -4,3 +4,5 @@ pub mod Running
 pub mod Answered
 pub mod Number
 pub mod Ends
+pub mod Parts
+pub mod Started

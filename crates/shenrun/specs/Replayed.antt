@@ -27,13 +27,13 @@ history_of c scripts items limit = past full_image c (events_of c scripts items 
 abbrev pub end_of : Config → Scripts → List Item → ℕ → Stage Actor
 end_of c scripts items limit = reached full_image c (events_of c scripts items limit)
 
--- The history of the events of a trace, after which all machines are idle: all mutators have ended, and the control has. Each
--- thread's commands are its script, whole and in order; each entry is a legal step from the opening graph; and each allocation
--- that was refused was crowded out by live objects and the other threads' allocations that were not answered yet.
-pub record IsWhole (c : Config) (scripts : Scripts) (items : List Item) (limit : ℕ) : Type 0 where
-  pub idle : AreIdle c scripts (end_of c scripts items limit)
-  pub follows : Follows scripts (history_of c scripts items limit)
-  pub legal : IsLegalHistory c.regions c.region_words scripts (history_of c scripts items limit)
+-- Events from the opening on, after which all machines are idle: all mutators have ended, and the control has. In their history
+-- each thread's commands are its script, whole and in order; each entry is a legal step from the opening graph; and each
+-- allocation that was refused was crowded out by live objects and the other threads' allocations that were not answered yet.
+pub record IsWhole (c : Config) (scripts : Scripts) (events : List (Event Order)) : Type 0 where
+  pub idle : AreIdle c scripts (reached full_image c events)
+  pub follows : Follows scripts (past full_image c events)
+  pub legal : IsLegalHistory c.regions c.region_words scripts (past full_image c events)
 
 -- The bytes are a trace, its events come to an end, and the text is the answer of their history.
 pub record IsReplayed (bytes : List ℕ) (limit : ℕ) (out : List ℕ) : Type 0 where
@@ -41,8 +41,19 @@ pub record IsReplayed (bytes : List ℕ) (limit : ℕ) (out : List ℕ) : Type 0
   pub scripts : Scripts
   pub items : List Item
   pub reads : Reads bytes config scripts items
-  pub whole : IsWhole config scripts items limit
+  pub whole : IsWhole config scripts (events_of config scripts items limit)
   pub text : IsAnswerText config.mutators (history_of config scripts items limit) out
+
+-- The bytes are a trace, some events of its machines come to an end, and the text is the answer of their history. The events are
+-- those of the threads in an order of all; the trace's own schedule has no part in it.
+pub record IsRun (bytes : List ℕ) (out : List ℕ) : Type 0 where
+  pub config : Config
+  pub scripts : Scripts
+  pub items : List Item
+  pub reads : Reads bytes config scripts items
+  pub events : List (Event Order)
+  pub whole : IsWhole config scripts events
+  pub text : IsAnswerText config.mutators (past full_image config events) out
 
 -- so many events of a trace leave a machine that is not idle
 pub record IsCut (c : Config) (scripts : Scripts) (items : List Item) (limit : ℕ) : Type 0 where

@@ -16,3 +16,27 @@ IsReplay words steps =
 -- the words ask for a replay
 abbrev pub AskReplay : List (List ℕ) → Type 0
 AskReplay words = (steps : ℕ) × IsReplay words steps
+
+-- the most machines that a heap has: eight mutators, three helpers and the control
+abbrev pub most_machines : ℕ
+most_machines = 12
+
+-- the words ask for a run of the machines in so many bundles at most, each in a thread of its own: where they name no number,
+-- in one for each machine
+abbrev pub IsRunBy : List (List ℕ) → ℕ → Type 0
+IsRunBy words workers =
+    ((words ≡ codes "run" ∷ []) × (workers ≡ most_machines))
+    ⊎ ((words ≡ codes "run" ∷ codes "--workers" ∷ decimal workers ∷ []) × IsUpTo most_machines workers)
+
+-- the words ask for a run
+abbrev pub AskRun : List (List ℕ) → Type 0
+AskRun words = (workers : ℕ) × IsRunBy words workers
+
+-- the words ask for either
+abbrev pub Ask : List (List ℕ) → Type 0
+Ask words = AskReplay words ⊎ AskRun words
+
+-- the first word is this one
+abbrev pub BeginWith : List ℕ → List (List ℕ) → Type 0
+BeginWith word [] = ⊥
+BeginWith word (first ∷ words) = first ≡ word

@@ -1,14 +1,20 @@
 //! `shenrun` runs traces of commands on a region heap.
 #![tactic(auto)]
 
+mod lines;
+mod parts;
 mod replay;
+mod runs;
 mod status;
+mod threads;
+mod top;
 
-use replay::shenrun;
 use shen_base::{InSource, OutSink};
 use std::alloc::AllocError;
 use std::process::ExitCode;
 use std::{env, io};
+use table_heap::OpenGate;
+use top::shenrun;
 
 /// The status number where the system refuses the words of the command line, or one is not UTF-8.
 const NO_WORDS: u8 = 8;
@@ -32,7 +38,7 @@ fn main(rt: HostRuntime) -> ExitCode {
     }
     let mut source = InSource::new(rt.stdin());
     let mut sink = OutSink::new(rt.stdout());
-    let status = shenrun(rt.alloc(), &words, &mut source, &mut sink);
+    let status = shenrun(&rt, rt.alloc(), &words, &mut source, &mut sink, &OpenGate);
     ExitCode::from(status.number())
 }
 

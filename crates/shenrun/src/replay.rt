@@ -1,5 +1,5 @@
-//! The top call: words and a trace in, an answer or one line out.
-ghost use Rattle.std.specs.Prelude.{◌≡◌, ◌<◌, ℕ, List, Some, Err, IfOk, IfErr, MatchOption, length, map};
+//! `replay`: the schedule of a trace, step by step, on a heap of this thread.
+ghost use Rattle.std.specs.Prelude.{◌≡◌, ◌<◌, ℕ, List, Some, Err, IfOk, IfErr, MatchOption, codes, length, map};
 ghost use Rattle.std.specs.String.{string_bytes};
 ghost use Rattle.std.specs.Io.KnownBytes.{Appends};
 ghost use Rattle.shen_base.specs.Count.{Rose};
@@ -15,23 +15,20 @@ ghost use Rattle.shen_core.specs.State.{config_of};
 ghost use Rattle.shen_core.specs.Progress.{AllRest};
 ghost use Rattle.text_writer.specs.Sending.{outlet};
 ghost use Rattle.trace_grammar.specs.Grammar.{Came, Reads};
-ghost use Rattle.trace_writing.specs.Message.{line_text};
 ghost use Rattle.trace_writing.specs.Answer.{text_of};
-ghost use Rattle.shenrun.specs.Ends.{EndsWith};
-ghost use Rattle.shenrun.specs.Words.{IsReplay, AskReplay};
+ghost use Rattle.shenrun.specs.Words.{IsReplay, AskReplay, Ask, BeginWith};
 ghost use Rattle.shenrun.specs.Replayed.{IsReplayed, IsUnfinished};
 ghost use Rattle.shenrun.specs.Running.{HasFinished};
 ghost use Rattle.shenrun.specs.Answered.{IsAnswered, IsAnswer};
 
+use crate::lines::{give, say, taken};
 use crate::status::Status;
 use heap_words::Config;
 use shen_base::{Sink, Source};
 use shen_core::{Plain, Ran};
 use shen_graph::{GraphText, Work};
 use std::alloc::Global;
-use trace_text::{
-    Answer, Line, Trace, TraceFault, number_in, read_trace, write_answer, write_line,
-};
+use trace_text::{Answer, Line, Trace, number_in};
 
 /// The steps that a replay may make where the words name no number.
 const USUAL_STEPS: u64 = 100_000_000;
@@ -106,43 +103,15 @@ fn answer_to(alloc: Global, trace: Trace, steps: u64) -> Result<Answer, Refusal>
     Ok(Answer { replies, graph })
 }
 
-/// Writes the one line of a status.
-fn say<K: Sink>(sink: &mut K, line: Line, status: Status) -> Status
-    ensures { EndsWith (line_text line) status result (outlet (K.written sink.old) (K.faults sink.old) (K.calls sink.old))
-        (outlet (K.written sink.new) (K.faults sink.new) (K.calls sink.new)) }
-{
-    match write_line(sink, &line) {
-        Ok(()) => status,
-        Err(_) => Status::WriteFault,
-    }
-}
-
-/// Writes an answer.
-fn give<K: Sink>(sink: &mut K, answer: &Answer) -> Status
-    requires { (mutator : ℕ) → mutator < length answer.now.graph.roots → HasScript answer.now.replies mutator }
-    ensures { EndsWith (text_of answer.now) Status.Ok result (outlet (K.written sink.old) (K.faults sink.old) (K.calls sink.old))
-        (outlet (K.written sink.new) (K.faults sink.new) (K.calls sink.new)) }
-{
-    match write_answer(sink, answer) {
-        Ok(()) => Status::Ok,
-        Err(_) => Status::WriteFault,
-    }
-}
-
 /// Reads a trace, runs it with so many steps at most, and writes its answer, or the one line that says why there is none.
 fn replay<S: Source, K: Sink>(alloc: Global, steps: u64, source: &mut S, sink: &mut K) -> Status
     ensures { (words : List (List ℕ)) → IsReplay words steps → IsAnswered words
         (record { before = S.left source.old; after = S.left source.new; faults_before = S.faults source.old; faults_after = S.faults source.new })
         (record { before = outlet (K.written sink.old) (K.faults sink.old) (K.calls sink.old); after = outlet (K.written sink.new) (K.faults sink.new) (K.calls sink.new) }) result }
 {
-    let trace = match read_trace(alloc, source) {
+    let trace = match taken(alloc, source, sink) {
         Ok(trace) => trace,
-        Err(TraceFault::BadLine { line, why }) => {
-            return say(sink, Line::BadLine { line, why }, Status::BadTrace);
-        }
-        Err(TraceFault::TooLong { .. }) => return say(sink, Line::TooLong, Status::BadTrace),
-        Err(TraceFault::ReadFault) => return say(sink, Line::ReadFault, Status::ReadFault),
-        Err(TraceFault::NoMemory) => return say(sink, Line::NoMemory, Status::NoMemory),
+        Err(status) => return status,
     };
     let answer = match answer_to(alloc, trace, steps) {
         Ok(answer) => answer,
@@ -154,16 +123,19 @@ fn replay<S: Source, K: Sink>(alloc: Global, steps: u64, source: &mut S, sink: &
     give(sink, &answer)
 }
 
-/// Runs the program on these words of the command line, which are without the program's name. `replay` reads a trace from
-/// the source to its end, runs its schedule and then rounds on a heap that collects in pauses, and writes the replies and the
-/// final graph to the sink; with `--steps N` it makes N steps at most. Any other words are refused before anything is read.
-/// Where there is no answer one line says why; if that cannot be written either, the status is `WriteFault`.
-pub fn shenrun<S: Source, K: Sink>(
+/// Runs the program on words of the command line that do not begin with `run`; the words are without the program's name.
+/// `replay` reads a trace from the source to its end, runs its schedule and then rounds on a heap that collects in pauses, and
+/// writes the replies and the final graph to the sink; with `--steps N` it makes N steps at most. Any other words are refused
+/// before anything is read. Where there is no answer one line says why; if that cannot be written either, the status is
+/// `WriteFault`. It starts no thread and waits for none.
+pub fn alone<S: Source, K: Sink>(
     alloc: Global,
     words: &[String],
     source: &mut S,
     sink: &mut K,
 ) -> Status
+    requires { BeginWith (codes "run") (map string_bytes words.now) → ⊥ }
+
     // The replies and the graph that are written are those of one legal history, that of exactly the events of the schedule
     // and of the rounds after it, in which each thread's commands are its script. It is a history of a graph that never
     // moves or frees an object, whatever pauses collect; and it has an allocation that was refused only where live objects
@@ -179,12 +151,12 @@ pub fn shenrun<S: Source, K: Sink>(
 
     // Where the source has the bytes of a trace, and nothing fails, there is an answer, or the steps are used up, or memory
     // is refused.
-    ensures complete { (bytes : List ℕ) (config : Sizes) (scripts : List (List Command)) (items : List Item) → AskReplay (map string_bytes words.now)
+    ensures complete { (bytes : List ℕ) (config : Sizes) (scripts : List (List Command)) (items : List Item) → Ask (map string_bytes words.now)
         → S.left source.old ≡ Some bytes → Reads bytes config scripts items
-        → (Rose (S.faults source.old) (S.faults source.new) → ⊥) → (Rose (K.faults sink.old) (K.faults sink.new) → ⊥) → IsAnswer result }
+        → (Rose (S.faults source.old) (S.faults source.new) → ⊥) → (Rose (K.faults sink.old) (K.faults sink.new) → ⊥) → IsAnswer (map string_bytes words.now) result }
 
     // Words that are refused are refused before anything is read.
-    ensures unread { (AskReplay (map string_bytes words.now) → ⊥) → source.new ≡ source.old }
+    ensures unread { (Ask (map string_bytes words.now) → ⊥) → source.new ≡ source.old }
 {
     match steps_of(words) {
         Some(steps) => replay(alloc, steps, source, sink),

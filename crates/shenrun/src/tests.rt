@@ -1,12 +1,18 @@
 //! The program's worked examples: words and bytes in, bytes and a status out.
 ghost use Rattle.std.specs.Prelude.{◌≤◌};
 
-use crate::replay::shenrun;
 use crate::status::Status;
+use crate::top::shenrun;
 use shen_base::{Failed, MemorySink, MemorySource, Source};
+use shen_graph::{Command, Name, PlainGraph, Reply};
 use std::alloc::Global;
 use std::process::Abort;
+use std::sync::Wait;
+use std::sync::atomic::{AtomicBool, AtomicU64, Ordering};
 use std::test::Fail;
+use std::thread;
+use std::thread::Threads;
+use table_heap::{Gate, OpenGate};
 
 /// A trace, the words that run it, and what is written: the answer, or the line that stands in its place.
 struct Row {
@@ -16,6 +22,8 @@ struct Row {
 }
 
 const REPLAY: &[&str] = &["replay"];
+
+const RUN: &[&str] = &["run"];
 
 /// Traces of one thread.
 const PLAIN: &[Row] = &[
@@ -60,6 +68,30 @@ const PLAIN: &[Row] = &[
         words: REPLAY,
         trace: "shen 1\nheap 4 64 1\nthreads 1 0\n1 new 1 16 16\n1 new 2 16 16\n",
         answer: "1 1.1\n1 1.2\ngraph\nobject 0.1 - - - - - - - - - - - - - - - - /\nobject 1.1 - - - - - - - - - - - - - - - - / 0 0 0 0 0 0 0 0 0 0 0 0 0 0 0 0\nobject 1.2 - - - - - - - - - - - - - - - - / 0 0 0 0 0 0 0 0 0 0 0 0 0 0 0 0\nroots 1 0.1 1.1 1.2 - - - - - - - - - - - - -\n",
+    },
+];
+
+/// Traces of one thread, which a run answers as a replay does.
+const RUNS: &[Row] = &[
+    Row {
+        words: RUN,
+        trace: STORED,
+        answer: STORED_ANSWER,
+    },
+    Row {
+        words: &["run", "--workers", "1"],
+        trace: STORED,
+        answer: STORED_ANSWER,
+    },
+    Row {
+        words: RUN,
+        trace: "shen 1\nheap 4 64 0\nthreads 1 0\n1 get 1 5 0\n1 get 1 0 16\n1 new 1 0 2\n1 rd 1 2\n1 rd 1 1\n",
+        answer: "1 bad\n1 bad\n1 1.1\n1 bad\n1 0\ngraph\nobject 0.1 - - - - - - - - - - - - - - - - /\nobject 1.1 / 0 0\nroots 1 0.1 1.1 - - - - - - - - - - - - - -\n",
+    },
+    Row {
+        words: &["run", "--workers", "12"],
+        trace: "shen 1\nheap 4 64 0\nthreads 1 0\n1 new 1 0 1\n1 wr 1 0 18446744073709551615\n1 rd 1 0\n1 copy 2 1\n1 same 1 2\n1 same 3 4\n1 same 1 3\n1 cas 0 0 3 1\n1 cas 0 0 3 2\n",
+        answer: "1 1.1\n1 ok\n1 18446744073709551615\n1 ok\n1 yes\n1 yes\n1 no\n1 yes\n1 no\ngraph\nobject 0.1 1.1 - - - - - - - - - - - - - - - /\nobject 1.1 / 18446744073709551615\nroots 1 0.1 1.1 1.1 - - - - - - - - - - - - -\n",
     },
 ];
 
@@ -524,13 +556,30 @@ const HEAD: &str = "shen 1\nheap 4 64 0\nthreads 1 0\n";
 
 /// Runs the program on words and bytes. The source and the sink move at most `piece` bytes a call, and the calls with
 /// these numbers fail.
-fn outcome(
+fn outcome<R: Threads + Wait + Sync>(
+    rt: &R,
     alloc: Global,
     words: &[&str],
     bytes: &[u8],
     piece: usize,
     reads: &[u64],
     writes: &[u64],
+) -> Result<(Status, Vec<u8>), Fail>
+    requires { 1 ≤ piece }
+{
+    outcome_at(rt, alloc, words, bytes, piece, reads, writes, &OpenGate)
+}
+
+/// The same, where machines pass a gate.
+fn outcome_at<R: Threads + Wait + Sync, G: Gate>(
+    rt: &R,
+    alloc: Global,
+    words: &[&str],
+    bytes: &[u8],
+    piece: usize,
+    reads: &[u64],
+    writes: &[u64],
+    gate: &G,
 ) -> Result<(Status, Vec<u8>), Fail>
     requires { 1 ≤ piece }
 {
@@ -541,15 +590,20 @@ fn outcome(
     let bytes = Vec::from_slice(alloc, bytes)?;
     let mut source = MemorySource::new(bytes, piece, Vec::from_slice(alloc, reads)?);
     let mut sink = MemorySink::with_room(alloc, 4096, piece, Vec::from_slice(alloc, writes)?)?;
-    let status = shenrun(alloc, &list, &mut source, &mut sink);
+    let status = shenrun(rt, alloc, &list, &mut source, &mut sink, gate);
     Ok((status, Vec::from_slice(alloc, sink.bytes())?))
 }
 
 /// Gives each trace in pieces of several sizes, and looks at the status and at what is written.
-fn answers(rt: &impl Abort, alloc: Global, rows: &[Row]) -> Result<(), Fail> {
+fn answers<R: Threads + Wait + Abort + Sync>(
+    rt: &R,
+    alloc: Global,
+    rows: &[Row],
+) -> Result<(), Fail> {
     for (row, case) in rows.iter().enumerate() {
         for piece in [7, 4096] {
             let (status, written) = outcome(
+                rt,
                 alloc,
                 case.words,
                 case.trace.as_bytes(),
@@ -588,6 +642,7 @@ fn pauses_collect(rt: HostRuntime) -> Result<(), Fail> {
 fn steps_are_counted(rt: HostRuntime) -> Result<(), Fail> {
     answers(&rt, rt.alloc(), CUT)?;
     let (status, _) = outcome(
+        &rt,
         rt.alloc(),
         &["replay", "--steps", "73"],
         STORED.as_bytes(),
@@ -597,6 +652,7 @@ fn steps_are_counted(rt: HostRuntime) -> Result<(), Fail> {
     )?;
     assert_eq!(rt; status, Status::Unfinished);
     let (status, written) = outcome(
+        &rt,
         rt.alloc(),
         &["replay", "--steps", "74"],
         STORED.as_bytes(),
@@ -612,14 +668,14 @@ fn steps_are_counted(rt: HostRuntime) -> Result<(), Fail> {
 #[test]
 fn other_traces_are_refused(rt: HostRuntime) -> Result<(), Fail> {
     for (row, (trace, line)) in BAD_HEADS.iter().enumerate() {
-        let (status, written) = outcome(rt.alloc(), REPLAY, trace.as_bytes(), 8, &[], &[])?;
+        let (status, written) = outcome(&rt, rt.alloc(), REPLAY, trace.as_bytes(), 8, &[], &[])?;
         assert_eq!(rt; status, Status::BadTrace, "head {row}");
         assert_eq!(rt; written.as_slice(), line.as_bytes(), "head {row}");
     }
     for (row, (lines, line)) in REFUSED.iter().enumerate() {
         let mut bytes = Vec::from_slice(rt.alloc(), HEAD.as_bytes())?;
         bytes.extend_from_slice(lines.as_bytes())?;
-        let (status, written) = outcome(rt.alloc(), REPLAY, &bytes, 8, &[], &[])?;
+        let (status, written) = outcome(&rt, rt.alloc(), REPLAY, &bytes, 8, &[], &[])?;
         assert_eq!(rt; status, Status::BadTrace, "row {row}");
         assert_eq!(rt; written.as_slice(), line.as_bytes(), "row {row}");
     }
@@ -633,7 +689,7 @@ fn cut_traces_are_refused(rt: HostRuntime) -> Result<(), Fail> {
     let bytes = STORED.as_bytes();
     let ends = [7, 19, 31, 43, 55, 67];
     for length in 0..bytes.len() + 1 {
-        let (status, written) = outcome(rt.alloc(), REPLAY, &bytes[..length], 8, &[], &[])?;
+        let (status, written) = outcome(&rt, rt.alloc(), REPLAY, &bytes[..length], 8, &[], &[])?;
         if length >= 31 && ends.contains(&length) {
             assert_eq!(rt; status, Status::Ok, "length {length}");
         } else {
@@ -657,7 +713,7 @@ fn a_full_sink_has_a_front(rt: HostRuntime) -> Result<(), Fail> {
         let bytes = Vec::from_slice(alloc, STORED.as_bytes())?;
         let mut source = MemorySource::new(bytes, 8, Vec::new(alloc));
         let mut sink = MemorySink::with_room(alloc, room, 5, Vec::new(alloc))?;
-        let status = shenrun(alloc, &words, &mut source, &mut sink);
+        let status = shenrun(&rt, alloc, &words, &mut source, &mut sink, &OpenGate);
         let whole = room == answer.len();
         let wanted = if whole {
             Status::Ok
@@ -672,9 +728,14 @@ fn a_full_sink_has_a_front(rt: HostRuntime) -> Result<(), Fail> {
 
 #[test]
 fn other_words_are_refused(rt: HostRuntime) -> Result<(), Fail> {
-    let lists: [&[&str]; 12] = [
+    let lists: [&[&str]; 17] = [
         &[],
-        &["run"],
+        &["run", "run"],
+        &["run", "--workers"],
+        &["run", "--workers=2"],
+        &["run", "--workers", "0"],
+        &["run", "--workers", "13"],
+        &["run", "--workers", "2", "--workers", "2"],
         &["replay", "replay"],
         &["Replay"],
         &["--", "replay"],
@@ -687,7 +748,7 @@ fn other_words_are_refused(rt: HostRuntime) -> Result<(), Fail> {
         &["replay", "--steps", "5", "--steps", "5"],
     ];
     for words in lists {
-        let (status, written) = outcome(rt.alloc(), words, STORED.as_bytes(), 8, &[1], &[])?;
+        let (status, written) = outcome(&rt, rt.alloc(), words, STORED.as_bytes(), 8, &[1], &[])?;
         assert_eq!(rt; status, Status::BadWords);
         assert_eq!(rt; written.as_slice(), b"bad words\n".as_slice());
     }
@@ -696,7 +757,13 @@ fn other_words_are_refused(rt: HostRuntime) -> Result<(), Fail> {
 }
 
 /// Lets each of so many calls of the source fail in turn, and then each of the sink's.
-fn faults(rt: &impl Abort, alloc: Global, piece: usize, reads: u64, writes: u64) -> Result<(), Fail>
+fn faults<R: Threads + Wait + Abort + Sync>(
+    rt: &R,
+    alloc: Global,
+    piece: usize,
+    reads: u64,
+    writes: u64,
+) -> Result<(), Fail>
     requires least { 1 ≤ piece }
     requires most { piece ≤ 8 }
     requires reads { reads ≤ 100 }
@@ -705,17 +772,17 @@ fn faults(rt: &impl Abort, alloc: Global, piece: usize, reads: u64, writes: u64)
     let bytes = STORED.as_bytes();
     let answer = STORED_ANSWER.as_bytes();
     for call in 1..reads + 1 {
-        let (status, written) = outcome(alloc, REPLAY, bytes, piece, &[call], &[])?;
+        let (status, written) = outcome(rt, alloc, REPLAY, bytes, piece, &[call], &[])?;
         assert_eq!(rt; status, Status::ReadFault, "call {call}");
         assert_eq!(rt; written.as_slice(), b"read fault\n".as_slice());
     }
     for call in 1..writes + 1 {
-        let (status, written) = outcome(alloc, REPLAY, bytes, piece, &[], &[call])?;
+        let (status, written) = outcome(rt, alloc, REPLAY, bytes, piece, &[], &[call])?;
         assert_eq!(rt; status, Status::WriteFault, "call {call}");
         assert_eq!(rt; written.len(), piece * (call as usize - 1));
         assert!(rt; answer.starts_with(&written));
     }
-    let (status, written) = outcome(alloc, REPLAY, bytes, piece, &[reads + 1], &[writes + 1])?;
+    let (status, written) = outcome(rt, alloc, REPLAY, bytes, piece, &[reads + 1], &[writes + 1])?;
     assert_eq!(rt; status, Status::Ok);
     assert_eq!(rt; written.as_slice(), answer);
     Ok(())
@@ -726,6 +793,183 @@ fn each_fault_is_told(rt: HostRuntime) -> Result<(), Fail> {
     faults(&rt, rt.alloc(), 1, 68, 133)?;
     faults(&rt, rt.alloc(), 7, 11, 19)?;
     faults(&rt, rt.alloc(), 8, 10, 17)?;
+    Ok(())
+}
+
+#[test]
+fn runs_are_answered(rt: HostRuntime) -> Result<(), Fail> {
+    answers(&rt, rt.alloc(), RUNS)?;
+    let stored = STORED.as_bytes();
+    let (status, _) = outcome(&rt, rt.alloc(), RUN, stored, 8, &[2], &[])?;
+    assert_eq!(rt; status, Status::ReadFault);
+    let (status, _) = outcome(&rt, rt.alloc(), RUN, stored, 8, &[], &[1])?;
+    assert_eq!(rt; status, Status::WriteFault);
+    let (status, _) = outcome(&rt, rt.alloc(), RUN, b"shen 2\n", 8, &[], &[])?;
+    assert_eq!(rt; status, Status::BadTrace);
+    Ok(())
+}
+
+/// A gate that holds machine 0 in its first pass until machine 1 has passed so often. It notes where that does not come about.
+#[derive(Drop)]
+struct Held {
+    wanted: u64,
+    first: AtomicU64,
+    second: AtomicU64,
+    late: AtomicBool,
+}
+
+impl Held {
+    fn until(wanted: u64) -> Held {
+        Held {
+            wanted,
+            first: AtomicU64::new(0),
+            second: AtomicU64::new(0),
+            late: AtomicBool::new(false),
+        }
+    }
+
+    fn hold(&self) {
+        for _ in 0..100_000_000u64 {
+            if self.second.load(Ordering::SeqCst) >= self.wanted {
+                return;
+            }
+            thread::yield_now();
+        }
+        self.late.store(true, Ordering::SeqCst);
+    }
+}
+
+impl Gate for Held {
+    fn pass(&self, number: usize) {
+        if number == 1 {
+            self.second.fetch_add(1, Ordering::SeqCst);
+        }
+        if number == 0 && self.first.fetch_add(1, Ordering::SeqCst) == 0 {
+            self.hold();
+        }
+    }
+}
+
+/// The machines step in threads of their own: one makes its steps while the other stands at the gate. Each command takes six
+/// steps at least.
+#[test]
+fn gate_two_threads(rt: HostRuntime) -> Result<(), Fail> {
+    let trace =
+        "shen 1\nheap 8 64 0\nthreads 2 0\n1 new 1 0 0\n1 set 0 0 1\n1 get 2 0 1\n2 new 1 0 0\n2 set 0 1 1\n2 get 2 0 0\n";
+    let gate = Held::until(1);
+    let (status, _) = outcome_at(&rt, rt.alloc(), RUN, trace.as_bytes(), 64, &[], &[], &gate)?;
+    assert_eq!(rt; status, Status::Ok);
+    assert!(rt; !gate.late.load(Ordering::SeqCst));
+    assert!(rt; gate.first.load(Ordering::SeqCst) >= 18);
+    assert!(rt; gate.second.load(Ordering::SeqCst) >= 18);
+    Ok(())
+}
+
+/// What one thread stores the other loads, where that one is held until the store is done.
+#[test]
+fn gate_orders(rt: HostRuntime) -> Result<(), Fail> {
+    let trace =
+        "shen 1\nheap 8 64 0\nthreads 2 0\n1 get 1 0 0\n2 new 1 0 0\n2 set 0 0 1\n2 copy 2 1\n";
+    let gate = Held::until(30);
+    let (status, written) = outcome_at(
+        &rt,
+        rt.alloc(),
+        RUN,
+        trace.as_bytes(),
+        64,
+        &[],
+        &[],
+        &gate,
+    )?;
+    assert_eq!(rt; status, Status::Ok);
+    assert!(rt; !gate.late.load(Ordering::SeqCst));
+    assert_eq!(rt;
+        written.as_slice(),
+        b"1 2.1\n2 2.1\n2 ok\n2 ok\ngraph\nobject 0.1 2.1 - - - - - - - - - - - - - - - /\nobject 2.1 /\nroots 1 0.1 2.1 - - - - - - - - - - - - - -\nroots 2 0.1 2.1 2.1 - - - - - - - - - - - - -\n".as_slice()
+    );
+    Ok(())
+}
+
+/// Eight threads make an object each, and exchange it for what is in one field.
+const CONTENDED: &str =
+    "shen 1\nheap 8 64 0\nthreads 8 0\n1 new 1 0 0\n1 xchg 2 0 0 1\n2 new 1 0 0\n2 xchg 2 0 0 1\n3 new 1 0 0\n3 xchg 2 0 0 1\n4 new 1 0 0\n4 xchg 2 0 0 1\n5 new 1 0 0\n5 xchg 2 0 0 1\n6 new 1 0 0\n6 xchg 2 0 0 1\n7 new 1 0 0\n7 xchg 2 0 0 1\n8 new 1 0 0\n8 xchg 2 0 0 1\n";
+
+/// Whose object the line of a reply names, as `3 5.1` does that of thread 5: 0 where it names none.
+fn owner_in(line: &[u8]) -> u32 {
+    match line {
+        [_, b' ', thread @ b'1'..=b'8', b'.', b'1'] => u32::from(*thread - b'0'),
+        _ => 0,
+    }
+}
+
+/// What each thread got for its object, by the second of its two replies.
+fn got_by_each(alloc: Global, written: &[u8]) -> Result<Vec<u32>, Fail> {
+    let mut got = Vec::new(alloc);
+    let Ok(text) = str::from_utf8(written) else {
+        return Ok(got);
+    };
+    for (at, line) in text.lines().take(16).enumerate() {
+        if at % 2 == 1 {
+            got.push(owner_in(line.as_bytes()))?;
+        }
+    }
+    Ok(got)
+}
+
+/// The exchanges have one order at most: first that which got nothing, and then each time that which got what the last one put in.
+/// In this order one thread gets the same replies.
+fn is_one_order(rt: &impl Abort, alloc: Global, got: &[u32]) -> Result<u32, Fail> {
+    assert_eq!(rt; got.len(), 8);
+    let mut plain = PlainGraph::open(alloc, 8)?;
+    let mut last: u32 = 0;
+    for _ in 0..8 {
+        let next = got.iter().position(|owner| *owner == last);
+        assert!(rt; next.is_some(), "who got the object of {last}");
+        let thread = next.map_or(1, |at| at as u32 + 1);
+        let new = Command::New {
+            dst: 1,
+            refs: 0,
+            nums: 0,
+        };
+        let own = Name { thread, count: 1 };
+        assert_eq!(rt; plain.apply(alloc, thread, &new)?, Reply::Ref(own));
+        let exchange = Command::Xchg {
+            dst: 2,
+            obj: 0,
+            field: 0,
+            val: 1,
+        };
+        let wanted = if last == 0 {
+            Reply::Null
+        } else {
+            Reply::Ref(Name {
+                thread: last,
+                count: 1,
+            })
+        };
+        assert_eq!(rt; plain.apply(alloc, thread, &exchange)?, wanted);
+        last = thread;
+    }
+    Ok(last)
+}
+
+/// Eight threads, fifty times.
+#[test]
+fn threads_contend(rt: HostRuntime) -> Result<(), Fail> {
+    for round in 0..50 {
+        let (status, written) = outcome(
+            &rt,
+            rt.alloc(),
+            RUN,
+            CONTENDED.as_bytes(),
+            4096,
+            &[],
+            &[],
+        )?;
+        assert_eq!(rt; status, Status::Ok, "round {round}");
+        let got = got_by_each(rt.alloc(), &written)?;
+        is_one_order(&rt, rt.alloc(), &got)?;
+    }
     Ok(())
 }
 
@@ -776,7 +1020,11 @@ impl Source for OneLine {
 }
 
 /// What is said of one line of so many bytes.
-fn said_of_one_line(alloc: Global, bytes: usize) -> Result<Vec<u8>, Fail> {
+fn said_of_one_line<R: Threads + Wait + Sync>(
+    rt: &R,
+    alloc: Global,
+    bytes: usize,
+) -> Result<Vec<u8>, Fail> {
     let mut words = Vec::new(alloc);
     words.push(String::from_str(alloc, "replay")?)?;
     let mut sink = MemorySink::with_room(alloc, 100, 100, Vec::new(alloc))?;
@@ -784,18 +1032,18 @@ fn said_of_one_line(alloc: Global, bytes: usize) -> Result<Vec<u8>, Fail> {
         left: bytes,
         calls: 0,
     };
-    shenrun(alloc, &words, &mut source, &mut sink);
+    shenrun(rt, alloc, &words, &mut source, &mut sink, &OpenGate);
     Ok(Vec::from_slice(alloc, sink.bytes())?)
 }
 
 #[test]
 fn one_long_line_is_refused(rt: HostRuntime) -> Result<(), Fail> {
-    let most = said_of_one_line(rt.alloc(), 16_777_216)?;
+    let most = said_of_one_line(&rt, rt.alloc(), 16_777_216)?;
     assert_eq!(rt;
         most.as_slice(),
         b"bad line 1: end of line wanted\n".as_slice()
     );
-    let more = said_of_one_line(rt.alloc(), 16_777_217)?;
+    let more = said_of_one_line(&rt, rt.alloc(), 16_777_217)?;
     assert_eq!(rt;
         more.as_slice(),
         b"too long: more than 16777216 bytes\n".as_slice()
@@ -808,7 +1056,14 @@ fn too_many_bytes_are_refused(rt: HostRuntime) -> Result<(), Fail> {
     let mut words = Vec::new(rt.alloc());
     words.push(String::from_str(rt.alloc(), "replay")?)?;
     let mut sink = MemorySink::with_room(rt.alloc(), 100, 100, Vec::new(rt.alloc()))?;
-    let status = shenrun(rt.alloc(), &words, &mut Endless { calls: 0 }, &mut sink);
+    let status = shenrun(
+        &rt,
+        rt.alloc(),
+        &words,
+        &mut Endless { calls: 0 },
+        &mut sink,
+        &OpenGate,
+    );
     assert_eq!(rt; status, Status::BadTrace);
     assert_eq!(rt;
         sink.bytes(),

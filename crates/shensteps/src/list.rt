@@ -115,12 +115,8 @@ fn list<K: Sink>(
     ensures count { CountsEvents plain.old work.old schedule wanted.steps result.events }
 {
     let mut walk = Walk::open(schedule);
-    let passed = wanted.steps.min(wanted.from.saturating_sub(1));
-    let missing = walk.skip(plain, work, passed);
-    listing.pass(passed - missing, &walk);
     listing.columns(sink);
-    let limit = wanted.steps - (passed - missing);
-    let left = list_all(listing, &mut walk, plain, work, sink, limit);
+    let left = list_all(listing, &mut walk, plain, work, sink, wanted.steps);
     let ran = ended(plain, work, left);
     listing.end(plain, ran == Ran::Finished, sink);
     Listed {

@@ -37,9 +37,10 @@ pub struct Listing {
     wanted: Wanted,
     // The events that were made.
     made: u64,
-    // The items whose headings were written, and whether that of the rounds was.
+    // The items whose headings were written or passed over, whether that of the rounds was written, and whether any was.
     headed: usize,
     in_rounds: bool,
+    is_open: bool,
     // Of each machine: whether it is in a call, and where its room begins that is no object yet, or 0.
     in_call: [bool; 12],
     rooms: [u64; 12],
@@ -55,21 +56,12 @@ impl Listing {
             made: 0,
             headed: 0,
             in_rounds: false,
+            is_open: false,
             in_call: [false; 12],
             rooms: [0; 12],
             row: Row::new(),
             block: Block::new(),
         }
-    }
-
-    /// Takes down that so many events were made that are not listed.
-    pub fn pass(&mut self, events: u64, walk: &Walk) {
-        self.made = self.made.saturating_add(events);
-        self.headed = if walk.is_at_item() {
-            walk.begun().saturating_sub(1)
-        } else {
-            walk.begun()
-        };
     }
 
     /// Writes the line that names the columns.
@@ -96,11 +88,22 @@ impl Listing {
         }
     }
 
-    // Writes the heading of an item, counted from 0, and before it the heap as the part before has left it.
-    fn item<K: Sink>(&mut self, plain: &Plain, number: usize, item: Item, sink: &mut K) {
-        if number > 0 {
+    // Begins a part: before its heading stands the heap as the part before has left it.
+    fn part<K: Sink>(&mut self, plain: &Plain, sink: &mut K) {
+        if self.is_open {
             self.heap(plain, sink);
         }
+        self.is_open = true;
+    }
+
+    // Whether the next event comes before the first that is wanted.
+    fn is_early(&self) -> bool {
+        self.made.saturating_add(1) < self.wanted.from
+    }
+
+    // Writes the heading of an item, counted from 0.
+    fn item<K: Sink>(&mut self, plain: &Plain, number: usize, item: Item, sink: &mut K) {
+        self.part(plain, sink);
         self.row.put(b"-- item ");
         self.row.put_number((number as u64).saturating_add(1));
         self.row.put(b": ");
@@ -108,8 +111,16 @@ impl Listing {
         self.row.send(&mut self.block, sink);
     }
 
-    /// Writes the headings of the parts that have begun since the last event.
+    /// Writes the headings of the items that have begun since the last event, at first only that of the item at work where the
+    /// listing begins later.
     pub fn headings<K: Sink>(&mut self, plain: &Plain, walk: &Walk, sink: &mut K) {
+        if self.is_early() {
+            return;
+        }
+        if !self.is_open && self.wanted.from > 1 {
+            let before = if walk.is_at_item() { 1 } else { 0 };
+            self.headed = walk.begun().saturating_sub(before);
+        }
         for number in self.headed..walk.begun() {
             if let Some(item) = walk.items().get(number) {
                 self.item(plain, number, *item, sink);
@@ -120,12 +131,10 @@ impl Listing {
 
     /// Writes the heading of the rounds, where they have begun since the last event.
     pub fn rounds<K: Sink>(&mut self, plain: &Plain, walk: &Walk, sink: &mut K) {
-        if walk.is_at_item() || self.in_rounds {
+        if walk.is_at_item() || self.in_rounds || self.is_early() {
             return;
         }
-        if self.headed > 0 {
-            self.heap(plain, sink);
-        }
+        self.part(plain, sink);
         self.in_rounds = true;
         self.row.put(b"-- rounds");
         self.row.send(&mut self.block, sink);
@@ -156,11 +165,25 @@ impl Listing {
         }
     }
 
-    // Puts what the step of a machine says. It may be the first of a call, that of the command which follows in the script.
+    // Whether the step begins a call.
+    fn is_begin(&self, seen: &Seen) -> bool {
+        seen.place == Place::E1 && !self.in_call[seen.number % MACHINES]
+    }
+
+    // Takes down whether the machine is in a call.
+    fn note_call(&mut self, seen: &Seen) {
+        let slot = seen.number % MACHINES;
+        if seen.place == Place::E1 {
+            self.in_call[slot] = true;
+        } else if seen.said == Stepped::Done {
+            self.in_call[slot] = false;
+        }
+    }
+
+    // Puts what the step of a machine says. The first of a call begins the command that follows in the script.
     fn put_says(&mut self, plain: &Plain, work: &Work, seen: &Seen)
         requires { CanRun plain.now work.now }
     {
-        let slot = seen.number % MACHINES;
         if let Access::Exchange { expect, .. } = seen.access {
             self.row.put(if seen.found == expect {
                 b"won".as_slice()
@@ -168,8 +191,7 @@ impl Listing {
                 b"lost".as_slice()
             });
         }
-        if seen.place == Place::E1 && !self.in_call[slot] {
-            self.in_call[slot] = true;
+        if self.is_begin(seen) {
             if seen.number < plain.config().mutators() {
                 if let Some(command) = work.next(seen.number) {
                     self.row.put(b"begins ");
@@ -189,7 +211,6 @@ impl Listing {
     fn put_replied(&mut self, plain: &Plain, work: &Work, seen: &Seen)
         requires { CanRun plain.now work.now }
     {
-        self.in_call[seen.number % MACHINES] = false;
         if seen.number < plain.config().mutators() {
             if let Some(reply) = work.replies(seen.number).list().last() {
                 self.row.put(b"replies ");
@@ -220,18 +241,18 @@ impl Listing {
     pub fn event<K: Sink>(&mut self, plain: &Plain, work: &Work, seen: &Seen, sink: &mut K)
         requires { CanRun plain.now work.now }
     {
-        self.made = self.made.saturating_add(1);
-        self.set(plain, work, seen);
-        self.note_room(plain, seen);
-        let wanted = match self.wanted.only {
+        let is_wanted = match self.wanted.only {
             Some(machine) => (seen.number as u64).saturating_add(1) == machine,
             None => true,
         };
-        if wanted {
+        let is_early = self.is_early();
+        self.made = self.made.saturating_add(1);
+        if is_wanted && !is_early {
+            self.set(plain, work, seen);
             self.row.send(&mut self.block, sink);
-        } else {
-            self.row.clear();
         }
+        self.note_room(plain, seen);
+        self.note_call(seen);
     }
 
     /// Writes the heap at the end, and how many events there were where that is all.

@@ -42,3 +42,6 @@ fn main(rt: HostRuntime) -> ExitCode {
     let status = shensteps(rt.alloc(), &words, &mut source, &mut sink);
     ExitCode::from(status.number())
 }
+
+#[cfg(test)]
+mod tests;

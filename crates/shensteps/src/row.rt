@@ -79,11 +79,6 @@ impl Row {
         self.pad(column);
     }
 
-    /// Drops what is there.
-    pub fn clear(&mut self) {
-        self.used = 0;
-    }
-
     /// Sends the row as a line, and is empty then.
     pub fn send<K: Sink>(&mut self, block: &mut Block, sink: &mut K) {
         let mut end = self.used.min(ROOM);

@@ -1,30 +1,24 @@
-use Rattle.std.proofs.Common.{◌-◌, ◌∙◌, arith, subst}
+use Rattle.std.proofs.Common.{◌-◌, subst}
 use Rattle.shen_core.specs.State.{config_of}
 use Rattle.shen_core.specs.Ending.{EndsRun}
 use Rattle.schedule_walk.specs.Agendas.{agenda_in}
-use Rattle.schedule_walk.proofs.Walking.{runs_rest}
 use Rattle.schedule_walk.proofs.Ends.{ends_by, counts_by}
 use Rattle.shensteps.specs.Listed.{HasEvents}
 use Rattle.shensteps.proofs.list.list.Goals as goal
+
+pub list_all-left-requires-clause-walk : goal.list_all-left-requires-clause-walk
+list_all-left-requires-clause-walk g c = c.open-walk.ensures.fits (config_of c.args.plain.now) c.requires.items
 
 pub returns-clause-events : goal.returns-clause-events
 returns-clause-events g c =
     subst (λ todo. EndsRun c.args.plain.now c.args.work.now todo c.args.wanted.steps c.list_all-left.new.plain c.list_all-left.new.work c.ended-ran.result) c.open-walk.ensures.agenda
     (ends_by c.args.plain.now c.list_all-left.new.plain c.args.work.now c.list_all-left.new.work (agenda_in c.open-walk.result) (agenda_in c.list_all-left.new.walk) c.args.wanted.steps c.list_all-left.result c.ended-ran.result
-    (c.list_all-left.ensures.config ∙ c.skip-missing.ensures.config)
-    (runs_rest c.args.plain.now c.skip-missing.new.plain c.list_all-left.new.plain c.args.work.now c.skip-missing.new.work c.list_all-left.new.work (agenda_in c.open-walk.result) (agenda_in c.skip-missing.new.self) (agenda_in c.list_all-left.new.walk) c.args.wanted.steps c.min-passed.result c.skip-missing.result (c.args.wanted.steps - (c.min-passed.result - c.skip-missing.result)) c.list_all-left.result c.skip-missing.ensures.config (omega (arith, c.min-passed.ensures)) (let less = c.skip-missing.ensures.less in omega (arith, c.min-passed.ensures, less)) c.skip-missing.ensures.events c.list_all-left.ensures.events)
+    c.list_all-left.ensures.config c.list_all-left.ensures.events
     c.list_all-left.ensures.ended c.list_all-left.ensures.idle c.ended-ran.ensures.finished c.ended-ran.ensures.unfinished)
 
 pub returns-clause-count : goal.returns-clause-count
 returns-clause-count g c =
     subst (λ todo. HasEvents c.args.plain.now c.args.work.now todo c.args.wanted.steps (c.args.wanted.steps - c.list_all-left.result)) c.open-walk.ensures.agenda
     (counts_by c.args.plain.now c.list_all-left.new.plain c.args.work.now c.list_all-left.new.work (agenda_in c.open-walk.result) (agenda_in c.list_all-left.new.walk) c.args.wanted.steps c.list_all-left.result
-    (c.list_all-left.ensures.config ∙ c.skip-missing.ensures.config)
-    (runs_rest c.args.plain.now c.skip-missing.new.plain c.list_all-left.new.plain c.args.work.now c.skip-missing.new.work c.list_all-left.new.work (agenda_in c.open-walk.result) (agenda_in c.skip-missing.new.self) (agenda_in c.list_all-left.new.walk) c.args.wanted.steps c.min-passed.result c.skip-missing.result (c.args.wanted.steps - (c.min-passed.result - c.skip-missing.result)) c.list_all-left.result c.skip-missing.ensures.config (omega (arith, c.min-passed.ensures)) (let less = c.skip-missing.ensures.less in omega (arith, c.min-passed.ensures, less)) c.skip-missing.ensures.events c.list_all-left.ensures.events)
+    c.list_all-left.ensures.config c.list_all-left.ensures.events
     c.list_all-left.ensures.ended)
-
-pub skip-missing-requires-clause-walk : goal.skip-missing-requires-clause-walk
-skip-missing-requires-clause-walk g c = c.open-walk.ensures.fits (config_of c.args.plain.now) c.requires.items
-
-pub overflow_sub-result : goal.overflow_sub-result
-overflow_sub-result g c = (let one = c.skip-missing.ensures.less in let two = c.list_all-left.ensures.less in omega (arith, c.min-passed.ensures, one, two))

@@ -7,27 +7,27 @@ use Rattle.shenrun.specs.declared.status.Status.TheVariants.{BadWords}
 use Rattle.shenrun.specs.Answered.{Input, Output}
 use Rattle.shenrun.proofs.Ends.{said, row_of_ok}
 use Rattle.shenrun.proofs.Complete.{complete}
-use Rattle.shenrun.proofs.replay.shenrun.Goals as goal
+use Rattle.shenrun.proofs.Words.{replay_begins, asks_neither}
+use Rattle.shenrun.proofs.top.shenrun.Goals as goal
 
 pub returns-in-Some-clause-headline : goal.returns-in-Some-clause-headline
 returns-in-Some-clause-headline g c = λ e.
     let words : List (List ℕ) = map string_bytes c.args.words.now in
-    let input : Input = record { before = g.S.Source.left c.args.source.now; after = g.S.Source.left c.replay.new.source; faults_before = g.S.Source.faults c.args.source.now; faults_after = g.S.Source.faults c.replay.new.source } in
+    let input : Input = record { before = g.S.Source.left c.args.source.now; after = g.S.Source.left c.run.new.source; faults_before = g.S.Source.faults c.args.source.now; faults_after = g.S.Source.faults c.run.new.source } in
     let output : Output = record {
       before = outlet (g.K.Sink.written c.args.sink.now) (g.K.Sink.faults c.args.sink.now) (g.K.Sink.calls c.args.sink.now);
-      after = outlet (g.K.Sink.written c.replay.new.sink) (g.K.Sink.faults c.replay.new.sink) (g.K.Sink.calls c.replay.new.sink);
+      after = outlet (g.K.Sink.written c.run.new.sink) (g.K.Sink.faults c.run.new.sink) (g.K.Sink.calls c.run.new.sink);
     } in
-    let written = row_of_ok words input output c.replay.result (c.replay.ensures words c.in-Some.ensures) e in
-    let row = written.1 in
-    (row.0, row.1, (row.2.0, (written.0, row.2.1, row.2.2, written.2)))
+    row_of_ok words input output c.run.result (c.run.ensures words c.in-Some.ensures) e
 
 pub returns-in-Some-clause-answered : goal.returns-in-Some-clause-answered
-returns-in-Some-clause-answered g c = c.replay.ensures (map string_bytes c.args.words.now) c.in-Some.ensures
+returns-in-Some-clause-answered g c = c.run.ensures (map string_bytes c.args.words.now) c.in-Some.ensures
 
 pub returns-in-Some-clause-complete : goal.returns-in-Some-clause-complete
 returns-in-Some-clause-complete g c = λ bytes config scripts items asked told reads read_fine written_fine.
-    complete (map string_bytes c.args.words.now) _ _ c.replay.result (c.replay.ensures (map string_bytes c.args.words.now) c.in-Some.ensures) bytes config scripts items asked told reads read_fine written_fine
+    complete (map string_bytes c.args.words.now) _ _ c.run.result (c.run.ensures (map string_bytes c.args.words.now) c.in-Some.ensures) bytes config scripts items asked told reads read_fine written_fine
 
 pub returns-in-None-clause-answered : goal.returns-in-None-clause-answered
 returns-in-None-clause-answered g c =
-    said (map string_bytes c.args.words.now) _ _ (line_text line.BadWords) BadWords c.say.result (c.in-None.ensures, refl) c.say.ensures
+    let words : List (List ℕ) = map string_bytes c.args.words.now in
+    said words _ _ (line_text line.BadWords) BadWords c.say.result (asks_neither words (λ asked. replay_begins words asked c.if-begins_with_run.ensures) c.in-None.ensures, refl) c.say.ensures

@@ -1,0 +1,21 @@
+use Rattle.std.proofs.Common.{rules, ◌≡◌, ◌+◌, true, false, sym, subst}
+use Rattle.shenrun.specs.Parts.{IsReady}
+use Rattle.shenrun.specs.Started.{IsThread}
+use Rattle.shenrun.proofs.PartLaws.{ended_done}
+use Rattle.shenrun.proofs.Loops.{ran_already, as_given}
+use Rattle.shenrun.proofs.threads.ended.Goals as goal
+
+pub returns-then-not-ran : goal.returns-then-not-ran
+returns-then-not-ran g c = λ scripts workers k is.
+    let h = c.args.heap.now in
+    let ready : IsReady h scripts workers k (k + 1) c.in-Running.handle.promise.0.value = subst (IsThread h scripts workers k) c.in-Running.is is in
+    let unran : c.join-part.result.ran ≡ false = search rules in
+    ended_done h scripts workers k (k + 1) c.join-part.result.part c.run.new.self
+    (subst (IsReady h scripts workers k (k + 1)) (sym (as_given c.in-Running.handle.promise.0.value c.join-part.result c.join-part.ensures unran)) ready) c.run.ensures
+
+pub returns-else-not-ran : goal.returns-else-not-ran
+returns-else-not-ran g c = λ scripts workers k is.
+    let h = c.args.heap.now in
+    let ready : IsReady h scripts workers k (k + 1) c.in-Running.handle.promise.0.value = subst (IsThread h scripts workers k) c.in-Running.is is in
+    let ran : c.join-part.result.ran ≡ true = search rules in
+    ran_already h scripts workers k (k + 1) c.in-Running.handle.promise.0.value c.join-part.result ready c.join-part.ensures ran
