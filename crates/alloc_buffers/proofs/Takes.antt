@@ -12,12 +12,12 @@ use Rattle.steps_base.specs.Touch.{touch, loads, touched}
 use Rattle.regions.specs.Place.{base_of}
 use Rattle.regions.specs.Sets.{lowest_in}
 use Rattle.shen_graph.specs.declared.name.Name.{Name}
-use Rattle.heap_world.specs.World.{World, Plot, Block, thing, hand, promised, name_at, AreCurrent, AreRooms, Shared}
+use Rattle.heap_world.specs.World.{World, with_owner, Plot, Block, thing, hand, promised, name_at, AreCurrent, AreRooms, Shared}
 use Rattle.heap_world.specs.Rely.{Keeps, Rely}
 use Rattle.heap_world.specs.Part.{PartStep}
 use Rattle.heap_world.proofs.Updates.{updated, updated_same, updated_there, updated_else}
 use Rattle.heap_world.proofs.Keeping.{load_keeps, rely_same, keeps_of}
-use Rattle.heap_world.proofs.NewPiece.{CanGrow, names_stay, stays, old_hand, own_hand, old_promise, promises_more, plotted_more, filled_more, objects_more, free_more, rooms_more}
+use Rattle.heap_world.proofs.NewPiece.{CanGrow, names_stay, stays, old_hand, own_hand, old_promise, parsable_more, contents_more, owned_more, unfilled_more}
 use Rattle.heap_world.proofs.FreeRegions.{lowest_within, owner_stays, free_without, currents_stay}
 use Rattle.alloc_buffers.specs.declared.spot.Kind.{Kind}
 use Rattle.alloc_buffers.specs.declared.spot.Taken.TheVariants.{At, NoRoom}
@@ -71,7 +71,7 @@ none_taken words _ going a more is = is
 module _ (c : Config) (u : World) (seat words : ℕ) (kind : Kind) where
   -- the world after an access, where nothing but the memory changes
   abbrev accessed : TakeSpot → World
-  accessed take = record { memory = touched u.memory (touch_at seat words take); block = u.block; owner = u.owner; graph = u.graph }
+  accessed take = record { memory = touched u.memory (touch_at seat words take); block = u.block; ghost = u.ghost; graph = u.graph }
 
   module _ (take : TakeSpot) (going : is_ended take ≡ false) (shared : Shared c u) (can : CanTake c u seat words take) where
     -- there is no room in hand
@@ -115,7 +115,7 @@ module _ (c : Config) (u : World) (seat words : ℕ) (kind : Kind) where
       let is : got ≡ (got - 1) + 1 = omega (arith, some) in
       looked LoadCurrent refl shared can (LoadTop (got - 1)) (Current seat) refl
       (cond-false (got == 0) LoadFree (LoadTop (got - 1)) (ne_eqb got 0 some))
-      (and_from _ _ (and_from _ _ (lt-ltb _ _ (shared.currents.within seat (got - 1) is)) refl) refl)
+      (and_from _ _ (and_from _ _ (lt-ltb _ _ (shared.owned.currents.within seat (got - 1) is)) refl) refl)
       is)
       (cases_eq got 0)
 
@@ -123,7 +123,7 @@ module _ (c : Config) (u : World) (seat words : ℕ) (kind : Kind) where
   at_load_top : (region : ℕ) → Shared c u → CanTake c u seat words (LoadTop region) → TakeStep c u seat words kind (LoadTop region)
   at_load_top region shared can =
       let got : ℕ = u.memory (Top region) in
-      let within : region < c.regions = shared.currents.within seat region can.facts in
+      let within : region < c.regions = shared.owned.currents.within seat region can.facts in
       ⊎_elim
       (λ (room : has_room c words got ≡ true).
       let most : got + words ≤ c.region_words = leb-true _ _ room in
@@ -148,7 +148,7 @@ module _ (c : Config) (u : World) (seat words : ℕ) (kind : Kind) where
       (cond-true (has_none c kind got) (Ended NoRoom) (TakeRegion (lowest_in got)) none) refl
       can.facts)
       (λ (some : has_none c kind got ≡ false).
-      let within : lowest_in got < c.regions = lowest_within c got (kept_back c kind) shared.free_word.no_more (leb-false _ _ some) in
+      let within : lowest_in got < c.regions = lowest_within c got (kept_back c kind) shared.owned.free_word.no_more (leb-false _ _ some) in
       looked LoadFree refl shared can (TakeRegion (lowest_in got)) Free refl
       (cond-false (has_none c kind got) (Ended NoRoom) (TakeRegion (lowest_in got)) some)
       (and_from _ _ (lt-ltb _ _ (omega arith)) (lt-ltb _ _ within))
@@ -160,7 +160,7 @@ module _ (c : Config) (u : World) (seat words : ℕ) (kind : Kind) where
   taken_world region = record {
     memory = touched u.memory (touch_at seat words (TakeRegion region));
     block = u.block;
-    owner = updated u.owner region (Some seat);
+    ghost = with_owner u.ghost (updated u.ghost.owner region (Some seat));
     graph = u.graph;
   }
 
@@ -169,28 +169,29 @@ module _ (c : Config) (u : World) (seat words : ℕ) (kind : Kind) where
   takes_it region shared can won =
       let within : region < c.regions = can.facts.1 in
       let bit : bit_at (u.memory Free) region ≡ 1 = eqb-true _ _ won in
-      let nobodys : u.owner region ≡ None = shared.free_word.nobodys region within bit in
+      let nobodys : u.ghost.owner region ≡ None = shared.owned.free_word.nobodys region within bit in
       let few = c.in_range.most_regions in
       record {
         world = taken_world region;
         memory = refl;
         graph = refl;
         shared = record {
-          plotted = shared.plotted;
-          filled = shared.filled;
-          objects = shared.objects;
-          given = shared.given;
+          parsable = shared.parsable;
+          contents = shared.contents;
+          owned = record {
+            free_word = free_without c (u.memory Free) region (λ r. u.memory (Top r)) u.ghost.owner (updated u.ghost.owner region (Some seat)) within (λ r differs. updated_else u.ghost.owner region (Some seat) r (λ e. differs (sym e))) shared.owned.free_word;
+            currents = currents_stay c (λ s. u.memory (Current s)) u.ghost.owner region seat nobodys shared.owned.currents;
+            rooms = shared.owned.rooms;
+          };
           calm = shared.calm;
-          free_word = free_without c (u.memory Free) region (λ r. u.memory (Top r)) u.owner (updated u.owner region (Some seat)) within (λ r differs. updated_else u.owner region (Some seat) r (λ e. differs (sym e))) shared.free_word;
-          currents = currents_stay c (λ s. u.memory (Current s)) u.owner region seat nobodys shared.currents;
-          rooms = shared.rooms;
-          promises = shared.promises;
+          uncollected = shared.uncollected;
+          unfilled = shared.unfilled;
         };
         own = subst (λ s. CanTake c (taken_world region) seat words s)
             (sym (cond-true (bit_at (u.memory Free) region == 1) (StoreCurrent region) LoadFree won))
             (can_at (TakeRegion region) refl shared can (StoreCurrent region) (taken_world region) refl
             (and_from _ _ (and_from _ _ (lt-ltb seat (seat_count c.mutators c.helpers) can.seated) (lt-ltb (region + 1) (2 ^ 64) (omega (arith, within, few)))) (lt-ltb _ _ within))
-            (record { within = within; own = updated_there u.owner region (Some seat); empty = shared.free_word.empty region within bit }));
+            (record { within = within; own = updated_there u.ghost.owner region (Some seat); empty = shared.owned.free_word.empty region within bit }));
         keeps = search (arith, nat_tests);
         others = λ j d. record {
           names = λ a n is. is;
@@ -202,7 +203,7 @@ module _ (c : Config) (u : World) (seat words : ℕ) (kind : Kind) where
           no_promises = λ a more is. is;
           promise_words = λ a more k is below. refl;
           current = refl;
-          owners = λ r is. owner_stays u.owner region seat nobodys r j is;
+          owners = λ r is. owner_stays u.ghost.owner region seat nobodys r j is;
           tops = λ r is. refl;
           root_words = λ i. refl;
           roots = λ i. refl;
@@ -222,15 +223,16 @@ module _ (c : Config) (u : World) (seat words : ℕ) (kind : Kind) where
     memory = refl;
     graph = refl;
     shared = record {
-      plotted = shared.plotted;
-      filled = shared.filled;
-      objects = shared.objects;
-      given = shared.given;
+      parsable = shared.parsable;
+      contents = shared.contents;
+      owned = record {
+        free_word = free_without c (u.memory Free) region (λ r. u.memory (Top r)) u.ghost.owner u.ghost.owner can.facts.1 (λ r other. refl) shared.owned.free_word;
+        currents = shared.owned.currents;
+        rooms = shared.owned.rooms;
+      };
       calm = shared.calm;
-      free_word = free_without c (u.memory Free) region (λ r. u.memory (Top r)) u.owner u.owner can.facts.1 (λ r other. refl) shared.free_word;
-      currents = shared.currents;
-      rooms = shared.rooms;
-      promises = shared.promises;
+      uncollected = shared.uncollected;
+      unfilled = shared.unfilled;
     };
     own = subst (λ s. CanTake c (accessed (TakeRegion region)) seat words s)
         (sym (cond-false (bit_at (u.memory Free) region == 1) (StoreCurrent region) LoadFree lost))
@@ -254,15 +256,16 @@ module _ (c : Config) (u : World) (seat words : ℕ) (kind : Kind) where
         memory = refl;
         graph = refl;
         shared = record {
-          plotted = shared.plotted;
-          filled = shared.filled;
-          objects = shared.objects;
-          given = shared.given;
+          parsable = shared.parsable;
+          contents = shared.contents;
+          owned = record {
+            free_word = shared.owned.free_word;
+            currents = currents_with c (λ s. u.memory (Current s)) u.ghost.owner seat region taken.within taken.own shared.owned.currents;
+            rooms = rooms_with c (λ r. u.memory (Top r)) (λ s. u.memory (Current s)) u.block seat region (none_in_hand (StoreCurrent region) refl shared can) shared.owned.rooms;
+          };
           calm = shared.calm;
-          free_word = shared.free_word;
-          currents = currents_with c (λ s. u.memory (Current s)) u.owner seat region taken.within taken.own shared.currents;
-          rooms = rooms_with c (λ r. u.memory (Top r)) (λ s. u.memory (Current s)) u.block seat region (none_in_hand (StoreCurrent region) refl shared can) shared.rooms;
-          promises = shared.promises;
+          uncollected = shared.uncollected;
+          unfilled = shared.unfilled;
         };
         own = can_at (StoreCurrent region) refl shared can (StoreTop region 0) (accessed (StoreCurrent region)) refl
             (and_from _ _ (and_from _ _ (lt-ltb _ _ taken.within) (lt-ltb _ _ (omega (arith, most)))) (le-leb _ _ (omega (arith, most, long))))
@@ -287,7 +290,7 @@ module _ (c : Config) (u : World) (seat words : ℕ) (kind : Kind) where
     grown_world = record {
       memory = touched u.memory (touch_at seat words (StoreTop region top));
       block = updated u.block address (Some (hand seat words));
-      owner = u.owner;
+      ghost = u.ghost;
       graph = u.graph;
     }
 
@@ -296,8 +299,8 @@ module _ (c : Config) (u : World) (seat words : ℕ) (kind : Kind) where
     roomy = can.facts
 
     -- the region is the seat's
-    own : u.owner region ≡ Some seat
-    own = shared.currents.own seat region roomy.is_current
+    own : u.ghost.owner region ≡ Some seat
+    own = shared.owned.currents.own seat region roomy.is_current
 
     -- there is no room in hand yet
     none : (a more : ℕ) → u.block a ≡ Some (hand seat more) → ⊥
@@ -305,20 +308,17 @@ module _ (c : Config) (u : World) (seat words : ℕ) (kind : Kind) where
 
     -- the region has room
     grows : CanGrow c tops currents u.block region top words
-    grows = record { plotted = shared.plotted; rooms = shared.rooms; promises = shared.promises; within = roomy.within; top_is = roomy.top_is; room = roomy.room; some = can.least }
+    grows = record { parsable = shared.parsable; rooms = shared.owned.rooms; within = roomy.within; top_is = roomy.top_is; room = roomy.room; some = can.least }
 
     -- machines share what they should
     shared_grown : Shared c grown_world
     shared_grown = record {
-      plotted = plotted_more c tops currents u.block region top words seat grows;
-      filled = filled_more c tops currents u.block region top words seat grows shared.filled;
-      objects = objects_more c tops currents u.block region top words seat grows (λ a. u.memory (Heap a)) u.graph.object shared.objects;
-      given = shared.given;
+      parsable = parsable_more c tops currents u.block region top words seat grows;
+      contents = contents_more c tops currents u.block region top words seat grows (λ a. u.memory (Heap a)) u.graph.object u.graph.count shared.contents;
+      owned = owned_more c tops currents u.block region top words seat grows (u.memory Free) u.ghost.owner can.seated roomy.is_current none shared.owned;
       calm = shared.calm;
-      free_word = free_more c tops currents u.block region top words seat grows (u.memory Free) u.owner own shared.free_word;
-      currents = shared.currents;
-      rooms = rooms_more c tops currents u.block region top words seat grows u.owner can.seated roomy.is_current shared.currents none;
-      promises = promises_more c tops currents u.block region top words seat grows;
+      uncollected = shared.uncollected;
+      unfilled = unfilled_more c tops currents u.block region top words seat grows shared.unfilled;
     }
 
     -- what a word stands for it still stands for
@@ -370,7 +370,7 @@ module _ (c : Config) (u : World) (seat words : ℕ) (kind : Kind) where
       promise_words = λ a more k is below. refl;
       current = refl;
       owners = λ r is. is;
-      tops = λ r is. updated_else tops region (top + words) r (λ same. differs (same_Some j seat (sym is ∙ ap u.owner (sym same) ∙ own)));
+      tops = λ r is. updated_else tops region (top + words) r (λ same. differs (same_Some j seat (sym is ∙ ap u.ghost.owner (sym same) ∙ own)));
       root_words = λ i. refl;
       roots = λ i. refl;
       count = refl;

@@ -16,7 +16,7 @@ HasLess c memory seat words = (r : ℕ) → memory (Current seat) ≡ r + 1 → 
 -- a region that a seat has taken and not made its current one yet
 pub record IsTaken (c : Config) (w : World) (seat region : ℕ) : Type 0 where
   pub within : region < c.regions
-  pub own : w.owner region ≡ Some seat
+  pub own : w.ghost.owner region ≡ Some seat
   pub empty : w.memory (Top region) ≡ 0
 
 -- a top of the current region that has room for so many words

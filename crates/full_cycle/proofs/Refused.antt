@@ -7,14 +7,6 @@ use Rattle.heap_words.specs.Words.{Word, Wait, Answer, write}
 use Rattle.image_laws.specs.Full.{refused}
 use Rattle.full_cycle.specs.Steps.{refused_below}
 
-none_at : (m : Word → ℕ) (w : Word) → m w ≡ refused_below 0 m w
-none_at m (Answer t) = grind (arith, nat_tests)
-none_at m (Wait t) = grind (arith, nat_tests)
-none_at m _ = refl
-
-pub refused_none : (m : Word → ℕ) → m ≡ refused_below 0 m
-refused_none m = fun_ext (none_at m)
-
 -- a thread that does not wait
 idle_one : (t u wait answer : ℕ) → (t ≡ u → wait ≡ 0) → cond (nat_lt u t) (cond (wait == 0) answer 1) answer ≡ cond (nat_lt u (t + 1)) (cond (wait == 0) answer 1) answer
 idle_one t u wait answer none = grind (arith, nat_tests, none)

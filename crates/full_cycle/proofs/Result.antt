@@ -1,10 +1,10 @@
 -- What a full collection does to the graph, and to who waits.
-use Rattle.std.proofs.Common.{◌≡◌, ◌≢◌, ℕ, ◌<◌, ◌↔◌, ⊎_elim, refl, sym, ap, ◌∙◌, subst, arith}
+use Rattle.std.proofs.Common.{◌≡◌, ◌≢◌, ℕ, ◌<◌, ◌↔◌, ⊎_elim, sym, ap, ◌∙◌, subst, arith}
 use Rattle.heap_words.specs.declared.config.Config.{Config}
 use Rattle.heap_words.specs.Words.{Word, Top, Wait, Answer, Heap}
 use Rattle.packing.specs.Rooms.{HasNoRoom, IsLowestRoom}
 use Rattle.image_laws.specs.Held.{IsAmong}
-use Rattle.image_laws.specs.Full.{now_in, root_words, kept_in, asked_in, packed, full}
+use Rattle.image_laws.specs.Full.{now_in, root_words, kept_in, asked_in, packed_in, full}
 use Rattle.image_laws.specs.Plot.{packed_block}
 use Rattle.image_laws.specs.Promised.{with_promised}
 use Rattle.image_laws.specs.Image.{ImageStands}
@@ -14,8 +14,9 @@ use Rattle.image_laws.proofs.Reached.{held_are_reachable}
 use Rattle.image_laws.proofs.Walked.{walk_keeps}
 use Rattle.image_laws.proofs.Served.{requests_are_answered}
 use Rattle.image_laws.proofs.Serving.{full_stands}
+use Rattle.image_laws.proofs.Still.{packed_wait}
 use Rattle.image_graph.specs.Left.{IsLeft}
-use Rattle.full_cycle.specs.Result.{packed_in, KeepsTheGraph, KeepsTheReachable, RefusesTheLeft}
+use Rattle.full_cycle.specs.Result.{KeepsTheGraph, KeepsTheReachable, RefusesTheLeft}
 
 pub keeps_graph : (c : Config) (m after : Word → ℕ) → after ≡ full c m → KeepsTheGraph c m after
 keeps_graph c m after is block owner p g holds =
@@ -33,15 +34,10 @@ keeps_reachable c m block owner p g holds =
           (at.0, at.1, at.2, (let size = are.words at.0 at.3 in omega (arith, size)), at.4);
     }
 
--- packing changes no request
-pub waits_still : (c : Config) (m : Word → ℕ) (t : ℕ) → packed_in c m (Wait t) ≡ m (Wait t)
-unfolding packed
-waits_still c m t = refl
-
 refuses : (c : Config) (m : Word → ℕ) (t : ℕ) → t < c.mutators → m (Wait t) ≢ 0 → (full c m (Answer t) ≡ 1) ↔ IsLeft c (packed_in c m) t
 refuses c m t inside waits =
     let after : Word → ℕ = packed_in c m in
-    let waiting : after (Wait t) ≢ 0 = λ none. waits (sym (waits_still c m t) ∙ none) in
+    let waiting : after (Wait t) ≢ 0 = λ none. waits (sym (packed_wait c m t) ∙ none) in
     let answered = (requests_are_answered c after).answered t inside waiting in (
       λ one. ⊎_elim
           (λ (room : (r : ℕ) × IsLowestRoom c.region_words (tops_at_turn c after t) (asked_in after t) c.regions r).

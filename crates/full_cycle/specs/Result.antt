@@ -7,16 +7,12 @@ use Rattle.shen_graph.specs.Graph.{Graph}
 use Rattle.shen_graph.specs.Reach.{IsReachable}
 use Rattle.heap_world.specs.World.{Plot, thing}
 use Rattle.image_laws.specs.Plot.{packed_block}
-use Rattle.image_laws.specs.Full.{now_in, kept_in, packed}
+use Rattle.image_laws.specs.Full.{kept_in, packed_in}
 use Rattle.image_laws.specs.Promised.{Promises, with_promised}
 use Rattle.image_laws.specs.Image.{ImageStands}
 use Rattle.image_laws.specs.Serving.{served_block, served_promises}
 use Rattle.image_graph.specs.Holds.{HoldsBy}
 use Rattle.image_graph.specs.Left.{IsLeft}
-
--- the words after packing, before requests are served
-abbrev pub packed_in : Config → (Word → ℕ) → Word → ℕ
-packed_in c memory = packed c (now_in memory) (kept_in c memory) memory
 
 -- Whatever graph the words held, in whatever way, they stand for it afterwards. The objects that were made for waiting
 -- threads are further promises.

@@ -12,7 +12,7 @@ use Rattle.shen_graph.specs.declared.name.Name.{Name}
 use Rattle.shen_graph.specs.Graph.{Graph, Object}
 use Rattle.shen_graph.specs.Reach.{size}
 use Rattle.heap_world.specs.Objects.{Refers}
-use Rattle.heap_world.specs.World.{Plot, Block, thing, words_of, name_at, Points, IsPlotted, IsThing, AreObjects, Shared}
+use Rattle.heap_world.specs.World.{Ghost, Plot, Block, thing, words_of, name_at, Points, IsPlotted, IsThing, AreObjects, Shared}
 use Rattle.heap_world.specs.Roots.{is_root_of, HasNoMore}
 use Rattle.heap_world.proofs.Pointing.{named_thing, piece_inside as words_inside}
 use Rattle.heap_graph.specs.Stands.{IsAt}
@@ -169,10 +169,10 @@ pieces_stand c words block g long pieces own no_more = record {
   roots = root_stands c words block g long pieces own no_more;
 }
 
-pub table_stands : (c : Config) (words : List ℕ) (block : Plot) (owner : ℕ → Option ℕ) (g : Graph) → length words ≡ table_words c
-    → Shared c (record { memory = view c words; block = block; owner = owner; graph = g })
+pub table_stands : (c : Config) (words : List ℕ) (block : Plot) (ghost : Ghost) (g : Graph) → length words ≡ table_words c
+    → Shared c (record { memory = view c words; block = block; ghost = ghost; graph = g })
     → ((t i : ℕ) → t < c.mutators → i < 16 → Points block (view c words (Root t i)) (g.root (t + 1) i)) → HasNoMore c.mutators g
     → WordsStand c.region_words (heap_in c words) (roots_in c words) (λ a. name_at (block a)) g
-table_stands c words block owner g long shared own no_more =
+table_stands c words block ghost g long shared own no_more =
     pieces_stand c words block g long
-    (record { plotted = shared.plotted; objects = shared.objects; small = λ n o is. (shared.given n o is).small }) own no_more
+    (record { plotted = shared.parsable.plotted; objects = shared.contents.objects; small = λ n o is. (shared.contents.given n o is).small }) own no_more

@@ -72,14 +72,14 @@ module _ (c : Config) (run : Run c) (rest : (t : ℕ) (a : Actor) → t < c.muta
       let m = some.mutator in
       let seat : m.seat ≡ t = (sound.of_heap.numbers t some.actor m some.here).0 in
       let at_rest : is_between_calls m.spot ≡ true = subst (λ machine. is_resting machine ≡ true) some.here.is (rest t some.actor below some.here.here) in
-      let w : World = world_of c (ending full_image c run) sound.stands.block sound.stands.owner graph in
+      let w : World = world_of c (ending full_image c run) sound.stands.block sound.stands.ghost graph in
       subst (λ k. Points sound.stands.block (settled c (ending full_image c run) (Root k i)) (graph.root (k + 1) i)) seat
       (subst (λ word. Points sound.stands.block word (graph.root (m.seat + 1) i)) (root_between_calls w m.seat i m.kept m.spot at_rest)
       ((sound.stands.mutators t some.actor m some.here).roots i small))
 
   -- the words stand for the graph after the run
   pub words_stand : WordsStand c.region_words (heap_in c (ending full_image c run).words) (roots_in c (ending full_image c run).words) names graph
-  words_stand = table_stands c (ending full_image c run).words sound.stands.block sound.stands.owner graph sound.of_heap.words
-      (subst (λ (memory : Word → ℕ). Shared c (record { memory = memory; block = sound.stands.block; owner = sound.stands.owner; graph = graph })) table_counts sound.stands.shared)
+  words_stand = table_stands c (ending full_image c run).words sound.stands.block sound.stands.ghost graph sound.of_heap.words
+      (subst (λ (memory : Word → ℕ). Shared c (record { memory = memory; block = sound.stands.block; ghost = sound.stands.ghost; graph = graph })) table_counts sound.stands.shared)
       (λ t i below small. subst (λ (memory : Word → ℕ). Points sound.stands.block (memory (Root t i)) (graph.root (t + 1) i)) table_counts (own_roots t i below small))
       sound.no_more

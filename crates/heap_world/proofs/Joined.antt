@@ -9,14 +9,14 @@ use Rattle.heap_world.proofs.Updates.{updated, updated_same, updated_there, upda
 use Rattle.heap_world.proofs.Pointing.{named_thing}
 use Rattle.heap_world.proofs.Pieces.{behind, beside, piece_cases}
 
--- A region has room for a piece above its top, and pieces have three words at least.
+-- A region has room for a piece above its top, and pieces have a word at least.
 pub record CanJoin (c : Config) (top : ℕ → ℕ) (block : Plot) (region at : ℕ) (piece : Block) : Type 0 where
   pub plotted : IsPlotted c top block
-  pub long : (a : ℕ) (b : Block) → block a ≡ Some b → 3 ≤ words_of b
+  pub long : (a : ℕ) (b : Block) → block a ≡ Some b → 1 ≤ words_of b
   pub within : region < c.regions
   pub top_is : top region ≡ at
   pub room : at + words_of piece ≤ c.region_words
-  pub some : 3 ≤ words_of piece
+  pub some : 1 ≤ words_of piece
 
 module _ (c : Config) (top : ℕ → ℕ) (block : Plot) (region at : ℕ) (piece : Block) (joins : CanJoin c top block region at piece) where
   -- its words

@@ -1,13 +1,18 @@
 -- What stays where little changes: words that stand for references, a memory of which a word is loaded, and what is relied on.
-use Rattle.std.proofs.Common.{◌≡◌, ℕ, ⊎_elim, true, false, Some, None, refl, sym, ap, ◌∙◌}
+use Rattle.std.proofs.Common.{◌≡◌, ℕ, inl, inr, ⊎_elim, true, false, Some, None, refl, sym, ap, ◌∙◌}
 use Rattle.std.proofs.Math.Path.{fun_ext}
 use Rattle.std.proofs.lemmas.Bool.{cases_Bool, cond-true, cond-false}
 use Rattle.heap_words.specs.Words.{Word, same_word, write}
 use Rattle.heap_words.proofs.Stores.{same_word_true}
 use Rattle.shen_graph.specs.declared.name.Name.{Name}
 use Rattle.shen_graph.specs.Graph.{Reference}
-use Rattle.heap_world.specs.World.{World, Plot, Points, name_at}
+use Rattle.heap_world.specs.World.{World, Plot, no_ghost, IsUncollected, Target, IsUsable, Points, name_at}
+use Rattle.heap_world.proofs.Pointing.{named_thing}
 use Rattle.heap_world.specs.Rely.{Keeps, Rely}
+
+-- nobody marks, copies or works in no ghost state
+pub none_collects : IsUncollected no_ghost.snapshot no_ghost.recording no_ghost.scanning no_ghost.copying no_ghost.working
+none_collects = record { empty = refl; records_none = λ seat. refl; scans_none = λ seat. refl; copies_none = λ seat. refl; works_none = λ seat. refl }
 
 -- a word stands for what it stood for where names stay
 pub points_stay : (u w : Plot) → ((a : ℕ) (name : Name) → name_at (u a) ≡ Some name → name_at (w a) ≡ Some name) → (word : ℕ) (reference : Reference) → Points u word reference → Points w word reference
@@ -20,6 +25,16 @@ load_keeps memory at = fun_ext (λ w. ⊎_elim
     (λ (same : same_word at w ≡ true). sym (cond-true (same_word at w) (memory at) (memory w) same ∙ ap memory (same_word_true at w same)))
     (λ (differs : same_word at w ≡ false). sym (cond-false (same_word at w) (memory at) (memory w) differs))
     (cases_Bool (same_word at w)))
+
+-- a word may still be used
+pub usable_stays : (u w : World) → ((a refs nums : ℕ) (name : Name) → Target u.block a refs nums name → Target w.block a refs nums name) → (word : ℕ) → IsUsable u.block word → IsUsable w.block word
+usable_stays u w targets word (inl null) = inl null
+usable_stays u w targets word (inr at) = inr (at.0, at.1, at.2, targets word at.1 at.2 at.0 at.3)
+
+-- as long as no object has a second copy, each word that stands for a reference may be used
+pub usable_now : (block : Plot) (word : ℕ) (reference : Reference) → Points block word reference → IsUsable block word
+usable_now block word None points = inl points
+usable_now block word (Some name) points = let piece = named_thing (block word) name points in inr (name, piece.0, piece.1, record { piece = piece.2 })
 
 -- where nothing changes, everything can be relied on
 pub rely_same : (seat : ℕ) (u : World) → Rely seat u u

@@ -12,7 +12,7 @@ use Rattle.shen_graph.specs.declared.name.Name.{Name}
 use Rattle.shen_graph.specs.Graph.{Object, same_name, blank}
 use Rattle.shen_graph.proofs.PlainLemmas.{same_name-true, same_name-itself}
 use Rattle.heap_words.specs.Encoding.{fresh_word}
-use Rattle.heap_world.specs.World.{Block, thing, hand, promised, words_of, Plot, name_at, Points, IsInUse, IsPlotted, IsFilled, IsThing, IsGiven, AreObjects, AreRooms, ArePromises}
+use Rattle.heap_world.specs.World.{Block, thing, hand, promised, filler, words_of, Plot, name_at, Points, IsInUse, IsPlotted, IsFilled, IsThing, IsGiven, AreObjects, IsParsable, AreOwned, HasNoFiller}
 use Rattle.heap_world.proofs.Updates.{updated, updated_there, updated_else}
 use Rattle.heap_world.proofs.Pointing.{named_thing}
 use Rattle.heap_world.proofs.Objects.{two_names, where_object}
@@ -102,7 +102,7 @@ module _ (c : Config) (top : ℕ → ℕ) (block : Plot) (address refs nums : �
       (cases_eq a address)
 
   -- pieces lie where they should
-  pub plotted_again : IsPlotted c top block → IsPlotted c top new_block
+  plotted_again : IsPlotted c top block → IsPlotted c top new_block
   plotted_again plotted = record {
     tops = plotted.tops;
     in_use = λ a b is. let old = old_piece a b is in subst (λ w. IsInUse c top a w) old.2 (plotted.in_use a old.0 old.1);
@@ -114,7 +114,7 @@ module _ (c : Config) (top : ℕ → ℕ) (block : Plot) (address refs nums : �
   }
 
   -- they fill the part in use
-  pub filled_again : IsFilled c top block → IsFilled c top new_block
+  filled_again : IsFilled c top block → IsFilled c top new_block
   filled_again filled = record {
     first = λ r inside used. some_piece (base_of c r) (filled.first r inside used);
     next = λ r a x inside from is below.
@@ -123,6 +123,19 @@ module _ (c : Config) (top : ℕ → ℕ) (block : Plot) (address refs nums : �
         (subst (λ w. (b : Block) × (block (a + w) ≡ Some b)) old.2
         (filled.next r a old.0 inside from old.1 (omega (arith, below, old.2))));
   }
+
+  -- the heap is parsable
+  pub parsable_again : IsParsable c top block → IsParsable c top new_block
+  parsable_again parsable = record {
+    plotted = plotted_again parsable.plotted;
+    filled = filled_again parsable.filled;
+    promises = λ a other words is. parsable.promises a other words (old_promise a other words is).1;
+    fillers = λ a words is. parsable.fillers a words (old_unnamed a (filler words) refl is).1;
+  }
+
+  -- no more words only fill
+  pub unfilled_again : HasNoFiller block → HasNoFiller new_block
+  unfilled_again none a words is = none a words (old_unnamed a (filler words) refl is).1
 
   module _ (heap : ℕ → ℕ) (object : Name → Option Object) (objects : AreObjects heap block object) (fresh : (o : Object) → object name ≡ Some o → ⊥) (o : Object) where
     -- the objects of other names are as before
@@ -172,13 +185,13 @@ module _ (c : Config) (top : ℕ → ℕ) (block : Plot) (address refs nums : �
           (piece_cases block address new_thing a (thing n refs_a nums_a) is_a);
     }
 
-  -- rooms in hand are as they should be
-  pub rooms_again : (current : ℕ → ℕ) → AreRooms c top current block → AreRooms c top current new_block
-  rooms_again current rooms a other words is = rooms a other words (old_hand a other words is).1
-
-  -- promised objects are as long as before
-  pub promises_again : ArePromises block → ArePromises new_block
-  promises_again promises a other words is = promises a other words (old_promise a other words is).1
+  -- regions are owned as before
+  pub owned_again : (free : ℕ) (current : ℕ → ℕ) (owner : ℕ → Option ℕ) → AreOwned c top free current block owner → AreOwned c top free current new_block owner
+  owned_again free current owner owned = record {
+    free_word = owned.free_word;
+    currents = owned.currents;
+    rooms = λ a other words is. owned.rooms a other words (old_hand a other words is).1;
+  }
 
 -- the counts with one more for a thread
 abbrev pub with_count : (ℕ → ℕ) → ℕ → ℕ → ℕ

@@ -6,17 +6,16 @@ use Rattle.heap_words.specs.Ranges.{seat_count}
 use Rattle.regions.specs.Place.{base_of}
 use Rattle.shen_graph.specs.declared.name.Name.{Name}
 use Rattle.shen_graph.specs.Graph.{Object}
-use Rattle.heap_world.specs.World.{Block, thing, hand, promised, Plot, name_at, IsPlotted, IsFilled, AreObjects, IsFreeWord, AreCurrent, IsRoom, AreRooms, ArePromises}
+use Rattle.heap_world.specs.World.{Block, thing, hand, promised, filler, Plot, name_at, AreObjects, IsFreeWord, AreCurrent, IsRoom, AreRooms, IsParsable, HasContents, AreOwned, HasNoFiller}
 use Rattle.heap_world.proofs.Updates.{updated, updated_there, updated_else}
 use Rattle.heap_world.proofs.Joined as joined
 use Rattle.heap_world.proofs.Joined.{CanJoin}
-use Rattle.heap_world.proofs.Pieces.{three_words, piece_cases, object_reads}
+use Rattle.heap_world.proofs.Pieces.{some_words, piece_cases, object_reads}
 
--- A region has room for so many words above its top. The pieces are apart, and room in hand is as it should be.
+-- A region has room for so many words above its top. The heap is parsable, and room in hand is as it should be.
 pub record CanGrow (c : Config) (top current : ℕ → ℕ) (block : Plot) (region at words : ℕ) : Type 0 where
-  pub plotted : IsPlotted c top block
+  pub parsable : IsParsable c top block
   pub rooms : AreRooms c top current block
-  pub promises : ArePromises block
   pub within : region < c.regions
   pub top_is : top region ≡ at
   pub room : at + words ≤ c.region_words
@@ -38,12 +37,12 @@ module _ (c : Config) (top current : ℕ → ℕ) (block : Plot) (region at word
   -- the words in hand join there
   joins : CanJoin c top block region at (hand seat words)
   joins = record {
-    plotted = grows.plotted;
-    long = three_words c top current block grows.rooms grows.promises;
+    plotted = grows.parsable.plotted;
+    long = some_words c top current block grows.parsable grows.rooms;
     within = grows.within;
     top_is = grows.top_is;
     room = grows.room;
-    some = grows.some;
+    some = (let some = grows.some in omega (arith, some));
   }
 
   -- what stood somewhere stands there
@@ -53,14 +52,6 @@ module _ (c : Config) (top current : ℕ → ℕ) (block : Plot) (region at word
   -- what a word stands for it still stands for
   pub names_stay : (a : ℕ) (name : Name) → name_at (block a) ≡ Some name → name_at (new_block a) ≡ Some name
   names_stay = joined.names_stay c top block region at (hand seat words) joins
-
-  -- pieces lie where they should
-  pub plotted_more : IsPlotted c new_top new_block
-  plotted_more = joined.plotted_more c top block region at (hand seat words) joins
-
-  -- they fill the part in use
-  pub filled_more : IsFilled c top block → IsFilled c new_top new_block
-  filled_more = joined.filled_more c top block region at (hand seat words) joins
 
   -- an object of the new plot is an old one
   old_thing : (a refs nums : ℕ) (name : Name) → new_block a ≡ Some (thing name refs nums) → block a ≡ Some (thing name refs nums)
@@ -90,12 +81,28 @@ module _ (c : Config) (top current : ℕ → ℕ) (block : Plot) (region at word
       (λ (old : (a ≢ address) × (block a ≡ Some (promised other more))). old.1)
       (piece_cases block address (hand seat words) a (promised other more) is)
 
-  -- promised objects are as long as before
-  pub promises_more : ArePromises new_block
-  promises_more a other more is = grows.promises a other more (old_promise a other more is)
+  -- words that only fill did so before
+  old_filler : (a more : ℕ) → new_block a ≡ Some (filler more) → block a ≡ Some (filler more)
+  old_filler a more is = ⊎_elim
+      (λ (new : (a ≡ address) × (hand seat words ≡ filler more)). let differ = new.1 in cc)
+      (λ (old : (a ≢ address) × (block a ≡ Some (filler more))). old.1)
+      (piece_cases block address (hand seat words) a (filler more) is)
+
+  -- no more words only fill
+  pub unfilled_more : HasNoFiller block → HasNoFiller new_block
+  unfilled_more none a more is = none a more (old_filler a more is)
+
+  -- the heap is parsable
+  pub parsable_more : IsParsable c new_top new_block
+  parsable_more = record {
+    plotted = joined.plotted_more c top block region at (hand seat words) joins;
+    filled = joined.filled_more c top block region at (hand seat words) joins grows.parsable.filled;
+    promises = λ a other more is. grows.parsable.promises a other more (old_promise a other more is);
+    fillers = λ a more is. grows.parsable.fillers a more (old_filler a more is);
+  }
 
   -- the words are those of the graph's objects
-  pub objects_more : (heap : ℕ → ℕ) (object : Name → Option Object) → AreObjects heap block object → AreObjects heap new_block object
+  objects_more : (heap : ℕ → ℕ) (object : Name → Option Object) → AreObjects heap block object → AreObjects heap new_block object
   objects_more heap object objects = record {
     each = λ a refs nums name is.
         let o = objects.each a refs nums name (old_thing a refs nums name is) in
@@ -104,8 +111,12 @@ module _ (c : Config) (top current : ℕ → ℕ) (block : Plot) (region at word
         objects.once a b refs nums more_refs more_nums name (old_thing a refs nums name is_a) (old_thing b more_refs more_nums name is_b);
   }
 
+  -- what the heap has is the graph's
+  pub contents_more : (heap : ℕ → ℕ) (object : Name → Option Object) (count : ℕ → ℕ) → HasContents c heap block object count → HasContents c heap new_block object count
+  contents_more heap object count contents = record { objects = objects_more heap object contents.objects; given = contents.given }
+
   -- a region with a new top is a seat's, and so not free
-  pub free_more : (free : ℕ) (owner : ℕ → Option ℕ) → owner region ≡ Some seat → IsFreeWord c free top owner → IsFreeWord c free new_top owner
+  free_more : (free : ℕ) (owner : ℕ → Option ℕ) → owner region ≡ Some seat → IsFreeWord c free top owner → IsFreeWord c free new_top owner
   free_more free owner own free_word = record {
     no_more = free_word.no_more;
     empty = λ r inside bit.
@@ -114,7 +125,7 @@ module _ (c : Config) (top current : ℕ → ℕ) (block : Plot) (region at word
   }
 
   -- rooms in hand are as they should be
-  pub rooms_more : (owner : ℕ → Option ℕ) → seat < seat_count c.mutators c.helpers → current seat ≡ region + 1 → AreCurrent c current owner → ((a more : ℕ) → block a ≡ Some (hand seat more) → ⊥) → AreRooms c new_top current new_block
+  rooms_more : (owner : ℕ → Option ℕ) → seat < seat_count c.mutators c.helpers → current seat ≡ region + 1 → AreCurrent c current owner → ((a more : ℕ) → block a ≡ Some (hand seat more) → ⊥) → AreRooms c new_top current new_block
   rooms_more owner seated is_current currents none a other more is = ⊎_elim
       (λ (new : (a ≡ address) × (hand seat words ≡ hand other more)).
       let same = new.1 in
@@ -138,3 +149,12 @@ module _ (c : Config) (top current : ℕ → ℕ) (block : Plot) (region at word
         at_top = is_room.at_top ∙ ap (λ t. base_of c is_room.region + t) (sym (updated_else top region (at + words) is_room.region differs));
       })
       (piece_cases block address (hand seat words) a (hand other more) is)
+
+  -- and regions are owned
+  pub owned_more : (free : ℕ) (owner : ℕ → Option ℕ) → seat < seat_count c.mutators c.helpers → current seat ≡ region + 1 → ((a more : ℕ) → block a ≡ Some (hand seat more) → ⊥)
+      → AreOwned c top free current block owner → AreOwned c new_top free current new_block owner
+  owned_more free owner seated is_current none owned = record {
+    free_word = free_more free owner (owned.currents.own seat region is_current) owned.free_word;
+    currents = owned.currents;
+    rooms = rooms_more owner seated is_current owned.currents none;
+  }

@@ -115,29 +115,29 @@ module _ (c : Config) (top heap : ℕ → ℕ) (block : Plot) (object : Name →
 
 -- the world after a word of the heap is another, and the graph
 abbrev pub stored : World → ℕ → ℕ → Graph → World
-stored u at value g = record { memory = write u.memory (Heap at) value; block = u.block; owner = u.owner; graph = g }
+stored u at value g = record { memory = write u.memory (Heap at) value; block = u.block; ghost = u.ghost; graph = g }
 
 -- the graph in which the object of a name is another, and the roots
 abbrev pub changed : Graph → Name → Object → (ℕ → ℕ → Reference) → Graph
 changed g name o root = record { object = where_object g.object name o; root = root; count = g.count }
 
-module _ (c : Config) (u : World) (a refs nums at value : ℕ) (name : Name) (o : Object) (root : ℕ → ℕ → Reference) (shared : Shared c u) (target : Target u a refs nums name) where
+module _ (c : Config) (u : World) (a refs nums at value : ℕ) (name : Name) (o : Object) (root : ℕ → ℕ → Reference) (shared : Shared c u) (target : Target u.block a refs nums name) where
   -- what machines share, after a word of an object and the graph's object have changed
   pub shared_stored : a ≤ at → at < a + (3 + refs + nums) → IsThing (updated (λ b. u.memory (Heap b)) at value) u.block a refs nums name o
       → Shared c (stored u at value (changed u.graph name o root))
   shared_stored from_start to_end is = record {
-    plotted = shared.plotted;
-    filled = shared.filled;
-    objects = objects_stored c (λ r. u.memory (Top r)) (λ b. u.memory (Heap b)) u.block u.graph.object shared.plotted shared.objects a refs nums at value name o target.piece from_start to_end is;
-    given = λ n x there.
-        let was = shared.objects.each a refs nums name target.piece in
-        let before = object_before u.graph.object name was.0 o was.1 n x there in
-        shared.given n before.0 before.1;
+    parsable = shared.parsable;
+    contents = record {
+      objects = objects_stored c (λ r. u.memory (Top r)) (λ b. u.memory (Heap b)) u.block u.graph.object shared.parsable.plotted shared.contents.objects a refs nums at value name o target.piece from_start to_end is;
+      given = λ n x there.
+          let was = shared.contents.objects.each a refs nums name target.piece in
+          let before = object_before u.graph.object name was.0 o was.1 n x there in
+          shared.contents.given n before.0 before.1;
+    };
+    owned = shared.owned;
     calm = shared.calm;
-    free_word = shared.free_word;
-    currents = shared.currents;
-    rooms = shared.rooms;
-    promises = shared.promises;
+    uncollected = shared.uncollected;
+    unfilled = shared.unfilled;
   }
 
   -- and what another mutator relies on, if its roots are as before
@@ -149,13 +149,13 @@ module _ (c : Config) (u : World) (a refs nums at value : ℕ) (name : Name) (o 
     hands = λ b words is. is;
     no_hands = λ b words is. is;
     hand_words = λ b words k is below. updated_else (λ b. u.memory (Heap b)) at value (b + k) (λ same.
-        let same_piece : b ≡ a = one_piece c (λ r. u.memory (Top r)) u.block shared.plotted b a (b + k) (hand seat words) (thing name refs nums) is target.piece (omega arith) (omega arith) (omega arith) (omega arith) in
+        let same_piece : b ≡ a = one_piece c (λ r. u.memory (Top r)) u.block shared.parsable.plotted b a (b + k) (hand seat words) (thing name refs nums) is target.piece (omega arith) (omega arith) (omega arith) (omega arith) in
         let both : Some (hand seat words) ≡ Some (thing name refs nums) = sym is ∙ ap u.block same_piece ∙ target.piece in
         cc);
     promises = λ b words is. is;
     no_promises = λ b words is. is;
     promise_words = λ b words k is below. updated_else (λ b. u.memory (Heap b)) at value (b + k) (λ same.
-        let same_piece : b ≡ a = one_piece c (λ r. u.memory (Top r)) u.block shared.plotted b a (b + k) (promised seat words) (thing name refs nums) is target.piece (omega arith) (omega arith) (omega arith) (omega arith) in
+        let same_piece : b ≡ a = one_piece c (λ r. u.memory (Top r)) u.block shared.parsable.plotted b a (b + k) (promised seat words) (thing name refs nums) is target.piece (omega arith) (omega arith) (omega arith) (omega arith) in
         let both : Some (promised seat words) ≡ Some (thing name refs nums) = sym is ∙ ap u.block same_piece ∙ target.piece in
         cc);
     current = refl;

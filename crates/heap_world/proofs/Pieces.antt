@@ -7,7 +7,7 @@ use Rattle.heap_words.specs.declared.config.Config.{Config}
 use Rattle.regions.specs.Place.{base_of}
 use Rattle.shen_graph.specs.declared.name.Name.{Name}
 use Rattle.shen_graph.specs.Graph.{Object}
-use Rattle.heap_world.specs.World.{Block, thing, hand, promised, words_of, Plot, name_at, Points, IsPlotted, IsThing, AreRooms, ArePromises}
+use Rattle.heap_world.specs.World.{Block, thing, hand, promised, filler, words_of, Plot, name_at, Points, IsPlotted, IsThing, AreRooms, IsParsable}
 use Rattle.heap_world.proofs.Updates.{updated, updated_same, updated_else}
 use Rattle.heap_world.proofs.Keeping.{points_stay}
 
@@ -17,11 +17,12 @@ behind c r s before =
     let more : (r + 1 + 1) * c.region_words ≤ (s + 1) * c.region_words = mul-le-mul_right c.region_words (omega (arith, before)) in
     omega (arith, more)
 
--- a piece has three words at least
-pub three_words : (c : Config) (top current : ℕ → ℕ) (block : Plot) → AreRooms c top current block → ArePromises block → (a : ℕ) (b : Block) → block a ≡ Some b → 3 ≤ words_of b
-three_words c top current block rooms promises a (thing name refs nums) is = omega arith
-three_words c top current block rooms promises a (hand seat words) is = (rooms a seat words is).some
-three_words c top current block rooms promises a (promised seat words) is = promises a seat words is
+-- a piece has a word at least
+pub some_words : (c : Config) (top current : ℕ → ℕ) (block : Plot) → IsParsable c top block → AreRooms c top current block → (a : ℕ) (b : Block) → block a ≡ Some b → 1 ≤ words_of b
+some_words c top current block parsable rooms a (thing name refs nums) is = omega arith
+some_words c top current block parsable rooms a (hand seat words) is = let room = rooms a seat words is in omega (arith, room.some)
+some_words c top current block parsable rooms a (promised seat words) is = let long = parsable.promises a seat words is in omega (arith, long)
+some_words c top current block parsable rooms a (filler words) is = parsable.fillers a words is
 
 -- A piece ends before a region, or lies in its part in use, or begins behind it.
 abbrev Beside : Config → (ℕ → ℕ) → ℕ → ℕ → Block → Type 0

@@ -7,13 +7,14 @@ use Rattle.heap_words.specs.declared.config.Config.{Config}
 use Rattle.heap_words.specs.Words.{Heap, is_word}
 use Rattle.shen_graph.specs.declared.name.Name.{Name}
 use Rattle.shen_graph.specs.Graph.{Reference}
-use Rattle.heap_world.specs.World.{Block, thing, hand, promised, words_of, Plot, name_at, Points, IsPlotted}
+use Rattle.heap_world.specs.World.{Block, thing, hand, promised, filler, words_of, Plot, name_at, Points, IsPlotted}
 
 -- the piece at an address that stands for an object is the object
 pub named_thing : (o : Option Block) (n : Name) → name_at o ≡ Some n → (refs : ℕ) × (nums : ℕ) × (o ≡ Some (thing n refs nums))
 named_thing (Some (thing name refs nums)) n is = (refs, nums, ap (λ m. Some (thing m refs nums)) (same_Some name n is))
 named_thing (Some (hand seat words)) n is = cc
 named_thing (Some (promised seat words)) n is = cc
+named_thing (Some (filler words)) n is = cc
 named_thing None n is = cc
 
 module _ (c : Config) (top : ℕ → ℕ) (block : Plot) (plotted : IsPlotted c top block) where

@@ -1,5 +1,5 @@
 -- What it means that the words of a heap stand for a graph.
-use Rattle.std.specs.Prelude.{ℕ, ◌≡◌, ◌+◌, ◌<◌, ◌≤◌, ◌^◌, Option, Some, None}
+use Rattle.std.specs.Prelude.{ℕ, ◌≡◌, ◌⊎◌, ◌+◌, ◌<◌, ◌≤◌, ◌^◌, Bool, false, Option, Some, None}
 use Rattle.heap_words.specs.declared.config.Config.{Config}
 use Rattle.heap_words.specs.Words.{Word, Phase, Cset, Free, Evac, Top, Current, Heap}
 use Rattle.heap_words.specs.Ranges.{seat_count}
@@ -10,27 +10,65 @@ use Rattle.shen_graph.specs.Graph.{Reference, Object, Graph}
 use Rattle.heap_world.specs.Objects.{Refers, IsObject}
 
 -- A piece of the part of a region that is in use: an object of a name, with so many references and numbers; so many words
--- that a machine has in hand; or an object of so many words that a pause has made for the mutator of a seat, which waits for it
--- and has not taken it into the graph yet.
+-- that a machine has in hand; an object of so many words that a pause has made for the mutator of a seat, which waits for it
+-- and has not taken it into the graph yet; or so many words that only fill, and are no object and nobody's.
 pub data Block : Type 0 where
   thing : (name : Name) (refs nums : ℕ) → Block
   hand : (seat words : ℕ) → Block
   promised : (seat words : ℕ) → Block
+  filler : (words : ℕ) → Block
 
 abbrev pub words_of : Block → ℕ
 words_of (thing name refs nums) = 3 + refs + nums
 words_of (hand seat words) = words
 words_of (promised seat words) = words
+words_of (filler words) = words
 
 -- by address, the piece that begins there
 abbrev pub Plot : Type 0
 Plot = ℕ → Option Block
 
--- a memory, how its regions are divided, the seat that has a region to itself, and the graph that the memory stands for
+-- The heap as marking from a snapshot at the beginning has it: the pieces and words that it begins with, whether a root or an
+-- answer names an address then, and the tops at mark start.
+pub record Snapshot : Type 0 where
+  pub block : Plot
+  pub heap : ℕ → ℕ
+  pub starts : ℕ → Bool
+  pub top : ℕ → ℕ
+
+-- where a scan stands: at a field of an object
+pub record Scan : Type 0 where
+  pub object : ℕ
+  pub field : ℕ
+
+-- Ghost state, which no word shows: by region, the seat that has it to itself; the snapshot; and by seat, the address that it
+-- is about to record, the scan in which it is, whether it copies, and the unit of work that it has claimed.
+pub record Ghost : Type 0 where
+  pub owner : ℕ → Option ℕ
+  pub snapshot : Snapshot
+  pub recording : ℕ → Option ℕ
+  pub scanning : ℕ → Option Scan
+  pub copying : ℕ → Bool
+  pub working : ℕ → Option ℕ
+
+-- the snapshot of nothing, which there is while nobody marks
+abbrev pub no_snapshot : Snapshot
+no_snapshot = record { block = λ a. None; heap = λ a. 0; starts = λ a. false; top = λ r. 0 }
+
+-- the ghost state in which nobody has a region, and nobody marks, copies or works
+abbrev pub no_ghost : Ghost
+no_ghost = record { owner = λ r. None; snapshot = no_snapshot; recording = λ seat. None; scanning = λ seat. None; copying = λ seat. false; working = λ seat. None }
+
+-- the ghost state with other owners
+abbrev pub with_owner : Ghost → (ℕ → Option ℕ) → Ghost
+with_owner ghost owner =
+    record { owner = owner; snapshot = ghost.snapshot; recording = ghost.recording; scanning = ghost.scanning; copying = ghost.copying; working = ghost.working }
+
+-- a memory, how its regions are divided, ghost state, and the graph that the memory stands for
 pub record World : Type 0 where
   pub memory : Word → ℕ
   pub block : Plot
-  pub owner : ℕ → Option ℕ
+  pub ghost : Ghost
   pub graph : Graph
 
 -- the object that an address stands for, if it does
@@ -38,6 +76,7 @@ abbrev pub name_at : Option Block → Option Name
 name_at (Some (thing name refs nums)) = Some name
 name_at (Some (hand seat words)) = None
 name_at (Some (promised seat words)) = None
+name_at (Some (filler words)) = None
 name_at None = None
 
 -- a word stands for a reference where objects stand so
@@ -45,8 +84,12 @@ abbrev pub Points : Plot → ℕ → Reference → Type 0
 Points block word reference = Refers (λ a. name_at (block a)) word reference
 
 -- the object's current copy, with so many references and numbers, is at the address
-pub record Target (w : World) (address refs nums : ℕ) (name : Name) : Type 0 where
-  pub piece : w.block address ≡ Some (thing name refs nums)
+pub record Target (block : Plot) (address refs nums : ℕ) (name : Name) : Type 0 where
+  pub piece : block address ≡ Some (thing name refs nums)
+
+-- a word may be used as a reference: it is null, or the object's current copy is there
+abbrev pub IsUsable : Plot → ℕ → Type 0
+IsUsable block word = (word ≡ 0) ⊎ ((name : Name) × (refs : ℕ) × (nums : ℕ) × Target block word refs nums name)
 
 -- so many words from an address on lie in the part of a region that is in use
 pub record IsInUse (c : Config) (top : ℕ → ℕ) (address words : ℕ) : Type 0 where
@@ -85,12 +128,6 @@ pub record AreObjects (heap : ℕ → ℕ) (block : Plot) (object : Name → Opt
   pub once : (a b refs nums more_refs more_nums : ℕ) (name : Name) → block a ≡ Some (thing name refs nums)
       → block b ≡ Some (thing name more_refs more_nums) → a ≡ b
 
--- nothing is collected yet: the phase is 0, no region is in the collection set, and nobody copies
-pub record IsCalm (phase cset evac : ℕ) : Type 0 where
-  pub phase_is : phase ≡ 0
-  pub cset_is : cset ≡ 0
-  pub evac_is : evac ≡ 0
-
 -- the free word has no bit at or above the number of regions, and a region whose bit is set has top 0 and is nobody's
 pub record IsFreeWord (c : Config) (free : ℕ) (top : ℕ → ℕ) (owner : ℕ → Option ℕ) : Type 0 where
   pub no_more : free < 2 ^ c.regions
@@ -118,18 +155,56 @@ AreRooms c top current block = (a seat words : ℕ) → block a ≡ Some (hand s
 abbrev pub ArePromises : Plot → Type 0
 ArePromises block = (a seat words : ℕ) → block a ≡ Some (promised seat words) → 3 ≤ words
 
--- the facts that all machines share, each over the words that it speaks of
-pub record SharedFacts (c : Config) (top heap : ℕ → ℕ) (block : Plot) (owner : ℕ → Option ℕ) (object : Name → Option Object) (count : ℕ → ℕ) (phase cset evac free : ℕ) (current : ℕ → ℕ) : Type 0 where
+-- words that only fill are one word at least
+abbrev pub AreFillers : Plot → Type 0
+AreFillers block = (a words : ℕ) → block a ≡ Some (filler words) → 1 ≤ words
+
+-- The heap is parsable: pieces fill the parts in use, one after another, and each has the least size of its kind.
+pub record IsParsable (c : Config) (top : ℕ → ℕ) (block : Plot) : Type 0 where
   pub plotted : IsPlotted c top block
   pub filled : IsFilled c top block
+  pub promises : ArePromises block
+  pub fillers : AreFillers block
+
+-- The pieces that are objects are the graph's, and its names are given.
+pub record HasContents (c : Config) (heap : ℕ → ℕ) (block : Plot) (object : Name → Option Object) (count : ℕ → ℕ) : Type 0 where
   pub objects : AreObjects heap block object
   pub given : (name : Name) (o : Object) → object name ≡ Some o → IsGiven c count name
-  pub calm : IsCalm phase cset evac
+
+-- Ownership: a region is free, or is one seat's, or was used up, and room in hand lies in the seat's own.
+pub record AreOwned (c : Config) (top : ℕ → ℕ) (free : ℕ) (current : ℕ → ℕ) (block : Plot) (owner : ℕ → Option ℕ) : Type 0 where
   pub free_word : IsFreeWord c free top owner
   pub currents : AreCurrent c current owner
   pub rooms : AreRooms c top current block
-  pub promises : ArePromises block
+
+-- no collection runs beside the threads: the phase is 0, no region is in the collection set, and nobody copies
+pub record IsCalm (phase cset evac : ℕ) : Type 0 where
+  pub phase_is : phase ≡ 0
+  pub cset_is : cset ≡ 0
+  pub evac_is : evac ≡ 0
+
+-- and the ghost state says so: there is no snapshot, and no seat records, scans, copies or works
+pub record IsUncollected (snapshot : Snapshot) (recording : ℕ → Option ℕ) (scanning : ℕ → Option Scan) (copying : ℕ → Bool) (working : ℕ → Option ℕ) : Type 0 where
+  pub empty : snapshot ≡ no_snapshot
+  pub records_none : (seat : ℕ) → recording seat ≡ None
+  pub scans_none : (seat : ℕ) → scanning seat ≡ None
+  pub copies_none : (seat : ℕ) → copying seat ≡ false
+  pub works_none : (seat : ℕ) → working seat ≡ None
+
+-- no collection has left words that only fill
+abbrev pub HasNoFiller : Plot → Type 0
+HasNoFiller block = (a words : ℕ) → block a ≡ Some (filler words) → ⊥
+
+-- The facts that all machines share, in groups, each over the words that it speaks of: a step that changes none of these words
+-- hands the group on as it is.
+pub record SharedFacts (c : Config) (top heap : ℕ → ℕ) (block : Plot) (ghost : Ghost) (object : Name → Option Object) (count : ℕ → ℕ) (phase cset evac free : ℕ) (current : ℕ → ℕ) : Type 0 where
+  pub parsable : IsParsable c top block
+  pub contents : HasContents c heap block object count
+  pub owned : AreOwned c top free current block ghost.owner
+  pub calm : IsCalm phase cset evac
+  pub uncollected : IsUncollected ghost.snapshot ghost.recording ghost.scanning ghost.copying ghost.working
+  pub unfilled : HasNoFiller block
 
 abbrev pub Shared : Config → World → Type 0
-Shared c w = SharedFacts c (λ r. w.memory (Top r)) (λ a. w.memory (Heap a)) w.block w.owner w.graph.object w.graph.count (w.memory Phase) (w.memory Cset) (w.memory Evac)
+Shared c w = SharedFacts c (λ r. w.memory (Top r)) (λ a. w.memory (Heap a)) w.block w.ghost w.graph.object w.graph.count (w.memory Phase) (w.memory Cset) (w.memory Evac)
     (w.memory Free) (λ s. w.memory (Current s))

@@ -1,6 +1,6 @@
 -- Where an image holds a graph and nothing has moved, the words of its heap and its roots stand for the graph: of the pieces those
 -- count that the graph reaches.
-use Rattle.std.proofs.Common.{◌≡◌, ◌≢◌, ℕ, ◌+◌, ◌-◌, ◌<◌, ◌≤◌, ◌⊎◌, ◌&&◌, ◌^◌, inl, inr, Bool, true, false, nat_le, nat_lt, get_or, slice_get, length, List, Option, Some, None, ⊎_elim, refl, sym, ap, ◌∙◌, subst, arith}
+use Rattle.std.proofs.Common.{◌≡◌, ℕ, ◌+◌, ◌<◌, ◌&&◌, true, false, nat_le, nat_lt, slice_get, length, List, Option, Some, None, ⊎_elim, refl, sym, ap, ◌∙◌, subst, arith}
 use Rattle.std.specs.Prelude.{if◌then◌else◌}
 use Rattle.std.proofs.lemmas.Bool.{cond-true, cond-false, cases_Bool, and_from, le-leb, lt-ltb, true≢false}
 use Rattle.std.proofs.lemmas.Nat.Bits.{bit_at-zero}
@@ -12,21 +12,21 @@ use Rattle.heap_words.specs.Encoding.{is_forwarded, forwardee_in, refs_in, objec
 use Rattle.std.specs.Int.{bit_at}
 use Rattle.regions.specs.Place.{region_with}
 use Rattle.shen_graph.specs.declared.name.Name.{Name}
-use Rattle.shen_graph.specs.Graph.{Graph, Object, Reference, blank, named, same_reference}
+use Rattle.shen_graph.specs.Graph.{Graph, Object, Reference, blank, same_reference}
 use Rattle.shen_graph.proofs.PlainLemmas.{same_name-itself}
 use Rattle.shen_graph.specs.Reach.{IsReachable}
 use Rattle.shen_graph.specs.Reach as reach
 use Rattle.heap_world.specs.Roots.{is_root_of, HasNoMore}
-use Rattle.heap_world.specs.World.{Block, thing, hand, promised, Plot, name_at, Points, IsPlotted, IsThing, AreObjects}
+use Rattle.heap_world.specs.World.{Block, thing, hand, promised, filler, Plot, name_at, Points, IsPlotted, IsThing, AreObjects}
 use Rattle.heap_world.proofs.Pointing.{named_thing}
 use Rattle.heap_graph.specs.Walk.{has}
 use Rattle.heap_graph.specs.Shows.{WordsStand, StandForSome}
-use Rattle.heap_graph.proofs.Tables.{ArePieces, pieces_stand}
+use Rattle.heap_graph.proofs.Tables.{pieces_stand}
 use Rattle.image_laws.specs.Held.{IsHeld, from_root, from_field, IsAmong, AreKept}
 use Rattle.image_laws.specs.Full.{now_in, root_words, held_in, kept_in}
 use Rattle.image_laws.specs.Promised.{Promises, with_promised}
 use Rattle.image_laws.proofs.Reached.{held_is_reached, refs_read, named_object, none_at_0}
-use Rattle.image_laws.proofs.Promised.{same_reference-true, old_object, reaches_promised}
+use Rattle.image_laws.proofs.Promised.{same_reference-true, reaches_promised}
 use Rattle.image_laws.proofs.Roots.{root_among}
 use Rattle.image_laws.proofs.Walked.{walk_keeps}
 use Rattle.image_graph.specs.Holds.{HoldsBy, HoldsSome}
@@ -44,6 +44,7 @@ old_from : (p : Promises) (o : Option Block) (b : Block) → old_piece p o ≡ S
 old_from p None b is = absurd (none-some b is)
 old_from p (Some (hand seat words)) b is = absurd (none-some b is)
 old_from p (Some (promised seat words)) b is = absurd (none-some b is)
+old_from p (Some (filler words)) b is = absurd (none-some b is)
 old_from p (Some (thing n refs nums)) b is = ⊎_elim
     (λ (yes : same_reference (p.ref n.thread) (Some n) ≡ true). absurd (none-some b (sym (cond-true (same_reference (p.ref n.thread) (Some n)) None (Some (thing n refs nums)) yes) ∙ is)))
     (λ (other : same_reference (p.ref n.thread) (Some n) ≡ false).

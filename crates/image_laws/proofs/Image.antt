@@ -8,7 +8,8 @@ use Rattle.sliding.specs.Slide.{renewed, slid}
 use Rattle.sliding.proofs.Slid.{slid_is}
 use Rattle.shen_graph.specs.declared.name.Name.{Name}
 use Rattle.shen_graph.specs.Graph.{Graph, Object}
-use Rattle.heap_world.specs.World.{Plot, hand, promised, name_at, AreObjects, IsGiven, Shared}
+use Rattle.heap_world.proofs.Keeping.{none_collects}
+use Rattle.heap_world.specs.World.{Plot, hand, promised, filler, name_at, AreObjects, IsGiven, Shared}
 use Rattle.image_laws.specs.Held.{from_root, IsAmong}
 use Rattle.image_laws.specs.Plot.{AreThings, heap_end, packed_block, packed_top}
 use Rattle.image_laws.specs.Pack.{CanPack}
@@ -47,15 +48,21 @@ module _ (c : Config) (memory : Word → ℕ) (block : Plot) (g : Graph) (now ke
   packed_shared : ((name : Name) (o : Object) → g.object name ≡ Some o → IsGiven c g.count name) → Shared c (packed_world c now kept memory block g)
   unfolding packed
   packed_shared given = record {
-    plotted = slid_is_plotted c top heap block g.object now kept can;
-    filled = slid_is_filled c top heap block g.object now kept can;
-    objects = objects_again;
-    given = given;
+    parsable = record {
+      plotted = slid_is_plotted c top heap block g.object now kept can;
+      filled = slid_is_filled c top heap block g.object now kept can;
+      promises = λ a seat words is. absurd (none-some _ (are_things a (promised seat words) is).1);
+      fillers = λ a words is. absurd (none-some _ (are_things a (filler words) is).1);
+    };
+    contents = record { objects = objects_again; given = given };
+    owned = record {
+      free_word = free_again c (packed_top c kept);
+      currents = record { within = λ seat r is. absurd (omega (arith, is)); own = λ seat r is. absurd (omega (arith, is)) };
+      rooms = λ a seat words is. absurd (none-some _ (are_things a (hand seat words) is).1);
+    };
     calm = record { phase_is = refl; cset_is = refl; evac_is = refl };
-    free_word = free_again c (packed_top c kept);
-    currents = record { within = λ seat r is. absurd (omega (arith, is)); own = λ seat r is. absurd (omega (arith, is)) };
-    rooms = λ a seat words is. absurd (none-some _ (are_things a (hand seat words) is).1);
-    promises = λ a seat words is. absurd (none-some _ (are_things a (promised seat words) is).1);
+    uncollected = none_collects;
+    unfilled = λ a words is. none-some _ (are_things a (filler words) is).1;
   }
 
   pub keeps_graph : KeepsGraph c memory block g now kept roots

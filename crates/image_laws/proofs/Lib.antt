@@ -14,3 +14,5 @@ pub mod Standing
 pub mod Made
 pub mod Serving
 pub mod Crowded
+pub mod Still
+pub mod Turned

@@ -14,7 +14,7 @@ use Rattle.regions.specs.Sets.{all_but}
 use Rattle.shen_graph.specs.declared.name.Name.{Name}
 use Rattle.shen_graph.specs.Graph.{Graph, Object, Reference, blank, same_name, same_reference}
 use Rattle.shen_graph.proofs.PlainLemmas.{same_name-true, same_name-itself}
-use Rattle.heap_world.specs.World.{Block, thing, hand, promised, words_of, Plot, name_at, Points, IsThing, AreObjects, IsFreeWord}
+use Rattle.heap_world.specs.World.{Block, thing, hand, promised, filler, words_of, Plot, name_at, Points, IsThing, AreObjects, IsFreeWord}
 use Rattle.heap_world.proofs.Updates.{updated, updated_else, updated_there}
 use Rattle.heap_world.proofs.Keeping.{points_stay}
 use Rattle.heap_world.proofs.Pieces.{beside, piece_cases, object_reads}
@@ -118,10 +118,11 @@ module _ (c : Config) (m : Word → ℕ) (block : Plot) (g : Graph) (p : Promise
     some = omega arith;
   }
     where
-      long : (a : ℕ) (b : Block) → block a ≡ Some b → 3 ≤ words_of b
+      long : (a : ℕ) (b : Block) → block a ≡ Some b → 1 ≤ words_of b
       long a (thing name refs nums) is = omega arith
       long a (hand seat words) is = absurd (none-some _ (stands.things a (hand seat words) is).1)
       long a (promised seat words) is = absurd (none-some _ (stands.things a (promised seat words) is).1)
+      long a (filler words) is = absurd (none-some _ (stands.things a (filler words) is).1)
 
   names_stay : (a : ℕ) (name : Name) → name_at (block a) ≡ Some name → name_at (new_block a) ≡ Some name
   names_stay = joined.names_stay c top block r (m (Top r)) piece can

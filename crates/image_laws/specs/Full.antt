@@ -88,6 +88,10 @@ packed c now kept memory Pause = memory Pause
 packed c now kept memory Left = memory Left
 packed c now kept memory End = memory End
 
+-- the words after packing, before requests are served
+abbrev pub packed_in : Config → (Word → ℕ) → Word → ℕ
+packed_in c memory = packed c (now_in memory) (kept_in c memory) memory
+
 -- Serving.
 
 -- the words that the request of a thread asks for; 0 where it does not wait
@@ -134,4 +138,4 @@ refused memory word = memory word
 
 -- the words after a full collection
 abbrev pub full : Config → (Word → ℕ) → Word → ℕ
-full c memory = refused (served c (packed c (now_in memory) (kept_in c memory) memory) c.mutators)
+full c memory = refused (served c (packed_in c memory) c.mutators)

@@ -7,7 +7,7 @@ use Rattle.sliding.specs.Slide.{renewed}
 use Rattle.shen_graph.specs.declared.name.Name.{Name}
 use Rattle.shen_graph.specs.Graph.{Graph, Object, Reference}
 use Rattle.shen_graph.specs.Reach.{IsReachable}
-use Rattle.heap_world.specs.World.{World, Plot, thing, Points, IsPlotted, IsFilled, AreObjects, IsFreeWord, IsGiven, Shared}
+use Rattle.heap_world.specs.World.{World, no_ghost, Plot, thing, Points, IsPlotted, IsFilled, AreObjects, IsFreeWord, IsGiven, Shared}
 use Rattle.image_laws.specs.Held.{IsHeld, IsAmong, AreKept, HoldsGraph}
 use Rattle.image_laws.specs.Plot.{AreThings, heap_end, packed_block}
 use Rattle.image_laws.specs.Full.{packed, now_in, root_words, kept_in}
@@ -28,7 +28,7 @@ abbrev pub packed_world : Config → (now kept : ℕ → ℕ) → (Word → ℕ)
 packed_world c now kept memory block g = record {
   memory = packed c now kept memory;
   block = packed_block c kept block;
-  owner = λ r. None;
+  ghost = no_ghost;
   graph = g;
 }
 

@@ -1,5 +1,5 @@
 -- Words that stand for a graph with promised objects represent it: the promised objects are no objects of the graph any more.
-use Rattle.std.proofs.Common.{◌≡◌, ℕ, ◌+◌, ◌-◌, ◌<◌, Bool, true, false, slice_get, Some, None, ⊎_elim, refl, sym, ap, ◌∙◌, arith}
+use Rattle.std.proofs.Common.{◌≡◌, ◌≢◌, ℕ, ◌+◌, ◌-◌, ◌<◌, Bool, true, false, slice_get, Some, None, ⊎_elim, refl, sym, ap, ◌∙◌, arith}
 use Rattle.std.specs.Prelude.{if◌then◌else◌}
 use Rattle.std.proofs.lemmas.Bool.{cond-true, cond-false, cases_Bool}
 use Rattle.std.proofs.lemmas.Option.{none-some, same_Some}
@@ -7,8 +7,9 @@ use Rattle.heap_words.specs.declared.config.Config.{Config}
 use Rattle.heap_words.specs.Words.{Word, Free, Top, Root, Heap}
 use Rattle.shen_graph.specs.declared.name.Name.{Name}
 use Rattle.shen_graph.specs.Graph.{Graph, Object, Reference, blank, fresh, same_reference}
-use Rattle.heap_world.specs.World.{Block, thing, hand, promised, words_of, Plot, name_at, Points, IsGiven, AreObjects, SharedFacts}
+use Rattle.heap_world.specs.World.{Block, thing, hand, promised, filler, no_ghost, words_of, Plot, name_at, Points, IsGiven, AreObjects, SharedFacts}
 use Rattle.heap_world.proofs.Pointing.{named_thing}
+use Rattle.heap_world.proofs.Keeping.{none_collects}
 use Rattle.image_laws.specs.Promised.{Promises, with_promised}
 use Rattle.image_laws.specs.Image.{ImageStands}
 use Rattle.image_laws.proofs.Promised.{same_reference-true}
@@ -23,6 +24,7 @@ abbrev pub as_promised : Promises → Block → Block
 as_promised p (thing name refs nums) = if is_promised p name then promised (name.thread - 1) (3 + refs + nums) else thing name refs nums
 as_promised p (hand seat words) = hand seat words
 as_promised p (promised seat words) = promised seat words
+as_promised p (filler words) = filler words
 
 -- a name has an object
 abbrev pub IsKnown : Graph → Name → Type 0
@@ -69,6 +71,7 @@ module _ (c : Config) (m : Word → ℕ) (block : Plot) (g : Graph) (p : Promise
       (cases_Bool (is_promised p name))
   same_words a (hand seat words) is = refl
   same_words a (promised seat words) is = refl
+  same_words a (filler words) is = refl
 
   -- a name that has an object is no promised one
   pub not_promised : (n : Name) → IsKnown g n → is_promised p n ≡ false
@@ -108,6 +111,7 @@ module _ (c : Config) (m : Word → ℕ) (block : Plot) (g : Graph) (p : Promise
       (cases_Bool (is_promised p name))
   left_of a refs nums n (hand seat words) is same = absurd (let named = stands.things a (hand seat words) is in none-some named.0 named.1)
   left_of a refs nums n (promised seat words) is same = absurd (let named = stands.things a (promised seat words) is in none-some named.0 named.1)
+  left_of a refs nums n (filler words) is same = absurd (let named = stands.things a (filler words) is in none-some named.0 named.1)
 
   pub left : (a refs nums : ℕ) (n : Name) → taken a ≡ Some (thing n refs nums) → IsOld block p a refs nums n
   left a refs nums n is = let was = mapped_from (as_promised p) block a (thing n refs nums) is in left_of a refs nums n was.0 was.1 was.2
@@ -126,27 +130,32 @@ module _ (c : Config) (m : Word → ℕ) (block : Plot) (g : Graph) (p : Promise
       (cases_Bool (is_promised p name))
   gone_of a seat words (hand other more) is same = absurd (let named = stands.things a (hand other more) is in none-some named.0 named.1)
   gone_of a seat words (promised other more) is same = absurd (let named = stands.things a (promised other more) is in none-some named.0 named.1)
+  gone_of a seat words (filler more) is same = absurd (let named = stands.things a (filler more) is in none-some named.0 named.1)
 
   pub gone : (a seat words : ℕ) → taken a ≡ Some (promised seat words) → IsPromisedThing block p a seat words
   gone a seat words is = let was = mapped_from (as_promised p) block a (promised seat words) is in gone_of a seat words was.0 was.1 was.2
 
-  -- no piece is room in hand
-  no_hand_of : (a seat words : ℕ) (b : Block) → block a ≡ Some b → as_promised p b ≡ hand seat words → ⊥
-  no_hand_of a seat words (thing name refs nums) is same = ⊎_elim
+  -- each piece is an object, or promised
+  only_of : (a : ℕ) (x b : Block) → name_at (Some x) ≡ None → ((seat words : ℕ) → promised seat words ≢ x) → block a ≡ Some b → as_promised p b ≡ x → ⊥
+  only_of a x (thing name refs nums) unnamed unpromised is same = ⊎_elim
       (λ (yes : is_promised p name ≡ true).
-      let one : promised (name.thread - 1) (3 + refs + nums) ≡ hand seat words =
-      sym (cond-true (is_promised p name) (promised (name.thread - 1) (3 + refs + nums)) (thing name refs nums) yes) ∙ same in
-      cc)
+      unpromised (name.thread - 1) (3 + refs + nums) (sym (cond-true (is_promised p name) (promised (name.thread - 1) (3 + refs + nums)) (thing name refs nums) yes) ∙ same))
       (λ (no : is_promised p name ≡ false).
-      let one : thing name refs nums ≡ hand seat words =
-      sym (cond-false (is_promised p name) (promised (name.thread - 1) (3 + refs + nums)) (thing name refs nums) no) ∙ same in
-      cc)
+      none-some name (sym unnamed ∙ ap (λ y. name_at (Some y)) (sym same ∙ cond-false (is_promised p name) (promised (name.thread - 1) (3 + refs + nums)) (thing name refs nums) no)))
       (cases_Bool (is_promised p name))
-  no_hand_of a seat words (hand other more) is same = let named = stands.things a (hand other more) is in none-some named.0 named.1
-  no_hand_of a seat words (promised other more) is same = let named = stands.things a (promised other more) is in none-some named.0 named.1
+  only_of a x (hand other more) unnamed unpromised is same = let named = stands.things a (hand other more) is in none-some named.0 named.1
+  only_of a x (promised other more) unnamed unpromised is same = let named = stands.things a (promised other more) is in none-some named.0 named.1
+  only_of a x (filler more) unnamed unpromised is same = let named = stands.things a (filler more) is in none-some named.0 named.1
 
+  -- none is room in hand
   pub no_hands : (a seat words : ℕ) → taken a ≡ Some (hand seat words) → ⊥
-  no_hands a seat words is = let was = mapped_from (as_promised p) block a (hand seat words) is in no_hand_of a seat words was.0 was.1 was.2
+  no_hands a seat words is =
+      let was = mapped_from (as_promised p) block a (hand seat words) is in only_of a (hand seat words) was.0 refl (λ other more same. (let differ = same in cc)) was.1 was.2
+
+  -- and none only fills
+  no_fillers : (a words : ℕ) → taken a ≡ Some (filler words) → ⊥
+  no_fillers a words is =
+      let was = mapped_from (as_promised p) block a (filler words) is in only_of a (filler words) was.0 refl (λ other more same. (let differ = same in cc)) was.1 was.2
 
   -- the object of an old name
   old_object : (n : Name) (o : Object) → is_promised p n ≡ false → (with_promised g p).object n ≡ Some o → g.object n ≡ Some o
@@ -180,20 +189,26 @@ module _ (c : Config) (m : Word → ℕ) (block : Plot) (g : Graph) (p : Promise
 
   -- what all machines share holds, where nothing is collected and no seat has a region
   pub shared_facts : (phase cset evac : ℕ) (current : ℕ → ℕ) → phase ≡ 0 → cset ≡ 0 → evac ≡ 0 → ((seat : ℕ) → current seat ≡ 0)
-      → SharedFacts c (λ q. m (Top q)) heap taken (λ q. None) g.object g.count phase cset evac (m Free) current
+      → SharedFacts c (λ q. m (Top q)) heap taken no_ghost g.object g.count phase cset evac (m Free) current
   shared_facts phase cset evac current no_phase no_cset no_evac none = record {
-    plotted = plotted_alike c (λ q. m (Top q)) block (as_promised p) same_words stands.plotted;
-    filled = filled_alike c (λ q. m (Top q)) block (as_promised p) same_words stands.filled;
-    objects = objects_left;
-    given = is_after.given;
-    calm = record { phase_is = no_phase; cset_is = no_cset; evac_is = no_evac };
-    free_word = stands.free_word;
-    currents = record {
-      within = λ seat q is. absurd (omega (arith, is, none seat));
-      own = λ seat q is. absurd (omega (arith, is, none seat));
+    parsable = record {
+      plotted = plotted_alike c (λ q. m (Top q)) block (as_promised p) same_words stands.plotted;
+      filled = filled_alike c (λ q. m (Top q)) block (as_promised p) same_words stands.filled;
+      promises = λ a seat words is. (let at = gone a seat words is in omega (arith, at.words_are));
+      fillers = λ a words is. absurd (no_fillers a words is);
     };
-    rooms = λ a seat words is. absurd (no_hands a seat words is);
-    promises = λ a seat words is. (let at = gone a seat words is in omega (arith, at.words_are));
+    contents = record { objects = objects_left; given = is_after.given };
+    owned = record {
+      free_word = stands.free_word;
+      currents = record {
+        within = λ seat q is. absurd (omega (arith, is, none seat));
+        own = λ seat q is. absurd (omega (arith, is, none seat));
+      };
+      rooms = λ a seat words is. absurd (no_hands a seat words is);
+    };
+    calm = record { phase_is = no_phase; cset_is = no_cset; evac_is = no_evac };
+    uncollected = none_collects;
+    unfilled = no_fillers;
   }
 
   pub roots_left : (t i : ℕ) → t < c.mutators → i < 16 → Points taken (m (Root t i)) (g.root (t + 1) i)

@@ -6,18 +6,19 @@ use Rattle.heap_words.specs.declared.config.Config.{Config}
 use Rattle.heap_words.specs.Words.{Word, Phase, Cset, Evac, Current, Wait, Answer}
 use Rattle.heap_words.specs.Encoding.{request_shape_in, refs_in, nums_in}
 use Rattle.shen_graph.specs.Graph.{Graph, fresh}
+use Rattle.heap_world.specs.World.{no_ghost}
 use Rattle.heap_world.specs.Asking.{Asking, nothing, asks, refused, given, IsAsked}
 use Rattle.heap_world.specs.Represents.{Represents}
 use Rattle.heap_world.specs.Change.{Answers}
-use Rattle.image_laws.specs.Full.{full}
+use Rattle.image_laws.specs.Full.{packed_in, full}
 use Rattle.image_laws.specs.Promised.{Promises}
 use Rattle.image_laws.specs.Serving.{served_promises}
 use Rattle.pause_laws.proofs.Promises.{promised_ref, promised_refs, promised_nums, promises_of, ref_of, refs_of, nums_of}
 use Rattle.pause_laws.proofs.Holding.{request_reads, waits_for}
-use Rattle.pause_laws.proofs.Turned.{SamePromise, IsPromisedAsAsked, promise_after}
+use Rattle.image_laws.proofs.Turned.{SamePromise, IsPromisedAsAsked, promise_after}
 use Rattle.pause_laws.proofs.After.{gone, no_hands, shared_facts, roots_left}
 use Rattle.pause_laws.proofs.Made.{promised_if_some, some_if_promised, no_promise, promise}
-use Rattle.pause_laws.proofs.Still.{packed_in, full_phase, full_cset, full_evac, full_current, full_wait, packed_wait}
+use Rattle.image_laws.proofs.Still.{full_phase, full_cset, full_evac, full_current, full_wait, packed_wait}
 use Rattle.pause_laws.proofs.Paused.{then_of, packed_answer, asked_then, plot, is_after, plot_then, answer_left, answer_found}
 
 -- an asking is answered as it should be
@@ -107,7 +108,7 @@ module _ (c : Config) (m : Word → ℕ) (g : Graph) (asking : ℕ → Asking) (
       let facts = is_after c m g asking r in
       record {
         block = plot_then c m g asking r;
-        owner = λ s. None;
+        ghost = no_ghost;
         shared = shared_facts c (full c m) (plot c m g asking r) g q facts (full c m Phase) (full c m Cset) (full c m Evac) (λ s. full c m (Current s))
             (full_phase c m) (full_cset c m) (full_evac c m) (full_current c m);
         roots = roots_left c (full c m) (plot c m g asking r) g q facts;

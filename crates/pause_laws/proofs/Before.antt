@@ -9,7 +9,7 @@ use Rattle.shen_graph.specs.Graph.{Graph, Object, blank, fresh, same_reference}
 use Rattle.shen_graph.specs.Reach.{IsReachable}
 use Rattle.shen_graph.specs.Reach as reach
 use Rattle.shen_graph.proofs.PlainLemmas.{same_name-itself}
-use Rattle.heap_world.specs.World.{Block, thing, hand, promised, words_of, Plot, name_at, Points, IsThing, AreObjects}
+use Rattle.heap_world.specs.World.{Block, thing, hand, promised, filler, words_of, Plot, name_at, Points, IsThing, AreObjects}
 use Rattle.heap_world.specs.Asking.{Asking, nothing, asks, refused, given, IsPromise, IsAsked}
 use Rattle.heap_world.specs.Represents.{Represents}
 use Rattle.heap_world.specs.Roots.{is_root_of}
@@ -29,6 +29,7 @@ use Rattle.pause_laws.proofs.Mapped.{mapped, mapped_at, mapped_from, plotted_ali
 abbrev pub as_object : Graph → (ℕ → Asking) → Block → Block
 as_object g asking (thing name refs nums) = thing name refs nums
 as_object g asking (hand seat words) = hand seat words
+as_object g asking (filler words) = filler words
 as_object g asking (promised seat words) = thing (fresh g (seat + 1)) (promised_refs (asking seat)) (promised_nums (asking seat))
 
 -- what the words at an address are as a piece
@@ -83,6 +84,7 @@ module _ (c : Config) (m : Word → ℕ) (g : Graph) (asking : ℕ → Asking) (
   pub same_words : (a : ℕ) (b : Block) → r.block a ≡ Some b → words_of (as_object g asking b) ≡ words_of b
   same_words a (thing name refs nums) is = refl
   same_words a (hand seat words) is = refl
+  same_words a (filler words) is = refl
   same_words a (promised seat words) is =
       let at = promised_at a seat words is in
       let refs : promised_refs (asking seat) ≡ at.refs = ap promised_refs at.is_given in
@@ -96,7 +98,7 @@ module _ (c : Config) (m : Word → ℕ) (g : Graph) (asking : ℕ → Asking) (
   -- a name that has an object is no thread's next one
   pub not_next : (n : Name) (o : Object) (t : ℕ) → g.object n ≡ Some o → n ≡ fresh g (t + 1) → ⊥
   not_next n o t is next =
-      let made = r.shared.given n o is in
+      let made = r.shared.contents.given n o is in
       let thread : n.thread ≡ t + 1 = ap (λ (k : Name). k.thread) next in
       let count : n.count ≡ g.count (t + 1) + 1 = ap (λ (k : Name). k.count) next in
       let reached : g.count n.thread ≡ g.count (t + 1) = ap g.count thread in
@@ -129,9 +131,10 @@ module _ (c : Config) (m : Word → ℕ) (g : Graph) (asking : ℕ → Asking) (
   -- each piece is an object of the larger graph
   object_at : (a : ℕ) (b : Block) → r.block a ≡ Some b → ObjectAt heap plain (with_promised g p).object a (as_object g asking b)
   object_at a (thing name refs nums) is =
-      let o = r.shared.objects.each a refs nums name is in
+      let o = r.shared.contents.objects.each a refs nums name is in
       (o.0, larger_object name o.0 o.1, object_reads heap heap r.block plain a refs nums name o.0 (λ k below. refl) names_stay o.2)
   object_at a (hand seat words) is = tt
+  object_at a (filler words) is = tt
   object_at a (promised seat words) is =
       let at = promised_at a seat words is in
       let made = new_object heap plain a seat (g.count (seat + 1)) at.refs at.nums at.promise.few_refs at.promise.few_nums at.promise.words in
@@ -143,6 +146,7 @@ module _ (c : Config) (m : Word → ℕ) (g : Graph) (asking : ℕ → Asking) (
       → (r.block a ≡ Some (thing name refs nums)) ⊎ ((seat : ℕ) × (words : ℕ) × (r.block a ≡ Some (promised seat words)) × (name ≡ fresh g (seat + 1)))
   kind_of a refs nums name (thing n more_refs more_nums) is same = inl (is ∙ ap Some same)
   kind_of a refs nums name (hand seat words) is same = absurd (r.none a seat words is)
+  kind_of a refs nums name (filler words) is same = absurd (r.shared.unfilled a words is)
   kind_of a refs nums name (promised seat words) is same = inr (seat, words, is, sym (same_Some (fresh g (seat + 1)) name (ap (λ b. name_at (Some b)) same)))
 
   pub kind_at : (a refs nums : ℕ) (name : Name) → plain a ≡ Some (thing name refs nums)
@@ -153,13 +157,13 @@ module _ (c : Config) (m : Word → ℕ) (g : Graph) (asking : ℕ → Asking) (
 
   -- an object has another name than a promised one
   pub names_differ : (a refs nums seat : ℕ) (name : Name) → r.block a ≡ Some (thing name refs nums) → name ≡ fresh g (seat + 1) → ⊥
-  names_differ a refs nums seat name is next = let o = r.shared.objects.each a refs nums name is in not_next name o.0 seat o.1 next
+  names_differ a refs nums seat name is next = let o = r.shared.contents.objects.each a refs nums name is in not_next name o.0 seat o.1 next
 
   -- no two have one name
   once_each : (a b refs nums more_refs more_nums : ℕ) (name : Name) → plain a ≡ Some (thing name refs nums) → plain b ≡ Some (thing name more_refs more_nums) → a ≡ b
   once_each a b refs nums more_refs more_nums name is_a is_b = ⊎_elim
       (λ (old_a : r.block a ≡ Some (thing name refs nums)). ⊎_elim
-      (λ (old_b : r.block b ≡ Some (thing name more_refs more_nums)). r.shared.objects.once a b refs nums more_refs more_nums name old_a old_b)
+      (λ (old_b : r.block b ≡ Some (thing name more_refs more_nums)). r.shared.contents.objects.once a b refs nums more_refs more_nums name old_a old_b)
       (λ (new_b : (seat : ℕ) × (words : ℕ) × (r.block b ≡ Some (promised seat words)) × (name ≡ fresh g (seat + 1))). absurd (names_differ a refs nums new_b.0 name old_a new_b.3))
       (kind_at b more_refs more_nums name is_b))
       (λ (new_a : (seat : ℕ) × (words : ℕ) × (r.block a ≡ Some (promised seat words)) × (name ≡ fresh g (seat + 1))). ⊎_elim
@@ -182,6 +186,7 @@ module _ (c : Config) (m : Word → ℕ) (g : Graph) (asking : ℕ → Asking) (
   has_name : (a : ℕ) (b : Block) → r.block a ≡ Some b → (name : Name) × (name_at (Some (as_object g asking b)) ≡ Some name)
   has_name a (thing name refs nums) is = (name, refl)
   has_name a (hand seat words) is = absurd (r.none a seat words is)
+  has_name a (filler words) is = absurd (r.shared.unfilled a words is)
   has_name a (promised seat words) is = (fresh g (seat + 1), refl)
 
   things_plain : AreThings plain
@@ -217,13 +222,13 @@ module _ (c : Config) (m : Word → ℕ) (g : Graph) (asking : ℕ → Asking) (
   -- so the words stand for the graph with the promised objects
   pub plain_stands : ImageStands c m plain g p
   plain_stands = record {
-    plotted = plotted_alike c (λ q. m (Top q)) r.block (as_object g asking) same_words r.shared.plotted;
-    filled = filled_alike c (λ q. m (Top q)) r.block (as_object g asking) same_words r.shared.filled;
+    plotted = plotted_alike c (λ q. m (Top q)) r.block (as_object g asking) same_words r.shared.parsable.plotted;
+    filled = filled_alike c (λ q. m (Top q)) r.block (as_object g asking) same_words r.shared.parsable.filled;
     objects = objects_plain;
     things = things_plain;
     free_word = record {
-      no_more = r.shared.free_word.no_more;
-      empty = r.shared.free_word.empty;
+      no_more = r.shared.owned.free_word.no_more;
+      empty = r.shared.owned.free_word.empty;
       nobodys = λ q below member. refl;
     };
     rooted = rooted_plain;
@@ -239,7 +244,7 @@ module _ (c : Config) (m : Word → ℕ) (g : Graph) (asking : ℕ → Asking) (
       (m (Root at.0 i), piece.0, piece.1, piece.2)
   reached_at n (reach.from_field k _ field reached is) =
       let at = reached_at k reached in
-      let o = r.shared.objects.each at.0 at.1 at.2 k at.3 in
+      let o = r.shared.contents.objects.each at.0 at.1 at.2 k at.3 in
       let there : slice_get o.0.refs field ≡ Some (Some n) = sym (ap (λ (x : Object). slice_get x.refs field) (named_object g k o.0 o.1)) ∙ is in
       let points : name_at (r.block (heap (at.0 + 3 + field))) ≡ Some n = o.2.references field (Some n) there in
       let piece = named_thing (r.block (heap (at.0 + 3 + field))) n points in

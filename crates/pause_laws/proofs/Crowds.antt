@@ -13,7 +13,7 @@ use Rattle.shen_graph.specs.Graph.{Graph}
 use Rattle.heap_world.specs.Asking.{Asking, nothing, asks, refused, given, IsRequest, IsAsked}
 use Rattle.heap_world.specs.Represents.{Represents}
 use Rattle.heap_world.specs.Change.{words_given, IsCrowded}
-use Rattle.image_laws.specs.Full.{asked_in, full}
+use Rattle.image_laws.specs.Full.{packed_in, asked_in, full}
 use Rattle.image_laws.specs.Promised.{Promises, words_if, promised_words}
 use Rattle.image_laws.specs.Served.{tops_at_turn, given_in}
 use Rattle.image_laws.proofs.Served.{tops_are_served, requests_are_answered}
@@ -21,7 +21,7 @@ use Rattle.image_laws.proofs.Crowded.{full_is_crowded}
 use Rattle.pause_laws.proofs.Promises.{promised_ref, promised_refs, promised_nums, promises_of, ref_of, refs_of, nums_of}
 use Rattle.pause_laws.proofs.Before.{plain}
 use Rattle.pause_laws.proofs.Holding.{request_reads, waits_for, are_fresh, holds_by}
-use Rattle.pause_laws.proofs.Still.{packed_in, packed_wait}
+use Rattle.image_laws.proofs.Still.{packed_wait}
 use Rattle.pause_laws.proofs.Paused.{then_of, asked_then}
 use Rattle.pause_laws.proofs.Reached.{reach_list}
 

@@ -106,12 +106,12 @@ module _ (c : Config) (m : Word → ℕ) (g : Graph) (asking : ℕ → Asking) (
     fresh = λ t n is reached.
         let one = promised_one c g asking t n is in
         let at = reached_at c m g asking r n reached in
-        let o = r.shared.objects.each at.0 at.1 at.2 n at.3 in
+        let o = r.shared.contents.objects.each at.0 at.1 at.2 n at.3 in
         not_next c m g asking r n o.0 one.0 o.1 (one.4 ∙ ap (fresh g) one.2);
   }
 
   -- so the image holds the graph
-  pub holds_by : HoldsBy c m (plain c m g asking r) r.owner p g
+  pub holds_by : HoldsBy c m (plain c m g asking r) r.ghost.owner p g
   holds_by =
       let stands = plain_stands c m g asking r in
       record {
@@ -122,16 +122,16 @@ module _ (c : Config) (m : Word → ℕ) (g : Graph) (asking : ℕ → Asking) (
             absurd (true≢false (sym forwarded ∙ ap is_forwarded object.2.header));
         filled = stands.filled;
         things = stands.things;
-        free_word = r.shared.free_word;
-        currents = r.shared.currents;
+        free_word = r.shared.owned.free_word;
+        currents = r.shared.owned.currents;
         asking = λ t from inside waits. are_asking t inside waits;
         next = record {
           asked = λ t inside waits. let asked = who_waits t inside waits in (request_reads m g.count t asked.refs asked.nums asked.request).counted;
           promised = λ t name is. (promised_one c g asking t name is).4;
-          given = r.shared.given;
+          given = r.shared.contents.given;
         };
         unreached = are_fresh;
       }
 
   pub holds_some : HoldsSome c m
-  holds_some = ∣ (g, (plain c m g asking r, r.owner, p, holds_by)) ∣₁
+  holds_some = ∣ (g, (plain c m g asking r, r.ghost.owner, p, holds_by)) ∣₁

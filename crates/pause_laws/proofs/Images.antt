@@ -22,7 +22,7 @@ use Rattle.image_laws.proofs.Origin.{kept_inside, lie_apart}
 use Rattle.image_laws.proofs.Walked.{walk_keeps}
 use Rattle.image_graph.specs.Holds.{Holds, HoldsSome}
 use Rattle.pause_laws.specs.Image.{full_image}
-use Rattle.pause_laws.proofs.Still.{full_still}
+use Rattle.image_laws.proofs.Still.{full_still}
 use Rattle.pause_laws.proofs.Outside.{IsZeroOutside, full_outside}
 
 pub image_length : (c : Config) (image : List ℕ) → length (full_image c image) ≡ image_words c

@@ -3,10 +3,8 @@ pub mod Promises
 pub mod Mapped
 pub mod Before
 pub mod Holding
-pub mod Turned
 pub mod After
 pub mod Made
-pub mod Still
 pub mod Paused
 pub mod Answered
 pub mod Reached

@@ -16,10 +16,9 @@ use Rattle.packing.proofs.Rooms.{has_room}
 use Rattle.sliding.specs.Slide.{renewed, is_covered, slid_word, slid}
 use Rattle.sliding.proofs.Slid.{slid_next, slid_none, covered_here}
 use Rattle.image_laws.specs.Plot.{heap_end, packed_top}
-use Rattle.image_laws.specs.Full.{now_in, kept_in, packed, made_in, served_in, room_for, served, refused, full}
+use Rattle.image_laws.specs.Full.{packed_in, now_in, kept_in, packed, made_in, served_in, room_for, served, refused, full}
 use Rattle.image_laws.proofs.Made.{outside_fresh}
 use Rattle.image_laws.proofs.Served.{served_first, turn_idle, turn_waits}
-use Rattle.pause_laws.proofs.Still.{packed_in}
 
 -- all that is no word of the table reads 0
 abbrev pub IsZeroOutside : Config → (Word → ℕ) → Type 0
@@ -63,9 +62,6 @@ module _ (c : Config) (m : Word → ℕ) (kept renew : ℕ → ℕ) (lie : LieAp
       (λ (there : (0 < kept a) × (new_place c.region_words kept a / c.region_words ≡ r + 1)).
       absurd (let few = place_in_range c.region_words kept lie c.regions a there.0 below in let here = there.1 in omega (arith, few, here, past)))
       (added c.region_words kept lie r a))
-
-null_renewed : (w : ℕ) (now kept : ℕ → ℕ) (word : ℕ) → word ≡ 0 → renewed w now kept word ≡ 0
-null_renewed w now kept word none = ap (renewed w now kept) none
 
 packed_outside : (c : Config) (m : Word → ℕ) → LieApart c.region_words (kept_in c m) → ((a : ℕ) → 0 < kept_in c m a → a + kept_in c m a ≤ heap_end c) → IsZeroOutside c m → IsZeroOutside c (packed_in c m)
 unfolding packed

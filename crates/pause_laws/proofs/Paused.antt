@@ -19,7 +19,7 @@ use Rattle.heap_world.proofs.Pointing.{named_thing}
 use Rattle.image_laws.specs.Held.{IsAmong}
 use Rattle.image_laws.specs.Pack.{CanPack}
 use Rattle.image_laws.specs.Plot.{packed_block}
-use Rattle.image_laws.specs.Full.{now_in, root_words, kept_in, asked_in, packed, full}
+use Rattle.image_laws.specs.Full.{packed_in, now_in, root_words, kept_in, asked_in, packed, full}
 use Rattle.image_laws.specs.Promised.{Promises, with_promised}
 use Rattle.image_laws.specs.Image.{ImageStands}
 use Rattle.image_laws.specs.Serving.{asked_name, served_block, served_promises}
@@ -32,9 +32,9 @@ use Rattle.image_laws.proofs.Walked.{walk_keeps}
 use Rattle.pause_laws.proofs.Promises.{promises_of, promised_one}
 use Rattle.pause_laws.proofs.Before.{plain, not_next, kind_at, reached_at}
 use Rattle.pause_laws.proofs.Holding.{next_asked, holds_by}
-use Rattle.pause_laws.proofs.Turned.{SamePromise, IsPromisedAsAsked, promise_after, piece_after}
+use Rattle.image_laws.proofs.Turned.{SamePromise, IsPromisedAsAsked, promise_after, piece_after}
 use Rattle.pause_laws.proofs.After.{IsKnown, IsAfter, taken}
-use Rattle.pause_laws.proofs.Still.{packed_in, packed_wait}
+use Rattle.image_laws.proofs.Still.{packed_wait}
 
 -- what a mutator that asked has been answered
 abbrev pub then_of : Asking → (answer : ℕ) → Asking
@@ -111,22 +111,22 @@ module _ (c : Config) (m : Word → ℕ) (g : Graph) (asking : ℕ → Asking) (
   known_at : (a : ℕ) (n : Name) → name_at (r.block a) ≡ Some n → IsKnown g n
   known_at a n is =
       let piece = named_thing (r.block a) n is in
-      let o = r.shared.objects.each a piece.0 piece.1 n piece.2 in
+      let o = r.shared.contents.objects.each a piece.0 piece.1 n piece.2 in
       (o.0, o.1)
 
   pub is_after : IsAfter c (full c m) plot g q
   is_after = record {
     stands = stands;
     next = next_promised;
-    given = r.shared.given;
+    given = r.shared.contents.given;
     fields = λ a refs nums i n f o there object field.
         let was = had_piece a refs nums n o there object in
-        let x = r.shared.objects.each was.0 refs nums n was.1 in
+        let x = r.shared.contents.objects.each was.0 refs nums n was.1 in
         let same : o ≡ x.0 = same_Some o x.0 (sym object ∙ x.1) in
         known_at (m (Heap (was.0 + 3 + i))) f (x.2.references i (Some f) (ap (λ (k : Object). slice_get k.refs i) (sym same) ∙ field));
     roots = λ t i n is.
         let at = reached_at c m g asking r n (reach.from_root t i n is) in
-        let o = r.shared.objects.each at.0 at.1 at.2 n at.3 in
+        let o = r.shared.contents.objects.each at.0 at.1 at.2 n at.3 in
         (o.0, o.1);
   }
 

@@ -1,11 +1,11 @@
-mod Events
-mod Memory
-mod Turns
-mod Noted
-mod Going
+pub mod Events
+pub mod Memory
+pub mod Turns
+pub mod Noted
+pub mod Going
 mod Keeps
 pub mod Calls
-mod Rounds
+pub mod Rounds
 pub mod Fresh
 mod Graphs
 mod FromImage

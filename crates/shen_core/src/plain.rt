@@ -7,7 +7,7 @@ ghost use Rattle.shen_core.specs.Runs.{IsShownBySome};
 use crate::from_image::{machines_from, words_from};
 use heap_graph::write_graph;
 use heap_machines::{Machine, Stepped, open_machines};
-use heap_words::{Config, NoMemory, Place, heap_in, roots_in};
+use heap_words::{Access, Config, NoMemory, Place, heap_in, roots_in};
 use image_graph::Image;
 use shen_graph::{Command, GraphText, Reply, Work};
 use std::alloc::Global;
@@ -36,7 +36,8 @@ impl Plain {
     ghost use Rattle.shen_graph.specs.declared.order.Order.TheVariants.{Nothing, Begin, End};
     ghost use Rattle.shen_graph.specs.Valid.{IsValid};
     ghost use Rattle.pause_laws.specs.Image.{full_image};
-    ghost use Rattle.step_core.specs.Machines.{takes_of, stands_in, reply_in, place_in, is_resting, may_begin, made_of_machine, WaitsIn};
+    ghost use Rattle.heap_words.specs.Access.{place_of};
+    ghost use Rattle.step_core.specs.Machines.{takes_of, plan_of, stands_in, reply_in, place_in, is_resting, may_begin, made_of_machine, WaitsIn};
     ghost use Rattle.step_core.specs.Opening.{opening};
     ghost use Rattle.shen_graph.specs.Graph.{Graph};
     ghost use Rattle.image_graph.specs.State as images;
@@ -160,7 +161,7 @@ impl Plain {
     }
 
     /// Its mutators, its helpers and its control.
-    pub(crate) fn seats(&self) -> usize
+    pub fn seats(&self) -> usize
         ensures { result ≡ seats_of self.now }
     {
         self.config.seats()
@@ -187,7 +188,7 @@ impl Plain {
     }
 
     /// Whether the next access of the machine, on its turn, stands at the place.
-    pub(crate) fn stands_at(&self, work: &Work, number: usize, place: Place) -> bool
+    pub fn stands_at(&self, work: &Work, number: usize, place: Place) -> bool
         requires number { number < seats_of self.now }
         requires run { CanRun self.now work.now }
         ensures { result ≡ stands_in place (machine_at self.now number) (order_for (next_for (config_of self.now) work.now number) (machine_at self.now number)) }
@@ -197,7 +198,7 @@ impl Plain {
 
     /// Gives the machine its order for its turn, if it has one: a mutator between two calls begins the next command of its
     /// script, and ends where there is none.
-    pub(crate) fn order_next(&mut self, work: &Work, number: usize) -> bool
+    pub fn order_next(&mut self, work: &Work, number: usize) -> bool
         requires number { number < seats_of self.old }
         requires run { CanRun self.old work.now }
         ensures turn { IsTurn self.old work.now number result (order_at self.new number) }
@@ -214,7 +215,7 @@ impl Plain {
     }
 
     /// Whether the machine would make a step on its turn.
-    pub(crate) fn has_next(&self, number: usize) -> bool
+    pub fn has_next(&self, number: usize) -> bool
         requires number { number < seats_of self.now }
         requires orders { All (λ order. order ≡ Nothing) (orders_of self.now) }
         ensures { HasNext self.now number result }
@@ -251,6 +252,16 @@ impl Plain {
         } else {
             Some(machine.place())
         }
+    }
+
+    /// The access of the machine's next step, of a word of the table.
+    pub fn plan(&self, number: usize) -> Access
+        requires number { number < seats_of self.now }
+        requires turn { has_turn self.now number ≡ true }
+        ensures row { result ≡ plan_of (config_of self.now) (order_at self.now number) (machine_at self.now number) }
+        ensures inside { place_of result < table_words (config_of self.now) }
+    {
+        self.machines[number].plan()
     }
 
     /// Whether no mutator has a call in progress, and the control is not storing a new image.

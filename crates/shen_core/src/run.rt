@@ -133,8 +133,8 @@ impl Plain {
         }
     }
 
-    // Whether any machine would make a step on its turn.
-    fn any_next(&self) -> bool
+    /// Whether any machine would make a step on its turn.
+    pub fn any_next(&self) -> bool
         requires { All (λ order. order ≡ Nothing) (orders_of self.now) }
         ensures idle { result ≡ false → (jobs : Jobs) → AllIdle self.now jobs }
         ensures busy { result ≡ true → (jobs : Jobs) → SomeBusy self.now jobs }

@@ -389,6 +389,30 @@ const PAUSED: &[Row] = &[
         trace: "shen 1\nheap 4 64 0\nthreads 1 0\n1 new 2 16 16\n1 new 1 1 1\n1 wr 1 0 5\n1 set 1 0 0\n1 drop 2\n1 gc\n1 rd 1 0\n1 get 3 1 0\n! 1=6 2@P3 2@I0\n",
         answer: "1 1.1\n1 1.2\n1 ok\n1 ok\n1 ok\n1 ok\n1 5\n1 0.1\ngraph\nobject 0.1 - - - - - - - - - - - - - - - - /\nobject 1.2 0.1 / 5\nroots 1 0.1 1.2 - 0.1 - - - - - - - - - - - -\n",
     },
+    // Objects of 35 words fit once into a region, beside the hub too: four, and the fifth is answered full.
+    Row {
+        words: REPLAY,
+        trace: "shen 1\nheap 4 64 0\nthreads 1 0\n1 new 1 16 16\n1 new 2 16 16\n1 new 3 16 16\n1 new 4 16 16\n1 new 5 16 16\n",
+        answer: "1 1.1\n1 1.2\n1 1.3\n1 1.4\n1 full\ngraph\nobject 0.1 - - - - - - - - - - - - - - - - /\nobject 1.1 - - - - - - - - - - - - - - - - / 0 0 0 0 0 0 0 0 0 0 0 0 0 0 0 0\nobject 1.2 - - - - - - - - - - - - - - - - / 0 0 0 0 0 0 0 0 0 0 0 0 0 0 0 0\nobject 1.3 - - - - - - - - - - - - - - - - / 0 0 0 0 0 0 0 0 0 0 0 0 0 0 0 0\nobject 1.4 - - - - - - - - - - - - - - - - / 0 0 0 0 0 0 0 0 0 0 0 0 0 0 0 0\nroots 1 0.1 1.1 1.2 1.3 1.4 - - - - - - - - - - -\n",
+    },
+    // Three objects of 19 words fit into a region: the hub and eleven fill all four, and the twelfth is answered full.
+    Row {
+        words: REPLAY,
+        trace: "shen 1\nheap 4 64 0\nthreads 1 0\n1 new 1 16 0\n1 new 2 16 0\n1 new 3 16 0\n1 new 4 16 0\n1 new 5 16 0\n1 new 6 16 0\n1 new 7 16 0\n1 new 8 16 0\n1 new 9 16 0\n1 new 10 16 0\n1 new 11 16 0\n1 new 12 16 0\n",
+        answer: "1 1.1\n1 1.2\n1 1.3\n1 1.4\n1 1.5\n1 1.6\n1 1.7\n1 1.8\n1 1.9\n1 1.10\n1 1.11\n1 full\ngraph\nobject 0.1 - - - - - - - - - - - - - - - - /\nobject 1.1 - - - - - - - - - - - - - - - - /\nobject 1.2 - - - - - - - - - - - - - - - - /\nobject 1.3 - - - - - - - - - - - - - - - - /\nobject 1.4 - - - - - - - - - - - - - - - - /\nobject 1.5 - - - - - - - - - - - - - - - - /\nobject 1.6 - - - - - - - - - - - - - - - - /\nobject 1.7 - - - - - - - - - - - - - - - - /\nobject 1.8 - - - - - - - - - - - - - - - - /\nobject 1.9 - - - - - - - - - - - - - - - - /\nobject 1.10 - - - - - - - - - - - - - - - - /\nobject 1.11 - - - - - - - - - - - - - - - - /\nroots 1 0.1 1.1 1.2 1.3 1.4 1.5 1.6 1.7 1.8 1.9 1.10 1.11 - - - -\n",
+    },
+    // One of the eleven is dropped: no region is free, and a pause makes room for the twelfth all the same.
+    Row {
+        words: REPLAY,
+        trace: "shen 1\nheap 4 64 0\nthreads 1 0\n1 new 1 16 0\n1 new 2 16 0\n1 new 3 16 0\n1 new 4 16 0\n1 new 5 16 0\n1 new 6 16 0\n1 new 7 16 0\n1 new 8 16 0\n1 new 9 16 0\n1 new 10 16 0\n1 new 11 16 0\n1 drop 5\n1 new 12 16 0\n",
+        answer: "1 1.1\n1 1.2\n1 1.3\n1 1.4\n1 1.5\n1 1.6\n1 1.7\n1 1.8\n1 1.9\n1 1.10\n1 1.11\n1 ok\n1 1.12\ngraph\nobject 0.1 - - - - - - - - - - - - - - - - /\nobject 1.1 - - - - - - - - - - - - - - - - /\nobject 1.2 - - - - - - - - - - - - - - - - /\nobject 1.3 - - - - - - - - - - - - - - - - /\nobject 1.4 - - - - - - - - - - - - - - - - /\nobject 1.6 - - - - - - - - - - - - - - - - /\nobject 1.7 - - - - - - - - - - - - - - - - /\nobject 1.8 - - - - - - - - - - - - - - - - /\nobject 1.9 - - - - - - - - - - - - - - - - /\nobject 1.10 - - - - - - - - - - - - - - - - /\nobject 1.11 - - - - - - - - - - - - - - - - /\nobject 1.12 - - - - - - - - - - - - - - - - /\nroots 1 0.1 1.1 1.2 1.3 1.4 - 1.6 1.7 1.8 1.9 1.10 1.11 1.12 - - -\n",
+    },
+    // Two threads wait for one pause, which has room for one object more. The first gets it, and with it the heap is full.
+    Row {
+        words: REPLAY,
+        trace: "shen 1\nheap 4 64 0\nthreads 2 0\n1 new 1 16 0\n1 new 2 16 0\n1 new 3 16 0\n1 new 4 16 0\n1 new 5 16 0\n1 new 6 16 0\n1 new 7 16 0\n1 new 8 16 0\n1 new 9 16 0\n1 new 10 16 0\n1 new 11 16 0\n2 new 1 16 0\n! 1=10 1@WP 2@WP\n",
+        answer: "1 1.1\n1 1.2\n1 1.3\n1 1.4\n1 1.5\n1 1.6\n1 1.7\n1 1.8\n1 1.9\n1 1.10\n1 1.11\n2 full\ngraph\nobject 0.1 - - - - - - - - - - - - - - - - /\nobject 1.1 - - - - - - - - - - - - - - - - /\nobject 1.2 - - - - - - - - - - - - - - - - /\nobject 1.3 - - - - - - - - - - - - - - - - /\nobject 1.4 - - - - - - - - - - - - - - - - /\nobject 1.5 - - - - - - - - - - - - - - - - /\nobject 1.6 - - - - - - - - - - - - - - - - /\nobject 1.7 - - - - - - - - - - - - - - - - /\nobject 1.8 - - - - - - - - - - - - - - - - /\nobject 1.9 - - - - - - - - - - - - - - - - /\nobject 1.10 - - - - - - - - - - - - - - - - /\nobject 1.11 - - - - - - - - - - - - - - - - /\nroots 1 0.1 1.1 1.2 1.3 1.4 1.5 1.6 1.7 1.8 1.9 1.10 1.11 - - - -\nroots 2 0.1 - - - - - - - - - - - - - - -\n",
+    },
 ];
 
 /// Traces whose machines are not all idle after so many steps.

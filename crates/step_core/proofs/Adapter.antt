@@ -25,7 +25,7 @@ use Rattle.mutator.specs.Orders.{takes_at, is_waiting}
 use Rattle.mutator.specs.Rows.{Mutating, touch_of, next_at, given_at}
 use Rattle.mutator.proofs.Orders.{in_call}
 use Rattle.mutator.specs.Told.{told_of as settled_by_step}
-use Rattle.heap_world.specs.World.{World, Plot, Shared}
+use Rattle.heap_world.specs.World.{Ghost, World, Plot, Shared}
 use Rattle.heap_world.specs.Change.{Change}
 use Rattle.heap_world.specs.Rely.{Rely}
 use Rattle.control_steps.specs.Rows.{Controlling}
@@ -99,7 +99,7 @@ touched_promises memory t v outside =
     ∙ ap (λ n. if nat_le (memory (Answer v)) 1 then 0 else object_words n) (touched_image memory t (Heap (memory (Answer v) + 1)) outside refl)
 
 -- The adapter. While an image counts, the mutator is outside, and its access is of no word of the image.
-module _ (change : Change) (c : Config) (words : List ℕ) (o : Option (List ℕ)) (block : Plot) (owner : ℕ → Option ℕ) (g : Graph) (past : List Entry) (number : ℕ) (machines : List Actor) (order : Order) (m : Mutating)
+module _ (change : Change) (c : Config) (words : List ℕ) (o : Option (List ℕ)) (block : Plot) (ghost : Ghost) (g : Graph) (past : List Entry) (number : ℕ) (machines : List Actor) (order : Order) (m : Mutating)
     (command : Command) (calls : List Entry) (long : length words ≡ table_words c) (is : is_word c (touch_of c m order).word ≡ true)
     (held : (image : List ℕ) → o ≡ Some image → (is_within (standing_at m.spot) ≡ false) × (is_image (touch_of c m order).word ≡ false)) where
   abbrev t : Touch
@@ -110,7 +110,7 @@ module _ (change : Change) (c : Config) (words : List ℕ) (o : Option (List ℕ
 
   -- the world before the event
   abbrev u : World
-  u = record { memory = settled_by c words o; block = block; owner = owner; graph = g }
+  u = record { memory = settled_by c words o; block = block; ghost = ghost; graph = g }
 
   -- the actor before the event
   abbrev the_actor : Actor

@@ -28,7 +28,7 @@ idle_holds c g (controlling h) number calm = ap (λ spot. stored_image spot h.im
 module _ (c : Config) (s : Stage Actor) (g : Graph) (begins : Begins c s g) where
   -- the control is there
   there : (a : Actor) × (slice_get s.machines (control_number c) ≡ Some a)
-  there = machine_there c s.words (world_of c s begins.stands.block begins.stands.owner g) [] s.machines begins.seats (control_number c) (omega arith)
+  there = machine_there c s.words (world_of c s begins.stands.block begins.stands.ghost g) [] s.machines begins.seats (control_number c) (omega arith)
 
   -- no image counts
   pub whole_begins : settled c s ≡ view c s.words
@@ -39,18 +39,18 @@ module _ (c : Config) (s : Stage Actor) (g : Graph) (begins : Begins c s g) wher
   pub follows_begins : Follows c g s []
   follows_begins = record {
     block = begins.stands.block;
-    owner = begins.stands.owner;
+    ghost = begins.stands.ghost;
     words = begins.words;
     seats = begins.seats;
     legal = tt;
     entries = All-nil (IsSettled c.mutators);
     no_more = begins.stands.no_more;
-    shared = subst (λ memory. Shared c (record { memory = memory; block = begins.stands.block; owner = begins.stands.owner; graph = g })) (sym whole_begins) begins.stands.shared;
+    shared = subst (λ memory. Shared c (record { memory = memory; block = begins.stands.block; ghost = begins.stands.ghost; graph = g })) (sym whole_begins) begins.stands.shared;
     promised_to = begins.stands.promised_to;
     machines = λ k a is.
         let new = begins.machines k a is in
-        subst (λ memory. IsMachine c s.words (record { memory = memory; block = begins.stands.block; owner = begins.stands.owner; graph = g }) [] k a a.machine) (sym whole_begins)
-        (machine_begins c s.words (record { memory = view c s.words; block = begins.stands.block; owner = begins.stands.owner; graph = g }) k a a.machine refl new.number_is new.idle new.calls new.valid
+        subst (λ memory. IsMachine c s.words (record { memory = memory; block = begins.stands.block; ghost = begins.stands.ghost; graph = g }) [] k a a.machine) (sym whole_begins)
+        (machine_begins c s.words (record { memory = view c s.words; block = begins.stands.block; ghost = begins.stands.ghost; graph = g }) k a a.machine refl new.number_is new.idle new.calls new.valid
         begins.stands.roots begins.stands.none begins.stands.asked);
   }
 

@@ -48,7 +48,7 @@ module _ (change : Change) (law : IsPause change) (c : Config) (g : Graph) (s : 
   abbrev control_before : Actor
   control_before = record { machine = controlling k; command = command; calls = calls }
 
-  facts : IsControl c s.words (world_of c s follows.block follows.owner (after g past)) number k
+  facts : IsControl c s.words (world_of c s follows.block follows.ghost (after g past)) number k
   facts = follows.machines number control_before here
 
   -- the image that counts is its
@@ -63,9 +63,9 @@ module _ (change : Change) (law : IsPause change) (c : Config) (g : Graph) (s : 
 
   -- the world in which an image counts, or none
   abbrev world_held : Option (List ℕ) → World
-  world_held o = record { memory = settled_by c s.words o; block = follows.block; owner = follows.owner; graph = after g past }
+  world_held o = record { memory = settled_by c s.words o; block = follows.block; ghost = follows.ghost; graph = after g past }
 
-  world_is : world_of c s follows.block follows.owner (after g past) ≡ world_held (stored_image k.spot k.image)
+  world_is : world_of c s follows.block follows.ghost (after g past) ≡ world_held (stored_image k.spot k.image)
   world_is = ap world_held held_is
 
   -- what the control owes is owed as an event
@@ -76,7 +76,7 @@ module _ (change : Change) (law : IsPause change) (c : Config) (g : Graph) (s : 
       let there : image_of (slice_get (slice_set s.machines number control_after) (control_number c)) ≡ image_in control_after.machine =
       ap (λ n. image_of (slice_get (slice_set s.machines number control_after) n)) (sym facts.number_is) ∙ ap image_of (slice_get-set_same s.machines number control_before control_after here) in
       follows_owes c g s past number control_before control_after words_after_access settles follows
-      (subst (λ memory. Owes c s.words words_after_access (world_of c s follows.block follows.owner (after g past)) past number s.machines memory settles control_after) (ap (settled_by c words_after_access) (sym there))
+      (subst (λ memory. Owes c s.words words_after_access (world_of c s follows.block follows.ghost (after g past)) past number s.machines memory settles control_after) (ap (settled_by c words_after_access) (sym there))
       (subst (λ w. Owes c s.words words_after_access w past number s.machines (settled_by c words_after_access (image_in control_after.machine)) settles control_after) (sym world_is)
       (subst (λ n. Owes c s.words words_after_access (world_held (stored_image k.spot k.image)) past n s.machines (settled_by c words_after_access (image_in control_after.machine)) settles control_after) (sym facts.number_is) owes)))
       here (length-set s.words _ _ ∙ follows.words)
@@ -120,14 +120,14 @@ module _ (change : Change) (law : IsPause change) (c : Config) (g : Graph) (s : 
 
   -- a spot outside the image
   quiet : (spot : ControlSpot) (here : Here spot) → stored_image spot image ≡ None → told_storing c s spot image ≡ []
-      → ((shared : Shared c (pauses.open_world c s.words follows.block follows.owner (after g past))) (hands : (a more : ℕ) → follows.block a ≡ Some (hand (control_number c) more) → ⊥) → is_ready c spot ≡ true
-      → Owes c s.words (accessed (control_access c (control_at spot)) s.words) (pauses.open_world c s.words follows.block follows.owner (after g past)) past (control_number c) s.machines
+      → ((shared : Shared c (pauses.open_world c s.words follows.block follows.ghost (after g past))) (hands : (a more : ℕ) → follows.block a ≡ Some (hand (control_number c) more) → ⊥) → is_ready c spot ≡ true
+      → Owes c s.words (accessed (control_access c (control_at spot)) s.words) (pauses.open_world c s.words follows.block follows.ghost (after g past)) past (control_number c) s.machines
       (settled_by c (accessed (control_access c (control_at spot)) s.words) (image_in (control_after change law c g s past number (control_at spot) command calls follows shaken here).machine)) []
       (control_after change law c g s past number (control_at spot) command calls follows shaken here))
       → ControlGoal spot
   quiet spot here none told_none owes =
       let k = control_at spot in
-      let world_open : world_held change law c g s past number k command calls follows shaken here (stored_image spot image) ≡ pauses.open_world c s.words follows.block follows.owner (after g past) =
+      let world_open : world_held change law c g s past number k command calls follows shaken here (stored_image spot image) ≡ pauses.open_world c s.words follows.block follows.ghost (after g past) =
       ap (world_held change law c g s past number k command calls follows shaken here) none in
       subst (λ es. Follows c g (moved (kind change c) s number (record { machine = controlling k; command = command; calls = calls }) Nothing) (past ++ es)) (sym told_none)
       (from_owes change law c g s past number k command calls follows shaken here []
@@ -138,7 +138,7 @@ module _ (change : Change) (law : IsPause change) (c : Config) (g : Graph) (s : 
 
   -- the world while no image counts
   abbrev open_now : World
-  open_now = pauses.open_world c s.words follows.block follows.owner (after g past)
+  open_now = pauses.open_world c s.words follows.block follows.ghost (after g past)
 
   -- the word of the image that is loaded
   abbrev loaded : ℕ → ℕ
@@ -151,8 +151,8 @@ module _ (change : Change) (law : IsPause change) (c : Config) (g : Graph) (s : 
       let read : AreRead c s.words (image ++ loaded index ∷ []) (image_words c) = λ i below. image_grows c s.words image index known.aims.0 known.aims.1 i (omega (arith, below, last)) in
       ∣ (
         after g past,
-        asking c s.words follows.block follows.owner (after g past) past s.machines (image ++ loaded index ∷ []) read follows.seats,
-        image_stands c s.words follows.block follows.owner (after g past) past s.machines (image ++ loaded index ∷ []) read follows.seats
+        asking c s.words follows.block follows.ghost (after g past) past s.machines (image ++ loaded index ∷ []) read follows.seats,
+        image_stands c s.words follows.block follows.ghost (after g past) past s.machines (image ++ loaded index ∷ []) read follows.seats
             (shared_held change law c g s past number (control_at (LoadWord index)) command calls follows shaken here) follows.promised_to follows.no_more
             (known_held change law c g s past number (control_at (LoadWord index)) command calls follows shaken here)
             (all_outside change law c g s past number (control_at (LoadWord index)) command calls follows shaken here refl),
@@ -175,12 +175,12 @@ module _ (change : Change) (law : IsPause change) (c : Config) (g : Graph) (s : 
       → (length image ≡ index) × AreRead c s.words image index
       → Owes c s.words s.words open_now past (control_number c) s.machines (settled_by c s.words (image_in (after_word index more).machine)) [] (after_word index more)
   loaded_owes index here shared hands true more known =
-      read_owes c s.words follows.block follows.owner (after g past) past s.machines command calls
+      read_owes c s.words follows.block follows.ghost (after g past) past s.machines command calls
       (record { spot = LoadWord (index + 1); seen = seen; image = image ++ loaded index ∷ [] }) shared follows.promised_to hands more
       (length-snoc image (loaded index) ∙ ap (λ n. n + 1) known.0, image_grows c s.words image index known.0 known.1) refl
   loaded_owes index here shared hands false all known =
       let less : index + 1 ≡ image_words c = (let last = ltb-false _ _ all in let ready = ltb-true _ _ (ready_at (LoadWord index) here) in omega (arith, last, ready)) in
-      paused_owes c s.words follows.block follows.owner (after g past) past s.machines (image ++ loaded index ∷ [])
+      paused_owes c s.words follows.block follows.ghost (after g past) past s.machines (image ++ loaded index ∷ [])
       (λ i below. image_grows c s.words image index known.0 known.1 i (omega (arith, below, less))) follows.seats change law
       (length-snoc image (loaded index) ∙ ap (λ n. n + 1) known.0 ∙ less) shared follows.promised_to follows.no_more
       (known_held change law c g s past number (control_at (LoadWord index)) command calls follows shaken here)
@@ -204,27 +204,27 @@ module _ (change : Change) (law : IsPause change) (c : Config) (g : Graph) (s : 
       let k = control_at (StoreWord index) in
       let known = facts change law c g s past number k command calls follows shaken here in
       from_owes change law c g s past number k command calls follows shaken here (told_storing c s (StoreWord index) image)
-      (stored_owes change c s.words follows.block follows.owner (after g past) past s.machines image index seen command calls known.ready follows.words known.aims.0 known.aims.1 follows.seats
+      (stored_owes change c s.words follows.block follows.ghost (after g past) past s.machines image index seen command calls known.ready follows.words known.aims.0 known.aims.1 follows.seats
       (shared_held change law c g s past number k command calls follows shaken here) follows.promised_to (hands_held change law c g s past number k command calls follows shaken here)
       (known_held change law c g s past number k command calls follows shaken here))
 
   -- wherever it stands
   pub by_spot : (spot : ControlSpot) → is_gone spot ≡ false → Here spot → ControlGoal spot
   by_spot LookLeft going here = quiet LookLeft here refl refl (λ shared hands ready.
-      pauses.look_left c s.words follows.block follows.owner (after g past) past s.machines command calls change seen (got LookLeft) image follows.words shared follows.promised_to hands ready)
+      pauses.look_left c s.words follows.block follows.ghost (after g past) past s.machines command calls change seen (got LookLeft) image follows.words shared follows.promised_to hands ready)
   by_spot StoreEnd going here = quiet StoreEnd here refl refl (λ shared hands ready.
-      pauses.store_end c s.words follows.block follows.owner (after g past) past s.machines command calls change seen (got StoreEnd) image follows.words shared follows.promised_to hands ready)
+      pauses.store_end c s.words follows.block follows.ghost (after g past) past s.machines command calls change seen (got StoreEnd) image follows.words shared follows.promised_to hands ready)
   by_spot LookAsked going here = quiet LookAsked here refl refl (λ shared hands ready.
-      pauses.look_asked c s.words follows.block follows.owner (after g past) past s.machines command calls change seen (got LookAsked) image follows.words shared follows.promised_to hands ready)
+      pauses.look_asked c s.words follows.block follows.ghost (after g past) past s.machines command calls change seen (got LookAsked) image follows.words shared follows.promised_to hands ready)
   by_spot LookFree going here = quiet LookFree here refl refl (λ shared hands ready.
-      pauses.look_free c s.words follows.block follows.owner (after g past) past s.machines command calls change seen (got LookFree) image follows.words shared follows.promised_to hands ready)
+      pauses.look_free c s.words follows.block follows.ghost (after g past) past s.machines command calls change seen (got LookFree) image follows.words shared follows.promised_to hands ready)
   by_spot (Stopping stop.Raise) going here = quiet (Stopping stop.Raise) here refl refl (λ shared hands ready.
-      pauses.raise_pause c s.words follows.block follows.owner (after g past) past s.machines command calls change seen (got (Stopping stop.Raise)) image follows.words shared follows.promised_to hands ready)
+      pauses.raise_pause c s.words follows.block follows.ghost (after g past) past s.machines command calls change seen (got (Stopping stop.Raise)) image follows.words shared follows.promised_to hands ready)
   by_spot (Stopping (stop.Check seat)) going here = quiet (Stopping (stop.Check seat)) here refl refl (λ shared hands ready.
-      pauses.check_seat c s.words follows.block follows.owner (after g past) past s.machines command calls change seen (got (Stopping (stop.Check seat))) image follows.words shared follows.promised_to hands seat ready)
+      pauses.check_seat c s.words follows.block follows.ghost (after g past) past s.machines command calls change seen (got (Stopping (stop.Check seat))) image follows.words shared follows.promised_to hands seat ready)
   by_spot (Stopping stop.Stopped) going here = absurd (let ready = ready_at (Stopping stop.Stopped) here in cc (ready))
   by_spot (LoadWord index) going here = load_word index here
   by_spot (StoreWord index) going here = store_word index here
   by_spot Go going here = quiet Go here refl refl (λ shared hands ready.
-      pauses.let_go c s.words follows.block follows.owner (after g past) past s.machines command calls change seen (got Go) image follows.words shared follows.promised_to hands ready)
+      pauses.let_go c s.words follows.block follows.ghost (after g past) past s.machines command calls change seen (got Go) image follows.words shared follows.promised_to hands ready)
   by_spot Gone going here = absurd (cc (going))

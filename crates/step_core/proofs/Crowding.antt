@@ -111,7 +111,7 @@ next_of_calls calls command = get_right (commands_of calls) (command ∷ []) (le
 module _ (c : Config) (g : Graph) (s : Stage Actor) (past : List Entry) (follows : Follows c g s past)
     (outside : (k : ℕ) (b : Actor) → k < control_number c → slice_get s.machines k ≡ Some b → is_within (standing_of b.machine) ≡ false) where
   abbrev u : World
-  u = world_of c s follows.block follows.owner (after g past)
+  u = world_of c s follows.block follows.ghost (after g past)
 
   -- what a thread asks for, in a call of which nothing is settled
   promised_open : (t : ℕ) → t < c.mutators → words_promised u.memory t ≤ words_asked (next_command (begun c s) past (t + 1))
@@ -174,7 +174,7 @@ module _ (change : Change) (c : Config) (g : Graph) (s : Stage Actor) (past : Li
   Crowded settles = AreCrowded c.regions c.region_words g (begun c s) (past ++ settles)
 
   abbrev now : World
-  now = world_of c s goes.follows.block goes.follows.owner (after g past)
+  now = world_of c s goes.follows.block goes.follows.ghost (after g past)
 
   -- entries without Full
   quiet : (settles : List Entry) → IsWithoutFull settles → Crowded settles
@@ -199,13 +199,13 @@ module _ (change : Change) (c : Config) (g : Graph) (s : Stage Actor) (past : Li
     at_answer : (t : ℕ) → name_of c at ≡ Answer t → Crowded (told_word s.machines (Answer t) (slice_index s.words at) (slice_index image index))
     at_answer t is =
         let block = goes.follows.block in
-        let owner = goes.follows.owner in
+        let ghost = goes.follows.ghost in
         let within : t < c.mutators = subst (λ w. IsWord c w) is
-        (storing.name_is_word change c s.words block owner (after g past) past s.machines image index seen command calls control_facts.ready goes.follows.words control_facts.aims.0 control_facts.aims.1 goes.follows.seats) in
+        (storing.name_is_word change c s.words block ghost (after g past) past s.machines image index seen command calls control_facts.ready goes.follows.words control_facts.aims.0 control_facts.aims.1 goes.follows.seats) in
         let raw : view c s.words (Answer t) ≡ slice_index s.words at = ap (view c s.words) (sym is)
-        ∙ storing.view_raw change c s.words block owner (after g past) past s.machines image index seen command calls control_facts.ready goes.follows.words control_facts.aims.0 control_facts.aims.1 goes.follows.seats in
+        ∙ storing.view_raw change c s.words block ghost (after g past) past s.machines image index seen command calls control_facts.ready goes.follows.words control_facts.aims.0 control_facts.aims.1 goes.follows.seats in
         let value : settled c s (Answer t) ≡ slice_index image index = ap (λ o. settled_by c s.words o (Answer t)) held ∙ ap (mixed c s.words image) (sym is)
-        ∙ storing.now_is change c s.words block owner (after g past) past s.machines image index seen command calls control_facts.ready goes.follows.words control_facts.aims.0 control_facts.aims.1 goes.follows.seats in
+        ∙ storing.now_is change c s.words block ghost (after g past) past s.machines image index seen command calls control_facts.ready goes.follows.words control_facts.aims.0 control_facts.aims.1 goes.follows.seats in
         let there = mutator_there c s.words now past s.machines goes.follows.seats goes.follows.machines t within in
         subst (λ k. Crowded (entries_of t k (if (slice_index s.words at == 0) && (slice_index image index == 1) then Some Full else None))) (ap command_at (sym there.2))
         (by_test there.0 there.1 t there.4 raw value ((slice_index s.words at == 0) && (slice_index image index == 1)) refl)

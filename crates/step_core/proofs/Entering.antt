@@ -30,7 +30,7 @@ use Rattle.step_core.proofs.Ready.{ready_of, state_word}
 
 -- the world after a store into a state word
 abbrev pub state_world : World → ℕ → ℕ → World
-state_world u seat value = record { memory = touched u.memory (touch (State seat) (stores value)); block = u.block; owner = u.owner; graph = u.graph }
+state_world u seat value = record { memory = touched u.memory (touch (State seat) (stores value)); block = u.block; ghost = u.ghost; graph = u.graph }
 
 -- a state word is no word that the facts of a mutator speak of
 pub state_keeps : (u : World) (seat j value : ℕ) → Keeps j u (state_world u seat value)

@@ -15,7 +15,7 @@ use Rattle.shen_graph.specs.Reach.{IsReach, size}
 use Rattle.shen_graph.specs.History.{Entry, after, EachIsLegal, of_thread}
 use Rattle.mutator.specs.Orders.{is_valid}
 use Rattle.mutator.specs.Rows.{Mutating}
-use Rattle.heap_world.specs.World.{World, Plot, hand, promised, Shared}
+use Rattle.heap_world.specs.World.{Ghost, World, Plot, hand, promised, Shared}
 use Rattle.heap_world.specs.Change.{image_words}
 use Rattle.heap_world.specs.Roots.{HasNoMore}
 use Rattle.control_steps.specs.declared.spot.ControlSpot.{ControlSpot}
@@ -92,16 +92,16 @@ PromisedToMutators c block = (a seat words : ℕ) → block a ≡ Some (promised
 -- threads, and each machine is where it should be.
 pub record Follows (c : Config) (g : Graph) (s : Stage Actor) (past : List Entry) : Type 0 where
   pub block : Plot
-  pub owner : ℕ → Option ℕ
+  pub ghost : Ghost
   pub words : length s.words ≡ table_words c
   pub seats : length s.machines ≡ seat_count c.mutators c.helpers
   pub legal : EachIsLegal g past
   pub entries : All (IsSettled c.mutators) past
   pub no_more : HasNoMore c.mutators (after g past)
-  pub shared : Shared c (world_of c s block owner (after g past))
+  pub shared : Shared c (world_of c s block ghost (after g past))
   pub promised_to : PromisedToMutators c block
   pub machines : (number : ℕ) (a : Actor) → slice_get s.machines number ≡ Some a
-      → IsMachine c s.words (world_of c s block owner (after g past)) (of_thread past (number + 1)) number a a.machine
+      → IsMachine c s.words (world_of c s block ghost (after g past)) (of_thread past (number + 1)) number a a.machine
 
 -- What an event of a machine owes, whatever its role: the world after it, by the words that count then and by the graph after
 -- the entries that it settles, which may be of any threads; that the entries are legal and of the heap's threads; what all

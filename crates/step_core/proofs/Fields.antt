@@ -53,7 +53,7 @@ module _ (c : Config) (u : World) (seat made : ℕ) (kept : Kept) (command : Com
       refl mine.facts.0 (shown_not_full here.0)
       (ap (λ k. outcome u.graph (seat + 1) k) get.is ∙ rw here.1 refl)
       shared
-      (field_mine c (record { memory = u.memory; block = u.block; owner = u.owner; graph = with_root u.graph (seat + 1) dst here.0 }) seat made kept command got here.0
+      (field_mine c (record { memory = u.memory; block = u.block; ghost = u.ghost; graph = with_root u.graph (seat + 1) dst here.0 }) seat made kept command got here.0
       shared mine.seated get.small
       (roots_then u.block (λ i. u.memory (Root seat i)) u.graph.root (seat + 1) dst got here.0 mine.roots here.2)
       mine.hands here.2)
@@ -64,8 +64,8 @@ module _ (c : Config) (u : World) (seat made : ℕ) (kept : Kept) (command : Com
       let cas = mine.facts.1 in
       let here = field_in c u shared seat cas.obj object field cas.of cas.below in
       let got : ℕ = u.memory (Heap (object + 3 + field)) in
-      let agree : name_the_same u.memory got expect ≡ (got == expect) = names_agree c u shared got expect here.0 _ here.2 cas.expect_is in
-      let words : (got == expect) ≡ same_reference here.0 (u.graph.root (seat + 1) cas.expected) = same_words c u shared got expect here.0 _ here.2 cas.expect_is in
+      let agree : name_the_same u.memory got expect ≡ (got == expect) = names_agree c u shared got expect here.0 _ here.2 cas.expect_is.stands in
+      let words : (got == expect) ≡ same_reference here.0 (u.graph.root (seat + 1) cas.expected) = same_words c u shared got expect here.0 _ here.2 cas.expect_is.stands in
       let below = cas.below in
       ⊎_elim
       (λ (same : (got == expect) ≡ true).
@@ -73,7 +73,7 @@ module _ (c : Config) (u : World) (seat made : ℕ) (kept : Kept) (command : Com
       (rw same (record {
         seated = mine.seated;
         ready = ready_of _ (is_number got && is_number value) (word_in c u shared seat cas.obj object (object + 3 + field) (3 + field) cas.of (omega arith) (omega arith))
-            (and_from _ _ (number_small got (points_small c _ u.block shared.plotted got here.0 here.2)) (number_small value (points_small c _ u.block shared.plotted value _ cas.value_is)));
+            (and_from _ _ (number_small got (points_small c _ u.block shared.parsable.plotted got here.0 here.2)) (number_small value (points_small c _ u.block shared.parsable.plotted value _ cas.value_is.stands)));
         roots = mine.roots;
         hands = mine.hands;
         facts = (mine.facts.0, cas, eqb-true _ _ same);
@@ -108,7 +108,7 @@ module _ (c : Config) (u : World) (seat made : ℕ) (kept : Kept) (command : Com
       looks c u (at_spot (Showing value show.LoadName)) (Heap (value + 2)) command fixed refl refl refl shared
       (record {
         seated = mine.seated;
-        ready = ready_of _ _ (grind (arith, nat_tests)) (number_small value (points_small c _ u.block shared.plotted value (Some found.name) found.is));
+        ready = ready_of _ _ (grind (arith, nat_tests)) (number_small value (points_small c _ u.block shared.parsable.plotted value (Some found.name) found.is));
         roots = mine.roots;
         hands = mine.hands;
         facts = (found.settled ∙ ap (λ n. Some (reply.Ref n)) (sym read), found.small);

@@ -22,13 +22,14 @@ use Rattle.shen_graph.specs.Graph.{Object, hub, same_name, blank}
 use Rattle.mutator.specs.Rows.{fresh_mutator}
 use Rattle.step_core.specs.Actor.{mutating, fresh_helper, fresh_control}
 use Rattle.step_core.specs.Opening.{opening_actor, opening, first_free}
-use Rattle.heap_world.specs.World.{World, Plot, Block, thing, hand, promised, words_of, name_at, Points, IsInUse, IsPlotted, IsFilled, IsThing, IsGiven, AreObjects, IsFreeWord, Shared}
+use Rattle.heap_world.specs.World.{World, Plot, Block, thing, hand, promised, filler, no_ghost, words_of, name_at, Points, IsInUse, IsPlotted, IsFilled, IsThing, IsGiven, AreObjects, IsFreeWord, Shared}
 use Rattle.heap_world.specs.Asking.{nothing}
 use Rattle.heap_world.specs.Represents.{Represents}
 use Rattle.step_core.specs.Begins.{IsNew, IsCalmOutside, Begins, Run, first_graph}
 use Rattle.step_core.proofs.Roots.{no_more_opening}
 use Rattle.shen_graph.proofs.PlainLemmas.{same_name-true}
 use Rattle.heap_world.proofs.NewObject.{all_alike}
+use Rattle.heap_world.proofs.Keeping.{none_collects}
 use Rattle.step_core.proofs.OpeningStands.{rooted_memory, first_memory, view-opening, length-opening}
 
 -- the hub alone
@@ -37,7 +38,7 @@ first_block c a = if a == c.region_words then Some (thing hub 16 0) else None
 
 -- what the opening stands for
 abbrev first_world : Config → World
-first_world c = record { memory = first_memory c; block = first_block c; owner = λ _. None; graph = first_graph c }
+first_world c = record { memory = first_memory c; block = first_block c; ghost = no_ghost; graph = first_graph c }
 
 -- the roots leave each other word as it was
 rooted_else : (c : Config) (w : Word) → ((k : ℕ) → same_word (Root k 0) w ≡ false) → (t : ℕ) → rooted_memory c t w ≡ 0
@@ -194,20 +195,29 @@ none_promised c a seat words is = let no = (block_only c a (promised seat words)
 -- what machines share holds of the opening
 first_shared : (c : Config) → Shared c (first_world c)
 first_shared c = record {
-  plotted = first_plotted c;
-  filled = first_filled c;
-  objects = first_objects c;
-  given = λ name o is.
-      subst (λ n. IsGiven c (λ t. 0) n) (sym (object_only c name o is).0)
-      (record { thread = omega arith; made = omega arith; by_thread = λ one. absurd (omega arith); small = omega arith });
-  calm = record { phase_is = rooted_else c Phase (λ k. refl) c.mutators; cset_is = rooted_else c Cset (λ k. refl) c.mutators; evac_is = rooted_else c Evac (λ k. refl) c.mutators };
-  free_word = first_free_word c;
-  currents = record {
-    within = λ seat r is. let none = rooted_else c (Current seat) (λ k. refl) c.mutators in absurd (omega (arith, none, is));
-    own = λ seat r is. let none = rooted_else c (Current seat) (λ k. refl) c.mutators in absurd (omega (arith, none, is));
+  parsable = record {
+    plotted = first_plotted c;
+    filled = first_filled c;
+    promises = λ a seat words is. absurd (none_promised c a seat words is);
+    fillers = λ a words is. absurd (let no = (block_only c a (filler words) is).1 in cc);
   };
-  rooms = λ a seat words is. absurd (let no = (block_only c a (hand seat words) is).1 in cc);
-  promises = λ a seat words is. absurd (none_promised c a seat words is);
+  contents = record {
+    objects = first_objects c;
+    given = λ name o is.
+        subst (λ n. IsGiven c (λ t. 0) n) (sym (object_only c name o is).0)
+        (record { thread = omega arith; made = omega arith; by_thread = λ one. absurd (omega arith); small = omega arith });
+  };
+  owned = record {
+    free_word = first_free_word c;
+    currents = record {
+      within = λ seat r is. let none = rooted_else c (Current seat) (λ k. refl) c.mutators in absurd (omega (arith, none, is));
+      own = λ seat r is. let none = rooted_else c (Current seat) (λ k. refl) c.mutators in absurd (omega (arith, none, is));
+    };
+    rooms = λ a seat words is. absurd (let no = (block_only c a (hand seat words) is).1 in cc);
+  };
+  calm = record { phase_is = rooted_else c Phase (λ k. refl) c.mutators; cset_is = rooted_else c Cset (λ k. refl) c.mutators; evac_is = rooted_else c Evac (λ k. refl) c.mutators };
+  uncollected = none_collects;
+  unfilled = λ a words is. (let no = (block_only c a (filler words) is).1 in cc);
 }
 
 -- the words of the roots stand for the graph's
@@ -231,7 +241,7 @@ first_roots c k i below = ⊎_elim
 first_stands : (c : Config) → Represents c (first_memory c) (first_graph c) (λ t. nothing)
 first_stands c = record {
   block = first_block c;
-  owner = λ _. None;
+  ghost = no_ghost;
   shared = first_shared c;
   roots = λ t i below small. first_roots c t i below;
   none = λ a seat words is. (let no = (block_only c a (hand seat words) is).1 in cc);

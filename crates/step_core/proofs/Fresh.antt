@@ -18,7 +18,7 @@ use Rattle.step_core.specs.Stepped.{IsFilling, Mine, Row}
 use Rattle.heap_world.specs.Rely.{Rely}
 use Rattle.step_core.proofs.Spots.{mutator_at, accessed}
 use Rattle.step_core.proofs.Ready.{leaving, word_ready, fresh_ready}
-use Rattle.step_core.proofs.FreshRoot.{HasNew, made_world, made_reply, hand_before, promise_before, roots_made, count_made, legal_made, graph_made, shared_made, others_made}
+use Rattle.step_core.proofs.FreshRoot.{usable_made, HasNew, made_world, made_reply, hand_before, promise_before, roots_made, count_made, legal_made, graph_made, shared_made, others_made}
 use Rattle.heap_world.proofs.Apart.{far}
 use Rattle.heap_world.proofs.Pieces.{object_reads}
 
@@ -48,27 +48,27 @@ module _ (c : Config) (u : World) (seat made : ℕ) (kept : Kept) (command : Com
     else_stays a k b is other below =
         cond-false ((address + done) == (a + k)) _ _
         (ne_eqb (address + done) (a + k)
-        (λ e. far c (λ r. u.memory (Top r)) u.block shared.plotted a address k done b (hand seat (3 + refs + nums)) is mine.facts.1.room other below mine.facts.2 (sym e)))
+        (λ e. far c (λ r. u.memory (Top r)) u.block shared.parsable.plotted a address k done b (hand seat (3 + refs + nums)) is mine.facts.1.room other below mine.facts.2 (sym e)))
 
     -- machines share what they shared
     shared_stored : Shared c stored_world
     shared_stored = record {
-      plotted = shared.plotted;
-      filled = shared.filled;
-      objects = record {
-        each = λ a more_refs more_nums n is.
-            let o = shared.objects.each a more_refs more_nums n is in
-            let other : a ≢ address = λ same. (let clash : Some (thing n more_refs more_nums) ≡ Some (hand seat (3 + refs + nums)) = sym is ∙ ap u.block same ∙ mine.facts.1.room in cc) in
-            let kept = λ (k : ℕ) (below : k < 3 + more_refs + more_nums). else_stays a k (thing n more_refs more_nums) is other below in
-            (o.0, o.1, object_reads (λ b. u.memory (Heap b)) (λ b. stored_world.memory (Heap b)) u.block u.block a more_refs more_nums n o.0 kept (λ b m e. e) o.2);
-        once = shared.objects.once;
+      parsable = shared.parsable;
+      contents = record {
+        objects = record {
+          each = λ a more_refs more_nums n is.
+              let o = shared.contents.objects.each a more_refs more_nums n is in
+              let other : a ≢ address = λ same. (let clash : Some (thing n more_refs more_nums) ≡ Some (hand seat (3 + refs + nums)) = sym is ∙ ap u.block same ∙ mine.facts.1.room in cc) in
+              let kept = λ (k : ℕ) (below : k < 3 + more_refs + more_nums). else_stays a k (thing n more_refs more_nums) is other below in
+              (o.0, o.1, object_reads (λ b. u.memory (Heap b)) (λ b. stored_world.memory (Heap b)) u.block u.block a more_refs more_nums n o.0 kept (λ b m e. e) o.2);
+          once = shared.contents.objects.once;
+        };
+        given = shared.contents.given;
       };
-      given = shared.given;
+      owned = shared.owned;
       calm = shared.calm;
-      free_word = shared.free_word;
-      currents = shared.currents;
-      rooms = shared.rooms;
-      promises = shared.promises;
+      uncollected = shared.uncollected;
+      unfilled = shared.unfilled;
     }
 
     -- one word more of the new object stands in the room
@@ -91,14 +91,14 @@ module _ (c : Config) (u : World) (seat made : ℕ) (kept : Kept) (command : Com
         → Mine c stored_world (at_spot (Making (if b then make.StoreWord address (done + 1) else make.StoreRoot address))) command fixed
     mine_stored true more = record {
       seated = mine.seated;
-      ready = word_ready c seat made kept command fixed mine.facts.0 (λ r. u.memory (Top r)) u.block shared.plotted address mine.facts.1.room mine.seated.below (done + 1) (ltb-true _ _ more);
+      ready = word_ready c seat made kept command fixed mine.facts.0 (λ r. u.memory (Top r)) u.block shared.parsable.plotted address mine.facts.1.room mine.seated.below (done + 1) (ltb-true _ _ more);
       roots = mine.roots;
       hands = mine.hands;
       facts = (mine.facts.0, filling, ltb-true _ _ more);
     }
     mine_stored false all = record {
       seated = mine.seated;
-      ready = fresh_ready c seat made kept command fixed mine.facts.0 (λ r. u.memory (Top r)) u.block shared.plotted address mine.facts.1.room mine.seated.below;
+      ready = fresh_ready c seat made kept command fixed mine.facts.0 (λ r. u.memory (Top r)) u.block shared.parsable.plotted address mine.facts.1.room mine.seated.below;
       roots = mine.roots;
       hands = mine.hands;
       facts = (
@@ -168,7 +168,7 @@ module _ (c : Config) (u : World) (seat made : ℕ) (kept : Kept) (command : Com
     mine_made : Mine c (made_world has) (mutator_at seat (made + 1) kept (Leave (made_reply has))) command (Some (made_reply has))
     mine_made =
         leaving c (made_world has) seat (made + 1) kept command (made_reply has)
-        (record { below = mine.seated.below; counted = count_made has; unasked = λ calm. let was = mine.seated.unasked calm in (was.0, was.1, λ a words is. was.2 a words (promise_before has a seat words is).1) })
+        (record { below = mine.seated.below; counted = count_made has; usable = usable_made has mine.seated.usable; unasked = λ calm. let was = mine.seated.unasked calm in (was.0, was.1, λ a words is. was.2 a words (promise_before has a seat words is).1) })
         (roots_made has mine.roots)
         (λ a words is. let old = hand_before has a seat words is in old.0 (mine.hands a words old.1).0)
 

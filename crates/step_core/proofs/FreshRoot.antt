@@ -1,11 +1,11 @@
 -- A new object is stored into a root: room in hand, or an object that was promised, becomes an object of the graph, and its name
 -- is settled.
-use Rattle.std.proofs.Common.{◌≡◌, ◌≢◌, ℕ, ◌+◌, ◌<◌, Option, Some, None, refl, sym, ap, ◌∙◌, subst, arith}
+use Rattle.std.proofs.Common.{◌≡◌, ◌≢◌, ℕ, ◌+◌, ◌<◌, inr, Option, Some, None, refl, sym, ap, ◌∙◌, subst, arith}
 use Rattle.std.specs.Prelude.{◌==◌, ◌&&◌}
 use Rattle.std.proofs.lemmas.Bool.{cond-false, ne_eqb, and_left}
 use Rattle.heap_words.specs.declared.config.Config.{Config}
 use Rattle.heap_words.specs.Encoding.{fresh_word}
-use Rattle.heap_words.specs.Words.{Root, Top, Heap, Current}
+use Rattle.heap_words.specs.Words.{Free, Root, Top, Heap, Current}
 use Rattle.steps_base.specs.Touch.{touch, stores, touched}
 use Rattle.shen_graph.specs.declared.name.Name.{Name}
 use Rattle.shen_graph.specs.declared.command.Command.{Command}
@@ -15,14 +15,14 @@ use Rattle.shen_graph.specs.Graph.{Object, blank, fresh, with_root, with_fresh}
 use Rattle.shen_graph.specs.Step.{outcome}
 use Rattle.mutator.specs.Commands.{dst_of, refs_of, nums_of}
 use Rattle.mutator.specs.WaitRows.{next_name}
-use Rattle.heap_world.specs.World.{World, Block, thing, hand, promised, words_of, name_at, Points, IsThing, IsGiven, Shared}
+use Rattle.heap_world.specs.World.{World, Block, thing, hand, promised, words_of, name_at, Points, Target, IsUsable, IsThing, IsGiven, Shared}
 use Rattle.heap_world.specs.Rely.{Rely}
 use Rattle.heap_world.proofs.Updates.{updated, updated_there}
-use Rattle.heap_world.proofs.Keeping.{points_stay}
-use Rattle.heap_world.proofs.NewObject.{new_object, stays, names_stay, things_stay, old_hand, old_promise, plotted_again, filled_again, objects_again, rooms_again, promises_again, given_again, with_count, count_own}
+use Rattle.heap_world.proofs.Keeping.{points_stay, usable_stays}
+use Rattle.heap_world.proofs.NewObject.{new_object, stays, names_stay, things_stay, old_hand, old_promise, parsable_again, objects_again, owned_again, unfilled_again, given_again, with_count, count_own}
 use Rattle.step_core.specs.Stepped.{IsMaking, LegalBy, graph_by}
 use Rattle.step_core.proofs.Settling.{legal_answer, graph_answer}
-use Rattle.step_core.proofs.RootStores.{roots_written}
+use Rattle.step_core.proofs.RootStores.{roots_written, usable_written}
 
 -- a piece that is no other seat's: neither in its hand nor promised to it
 pub record IsOwn (seat : ℕ) (piece : Block) : Type 0 where
@@ -61,7 +61,7 @@ module _ {c : Config} {u : World} {seat made : ℕ} {command k : Command} {fixed
   made_world = record {
     memory = touched u.memory (touch (Root seat (dst_of k)) (stores address));
     block = updated u.block address (Some (thing name refs nums));
-    owner = u.owner;
+    ghost = u.ghost;
     graph = with_root (with_fresh u.graph (seat + 1) (blank refs nums)) (seat + 1) (dst_of k) (Some name);
   }
 
@@ -73,13 +73,18 @@ module _ {c : Config} {u : World} {seat made : ℕ} {command k : Command} {fixed
   names : (a : ℕ) (n : Name) → name_at (u.block a) ≡ Some n → name_at (made_world.block a) ≡ Some n
   names = names_stay c top u.block address refs nums name has.piece has.unnamed has.long has.here
 
+  -- each object stands where it stood
+  targets : (a more_refs more_nums : ℕ) (n : Name) → Target u.block a more_refs more_nums n → Target made_world.block a more_refs more_nums n
+  targets a more_refs more_nums n there =
+      record { piece = things_stay c top u.block address refs nums name has.piece has.unnamed has.long has.here a more_refs more_nums n there.piece }
+
   -- the thread's fresh name is the one that the mutator writes
   name_is : name ≡ next_name seat made
   name_is = ap (next_name seat) has.counted
 
   -- no object has it
   not_given : (o : Object) → u.graph.object name ≡ Some o → ⊥
-  not_given o is = let given = has.shared.given name o is in let most = given.by_thread (omega arith) in omega (arith, most)
+  not_given o is = let given = has.shared.contents.given name o is in let most = given.by_thread (omega arith) in omega (arith, most)
 
   -- its words are those of a blank object
   new_is : IsThing (λ a. u.memory (Heap a)) made_world.block address refs nums name (blank refs nums)
@@ -99,15 +104,15 @@ module _ {c : Config} {u : World} {seat made : ℕ} {command k : Command} {fixed
   -- machines share what they should
   pub shared_made : Shared c made_world
   shared_made = record {
-    plotted = plotted_again c top u.block address refs nums name has.piece has.unnamed has.long has.here has.shared.plotted;
-    filled = filled_again c top u.block address refs nums name has.piece has.unnamed has.long has.here has.shared.filled;
-    objects = objects_again c top u.block address refs nums name has.piece has.unnamed has.long has.here (λ a. u.memory (Heap a)) u.graph.object has.shared.objects not_given (blank refs nums) new_is;
-    given = given_again c u.graph.count u.graph.object name (blank refs nums) has.shared.given is_given;
+    parsable = parsable_again c top u.block address refs nums name has.piece has.unnamed has.long has.here has.shared.parsable;
+    contents = record {
+      objects = objects_again c top u.block address refs nums name has.piece has.unnamed has.long has.here (λ a. u.memory (Heap a)) u.graph.object has.shared.contents.objects not_given (blank refs nums) new_is;
+      given = given_again c u.graph.count u.graph.object name (blank refs nums) has.shared.contents.given is_given;
+    };
+    owned = owned_again c top u.block address refs nums name has.piece has.unnamed has.long has.here (u.memory Free) (λ s. u.memory (Current s)) u.ghost.owner has.shared.owned;
     calm = has.shared.calm;
-    free_word = has.shared.free_word;
-    currents = has.shared.currents;
-    rooms = rooms_again c top u.block address refs nums name has.piece has.unnamed has.long has.here (λ s. u.memory (Current s)) has.shared.rooms;
-    promises = promises_again c top u.block address refs nums name has.piece has.unnamed has.long has.here has.shared.promises;
+    uncollected = has.shared.uncollected;
+    unfilled = unfilled_again c top u.block address refs nums name has.piece has.unnamed has.long has.here has.shared.unfilled;
   }
 
   -- room in hand was in hand before, elsewhere
@@ -125,6 +130,13 @@ module _ {c : Config} {u : World} {seat made : ℕ} {command k : Command} {fixed
       roots_written made_world.block u.memory u.graph.root seat (dst_of k) address (Some name)
       (λ i below. points_stay u.block made_world.block names (u.memory (Root seat i)) (u.graph.root (seat + 1) i) (roots i below))
       (ap name_at (updated_there u.block address (Some (thing name refs nums))))
+
+  -- and may be used
+  pub usable_made : ((i : ℕ) → i < 16 → IsUsable u.block (u.memory (Root seat i))) → (i : ℕ) → i < 16 → IsUsable made_world.block (made_world.memory (Root seat i))
+  usable_made usable =
+      usable_written made_world.block u.memory seat (dst_of k) address
+      (λ i below. usable_stays u made_world targets (u.memory (Root seat i)) (usable i below))
+      (inr (name, refs, nums, record { piece = updated_there u.block address (Some (thing name refs nums)) }))
 
   -- it has made one object more
   pub count_made : made_world.graph.count (seat + 1) ≡ made + 1
@@ -146,7 +158,7 @@ module _ {c : Config} {u : World} {seat made : ℕ} {command k : Command} {fixed
   pub others_made : (j : ℕ) → j ≢ seat → Rely j u made_world
   others_made j differs = record {
     names = names;
-    targets = λ a more_refs more_nums n there. record { piece = things_stay c top u.block address refs nums name has.piece has.unnamed has.long has.here a more_refs more_nums n there.piece };
+    targets = targets;
     hands = λ a words is. stays c top u.block address refs nums name has.piece has.unnamed has.long has.here a (hand j words) is (has.own.no_hand j words differs);
     no_hands = λ a words is. (hand_before a j words is).1;
     hand_words = λ a words i is below. refl;

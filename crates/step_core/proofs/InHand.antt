@@ -37,17 +37,17 @@ field_mine c w seat made kept command got v shared seated small roots hands is =
     let zero_got : got ≡ 0 = eqb-true _ _ none in
     rw none (record {
       seated = seated;
-      ready = ready_of (is_word c (Root seat (dst_of kept.command))) (is_number got) (grind (arith, nat_tests)) (number_small got (points_small c _ w.block shared.plotted got v is));
+      ready = ready_of (is_word c (Root seat (dst_of kept.command))) (is_number got) (grind (arith, nat_tests)) (number_small got (points_small c _ w.block shared.parsable.plotted got v is));
       roots = roots;
       hands = hands;
-      facts = (ap (λ r. Some (shown r)) (null_if_0 c _ w.block shared.plotted got v is zero_got), small);
+      facts = (ap (λ r. Some (shown r)) (null_if_0 c _ w.block shared.parsable.plotted got v is zero_got), small);
     }))
     (λ (some : (got == 0) ≡ false).
-    let named = named_if_not_0 c _ w.block shared.plotted got v is (eqb-false _ _ some) in
+    let named = named_if_not_0 c _ w.block shared.parsable.plotted got v is (eqb-false _ _ some) in
     let piece = named_thing (w.block got) named.0 named.2 in
     rw some (record {
       seated = seated;
-      ready = ready_of _ true (piece_word c _ w.block shared.plotted got 2 (thing named.0 piece.0 piece.1) piece.2 (omega arith)) refl;
+      ready = ready_of _ true (piece_word c _ w.block shared.parsable.plotted got 2 (thing named.0 piece.0 piece.1) piece.2 (omega arith)) refl;
       roots = roots;
       hands = hands;
       facts = record { name = named.0; settled = ap (λ r. Some (shown r)) named.1; is = named.2; small = small };

@@ -71,7 +71,7 @@ goes_event change law c g s past e goes = record {
 }
   where
     known : (a : Actor) → slice_get s.machines e.number ≡ Some a
-        → IsMachine c s.words (world_of c s goes.follows.block goes.follows.owner (after g past)) (of_thread past (e.number + 1)) e.number a a.machine
+        → IsMachine c s.words (world_of c s goes.follows.block goes.follows.ghost (after g past)) (of_thread past (e.number + 1)) e.number a a.machine
     known = goes.follows.machines e.number
 
     same : Follows c g s (past ++ [])

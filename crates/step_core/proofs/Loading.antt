@@ -55,10 +55,10 @@ pub replies_root : (c : Config) (u : World) (m : Mutating) (at : Word) (command 
     → touch_of c m Nothing ≡ touch at loads → told_of u.memory m ≡ Some r → given_at m.spot ≡ None → fixed ≡ None
     → is_full r ≡ false → outcome u.graph (m.seat + 1) command ≡ answers r (with_root u.graph (m.seat + 1) dst v)
     → Shared c u
-    → Mine c (record { memory = u.memory; block = u.block; owner = u.owner; graph = with_root u.graph (m.seat + 1) dst v }) (next_of c m Nothing (u.memory at)) command (Some r)
+    → Mine c (record { memory = u.memory; block = u.block; ghost = u.ghost; graph = with_root u.graph (m.seat + 1) dst v }) (next_of c m Nothing (u.memory at)) command (Some r)
     → Stepped c u m command Nothing fixed
 replies_root c u m at command fixed r dst v loaded told given unsettled other is shared mine = record {
-  world = record { memory = u.memory; block = u.block; owner = u.owner; graph = with_root u.graph (m.seat + 1) dst v };
+  world = record { memory = u.memory; block = u.block; ghost = u.ghost; graph = with_root u.graph (m.seat + 1) dst v };
   memory = rw loaded (load_keeps u.memory at);
   graph = rw told (sym (graph_answer u.graph m.seat command r other ∙ ap (λ o. o.graph) is));
   legal = rw told (legal_answer u.graph m.seat command r other (ap (λ o. o.reply) is));

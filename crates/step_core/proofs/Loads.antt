@@ -22,11 +22,11 @@ use Rattle.mutator.specs.Orders.{is_next}
 use Rattle.mutator.specs.Commands.{roots_of, root_of, is_on_object, lacks_object, has_part}
 use Rattle.mutator.specs.Rows.{Mutating, first_spot, after_first, with_part}
 use Rattle.mutator.specs.Told.{name_the_same}
-use Rattle.heap_world.specs.World.{World, hand, Points, Shared}
-use Rattle.step_core.specs.Stepped.{HasRoot, HasObject, HasFirst, HasRoots, IsBegun, IsSeatedIn, Mine, Stepped, Row}
+use Rattle.heap_world.specs.World.{World, hand, name_at, Points, Shared}
+use Rattle.step_core.specs.Stepped.{IsRootWord, HasRoot, HasObject, HasFirst, HasRoots, IsBegun, IsSeatedIn, Mine, Stepped, Row}
 use Rattle.step_core.proofs.Spots.{mutator_at}
 use Rattle.step_core.proofs.Ready.{leaving, ready_of, number_small}
-use Rattle.heap_world.proofs.Pointing.{named_thing, named_if_not_0, null_if_0, points_small}
+use Rattle.heap_world.proofs.Pointing.{named_if_not_0, null_if_0, points_small}
 use Rattle.step_core.proofs.Naming.{same_words, names_agree, word_in, shape_in, bad_on_null, bad_on_shape}
 use Rattle.step_core.proofs.Loading.{looks, replies}
 
@@ -58,9 +58,12 @@ root_small made _ i next below = absurd (omega arith)
 -- the object of a command whose first root is not null
 abbrev object_of : (c : Config) (u : World) (seat : ℕ) (k : Command) (object : ℕ) → Shared c u → is_on_object k ≡ true → HasFirst u seat k object → HasObject u seat (root_of k 0) object
 object_of c u seat k object shared on first =
-    let named = named_if_not_0 c _ u.block shared.plotted object _ (first.first_is first.some) (first.not_null on) in
-    let piece = named_thing (u.block object) named.0 named.2 in
-    record { name = named.0; refs = piece.0; nums = piece.1; root_is = named.1; target = record { piece = piece.2 } }
+    let is = first.first_is first.some in
+    let named = named_if_not_0 c _ u.block shared.parsable.plotted object _ is.stands (first.not_null on) in
+    ⊎_elim
+    (λ null. absurd (first.not_null on null))
+    (λ at. record { name = at.0; refs = at.1; nums = at.2; root_is = named.1 ∙ sym named.2 ∙ ap name_at at.3.piece; target = at.3 })
+    is.usable
 
 -- a call of a command has begun: what a mutator counts on that has no root in hand
 record IsUnderWay (c : Config) (u : World) (seat made : ℕ) (command : Command) (fixed : Option Reply) (k : Command) : Type 0 where
@@ -162,7 +165,9 @@ module _ (c : Config) (u : World) (seat made : ℕ) (kept : Kept) (command : Com
 
   -- the word of a root of the command stands for the root
   root_has : (k : Command) (i : ℕ) → HasBegun k → HasRoot u seat k i (u.memory (Root seat (root_of k i)))
-  root_has k i mine below = mine.roots (root_of k i) (root_small made k i mine.facts.next below)
+  root_has k i mine below =
+      let small = root_small made k i mine.facts.next below in
+      record { stands = mine.roots (root_of k i) small; usable = mine.seated.usable (root_of k i) small }
 
   -- it can go on with the second root, and with the third
   second_mine : (k : Command) (first : ℕ) → HasBegun k → 1 < length (roots_of k) → HasFirst u seat k first → HasSpot k kept.cset fixed (Loading (load.Second first))
@@ -194,10 +199,10 @@ module _ (c : Config) (u : World) (seat made : ℕ) (kept : Kept) (command : Com
       let below = mine.seated.below in
       let next = mine.facts.next in
       let small : dst < 16 = grind (arith, nat_tests) in
-      let value_is : Points u.block first (u.graph.root (seat + 1) src) = has.first_is has.some in
+      let value_is : IsRootWord u seat src first = has.first_is has.some in
       record {
         seated = mine.seated;
-        ready = ready_of _ _ (grind (arith, nat_tests)) (number_small first (points_small c _ u.block shared.plotted first _ value_is));
+        ready = ready_of _ _ (grind (arith, nat_tests)) (number_small first (points_small c _ u.block shared.parsable.plotted first _ value_is.stands));
         roots = mine.roots;
         hands = mine.hands;
         facts = (mine.facts.unsettled, small, inl (record { src = src; is = mine.facts.is; value_is = value_is }));
@@ -214,7 +219,7 @@ module _ (c : Config) (u : World) (seat made : ℕ) (kept : Kept) (command : Com
   root_lacks : (k : Command) → Shared c u → HasBegun k → 0 < length (roots_of k) → lacks_object k (u.memory (Root seat (root_of k 0))) ≡ true → Stepped c u (at_call k (Loading load.First)) command Nothing fixed
   root_lacks k shared mine some lacks =
       let parts = and_parts _ _ lacks in
-      let null : u.graph.root (seat + 1) (root_of k 0) ≡ None = null_if_0 c _ u.block shared.plotted _ _ (root_has k 0 mine some) (eqb-true _ _ parts.1) in
+      let null : u.graph.root (seat + 1) (root_of k 0) ≡ None = null_if_0 c _ u.block shared.parsable.plotted _ _ (root_has k 0 mine some).stands (eqb-true _ _ parts.1) in
       replies c u (at_call k (Loading load.First)) (Root seat (root_of k 0)) command fixed reply.Bad refl
       (cond-true _ _ _ lacks) refl mine.facts.unsettled refl
       (ap (λ x. outcome u.graph (seat + 1) x) mine.facts.is ∙ bad_on_null u.graph (seat + 1) k parts.0 null)
@@ -252,10 +257,10 @@ module _ (c : Config) (u : World) (seat made : ℕ) (kept : Kept) (command : Com
       let got : ℕ = u.memory (Root seat b) in
       let is_first = has.first_is has.some in
       let is_second = root_has (Same a b) 1 mine more in
-      let agree : name_the_same u.memory first got ≡ (first == got) = names_agree c u shared first got _ _ is_first is_second in
+      let agree : name_the_same u.memory first got ≡ (first == got) = names_agree c u shared first got _ _ is_first.stands is_second.stands in
       replies c u (at_call (Same a b) (Loading (load.Second first))) (Root seat b) command fixed (yes_or_no (name_the_same u.memory first got)) refl refl refl mine.facts.unsettled
       (full_no (name_the_same u.memory first got))
-      (ap (λ x. outcome u.graph (seat + 1) x) mine.facts.is ∙ ap (λ x. answers (yes_or_no x) u.graph) (sym (agree ∙ same_words c u shared first got _ _ is_first is_second)))
+      (ap (λ x. outcome u.graph (seat + 1) x) mine.facts.is ∙ ap (λ x. answers (yes_or_no x) u.graph) (sym (agree ∙ same_words c u shared first got _ _ is_first.stands is_second.stands)))
       shared
       (subst (λ f. HasSpot (Same a b) kept.cset f (Leave (yes_or_no (first == got)))) (ap (λ x. Some (yes_or_no x)) (sym agree)) (leave_mine (Same a b) (yes_or_no (first == got)) mine))
   second_step _ first shared mine more has = absurd (omega arith)
@@ -292,10 +297,10 @@ module _ (c : Config) (u : World) (seat made : ℕ) (kept : Kept) (command : Com
       }
   part_mine (Set obj field val) object second third shape shared mine has of refs nums on part =
       let below : field < of.refs = let lt = ltb-true _ _ part in omega arith in
-      let value_is : Points u.block second (u.graph.root (seat + 1) val) = has.second_is (omega arith) in
+      let value_is : IsRootWord u seat val second = has.second_is (omega arith) in
       record {
         seated = mine.seated;
-        ready = ready_of _ _ (word_in c u shared seat obj object (object + 3 + field) (3 + field) of (omega arith) (omega arith)) (number_small second (points_small c _ u.block shared.plotted second _ value_is));
+        ready = ready_of _ _ (word_in c u shared seat obj object (object + 3 + field) (3 + field) of (omega arith) (omega arith)) (number_small second (points_small c _ u.block shared.parsable.plotted second _ value_is.stands));
         roots = mine.roots;
         hands = mine.hands;
         facts = (mine.facts.unsettled, record { obj = obj; val = val; is = mine.facts.is; of = of; below = below; value_is = value_is });
@@ -315,10 +320,10 @@ module _ (c : Config) (u : World) (seat made : ℕ) (kept : Kept) (command : Com
   part_mine (Xchg dst obj field val) object second third shape shared mine has of refs nums on part =
       let next = mine.facts.next in
       let below : field < of.refs = let lt = ltb-true _ _ part in omega arith in
-      let value_is : Points u.block second (u.graph.root (seat + 1) val) = has.second_is (omega arith) in
+      let value_is : IsRootWord u seat val second = has.second_is (omega arith) in
       record {
         seated = mine.seated;
-        ready = ready_of _ _ (word_in c u shared seat obj object (object + 3 + field) (3 + field) of (omega arith) (omega arith)) (number_small second (points_small c _ u.block shared.plotted second _ value_is));
+        ready = ready_of _ _ (word_in c u shared seat obj object (object + 3 + field) (3 + field) of (omega arith) (omega arith)) (number_small second (points_small c _ u.block shared.parsable.plotted second _ value_is.stands));
         roots = mine.roots;
         hands = mine.hands;
         facts = (mine.facts.unsettled, record { obj = obj; val = val; is = mine.facts.is; small = grind (arith, nat_tests); of = of; below = below; value_is = value_is });

@@ -56,7 +56,7 @@ module _ (change : Change) (c : Config) (g : Graph) (s : Stage Actor) (past : Li
   before = record { machine = mutating m; command = command; calls = calls }
 
   abbrev u : World
-  u = world_of c s follows.block follows.owner (after g past)
+  u = world_of c s follows.block follows.ghost (after g past)
 
   thread : IsThread c s.words u (of_thread past (number + 1)) number before m
   thread = follows.machines number before here
@@ -131,7 +131,7 @@ module _ (change : Change) (c : Config) (g : Graph) (s : Stage Actor) (past : Li
       let at : ℕ = place_of (placed c (touch_of c m order)) in
       let step = each_step c u m command order thread.fixed (told_now no_image) follows.shared thread.mine takes in
       let owes : Owes c s.words words_then u past number s.machines (touched u.memory (touch_of c m order)) entries (new_then (u.memory (touch_of c m order).word)) =
-      owes_stepped change c s.words (held_image c s) follows.block follows.owner (after g past) past number s.machines order m command calls follows.words word (λ image held. (outside_now image held, no_image image held))
+      owes_stepped change c s.words (held_image c s) follows.block follows.ghost (after g past) past number s.machines order m command calls follows.words word (λ image held. (outside_now image held, no_image image held))
       follows.promised_to follows.shared thread step takes aims_stay in
       let found : slice_index s.words at ≡ u.memory (touch_of c m order).word = settled_found c s.words (touch_of c m order) (held_image c s) word no_image in
       let memory_then : settled c (record { words = words_then; machines = slice_set s.machines number (new_then (slice_index s.words at)) }) ≡ touched u.memory (touch_of c m order) =
@@ -154,9 +154,9 @@ module _ (change : Change) (c : Config) (g : Graph) (s : Stage Actor) (past : Li
   follows_poll : Follows c g (moved (kind change c) s seat polling Nothing) (past ++ [])
   unfolding kind
   follows_poll =
-      let held_world : World = record { memory = mixed c s.words image; block = follows.block; owner = follows.owner; graph = after g past } in
+      let held_world : World = record { memory = mixed c s.words image; block = follows.block; ghost = follows.ghost; graph = after g past } in
       let memory_is : settled c s ≡ mixed c s.words image = ap (settled_by c s.words) held in
-      let world_is : world_of c s follows.block follows.owner (after g past) ≡ held_world = ap (λ memory. record { memory = memory; block = follows.block; owner = follows.owner; graph = after g past }) memory_is in
+      let world_is : world_of c s follows.block follows.ghost (after g past) ≡ held_world = ap (λ memory. record { memory = memory; block = follows.block; ghost = follows.ghost; graph = after g past }) memory_is in
       let at : ℕ = place_of (placed c (touch (Answer seat) loads)) in
       let words_then : List ℕ = words_after c s.words (touch (Answer seat) loads) in
       let same_words : words_then ≡ s.words = words_loaded c s.words (Answer seat) in
@@ -164,11 +164,11 @@ module _ (change : Change) (c : Config) (g : Graph) (s : Stage Actor) (past : Li
       let below : seat < c.mutators = thread.mine.seated.below in
       let found : slice_index s.words at ≡ view c s.words (Answer seat) = found-placed c s.words (touch (Answer seat) loads) (lt-ltb _ _ below) in
       let owes : Owes c s.words s.words held_world past seat s.machines (mixed c s.words image) [] (polled_then (view c s.words (Answer seat))) =
-      polls_owes c s.words image follows.block follows.owner (after g past) past seat made kept s.machines command calls (subst (λ w. Shared c w) world_is follows.shared) follows.promised_to thread in
+      polls_owes c s.words image follows.block follows.ghost (after g past) past seat made kept s.machines command calls (subst (λ w. Shared c w) world_is follows.shared) follows.promised_to thread in
       let memory_then : settled c (record { words = words_then; machines = slice_set s.machines seat (polled_then (slice_index s.words at)) }) ≡ mixed c s.words image =
       ap (settled_by c words_then) (other_holds c s seat (polled_then (slice_index s.words at)) other ∙ held) ∙ ap (λ ws. mixed c ws image) same_words in
       follows_owes c g s past seat polling (polled_then (slice_index s.words at)) words_then [] follows
-      (subst (λ memory. Owes c s.words words_then (world_of c s follows.block follows.owner (after g past)) past seat s.machines memory [] (polled_then (slice_index s.words at))) (sym memory_then)
+      (subst (λ memory. Owes c s.words words_then (world_of c s follows.block follows.ghost (after g past)) past seat s.machines memory [] (polled_then (slice_index s.words at))) (sym memory_then)
       (subst (λ w. Owes c s.words words_then w past seat s.machines (mixed c s.words image) [] (polled_then (slice_index s.words at))) (sym world_is)
       (subst (λ ws. Owes c s.words ws held_world past seat s.machines (mixed c s.words image) [] (polled_then (slice_index s.words at))) (sym same_words)
       (subst (λ got. Owes c s.words s.words held_world past seat s.machines (mixed c s.words image) [] (polled_then got)) (sym found) owes))))

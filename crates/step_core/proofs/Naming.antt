@@ -60,14 +60,14 @@ module _ (c : Config) (u : World) (shared : Shared c u) where
   -- words are equal exactly where they stand for equal references
   pub same_words : (a b : ℕ) (r s : Reference) → Points u.block a r → Points u.block b s → (a == b) ≡ same_reference r s
   same_words a b None None is_a is_b = eq-eqb a b (is_a ∙ sym is_b)
-  same_words a b None (Some n) is_a is_b = ne_eqb a b (λ e. none-some n (sym (null_if_0 c _ u.block shared.plotted b (Some n) is_b (sym e ∙ is_a))))
-  same_words a b (Some m) None is_a is_b = ne_eqb a b (λ e. none-some m (sym (null_if_0 c _ u.block shared.plotted a (Some m) is_a (e ∙ is_b))))
+  same_words a b None (Some n) is_a is_b = ne_eqb a b (λ e. none-some n (sym (null_if_0 c _ u.block shared.parsable.plotted b (Some n) is_b (sym e ∙ is_a))))
+  same_words a b (Some m) None is_a is_b = ne_eqb a b (λ e. none-some m (sym (null_if_0 c _ u.block shared.parsable.plotted a (Some m) is_a (e ∙ is_b))))
   same_words a b (Some m) (Some n) is_a is_b = ⊎_elim
       (λ (same : same_name m n ≡ true).
       let first = named_thing (u.block a) m is_a in
       let second = named_thing (u.block b) n is_b in
       let is_m : u.block b ≡ Some (thing m second.0 second.1) = second.2 ∙ ap (λ x. Some (thing x second.0 second.1)) (sym (same_name-true m n same)) in
-      eq-eqb a b (shared.objects.once a b first.0 first.1 second.0 second.1 m first.2 is_m) ∙ sym same)
+      eq-eqb a b (shared.contents.objects.once a b first.0 first.1 second.0 second.1 m first.2 is_m) ∙ sym same)
       (λ (differs : same_name m n ≡ false).
       ne_eqb a b (λ e.
       let is : m ≡ n = same_Some m n (sym is_a ∙ ap (λ x. name_at (u.block x)) e ∙ is_b) in
@@ -80,14 +80,14 @@ module _ (c : Config) (u : World) (shared : Shared c u) where
   pub name_there : (a : ℕ) (n : Name) → name_at (u.block a) ≡ Some n → (u.memory (Heap (a + 2)) ≡ name_code n.thread n.count) × (n.count < 2 ^ 32)
   name_there a n is =
       let piece = named_thing (u.block a) n is in
-      let object = shared.objects.each a piece.0 piece.1 n piece.2 in
-      (object.2.name_word, (shared.given n object.0 object.1).small)
+      let object = shared.contents.objects.each a piece.0 piece.1 n piece.2 in
+      (object.2.name_word, (shared.contents.given n object.0 object.1).small)
 
   -- the reply that shows a word shows the reference that it stands for
   pub shown_is : (value : ℕ) (r : Reference) → Points u.block value r → shown_word u.memory value ≡ shown r
   shown_is value None is = cond-true (value == 0) _ _ (eq-eqb value 0 is)
   shown_is value (Some n) is =
-      let other : (value == 0) ≡ false = ne_eqb value 0 (λ e. none-some n (sym (null_if_0 c _ u.block shared.plotted value (Some n) is e))) in
+      let other : (value == 0) ≡ false = ne_eqb value 0 (λ e. none-some n (sym (null_if_0 c _ u.block shared.parsable.plotted value (Some n) is e))) in
       let word = name_there value n is in
       cond-false (value == 0) _ _ other ∙ ap (λ w. reply.Ref (name_in w)) word.0 ∙ ap (λ m. reply.Ref m) (name_read n word.1)
 
@@ -96,8 +96,8 @@ module _ (c : Config) (u : World) (shared : Shared c u) where
   names_agree a b None s is_a is_b = cond-true ((a == 0) || (b == 0)) _ _ (rw (eq-eqb a 0 is_a) refl)
   names_agree a b (Some m) None is_a is_b = cond-true ((a == 0) || (b == 0)) _ _ (grind (arith, nat_tests))
   names_agree a b (Some m) (Some n) is_a is_b =
-      let some_a : (a == 0) ≡ false = ne_eqb a 0 (λ e. none-some m (sym (null_if_0 c _ u.block shared.plotted a (Some m) is_a e))) in
-      let some_b : (b == 0) ≡ false = ne_eqb b 0 (λ e. none-some n (sym (null_if_0 c _ u.block shared.plotted b (Some n) is_b e))) in
+      let some_a : (a == 0) ≡ false = ne_eqb a 0 (λ e. none-some m (sym (null_if_0 c _ u.block shared.parsable.plotted a (Some m) is_a e))) in
+      let some_b : (b == 0) ≡ false = ne_eqb b 0 (λ e. none-some n (sym (null_if_0 c _ u.block shared.parsable.plotted b (Some n) is_b e))) in
       let word_a = name_there a m is_a in
       let word_b = name_there b n is_b in
       let codes = same_codes m n word_a.1 word_b.1 in
@@ -106,7 +106,7 @@ module _ (c : Config) (u : World) (shared : Shared c u) where
   -- the graph's object of an object in hand
   pub object_in : (seat root object : ℕ) (has : HasObject u seat root object)
       → (o : Object) × (u.graph.object has.name ≡ Some o) × IsThing (λ a. u.memory (Heap a)) u.block object has.refs has.nums has.name o
-  object_in seat root object has = shared.objects.each object has.refs has.nums has.name has.target.piece
+  object_in seat root object has = shared.contents.objects.each object has.refs has.nums has.name has.target.piece
 
   -- a reference field of an object in hand
   pub field_in : (seat root object field : ℕ) (has : HasObject u seat root object) → field < has.refs
@@ -126,7 +126,7 @@ module _ (c : Config) (u : World) (shared : Shared c u) where
 
   -- the words of an object in hand are words of the heap
   pub word_in : (seat root object at k : ℕ) (has : HasObject u seat root object) → k < 3 + has.refs + has.nums → at ≡ object + k → is_word c (Heap at) ≡ true
-  word_in seat root object at k has below is = ap (λ a. is_word c (Heap a)) is ∙ piece_word c _ u.block shared.plotted object k (thing has.name has.refs has.nums) has.target.piece below
+  word_in seat root object at k has below is = ap (λ a. is_word c (Heap a)) is ∙ piece_word c _ u.block shared.parsable.plotted object k (thing has.name has.refs has.nums) has.target.piece below
 
   -- there is no field and no number past the last
   no_field_in : (seat root object field : ℕ) (has : HasObject u seat root object) → has.refs ≤ field → field_at u.graph (seat + 1) root field ≡ None

@@ -22,8 +22,8 @@ use Rattle.step_core.proofs.Facts.{IsMachine, Follows, Owes}
 use Rattle.step_core.proofs.Entries.{after-append, legal-append}
 
 -- two worlds of equal parts are equal
-same_world : (a b : World) → a.memory ≡ b.memory → a.block ≡ b.block → a.owner ≡ b.owner → a.graph ≡ b.graph → a ≡ b
-same_world a b memory block owner graph = λ i. record { memory = memory i; block = block i; owner = owner i; graph = graph i }
+same_world : (a b : World) → a.memory ≡ b.memory → a.block ≡ b.block → a.ghost ≡ b.ghost → a.graph ≡ b.graph → a ≡ b
+same_world a b memory block ghost graph = λ i. record { memory = memory i; block = block i; ghost = ghost i; graph = graph i }
 
 module _ (c : Config) (g : Graph) (s : Stage Actor) (past : List Entry) (number : ℕ) (old new : Actor) (words : List ℕ) (settles : List Entry) where
   -- the stage after the event
@@ -31,14 +31,14 @@ module _ (c : Config) (g : Graph) (s : Stage Actor) (past : List Entry) (number 
   new_stage = record { words = words; machines = slice_set s.machines number new }
 
   -- the event puts the stage where it should be
-  pub follows_owes : (follows : Follows c g s past) → Owes c s.words words (world_of c s follows.block follows.owner (after g past)) past number s.machines (settled c new_stage) settles new
+  pub follows_owes : (follows : Follows c g s past) → Owes c s.words words (world_of c s follows.block follows.ghost (after g past)) past number s.machines (settled c new_stage) settles new
       → slice_get s.machines number ≡ Some old → length words ≡ table_words c → Follows c g new_stage (past ++ settles)
   follows_owes follows owes here long =
-      let world_is : owes.world ≡ world_of c new_stage owes.world.block owes.world.owner (after g (past ++ settles)) =
-      same_world owes.world (world_of c new_stage owes.world.block owes.world.owner (after g (past ++ settles))) owes.memory_is refl refl (owes.graph_is ∙ sym (after-append g past settles)) in
+      let world_is : owes.world ≡ world_of c new_stage owes.world.block owes.world.ghost (after g (past ++ settles)) =
+      same_world owes.world (world_of c new_stage owes.world.block owes.world.ghost (after g (past ++ settles))) owes.memory_is refl refl (owes.graph_is ∙ sym (after-append g past settles)) in
       record {
         block = owes.world.block;
-        owner = owes.world.owner;
+        ghost = owes.world.ghost;
         words = long;
         seats = length-set s.machines number new ∙ follows.seats;
         legal = legal-append g past settles follows.legal owes.legal;

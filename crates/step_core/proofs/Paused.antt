@@ -26,7 +26,8 @@ use Rattle.mutator.specs.declared.waits.WaitSpot.TheVariants as wait
 use Rattle.mutator.specs.Commands.{dst_of, refs_of, nums_of}
 use Rattle.mutator.specs.Orders.{is_waiting}
 use Rattle.mutator.specs.Rows.{Mutating}
-use Rattle.heap_world.specs.World.{World, Plot, hand, Points, Shared}
+use Rattle.heap_world.proofs.Keeping.{usable_now}
+use Rattle.heap_world.specs.World.{Ghost, World, Plot, hand, Points, Shared}
 use Rattle.heap_world.specs.Asking.{Asking, nothing, asks, refused, given, IsAsked}
 use Rattle.heap_world.specs.Change.{Change, Answers, IsPause, IsPaused, image_view, image_words, words_given}
 use Rattle.heap_world.specs.Represents.{Represents}
@@ -92,7 +93,12 @@ module _ (c : Config) (words : List ℕ) (u w : World) (t made : ℕ) (kept : Ke
   mine_outside : (spot : Spot) (fixed : Option Reply) → is_within (standing_at spot) ≡ false → Mine c u (mutator_at t made kept spot) b.command fixed
       → (is_waiting spot ≡ false → IsAsked w.memory w.block w.graph.count t nothing) → SpotFacts c w t made kept b.command fixed spot → Mine c w (mutator_at t made kept spot) b.command fixed
   mine_outside spot fixed out mine unasked facts = record {
-    seated = record { below = mine.seated.below; counted = ap (λ g. g.count (t + 1)) graph ∙ mine.seated.counted; unasked = unasked };
+    seated = record {
+      below = mine.seated.below;
+      counted = ap (λ g. g.count (t + 1)) graph ∙ mine.seated.counted;
+      usable = λ i small. usable_now w.block _ _ (roots i small);
+      unasked = unasked;
+    };
     ready = mine.ready;
     roots = λ i small. subst (λ word. Points w.block word (w.graph.root (t + 1) i)) (sym (root_outside w t kept spot i out)) (roots i small);
     hands = λ a more is. absurd (none a more is);
@@ -212,10 +218,10 @@ module _ (c : Config) (words : List ℕ) (u w : World) (t made : ℕ) (kept : Ke
     thread_then _ out short answers old = cc
 
 -- A stage in which the control works in a pause, and every machine but it is outside.
-module _ (c : Config) (words : List ℕ) (block : Plot) (owner : ℕ → Option ℕ) (g : Graph) (past : List Entry) (machines : List Actor) (image : List ℕ)
+module _ (c : Config) (words : List ℕ) (block : Plot) (ghost : Ghost) (g : Graph) (past : List Entry) (machines : List Actor) (image : List ℕ)
     (read : AreRead c words image (image_words c)) (seats : length machines ≡ seat_count c.mutators c.helpers) where
   abbrev before : World
-  before = open_world c words block owner g
+  before = open_world c words block ghost g
 
   -- what each machine has asked for
   abbrev pub asking : ℕ → Asking
@@ -240,7 +246,7 @@ module _ (c : Config) (words : List ℕ) (block : Plot) (owner : ℕ → Option 
 
   pub no_hands : Shared c before → AllKnown → AllOutside → (a seat more : ℕ) → block a ≡ Some (hand seat more) → ⊥
   no_hands shared known outside a seat more here =
-      let there = machine_there c words before past machines seats seat (shared.rooms a seat more here).seated in
+      let there = machine_there c words before past machines seats seat (shared.owned.rooms a seat more here).seated in
       none_of seat there.0 there.0.machine (outside seat there.0 there.1) (known seat there.0 there.1) a more here
 
   -- what it has asked for stands in the words
@@ -261,8 +267,8 @@ module _ (c : Config) (words : List ℕ) (block : Plot) (owner : ℕ → Option 
       let whole : view c words ≡ mixed c words image = sym (mixed_whole c words image read) in
       record {
         block = block;
-        owner = owner;
-        shared = subst (λ memory. Shared c (record { memory = memory; block = block; owner = owner; graph = g })) whole shared;
+        ghost = ghost;
+        shared = subst (λ memory. Shared c (record { memory = memory; block = block; ghost = ghost; graph = g })) whole shared;
         roots = λ t i below small.
             let there = mutator_there c words before past machines seats known t below in
             let m = there.1 in
@@ -285,7 +291,7 @@ module _ (c : Config) (words : List ℕ) (block : Plot) (owner : ℕ → Option 
 
     -- the world then
     abbrev then_world : World
-    then_world = record { memory = mixed c words (change c image); block = paused.stands.block; owner = paused.stands.owner; graph = g }
+    then_world = record { memory = mixed c words (change c image); block = paused.stands.block; ghost = paused.stands.ghost; graph = g }
 
     -- what each mutator has asked for stands in its words
     asked_in_it : (t : ℕ) → t < c.mutators → IsAsked then_world.memory paused.stands.block g.count t (paused.asked_then t)

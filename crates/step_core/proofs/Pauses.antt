@@ -1,5 +1,5 @@
 -- The steps of the control outside the words of an image: it looks, stops the other machines, and lets them go.
-use Rattle.std.proofs.Common.{◌≡◌, ◌≢◌, ℕ, ◌+◌, inl, Bool, true, false, List, [], ◌++◌, length, Option, Some, None, refl, sym, ap, ◌∙◌, arith}
+use Rattle.std.proofs.Common.{◌≡◌, ◌≢◌, ℕ, ◌+◌, inl, Bool, true, false, List, [], ◌++◌, length, Some, None, refl, sym, ap, ◌∙◌, arith}
 use Rattle.std.specs.Prelude.{◌==◌, if◌then◌else◌}
 use Rattle.std.proofs.lemmas.Bool.{and_parts}
 use Rattle.std.proofs.lemmas.List.{append-nil}
@@ -14,7 +14,7 @@ use Rattle.shen_graph.specs.History.{Entry, of_thread}
 use Rattle.handshake.specs.declared.stop_spot.StopSpot.{StopSpot}
 use Rattle.handshake.specs.declared.stop_spot.StopSpot.TheVariants as stop
 use Rattle.handshake.specs.Rows.{stop_next}
-use Rattle.heap_world.specs.World.{World, Plot, hand, Shared}
+use Rattle.heap_world.specs.World.{Ghost, World, Plot, hand, Shared}
 use Rattle.heap_world.specs.Change.{Change}
 use Rattle.heap_world.specs.Rely.{Rely}
 use Rattle.control_steps.specs.declared.spot.ControlSpot.{ControlSpot}
@@ -37,16 +37,16 @@ no_other_control c words u entries k b (helping h) other is control same = cc
 no_other_control c words u entries k b (controlling h) other is control same = other is.number_is
 
 -- the world of a stage in which the table counts
-abbrev pub open_world : Config → List ℕ → Plot → (ℕ → Option ℕ) → Graph → World
-open_world c words block owner g = record { memory = view c words; block = block; owner = owner; graph = g }
+abbrev pub open_world : Config → List ℕ → Plot → Ghost → Graph → World
+open_world c words block ghost g = record { memory = view c words; block = block; ghost = ghost; graph = g }
 
-module _ (c : Config) (words : List ℕ) (block : Plot) (owner : ℕ → Option ℕ) (g : Graph) (past : List Entry) (machines : List Actor) (command : Command) (calls : List Entry) where
+module _ (c : Config) (words : List ℕ) (block : Plot) (ghost : Ghost) (g : Graph) (past : List Entry) (machines : List Actor) (command : Command) (calls : List Entry) where
   abbrev u : World
-  u = open_world c words block owner g
+  u = open_world c words block ghost g
 
   -- the world after an access
   abbrev world_with : Touch → World
-  world_with t = record { memory = touched (view c words) t; block = block; owner = owner; graph = g }
+  world_with t = record { memory = touched (view c words) t; block = block; ghost = ghost; graph = g }
 
   -- An access of a word that no other machine speaks of, after which the table still counts.
   pub quiet_owes : (t : Touch) (next : Controlling) → length words ≡ table_words c → is_word c t.word ≡ true → Shared c u → Shared c (world_with t) → PromisedToMutators c block

@@ -19,7 +19,7 @@ use Rattle.mutator.specs.declared.spot.Spot.TheVariants.{Entering, Waiting}
 use Rattle.mutator.specs.declared.spot.Entered.TheVariants.{Waited}
 use Rattle.mutator.specs.declared.waits.WaitSpot.TheVariants as wait
 use Rattle.mutator.specs.Fit.{is_ready}
-use Rattle.heap_world.specs.World.{World, Plot, Shared}
+use Rattle.heap_world.specs.World.{Ghost, World, Plot, Shared}
 use Rattle.heap_world.proofs.Keeping.{rely_same}
 use Rattle.step_core.specs.Actor.{mutating, Actor, entries_of}
 use Rattle.step_core.specs.Settled.{mixed}
@@ -48,9 +48,9 @@ answered_by w seat made raw k command fixed some seen (inr (inr is)) = inr (
   is.1,
 )
 
-module _ (c : Config) (words image : List ℕ) (block : Plot) (owner : ℕ → Option ℕ) (g : Graph) (past : List Entry) (seat made : ℕ) (kept : Kept) (machines : List Actor) (command : Command) (calls : List Entry) where
+module _ (c : Config) (words image : List ℕ) (block : Plot) (ghost : Ghost) (g : Graph) (past : List Entry) (seat made : ℕ) (kept : Kept) (machines : List Actor) (command : Command) (calls : List Entry) where
   abbrev u : World
-  u = record { memory = mixed c words image; block = block; owner = owner; graph = g }
+  u = record { memory = mixed c words image; block = block; ghost = ghost; graph = g }
 
   -- the word that it finds
   abbrev raw : ℕ
@@ -83,7 +83,7 @@ module _ (c : Config) (words image : List ℕ) (block : Plot) (owner : ℕ → O
     number_is = refl;
     valid = thread.valid;
     mine = record {
-      seated = record { below = thread.mine.seated.below; counted = thread.mine.seated.counted; unasked = λ e. absurd (cc (e)) };
+      seated = record { below = thread.mine.seated.below; counted = thread.mine.seated.counted; usable = thread.mine.seated.usable; unasked = λ e. absurd (cc (e)) };
       ready = raise_ready c seat made kept thread.mine.seated.below;
       roots = thread.mine.roots;
       hands = thread.mine.hands;

@@ -1,12 +1,12 @@
 -- The step by which the control has loaded a word of the image, and not the last one.
-use Rattle.std.proofs.Common.{◌≡◌, ℕ, ◌+◌, inl, true, List, [], ◌++◌, Option, Some, None, refl, sym, ap}
+use Rattle.std.proofs.Common.{◌≡◌, ℕ, ◌+◌, inl, true, List, [], ◌++◌, Some, None, refl, sym, ap}
 use Rattle.std.proofs.lemmas.List.{append-nil}
 use Rattle.std.proofs.lemmas.List.Elements.{All-nil}
 use Rattle.heap_words.specs.declared.config.Config.{Config}
 use Rattle.shen_graph.specs.declared.command.Command.{Command}
 use Rattle.shen_graph.specs.Graph.{Graph}
 use Rattle.shen_graph.specs.History.{Entry, of_thread}
-use Rattle.heap_world.specs.World.{Plot, hand, Shared}
+use Rattle.heap_world.specs.World.{Ghost, Plot, hand, Shared}
 use Rattle.heap_world.proofs.Keeping.{rely_same}
 use Rattle.control_steps.specs.Rows.{Controlling}
 use Rattle.control_steps.specs.Ready.{is_ready}
@@ -18,13 +18,13 @@ use Rattle.step_core.proofs.Pauses.{open_world, no_other_control}
 use Rattle.step_core.proofs.Roles.{machine_stays}
 
 -- nothing changes but what the control has read
-pub read_owes : (c : Config) (words : List ℕ) (block : Plot) (owner : ℕ → Option ℕ) (g : Graph) (past : List Entry) (machines : List Actor) (command : Command) (calls : List Entry) (next : Controlling)
-    → Shared c (open_world c words block owner g) → PromisedToMutators c block → ((a more : ℕ) → block a ≡ Some (hand (control_number c) more) → ⊥) → is_ready c next.spot ≡ true → IsAim c words next.spot next.image
+pub read_owes : (c : Config) (words : List ℕ) (block : Plot) (ghost : Ghost) (g : Graph) (past : List Entry) (machines : List Actor) (command : Command) (calls : List Entry) (next : Controlling)
+    → Shared c (open_world c words block ghost g) → PromisedToMutators c block → ((a more : ℕ) → block a ≡ Some (hand (control_number c) more) → ⊥) → is_ready c next.spot ≡ true → IsAim c words next.spot next.image
     → stored_image next.spot next.image ≡ None
-    → Owes c words words (open_world c words block owner g) past (control_number c) machines (settled_by c words (stored_image next.spot next.image)) []
+    → Owes c words words (open_world c words block ghost g) past (control_number c) machines (settled_by c words (stored_image next.spot next.image)) []
     (record { machine = controlling next; command = command; calls = calls ++ [] })
-read_owes c words block owner g past machines command calls next shared promised_to hands ready aims none = record {
-  world = open_world c words block owner g;
+read_owes c words block ghost g past machines command calls next shared promised_to hands ready aims none = record {
+  world = open_world c words block ghost g;
   memory_is = ap (settled_by c words) (sym none);
   graph_is = refl;
   legal = tt;
@@ -33,12 +33,12 @@ read_owes c words block owner g past machines command calls next shared promised
   promised_to = promised_to;
   own = record { number_is = refl; hands = hands; ready = ready; aims = aims };
   others = λ k b differs there known.
-      machine_stays c words words (open_world c words block owner g) (open_world c words block owner g) (of_thread past (k + 1)) (of_thread (past ++ []) (k + 1)) k b b.machine shared
+      machine_stays c words words (open_world c words block ghost g) (open_world c words block ghost g) (of_thread past (k + 1)) (of_thread (past ++ []) (k + 1)) k b b.machine shared
       (record {
-        rely = rely_same k (open_world c words block owner g);
+        rely = rely_same k (open_world c words block ghost g);
         answer = refl;
         counts = inl refl;
-        aims = λ control same. absurd (no_other_control c words (open_world c words block owner g) (of_thread past (k + 1)) k b b.machine differs known control same);
+        aims = λ control same. absurd (no_other_control c words (open_world c words block ghost g) (of_thread past (k + 1)) k b b.machine differs known control same);
       })
       (ap (λ es. of_thread es (k + 1)) (append-nil past)) known;
 }

@@ -45,7 +45,7 @@ rest_ready c seat made kept _ takes below = absurd (cc (takes))
 
 -- of the seat of a mutator that waits it is not said what it has asked for
 pub seated_waiting : (c : Config) (u : World) (seat made : ℕ) (waiting : Bool) → IsSeatedIn c u seat made waiting → IsSeatedIn c u seat made true
-seated_waiting c u seat made waiting seated = record { below = seated.below; counted = seated.counted; unasked = λ no. absurd (cc (no)) }
+seated_waiting c u seat made waiting seated = record { below = seated.below; counted = seated.counted; usable = seated.usable; unasked = λ no. absurd (cc (no)) }
 
 -- a mutator can always leave
 leave_ready : (c : Config) (seat made : ℕ) (kept : Kept) (reply : Reply) → seat < c.mutators → is_ready c seat made kept (Leave reply) ≡ true

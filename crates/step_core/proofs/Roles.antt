@@ -20,6 +20,7 @@ use Rattle.mutator.specs.declared.spot.Spot.TheVariants.{Rest, Ended}
 use Rattle.mutator.specs.Orders.{takes_commands, is_valid}
 use Rattle.mutator.specs.Rows.{Mutating}
 use Rattle.heap_world.specs.World.{World, hand, Points, Shared}
+use Rattle.heap_world.proofs.Keeping.{usable_now}
 use Rattle.heap_world.specs.Asking.{IsAsked, nothing}
 use Rattle.heap_world.specs.Rely.{Rely}
 use Rattle.control_steps.specs.Rows.{Controlling}
@@ -99,9 +100,9 @@ rest_mine : (c : Config) (w : World) (seat made : ℕ) (kept : Kept) (command : 
     → ((i : ℕ) → i < 16 → Points w.block (w.memory (Root seat i)) (w.graph.root (seat + 1) i)) → ((a words : ℕ) → w.block a ≡ Some (hand seat words) → ⊥)
     → IsAsked w.memory w.block w.graph.count seat nothing → Mine c w (mutator_at seat made kept spot) command None
 rest_mine c w seat made kept command Rest rest below counted roots none asked =
-    record { seated = record { below = below; counted = counted; unasked = λ no. asked }; ready = rest_ready c seat made kept Rest rest below; roots = roots; hands = none; facts = refl }
+    record { seated = record { below = below; counted = counted; usable = λ i small. usable_now w.block _ _ (roots i small); unasked = λ no. asked }; ready = rest_ready c seat made kept Rest rest below; roots = roots; hands = none; facts = refl }
 rest_mine c w seat made kept command (Ended r) rest below counted roots none asked =
-    record { seated = record { below = below; counted = counted; unasked = λ no. asked }; ready = rest_ready c seat made kept (Ended r) rest below; roots = roots; hands = none; facts = refl }
+    record { seated = record { below = below; counted = counted; usable = λ i small. usable_now w.block _ _ (roots i small); unasked = λ no. asked }; ready = rest_ready c seat made kept (Ended r) rest below; roots = roots; hands = none; facts = refl }
 rest_mine c w seat made kept command _ rest below counted roots none asked = absurd cc
 
 -- an idle machine that has ended no call, in a world in which nobody has room in hand and nobody waits

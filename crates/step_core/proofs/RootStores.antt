@@ -1,10 +1,10 @@
 -- The steps that store a reference into a root.
-use Rattle.std.proofs.Common.{◌≡◌, ℕ, ◌+◌, ◌<◌, ⊎_elim, Option, None, refl, sym, ap, ◌∙◌, subst, arith}
+use Rattle.std.proofs.Common.{◌≡◌, ℕ, ◌+◌, ◌<◌, inl, true, false, ⊎_elim, Option, None, refl, sym, ap, ◌∙◌, subst, arith}
 use Rattle.std.specs.Prelude.{◌==◌, ◌&&◌, if◌then◌else◌}
-use Rattle.std.proofs.lemmas.Bool.{eq-eqb}
+use Rattle.std.proofs.lemmas.Bool.{eq-eqb, cond-true, cond-false, cases_Bool}
 use Rattle.std.proofs.lemmas.Bool.Decides.{nat_tests}
 use Rattle.heap_words.specs.declared.config.Config.{Config}
-use Rattle.heap_words.specs.Words.{Word, Root, write}
+use Rattle.heap_words.specs.Words.{Word, Root, Wait, Answer, write}
 use Rattle.steps_base.specs.Touch.{touched}
 use Rattle.shen_graph.specs.declared.command.Command.{Command}
 use Rattle.shen_graph.specs.declared.command.Reply.{Reply}
@@ -18,8 +18,9 @@ use Rattle.mutator.specs.declared.spot.Kept.{Kept}
 use Rattle.shen_graph.specs.declared.order.Order.TheVariants.{Nothing}
 use Rattle.mutator.specs.Commands.{dst_of}
 use Rattle.mutator.specs.Rows.{Mutating, touch_of}
-use Rattle.heap_world.specs.World.{World, Plot, Points, Shared}
-use Rattle.step_core.specs.Stepped.{Mine, Stepped, Row}
+use Rattle.heap_world.specs.World.{World, Plot, Points, IsUsable, Shared}
+use Rattle.step_core.specs.Stepped.{IsSeatedIn, Mine, Stepped, Row}
+use Rattle.heap_world.proofs.Keeping.{usable_now}
 use Rattle.step_core.proofs.Spots.{mutator_at, accessed}
 use Rattle.step_core.proofs.Settling.{legal_answer, graph_answer}
 use Rattle.step_core.proofs.Ready.{leaving}
@@ -39,6 +40,29 @@ roots_written block memory root seat dst value v roots stands i below =
     subst (λ word. Points block word (if ((seat + 1) == (seat + 1)) && (i == dst) then v else root (seat + 1) i)) (root_written memory seat dst value i)
     (roots_then block (λ k. memory (Root seat k)) root (seat + 1) dst value v roots stands i below)
 
+-- Words of a mutator's roots may be used after one that may be used was stored into one of them.
+pub usable_written : (block : Plot) (memory : Word → ℕ) (seat dst value : ℕ) → ((i : ℕ) → i < 16 → IsUsable block (memory (Root seat i))) → IsUsable block value → (i : ℕ) → i < 16
+    → IsUsable block (write memory (Root seat dst) value (Root seat i))
+usable_written block memory seat dst value usable new i below = subst (λ word. IsUsable block word) (root_written memory seat dst value i) (⊎_elim
+    (λ (same : (i == dst) ≡ true). subst (λ word. IsUsable block word) (sym (cond-true (i == dst) value (memory (Root seat i)) same)) new)
+    (λ (other : (i == dst) ≡ false). subst (λ word. IsUsable block word) (sym (cond-false (i == dst) value (memory (Root seat i)) other)) (usable i below))
+    (cases_Bool (i == dst)))
+
+-- the facts of a seat after a word that may be used was stored into a root
+seated_written : (c : Config) (u w : World) (seat made dst value : ℕ) → w.block ≡ u.block → w.graph.count ≡ u.graph.count → w.memory ≡ write u.memory (Root seat dst) value
+    → IsUsable u.block value → IsSeatedIn c u seat made false → IsSeatedIn c w seat made false
+seated_written c u w seat made dst value block count memory new seated = record {
+  below = seated.below;
+  counted = ap (λ f. f (seat + 1)) count ∙ seated.counted;
+  usable = λ i below. subst (λ b. IsUsable b (w.memory (Root seat i))) (sym block)
+      (subst (λ (m : Word → ℕ). IsUsable u.block (m (Root seat i))) (sym memory) (usable_written u.block u.memory seat dst value seated.usable new i below));
+  unasked = λ calm. let was = seated.unasked calm in (
+    ap (λ (m : Word → ℕ). m (Wait seat)) memory ∙ was.0,
+    ap (λ (m : Word → ℕ). m (Answer seat)) memory ∙ was.1,
+    λ a words is. was.2 a words (ap (λ b. b a) (sym block) ∙ is),
+  );
+}
+
 module _ (c : Config) (u : World) (seat made : ℕ) (kept : Kept) (command : Command) (fixed : Option Reply) where
   abbrev at_spot : Spot → Mutating
   at_spot spot = mutator_at seat made kept spot
@@ -49,38 +73,47 @@ module _ (c : Config) (u : World) (seat made : ℕ) (kept : Kept) (command : Com
 
   -- the store of a loaded reference, which is settled, into a root
   pub at_store_loaded : (value : ℕ) (r : Reply) → Row c u (at_spot (Showing value (show.StoreRoot r))) command fixed
-  at_store_loaded value r shared mine = record {
-    world = accessed c u (at_spot (Showing value (show.StoreRoot r)));
-    memory = refl;
-    graph = refl;
-    legal = tt;
-    settles = λ q e. cc;
-    shared = shared;
-    mine =
-        rw mine.facts.0
-        (leaving c _ seat made kept command r mine.seated
-        (λ i below. subst (λ word. Points u.block word (u.graph.root (seat + 1) i)) (root_written u.memory seat dst value i) (mine.roots i below)) mine.hands);
-    others = λ j d. search (arith, nat_tests);
-  }
+  at_store_loaded value r shared mine =
+      let stands : Points u.block value (u.graph.root (seat + 1) dst) =
+      subst (λ word. Points u.block word (u.graph.root (seat + 1) dst)) (cond-true (dst == dst) value (u.memory (Root seat dst)) (eq-eqb dst dst refl)) (mine.roots dst mine.facts.1) in
+      record {
+        world = accessed c u (at_spot (Showing value (show.StoreRoot r)));
+        memory = refl;
+        graph = refl;
+        legal = tt;
+        settles = λ q e. cc;
+        shared = shared;
+        mine =
+            rw mine.facts.0
+            (leaving c _ seat made kept command r
+            (seated_written c u (accessed c u (at_spot (Showing value (show.StoreRoot r)))) seat made dst value refl refl refl (usable_now u.block value _ stands) mine.seated)
+            (λ i below. subst (λ word. Points u.block word (u.graph.root (seat + 1) i)) (root_written u.memory seat dst value i) (mine.roots i below)) mine.hands);
+        others = λ j d. search (arith, nat_tests);
+      }
+
+  -- the world in which a root is a word, and in the graph a reference
+  abbrev rooted_world : ℕ → Reference → World
+  rooted_world value v =
+      record { memory = touched u.memory (touch_of c (at_spot (StoreRoot value)) Nothing); block = u.block; ghost = u.ghost; graph = with_root u.graph (seat + 1) dst v }
 
   -- A step that stores a reference into a root settles the reply Ok of a command which makes that root the reference.
   root_step : (value : ℕ) (v : Reference) → Shared c u → Mine c u (at_spot (StoreRoot value)) command fixed
-      → outcome u.graph (seat + 1) command ≡ answers reply.Ok (with_root u.graph (seat + 1) dst v) → Points u.block value v
+      → outcome u.graph (seat + 1) command ≡ answers reply.Ok (with_root u.graph (seat + 1) dst v) → Points u.block value v → IsUsable u.block value
       → Stepped c u (at_spot (StoreRoot value)) command Nothing fixed
-  root_step value v shared mine is stands = record {
-    world = record { memory = touched u.memory (touch_of c (at_spot (StoreRoot value)) Nothing); block = u.block; owner = u.owner; graph = with_root u.graph (seat + 1) dst v };
+  root_step value v shared mine is stands new = record {
+    world = rooted_world value v;
     memory = refl;
     graph = sym (graph_answer u.graph seat command reply.Ok refl ∙ ap (λ o. o.graph) is);
     legal = legal_answer u.graph seat command reply.Ok refl (ap (λ o. o.reply) is);
     settles = λ r e. (mine.facts.0, refl);
     shared = shared;
-    mine = leaving c _ seat made kept command reply.Ok mine.seated (roots_written u.block u.memory u.graph.root seat dst value v mine.roots stands) mine.hands;
+    mine = leaving c _ seat made kept command reply.Ok (seated_written c u (rooted_world value v) seat made dst value refl refl refl new mine.seated) (roots_written u.block u.memory u.graph.root seat dst value v mine.roots stands) mine.hands;
     others = λ j d. search (arith, nat_tests);
   }
 
   -- the store of a reference into a root settles Ok
   pub at_store_root : (value : ℕ) → Row c u (at_spot (StoreRoot value)) command fixed
   at_store_root value shared mine = ⊎_elim
-      (λ copy. root_step value (u.graph.root (seat + 1) copy.src) shared mine (ap (λ k. outcome u.graph (seat + 1) k) copy.is) copy.value_is)
-      (λ drop. root_step value None shared mine (ap (λ k. outcome u.graph (seat + 1) k) drop.is) drop.value_is)
+      (λ copy. root_step value (u.graph.root (seat + 1) copy.src) shared mine (ap (λ k. outcome u.graph (seat + 1) k) copy.is) copy.value_is.stands copy.value_is.usable)
+      (λ drop. root_step value None shared mine (ap (λ k. outcome u.graph (seat + 1) k) drop.is) drop.value_is (inl drop.value_is))
       mine.facts.2

@@ -15,7 +15,7 @@ mutator_at seat made kept spot = record { seat = seat; made = made; kept = kept;
 
 -- the world after its access under an order
 abbrev pub accessed_by : Config → World → Mutating → Order → World
-accessed_by c u m order = record { memory = touched u.memory (touch_of c m order); block = u.block; owner = u.owner; graph = u.graph }
+accessed_by c u m order = record { memory = touched u.memory (touch_of c m order); block = u.block; ghost = u.ghost; graph = u.graph }
 
 -- and after one in a call
 abbrev pub accessed : Config → World → Mutating → World

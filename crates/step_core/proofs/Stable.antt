@@ -1,5 +1,5 @@
 -- What a mutator knows stays true while another machine makes a step.
-use Rattle.std.proofs.Common.{◌≡◌, ℕ, ◌+◌, inl, inr, ⊎_elim, Bool, Option, refl, ◌∙◌, arith}
+use Rattle.std.proofs.Common.{◌≡◌, ℕ, ◌+◌, inl, inr, ⊎_elim, Bool, Option, refl, ◌∙◌, arith, sym, subst}
 use Rattle.heap_words.specs.declared.config.Config.{Config}
 use Rattle.shen_graph.specs.declared.command.Command.{Command}
 use Rattle.shen_graph.specs.declared.command.Reply.{Reply}
@@ -24,15 +24,15 @@ use Rattle.mutator.specs.declared.waits.WaitSpot.TheVariants as wait
 use Rattle.mutator.specs.Orders.{is_waiting}
 use Rattle.mutator.specs.Commands.{root_of, dst_of, index_of, number_of, refs_of, nums_of}
 use Rattle.mutator.specs.Rows.{Mutating, words_of}
-use Rattle.heap_world.specs.World.{World, Points, Shared}
-use Rattle.step_core.specs.Stepped.{HasRoot, HasObject, HasFirst, IsGet, IsSet, IsCas, IsXchg, IsRd, IsWr, IsFound, IsCopy, IsFilling, IsAsking, IsPolling, IsAnswered, LoadFacts, FieldFacts, NumberFacts, ShowFacts, MakeFacts, EnterFacts, WaitFacts, SpotFacts, IsSeatedIn, Mine}
+use Rattle.heap_world.specs.World.{World, Points, IsUsable, Shared}
+use Rattle.step_core.specs.Stepped.{IsRootWord, HasRoot, HasObject, HasFirst, IsGet, IsSet, IsCas, IsXchg, IsRd, IsWr, IsFound, IsCopy, IsFilling, IsAsking, IsPolling, IsAnswered, LoadFacts, FieldFacts, NumberFacts, ShowFacts, MakeFacts, EnterFacts, WaitFacts, SpotFacts, IsSeatedIn, Mine}
 use Rattle.step_core.specs.Own.{root_now}
 use Rattle.heap_world.specs.Asking as asking
 use Rattle.heap_world.specs.Asking.{Asking, HasNoPromise, IsRequest, IsPromise, IsAsked}
 use Rattle.heap_world.specs.Rely.{Keeps, Rely}
 use Rattle.alloc_buffers.specs.Facts.{TakeFacts}
 use Rattle.alloc_buffers.proofs.TakeStays.{take_stays}
-use Rattle.heap_world.proofs.Keeping.{points_stay, keeps_of}
+use Rattle.heap_world.proofs.Keeping.{points_stay, usable_stays, keeps_of}
 
 module _ (c : Config) (u w : World) (seat : ℕ) (keeps : Keeps seat u w) where
   -- so it does for a root
@@ -40,8 +40,12 @@ module _ (c : Config) (u w : World) (seat : ℕ) (keeps : Keeps seat u w) where
   root_stays word index is = rw (keeps.roots index) (points_stay u.block w.block keeps.names word _ is)
 
   -- so does the word of a root that was loaded
+  root_word_stays : (word index : ℕ) → IsRootWord u seat index word → IsRootWord w seat index word
+  root_word_stays word index is = record { stands = root_stays word index is.stands; usable = usable_stays u w keeps.targets word is.usable }
+
+  -- also of a command
   loaded_stays : (k : Command) (i word : ℕ) → HasRoot u seat k i word → HasRoot w seat k i word
-  loaded_stays k i word has below = root_stays word (root_of k i) (has below)
+  loaded_stays k i word has below = root_word_stays word (root_of k i) (has below)
 
   -- and that of the first one
   first_stays : (k : Command) (first : ℕ) → HasFirst u seat k first → HasFirst w seat k first
@@ -77,7 +81,7 @@ module _ (c : Config) (u w : World) (seat : ℕ) (keeps : Keeps seat u w) where
     is = is.is;
     of = object_stays is.obj object is.of;
     below = is.below;
-    value_is = root_stays value is.val is.value_is;
+    value_is = root_word_stays value is.val is.value_is;
   }
 
   -- what a Cas counts on stays
@@ -89,8 +93,8 @@ module _ (c : Config) (u w : World) (seat : ℕ) (keeps : Keeps seat u w) where
     is = is.is;
     of = object_stays is.obj object is.of;
     below = is.below;
-    expect_is = root_stays expect is.expected is.expect_is;
-    value_is = root_stays value is.val is.value_is;
+    expect_is = root_word_stays expect is.expected is.expect_is;
+    value_is = root_word_stays value is.val is.value_is;
   }
 
   -- what an Xchg counts on stays
@@ -102,7 +106,7 @@ module _ (c : Config) (u w : World) (seat : ℕ) (keeps : Keeps seat u w) where
     small = is.small;
     of = object_stays is.obj object is.of;
     below = is.below;
-    value_is = root_stays value is.val is.value_is;
+    value_is = root_word_stays value is.val is.value_is;
   }
 
   -- what an Rd counts on stays
@@ -119,7 +123,7 @@ module _ (c : Config) (u w : World) (seat : ℕ) (keeps : Keeps seat u w) where
 
   -- what a Copy counts on stays
   copy_stays : (command : Command) (dst value : ℕ) → IsCopy u seat command dst value → IsCopy w seat command dst value
-  copy_stays command dst value is = record { src = is.src; is = is.is; value_is = root_stays value is.src is.value_is }
+  copy_stays command dst value is = record { src = is.src; is = is.is; value_is = root_word_stays value is.src is.value_is }
 
   -- that nothing is promised to it stays
   pub unpromised_stays : HasNoPromise u.block seat → HasNoPromise w.block seat
@@ -241,6 +245,7 @@ module _ (c : Config) (u w : World) (seat : ℕ) (keeps : Keeps seat u w) where
   seated_stays made waiting seated = record {
     below = seated.below;
     counted = keeps.count ∙ seated.counted;
+    usable = λ i below. subst (λ word. IsUsable w.block word) (sym (keeps.root_words i)) (usable_stays u w keeps.targets _ (seated.usable i below));
     unasked = λ calm. let was = seated.unasked calm in (keeps.wait ∙ was.0, keeps.answer ∙ was.1, unpromised_stays was.2);
   }
 
@@ -256,5 +261,5 @@ mine_stays c u w m command fixed shared rely mine = let keeps : Keeps m.seat u w
   ready = mine.ready;
   roots = λ i below. rw (now_stays c u w m.seat keeps m.kept m.spot i) (root_stays c u w m.seat keeps _ i (mine.roots i below));
   hands = λ a words is. mine.hands a words (rely.no_hands a words is);
-  facts = facts_stay c u w m.seat keeps m.made m.kept command fixed (take_stays c u w m.seat rely (λ r is. shared.currents.own m.seat r is)) m.spot mine.facts;
+  facts = facts_stay c u w m.seat keeps m.made m.kept command fixed (take_stays c u w m.seat rely (λ r is. shared.owned.currents.own m.seat r is)) m.spot mine.facts;
 }

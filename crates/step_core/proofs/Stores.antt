@@ -71,7 +71,7 @@ module _ (g : Graph) (t obj : ℕ) (name : Name) (o : Object) (root_is : g.root 
 module _ (c : Config) (u : World) (m : Mutating) (object refs nums at value : ℕ) (name : Name) (o : Object) (root : ℕ → ℕ → Reference) (command : Command) (fixed : Option Reply) (r : Reply) where
   -- the step is as it should be
   store_settles : touched u.memory (touch_of c m Nothing) ≡ write u.memory (Heap at) value → told_of u.memory m ≡ Some r → given_at m.spot ≡ None → fixed ≡ None → is_full r ≡ false
-      → Shared c u → Target u object refs nums name → object ≤ at → at < object + (3 + refs + nums)
+      → Shared c u → Target u.block object refs nums name → object ≤ at → at < object + (3 + refs + nums)
       → IsThing (updated (λ a. u.memory (Heap a)) at value) u.block object refs nums name o
       → outcome u.graph (m.seat + 1) command ≡ answers r (changed u.graph name o root)
       → ((seat i : ℕ) → seat ≢ m.seat → root (seat + 1) i ≡ u.graph.root (seat + 1) i)
@@ -139,7 +139,7 @@ module _ (c : Config) (u : World) (seat made : ℕ) (kept : Kept) (command : Com
       let o = object_in c u shared seat is.obj object is.of in
       let v = field_in c u shared seat is.obj object field is.of is.below in
       let answered = set_outcome u.graph (seat + 1) is.obj is.of.name o.0 is.of.root_is o.1 field is.val v.0 v.1 in
-      field_settles c u (at_spot (OnField object (fields.Store value))) object field value is.obj is.val shared is.of is.below is.value_is u.graph.root command fixed reply.Ok
+      field_settles c u (at_spot (OnField object (fields.Store value))) object field value is.obj is.val shared is.of is.below is.value_is.stands u.graph.root command fixed reply.Ok
       refl refl refl mine.facts.0 refl (ap (λ k. outcome u.graph (seat + 1) k) is.is ∙ answered) (λ j i d. refl)
       (leaving c _ seat made kept command reply.Ok mine.seated mine.roots mine.hands)
 
@@ -152,11 +152,11 @@ module _ (c : Config) (u : World) (seat made : ℕ) (kept : Kept) (command : Com
       let root = (with_root u.graph (seat + 1) dst v.0).root in
       let got = u.memory (Heap (object + 3 + field)) in
       let answered = xchg_outcome u.graph (seat + 1) is.obj is.of.name o.0 is.of.root_is o.1 dst field is.val v.0 v.1 in
-      field_settles c u (at_spot (OnField object (fields.Swap value))) object field value is.obj is.val shared is.of is.below is.value_is root command fixed (shown v.0)
+      field_settles c u (at_spot (OnField object (fields.Swap value))) object field value is.obj is.val shared is.of is.below is.value_is.stands root command fixed (shown v.0)
       refl (ap (λ x. Some x) (shown_is c u shared got v.0 v.2)) refl mine.facts.0 (shown_not_full v.0) (ap (λ k. outcome u.graph (seat + 1) k) is.is ∙ answered)
       (λ j i d. cond-false ((j + 1 == seat + 1) && (i == dst)) v.0 (u.graph.root (j + 1) i) (grind (arith, nat_tests)))
       (field_mine c _ seat made kept command got v.0
-      (shared_then c u (at_spot (OnField object (fields.Swap value))) object field value is.obj is.val shared is.of is.below is.value_is root)
+      (shared_then c u (at_spot (OnField object (fields.Swap value))) object field value is.obj is.val shared is.of is.below is.value_is.stands root)
       mine.seated is.small (roots_then u.block (λ i. u.memory (Root seat i)) u.graph.root (seat + 1) dst got v.0 mine.roots v.2) mine.hands v.2)
 
   -- the field has the word that was found in it: it changes
@@ -167,9 +167,9 @@ module _ (c : Config) (u : World) (seat made : ℕ) (kept : Kept) (command : Com
       let v = field_in c u shared seat is.obj object field is.of is.below in
       let got = u.memory (Heap (object + 3 + field)) in
       let expected : (got == expect) ≡ true = ap (λ x. got == x) (sym mine.facts.2) ∙ same in
-      let references : same_reference v.0 (u.graph.root (seat + 1) is.expected) ≡ true = sym (same_words c u shared got expect v.0 _ v.2 is.expect_is) ∙ expected in
+      let references : same_reference v.0 (u.graph.root (seat + 1) is.expected) ≡ true = sym (same_words c u shared got expect v.0 _ v.2 is.expect_is.stands) ∙ expected in
       let answered = cas_outcome u.graph (seat + 1) is.obj is.of.name o.0 is.of.root_is o.1 field is.expected is.val v.0 v.1 references in
-      field_settles c u (at_spot (OnField object (fields.Exchange found expect value))) object field value is.obj is.val shared is.of is.below is.value_is u.graph.root command fixed reply.Yes
+      field_settles c u (at_spot (OnField object (fields.Exchange found expect value))) object field value is.obj is.val shared is.of is.below is.value_is.stands u.graph.root command fixed reply.Yes
       (rw same refl) (rw same refl) refl mine.facts.0 refl (ap (λ k. outcome u.graph (seat + 1) k) is.is ∙ answered) (λ j i d. refl)
       (rw same (leaving c _ seat made kept command reply.Yes mine.seated mine.roots mine.hands))
 

@@ -1,6 +1,6 @@
 -- The step by which the control stores a word of the new image. Nothing that counts changes by it, and where the word says to a
 -- mutator that the heap is full, the reply of its call is settled.
-use Rattle.std.proofs.Common.{◌≡◌, ◌≢◌, ℕ, ◌+◌, ◌<◌, inl, inr, ⊎_elim, Bool, true, false, List, [], ◌++◌, length, Option, Some, None, refl, sym, ap, ◌∙◌, subst, arith}
+use Rattle.std.proofs.Common.{◌≡◌, ◌≢◌, ℕ, ◌+◌, ◌<◌, inl, inr, ⊎_elim, Bool, true, false, List, [], ◌++◌, length, Some, None, refl, sym, ap, ◌∙◌, subst, arith}
 use Rattle.std.specs.Prelude.{◌==◌, ◌-◌, ◌&&◌, nat_lt, slice_get, slice_index, slice_set, if◌then◌else◌}
 use Rattle.std.proofs.lemmas.Bool.{cases_eq, and_parts, eqb-true, ne_eqb, eq-eqb, and_from, cond-true, cond-false, false≢true, ltb-true, ltb-false, le-leb}
 use Rattle.std.proofs.lemmas.Option.{same_Some}
@@ -18,7 +18,7 @@ use Rattle.shen_graph.specs.declared.command.Reply.TheVariants.{Full}
 use Rattle.shen_graph.specs.Graph.{Graph}
 use Rattle.shen_graph.specs.History.{Entry, of_thread}
 use Rattle.mutator.specs.Rows.{Mutating}
-use Rattle.heap_world.specs.World.{World, Plot, hand, Shared}
+use Rattle.heap_world.specs.World.{Ghost, World, Plot, hand, Shared}
 use Rattle.heap_world.specs.Change.{Change, image_words}
 use Rattle.heap_world.proofs.Keeping.{rely_same}
 use Rattle.control_steps.specs.declared.spot.ControlSpot.TheVariants.{StoreWord, Go}
@@ -37,7 +37,7 @@ use Rattle.step_core.proofs.Pauses.{no_other_control}
 use Rattle.step_core.proofs.Refusing.{refused_new, refused_mine}
 use Rattle.step_core.proofs.Roles.{machine_stays, mutator_there}
 
-module _ (change : Change) (c : Config) (words : List ℕ) (block : Plot) (owner : ℕ → Option ℕ) (g : Graph) (past : List Entry) (machines : List Actor) (image : List ℕ) (index seen : ℕ) (command : Command) (calls : List Entry)
+module _ (change : Change) (c : Config) (words : List ℕ) (block : Plot) (ghost : Ghost) (g : Graph) (past : List Entry) (machines : List Actor) (image : List ℕ) (index seen : ℕ) (command : Command) (calls : List Entry)
     (ready : is_ready c (StoreWord index) ≡ true) (long : length words ≡ table_words c) (image_long : length image ≡ image_words c) (read : AreRead c words image index)
     (seats : length machines ≡ seat_count c.mutators c.helpers) where
   -- where the word stands, what was there, and what is stored
@@ -56,7 +56,7 @@ module _ (change : Change) (c : Config) (words : List ℕ) (block : Plot) (owner
 
   -- the world, in which the image counts
   abbrev u : World
-  u = record { memory = mixed c words image; block = block; owner = owner; graph = g }
+  u = record { memory = mixed c words image; block = block; ghost = ghost; graph = g }
 
   -- the control then
   abbrev control_then : Controlling

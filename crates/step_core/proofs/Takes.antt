@@ -97,7 +97,7 @@ module _ (c : Config) (u : World) (seat made : ℕ) (kept : Kept) (command : Com
     }
     mine_then (Ended (At address)) w shared keeps can = record {
       seated = seated_stays c u w seat keeps made false mine.seated;
-      ready = word_ready c seat made kept command fixed mine.facts.0 (λ r. w.memory (Top r)) w.block shared.plotted address can.facts mine.seated.below 0 (omega arith);
+      ready = word_ready c seat made kept command fixed mine.facts.0 (λ r. w.memory (Top r)) w.block shared.parsable.plotted address can.facts mine.seated.below 0 (omega arith);
       roots = λ i below. rw (keeps.root_words i) (root_stays c u w seat keeps _ i (mine.roots i below));
       hands = can.hands;
       facts = (mine.facts.0, record { room = can.facts; within = omega arith; stored = λ k below. absurd (omega arith) }, omega arith);

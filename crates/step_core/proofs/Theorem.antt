@@ -84,7 +84,7 @@ ends_at c seat made kept _ takes = absurd (cc (takes))
 -- What a stage says in which all goes as it should.
 module _ (change : Change) (law : IsPause change) (c : Config) (g : Graph) (s : Stage Actor) (h : List Entry) (goes : Goes c g s h) where
   abbrev the_world : World
-  the_world = world_of c s goes.follows.block goes.follows.owner (after g h)
+  the_world = world_of c s goes.follows.block goes.follows.ghost (after g h)
 
   -- of a machine
   known : (number : ℕ) (a : Actor) → slice_get s.machines number ≡ Some a → IsMachine c s.words the_world (of_thread h (number + 1)) number a a.machine
@@ -105,7 +105,7 @@ module _ (change : Change) (law : IsPause change) (c : Config) (g : Graph) (s : 
       let next = goes_event change law c g s h event goes in
       let there : slice_get (act (kind change c) s event).machines number ≡ Some (took_of change c a order (slice_index s.words (place_of (plan_of c order a.machine))) a.machine) =
       ap (λ t. slice_get t.machines number) (act-event (kind change c) s event a (record { here = here; takes = takes })) ∙ slice_get-set_same s.machines number a _ here in (
-        world_of c (act (kind change c) s event) next.follows.block next.follows.owner (after g (h ++ told c s event)),
+        world_of c (act (kind change c) s event) next.follows.block next.follows.ghost (after g (h ++ told c s event)),
         (act (kind change c) s event).words,
         of_thread (h ++ told c s event) (number + 1),
         next.follows.machines number _ there,
@@ -185,7 +185,7 @@ module _ (change : Change) (law : IsPause change) (c : Config) (g : Graph) (s : 
   -- of room in hand
   in_hand : (a seat more : ℕ) → goes.follows.block a ≡ Some (hand seat more) → seat < c.mutators
   in_hand a seat more is =
-      let there = machine_there c s.words the_world h s.machines goes.follows.seats seat (goes.follows.shared.rooms a seat more is).seated in
+      let there = machine_there c s.words the_world h s.machines goes.follows.seats seat (goes.follows.shared.owned.rooms a seat more is).seated in
       hand_of c s.words the_world (of_thread h (seat + 1)) seat there.0 there.0.machine (known seat there.0 there.1) a more is
 
   -- of all: it is sound
@@ -194,7 +194,7 @@ module _ (change : Change) (law : IsPause change) (c : Config) (g : Graph) (s : 
     of_heap = of_heap;
     stands = record {
       block = goes.follows.block;
-      owner = goes.follows.owner;
+      ghost = goes.follows.ghost;
       shared = goes.follows.shared;
       in_hand = in_hand;
       promised_to = goes.follows.promised_to;

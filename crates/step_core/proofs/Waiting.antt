@@ -27,7 +27,7 @@ use Rattle.step_core.proofs.Stable.{asking_stays}
 use Rattle.step_core.proofs.Loading.{looks}
 use Rattle.step_core.proofs.Entering.{state_keeps}
 use Rattle.step_core.proofs.Ready.{ready_of, state_word, leaving, given_ready}
-use Rattle.step_core.proofs.FreshRoot.{HasNew, made_world, made_reply, hand_before, promise_before, roots_made, count_made, legal_made, graph_made, shared_made, others_made}
+use Rattle.step_core.proofs.FreshRoot.{usable_made, HasNew, made_world, made_reply, hand_before, promise_before, roots_made, count_made, legal_made, graph_made, shared_made, others_made}
 
 module _ (c : Config) (u : World) (seat made : ℕ) (kept : Kept) (command : Command) (fixed : Option Reply) where
   abbrev at_spot : WaitSpot → Mutating
@@ -51,7 +51,7 @@ module _ (c : Config) (u : World) (seat made : ℕ) (kept : Kept) (command : Com
     settles = λ r e. cc;
     shared = shared;
     mine = record {
-      seated = record { below = mine.seated.below; counted = mine.seated.counted; unasked = λ no. absurd (cc (no)) };
+      seated = record { below = mine.seated.below; counted = mine.seated.counted; usable = mine.seated.usable; unasked = λ no. absurd (cc (no)) };
       ready = refl;
       roots = mine.roots;
       hands = mine.hands;
@@ -163,7 +163,7 @@ module _ (c : Config) (u : World) (seat made : ℕ) (kept : Kept) (command : Com
       by_full false other = ⊎_elim
           (λ given. record {
             seated = mine.seated;
-            ready = given_ready c seat made kept command fixed given.0 (λ r. u.memory (Top r)) u.block (u.memory (Answer seat)) shared.plotted given.1.2.here mine.seated.below;
+            ready = given_ready c seat made kept command fixed given.0 (λ r. u.memory (Top r)) u.block (u.memory (Answer seat)) shared.parsable.plotted given.1.2.here mine.seated.below;
             roots = mine.roots;
             hands = mine.hands;
             facts = (given, refl);
@@ -194,7 +194,7 @@ module _ (c : Config) (u : World) (seat made : ℕ) (kept : Kept) (command : Com
     -- the mutator has to take its answer away
     mine_made : Mine c (made_world has) (mutator_at seat (made + 1) kept (Waiting (wait.ClearAnswer (made_reply has)))) command (Some (made_reply has))
     mine_made = record {
-      seated = record { below = mine.seated.below; counted = count_made has; unasked = λ no. absurd (cc (no)) };
+      seated = record { below = mine.seated.below; counted = count_made has; usable = usable_made has mine.seated.usable; unasked = λ no. absurd (cc (no)) };
       ready = ready_of _ true (lt-ltb _ _ mine.seated.below) refl;
       roots = roots_made has mine.roots;
       hands = λ a words is. mine.hands a words (hand_before has a seat words is).1;
@@ -225,7 +225,7 @@ module _ (c : Config) (u : World) (seat made : ℕ) (kept : Kept) (command : Com
     shared = shared;
     mine = rw mine.facts.0
         (leaving c (accessed c u (at_spot (wait.ClearAnswer r))) seat made kept command r
-        (record { below = mine.seated.below; counted = mine.seated.counted; unasked = λ calm. (mine.facts.1, cond-true (seat == seat) _ _ (eq-eqb seat seat refl), mine.facts.2) })
+        (record { below = mine.seated.below; counted = mine.seated.counted; usable = mine.seated.usable; unasked = λ calm. (mine.facts.1, cond-true (seat == seat) _ _ (eq-eqb seat seat refl), mine.facts.2) })
         mine.roots mine.hands);
     others = λ j d. search (arith, nat_tests);
   }

@@ -19,7 +19,7 @@ use Rattle.mutator.specs.declared.waits.WaitSpot.TheVariants as wait
 use Rattle.mutator.specs.Commands.{refs_of, nums_of}
 use Rattle.mutator.specs.Orders.{is_between_calls}
 use Rattle.mutator.specs.Rows.{Mutating, given_at}
-use Rattle.heap_world.specs.World.{World, Plot, hand, promised, Shared}
+use Rattle.heap_world.specs.World.{Ghost, World, Plot, hand, promised, Shared}
 use Rattle.heap_world.specs.Asking.{Asking, asks, given, IsAsked}
 use Rattle.heap_world.specs.Roots.{HasNoMore}
 use Rattle.step_core.specs.Actor.{mutating, Actor, entries_of}
@@ -30,9 +30,9 @@ use Rattle.step_core.specs.Own.{HasItsOwn}
 use Rattle.step_core.specs.Begun.{begun}
 use Rattle.step_core.specs.Threads.{IsSettled}
 
--- the world of a stage: the words that count, a way to divide the regions, the seats that have one, and a graph
-abbrev pub world_of : Config → Stage Actor → Plot → (ℕ → Option ℕ) → Graph → World
-world_of c s block owner g = record { memory = settled c s; block = block; owner = owner; graph = g }
+-- the world of a stage: the words that count, a way to divide the regions, ghost state, and a graph
+abbrev pub world_of : Config → Stage Actor → Plot → Ghost → Graph → World
+world_of c s block ghost g = record { memory = settled c s; block = block; ghost = ghost; graph = g }
 
 -- the machine of a number is a mutator that stands so
 pub record IsMutator (s : Stage Actor) (number : ℕ) (a : Actor) (m : Mutating) : Type 0 where
@@ -76,12 +76,12 @@ pub record HasAsked (w : World) (command : Command) (m : Mutating) : Type 0 wher
 -- has asked for.
 pub record StandsFor (c : Config) (s : Stage Actor) (g : Graph) : Type 0 where
   pub block : Plot
-  pub owner : ℕ → Option ℕ
-  pub shared : Shared c (world_of c s block owner g)
+  pub ghost : Ghost
+  pub shared : Shared c (world_of c s block ghost g)
   pub in_hand : (a seat words : ℕ) → block a ≡ Some (hand seat words) → seat < c.mutators
   pub promised_to : (a seat words : ℕ) → block a ≡ Some (promised seat words) → seat < c.mutators
-  pub mutators : (number : ℕ) (a : Actor) (m : Mutating) → IsMutator s number a m → HasItsOwn (world_of c s block owner g) m
-  pub asked : (number : ℕ) (a : Actor) (m : Mutating) → IsMutator s number a m → is_clearing m.spot ≡ false → HasAsked (world_of c s block owner g) a.command m
+  pub mutators : (number : ℕ) (a : Actor) (m : Mutating) → IsMutator s number a m → HasItsOwn (world_of c s block ghost g) m
+  pub asked : (number : ℕ) (a : Actor) (m : Mutating) → IsMutator s number a m → is_clearing m.spot ≡ false → HasAsked (world_of c s block ghost g) a.command m
 
 -- Whether the reply of the call in progress is settled: what the call has found is on its way into a root, or it leaves. Of who
 -- waits it is where the answer in the table says that the heap is full.

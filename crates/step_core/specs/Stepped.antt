@@ -2,7 +2,7 @@
 use Rattle.std.specs.Prelude.{ℕ, ◌≡◌, ◌≢◌, ◌⊎◌, ◌+◌, ◌<◌, ◌≤◌, Bool, true, false, length, Option, Some, None}
 use Rattle.heap_words.specs.declared.config.Config.{Config}
 use Rattle.heap_words.specs.Encoding.{fresh_word}
-use Rattle.heap_words.specs.Words.{Heap, Wait, Answer}
+use Rattle.heap_words.specs.Words.{Heap, Root, Wait, Answer}
 use Rattle.steps_base.specs.Touch.{touched}
 use Rattle.shen_graph.specs.declared.name.Name.{Name}
 use Rattle.shen_graph.specs.declared.command.Command.{Command}
@@ -39,15 +39,19 @@ use Rattle.mutator.specs.Told.{told_of}
 use Rattle.mutator.specs.Fit.{IsReady}
 use Rattle.step_core.specs.Actor.{entry_of, command_by}
 use Rattle.step_core.specs.Own.{root_now, IsInHand}
-use Rattle.heap_world.specs.World.{World, Plot, hand, name_at, Points, Target, Shared}
+use Rattle.heap_world.specs.World.{World, Plot, hand, name_at, Points, Target, IsUsable, Shared}
 use Rattle.heap_world.specs.Asking as asking
 use Rattle.heap_world.specs.Asking.{Asking, HasNoPromise, IsAsked}
 use Rattle.heap_world.specs.Rely.{Rely}
 
--- A word is that of a root which the command loads: it stands for the root's reference. Of a root that the command does
--- not load nothing is known.
+-- a word is that of a root of the mutator: it stands for the root's reference, and may be used
+pub record IsRootWord (w : World) (seat index word : ℕ) : Type 0 where
+  pub stands : Points w.block word (w.graph.root (seat + 1) index)
+  pub usable : IsUsable w.block word
+
+-- A word is that of a root which the command loads. Of a root that the command does not load nothing is known.
 abbrev pub HasRoot : World → ℕ → Command → ℕ → ℕ → Type 0
-HasRoot w seat command k word = k < length (roots_of command) → Points w.block word (w.graph.root (seat + 1) (root_of command k))
+HasRoot w seat command k word = k < length (roots_of command) → IsRootWord w seat (root_of command k) word
 
 -- the call has begun and nothing is settled
 pub record IsBegun (made : ℕ) (command : Command) (fixed : Option Reply) (k : Command) : Type 0 where
@@ -61,7 +65,7 @@ pub record HasObject (w : World) (seat root object : ℕ) : Type 0 where
   pub refs : ℕ
   pub nums : ℕ
   pub root_is : w.graph.root (seat + 1) root ≡ Some name
-  pub target : Target w object refs nums name
+  pub target : Target w.block object refs nums name
 
 -- the first root of a command is loaded, and if the command works on an object, it is not null
 pub record HasFirst (w : World) (seat : ℕ) (k : Command) (first : ℕ) : Type 0 where
@@ -89,7 +93,7 @@ pub record IsSet (w : World) (seat : ℕ) (command : Command) (object field valu
   pub is : command ≡ Set obj field val
   pub of : HasObject w seat obj object
   pub below : field < of.refs
-  pub value_is : Points w.block value (w.graph.root (seat + 1) val)
+  pub value_is : IsRootWord w seat val value
 
 pub record IsCas (w : World) (seat : ℕ) (command : Command) (object field expect value : ℕ) : Type 0 where
   pub obj : ℕ
@@ -98,8 +102,8 @@ pub record IsCas (w : World) (seat : ℕ) (command : Command) (object field expe
   pub is : command ≡ Cas obj field expected val
   pub of : HasObject w seat obj object
   pub below : field < of.refs
-  pub expect_is : Points w.block expect (w.graph.root (seat + 1) expected)
-  pub value_is : Points w.block value (w.graph.root (seat + 1) val)
+  pub expect_is : IsRootWord w seat expected expect
+  pub value_is : IsRootWord w seat val value
 
 pub record IsXchg (w : World) (seat : ℕ) (command : Command) (object field value dst : ℕ) : Type 0 where
   pub obj : ℕ
@@ -108,7 +112,7 @@ pub record IsXchg (w : World) (seat : ℕ) (command : Command) (object field val
   pub small : dst < 16
   pub of : HasObject w seat obj object
   pub below : field < of.refs
-  pub value_is : Points w.block value (w.graph.root (seat + 1) val)
+  pub value_is : IsRootWord w seat val value
 
 pub record IsRd (w : World) (seat : ℕ) (command : Command) (object refs index : ℕ) : Type 0 where
   pub obj : ℕ
@@ -135,7 +139,7 @@ pub record IsFound (w : World) (fixed : Option Reply) (value dst : ℕ) : Type 0
 pub record IsCopy (w : World) (seat : ℕ) (command : Command) (dst value : ℕ) : Type 0 where
   pub src : ℕ
   pub is : command ≡ Copy dst src
-  pub value_is : Points w.block value (w.graph.root (seat + 1) src)
+  pub value_is : IsRootWord w seat src value
 
 pub record IsDrop (command : Command) (dst value : ℕ) : Type 0 where
   pub is : command ≡ Drop dst
@@ -252,15 +256,18 @@ SpotFacts c w seat made kept command fixed (Leave reply) = fixed ≡ Some reply
 SpotFacts c w seat made kept command fixed Gone = fixed ≡ None
 
 -- The facts of a seat that all places share, over the words and numbers that they read: it is a mutator's, it has made as many
--- objects as the graph says, and while it does not wait for an object it has asked for none, and none is promised to it.
-pub record IsSeated (mutators seat count made : ℕ) (waiting : Bool) (wait answer : ℕ) (block : Plot) : Type 0 where
+-- objects as the graph says, its root words may be used, and while it does not wait for an object it has asked for none, and
+-- none is promised to it.
+pub record IsSeated (mutators seat count made : ℕ) (waiting : Bool) (wait answer : ℕ) (root : ℕ → ℕ) (block : Plot) : Type 0 where
   pub below : seat < mutators
   pub counted : count ≡ made
+  pub usable : (i : ℕ) → i < 16 → IsUsable block (root i)
   pub unasked : waiting ≡ false → (wait ≡ 0) × (answer ≡ 0) × HasNoPromise block seat
 
 -- those of a seat in a world, by the objects that its mutator has made and whether it waits
 abbrev pub IsSeatedIn : Config → World → ℕ → ℕ → Bool → Type 0
-IsSeatedIn c w seat made waiting = IsSeated c.mutators seat (w.graph.count (seat + 1)) made waiting (w.memory (Wait seat)) (w.memory (Answer seat)) w.block
+IsSeatedIn c w seat made waiting =
+    IsSeated c.mutators seat (w.graph.count (seat + 1)) made waiting (w.memory (Wait seat)) (w.memory (Answer seat)) (λ i. w.memory (Root seat i)) w.block
 
 -- and those of a mutator
 abbrev pub Seated : Config → World → Mutating → Type 0

@@ -1,5 +1,5 @@
 -- Items on a line of the schedule, and lines one after the other.
-use Rattle.std.proofs.Common.{◌≡◌, ℕ, ◌-◌, ◌≤◌, false, eqb, List, [], ◌∷◌, ◌++◌, length, take, drop, refl, sym, ap, subst, ◌∙◌, append_assoc, arith}
+use Rattle.std.proofs.Common.{◌≡◌, ℕ, ◌-◌, false, eqb, List, [], ◌∷◌, ◌++◌, length, take, drop, refl, sym, ap, subst, ◌∙◌, append_assoc, arith}
 use Rattle.std.specs.List.{flat_map, AllByRecursion}
 use Rattle.std.proofs.lemmas.List.{append-nil, take_all}
 use Rattle.std.proofs.lemmas.Bool.Decides.{nat_tests}
@@ -60,10 +60,6 @@ no_items c bytes rest items begun more_left none ys after good e =
     none_follows spaced_item (IsItem c) IsLineEnd bytes rest items items_are_pieces begun more_left none ys (10 ∷ after) good refl (e ∙ with_end ys after)
 
 -- ---- a whole line
-
-some_item : (items : List Item) (bytes after : List ℕ) → bytes ≡ items_and_end items ++ after → (IsLineEnd bytes → ⊥) → 1 ≤ length items
-some_item [] bytes after e more_left = absurd (more_left (subst IsLineEnd (sym e) refl))
-some_item (i ∷ items) bytes after e more_left = omega arith
 
 -- a line without an item is none
 pub empty_line : (c : Config) (bytes word : List ℕ) → bytes ≡ 33 ∷ word → IsLineEnd word → (ys : List Item) (after : List ℕ) → IsScheduleLine c ys → bytes ≡ schedule_line ys ++ after → ⊥

@@ -13,14 +13,12 @@ use Rattle.std.proofs.lemmas.Grind.{flat_map-append}
 use Rattle.shen_graph.specs.declared.command.Command.{Command}
 use Rattle.heap_words.specs.declared.config.Config.{Config}
 use Rattle.heap_words.specs.declared.schedule.Item.{Item}
-use Rattle.heap_words.specs.declared.schedule.Item.TheVariants.{Steps, Until, Replies}
-use Rattle.trace_grammar.specs.Spelling.{Line, IsLine, line, header, space, newline, numbers, word_of, numbers_of, IsItem, IsScheduleLine, schedule_line}
+use Rattle.trace_grammar.specs.Spelling.{Line, IsLine, line, header, space, newline, numbers, word_of, numbers_of, schedule_line}
 use Rattle.trace_grammar.specs.Front.{IsBehindCommands}
-use Rattle.trace_grammar.specs.Scanning.{numeral, number_at, positive_at, line_at, sizes_at}
+use Rattle.trace_grammar.specs.Scanning.{numeral, number_at, positive_at, line_at}
 use Rattle.trace_grammar.specs.Grammar.{most_bytes, script_of, scripts_of, with_line, HasTaken, HasScheduled, Reads}
 use Rattle.trace_grammar.proofs.Numbers.{same_some}
 use Rattle.trace_grammar.proofs.Lines.{line_again}
-use Rattle.trace_grammar.proofs.Header.{sizes_again}
 
 all_more : (threads : ℕ) (lines : List Line) (l : Line) → AllByRecursion (IsLine threads) lines → IsLine threads l → AllByRecursion (IsLine threads) (lines ++ l ∷ [])
 all_more threads [] l all fits = (fits, tt)

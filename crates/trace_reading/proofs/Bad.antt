@@ -42,14 +42,6 @@ turn_cause c false bytes some mark refused none = by_kind (commands_spell c byte
     by_kind (inl it) = command_is_no_turn c.mutators it.0 bytes it.1 (omega (arith, c.in_range.most_mutators)) it.2 it.3 (mark refl)
     by_kind (inr it) = refused it.0 it.1 it.2 it.3
 
--- whether a line of the schedule stands before, by the numbers of lines and by their count
-pub later_line : (first line count : ℕ) → line ≡ first + count → ltb first line ≡ ltb 0 count
-later_line first line count e = by_test (ltb 0 count) refl
-  where
-    by_test : (test : Bool) → ltb 0 count ≡ test → ltb first line ≡ test
-    by_test true f = grind (arith, nat_tests)
-    by_test false f = grind (arith, nat_tests)
-
 pub not_later : (first line : ℕ) → ltb first line ≡ false → line ≤ first
 not_later first line e = grind (arith, nat_tests)
 

@@ -3,12 +3,8 @@ use Rattle.std.proofs.Common.{◌≡◌, ◌≢◌, ℕ, zero, suc, Option, Some
 use Rattle.std.proofs.lemmas.Bool.{cases_eq}
 use Rattle.heap_words.specs.declared.config.Config.{Config}
 use Rattle.heap_words.specs.Words.{Word, Phase, Cset, Evac, Current, Wait}
-use Rattle.image_laws.specs.Full.{now_in, kept_in, packed, made_in, served_in, room_for, served, refused, full}
+use Rattle.image_laws.specs.Full.{packed, packed_in, made_in, served_in, room_for, served, refused, full}
 use Rattle.image_laws.proofs.Served.{served_first, turn_idle, turn_waits}
-
--- the words after packing, before requests are served
-abbrev pub packed_in : Config → (Word → ℕ) → Word → ℕ
-packed_in c m = packed c (now_in m) (kept_in c m) m
 
 module _ (c : Config) (word : Word) (made : (m : Word → ℕ) (t r : ℕ) → made_in c m t r word ≡ m word) where
   turn_still : (m : Word → ℕ) (t : ℕ) (o : Option ℕ) → served_in c m t o word ≡ m word

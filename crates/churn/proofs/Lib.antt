@@ -1,0 +1,12 @@
+pub mod ScriptLemmas
+pub mod Parts
+pub mod Moves
+pub mod Steps
+pub mod Runs
+pub mod Opening
+pub mod Bounds
+pub mod Refusals
+pub mod Turns
+pub mod Numbers
+pub mod Sums
+pub mod TestLemmas

@@ -1,0 +1,109 @@
+-- How the workload begins.
+use Rattle.std.proofs.Common.{ℕ, zero, suc, ◌≡◌, ◌≤◌, ◌⊎◌, true, false, List, [], ◌∷◌, ◌++◌, length, get_or, Some, None, refl, ap, ◌∙◌, sym, subst, inl, inr, arith}
+use Rattle.std.specs.Prelude.{if◌then◌else◌, ◌&&◌, ◌==◌, nat_le}
+use Rattle.std.specs.List.{AllByRecursion, flat_map, range_with_len}
+use Rattle.std.proofs.lemmas.Bool.{cases_lt}
+use Rattle.std.proofs.lemmas.Bool.Decides.{nat_tests}
+use Rattle.std.proofs.lemmas.List.{get_or_past}
+use Rattle.shen_graph.specs.declared.command.Command.TheVariants.{Set}
+use Rattle.shen_graph.specs.Graph.{Object, named, hub, opening}
+use Rattle.shen_graph.specs.Reach.{size}
+use Rattle.shen_graph.specs.History.{Entry, of_thread, commands_of, script_of, Follows}
+use Rattle.churn.specs.Script.{round, churn_script, churn_scripts}
+use Rattle.churn.proofs.Parts.{IsThread, own, IsLeaf, IsLink, IsBox, field_of, Tidy}
+use Rattle.churn.proofs.Moves.{not_hub_too, none_in}
+use Rattle.churn.proofs.Steps.{IsLater}
+use Rattle.churn.proofs.Steps.IsLater.{makes, writes, links, stores, drops, loads, reads, swaps, exchanges}
+use Rattle.churn.proofs.Runs.{Going}
+
+pub thread_cases : (t : ℕ) → IsThread t → (t ≡ 1) ⊎ ((t ≡ 2) ⊎ (t ≡ 3))
+thread_cases t is =
+    elim (cases_lt t 2) [
+      | inl one ↦ inl (omega arith)
+      | inr more ↦ elim (cases_lt t 3) [ inl two ↦ inr (inl (omega arith)) | inr three ↦ inr (inr (omega arith)) ]
+    ]
+
+begins_none : (t r : ℕ) → 1 ≤ r → (opening 3).root t r ≡ None
+begins_none t r low =
+    let e : (nat_le 1 t && nat_le t 3 && (r == 0)) ≡ false = grind (arith, nat_tests) in
+    rw e refl
+
+begins_out : (t r : ℕ) → (IsThread t → ⊥) → (opening 3).root t r ≡ None
+begins_out t r out = at (nat_le 1 t && nat_le t 3 && (r == 0)) refl
+  where
+    at : (b : _) → (nat_le 1 t && nat_le t 3 && (r == 0)) ≡ b → (if b then Some hub else None) ≡ None
+    at true is =
+        let low : 1 ≤ t = grind (arith, nat_tests) in
+        let high : t ≤ 3 = grind (arith, nat_tests) in
+        absurd (out (low, high))
+    at false is = refl
+
+begins_bare : (t n : ℕ) → IsThread t → named (opening 3) (Some (own t n)) ≡ record { refs = []; nums = [] }
+begins_bare t n is = rw (not_hub_too t n is) refl
+
+bare_field : (t n f : ℕ) → IsThread t → field_of (opening 3) (own t n) f ≡ None
+bare_field t n f is = ap (λ (o : Object). get_or o.refs f None) (begins_bare t n is) ∙ get_or_past [] f None (omega arith)
+
+pub tidy_opening : Tidy (opening 3)
+tidy_opening = record {
+  hub_is = refl;
+  hub_size = refl;
+  hub_nums = refl;
+  links = λ f. subst (IsLink f) (sym (none_in 16 f)) tt;
+  hub_root = λ t is. elim (thread_cases t is) as (λ _. (opening 3).root t 0 ≡ Some hub) [
+    | inl one ↦ rw one refl
+    | inr more ↦ elim more as (λ _. (opening 3).root t 0 ≡ Some hub) [ inl two ↦ rw two refl | inr three ↦ rw three refl ]
+  ];
+  box_root = λ t is. subst (IsBox t) (sym (begins_none t 1 (omega arith))) tt;
+  leaf_root = λ t r is above. subst (IsLeaf t) (sym (begins_none t r (omega arith))) tt;
+  high_root = λ t r above. begins_none t r (omega arith);
+  no_root = begins_out;
+  slots = λ t f is. subst (IsLeaf t) (sym (bare_field t 1 f is)) tt;
+  slot_count = λ t is. subst (λ (o : Object). length o.refs ≤ 16) (sym (begins_bare t 1 is)) (omega arith);
+  leaves = λ t n f is above. bare_field t n f is;
+  small = λ t n is. subst (λ (o : Object). size o ≤ 19) (sym (begins_bare t n is)) (omega arith);
+  no_count = λ t out. refl;
+  no_object = λ m out apart. rw apart refl;
+}
+
+-- the commands after a thread's first
+
+pub all_append : {A : Type 0} (P : A → Type 0) (xs ys : List A) → AllByRecursion P xs → AllByRecursion P ys → AllByRecursion P (xs ++ ys)
+all_append P [] ys h k = k
+all_append P (x ∷ xs) ys h k = (h.0, all_append P xs ys h.1 k)
+
+round_later : (t seed i : ℕ) → AllByRecursion (IsLater t) (round seed i)
+round_later t seed i = (makes _ _ (omega arith), (writes _, (stores _, (drops, (loads _, (reads, (swaps _, (exchanges _, tt))))))))
+
+rounds_later : (t seed : ℕ) (rounds : List ℕ) → AllByRecursion (IsLater t) (flat_map (round seed) rounds)
+rounds_later t seed [] = tt
+rounds_later t seed (i ∷ rounds) = all_append (IsLater t) (round seed i) (flat_map (round seed) rounds) (round_later t seed i) (rounds_later t seed rounds)
+
+pub script_later : (seed count t : ℕ) → AllByRecursion (IsLater t) (Set 0 t 1 ∷ flat_map (round seed) (range_with_len 0 count))
+script_later seed count t = (links, rounds_later t seed (range_with_len 0 count))
+
+pub script_is : (seed count t : ℕ) → IsThread t → script_of (churn_scripts seed count) t ≡ churn_script seed count t
+script_is seed count t is =
+    elim (thread_cases t is) as (λ _. script_of (churn_scripts seed count) t ≡ churn_script seed count t) [
+      | inl one ↦ rw one refl
+      | inr more ↦ elim more as (λ _. script_of (churn_scripts seed count) t ≡ churn_script seed count t) [ inl two ↦ rw two refl | inr three ↦ rw three refl ]
+    ]
+
+pub script_none : (seed count t : ℕ) → (IsThread t → ⊥) → script_of (churn_scripts seed count) t ≡ []
+script_none seed count zero out = refl
+script_none seed count (suc t) out =
+    elim (cases_lt t 3) [
+      | inl below ↦ absurd (out (omega arith, omega arith))
+      | inr past ↦ get_or_past (churn_scripts seed count) t [] (omega arith)
+    ]
+
+nothing_of : (es : List Entry) → commands_of es ≡ [] → es ≡ []
+nothing_of [] is = refl
+nothing_of (e ∷ es) is = cc
+
+-- a history that follows the scripts begins with all of them ahead
+pub going_opening : (seed count : ℕ) (es : List Entry) → Follows (churn_scripts seed count) es → Going (opening 3) es
+going_opening seed count es follows = record {
+  ahead = λ t is. inl (refl, (Set 0 t 1 ∷ flat_map (round seed) (range_with_len 0 count), follows t ∙ script_is seed count t is, script_later seed count t));
+  others = λ t out. nothing_of (of_thread es t) (follows t ∙ script_none seed count t out);
+}

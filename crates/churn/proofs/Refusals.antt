@@ -1,0 +1,144 @@
+-- No allocation of the workload is refused: too few words are in use.
+use Rattle.std.proofs.Common.{ℕ, zero, suc, ◌≡◌, ◌-◌, ◌<◌, ◌≤◌, Bool, true, false, List, [], ◌∷◌, ◌++◌, length, get_or, Option, Some, refl, ap, ◌∙◌, sym, subst, inl, inr, arith, append_assoc}
+use Rattle.std.proofs.Math.Seq.{take-append_seam}
+use Rattle.std.specs.Prelude.{◌≢◌, ◌==◌, if◌then◌else◌, All, slice_get}
+use Rattle.std.specs.List.{AllByRecursion, flat_map, range_with_len}
+use Rattle.std.proofs.lemmas.Bool.{cases_lt}
+use Rattle.std.proofs.lemmas.List.{get_or_past}
+use Rattle.std.proofs.lemmas.List.Elements.{All-nil, All-cons}
+use Rattle.std.proofs.lemmas.List.Sums.{sum_by-le}
+use Rattle.std.proofs.lemmas.Option.{slice_get-get_or, slice_get_past}
+use Rattle.shen_graph.specs.declared.command.Command.{Command}
+use Rattle.shen_graph.specs.declared.command.Command.TheVariants.{New, Set}
+use Rattle.shen_graph.specs.declared.command.Reply.{Reply}
+use Rattle.shen_graph.specs.declared.command.Reply.TheVariants as reply
+use Rattle.shen_graph.specs.Graph.{Graph, opening}
+use Rattle.shen_graph.specs.History.{Entry, is_full, after_entry, after, EachIsLegal, of_thread, commands_of}
+use Rattle.shen_graph.specs.Crowd.{words_asked, next_command, words_open, IsCrowded, AreCrowded}
+use Rattle.churn.specs.Script.{round, churn_script, churn_scripts}
+use Rattle.churn.proofs.Parts.{Tidy, Same-itself}
+use Rattle.churn.proofs.Steps.{IsLater}
+use Rattle.churn.proofs.Steps.IsLater.{makes, writes, links, stores, drops, loads, reads, swaps, exchanges}
+use Rattle.churn.proofs.Runs.{IsGiven, Ahead, Going, going-here, entry-step}
+use Rattle.churn.proofs.Opening.{script_later}
+use Rattle.churn.proofs.Bounds.{few_live}
+
+-- a command asks for a few words
+abbrev pub AsksFew : Command → Type 0
+AsksFew c = words_asked (Some c) ≤ 19
+
+later_few : (t : ℕ) (c : Command) → IsLater t c → AsksFew c
+later_few t _ (makes refs nums few) = omega arith
+later_few t _ (writes value) = omega arith
+later_few t _ links = omega arith
+later_few t _ (stores k) = omega arith
+later_few t _ drops = omega arith
+later_few t _ (loads k) = omega arith
+later_few t _ reads = omega arith
+later_few t _ (swaps k) = omega arith
+later_few t _ (exchanges k) = omega arith
+
+all_few : (t : ℕ) (cs : List Command) → AllByRecursion (IsLater t) cs → AllByRecursion AsksFew cs
+all_few t [] h = tt
+all_few t (c ∷ cs) h = (later_few t c h.0, all_few t cs h.1)
+
+ahead_few : (g : Graph) (t : ℕ) (c : Command) (cs : List Command) → Ahead g t (c ∷ cs) → AsksFew c
+ahead_few g t c cs ahead =
+    elim ahead [
+      | inl first ↦ let is : New 1 16 0 ≡ c = cc (first.1.1) in subst AsksFew is (omega arith)
+      | inr later ↦ later_few t c later.1.0
+    ]
+
+script_few : (seed count t : ℕ) → AllByRecursion AsksFew (churn_script seed count t)
+script_few seed count t = (omega arith, all_few t (Set 0 t 1 ∷ flat_map (round seed) (range_with_len 0 count)) (script_later seed count t))
+
+scripts_few : (seed count j : ℕ) → AllByRecursion AsksFew (get_or (churn_scripts seed count) j [])
+scripts_few seed count zero = script_few seed count 1
+scripts_few seed count (suc zero) = script_few seed count 2
+scripts_few seed count (suc (suc zero)) = script_few seed count 3
+scripts_few seed count (suc (suc (suc j))) = subst (AllByRecursion AsksFew) (sym (get_or_past (churn_scripts seed count) (suc (suc (suc j))) [] (omega arith))) tt
+
+few_at : (cs : List Command) (k : ℕ) (d : Command) → AllByRecursion AsksFew cs → k < length cs → AsksFew (get_or cs k d)
+few_at [] k d h within = absurd (omega arith)
+few_at (c ∷ cs) zero d h within = h.0
+few_at (c ∷ cs) (suc k) d h within = few_at cs k d h.1 (omega arith)
+
+asked_at : (cs : List Command) (k : ℕ) → AllByRecursion AsksFew cs → words_asked (slice_get cs k) ≤ 19
+asked_at cs k h =
+    elim (cases_lt k (length cs)) [
+      | inl within ↦ subst (λ (c : Option Command). words_asked c ≤ 19) (sym (slice_get-get_or cs k (New 1 16 0) within)) (few_at cs k (New 1 16 0) h within)
+      | inr past ↦ subst (λ (c : Option Command). words_asked c ≤ 19) (sym (slice_get_past cs k past)) (omega arith)
+    ]
+
+-- what the other threads ask for
+few_open : (seed count : ℕ) (before : List Entry) (thread : ℕ) → words_open (churn_scripts seed count) before thread ≤ 57
+few_open seed count before thread =
+    let f : ℕ → ℕ = λ t. if t == thread then 0 else words_asked (next_command (churn_scripts seed count) before t) in
+    let each : All (λ t. f t ≤ 19) (range_with_len 1 3) = All-cons (λ t. f t ≤ 19) 1 (range_with_len 2 2) (one 1) (All-cons (λ t. f t ≤ 19) 2 (range_with_len 3 1) (one 2) (All-cons (λ t. f t ≤ 19) 3 [] (one 3) (All-nil (λ t. f t ≤ 19)))) in
+    let total = sum_by-le f 19 (range_with_len 1 3) each in
+    total
+  where
+    one : (t : ℕ) → (if t == thread then 0 else words_asked (next_command (churn_scripts seed count) before t)) ≤ 19
+    one t =
+        elim (t == thread) as (λ b. (if b then 0 else words_asked (next_command (churn_scripts seed count) before t)) ≤ 19) [
+          | true ↦ omega arith
+          | false ↦ asked_at (get_or (churn_scripts seed count) (t - 1) []) (length (of_thread before t)) (scripts_few seed count (t - 1))
+        ]
+
+-- an allocation is not crowded out
+not_crowded : (seed count : ℕ) (before : List Entry) (e : Entry) → Tidy (after (opening 3) before) → AsksFew e.command → IsCrowded 16 256 (opening 3) (churn_scripts seed count) before e → ⊥
+not_crowded seed count before e tidy few crowded =
+    omega (arith, few_live (after (opening 3) before) crowded.0 tidy crowded.1, few_open seed count before e.thread, crowded.2)
+
+-- two histories one after the other
+
+pub after-append : (g : Graph) (past more : List Entry) → after g (past ++ more) ≡ after (after g past) more
+after-append g [] more = refl
+after-append g (e ∷ past) more = after-append (after_entry g e) past more
+
+pub legal-append : (g : Graph) (past more : List Entry) → EachIsLegal g past → EachIsLegal (after g past) more → EachIsLegal g (past ++ more)
+legal-append g [] more legal rest = rest
+legal-append g (e ∷ past) more legal rest = (legal.0, legal-append (after_entry g e) past more legal.1 rest)
+
+full_is : (r : Reply) → is_full r ≡ true → r ≡ reply.Full
+full_is reply.Full is = refl
+full_is (reply.Ref n) is = cc
+full_is reply.Null is = cc
+full_is reply.Ok is = cc
+full_is reply.Yes is = cc
+full_is reply.No is = cc
+full_is (reply.Number n) is = cc
+full_is reply.Bad is = cc
+
+not_full_is : (r : Reply) → is_full r ≡ false → r ≢ reply.Full
+not_full_is r is full = let e : true ≡ false = ap is_full (sym full) ∙ is in cc
+
+seam : (before es : List Entry) (e : Entry) → slice_get (before ++ e ∷ es) (length before) ≡ Some e
+seam [] es e = refl
+seam (x ∷ before) es e = seam before es e
+
+-- What a history says of its refusals, from one of its places on.
+abbrev pub NoneFrom : ℕ → ℕ → List Entry → Type 0
+NoneFrom seed count es = (before : List Entry) → AreCrowded 16 256 (opening 3) (churn_scripts seed count) (before ++ es) → Tidy (after (opening 3) before)
+    → Going (after (opening 3) before) es → EachIsLegal (after (opening 3) before) es → AllByRecursion IsGiven es
+
+pub none_from : (seed count : ℕ) (es : List Entry) → NoneFrom seed count es
+none_from seed count [] before crowded tidy going legal = tt
+none_from seed count (e ∷ es) before crowded tidy going legal = by_reply (is_full e.reply) refl (none_from seed count es)
+  where
+    by_reply : (b : Bool) → is_full e.reply ≡ b → NoneFrom seed count es → AllByRecursion IsGiven (e ∷ es)
+    by_reply true is rest =
+        let g = after (opening 3) before in
+        let c = crowded (length before) e (seam before es e) (full_is e.reply is) in
+        let here : IsCrowded 16 256 (opening 3) (churn_scripts seed count) before e =
+        subst (λ (l : List Entry). IsCrowded 16 256 (opening 3) (churn_scripts seed count) l e) (take-append_seam before (e ∷ es)) c in
+        absurd (not_crowded seed count before e tidy (ahead_few g e.thread e.command (commands_of (of_thread es e.thread)) (going-here g e es going)) here)
+    by_reply false is rest =
+        let g = after (opening 3) before in
+        let given : IsGiven e = not_full_is e.reply is in
+        let w = entry-step g g e es tidy tidy (Same-itself e.thread g) going legal.0 given in
+        let now : after (opening 3) (before ++ e ∷ []) ≡ after_entry g e = after-append (opening 3) before (e ∷ []) in (
+          given,
+          rest (before ++ e ∷ []) (subst (AreCrowded 16 256 (opening 3) (churn_scripts seed count)) (sym (append_assoc before (e ∷ []) es)) crowded)
+              (subst Tidy (sym now) w.moved.tidy) (subst (λ (k : Graph). Going k es) (sym now) w.going) (subst (λ (k : Graph). EachIsLegal k es) (sym now) legal.1),
+        )

@@ -1,0 +1,5 @@
+use Rattle.churn.proofs.Turns.{one_in_turn}
+use Rattle.churn.proofs.one_in_turn.Goals as goal
+
+pub returns : goal.returns
+returns c = one_in_turn

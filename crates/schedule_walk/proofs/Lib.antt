@@ -1,0 +1,4 @@
+pub mod Stepping
+pub mod Finding
+pub mod Items
+pub mod Walking

@@ -1,0 +1,20 @@
+use Rattle.std.proofs.Common.{refl, ◌∙◌, arith}
+use Rattle.shen_core.proofs.Going.{runs_none}
+use Rattle.schedule_walk.proofs.Walking.{runs_more, runs_end}
+use Rattle.schedule_walk.proofs.walk.Walk.skip.Goals as goal
+
+pub loop-left-init : goal.loop-left-init
+loop-left-init c = record { run = c.requires.run; config = refl; walk = c.requires.walk; runs = runs_none _ _ _ _ }
+
+pub returns-in-None-clause-events : goal.returns-in-None-clause-events
+returns-in-None-clause-events c =
+    runs_end c.args.plain.now c.loop-left.plain c.next.new.plain c.args.work.now c.loop-left.work c.next.new.work _ _ _ _ c.loop-left.left c.loop-left.invariant.config c.loop-left.invariant.runs c.in-None.ensures.next
+
+pub loop-left-preserved : goal.loop-left-preserved
+loop-left-preserved c = record {
+  run = c.next.ensures.run;
+  config = c.next.ensures.config ∙ c.loop-left.invariant.config;
+  walk = c.next.ensures.walk;
+  runs = runs_more c.args.plain.now c.loop-left.plain c.next.new.plain c.args.work.now c.loop-left.work c.next.new.work _ _ _ _ _ c.loop-left.left c.loop-left.invariant.config c.loop-left.invariant.runs
+      c.in-Some.ensures.next (omega (arith, c.loop-left-test.true));
+}

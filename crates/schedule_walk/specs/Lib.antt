@@ -1,0 +1,3 @@
+pub mod Agendas
+pub mod Seen
+pub mod Nexts
