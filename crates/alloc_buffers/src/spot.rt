@@ -1,6 +1,6 @@
 ghost use Rattle.std.specs.Prelude.{◌≡◌, ◌<◌, ◌≤◌, true, false};
 ghost use Rattle.heap_words.specs.Ranges.{seat_count};
-ghost use Rattle.heap_words.specs.Access.{place_of};
+ghost use Rattle.heap_words.specs.Access.{table_index};
 ghost use Rattle.heap_words.specs.Words.{table_words};
 ghost use Rattle.steps_base.specs.Touch.{placed};
 ghost use Rattle.alloc_buffers.specs.Rows as rows;
@@ -91,7 +91,7 @@ impl TakeSpot {
         requires ready { rows.is_ready config seat words self ≡ true }
         requires busy { rows.is_ended self ≡ false }
         ensures row { result ≡ placed config (rows.touch_at seat words self) }
-        ensures inside { place_of result < table_words config }
+        ensures inside { table_index result < table_words config }
     {
         match self {
             TakeSpot::LoadCurrent => Access::Load {

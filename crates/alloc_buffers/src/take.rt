@@ -21,7 +21,7 @@ pub struct Take {
 
 impl Take {
     ghost use Rattle.std.specs.Prelude.{false, ◌↔◌};
-    ghost use Rattle.heap_words.specs.Access.{place_of};
+    ghost use Rattle.heap_words.specs.Access.{table_index};
     ghost use Rattle.heap_words.specs.Words.{table_words};
     ghost use Rattle.steps_base.specs.Touch.{placed};
     ghost use Rattle.alloc_buffers.specs.Rows.{place_at, touch_at, next_at, has_none, is_ended, says};
@@ -57,7 +57,7 @@ impl Take {
     pub fn plan(&self) -> Access
         requires { is_ended (spot_of self.now) ≡ false }
         ensures row { result ≡ placed (wanted self.now).config (touch_at (wanted self.now).seat (wanted self.now).words (spot_of self.now)) }
-        ensures inside { place_of result < table_words (wanted self.now).config }
+        ensures inside { table_index result < table_words (wanted self.now).config }
     {
         self.spot.access(self.config, self.seat, self.words)
     }

@@ -25,7 +25,7 @@ pub struct Control {
 
 impl Control {
     ghost use Rattle.std.specs.Prelude.{◌<◌, ◌≤◌, ◌↔◌, [], length, false};
-    ghost use Rattle.heap_words.specs.Access.{place_of};
+    ghost use Rattle.heap_words.specs.Access.{table_index};
     ghost use Rattle.heap_words.specs.Words.{Free, Cset, table_words, heap_size};
     ghost use Rattle.heap_world.specs.Change.{image_view};
     ghost use Rattle.image_graph.specs.State.{memory_of};
@@ -79,7 +79,7 @@ impl Control {
     pub fn plan(&self) -> Access
         requires { is_gone (seen_control self.now).spot ≡ false }
         ensures row { result ≡ control_access (config_in self.now) (seen_control self.now) }
-        ensures inside { place_of result < table_words (config_in self.now) }
+        ensures inside { table_index result < table_words (config_in self.now) }
     {
         let config = self.image.config();
         let word = match self.spot {

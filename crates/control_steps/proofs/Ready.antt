@@ -4,12 +4,12 @@ use Rattle.std.specs.Prelude.{◌==◌, nat_lt, if◌then◌else◌}
 use Rattle.std.proofs.lemmas.Bool.{and_parts, lt-ltb, ltb-true}
 use Rattle.std.proofs.lemmas.Bool.Decides.{nat_tests}
 use Rattle.heap_words.specs.declared.config.Config.{Config}
-use Rattle.heap_words.specs.Access.{place_of}
+use Rattle.heap_words.specs.Access.{table_index}
 use Rattle.heap_words.specs.Words.{is_word, word_at, table_words}
 use Rattle.heap_words.proofs.Stores.{is_word_true}
 use Rattle.heap_words.proofs.Rows.{word_inside}
 use Rattle.steps_base.specs.Touch.{Touch, placed}
-use Rattle.steps_base.proofs.Touches.{place_of-access_at}
+use Rattle.steps_base.proofs.Touches.{table_index-access_at}
 use Rattle.handshake.specs.declared.stop_spot.StopSpot.{StopSpot}
 use Rattle.handshake.specs.declared.stop_spot.StopSpot.TheVariants as stop
 use Rattle.handshake.specs.Rows.{after_seat, stop_touch}
@@ -50,8 +50,8 @@ stays_ready c seen Go got ready = refl
 stays_ready c seen Gone got ready = refl
 
 -- an access of a word of the table is inside it
-placed_inside : (c : Config) (t : Touch) → is_word c t.word ≡ true → place_of (placed c t) < table_words c
-placed_inside c t is = subst (λ k. k < table_words c) (sym (place_of-access_at (word_at c t.word) t.form)) (word_inside c t.word (is_word_true c t.word is))
+placed_inside : (c : Config) (t : Touch) → is_word c t.word ≡ true → table_index (placed c t) < table_words c
+placed_inside c t is = subst (λ k. k < table_words c) (sym (table_index-access_at (word_at c t.word) t.form)) (word_inside c t.word (is_word_true c t.word is))
 
 -- the control's are
 pub accesses_inside : AccessesAreInside

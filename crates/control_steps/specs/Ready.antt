@@ -1,7 +1,7 @@
 -- Whether the control can make its next access.
 use Rattle.std.specs.Prelude.{ℕ, ◌≡◌, ◌<◌, Bool, true, false, ◌&&◌, nat_lt, if◌then◌else◌}
 use Rattle.heap_words.specs.declared.config.Config.{Config}
-use Rattle.heap_words.specs.Access.{place_of}
+use Rattle.heap_words.specs.Access.{table_index}
 use Rattle.heap_words.specs.Words.{table_words}
 use Rattle.steps_base.specs.Fits.{touch_fits}
 use Rattle.handshake.specs.Rows.{stop_touch, is_stopped}
@@ -19,7 +19,7 @@ is_ready c _ = true
 
 -- so the access is of a word of the table
 abbrev pub AccessesAreInside : Type 0
-AccessesAreInside = (c : Config) (spot : ControlSpot) (value : ℕ) → is_ready c spot ≡ true → place_of (access_with c spot value) < table_words c
+AccessesAreInside = (c : Config) (spot : ControlSpot) (value : ℕ) → is_ready c spot ≡ true → table_index (access_with c spot value) < table_words c
 
 -- and they are in range at the next spot, whatever word is found
 abbrev pub StaysReady : Type 0

@@ -1,5 +1,5 @@
 ghost use Rattle.std.specs.Prelude.{◌≡◌, ◌<◌, ◌↔◌, true, false};
-ghost use Rattle.heap_words.specs.Access.{place_of};
+ghost use Rattle.heap_words.specs.Access.{table_index};
 ghost use Rattle.heap_words.specs.Words.{table_words};
 ghost use Rattle.heap_world.specs.Change.{image_words};
 ghost use Rattle.control_steps.specs.Rows as rows;
@@ -76,7 +76,7 @@ impl ControlSpot {
         requires ready { is_ready config self ≡ true }
         requires busy { rows.is_gone self ≡ false }
         ensures row { result ≡ rows.access_with config self word }
-        ensures inside { place_of result < table_words config }
+        ensures inside { table_index result < table_words config }
     {
         match self {
             ControlSpot::LookLeft => Access::Load {

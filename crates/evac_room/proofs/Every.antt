@@ -5,7 +5,7 @@ use Rattle.std.proofs.lemmas.Bool.Decides.{nat_tests}
 use Rattle.std.proofs.lemmas.List.{length-set, length-replicate}
 use Rattle.std.proofs.lemmas.List.Elements.{All-head, All-tail}
 use Rattle.std.proofs.lemmas.List.Sums.{count_by-le-length}
-use Rattle.heap_words.specs.Access.{place_of}
+use Rattle.heap_words.specs.Access.{table_index}
 use Rattle.steps_base.specs.Touch.{access_at}
 use Rattle.steps_base.specs.Steps.{Stage, Event, act, go, moved}
 use Rattle.steps_base.proofs.Runs.{go-none, go-first, go-append, go-keeps}
@@ -34,7 +34,7 @@ pub record Holds (word : ℕ) (copiers : List RoomSpot) : Type 0 where
   pub mine : (number : ℕ) (spot : RoomSpot) → slice_get copiers number ≡ Some spot → Mine word spot
 
 -- the table has the one word, and the invariant holds
-pub record IsSound (s : Stage RoomSpot) : Type 0 where
+pub record IsCounting (s : Stage RoomSpot) : Type 0 where
   pub one : s.words ≡ counter s ∷ []
   pub holds : Holds (counter s) s.machines
 
@@ -79,7 +79,7 @@ is_at_word s one = ap (λ ws. let x : Stage RoomSpot = record { words = ws; mach
 pub moved_one : (word : ℕ) (copiers : List RoomSpot) (number : ℕ) (spot : RoomSpot) (wish : Wish)
     → moved kind (at_word word copiers) number spot wish ≡ at_word (after word (begun spot wish)) (slice_set copiers number (next_at (begun spot wish) word))
 moved_one word copiers number spot wish =
-    ap (λ ws. let x : Stage RoomSpot = record { words = ws; machines = slice_set copiers number (next_at (begun spot wish) (slice_index (word ∷ []) (place_of (access_at 0 (form_at (begun spot wish)))))) } in x) (accessed_one (form_at (begun spot wish)) word)
+    ap (λ ws. let x : Stage RoomSpot = record { words = ws; machines = slice_set copiers number (next_at (begun spot wish) (slice_index (word ∷ []) (table_index (access_at 0 (form_at (begun spot wish)))))) } in x) (accessed_one (form_at (begun spot wish)) word)
     ∙ ap (λ got. at_word (after word (begun spot wish)) (slice_set copiers number (next_at (begun spot wish) got))) (found_one (form_at (begun spot wish)) word)
 
 pub moved_is : (s : Stage RoomSpot) (number : ℕ) (spot : RoomSpot) (wish : Wish) → s.words ≡ counter s ∷ []
@@ -88,11 +88,11 @@ moved_is s number spot wish one = ap (λ x. moved kind x number spot wish) (is_a
 
 -- what a step may do to the word
 pub record IsStep (old new : Stage RoomSpot) : Type 0 where
-  pub sound : IsSound new
+  pub sound : IsCounting new
   pub bit_stays : is_out_of_room (counter old) ≡ true → is_out_of_room (counter new) ≡ true
   pub quiet_stays : IsQuiet (counter old) → counter new ≡ counter old
 
-pub each_step : (s : Stage RoomSpot) (step : Event Wish) → IsSound s → IsStep s (act kind s step)
+pub each_step : (s : Stage RoomSpot) (step : Event Wish) → IsCounting s → IsStep s (act kind s step)
 each_step s step sound = act_cases kind (λ x. IsStep s x) s step
     (record { sound = sound; bit_stays = λ h. h; quiet_stays = λ q. refl })
     (λ spot here takes.
@@ -107,7 +107,7 @@ each_step s step sound = act_cases kind (λ x. IsStep s x) s step
       quiet_stays = kept.quiet_stays;
     }))
 
-pub opening_sound : (copiers : ℕ) → IsFew copiers → IsSound (opening copiers)
+pub opening_sound : (copiers : ℕ) → IsFew copiers → IsCounting (opening copiers)
 opening_sound copiers few = record {
   one = refl;
   holds = record {
@@ -119,19 +119,19 @@ opening_sound copiers few = record {
 }
 
 -- each list of steps keeps the invariant
-pub run_sound : (s : Stage RoomSpot) (steps : List (Event Wish)) → IsSound s → IsSound (go kind s steps)
-run_sound s steps sound = go-keeps kind IsSound (λ x step before. (each_step x step before).sound) s steps sound
+pub run_sound : (s : Stage RoomSpot) (steps : List (Event Wish)) → IsCounting s → IsCounting (go kind s steps)
+run_sound s steps sound = go-keeps kind IsCounting (λ x step before. (each_step x step before).sound) s steps sound
 
-pub reached_sound : (copiers : ℕ) (steps : List (Event Wish)) → IsFew copiers → IsSound (reached copiers steps)
+pub reached_sound : (copiers : ℕ) (steps : List (Event Wish)) → IsFew copiers → IsCounting (reached copiers steps)
 reached_sound copiers steps few = run_sound (opening copiers) steps (opening_sound copiers few)
 
 -- what stays from one stage to all that follow
 pub record IsLater (old : ℕ) (s : Stage RoomSpot) : Type 0 where
-  pub sound : IsSound s
+  pub sound : IsCounting s
   pub bit_stays : is_out_of_room old ≡ true → is_out_of_room (counter s) ≡ true
   pub quiet_stays : IsQuiet old → counter s ≡ old
 
-pub later_more : (s : Stage RoomSpot) (more : List (Event Wish)) → IsSound s → IsLater (counter s) (go kind s more)
+pub later_more : (s : Stage RoomSpot) (more : List (Event Wish)) → IsCounting s → IsLater (counter s) (go kind s more)
 later_more s more sound = go-keeps kind (λ x. IsLater (counter s) x)
     (λ x step before. let next = each_step x step before.sound in record {
       sound = next.sound;
@@ -146,7 +146,7 @@ later_reached copiers steps more few =
     (later_more (reached copiers steps) more (reached_sound copiers steps few))
 
 -- what an answer says, of a sound stage
-pub answer_says : (s : Stage RoomSpot) (step : Event Wish) (answer : Copying) → IsSound s → answer_to s step ≡ Some answer → Says (counter s) answer
+pub answer_says : (s : Stage RoomSpot) (step : Event Wish) (answer : Copying) → IsCounting s → answer_to s step ≡ Some answer → Says (counter s) answer
 answer_says s step answer sound = by_machine (slice_get s.machines step.number) refl
   where
     by_takes : (spot : RoomSpot) (b : Bool) → slice_get s.machines step.number ≡ Some spot → takes_at spot step.order ≡ b
@@ -167,7 +167,7 @@ inside_by_answer Done Inside is = refl
 inside_by_answer Done _ is = absurd (cc (is))
 inside_by_answer _ next is = absurd (cc (is))
 
-pub act_inside : (s : Stage RoomSpot) (step : Event Wish) → IsSound s → answer_to s step ≡ Some copying.Inside → slice_get (act kind s step).machines step.number ≡ Some Inside
+pub act_inside : (s : Stage RoomSpot) (step : Event Wish) → IsCounting s → answer_to s step ≡ Some copying.Inside → slice_get (act kind s step).machines step.number ≡ Some Inside
 act_inside s step sound = by_machine (slice_get s.machines step.number) refl
   where
     by_takes : (spot : RoomSpot) (b : Bool) → slice_get s.machines step.number ≡ Some spot → takes_at spot step.order ≡ b

@@ -21,12 +21,12 @@ use Rattle.evac_room.specs.Rows.{next_at, IsFit}
 use Rattle.evac_room.specs.Core.{takes_at, begun, kind, opening, IsFew, copying_at, answer_to}
 use Rattle.evac_room.specs.Copier.{spot_of}
 use Rattle.evac_room.proofs.Steps.{after, IsKept, Says, each_keeps, each_says, each_fits}
-use Rattle.evac_room.proofs.Every.{at_word, moved_one, IsSound, reached_sound, can_step}
+use Rattle.evac_room.proofs.Every.{at_word, moved_one, IsCounting, reached_sound, can_step}
 
 -- what follows from a sound stage, and has one proof at most, follows of each stage that memory may have
-pub from_memory : {P : Type 0} → IsProp P → (copiers : ℕ) (s : Stage RoomSpot) → IsFew copiers → ∥ IsReached kind (opening copiers) s ∥₁ → (IsSound s → P) → P
+pub from_memory : {P : Type 0} → IsProp P → (copiers : ℕ) (s : Stage RoomSpot) → IsFew copiers → ∥ IsReached kind (opening copiers) s ∥₁ → (IsCounting s → P) → P
 from_memory prop copiers s few some follows =
-    ∥∥₁_elim some prop (λ one. follows (reached_has kind IsSound (opening copiers) s (λ steps. reached_sound copiers steps few) one))
+    ∥∥₁_elim some prop (λ one. follows (reached_has kind IsCounting (opening copiers) s (λ steps. reached_sound copiers steps few) one))
 
 pub IsFit-prop : (spot : RoomSpot) (word : ℕ) → IsProp (IsFit spot word)
 IsFit-prop Lower word = hlevel (le_prop)
@@ -82,20 +82,20 @@ module _ (word made : ℕ) (copiers : List Copier) (number : ℕ) (x y : Copier)
   made_answer answer is = rw (step.here, step.takes) (ap (λ a. Some a) (sym is))
 
   -- what the step keeps, and what its answer says
-  pub made_keeps : IsSound (at_word word (map spot_of copiers)) → IsKept word (begun (spot_of x) wish) made (spot_of y)
+  pub made_keeps : IsCounting (at_word word (map spot_of copiers)) → IsKept word (begun (spot_of x) wish) made (spot_of y)
   made_keeps sound =
       subst (λ spot. IsKept word (begun (spot_of x) wish) made spot) (sym step.spot_is)
       (subst (λ w. IsKept word (begun (spot_of x) wish) w (next_at (begun (spot_of x) wish) word)) (sym step.word_is)
       (each_keeps word (begun (spot_of x) wish) (can_step word (map spot_of copiers) number (spot_of x) wish sound.holds step.here step.takes)))
 
-  pub made_says : (answer : Copying) → answer ≡ copying_at (begun (spot_of x) wish) word → IsSound (at_word word (map spot_of copiers)) → Says word answer
+  pub made_says : (answer : Copying) → answer ≡ copying_at (begun (spot_of x) wish) word → IsCounting (at_word word (map spot_of copiers)) → Says word answer
   made_says answer is sound =
       subst (λ a. Says word a) (sym is)
       (each_says word (begun (spot_of x) wish) (can_step word (map spot_of copiers) number (spot_of x) wish sound.holds step.here step.takes))
 
 -- the word that a copier finds is fit
 pub found_fits : (word : ℕ) (copiers : List Copier) (number : ℕ) (x : Copier) (wish : Wish) → slice_get (map spot_of copiers) number ≡ Some (spot_of x) → takes_at (spot_of x) wish ≡ true
-    → IsSound (at_word word (map spot_of copiers)) → IsFit (begun (spot_of x) wish) word
+    → IsCounting (at_word word (map spot_of copiers)) → IsFit (begun (spot_of x) wish) word
 found_fits word copiers number x wish here takes sound =
     each_fits word (begun (spot_of x) wish) (can_step word (map spot_of copiers) number (spot_of x) wish sound.holds here takes)
 

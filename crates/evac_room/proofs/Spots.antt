@@ -2,7 +2,7 @@
 use Rattle.std.proofs.Common.{◌≡◌, ℕ, ◌+◌, ◌≤◌, true, false, cond, List, [], ◌∷◌, Some, zero, suc, refl, ap, arith}
 use Rattle.std.specs.Prelude.{slice_get, slice_set, slice_index, replicate}
 use Rattle.std.proofs.lemmas.List.Sums.{sum_by-cons}
-use Rattle.heap_words.specs.Access.{place_of}
+use Rattle.heap_words.specs.Access.{table_index}
 use Rattle.steps_base.specs.Steps.{accessed}
 use Rattle.steps_base.specs.Touch.{Form, loads, formed, access_at}
 use Rattle.evac_room.specs.declared.wish.Wish.{Wish}
@@ -75,6 +75,6 @@ pub accessed_one : (form : Form) (word : ℕ) → accessed (access_at 0 form) (w
 accessed_one loads word = refl
 accessed_one _ word = refl
 
-pub found_one : (form : Form) (word : ℕ) → slice_index (word ∷ []) (place_of (access_at 0 form)) ≡ word
+pub found_one : (form : Form) (word : ℕ) → slice_index (word ∷ []) (table_index (access_at 0 form)) ≡ word
 found_one loads word = refl
 found_one _ word = refl

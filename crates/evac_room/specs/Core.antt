@@ -2,7 +2,7 @@
 use Rattle.std.specs.Prelude.{ℕ, ◌≢◌, ◌≤◌, Bool, true, false, List, [], ◌∷◌, Option, Some, None, All, replicate, count_by, slice_get, slice_index, if◌then◌else◌}
 use Rattle.heap_words.specs.declared.access.Took.{Took}
 use Rattle.heap_words.specs.declared.access.Took.TheVariants as took
-use Rattle.steps_base.specs.Steps.{Kind, Stage, Event, go}
+use Rattle.steps_base.specs.Steps.{MachineKind, Stage, Event, go}
 use Rattle.steps_base.specs.Touch.{access_at}
 use Rattle.evac_room.specs.declared.wish.Wish.{Wish}
 use Rattle.evac_room.specs.declared.wish.Wish.TheVariants.{Enter, Leave, NoRoom}
@@ -33,7 +33,7 @@ begun Inside NoRoom = Ask
 begun spot wish = spot
 
 -- copiers as machines over one word, under wishes
-abbrev pub kind : Kind RoomSpot Wish
+abbrev pub kind : MachineKind RoomSpot Wish
 kind = record {
   takes = takes_at;
   plan = λ spot wish. access_at 0 (form_at (begun spot wish));

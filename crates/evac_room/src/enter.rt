@@ -17,7 +17,7 @@ pub struct EnterEvac {
 
 impl EnterEvac {
     ghost use Rattle.std.specs.Prelude.{false, Some, ◌↔◌, ◌<◌};
-    ghost use Rattle.heap_words.specs.Access.{place_of};
+    ghost use Rattle.heap_words.specs.Access.{table_index};
     ghost use Rattle.heap_words.specs.Words.{table_words};
     ghost use Rattle.evac_room.specs.Counter.{IsQuiet};
     ghost use Rattle.evac_room.specs.Spot.{is_at_rest};
@@ -54,7 +54,7 @@ impl EnterEvac {
     pub fn plan(&self) -> Access
         requires { is_at_rest (spot_of_enter self.now) ≡ false }
         ensures row { result ≡ access_of (config_of_enter self.now) (spot_of_enter self.now) }
-        ensures inside { place_of result < table_words (config_of_enter self.now) }
+        ensures inside { table_index result < table_words (config_of_enter self.now) }
     {
         self.spot.access(self.config)
     }

@@ -14,7 +14,7 @@ pub struct LeaveEvac {
 
 impl LeaveEvac {
     ghost use Rattle.std.specs.Prelude.{false, ◌<◌};
-    ghost use Rattle.heap_words.specs.Access.{place_of};
+    ghost use Rattle.heap_words.specs.Access.{table_index};
     ghost use Rattle.heap_words.specs.Words.{table_words};
     ghost use Rattle.evac_room.specs.Spot.{is_at_rest};
     ghost use Rattle.evac_room.specs.Rows.{place_at, access_of, next_at, answer_at, IsFit};
@@ -50,7 +50,7 @@ impl LeaveEvac {
     pub fn plan(&self) -> Access
         requires { is_at_rest (spot_of_leave self.now) ≡ false }
         ensures row { result ≡ access_of (config_of_leave self.now) (spot_of_leave self.now) }
-        ensures inside { place_of result < table_words (config_of_leave self.now) }
+        ensures inside { table_index result < table_words (config_of_leave self.now) }
     {
         self.spot.access(self.config)
     }

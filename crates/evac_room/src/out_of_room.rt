@@ -15,7 +15,7 @@ pub struct OutOfRoom {
 
 impl OutOfRoom {
     ghost use Rattle.std.specs.Prelude.{false, ◌<◌, ◌↔◌};
-    ghost use Rattle.heap_words.specs.Access.{place_of};
+    ghost use Rattle.heap_words.specs.Access.{table_index};
     ghost use Rattle.heap_words.specs.Words.{table_words};
     ghost use Rattle.evac_room.specs.Counter.{count_of as counted_in};
     ghost use Rattle.evac_room.specs.Spot.{is_at_rest};
@@ -52,7 +52,7 @@ impl OutOfRoom {
     pub fn plan(&self) -> Access
         requires { is_at_rest (spot_of_stop self.now) ≡ false }
         ensures row { result ≡ access_of (config_of_stop self.now) (spot_of_stop self.now) }
-        ensures inside { place_of result < table_words (config_of_stop self.now) }
+        ensures inside { table_index result < table_words (config_of_stop self.now) }
     {
         self.spot.access(self.config)
     }

@@ -1,5 +1,5 @@
 ghost use Rattle.std.specs.Prelude.{◌≡◌, ◌<◌, true, false};
-ghost use Rattle.heap_words.specs.Access.{place_of};
+ghost use Rattle.heap_words.specs.Access.{table_index};
 ghost use Rattle.heap_words.specs.Words.{table_words};
 ghost use Rattle.evac_room.specs.Spot as spots;
 ghost use Rattle.evac_room.specs.Rows as rows;
@@ -66,7 +66,7 @@ impl RoomSpot {
         requires busy { spots.is_at_rest self ≡ false }
         requires clear { spots.raises_clear self ≡ true }
         ensures row { result ≡ rows.access_of config self }
-        ensures inside { place_of result < table_words config }
+        ensures inside { table_index result < table_words config }
     {
         let at = config.evac_at();
         match self {

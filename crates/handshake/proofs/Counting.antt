@@ -5,11 +5,11 @@ use Rattle.std.proofs.lemmas.List.{length-set}
 use Rattle.std.proofs.lemmas.List.Sums.{count_by-le-length, sum_by-cons}
 use Rattle.heap_words.specs.declared.config.Config.{Config}
 use Rattle.heap_words.specs.declared.access.Access.{Access}
-use Rattle.heap_words.specs.Access.{place_of}
+use Rattle.heap_words.specs.Access.{table_index}
 use Rattle.heap_words.specs.Words.{Left, word_at, view}
 use Rattle.heap_words.proofs.Stores.{view_set}
 use Rattle.steps_base.specs.Touch.{touch, subtracts, placed}
-use Rattle.steps_base.specs.Steps.{Kind, Stage, Event, act, go, accessed}
+use Rattle.steps_base.specs.Steps.{MachineKind, Stage, Event, act, go, accessed}
 use Rattle.steps_base.proofs.Runs.{go-none, go-first}
 use Rattle.steps_base.proofs.Laws.{act_cases}
 use Rattle.handshake.specs.Obeys.{is_load}
@@ -74,22 +74,22 @@ module _ {R : Type 0} (c : Config) (left : R → Bool) (s : Stage R) (counted : 
   counts_step access next got (inl ends) is = one_less access ends.access_is ends.was_left (is ∙ ends.has_ended got)
   counts_step access next got (inr leaves) is = same_count access (unwritten leaves.not_written) (is ∙ leaves.same got)
     where
-      unwritten : (is_load access ≡ true) ⊎ (place_of access ≢ word_at c Left) → view c (accessed access s.words) Left ≡ view c s.words Left
+      unwritten : (is_load access ≡ true) ⊎ (table_index access ≢ word_at c Left) → view c (accessed access s.words) Left ≡ view c s.words Left
       unwritten (inl reads) = ap (λ ws. view c ws Left) (accessed-load s.words access reads)
-      unwritten (inr other) = get_or-set_other s.words (place_of access) (word_at c Left) _ 0 (λ e. other (sym e))
+      unwritten (inr other) = get_or-set_other s.words (table_index access) (word_at c Left) _ 0 (λ e. other (sym e))
 
-module _ {R O : Type 0} (c : Config) (kind : Kind R O) (left : R → Bool) where
+module _ {R O : Type 0} (c : Config) (kind : MachineKind R O) (left : R → Bool) where
   -- an event that counts keeps the count
   pub counted_step : (s : Stage R) (e : Event O) → IsCounted c left s → EventCounts c kind left s e → IsCounted c left (act kind s e)
   counted_step s e counted counts = act_cases kind (λ x. IsCounted c left x) s e counted
-      (λ r here takes. (counts_step c left s counted e.number r (kind.took r e.order (slice_index s.words (place_of (kind.plan r e.order)))) here (kind.plan r e.order)
+      (λ r here takes. (counts_step c left s counted e.number r (kind.took r e.order (slice_index s.words (table_index (kind.plan r e.order)))) here (kind.plan r e.order)
       (λ got. left (kind.took r e.order got)) _
       (counts r (record { here = here; takes = takes })) refl).holds)
 
   -- once all have ended it goes on so
   pub none_step : (s : Stage R) (e : Event O) → IsCounted c left s → EventCounts c kind left s e → view c s.words Left ≡ 0 → view c (act kind s e).words Left ≡ 0
   none_step s e counted counts none = act_cases kind (λ x. view c x.words Left ≡ 0) s e none
-      (λ r here takes. (counts_step c left s counted e.number r (kind.took r e.order (slice_index s.words (place_of (kind.plan r e.order)))) here (kind.plan r e.order)
+      (λ r here takes. (counts_step c left s counted e.number r (kind.took r e.order (slice_index s.words (table_index (kind.plan r e.order)))) here (kind.plan r e.order)
       (λ got. left (kind.took r e.order got)) _
       (counts r (record { here = here; takes = takes })) refl).none_stays none)
 

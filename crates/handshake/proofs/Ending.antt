@@ -6,11 +6,11 @@ use Rattle.std.proofs.lemmas.List.{length-set}
 use Rattle.std.proofs.lemmas.Option.{same_Some}
 use Rattle.heap_words.specs.declared.config.Config.{Config}
 use Rattle.heap_words.specs.declared.access.Access.{Access}
-use Rattle.heap_words.specs.Access.{place_of}
+use Rattle.heap_words.specs.Access.{table_index}
 use Rattle.heap_words.specs.Words.{End, word_at, view}
 use Rattle.heap_words.proofs.Stores.{view_set}
 use Rattle.steps_base.specs.Touch.{touch, stores, placed}
-use Rattle.steps_base.specs.Steps.{Kind, Stage, Event, act, go, accessed}
+use Rattle.steps_base.specs.Steps.{MachineKind, Stage, Event, act, go, accessed}
 use Rattle.steps_base.proofs.Places.{slice_get-set_same, slice_get-set_other}
 use Rattle.steps_base.proofs.Runs.{go-none, go-first}
 use Rattle.steps_base.proofs.Laws.{act_cases}
@@ -58,15 +58,15 @@ module _ {R : Type 0} (c : Config) (ended : R → Bool) (s : Stage R) (known : I
   keeps_step access next got (inl says) is = says_end access says.access_is (is ∙ says.has_ended got)
   keeps_step access next got (inr leaves) is = same_end access (unwritten leaves.not_written) (is ∙ leaves.same got)
     where
-      unwritten : (is_load access ≡ true) ⊎ (place_of access ≢ word_at c End) → view c (accessed access s.words) End ≡ view c s.words End
+      unwritten : (is_load access ≡ true) ⊎ (table_index access ≢ word_at c End) → view c (accessed access s.words) End ≡ view c s.words End
       unwritten (inl reads) = ap (λ ws. view c ws End) (accessed-load s.words access reads)
-      unwritten (inr other) = get_or-set_other s.words (place_of access) (word_at c End) _ 0 (λ e. other (sym e))
+      unwritten (inr other) = get_or-set_other s.words (table_index access) (word_at c End) _ 0 (λ e. other (sym e))
 
-module _ {R O : Type 0} (c : Config) (kind : Kind R O) (ended : R → Bool) where
+module _ {R O : Type 0} (c : Config) (kind : MachineKind R O) (ended : R → Bool) where
   -- so does an event
   pub known_step : (s : Stage R) (e : Event O) → IsEndWord c ended s → EventKeepsEnd c kind ended s e → IsEndWord c ended (act kind s e)
   known_step s e known keeps = act_cases kind (λ x. IsEndWord c ended x) s e known
-      (λ r here takes. keeps_step c ended s known e.number r (kind.took r e.order (slice_index s.words (place_of (kind.plan r e.order)))) here (kind.plan r e.order)
+      (λ r here takes. keeps_step c ended s known e.number r (kind.took r e.order (slice_index s.words (table_index (kind.plan r e.order)))) here (kind.plan r e.order)
       (λ got. ended (kind.took r e.order got)) _
       (keeps r (record { here = here; takes = takes })) refl)
 

@@ -4,11 +4,11 @@ use Rattle.std.specs.Prelude.{nat_eq, if◌then◌else◌}
 use Rattle.std.proofs.lemmas.Bool.{cond-false, ne_eqb, leb-true}
 use Rattle.heap_words.specs.declared.config.Config.{Config}
 use Rattle.heap_words.specs.declared.access.Access.{Access}
-use Rattle.heap_words.specs.Access.{place_of}
+use Rattle.heap_words.specs.Access.{table_index}
 use Rattle.heap_words.specs.Words.{Word, Pause, Left, State, IsWord, is_image, word_at, image_start}
 use Rattle.heap_words.proofs.Rows.{words_differ, is_image-word_at}
 use Rattle.steps_base.specs.Touch.{Touch, placed}
-use Rattle.steps_base.proofs.Touches.{place_of-access_at}
+use Rattle.steps_base.proofs.Touches.{table_index-access_at}
 use Rattle.handshake.specs.declared.enter_spot.EnterSpot.{EnterSpot}
 use Rattle.handshake.specs.declared.enter_spot.EnterSpot.TheVariants as enter
 use Rattle.handshake.specs.declared.stop_spot.StopSpot.{StopSpot}
@@ -18,19 +18,19 @@ use Rattle.handshake.specs.Standing.{Standing, outside, looks, backs, inside, le
 use Rattle.handshake.specs.Obeys.{IsElsewhere, Obeys, RowsObey}
 
 -- an access of a word of the image is elsewhere
-pub image_elsewhere : (c : Config) (access : Access) → image_start c ≤ place_of access → IsElsewhere c access
+pub image_elsewhere : (c : Config) (access : Access) → image_start c ≤ table_index access → IsElsewhere c access
 image_elsewhere c access above = record {
   not_pause = λ e. omega (arith, above, e);
   not_state = λ seat below e. omega (arith, above, below, e);
 }
 
 -- an access by the name of a word of the image is of the image
-pub placed_above : (c : Config) (t : Touch) → IsWord c t.word → is_image t.word ≡ true → image_start c ≤ place_of (placed c t)
+pub placed_above : (c : Config) (t : Touch) → IsWord c t.word → is_image t.word ≡ true → image_start c ≤ table_index (placed c t)
 placed_above c t is_word image =
-    subst (λ n. image_start c ≤ n) (sym (place_of-access_at (word_at c t.word) t.form)) (leb-true _ _ (sym (is_image-word_at c t.word is_word) ∙ image))
+    subst (λ n. image_start c ≤ n) (sym (table_index-access_at (word_at c t.word) t.form)) (leb-true _ _ (sym (is_image-word_at c t.word is_word) ∙ image))
 
 -- and is not of the count of mutators
-pub image_not_left : (c : Config) (access : Access) → image_start c ≤ place_of access → place_of access ≢ word_at c Left
+pub image_not_left : (c : Config) (access : Access) → image_start c ≤ table_index access → table_index access ≢ word_at c Left
 image_not_left c access above e = omega (arith, above, e)
 
 -- whether a word is not one of the handshake
@@ -46,8 +46,8 @@ placed_elsewhere c t is_word other = record {
   not_state = λ seat below e. absurd (cc (other, ap is_other (words_differ c t.word (State seat) is_word below (sym at ∙ e))));
 }
   where
-    at : place_of (placed c t) ≡ word_at c t.word
-    at = place_of-access_at (word_at c t.word) t.form
+    at : table_index (placed c t) ≡ word_at c t.word
+    at = table_index-access_at (word_at c t.word) t.form
 
 -- What a step obeys, it obeys by any names of its next spots.
 pub obeys_same : (c : Config) (seat : ℕ) (w : Standing) (access : Access) (next other : ℕ → Standing) → ((got : ℕ) → other got ≡ next got) → Obeys c seat w access next → Obeys c seat w access other

@@ -6,11 +6,11 @@ use Rattle.std.proofs.lemmas.Bool.Decides.{nat_tests}
 use Rattle.std.proofs.lemmas.List.{length-set}
 use Rattle.heap_words.specs.declared.config.Config.{Config}
 use Rattle.heap_words.specs.declared.access.Access.{Access}
-use Rattle.heap_words.specs.Access.{place_of}
+use Rattle.heap_words.specs.Access.{table_index}
 use Rattle.heap_words.specs.Words.{Pause, State, view}
 use Rattle.heap_words.proofs.Stores.{view_word}
 use Rattle.steps_base.specs.Touch.{touch, stores, placed}
-use Rattle.steps_base.specs.Steps.{Kind, Stage, Event, act, go, accessed}
+use Rattle.steps_base.specs.Steps.{MachineKind, Stage, Event, act, go, accessed}
 use Rattle.steps_base.proofs.Runs.{go-none, go-first}
 use Rattle.steps_base.proofs.Laws.{act_cases}
 use Rattle.handshake.specs.declared.stop_spot.StopSpot.TheVariants.{Check, Stopped}
@@ -116,7 +116,7 @@ module _ {R : Type 0} (c : Config) (standing : R → Standing) (s : Stage R) (sh
 
   -- the word that the access finds
   abbrev found : Access → ℕ
-  found access = slice_index s.words (place_of access)
+  found access = slice_index s.words (table_index access)
 
   -- a mutator or helper that makes no store into its state word
   quiet_keeps : (access : Access) → number < control_seat c → KeepsWords c s.words (accessed access s.words) → IsSeated c number (standing new)
@@ -311,11 +311,11 @@ module _ {R : Type 0} (c : Config) (standing : R → Standing) (s : Stage R) (sh
   pub step_keeps : (access : Access) (next : ℕ → Standing) → Obeys c number (standing old) access next → standing new ≡ next (found access) → IsShaken c standing (after access)
   step_keeps access next obeys is = obeys_keeps access next (standing old) refl (shaken.seated number old here) obeys is
 
-module _ {R O : Type 0} (c : Config) (kind : Kind R O) (standing : R → Standing) where
+module _ {R O : Type 0} (c : Config) (kind : MachineKind R O) (standing : R → Standing) where
   -- an event that obeys keeps the handshake
   pub shaken_step : (s : Stage R) (e : Event O) → IsShaken c standing s → EventObeys c kind standing s e → IsShaken c standing (act kind s e)
   shaken_step s e shaken obeys = act_cases kind (λ x. IsShaken c standing x) s e shaken
-      (λ r here takes. step_keeps c standing s shaken e.number r (kind.took r e.order (slice_index s.words (place_of (kind.plan r e.order)))) here (kind.plan r e.order)
+      (λ r here takes. step_keeps c standing s shaken e.number r (kind.took r e.order (slice_index s.words (table_index (kind.plan r e.order)))) here (kind.plan r e.order)
       (λ got. standing (kind.took r e.order got))
       (obeys r (record { here = here; takes = takes })) refl)
 

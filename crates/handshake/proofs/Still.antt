@@ -3,10 +3,10 @@ use Rattle.std.proofs.Common.{◌≡◌, ℕ, ◌<◌, Bool, true, false, Some, 
 use Rattle.std.specs.Prelude.{slice_get, ◌⊎◌}
 use Rattle.heap_words.specs.declared.config.Config.{Config}
 use Rattle.heap_words.specs.declared.access.Access.{Access}
-use Rattle.heap_words.specs.Access.{place_of}
+use Rattle.heap_words.specs.Access.{table_index}
 use Rattle.heap_words.specs.Words.{State, image_start}
 use Rattle.steps_base.specs.Touch.{touch, stores, placed}
-use Rattle.steps_base.specs.Steps.{Kind, Stage}
+use Rattle.steps_base.specs.Steps.{MachineKind, Stage}
 use Rattle.handshake.specs.Standing.{Standing, outside, looks, backs, inside, leaves, idle, stops, checks, works, goes, is_within, is_pausing, IsSeated, control_seat}
 use Rattle.handshake.specs.Obeys.{is_load, IsHarmless, Obeys}
 use Rattle.handshake.specs.Shaken.{IsShaken, IsPausing, IsStill}
@@ -14,11 +14,11 @@ use Rattle.handshake.proofs.Shaking.{pausing_checked}
 
 -- an access to a word of the image, if it is one, only reads
 abbrev pub OnlyReads : Config → Access → Type 0
-OnlyReads c access = (is_load access ≡ true) ⊎ (place_of access < image_start c)
+OnlyReads c access = (is_load access ≡ true) ⊎ (table_index access < image_start c)
 
 -- a store into the state word of a mutator or helper is of no word of the image
 state_below : (c : Config) (access : Access) (seat value : ℕ) → seat < control_seat c → access ≡ placed c (touch (State seat) (stores value)) → OnlyReads c access
-state_below c access seat value below is = inr (subst (λ a. place_of a < image_start c) (sym is) (omega (arith, below)))
+state_below c access seat value below is = inr (subst (λ a. table_index a < image_start c) (sym is) (omega (arith, below)))
 
 -- a machine that is not in the heap, of a mutator or helper, only reads the image
 pub without_reads : (c : Config) (seat : ℕ) (w : Standing) (access : Access) (next : ℕ → Standing) → seat < control_seat c → IsSeated c seat w → is_within w ≡ false → Obeys c seat w access next
@@ -52,7 +52,7 @@ module _ {R : Type 0} (c : Config) (standing : R → Standing) (s : Stage R) (sh
       by_test true pausing = absurd (cc (within, pause_empty pausing seat r below there))
       by_test false free = refl
 
-module _ {R O : Type 0} (c : Config) (kind : Kind R O) (standing : R → Standing) where
+module _ {R O : Type 0} (c : Config) (kind : MachineKind R O) (standing : R → Standing) where
   pub pause_still : (s : Stage R) → IsShaken c standing s → IsPausing c standing s → IsStill c kind standing s
   pause_still s shaken pausing = record {
     nobody = empty;

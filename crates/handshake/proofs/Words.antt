@@ -5,7 +5,7 @@ use Rattle.std.proofs.lemmas.List.{length-set, set-get_or}
 use Rattle.heap_words.specs.declared.config.Config.{Config}
 use Rattle.heap_words.specs.declared.access.Access.{Access}
 use Rattle.heap_words.specs.declared.access.Access.TheVariants.{Load}
-use Rattle.heap_words.specs.Access.{place_of}
+use Rattle.heap_words.specs.Access.{table_index}
 use Rattle.heap_words.specs.Words.{Pause, State, word_at, table_words, view}
 use Rattle.heap_words.proofs.Stores.{view_word, view_set}
 use Rattle.steps_base.specs.Touch.{touch, stores, placed}
@@ -23,10 +23,10 @@ pub record KeepsWords (c : Config) (old new : List ℕ) : Type 0 where
 pub elsewhere_keeps : (c : Config) (words : List ℕ) (access : Access) → IsElsewhere c access → KeepsWords c words (accessed access words)
 elsewhere_keeps c words access is = record {
   long = length-set _ _ _;
-  pause = get_or-set_other words (place_of access) (word_at c Pause) _ 0 (λ e. is.not_pause (sym e));
+  pause = get_or-set_other words (table_index access) (word_at c Pause) _ 0 (λ e. is.not_pause (sym e));
   states = λ seat below.
       view_word c _ (State seat) below
-      ∙ get_or-set_other words (place_of access) (word_at c (State seat)) _ 0 (λ e. is.not_state seat below (sym e))
+      ∙ get_or-set_other words (table_index access) (word_at c (State seat)) _ 0 (λ e. is.not_state seat below (sym e))
       ∙ sym (view_word c words (State seat) below);
 }
 

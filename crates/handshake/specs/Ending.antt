@@ -2,10 +2,10 @@
 use Rattle.std.specs.Prelude.{ℕ, ◌≡◌, ◌≢◌, Bool, true, false, List, [], ◌∷◌, length, ◌⊎◌, Some, slice_get}
 use Rattle.heap_words.specs.declared.config.Config.{Config}
 use Rattle.heap_words.specs.declared.access.Access.{Access}
-use Rattle.heap_words.specs.Access.{place_of}
+use Rattle.heap_words.specs.Access.{table_index}
 use Rattle.heap_words.specs.Words.{End, word_at, table_words, view}
 use Rattle.steps_base.specs.Touch.{touch, stores, placed}
-use Rattle.steps_base.specs.Steps.{Kind, Stage, Event, IsEvent, act}
+use Rattle.steps_base.specs.Steps.{MachineKind, Stage, Event, IsEvent, act}
 use Rattle.handshake.specs.Obeys.{is_load}
 
 -- a machine that ends, and says so
@@ -15,7 +15,7 @@ pub record SaysEnd (c : Config) (access : Access) (after : ℕ → Bool) : Type 
 
 -- a machine that leaves the word as it is, and does not end
 pub record LeavesEnd (c : Config) (before : Bool) (access : Access) (after : ℕ → Bool) : Type 0 where
-  pub not_written : (is_load access ≡ true) ⊎ (place_of access ≢ word_at c End)
+  pub not_written : (is_load access ≡ true) ⊎ (table_index access ≢ word_at c End)
   pub same : (got : ℕ) → after got ≡ before
 
 -- what a step has to obey: by its access, and by whether its machine has ended before and after it
@@ -23,11 +23,11 @@ abbrev pub KeepsEnd : Config → Bool → Access → (ℕ → Bool) → Type 0
 KeepsEnd c before access after = SaysEnd c access after ⊎ LeavesEnd c before access after
 
 -- an event does so, if it is one
-abbrev pub EventKeepsEnd : {R O : Type 0} → Config → Kind R O → (R → Bool) → Stage R → Event O → Type 0
+abbrev pub EventKeepsEnd : {R O : Type 0} → Config → MachineKind R O → (R → Bool) → Stage R → Event O → Type 0
 EventKeepsEnd {R} c kind ended s e = (r : R) → IsEvent kind s e r → KeepsEnd c (ended r) (kind.plan r e.order) (λ got. ended (kind.took r e.order got))
 
 -- each event of a run does so, where it is made
-abbrev pub EachKeepsEnd : {R O : Type 0} → Config → Kind R O → (R → Bool) → Stage R → List (Event O) → Type 0
+abbrev pub EachKeepsEnd : {R O : Type 0} → Config → MachineKind R O → (R → Bool) → Stage R → List (Event O) → Type 0
 EachKeepsEnd c kind ended s [] = Unit {0}
 EachKeepsEnd c kind ended s (e ∷ es) = EventKeepsEnd c kind ended s e × EachKeepsEnd c kind ended (act kind s e) es
 

@@ -2,10 +2,10 @@
 use Rattle.std.specs.Prelude.{ℕ, ◌≡◌, ◌≢◌, ◌≤◌, Bool, true, false, List, [], ◌∷◌, length, count_by, ◌⊎◌}
 use Rattle.heap_words.specs.declared.config.Config.{Config}
 use Rattle.heap_words.specs.declared.access.Access.{Access}
-use Rattle.heap_words.specs.Access.{place_of}
+use Rattle.heap_words.specs.Access.{table_index}
 use Rattle.heap_words.specs.Words.{Left, word_at, table_words, view}
 use Rattle.steps_base.specs.Touch.{touch, subtracts, placed}
-use Rattle.steps_base.specs.Steps.{Kind, Stage, Event, IsEvent, act}
+use Rattle.steps_base.specs.Steps.{MachineKind, Stage, Event, IsEvent, act}
 use Rattle.handshake.specs.Obeys.{is_load}
 
 -- a mutator that ends: it takes itself off the count
@@ -16,7 +16,7 @@ pub record Ends (c : Config) (before : Bool) (access : Access) (after : ℕ → 
 
 -- a machine that leaves the count as it is
 pub record LeavesCount (c : Config) (before : Bool) (access : Access) (after : ℕ → Bool) : Type 0 where
-  pub not_written : (is_load access ≡ true) ⊎ (place_of access ≢ word_at c Left)
+  pub not_written : (is_load access ≡ true) ⊎ (table_index access ≢ word_at c Left)
   pub same : (got : ℕ) → after got ≡ before
 
 -- what a step has to obey: by its access, and by whether its machine is a mutator that has not ended before and after it
@@ -24,11 +24,11 @@ abbrev pub Counts : Config → Bool → Access → (ℕ → Bool) → Type 0
 Counts c before access after = Ends c before access after ⊎ LeavesCount c before access after
 
 -- an event does so, if it is one
-abbrev pub EventCounts : {R O : Type 0} → Config → Kind R O → (R → Bool) → Stage R → Event O → Type 0
+abbrev pub EventCounts : {R O : Type 0} → Config → MachineKind R O → (R → Bool) → Stage R → Event O → Type 0
 EventCounts {R} c kind left s e = (r : R) → IsEvent kind s e r → Counts c (left r) (kind.plan r e.order) (λ got. left (kind.took r e.order got))
 
 -- each event of a run does so, where it is made
-abbrev pub EachCounts : {R O : Type 0} → Config → Kind R O → (R → Bool) → Stage R → List (Event O) → Type 0
+abbrev pub EachCounts : {R O : Type 0} → Config → MachineKind R O → (R → Bool) → Stage R → List (Event O) → Type 0
 EachCounts c kind left s [] = Unit {0}
 EachCounts c kind left s (e ∷ es) = EventCounts c kind left s e × EachCounts c kind left (act kind s e) es
 

@@ -4,7 +4,7 @@ use Rattle.std.specs.Prelude.{ℕ, ◌≡◌, ◌≢◌, ◌<◌, Bool, true, fa
 use Rattle.heap_words.specs.declared.config.Config.{Config}
 use Rattle.heap_words.specs.declared.access.Access.{Access}
 use Rattle.heap_words.specs.declared.access.Access.TheVariants.{Load}
-use Rattle.heap_words.specs.Access.{place_of}
+use Rattle.heap_words.specs.Access.{table_index}
 use Rattle.heap_words.specs.Words.{Pause, State, word_at, image_start}
 use Rattle.steps_base.specs.Touch.{touch, loads, stores, placed}
 use Rattle.handshake.specs.declared.enter_spot.EnterSpot.{EnterSpot}
@@ -14,8 +14,8 @@ use Rattle.handshake.specs.Standing.{Standing, outside, looks, backs, inside, le
 
 -- the access is of no state word and not of the pause word
 pub record IsElsewhere (c : Config) (access : Access) : Type 0 where
-  pub not_pause : place_of access ≢ word_at c Pause
-  pub not_state : (seat : ℕ) → seat < control_seat c → place_of access ≢ word_at c (State seat)
+  pub not_pause : table_index access ≢ word_at c Pause
+  pub not_state : (seat : ℕ) → seat < control_seat c → table_index access ≢ word_at c (State seat)
 
 -- whether an access only reads
 abbrev pub is_load : Access → Bool
@@ -25,7 +25,7 @@ is_load _ = false
 -- an access that may be made outside, also in a pause: it only reads, or is of a word below the image that the handshake
 -- does not use
 abbrev pub IsHarmless : Config → Access → Type 0
-IsHarmless c access = (is_load access ≡ true) ⊎ (IsElsewhere c access × (place_of access < image_start c))
+IsHarmless c access = (is_load access ≡ true) ⊎ (IsElsewhere c access × (table_index access < image_start c))
 
 -- a machine that enters: it stores into its state word that it is in, and looks next
 pub record Enters (c : Config) (seat : ℕ) (access : Access) (next : ℕ → Standing) : Type 0 where

@@ -1,9 +1,9 @@
 -- The handshake over any kind of machine, of whose records one says where they stand. It looks at no object.
 use Rattle.std.specs.Prelude.{ℕ, ◌≡◌, ◌<◌, true, false, List, [], ◌∷◌, length, Some, slice_get, ◌⊎◌}
 use Rattle.heap_words.specs.declared.config.Config.{Config}
-use Rattle.heap_words.specs.Access.{place_of}
+use Rattle.heap_words.specs.Access.{table_index}
 use Rattle.heap_words.specs.Words.{Pause, State, image_start, table_words, view}
-use Rattle.steps_base.specs.Steps.{Kind, Stage, Event, IsEvent, act}
+use Rattle.steps_base.specs.Steps.{MachineKind, Stage, Event, IsEvent, act}
 use Rattle.handshake.specs.Standing.{Standing, state_word, pause_word, is_within, is_pausing, is_checked, IsSeated, control_seat}
 use Rattle.handshake.specs.Obeys.{Obeys, is_load}
 
@@ -19,11 +19,11 @@ pub record IsShaken {R : Type 0} (c : Config) (standing : R → Standing) (s : S
   pub checked : (seat : ℕ) (r : R) → seat < control_seat c → slice_get s.machines seat ≡ Some r → is_checked (standing control) seat ≡ true → is_within (standing r) ≡ false
 
 -- an event obeys, if it is one
-abbrev pub EventObeys : {R O : Type 0} → Config → Kind R O → (R → Standing) → Stage R → Event O → Type 0
+abbrev pub EventObeys : {R O : Type 0} → Config → MachineKind R O → (R → Standing) → Stage R → Event O → Type 0
 EventObeys {R} c kind standing s e = (r : R) → IsEvent kind s e r → Obeys c e.number (standing r) (kind.plan r e.order) (λ got. standing (kind.took r e.order got))
 
 -- each event of a run obeys, where it is made
-abbrev pub EachObeys : {R O : Type 0} → Config → Kind R O → (R → Standing) → Stage R → List (Event O) → Type 0
+abbrev pub EachObeys : {R O : Type 0} → Config → MachineKind R O → (R → Standing) → Stage R → List (Event O) → Type 0
 EachObeys c kind standing s [] = Unit {0}
 EachObeys c kind standing s (e ∷ es) = EventObeys c kind standing s e × EachObeys c kind standing (act kind s e) es
 
@@ -32,7 +32,7 @@ abbrev pub IsPausing : {R : Type 0} → Config → (R → Standing) → Stage R 
 IsPausing {R} c standing s = (r : R) → slice_get s.machines (control_seat c) ≡ Some r → is_pausing (standing r) ≡ true
 
 -- No mutator or helper is in the heap, and none makes an access to a word of the image but to read it.
-pub record IsStill {R O : Type 0} (c : Config) (kind : Kind R O) (standing : R → Standing) (s : Stage R) : Type 0 where
+pub record IsStill {R O : Type 0} (c : Config) (kind : MachineKind R O) (standing : R → Standing) (s : Stage R) : Type 0 where
   pub nobody : (seat : ℕ) (r : R) → seat < control_seat c → slice_get s.machines seat ≡ Some r → is_within (standing r) ≡ false
   pub only_reads : (e : Event O) (r : R) → e.number < control_seat c → IsEvent kind s e r → EventObeys c kind standing s e
-      → (is_load (kind.plan r e.order) ≡ true) ⊎ (place_of (kind.plan r e.order) < image_start c)
+      → (is_load (kind.plan r e.order) ≡ true) ⊎ (table_index (kind.plan r e.order) < image_start c)

@@ -14,7 +14,7 @@ pub struct Enter {
 
 impl Enter {
     ghost use Rattle.std.specs.Prelude.{false, true, ◌≢◌, ◌↔◌};
-    ghost use Rattle.heap_words.specs.Access.{place_of};
+    ghost use Rattle.heap_words.specs.Access.{table_index};
     ghost use Rattle.heap_words.specs.Words.{table_words};
     ghost use Rattle.steps_base.specs.Touch.{placed};
     ghost use Rattle.handshake.specs.Rows.{enter_place, enter_touch, enter_next, enter_says, is_entered};
@@ -52,7 +52,7 @@ impl Enter {
     pub fn plan(&self) -> Access
         requires { is_entered (spot_of_enter self.now) ≡ false }
         ensures row { let seat = seat_of_enter self.now in result ≡ placed seat.config (enter_touch seat.number (spot_of_enter self.now)) }
-        ensures inside { place_of result < table_words (seat_of_enter self.now).config }
+        ensures inside { table_index result < table_words (seat_of_enter self.now).config }
     {
         self.spot.access(self.config, self.seat)
     }

@@ -1,5 +1,5 @@
 ghost use Rattle.std.specs.Prelude.{◌≡◌, ◌<◌, ◌+◌, false};
-ghost use Rattle.heap_words.specs.Access.{place_of};
+ghost use Rattle.heap_words.specs.Access.{table_index};
 ghost use Rattle.heap_words.specs.Words.{table_words};
 ghost use Rattle.steps_base.specs.Touch.{placed};
 ghost use Rattle.handshake.specs.Rows as rows;
@@ -47,7 +47,7 @@ impl EnterSpot {
         requires seat { seat < config.mutators + config.helpers }
         requires busy { rows.is_entered self ≡ false }
         ensures row { result ≡ placed config (rows.enter_touch seat self) }
-        ensures inside { place_of result < table_words config }
+        ensures inside { table_index result < table_words config }
     {
         match self {
             EnterSpot::Raise => Access::Store {

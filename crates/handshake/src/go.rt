@@ -12,7 +12,7 @@ pub struct Go {
 
 impl Go {
     ghost use Rattle.std.specs.Prelude.{false, true, ◌<◌};
-    ghost use Rattle.heap_words.specs.Access.{place_of};
+    ghost use Rattle.heap_words.specs.Access.{table_index};
     ghost use Rattle.heap_words.specs.Words.{table_words};
     ghost use Rattle.steps_base.specs.Touch.{placed};
     ghost use Rattle.handshake.specs.Rows.{go_touch};
@@ -48,7 +48,7 @@ impl Go {
     pub fn plan(&self) -> Access
         requires { has_gone self.now ≡ false }
         ensures row { result ≡ placed (config_of_go self.now) go_touch }
-        ensures inside { place_of result < table_words (config_of_go self.now) }
+        ensures inside { table_index result < table_words (config_of_go self.now) }
     {
         go_access(self.config)
     }

@@ -4,7 +4,7 @@
 ghost use Rattle.std.specs.Prelude.{ℕ, ◌≡◌, ◌≢◌, Bool, true, List, Some, slice_get};
 ghost use Rattle.heap_words.specs.declared.config.Config.{Config};
 ghost use Rattle.heap_words.specs.Words.{Left, view};
-ghost use Rattle.steps_base.specs.Steps.{Kind, Stage, Event, go};
+ghost use Rattle.steps_base.specs.Steps.{MachineKind, Stage, Event, go};
 ghost use Rattle.handshake.specs.Standing.{Standing};
 ghost use Rattle.handshake.specs.Obeys.{RowsObey};
 ghost use Rattle.handshake.specs.Shaken.{IsShaken, EachObeys, IsPausing, IsStill};
@@ -15,9 +15,9 @@ ghost use Rattle.handshake.specs.Ending.{IsEndWord, EachKeepsEnd};
 /// where the machines stand; and from the last check of a pause to its end no mutator or helper is in the heap, and none makes
 /// an access to a word of the image but to read it.
 pub fn every_list_of_events<R, O>()
-    ensures shaken { (c : Config) (kind : Kind R O) (standing : R → Standing) (s : Stage R) (events : List (Event O))
+    ensures shaken { (c : Config) (kind : MachineKind R O) (standing : R → Standing) (s : Stage R) (events : List (Event O))
         → IsShaken c standing s → EachObeys c kind standing s events → IsShaken c standing (go kind s events) }
-    ensures still { (c : Config) (kind : Kind R O) (standing : R → Standing) (s : Stage R)
+    ensures still { (c : Config) (kind : MachineKind R O) (standing : R → Standing) (s : Stage R)
         → IsShaken c standing s → IsPausing c standing s → IsStill c kind standing s }
 {}
 
@@ -29,17 +29,17 @@ pub fn rows_obey()
 /// The law of the count of mutators that have not ended: whatever list of events is made of which each one counts, the word
 /// goes on to be their number. So a mutator that ends finds no 0; and a word that is 0 stays 0.
 pub fn mutators_are_counted<R, O>()
-    ensures counted { (c : Config) (kind : Kind R O) (left : R → Bool) (s : Stage R) (events : List (Event O))
+    ensures counted { (c : Config) (kind : MachineKind R O) (left : R → Bool) (s : Stage R) (events : List (Event O))
         → IsCounted c left s → EachCounts c kind left s events → IsCounted c left (go kind s events) }
     ensures found { (c : Config) (left : R → Bool) (s : Stage R) (number : ℕ) (r : R)
         → IsCounted c left s → slice_get s.machines number ≡ Some r → left r ≡ true → view c s.words Left ≢ 0 }
-    ensures none_stays { (c : Config) (kind : Kind R O) (left : R → Bool) (s : Stage R) (events : List (Event O))
+    ensures none_stays { (c : Config) (kind : MachineKind R O) (left : R → Bool) (s : Stage R) (events : List (Event O))
         → IsCounted c left s → EachCounts c kind left s events → view c s.words Left ≡ 0 → view c (go kind s events).words Left ≡ 0 }
 {}
 
 /// The law of the word that says that the control has ended: whatever list of events is made of which each one keeps it, the word
 /// goes on to be 1 where a machine has ended so, and 0 where none has.
 pub fn end_is_known<R, O>()
-    ensures { (c : Config) (kind : Kind R O) (ended : R → Bool) (s : Stage R) (events : List (Event O))
+    ensures { (c : Config) (kind : MachineKind R O) (ended : R → Bool) (s : Stage R) (events : List (Event O))
         → IsEndWord c ended s → EachKeepsEnd c kind ended s events → IsEndWord c ended (go kind s events) }
 {}

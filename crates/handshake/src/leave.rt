@@ -14,7 +14,7 @@ pub struct Leave {
 
 impl Leave {
     ghost use Rattle.std.specs.Prelude.{false, true};
-    ghost use Rattle.heap_words.specs.Access.{place_of};
+    ghost use Rattle.heap_words.specs.Access.{table_index};
     ghost use Rattle.heap_words.specs.Words.{table_words};
     ghost use Rattle.steps_base.specs.Touch.{placed};
     ghost use Rattle.handshake.specs.Rows.{leave_touch};
@@ -52,7 +52,7 @@ impl Leave {
     pub fn plan(&self) -> Access
         requires { has_left self.now ≡ false }
         ensures row { let seat = seat_of_leave self.now in result ≡ placed seat.config (leave_touch seat.number) }
-        ensures inside { place_of result < table_words (seat_of_leave self.now).config }
+        ensures inside { table_index result < table_words (seat_of_leave self.now).config }
     {
         leave_access(self.config, self.seat)
     }

@@ -1,5 +1,5 @@
 ghost use Rattle.std.specs.Prelude.{◌≡◌, ◌<◌, ◌+◌};
-ghost use Rattle.heap_words.specs.Access.{place_of};
+ghost use Rattle.heap_words.specs.Access.{table_index};
 ghost use Rattle.heap_words.specs.Words.{table_words};
 ghost use Rattle.steps_base.specs.Touch.{placed};
 ghost use Rattle.handshake.specs.Rows.{leave_touch, go_touch};
@@ -11,7 +11,7 @@ use heap_words::{Access, Config};
 pub fn leave_access(config: Config, seat: usize) -> Access
     requires { seat < config.mutators + config.helpers }
     ensures row { result ≡ placed config (leave_touch seat) }
-    ensures inside { place_of result < table_words config }
+    ensures inside { table_index result < table_words config }
 {
     Access::Store {
         at: config.state_at(seat),
@@ -22,7 +22,7 @@ pub fn leave_access(config: Config, seat: usize) -> Access
 /// The one access by which the control ends a pause: it stores that none is wanted.
 pub fn go_access(config: Config) -> Access
     ensures row { result ≡ placed config go_touch }
-    ensures inside { place_of result < table_words config }
+    ensures inside { table_index result < table_words config }
 {
     Access::Store {
         at: config.pause_at(),

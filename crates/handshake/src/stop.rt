@@ -15,7 +15,7 @@ pub struct Stop {
 
 impl Stop {
     ghost use Rattle.std.specs.Prelude.{ℕ, false, ◌≢◌, ◌<◌, ◌↔◌};
-    ghost use Rattle.heap_words.specs.Access.{place_of};
+    ghost use Rattle.heap_words.specs.Access.{table_index};
     ghost use Rattle.heap_words.specs.Words.{table_words};
     ghost use Rattle.steps_base.specs.Touch.{placed};
     ghost use Rattle.handshake.specs.Rows.{stop_place, stop_next, stop_says, is_stopped};
@@ -51,7 +51,7 @@ impl Stop {
     pub fn plan(&self) -> Access
         requires { is_stopped (spot_of_stop self.now) ≡ false }
         ensures row { result ≡ placed (config_of_stop self.now) (stop_touch (spot_of_stop self.now)) }
-        ensures inside { place_of result < table_words (config_of_stop self.now) }
+        ensures inside { table_index result < table_words (config_of_stop self.now) }
     {
         self.spot.access(self.config)
     }

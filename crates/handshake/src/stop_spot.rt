@@ -1,5 +1,5 @@
 ghost use Rattle.std.specs.Prelude.{◌≡◌, ◌<◌, ◌+◌, true, false};
-ghost use Rattle.heap_words.specs.Access.{place_of};
+ghost use Rattle.heap_words.specs.Access.{table_index};
 ghost use Rattle.heap_words.specs.Words.{table_words};
 ghost use Rattle.steps_base.specs.Touch.{placed};
 ghost use Rattle.steps_base.specs.Fits.{touch_fits};
@@ -45,7 +45,7 @@ impl StopSpot {
         requires ready { touch_fits config (rows.stop_touch self) ≡ true }
         requires busy { rows.is_stopped self ≡ false }
         ensures row { result ≡ placed config (rows.stop_touch self) }
-        ensures inside { place_of result < table_words config }
+        ensures inside { table_index result < table_words config }
     {
         match self {
             StopSpot::Raise => Access::Store {

@@ -2,17 +2,17 @@
 use Rattle.std.proofs.Common.{ℕ, ◌≤◌, List}
 use Rattle.std.proofs.Math.Logic.{∥∥₁_elim}
 use Rattle.std.proofs.Math.Bridge.{le_prop}
-use Rattle.heap_graph.specs.Walk.{IsSound}
+use Rattle.heap_graph.specs.Walk.{IsWalkable}
 use Rattle.heap_graph.specs.Shows.{StandForSome}
 use Rattle.heap_graph.proofs.Standing.{sound}
 
-IsSound-prop : (first : ℕ) (heap roots : List ℕ) → IsProp (IsSound first heap roots)
-IsSound-prop first heap roots one other = λ i. record {
+IsWalkable-prop : (first : ℕ) (heap roots : List ℕ) → IsProp (IsWalkable first heap roots)
+IsWalkable-prop first heap roots one other = λ i. record {
   above = λ a led. le_prop (one.above a led) (other.above a led) i;
   below = λ a led. le_prop (one.below a led) (other.below a led) i;
   apart = λ a b led_a led_b before. le_prop (one.apart a b led_a led_b before) (other.apart a b led_a led_b before) i;
 }
 
-pub sound_some : (first : ℕ) (heap roots : List ℕ) → 1 ≤ first → StandForSome first heap roots → IsSound first heap roots
+pub sound_some : (first : ℕ) (heap roots : List ℕ) → 1 ≤ first → StandForSome first heap roots → IsWalkable first heap roots
 sound_some first heap roots one stand =
-    ∥∥₁_elim stand (IsSound-prop first heap roots) (λ s. sound first heap roots s.0 s.1.0 one s.1.1)
+    ∥∥₁_elim stand (IsWalkable-prop first heap roots) (λ s. sound first heap roots s.0 s.1.0 one s.1.1)

@@ -15,9 +15,9 @@ use Rattle.shen_graph.specs.declared.name.Name.{Name}
 use Rattle.shen_graph.specs.Graph.{Graph, Reference, same_name}
 use Rattle.shen_graph.specs.GraphText.{Text, Row, row_in, names_of}
 use Rattle.shen_graph.specs.Reach.{IsReachable, InOrder}
-use Rattle.heap_graph.specs.Walk.{has, refs_at, words_at, Leads, from_root, from_field, IsSound, IsWalk}
+use Rattle.heap_graph.specs.Walk.{has, refs_at, words_at, Leads, from_root, from_field, IsWalkable, IsWalk}
 use Rattle.heap_graph.specs.Rows.{IsNamed, name_at, reference_in, row_at, root_word, root_rows}
-use Rattle.heap_graph.specs.Shows.{Shows, WordsStand}
+use Rattle.heap_graph.specs.Shows.{ShowsGraph, WordsStand}
 use Rattle.heap_graph.proofs.Sizes.{sizes_fit, same_functions}
 use Rattle.heap_graph.proofs.Standing.{facts, led_name, name_led, reference_same, row_same}
 
@@ -29,7 +29,7 @@ all_from-has P xs h = All-from_any nat_eq_equiv P xs h
 has-element : (xs : List ℕ) (i : ℕ) → i < length xs → has xs (get_or xs i 0) ≡ true
 has-element xs i h = list_any_at (nat_eq (get_or xs i 0)) xs i 0 h (eq-eqb (get_or xs i 0) (get_or xs i 0) refl)
 
-module _ (first : ℕ) (heap roots : List ℕ) (sound : IsSound first heap roots) where
+module _ (first : ℕ) (heap roots : List ℕ) (sound : IsWalkable first heap roots) where
   named_from_led : (a : ℕ) → Leads first heap roots a → (first ≤ a) × (a + 3 ≤ first + length heap)
   named_from_led a led = (sound.above a led, omega (arith, sound.below a led))
 
@@ -142,7 +142,7 @@ module _ (first : ℕ) (heap roots order : List ℕ) (at : ℕ → Option Name) 
         ∙ sym (get_or-map (row_in g) names i d.name d low))
 
     pub shows : (threads : ℕ) → InOrder (names_of text)
-        → text.roots ≡ root_rows (λ t i. reference_in first heap (root_word roots t i)) threads → Shows text threads g
+        → text.roots ≡ root_rows (λ t i. reference_in first heap (root_word roots t i)) threads → ShowsGraph text threads g
     shows threads ordered rooted = record {
       reach = record { in_order = ordered; all = every; only = only };
       rows = rows_same;

@@ -12,7 +12,7 @@ use Rattle.shen_graph.specs.Graph.{Graph, Object, Reference, named}
 use Rattle.shen_graph.specs.Reach.{IsReachable, from_root as reach_root, from_field as reach_field, size}
 use Rattle.heap_world.specs.Objects.{Refers}
 use Rattle.shen_graph.specs.GraphText.{row_in}
-use Rattle.heap_graph.specs.Walk.{has, shape_at, refs_at, nums_at, words_at, Leads, from_root, from_field, IsSound}
+use Rattle.heap_graph.specs.Walk.{has, shape_at, refs_at, nums_at, words_at, Leads, from_root, from_field, IsWalkable}
 use Rattle.heap_graph.specs.Rows.{name_at, reference_in, row_at, root_word}
 use Rattle.heap_graph.specs.Shows.{WordsStand}
 use Rattle.heap_graph.proofs.Objects.{length-refs_at, length-nums_at, get_or-refs_at, get_or-nums_at}
@@ -162,7 +162,7 @@ module _ (first : ℕ) (heap roots : List ℕ) (at : ℕ → Option Name) (g : G
       (eq-eqb w (get_or (refs_at heap k) f 0) (ap (λ j. get_or heap j 0) place ∙ sym (get_or-refs_at heap k f field))) in
       (w, here, from_field u.0 w u.2 (never_null w n here) inside)
 
-  pub sound : IsSound first heap roots
+  pub sound : IsWalkable first heap roots
   sound = record {
     above = λ a led. let u = led_name a led in (s.each a u.0 u.1).1.above;
     below = (λ a led. let u = led_name a led in

@@ -9,7 +9,7 @@ use Rattle.heap_graph.specs.Rows.{root_word, root_rows}
 
 -- The text has the row of each object that can be reached, in the order of names, and no other row, and the roots of
 -- each thread.
-pub record Shows (text : Text) (threads : ℕ) (g : Graph) : Type 0 where
+pub record ShowsGraph (text : Text) (threads : ℕ) (g : Graph) : Type 0 where
   pub reach : IsReach g (names_of text)
   pub rows : text.rows ≡ map (row_in g) (names_of text)
   pub roots : text.roots ≡ root_rows g.root threads

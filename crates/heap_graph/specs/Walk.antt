@@ -32,7 +32,7 @@ pub data Leads (first : ℕ) (heap roots : List ℕ) : ℕ → Type 0 where
   from_field : (m a : ℕ) → Leads first heap roots m → a ≢ 0 → has (refs_at heap (m - first)) a ≡ true → Leads first heap roots a
 
 -- each object that the roots lead to lies among the words, and no two of them share a word
-pub record IsSound (first : ℕ) (heap roots : List ℕ) : Type 0 where
+pub record IsWalkable (first : ℕ) (heap roots : List ℕ) : Type 0 where
   pub above : (a : ℕ) → Leads first heap roots a → first ≤ a
   pub below : (a : ℕ) → Leads first heap roots a → a + words_at heap (a - first) ≤ first + length heap
   pub apart : (a b : ℕ) → Leads first heap roots a → Leads first heap roots b → a < b → a + words_at heap (a - first) ≤ b

@@ -1,7 +1,7 @@
 //! Finds the addresses that roots lead to.
 
 ghost use Rattle.std.specs.Prelude.{◌≡◌, ◌+◌, ◌≤◌, All, length, vec_capacity};
-ghost use Rattle.heap_graph.specs.Walk.{refs_at, words_at, IsSound, IsAmong, IsMarked, IsWalk, with_address, with_addresses};
+ghost use Rattle.heap_graph.specs.Walk.{refs_at, words_at, IsWalkable, IsAmong, IsMarked, IsWalk, with_address, with_addresses};
 
 use heap_words::refs_of;
 
@@ -57,7 +57,7 @@ pub(crate) fn find_reachable(
     marks: &mut [bool],
     order: &mut Vec<u64>,
 )
-    requires sound { IsSound first heap.now roots.now }
+    requires sound { IsWalkable first heap.now roots.now }
     requires flags { length marks.old ≡ length heap.now }
     requires room { length heap.now ≤ vec_capacity order.old }
     ensures walk { IsWalk first heap.now roots.now order.new.items }

@@ -3,7 +3,7 @@
 ghost use Rattle.std.specs.Prelude.{◌≡◌, ◌*◌, ◌^◌, ◌<◌, ◌≤◌, ℕ, Option, length, vec_capacity};
 ghost use Rattle.shen_graph.specs.declared.name.Name.{Name};
 ghost use Rattle.shen_graph.specs.Graph.{Graph};
-ghost use Rattle.heap_graph.specs.Shows.{Shows, WordsStand, StandForSome};
+ghost use Rattle.heap_graph.specs.Shows.{ShowsGraph, WordsStand, StandForSome};
 
 use crate::rows::{set_roots, write_objects};
 use crate::walk::find_reachable;
@@ -31,7 +31,7 @@ pub fn write_graph(
     requires threads { length roots.now ≡ 16 * length text.old.roots }
     requires few { length text.old.roots < 2 ^ 32 }
     requires stand { StandForSome first heap.now roots.now }
-    ensures shows { (at : ℕ → Option Name) (g : Graph) → WordsStand first heap.now roots.now at g → Shows text.new (length text.old.roots) g }
+    ensures shows { (at : ℕ → Option Name) (g : Graph) → WordsStand first heap.now roots.now at g → ShowsGraph text.new (length text.old.roots) g }
 
     // The same memory serves again.
     ensures order { vec_capacity order.new ≡ vec_capacity order.old }

@@ -18,7 +18,7 @@ use Rattle.mutator.specs.Orders.{is_between_calls, takes_commands, takes_at, is_
 use Rattle.heap_world.specs.Change.{Change}
 use Rattle.control_steps.specs.Rows.{control_says, is_gone}
 use Rattle.step_core.specs.Actor.{Machine, mutating, helping, controlling}
-use Rattle.step_core.specs.Machines.{takes_of, answer_of, machine_after, order_by, next_order, stands_in, is_resting, may_begin, HasNumber}
+use Rattle.step_core.specs.Machines.{takes_of, answer_of, machine_after, order_by, next_order, is_machine_at, is_resting, may_begin, HasNumber}
 use Rattle.heap_machines.specs.Turn.{order_for}
 use Rattle.heap_machines.specs.Roles.{is_mutating}
 
@@ -127,8 +127,8 @@ goes_on_in_call Gone next busy = absurd (cc (busy))
 goes_on_in_call _ next busy = refl
 
 -- where its next access stands
-pub stands_in_call : (m : Mutating) (next : Option Command) (place : Place) → is_between_calls m.spot ≡ false → stands_in place (mutating m) (order_for next (mutating m)) ≡ same_place (place_at Nothing m.spot) place
-stands_in_call m next place busy = ap (stands_in place (mutating m)) (goes_on_in_call m.spot next busy)
+pub stands_in_call : (m : Mutating) (next : Option Command) (place : Place) → is_between_calls m.spot ≡ false → is_machine_at place (mutating m) (order_for next (mutating m)) ≡ same_place (place_at Nothing m.spot) place
+stands_in_call m next place busy = ap (is_machine_at place (mutating m)) (goes_on_in_call m.spot next busy)
 
 -- a mutator that is not idle and has no order is in a call
 pub busy_without_order : (b : Bool) (order : Order) → order ≡ Nothing → b && is_nothing order ≡ false → b ≡ false

@@ -28,7 +28,7 @@ pub enum Machine {
 
 impl Machine {
     ghost use Rattle.std.specs.Prelude.{◌≡◌, ◌<◌, ◌≤◌, ◌↔◌, ◌≢◌, length, true, false, not, Option, Some, None, IfOk, IfSome, is_some, if◌then◌else◌};
-    ghost use Rattle.heap_words.specs.Access.{place_of};
+    ghost use Rattle.heap_words.specs.Access.{table_index};
     ghost use Rattle.heap_words.specs.Words.{Cset, table_words, heap_size};
     ghost use Rattle.heap_world.specs.Change.{image_view};
     ghost use Rattle.image_graph.specs.Holds.{HoldsSome};
@@ -39,7 +39,7 @@ impl Machine {
     ghost use Rattle.pause_laws.specs.Image.{full_image};
     ghost use Rattle.step_core.specs.Opening.{opening_machine};
     ghost use Rattle.step_core.specs.Settled.{image_in};
-    ghost use Rattle.step_core.specs.Machines.{takes_of, plan_of, place_in, machine_after, answer_of, stands_in, reply_in, is_resting, may_begin, made_of_machine, WaitsIn};
+    ghost use Rattle.step_core.specs.Machines.{takes_of, plan_of, place_in, machine_after, answer_of, is_machine_at, reply_in, is_resting, may_begin, made_of_machine, WaitsIn};
     ghost use Rattle.step_core.specs.Fit.{IsFitFor};
     ghost use Rattle.heap_machines.specs.Shown.{shown, order_of, heap_of, has_turn};
     ghost use Rattle.heap_machines.specs.Roles.{CanShow};
@@ -73,9 +73,9 @@ impl Machine {
     }
 
     /// Whether its next access, on its turn, stands at the place. The command is the one that would follow.
-    pub fn stands_at(&self, next: Option<Command>, place: Place) -> bool
+    pub fn is_at_place(&self, next: Option<Command>, place: Place) -> bool
         requires { order_of self.now ≡ Order.Nothing }
-        ensures { result ≡ stands_in place (shown self.now) (order_for next (shown self.now)) }
+        ensures { result ≡ is_machine_at place (shown self.now) (order_for next (shown self.now)) }
     {
         match self {
             Machine::Mutator(mutator) if mutator.takes_commands() => first_place(next).is(place),
@@ -140,7 +140,7 @@ impl Machine {
     pub fn plan(&self) -> Access
         requires { has_turn self.now ≡ true }
         ensures row { result ≡ plan_of (heap_of self.now) (order_of self.now) (shown self.now) }
-        ensures inside { place_of result < table_words (heap_of self.now) }
+        ensures inside { table_index result < table_words (heap_of self.now) }
     {
         match self {
             Machine::Mutator(mutator) => mutator.plan(),

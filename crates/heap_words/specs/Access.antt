@@ -4,15 +4,15 @@ use Rattle.heap_words.specs.declared.access.Access.{Access}
 use Rattle.heap_words.specs.declared.access.Access.TheVariants.{Load, Store, Swap, Add, Sub, And, Or, Exchange}
 
 -- the place of the word
-abbrev pub place_of : Access → ℕ
-place_of (Load at) = at
-place_of (Store at value) = at
-place_of (Swap at value) = at
-place_of (Add at value) = at
-place_of (Sub at value) = at
-place_of (And at value) = at
-place_of (Or at value) = at
-place_of (Exchange at expect value) = at
+abbrev pub table_index : Access → ℕ
+table_index (Load at) = at
+table_index (Store at value) = at
+table_index (Swap at value) = at
+table_index (Add at value) = at
+table_index (Sub at value) = at
+table_index (And at value) = at
+table_index (Or at value) = at
+table_index (Exchange at expect value) = at
 
 -- what the word is after the access, by what it was before
 abbrev pub made_of : Access → ℕ → ℕ
@@ -26,5 +26,5 @@ made_of (Or at value) found = bit_or found value
 made_of (Exchange at expect value) found = if found == expect then value else found
 
 -- what whoever made the access is told: the word before it
-abbrev pub told_of : Access → ℕ → ℕ
-told_of access found = found
+abbrev pub got_of : Access → ℕ → ℕ
+got_of access found = found

@@ -1,5 +1,5 @@
 ghost use Rattle.std.specs.Prelude.{◌≡◌};
-ghost use Rattle.heap_words.specs.Access.{place_of, made_of};
+ghost use Rattle.heap_words.specs.Access.{table_index, made_of};
 
 /// One access of one word of the table, at the place `at`.
 #[derive(Clone, Copy, Debug, PartialEq, Eq)]
@@ -65,7 +65,7 @@ pub enum Access {
 impl Access {
     /// The place of the word that is accessed.
     pub fn at(self) -> usize
-        ensures { result ≡ place_of self }
+        ensures { result ≡ table_index self }
     {
         match self {
             Access::Load { at } => at,

@@ -7,7 +7,7 @@ use Rattle.image_laws.specs.Full.{asked_in}
 use Rattle.image_laws.specs.Served.{tops_at_turn}
 use Rattle.shen_graph.specs.Graph.{Graph}
 use Rattle.shen_graph.specs.GraphText.{Text}
-use Rattle.heap_graph.specs.Shows.{Shows}
+use Rattle.heap_graph.specs.Shows.{ShowsGraph}
 use Rattle.heap_world.specs.World.{Plot}
 use Rattle.image_laws.specs.Promised.{Promises}
 use Rattle.image_laws.specs.Image.{ImageStands}
@@ -27,4 +27,4 @@ IsServedGraph c before after = (block : Plot) (g : Graph) (p : Promises) → Ima
 
 -- a text shows the graph that words hold, whichever and in whatever way: what the roots lead to, by current copies
 abbrev pub ShowsTheGraph : Config → (Word → ℕ) → Text → Type 0
-ShowsTheGraph c memory text = (block : Plot) (owner : ℕ → Option ℕ) (p : Promises) (g : Graph) → HoldsBy c memory block owner p g → Shows text c.mutators g
+ShowsTheGraph c memory text = (block : Plot) (owner : ℕ → Option ℕ) (p : Promises) (g : Graph) → HoldsBy c memory block owner p g → ShowsGraph text c.mutators g

@@ -30,7 +30,7 @@ pub struct Mutator {
 impl Mutator {
     ghost use Rattle.std.specs.Prelude.{◌↔◌, ◌≢◌, Some, None, false};
     ghost use Rattle.shen_graph.specs.Valid.{IsValid};
-    ghost use Rattle.heap_words.specs.Access.{place_of};
+    ghost use Rattle.heap_words.specs.Access.{table_index};
     ghost use Rattle.heap_words.specs.Words.{table_words};
     ghost use Rattle.mutator.specs.Orders.{is_between_calls, takes_commands, takes_at};
     ghost use Rattle.mutator.specs.Rows.{fresh_mutator, mutator_after, place_at, touch_of, begun, next_of, make_says, answer_at, reply_at};
@@ -144,7 +144,7 @@ impl Mutator {
     pub fn plan(&self) -> Access
         requires { is_idle self.now ≡ false }
         ensures row { result ≡ placed (config_of self.now) (touch_of (config_of self.now) (seen self.now) (order_of self.now)) }
-        ensures inside { place_of result < table_words (config_of self.now) }
+        ensures inside { table_index result < table_words (config_of self.now) }
     {
         let config = self.config;
         let seat = self.mutator;

@@ -7,7 +7,7 @@ use Rattle.heap_words.specs.declared.schedule.Item.TheVariants.{Until, Replies}
 use Rattle.heap_machines.specs.Shown.{shown}
 use Rattle.heap_machines.specs.Turn.{order_for}
 use Rattle.shen_graph.specs.Work as work
-use Rattle.step_core.specs.Machines.{stands_in}
+use Rattle.step_core.specs.Machines.{is_machine_at}
 use Rattle.shen_core.specs.declared.plain.Plain.{Plain}
 use Rattle.shen_core.specs.State.{config_of, seats_of, machine_at, machines_of}
 use Rattle.shen_core.specs.Progress.{Jobs, next_for}
@@ -21,11 +21,11 @@ seat_within p number below = omega (arith, length-map p.machines.items shown, p.
 
 module _ (p : Plain) (jobs : Jobs) (number : ℕ) where
   -- where the machine stands at the place, the item is done
-  pub until_over : (place : Place) → number < seats_of p → stands_in place (machine_at p number) (order_for (next_for (config_of p) jobs number) (machine_at p number)) ≡ true → IsOver p jobs (Until number place)
+  pub until_over : (place : Place) → number < seats_of p → is_machine_at place (machine_at p number) (order_for (next_for (config_of p) jobs number) (machine_at p number)) ≡ true → IsOver p jobs (Until number place)
   until_over place below there scripts s shows tells = until_there (config_of p) scripts s number place (stands_shown p jobs number place (seat_within p number below) scripts s shows tells ∙ there)
 
   -- before that it is not
-  pub until_goes_on : (place : Place) → number < seats_of p → stands_in place (machine_at p number) (order_for (next_for (config_of p) jobs number) (machine_at p number)) ≡ false → GoesOn p jobs (Until number place)
+  pub until_goes_on : (place : Place) → number < seats_of p → is_machine_at place (machine_at p number) (order_for (next_for (config_of p) jobs number) (machine_at p number)) ≡ false → GoesOn p jobs (Until number place)
   until_goes_on place below away scripts s shows tells = until_move (config_of p) scripts s number place (stands_shown p jobs number place (seat_within p number below) scripts s shows tells ∙ away)
 
   -- where the replies are given, the item is done

@@ -3,7 +3,7 @@ use Rattle.std.proofs.Common.{◌≡◌, ◌<◌, ℕ, Bool, true, length, Some,
 use Rattle.std.specs.Prelude.{slice_get, slice_set, slice_index}
 use Rattle.std.proofs.lemmas.List.{length-map}
 use Rattle.std.proofs.lemmas.Option.{same_Some}
-use Rattle.heap_words.specs.Access.{place_of}
+use Rattle.heap_words.specs.Access.{table_index}
 use Rattle.shen_graph.specs.declared.order.Order.TheVariants.{Nothing}
 use Rattle.heap_machines.specs.Answer.{says}
 use Rattle.heap_machines.specs.Shown.{shown}
@@ -51,14 +51,14 @@ stepped p mid q jobs number has said below words machines config orders turns ne
 -- what was seen before the step is of its event
 pub sees_turn : (p mid q : Plain) (jobs : Jobs) (number : ℕ) (said : Stepped) (seen : Seen) → IsStepped p mid q jobs number said
     → seen.number ≡ number → seen.place ≡ place_in (order_at mid number) (machine_at mid number) → seen.access ≡ plan_of (config_of mid) (order_at mid number) (machine_at mid number)
-    → seen.found ≡ slice_index (words_of mid) (place_of seen.access) → SeesTurn p jobs number seen
+    → seen.found ≡ slice_index (words_of mid) (table_index seen.access) → SeesTurn p jobs number seen
 sees_turn p mid q jobs number said seen facts number_is place_is access_is found_is scripts s shows tells e is =
     subst (λ x. Sees (config_of p) s x seen) (same_Some _ _ (sym (facts.turn scripts s shows tells) ∙ is))
     (record {
       number_is = number_is;
       place_is = λ a here. place_is ∙ ap (place_in (order_at mid number)) (machine a here);
       access_is = λ a here. access_is ∙ ap (λ c. plan_of c (order_at mid number) (machine_at mid number)) facts.mid_config ∙ ap (plan_of (config_of p) (order_at mid number)) (machine a here);
-      found_is = found_is ∙ ap (λ ws. slice_index ws (place_of seen.access)) (facts.mid_words ∙ sym shows.words_are);
+      found_is = found_is ∙ ap (λ ws. slice_index ws (table_index seen.access)) (facts.mid_words ∙ sym shows.words_are);
     })
   where
     machine : (a : Actor) → slice_get s.machines number ≡ Some a → machine_at mid number ≡ a.machine

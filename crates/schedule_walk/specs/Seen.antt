@@ -1,7 +1,7 @@
 -- What memory saw of an event.
 use Rattle.std.specs.Prelude.{ℕ, ◌≡◌, Option, Some, None, slice_get, slice_index}
 use Rattle.heap_words.specs.declared.config.Config.{Config}
-use Rattle.heap_words.specs.Access.{place_of}
+use Rattle.heap_words.specs.Access.{table_index}
 use Rattle.steps_base.specs.Steps.{Stage, Event}
 use Rattle.shen_graph.specs.declared.order.Order.{Order}
 use Rattle.heap_machines.specs.declared.stepped.Stepped.{Stepped}
@@ -24,7 +24,7 @@ pub record Sees (c : Config) (s : Stage Actor) (e : Event Order) (seen : Seen) :
   pub number_is : seen.number ≡ e.number
   pub place_is : (a : Actor) → slice_get s.machines e.number ≡ Some a → seen.place ≡ place_in e.order a.machine
   pub access_is : (a : Actor) → slice_get s.machines e.number ≡ Some a → seen.access ≡ plan_of c e.order a.machine
-  pub found_is : seen.found ≡ slice_index s.words (place_of seen.access)
+  pub found_is : seen.found ≡ slice_index s.words (table_index seen.access)
 
 -- whatever stage memory shows, this was seen of the machine's event there
 abbrev pub SeesTurn : Plain → Jobs → ℕ → Seen → Type 0

@@ -45,7 +45,7 @@ fn is_over(item: Item, plain: &Plain, work: &Work) -> bool
 {
     match item {
         Item::Steps { count, .. } => count == 0,
-        Item::Until { number, place } => plain.stands_at(work, number, place),
+        Item::Until { number, place } => plain.is_at_place(work, number, place),
         Item::Replies { number, count } => { work.replies(number).list().len() as u64 >= count }
     }
 }

@@ -2,7 +2,7 @@
 use Rattle.std.proofs.Common.{◌≡◌, ℕ, suc, List, [], ◌∷◌, length, refl, sym, ap, ◌∙◌}
 use mathlib.Core.Option.{some}
 use lib.ListN.{get_elem?}
-use Rattle.steps_base.specs.Steps.{Kind, Stage, Event, go}
+use Rattle.steps_base.specs.Steps.{MachineKind, Stage, Event, go}
 use Rattle.steps_base.proofs.Runs.{go-keeps}
 use Rattle.steps_base.proofs.Laws.{length-machines, length-words}
 use Rattle.shared_steps.specs.Views.{View, machine_of, whole, machines_of, IsWhole}
@@ -10,7 +10,7 @@ use Rattle.shared_steps.specs.Rule.{IsDealt}
 use Rattle.shared_steps.proofs.Shown.{machine_of-whole, same_elements}
 use Rattle.shared_steps.proofs.Dealt.{machine-is}
 
-module _ {R O : Type 0} (kind : Kind R O) (start : Stage R) where
+module _ {R O : Type 0} (kind : MachineKind R O) (start : Stage R) where
   pub length-go : (events : List (Event O)) → length (go kind start events).machines ≡ length start.machines
   length-go events = go-keeps kind (λ s. length s.machines ≡ length start.machines) (λ s e long. length-machines kind s e ∙ long) start events refl
 

@@ -5,7 +5,7 @@ use Rattle.shared_steps.specs.Views.{View, machine_of, whole, picked, merged, on
 use Rattle.std.specs.Option.{is_some}
 use Rattle.atomic_table.specs.Table.{Me}
 use Rattle.heap_words.specs.declared.access.Access.{Access}
-use Rattle.steps_base.specs.Steps.{Kind, Stage, Finds}
+use Rattle.steps_base.specs.Steps.{MachineKind, Stage, Finds}
 use Rattle.shared_steps.specs.Rule.{Took}
 use Rattle.shared_steps.specs.Laws.{KeptLaws, StepLaws}
 
@@ -79,7 +79,7 @@ module _ {R T : Type 0} (kept : R → T) where
     some = kept_some;
   }
 
-module _ {R O T : Type 0} (kind : Kind R O) (start : Stage R) (kept : R → T) where
+module _ {R O T : Type 0} (kind : MachineKind R O) (start : Stage R) (kept : R → T) where
   -- what a step asks, where memory has the machine
   pub kept_can : (view : View R) (number : ℕ) (order : O) (t : T) (access : Access) → machine_of (kept_of kept view) number ≡ Some t
       → ((r : R) → kept r ≡ t → (kind.takes r order ≡ true) × (kind.plan r order ≡ access))
@@ -90,19 +90,19 @@ module _ {R O T : Type 0} (kind : Kind R O) (start : Stage R) (kept : R → T) w
       (m.0, m.1, a.0, a.1)
 
   -- what memory keeps after a step
-  pub kept_step : {S : Type 0} (number : ℕ) (order : O) (before after : Me S (View R)) (told : ℕ) (t next : T) → Took kind start number order before told after
-      → machine_of (kept_of kept before.0) number ≡ Some t → ((r : R) → kept r ≡ t → kept (kind.took r order told) ≡ next)
+  pub kept_step : {S : Type 0} (number : ℕ) (order : O) (before after : Me S (View R)) (got : ℕ) (t next : T) → Took kind start number order before got after
+      → machine_of (kept_of kept before.0) number ≡ Some t → ((r : R) → kept r ≡ t → kept (kind.took r order got) ≡ next)
       → kept_of kept after.0 ≡ slice_set (kept_of kept before.0) number (Some next)
-  kept_step number order before after told t next took here goes =
+  kept_step number order before after got t next took here goes =
       let m = kept_here kept before.0 number t here in
       let same : took.machine ≡ m.0 = cc (took.here, m.1) in
       let is : kept took.machine ≡ t = ap kept same ∙ m.2 in
-      ap (kept_of kept) took.view ∙ kept-set kept before.0 number (Some (kind.took took.machine order told)) ∙ ap (λ (x : T). slice_set (kept_of kept before.0) number (Some x)) (goes took.machine is)
+      ap (kept_of kept) took.view ∙ kept-set kept before.0 number (Some (kind.took took.machine order got)) ∙ ap (λ (x : T). slice_set (kept_of kept before.0) number (Some x)) (goes took.machine is)
 
   -- what a step tells of the machine that memory has
-  pub kept_finds : {S : Type 0} (number : ℕ) (order : O) (before after : Me S (View R)) (told : ℕ) (t : T) → Took kind start number order before told after → machine_of (kept_of kept before.0) number ≡ Some t
-      → (r : R) × (kept r ≡ t) × Finds kind start number r order told
-  kept_finds number order before after told t took here =
+  pub kept_finds : {S : Type 0} (number : ℕ) (order : O) (before after : Me S (View R)) (got : ℕ) (t : T) → Took kind start number order before got after → machine_of (kept_of kept before.0) number ≡ Some t
+      → (r : R) × (kept r ≡ t) × Finds kind start number r order got
+  kept_finds number order before after got t took here =
       let m = kept_here kept before.0 number t here in
       let same : took.machine ≡ m.0 = cc (took.here, m.1) in
       (took.machine, ap kept same ∙ m.2, took.finds)

@@ -3,7 +3,7 @@ use Rattle.std.proofs.Common.{◌≡◌, ◌≤◌, ◌+◌, ◌-◌, ◌%◌, �
 use Rattle.std.specs.Prelude.{slice_get, slice_set, slice_index, ◌==◌, if◌then◌else◌}
 use Rattle.std.proofs.lemmas.Bool.Decides.{nat_tests}
 use Rattle.std.proofs.lemmas.List.{length-set}
-use Rattle.heap_words.specs.Access.{place_of, made_of}
+use Rattle.heap_words.specs.Access.{table_index, made_of}
 use Rattle.steps_base.specs.Steps.{Stage, Event, go, moved, Finds}
 use Rattle.steps_base.proofs.Runs.{go-keeps, reached_has}
 use Rattle.steps_base.proofs.Laws.{act_cases}
@@ -51,7 +51,7 @@ next_lock Looks lock = lock
 next_lock (Writes found) lock = lock
 next_lock Leaves lock = (lock + (2 ^ 64 - 1)) % 2 ^ 64
 
-lock_after : (adder : Adder) (ws : List ℕ) → length ws ≡ 2 → slice_index (slice_set ws (place_of (plan_at adder)) (made_of (plan_at adder) (slice_index ws (place_of (plan_at adder))))) 0 ≡ next_lock adder (slice_index ws 0)
+lock_after : (adder : Adder) (ws : List ℕ) → length ws ≡ 2 → slice_index (slice_set ws (table_index (plan_at adder)) (made_of (plan_at adder) (slice_index ws (table_index (plan_at adder))))) 0 ≡ next_lock adder (slice_index ws 0)
 unfolding next_lock
 lock_after Idle (a ∷ b ∷ []) long = refl
 lock_after Asks (a ∷ b ∷ []) long = refl
@@ -63,23 +63,23 @@ lock_after adder (a ∷ []) long = absurd (omega arith)
 lock_after adder (a ∷ b ∷ d ∷ ds) long = absurd (omega arith)
 
 -- the balance of one step, over plain numbers
-balanced : (adder : Adder) (lock told before after : ℕ) → lock ≡ before → before ≤ 1 → holds_at adder ≤ before → (0 ≡ place_of (plan_at adder) → told ≡ lock) → after + holds_at adder ≡ before + holds_at (next_at adder told)
+balanced : (adder : Adder) (lock got before after : ℕ) → lock ≡ before → before ≤ 1 → holds_at adder ≤ before → (0 ≡ table_index (plan_at adder) → got ≡ lock) → after + holds_at adder ≡ before + holds_at (next_at adder got)
     → (next_lock adder lock ≡ after) × (after ≤ 1)
 unfolding next_lock
-balanced Idle lock told before after is one mine found sum = let same : told ≡ lock = found refl in (grind (arith, nat_tests), grind (arith, nat_tests))
-balanced Asks lock told before after is one mine found sum = let same : told ≡ lock = found refl in (grind (arith, nat_tests), grind (arith, nat_tests))
-balanced Looks lock told before after is one mine found sum = (omega arith, omega arith)
-balanced (Writes x) lock told before after is one mine found sum = (omega arith, omega arith)
-balanced Leaves lock told before after is one mine found sum = let same : lock ≡ 1 = omega arith in (rw same (omega arith), omega arith)
+balanced Idle lock got before after is one mine found sum = let same : got ≡ lock = found refl in (grind (arith, nat_tests), grind (arith, nat_tests))
+balanced Asks lock got before after is one mine found sum = let same : got ≡ lock = found refl in (grind (arith, nat_tests), grind (arith, nat_tests))
+balanced Looks lock got before after is one mine found sum = (omega arith, omega arith)
+balanced (Writes x) lock got before after is one mine found sum = (omega arith, omega arith)
+balanced Leaves lock got before after is one mine found sum = let same : lock ≡ 1 = omega arith in (rw same (omega arith), omega arith)
 
 step_locked : (s : Stage Worker) (number : ℕ) (w : Worker) (wish : Wish) → IsLocked s → slice_get s.machines number ≡ Some w → IsLocked (moved adders_kind s number w wish)
 unfolding adders_kind
 step_locked s number w wish locked here =
-    let told : ℕ = slice_index s.words (place_of (plan_at w.adder)) in
-    let next : Worker = worker (next_at w.adder told) (w.steps + 1) in
+    let got : ℕ = slice_index s.words (table_index (plan_at w.adder)) in
+    let next : Worker = worker (next_at w.adder got) (w.steps + 1) in
     let sum = holders-set s.machines number w next here in
     let mine = holder_counts s.machines number w here in
-    let b = balanced w.adder (slice_index s.words 0) told (holders s.machines) (holders (slice_set s.machines number next)) locked.lock locked.one mine
+    let b = balanced w.adder (slice_index s.words 0) got (holders s.machines) (holders (slice_set s.machines number next)) locked.lock locked.one mine
     (λ at. ap (λ n. slice_index s.words n) (sym at)) sum in
     record {
       table = length-set _ _ _ ∙ locked.table;
@@ -99,16 +99,16 @@ opening_locked count = record { table = refl; lock = sym (none_holds count); one
 run_locked : (count : ℕ) (events : List (Event Wish)) → IsLocked (go adders_kind (opening count) events)
 run_locked count events = go-keeps adders_kind IsLocked (λ s e locked. act_cases adders_kind IsLocked s e locked (λ w here takes. step_locked s e.number w e.order locked here)) (opening count) events (opening_locked count)
 
-fit_at : (adder : Adder) (told : ℕ) (s : Stage Worker) → IsLocked s → holds_at adder ≤ holders s.machines → told ≡ slice_index s.words (place_of (plan_at adder)) → IsFit adder told
-fit_at Idle told s locked mine found = tt
-fit_at Asks told s locked mine found = tt
-fit_at Looks told s locked mine found = tt
-fit_at (Writes x) told s locked mine found = tt
-fit_at Leaves told s locked mine found = let a = locked.lock in let b = locked.one in omega arith
+fit_at : (adder : Adder) (got : ℕ) (s : Stage Worker) → IsLocked s → holds_at adder ≤ holders s.machines → got ≡ slice_index s.words (table_index (plan_at adder)) → IsFit adder got
+fit_at Idle got s locked mine found = tt
+fit_at Asks got s locked mine found = tt
+fit_at Looks got s locked mine found = tt
+fit_at (Writes x) got s locked mine found = tt
+fit_at Leaves got s locked mine found = let a = locked.lock in let b = locked.one in omega arith
 
 -- an adder that finds a word in some run finds what it may find
-pub finds_fit : (count number : ℕ) (w : Worker) (wish : Wish) (told : ℕ) → Finds adders_kind (opening count) number w wish told → IsFit w.adder told
+pub finds_fit : (count number : ℕ) (w : Worker) (wish : Wish) (got : ℕ) → Finds adders_kind (opening count) number w wish got → IsFit w.adder got
 unfolding adders_kind
-finds_fit count number w wish told finds =
+finds_fit count number w wish got finds =
     let locked : IsLocked finds.stage = reached_has adders_kind IsLocked (opening count) finds.stage (run_locked count) finds.reached in
-    fit_at w.adder told finds.stage locked (holder_counts finds.stage.machines number w finds.here) finds.found
+    fit_at w.adder got finds.stage locked (holder_counts finds.stage.machines number w finds.here) finds.found

@@ -4,14 +4,14 @@ use Rattle.std.specs.Prelude.{◌==◌, if◌then◌else◌}
 use Rattle.std.proofs.lemmas.Bool.Decides.{nat_tests}
 use Rattle.std.proofs.Common.{arith}
 use Rattle.atomic_table.specs.Table.{Me}
-use Rattle.steps_base.specs.Steps.{Kind, Stage, HasReached}
+use Rattle.steps_base.specs.Steps.{MachineKind, Stage, HasReached}
 use Rattle.shared_steps.specs.Views.{View, machine_of, whole, picked, merged, one_of}
 use Rattle.shared_steps.specs.Rule.{Took, AreReached}
 use Rattle.shared_steps.specs.Laws.{ReachLaws}
 use Rattle.shared_steps.proofs.Shown.{machine_of-picked, machine_of-merged, machine_of-set}
 use Rattle.shared_steps.proofs.Rules.{begins, tells}
 
-module _ {R O : Type 0} (kind : Kind R O) (start : Stage R) where
+module _ {R O : Type 0} (kind : MachineKind R O) (start : Stage R) where
   pub reached_opens : AreReached kind start (whole start.machines)
   reached_opens number r here = ∣ begins kind start number r here ∣₁
 
@@ -29,20 +29,20 @@ module _ {R O : Type 0} (kind : Kind R O) (start : Stage R) where
       by_machine None is one = other number r (sym (ap (λ x. one_of x (machine_of w number)) is) ∙ one)
       by_machine (Some q) is one = each number r (is ∙ sym (ap (λ x. one_of x (machine_of w number)) is) ∙ one)
 
-  pub reached_step : {S : Type 0} (number : ℕ) (order : O) (before after : Me S (View R)) (told : ℕ) → Took kind start number order before told after → AreReached kind start before.0 → AreReached kind start after.0
-  reached_step number order before after told took each k r here = by_number (k == number) refl
+  pub reached_step : {S : Type 0} (number : ℕ) (order : O) (before after : Me S (View R)) (got : ℕ) → Took kind start number order before got after → AreReached kind start before.0 → AreReached kind start after.0
+  reached_step number order before after got took each k r here = by_number (k == number) refl
     where
       next : R
-      next = kind.took took.machine order told
+      next = kind.took took.machine order got
 
-      there : (if k == number then Some (kind.took took.machine order told) else machine_of before.0 k) ≡ Some r
-      there = sym (machine_of-set before.0 number took.machine (Some (kind.took took.machine order told)) took.here k) ∙ sym (ap (λ v. machine_of v k) took.view) ∙ here
+      there : (if k == number then Some (kind.took took.machine order got) else machine_of before.0 k) ≡ Some r
+      there = sym (machine_of-set before.0 number took.machine (Some (kind.took took.machine order got)) took.here k) ∙ sym (ap (λ v. machine_of v k) took.view) ∙ here
 
       by_number : (b : Bool) → (k == number) ≡ b → ∥ HasReached kind start k r ∥₁
       by_number true is =
           let same : k ≡ number = grind (arith, nat_tests) in
-          let new : kind.took took.machine order told ≡ r = let a = there in cc (rw is at there) in
-          let reached = (tells kind start number order before after told took.machine took took.here).1 in
+          let new : kind.took took.machine order got ≡ r = let a = there in cc (rw is at there) in
+          let reached = (tells kind start number order before after got took.machine took took.here).1 in
           ∣ subst (λ (n : ℕ). HasReached kind start n r) (sym same) (subst (λ (m : R). HasReached kind start number m) new reached) ∣₁
       by_number false is = each k r (rw is at there)
 

@@ -7,7 +7,7 @@ use Rattle.shared_steps.specs.declared.adders.Adder.TheVariants.{Idle, Asks, Loo
 use Rattle.shared_steps.specs.declared.adders.Wish.{Wish}
 use Rattle.shared_steps.specs.declared.adders.Wish.TheVariants.{Begin, GoOn}
 use Rattle.shared_steps.specs.declared.adders.Worker.{Worker}
-use Rattle.steps_base.specs.Steps.{Kind, Stage, IsReached}
+use Rattle.steps_base.specs.Steps.{MachineKind, Stage, IsReached}
 use Rattle.shared_steps.specs.Views.{View, whole, machine_of, kept_one, kept_of}
 
 -- an adder that is idle begins, and one that is not goes on
@@ -33,19 +33,19 @@ plan_at Leaves = Sub 0 1
 
 -- where it stands after it was told a word
 abbrev pub next_at : Adder → ℕ → Adder
-next_at Idle told = if told == 0 then Looks else Asks
-next_at Asks told = if told == 0 then Looks else Asks
-next_at Looks told = Writes told
-next_at (Writes found) told = Leaves
-next_at Leaves told = Idle
+next_at Idle got = if got == 0 then Looks else Asks
+next_at Asks got = if got == 0 then Looks else Asks
+next_at Looks got = Writes got
+next_at (Writes found) got = Leaves
+next_at Leaves got = Idle
 
 -- what an adder may find: at its leave the lock is its own
 abbrev pub IsFit : Adder → ℕ → Type 0
-IsFit Idle told = Unit {0}
-IsFit Asks told = Unit {0}
-IsFit Looks told = Unit {0}
-IsFit (Writes found) told = Unit {0}
-IsFit Leaves told = told ≡ 1
+IsFit Idle got = Unit {0}
+IsFit Asks got = Unit {0}
+IsFit Looks got = Unit {0}
+IsFit (Writes found) got = Unit {0}
+IsFit Leaves got = got ≡ 1
 
 -- the adder, with the steps that it has made
 abbrev pub worker : Adder → ℕ → Worker
@@ -55,11 +55,11 @@ abbrev pub adder_of : Worker → Adder
 adder_of w = w.adder
 
 -- the kind of machine
-unfoldable pub adders_kind : Kind Worker Wish
+unfoldable pub adders_kind : MachineKind Worker Wish
 adders_kind = record {
   takes = λ w wish. takes_at w.adder wish;
   plan = λ w wish. plan_at w.adder;
-  took = λ w wish told. worker (next_at w.adder told) (w.steps + 1);
+  took = λ w wish got. worker (next_at w.adder got) (w.steps + 1);
 }
 
 -- so many adders, all idle, and nothing added

@@ -3,20 +3,20 @@
 use Rattle.std.specs.Prelude.{ℕ, ◌≡◌, ◌+◌, ◌<◌, Bool, true, List, [], map, length, Option, Some, None, slice_set, if◌then◌else◌, ◌==◌, ◌%◌}
 use Rattle.std.specs.Option.{is_some}
 use Rattle.heap_words.specs.declared.access.Access.{Access}
-use Rattle.heap_words.specs.Access.{place_of, made_of}
+use Rattle.heap_words.specs.Access.{table_index, made_of}
 use Rattle.atomic_table.specs.Table.{Me, Allows, Splits, Joins, Final, Seen, opening}
-use Rattle.steps_base.specs.Steps.{Kind, Stage, IsReached, HasReached, Finds}
+use Rattle.steps_base.specs.Steps.{MachineKind, Stage, IsReached, HasReached, Finds}
 use Rattle.shared_steps.specs.Views.{View, machine_of, whole, machines_of, IsWhole, picked, left_over, merged, is_dealt_to, dealt_to, dealt_below, kept_one, kept_of, SameNumbers}
 use Rattle.shared_steps.specs.Rule.{Rule, Took, AreReached}
 
 -- `S` is what slots of the table hold; no step touches one
-pub record TableLaws {R O : Type 0} (S : Type 0) (kind : Kind R O) (start : Stage R) : Type 0 where
+pub record TableLaws {R O : Type 0} (S : Type 0) (kind : MachineKind R O) (start : Stage R) : Type 0 where
   -- one seat has all machines
   pub opens : (slots : List S) → Rule kind start (opening start.words slots (whole start.machines))
   -- a machine of the seat makes its access, of whichever form, and goes on with the word that it found
   pub moves : (id number : ℕ) (me : Me S (View R)) (r : R) (order : O) → machine_of me.0 number ≡ Some r → kind.takes r order ≡ true
       → (slots : ℕ) (access : Access) → kind.plan r order ≡ access
-      → Allows (Rule kind start) slots id me (place_of access) (made_of access) (λ found. Took kind start number order me found)
+      → Allows (Rule kind start) slots id me (table_index access) (made_of access) (λ found. Took kind start number order me found)
   -- the machines whose numbers pass a test go to a new seat
   pub splits : (id : ℕ) (view : View R) (test : ℕ → Bool) → Splits (Rule kind start {S = S}) id view (left_over test view) (picked test view)
   -- one seat takes all machines of another, which then has none
@@ -25,17 +25,17 @@ pub record TableLaws {R O : Type 0} (S : Type 0) (kind : Kind R O) (start : Stag
   pub closes : (id : ℕ) (view : View R) (words : List ℕ) (slots : List S) → IsWhole (length start.machines) view
       → Final (Seen (Rule kind start) id view) words slots → IsReached kind start (record { words = words; machines = machines_of view })
   -- what a step told is a word that the machine finds in some run, and what it became is reached
-  pub tells : (number : ℕ) (order : O) (before after : Me S (View R)) (told : ℕ) (r : R) → Took kind start number order before told after → machine_of before.0 number ≡ Some r
-      → Finds kind start number r order told × HasReached kind start number (kind.took r order told) × (after.0 ≡ slice_set before.0 number (Some (kind.took r order told)))
+  pub tells : (number : ℕ) (order : O) (before after : Me S (View R)) (got : ℕ) (r : R) → Took kind start number order before got after → machine_of before.0 number ≡ Some r
+      → Finds kind start number r order got × HasReached kind start number (kind.took r order got) × (after.0 ≡ slice_set before.0 number (Some (kind.took r order got)))
   -- the machines of the opening are reached
   pub begins : (number : ℕ) (r : R) → machine_of (whole start.machines) number ≡ Some r → HasReached kind start number r
 
 -- That each machine of a bundle is reached: it is so at the opening, and stays so
-pub record ReachLaws {R O : Type 0} (S : Type 0) (kind : Kind R O) (start : Stage R) : Type 0 where
+pub record ReachLaws {R O : Type 0} (S : Type 0) (kind : MachineKind R O) (start : Stage R) : Type 0 where
   pub opens : AreReached kind start (whole start.machines)
   pub picked : (test : ℕ → Bool) (view : View R) → AreReached kind start view → AreReached kind start (picked test view)
   pub merged : (v w : View R) → AreReached kind start v → AreReached kind start w → AreReached kind start (merged v w)
-  pub steps : (number : ℕ) (order : O) (before after : Me S (View R)) (told : ℕ) → Took kind start number order before told after → AreReached kind start before.0 → AreReached kind start after.0
+  pub steps : (number : ℕ) (order : O) (before after : Me S (View R)) (got : ℕ) → Took kind start number order before got after → AreReached kind start before.0 → AreReached kind start after.0
 
 -- Machines are dealt to so many bundles in turn. Bundles are cut off from the last to the first, and joined from the first
 -- to the last
@@ -62,14 +62,14 @@ pub record KeptLaws {R T : Type 0} (kept : R → T) : Type 0 where
   pub some : (view : View R) (number : ℕ) → is_some (machine_of (kept_of kept view) number) ≡ is_some (machine_of view number)
 
 -- A step of a machine that memory has: what it asks, and what memory keeps afterwards
-pub record StepLaws {R O T : Type 0} (S : Type 0) (kind : Kind R O) (start : Stage R) (kept : R → T) : Type 0 where
+pub record StepLaws {R O T : Type 0} (S : Type 0) (kind : MachineKind R O) (start : Stage R) (kept : R → T) : Type 0 where
   pub can : (view : View R) (number : ℕ) (order : O) (t : T) (access : Access) → machine_of (kept_of kept view) number ≡ Some t
       → ((r : R) → kept r ≡ t → (kind.takes r order ≡ true) × (kind.plan r order ≡ access))
       → (r : R) × (machine_of view number ≡ Some r) × (kind.takes r order ≡ true) × (kind.plan r order ≡ access)
-  pub finds : (number : ℕ) (order : O) (before after : Me S (View R)) (told : ℕ) (t : T) → Took kind start number order before told after → machine_of (kept_of kept before.0) number ≡ Some t
-      → (r : R) × (kept r ≡ t) × Finds kind start number r order told
-  pub goes : (number : ℕ) (order : O) (before after : Me S (View R)) (told : ℕ) (t next : T) → Took kind start number order before told after
-      → machine_of (kept_of kept before.0) number ≡ Some t → ((r : R) → kept r ≡ t → kept (kind.took r order told) ≡ next)
+  pub finds : (number : ℕ) (order : O) (before after : Me S (View R)) (got : ℕ) (t : T) → Took kind start number order before got after → machine_of (kept_of kept before.0) number ≡ Some t
+      → (r : R) × (kept r ≡ t) × Finds kind start number r order got
+  pub goes : (number : ℕ) (order : O) (before after : Me S (View R)) (got : ℕ) (t next : T) → Took kind start number order before got after
+      → machine_of (kept_of kept before.0) number ≡ Some t → ((r : R) → kept r ≡ t → kept (kind.took r order got) ≡ next)
       → kept_of kept after.0 ≡ slice_set (kept_of kept before.0) number (Some next)
 
 -- A bundle keeps its numbers. Steps change none, and who has all numbers of the opening has all machines

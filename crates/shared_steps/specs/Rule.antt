@@ -2,7 +2,7 @@
 -- nothing of the machines but that they are of one kind.
 use Rattle.std.specs.Prelude.{ℕ, ◌≡◌, ◌==◌, List, Option, Some, None, slice_get, slice_set, if◌then◌else◌}
 use Rattle.atomic_table.specs.Table.{State, Me}
-use Rattle.steps_base.specs.Steps.{Kind, Stage, Event, go, HasReached, Finds}
+use Rattle.steps_base.specs.Steps.{MachineKind, Stage, Event, go, HasReached, Finds}
 use Rattle.shared_steps.specs.Views.{View, machine_of, shown}
 
 -- each machine is in one view, that of its owner, and in no other. No view has a machine that there is not
@@ -10,7 +10,7 @@ pub record IsDealt {R : Type 0} (machines : List R) (views : List (View R)) : Ty
   pub owner : ℕ → ℕ
   pub shows : (seat number : ℕ) → shown views seat number ≡ (if seat == owner number then slice_get machines number else None)
 
-module _ {R O : Type 0} (kind : Kind R O) (start : Stage R) where
+module _ {R O : Type 0} (kind : MachineKind R O) (start : Stage R) where
   -- some events lead from the start to these words, and to the machines of all views
   pub record IsKept (words : List ℕ) (views : List (View R)) : Type 0 where
     pub events : List (Event O)
@@ -22,11 +22,11 @@ module _ {R O : Type 0} (kind : Kind R O) (start : Stage R) where
 
   -- what a step of a machine tells: the machine was there, it took the order and found this word, and goes on from it. No
   -- other machine of the bundle has changed, and no slot
-  pub record Took {S : Type 0} (number : ℕ) (order : O) (before : Me S (View R)) (told : ℕ) (after : Me S (View R)) : Type 0 where
+  pub record Took {S : Type 0} (number : ℕ) (order : O) (before : Me S (View R)) (got : ℕ) (after : Me S (View R)) : Type 0 where
     pub machine : R
     pub here : machine_of before.0 number ≡ Some machine
-    pub finds : Finds kind start number machine order told
-    pub view : after.0 ≡ slice_set before.0 number (Some (kind.took machine order told))
+    pub finds : Finds kind start number machine order got
+    pub view : after.0 ≡ slice_set before.0 number (Some (kind.took machine order got))
     pub slots : after.1 ≡ before.1
 
   -- each machine of the view stands as it does in some run
@@ -34,6 +34,6 @@ module _ {R O : Type 0} (kind : Kind R O) (start : Stage R) where
   AreReached view = (number : ℕ) (r : R) → machine_of view number ≡ Some r → ∥ HasReached kind start number r ∥₁
 
 -- the same, of a table whose key says which kind and which opening, where key and order are named
-abbrev pub TookAs : {R O K S : Type 0} → (K → Kind R O) → (K → Stage R) → Option K → ℕ → Option O → Me S (View R) → ℕ → Me S (View R) → Type 0
-TookAs {R} {O} {K} {S} kinds starts key number order before told after =
-    (at : K) (named : O) → key ≡ Some at → order ≡ Some named → Took (kinds at) (starts at) number named before told after
+abbrev pub TookAs : {R O K S : Type 0} → (K → MachineKind R O) → (K → Stage R) → Option K → ℕ → Option O → Me S (View R) → ℕ → Me S (View R) → Type 0
+TookAs {R} {O} {K} {S} kinds starts key number order before got after =
+    (at : K) (named : O) → key ≡ Some at → order ≡ Some named → Took (kinds at) (starts at) number named before got after

@@ -74,13 +74,13 @@ impl Adder {
     }
 
     /// Where it stands after its access found this word. At a leave the word is 1, its own lock.
-    pub fn took(self, told: u64) -> Adder
-        requires { IsFit self told }
-        ensures { result ≡ next_at self told }
+    pub fn took(self, got: u64) -> Adder
+        requires { IsFit self got }
+        ensures { result ≡ next_at self got }
     {
         match self {
-            Adder::Idle | Adder::Asks => { if told == 0 { Adder::Looks } else { Adder::Asks } }
-            Adder::Looks => Adder::Writes { found: told },
+            Adder::Idle | Adder::Asks => { if got == 0 { Adder::Looks } else { Adder::Asks } }
+            Adder::Looks => Adder::Writes { found: got },
             Adder::Writes { .. } => Adder::Leaves,
             Adder::Leaves => Adder::Idle,
         }

@@ -1,17 +1,17 @@
 ghost use Rattle.std.specs.Prelude.{ℕ};
-ghost use Rattle.steps_base.specs.Steps.{Kind, Stage};
+ghost use Rattle.steps_base.specs.Steps.{MachineKind, Stage};
 ghost use Rattle.shared_steps.specs.Views as views;
 ghost use Rattle.shared_steps.specs.Laws.{TableLaws, ReachLaws, DealingLaws, KeptLaws, StepLaws, NumberLaws};
 
 /// A law: the rule holds at the opening, each step keeps it, and who has all machines knows one run. `S` is what slots
 /// hold.
 pub fn steps_keep_the_rule<R, O, S>()
-    ensures { (kind : Kind R O) (start : Stage R) → TableLaws S kind start }
+    ensures { (kind : MachineKind R O) (start : Stage R) → TableLaws S kind start }
 {}
 
 /// A law: each machine of a bundle stands as it does in some run.
 pub fn bundles_are_reached<R, O, S>()
-    ensures { (kind : Kind R O) (start : Stage R) → ReachLaws S kind start }
+    ensures { (kind : MachineKind R O) (start : Stage R) → ReachLaws S kind start }
 {}
 
 /// A law: machines dealt in turn to some bundles are all there once the bundles are joined.
@@ -31,5 +31,5 @@ pub fn numbers_stay<R>()
 
 /// A law: where memory has a machine of a view, its step is one of the view, and memory keeps what it then is.
 pub fn steps_reach_memory<R, O, T, S>()
-    ensures { (kind : Kind R O) (start : Stage R) (kept : R → T) → StepLaws S kind start kept }
+    ensures { (kind : MachineKind R O) (start : Stage R) (kept : R → T) → StepLaws S kind start kept }
 {}

@@ -1,5 +1,5 @@
 ghost use Rattle.std.specs.Prelude.{ℕ, Option, None, []};
-ghost use Rattle.steps_base.specs.Steps.{Kind, Stage};
+ghost use Rattle.steps_base.specs.Steps.{MachineKind, Stage};
 ghost use Rattle.shared_steps.specs.Views.{whole, picked, left_over, merged};
 ghost use Rattle.shared_steps.specs.Rule.{Rule, TookAs};
 
@@ -22,7 +22,7 @@ pub type ViewSeat<R> = Seat<(), View<R>>;
 
 /// A kind of machine by a key, with records `R` and orders `O`, and what a table of them begins with.
 pub trait Machines<R, O, K> {
-    ghost kind: { K → Kind R O };
+    ghost kind: { K → MachineKind R O };
 
     ghost opening: { K → Stage R };
 }

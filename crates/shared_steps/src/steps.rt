@@ -1,5 +1,5 @@
 ghost use Rattle.std.specs.Prelude.{◌≡◌, ◌<◌, true, Some};
-ghost use Rattle.heap_words.specs.Access.{place_of};
+ghost use Rattle.heap_words.specs.Access.{table_index};
 ghost use Rattle.shared_steps.specs.Views.{machine_of};
 ghost use Rattle.shared_steps.specs.Rule.{Took};
 
@@ -17,7 +17,7 @@ pub fn make_step<R, O, K, M: Machines<R, O, K>, G: Turn<K, O>>(
     access: Access,
 ) -> u64
     requires table { seat.old.table_id ≡ table.now.table_id }
-    requires inside { place_of access < table.now.table_id.words }
+    requires inside { table_index access < table.now.table_id.words }
     requires turn { (G.key ≡ Some table.now.key) × (G.number ≡ number) × (G.order ≡ Some order.now) }
     requires machine { (machine : R) × (machine_of seat.old.me.0 number ≡ Some machine) × ((M.kind table.now.key).takes machine order.now ≡ true) × ((M.kind table.now.key).plan machine order.now ≡ access) }
     ensures table { (seat.new.table_id ≡ seat.old.table_id) × (seat.new.id ≡ seat.old.id) }

@@ -17,7 +17,7 @@ use Rattle.step_core.specs.Actor.{Actor}
 use Rattle.step_core.specs.Machines.{took_of, kind}
 use Rattle.heap_machines.specs.Turn.{order_for}
 use Rattle.step_core.specs.Opening.{opening_actor, opening}
-use Rattle.step_core.specs.Schedule.{Scripts, script_of, turn, Agenda, scheduled}
+use Rattle.step_core.specs.Schedule.{Scripts, nth_script, turn, Agenda, scheduled}
 use Rattle.shen_core.specs.Runs.{event}
 use Rattle.shen_core.specs.Progress.{AreIdle}
 use Rattle.shen_core.specs.Calls.{CallsScript, HasCalled, AllCall, AllHaveCalled}
@@ -41,14 +41,14 @@ turn_keeps c scripts t s k e is before = act_cases (kind full_image c) (λ x. Ca
         → CallsScript scripts (record { words = words; machines = machines }) t
     own got machines words r here same_actor made same =
         let a = before.actor in
-        let order : order_for (slice_get (script_of scripts t) (length a.calls)) a.machine ≡ Some e.order =
-        own_turn t (order_for (slice_get (script_of scripts t) (length a.calls)) a.machine) e (sym (actor_turn scripts s t a before.here) ∙ ap (turn scripts s) (same ∙ turn_number scripts s k e is) ∙ is) in
+        let order : order_for (slice_get (nth_script scripts t) (length a.calls)) a.machine ≡ Some e.order =
+        own_turn t (order_for (slice_get (nth_script scripts t) (length a.calls)) a.machine) e (sym (actor_turn scripts s t a before.here) ∙ ap (turn scripts s) (same ∙ turn_number scripts s k e is) ∙ is) in
         record {
           actor = took_of full_image c a e.order got a.machine;
           here = ap (slice_get machines) same ∙ ap (λ (ms : List Actor). slice_get ms e.number) made ∙ slice_get-set_same s.machines e.number r (took_of full_image c r e.order got r.machine) here
               ∙ ap (λ (x : Actor). Some (took_of full_image c x e.order got x.machine)) same_actor;
           role = role_stays full_image c e.order got a.machine ∙ before.role;
-          calls = script_step full_image c (script_of scripts t) a e.order got before.calls order;
+          calls = script_step full_image c (nth_script scripts t) a e.order got before.calls order;
         }
 
     by_number : (r : Actor) → slice_get s.machines e.number ≡ Some r → ((t ≡ e.number) ⊎ (t ≢ e.number)) → CallsScript scripts (moved (kind full_image c) s e.number r e.order) t
@@ -66,7 +66,7 @@ all_call_first c scripts t below = record {
   actor = opening_actor c t;
   here = first_actor c t (omega arith);
   role = first_role c t ∙ lt-ltb t c.mutators below;
-  calls = first_on_script c t (script_of scripts t) below;
+  calls = first_on_script c t (nth_script scripts t) below;
 }
 
 -- a mutator without a turn has called its whole script
@@ -74,8 +74,8 @@ idle_has_called : (scripts : Scripts) (s : Stage Actor) (t : ℕ) → CallsScrip
 idle_has_called scripts s t before idle = record {
   actor = before.actor;
   here = before.here;
-  called = script_done (script_of scripts t) before.actor before.role before.calls
-      (nothing_of (order_for (slice_get (script_of scripts t) (length before.actor.calls)) before.actor.machine) (sym (actor_turn scripts s t before.actor before.here) ∙ idle));
+  called = script_done (nth_script scripts t) before.actor before.role before.calls
+      (nothing_of (order_for (slice_get (nth_script scripts t) (length before.actor.calls)) before.actor.machine) (sym (actor_turn scripts s t before.actor before.here) ∙ idle));
 }
   where
     nothing_of : (o : Option Order) → option_map (λ order. event t order) o ≡ None → o ≡ None

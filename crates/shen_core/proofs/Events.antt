@@ -6,7 +6,7 @@ use Rattle.std.specs.Option.{option_map}
 use Rattle.std.proofs.lemmas.Option.{slice_get-map, same_Some}
 use Rattle.std.proofs.lemmas.List.{map-set}
 use Rattle.heap_words.specs.declared.config.Config.{Config}
-use Rattle.heap_words.specs.Access.{place_of}
+use Rattle.heap_words.specs.Access.{table_index}
 use Rattle.steps_base.specs.Steps.{Stage, IsEvent, accessed, moved, act, go}
 use Rattle.steps_base.proofs.Runs.{go-step}
 use Rattle.steps_base.proofs.Laws.{act-event}
@@ -31,7 +31,7 @@ shown_actor words machines s number machine shows here =
 module _ (c : Config) (words : List ℕ) (machines : List Machine) (number : ℕ) (machine : Machine) (order : Order) where
   -- the word that its access finds
   abbrev found : ℕ
-  found = slice_index words (place_of (plan_of c order machine))
+  found = slice_index words (table_index (plan_of c order machine))
 
   -- the words after its step
   abbrev pub stepped_words : List ℕ
@@ -54,8 +54,8 @@ module _ (c : Config) (words : List ℕ) (machines : List Machine) (number : ℕ
   moved_shows s command calls shows = record {
     words_are = ap (accessed (plan_of c order machine)) shows.words_are;
     machines_are = map-set (λ a. a.machine) s.machines number _
-        ∙ ap (λ ms. slice_set ms number (machine_after full_image c order (slice_index s.words (place_of (plan_of c order machine))) machine)) shows.machines_are
-        ∙ ap (λ ws. slice_set machines number (machine_after full_image c order (slice_index ws (place_of (plan_of c order machine))) machine)) shows.words_are;
+        ∙ ap (λ ms. slice_set ms number (machine_after full_image c order (slice_index s.words (table_index (plan_of c order machine))) machine)) shows.machines_are
+        ∙ ap (λ ws. slice_set machines number (machine_after full_image c order (slice_index ws (table_index (plan_of c order machine))) machine)) shows.words_are;
   }
 
   -- so it does after its event

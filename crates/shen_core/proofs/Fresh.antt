@@ -16,14 +16,14 @@ use Rattle.shen_graph.specs.declared.order.Order.TheVariants.{Nothing}
 use Rattle.heap_machines.proofs.Openings.{first_is, first_machines, first_made, first_rests, first_free_to_begin}
 use Rattle.step_core.specs.Actor.{Machine, fresh_helper}
 use Rattle.step_core.specs.Opening.{opening_machine, opening}
-use Rattle.step_core.specs.Schedule.{Scripts, script_of}
+use Rattle.step_core.specs.Schedule.{Scripts, nth_script}
 use Rattle.shen_core.specs.declared.plain.Plain.{Plain}
 use Rattle.shen_core.specs.State.{config_of, orders_of, machines_of, Shows}
 use Rattle.step_core.specs.Machines.{is_resting, may_begin, made_of_machine}
 use Rattle.shen_core.specs.Progress.{CanRun, Tells, IsRunnable}
 
 -- nothing was done of a script
-progress_first : (scripts : Scripts) (t : ℕ) → t < length scripts → length scripts ≤ 8 → work.progress_of (work.opened scripts) t ≡ Some (work.begun (script_of scripts t))
+progress_first : (scripts : Scripts) (t : ℕ) → t < length scripts → length scripts ≤ 8 → work.progress_of (work.opened scripts) t ≡ Some (work.begun (nth_script scripts t))
 progress_first scripts t below few =
     get_or-map-range_with_len (λ m. option_map work.begun (slice_get scripts m)) 0 8 t t None (omega arith) (omega arith)
     ∙ ap (option_map work.begun) (slice_get-get_or scripts t [] below)
@@ -53,8 +53,8 @@ can_run_first p scripts shows orders count few served = record {
   busy = λ t below busy. absurd (false≢true (sym busy ∙ rests_first (config_of p) (machines_of p) t shows.machines_are below));
   made = λ t below.
       let none = made_first (config_of p) (machines_of p) t shows.machines_are below in
-      let few_commands : length (script_of scripts t) < 4294967295 = (served t [] (omega arith)).1 in
-      let is : work.script_of (work.opened scripts) t ≡ script_of scripts t = ap (λ o. (unwrap_or o (work.begun [])).script) (progress_first scripts t (omega arith) few) in
+      let few_commands : length (nth_script scripts t) < 4294967295 = (served t [] (omega arith)).1 in
+      let is : work.script_in (work.opened scripts) t ≡ nth_script scripts t = ap (λ o. (unwrap_or o (work.begun [])).script) (progress_first scripts t (omega arith) few) in
       let long = ap length is in
       omega (arith, none, few_commands, long);
 }

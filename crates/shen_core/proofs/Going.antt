@@ -10,7 +10,7 @@ use Rattle.steps_base.proofs.Runs.{go-none, go-first, go-append}
 use Rattle.shen_graph.specs.declared.order.Order.{Order}
 use Rattle.step_core.specs.Actor.{Actor}
 use Rattle.step_core.specs.Machines.{kind}
-use Rattle.step_core.specs.Schedule.{Scripts, turn, waits_then, stands_at, given, given_of, Task, steps, until, replies, moves, move_of, control_after, Agenda, next, next_by, after_move, and_then, scheduled}
+use Rattle.step_core.specs.Schedule.{Scripts, turn, waits_then, is_at_place, given, given_of, Task, steps, until, replies, moves, move_of, control_after, Agenda, next, next_by, after_move, and_then, scheduled}
 use Rattle.shen_core.specs.declared.plain.Plain.{Plain}
 use Rattle.shen_core.specs.State.{config_of, words_of, machines_of, machine_at, seats_of, Shows}
 use Rattle.heap_machines.specs.Shown.{shown}
@@ -81,11 +81,11 @@ module _ (c : Config) (scripts : Scripts) where
   steps_move s number (suc k) some = ap (λ n. moves (turn scripts s number) (steps number n ∷ [])) (omega arith)
 
   -- a task ends where its machine has come to the place
-  pub until_there : (s : Stage Actor) (number : ℕ) (place : Place) → stands_at scripts s number place ≡ true → move_of c scripts s (until number place) ≡ None
+  pub until_there : (s : Stage Actor) (number : ℕ) (place : Place) → is_at_place scripts s number place ≡ true → move_of c scripts s (until number place) ≡ None
   until_there s number place there = rw there refl
 
   -- before that its machine has a turn
-  pub until_move : (s : Stage Actor) (number : ℕ) (place : Place) → stands_at scripts s number place ≡ false → move_of c scripts s (until number place) ≡ moves (turn scripts s number) (until number place ∷ [])
+  pub until_move : (s : Stage Actor) (number : ℕ) (place : Place) → is_at_place scripts s number place ≡ false → move_of c scripts s (until number place) ≡ moves (turn scripts s number) (until number place ∷ [])
   until_move s number place away = rw away refl
 
   -- a task ends where the replies were given

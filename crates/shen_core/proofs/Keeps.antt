@@ -9,7 +9,7 @@ use Rattle.steps_base.proofs.Runs.{go-none, go-first}
 use Rattle.shen_graph.specs.declared.order.Order.{Order}
 use Rattle.step_core.specs.Actor.{Actor}
 use Rattle.step_core.specs.Machines.{kind}
-use Rattle.step_core.specs.Schedule.{Scripts, turn, stands_at, given, Task, steps, until, replies, control, Move, moves, move_of, or_else, first_turn, numbers_from, Agenda, Next, round_of, after_move, next_by, next, and_then, scheduled}
+use Rattle.step_core.specs.Schedule.{Scripts, turn, is_at_place, given, Task, steps, until, replies, control, Move, moves, move_of, or_else, first_turn, numbers_from, Agenda, Next, round_of, after_move, next_by, next, and_then, scheduled}
 
 -- a move has the event that it is of
 moves_turn : (o : Option (Event Order)) (tasks : List Task) (m : Move) → moves o tasks ≡ Some m → o ≡ Some m.event
@@ -29,7 +29,7 @@ by_test false x y e = e
 task_turn : (c : Config) (scripts : Scripts) (s : Stage Actor) (t : Task) (m : Move) → move_of c scripts s t ≡ Some m → IsSomeTurn scripts s m.event
 task_turn c scripts s (steps number zero) m e = absurd cc
 task_turn c scripts s (steps number (suc count)) m e = (number, moves_turn (turn scripts s number) _ m e)
-task_turn c scripts s (until number place) m e = (number, moves_turn (turn scripts s number) _ m (by_test (stands_at scripts s number place) _ m e))
+task_turn c scripts s (until number place) m e = (number, moves_turn (turn scripts s number) _ m (by_test (is_at_place scripts s number place) _ m e))
 task_turn c scripts s (replies number count) m e = (number, moves_turn (turn scripts s number) _ m (by_test (nat_le count (given s number)) _ m e))
 task_turn c scripts s control m e = (_, moves_turn _ [] m e)
 

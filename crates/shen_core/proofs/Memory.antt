@@ -9,7 +9,7 @@ use Rattle.std.proofs.lemmas.List.{set-get_or, map-set, length-map}
 use Rattle.std.proofs.lemmas.List.Elements.{All-set}
 use Rattle.heap_words.specs.declared.config.Config.{Config}
 use Rattle.heap_words.specs.declared.access.Access.{Access}
-use Rattle.heap_words.specs.Access.{place_of}
+use Rattle.heap_words.specs.Access.{table_index}
 use Rattle.heap_words.specs.Ranges.{seat_count}
 use Rattle.shen_graph.specs.declared.order.Order.{Order}
 use Rattle.shen_graph.specs.declared.order.Order.TheVariants.{Nothing}
@@ -32,7 +32,7 @@ pub record IsMade (config : Config) (words new_words : List ℕ) (machines : Lis
   pub heap : heap_of m ≡ config
   pub takes : has_turn m ≡ true
   pub words_are : new_words ≡ accessed (plan_of (heap_of m) (order_of m) (shown m)) words
-  pub shown_is : shown n ≡ machine_after full_image (heap_of m) (order_of m) (slice_index words (place_of (plan_of (heap_of m) (order_of m) (shown m)))) (shown m)
+  pub shown_is : shown n ≡ machine_after full_image (heap_of m) (order_of m) (slice_index words (table_index (plan_of (heap_of m) (order_of m) (shown m)))) (shown m)
 
 -- a machine that was read is there
 pub from_read : (machines : List Machine) (number : ℕ) (m : Machine) → number < length machines → m ≡ get_or machines number m → slice_get machines number ≡ Some m
@@ -66,7 +66,7 @@ machine_here machines number m here = get_or_from_slice_get (map shown machines)
 -- by what the code has read and done
 pub made_from : (config : Config) (words new_words : List ℕ) (machines : List Machine) (number : ℕ) (m n : Machine) (access : Access) (found : ℕ)
     → number < length machines → m ≡ get_or machines number m → All (λ x. heap_of x ≡ config) machines → has_turn m ≡ true → access ≡ plan_of (heap_of m) (order_of m) (shown m)
-    → new_words ≡ accessed access words → found ≡ slice_index words (place_of access) → shown n ≡ machine_after full_image (heap_of m) (order_of m) found (shown m) → IsMade config words new_words machines number m n
+    → new_words ≡ accessed access words → found ≡ slice_index words (table_index access) → shown n ≡ machine_after full_image (heap_of m) (order_of m) found (shown m) → IsMade config words new_words machines number m n
 made_from config words new_words machines number m n access found below value one_heap takes row words_are found_is shown_is =
     let here = from_read machines number m below value in
     record {
@@ -74,12 +74,12 @@ made_from config words new_words machines number m n access found below value on
       heap = heap_here config machines number m one_heap here;
       takes = takes;
       words_are = words_are ∙ ap (λ x. accessed x words) row;
-      shown_is = shown_is ∙ ap (λ got. machine_after full_image (heap_of m) (order_of m) got (shown m)) (found_is ∙ ap (λ x. slice_index words (place_of x)) row);
+      shown_is = shown_is ∙ ap (λ got. machine_after full_image (heap_of m) (order_of m) got (shown m)) (found_is ∙ ap (λ x. slice_index words (table_index x)) row);
     }
 
 module _ (config : Config) (words new_words : List ℕ) (machines : List Machine) (number : ℕ) (m n : Machine) (made : IsMade config words new_words machines number m n) where
   -- the machines after its step
-  new_machines_are : map shown (slice_set machines number n) ≡ slice_set (map shown machines) number (machine_after full_image (heap_of m) (order_of m) (slice_index words (place_of (plan_of (heap_of m) (order_of m) (shown m)))) (shown m))
+  new_machines_are : map shown (slice_set machines number n) ≡ slice_set (map shown machines) number (machine_after full_image (heap_of m) (order_of m) (slice_index words (table_index (plan_of (heap_of m) (order_of m) (shown m)))) (shown m))
   new_machines_are = map-set shown machines number n ∙ ap (λ x. slice_set (map shown machines) number x) made.shown_is
 
   -- the step is one event

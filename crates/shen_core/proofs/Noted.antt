@@ -9,7 +9,7 @@ use Rattle.std.proofs.lemmas.Bool.{false≢true, cases_eq, ltb-true, lt-ltb}
 use Rattle.heap_words.specs.declared.config.Config.{Config}
 use Rattle.heap_words.specs.declared.access.Took.{Took}
 use Rattle.heap_words.specs.declared.access.Took.TheVariants as took
-use Rattle.heap_words.specs.Access.{place_of}
+use Rattle.heap_words.specs.Access.{table_index}
 use Rattle.steps_base.specs.Steps.{Stage, IsEvent, moved, act}
 use Rattle.steps_base.proofs.Laws.{act-event, machines_other}
 use Rattle.steps_base.proofs.Places.{slice_get-set_same}
@@ -93,11 +93,11 @@ tells_noted c words machines jobs number machine order reply scripts s shows tel
 
 -- whether the next step of a machine that memory shows says that it waits
 pub shown_waits : (c : Config) (words : List ℕ) (machines : List Machine) (number : ℕ) (machine : Machine) (order : Order) (s : Stage Actor) → Shows words machines s → slice_get machines number ≡ Some machine
-    → waits c s (event number order) ≡ again_by (answer_of c machine (slice_index words (place_of (plan_of c order machine))))
+    → waits c s (event number order) ≡ again_by (answer_of c machine (slice_index words (table_index (plan_of c order machine))))
 shown_waits c words machines number machine order s shows here =
     let found = shown_actor words machines s number machine shows here in
     ap (waits_of c s order) found.1 ∙ ap (waits_in s c order) found.2
-    ∙ ap (λ ws. again_by (answer_of c machine (slice_index ws (place_of (plan_of c order machine))))) shows.words_are
+    ∙ ap (λ ws. again_by (answer_of c machine (slice_index ws (table_index (plan_of c order machine))))) shows.words_are
 
 -- what a turn has done, by what its step said
 pub turned_from : (c : Config) (scripts : Scripts) (s : Stage Actor) (number : ℕ) (p : Plain) (jobs : Jobs) (said : Took) → IsMoved c scripts s number p jobs (is_again said) → Turned c scripts s number p jobs (stepped_of said)
@@ -118,11 +118,11 @@ pub record IsAfter (p q : Plain) (jobs later : Jobs) (number : ℕ) (next : Mach
   pub orders : All (λ o. o ≡ Nothing) (orders_of q)
   pub machines : machines_of q ≡ slice_set (machines_of p) number next
   pub within : number < length (machines_of p)
-  pub made : number < (config_of p).mutators → made_of_machine next + length (work.script_of later number) < 4294967295 + (length (work.replies_of later number) + at_hand_of next)
+  pub made : number < (config_of p).mutators → made_of_machine next + length (work.script_in later number) < 4294967295 + (length (work.replies_of later number) + at_hand_of next)
   pub has : (t : ℕ) → work.HasScript jobs t → work.HasScript later t
-  pub script : (t : ℕ) → work.script_of later t ≡ work.script_of jobs t
+  pub script : (t : ℕ) → work.script_in later t ≡ work.script_in jobs t
   pub other : (t : ℕ) → t ≢ number → work.replies_of later t ≡ work.replies_of jobs t
-  pub busy : number < (config_of p).mutators → is_resting next ≡ false → length (work.replies_of later number) < length (work.script_of later number)
+  pub busy : number < (config_of p).mutators → is_resting next ≡ false → length (work.replies_of later number) < length (work.script_in later number)
 
 module _ (p q : Plain) (jobs later : Jobs) (number : ℕ) (next : Machine) (after : IsAfter p q jobs later number next) where
   -- the machine of the turn is the next one
@@ -141,7 +141,7 @@ module _ (p q : Plain) (jobs later : Jobs) (number : ℕ) (next : Machine) (afte
     commands = λ t below. subst (λ script. All IsValid script) (sym (after.script t))
         (before.commands t (subst (λ c. t < c.mutators) after.config below));
     busy = λ t below busy. ⊎_elim
-        (λ (same : t ≡ number). subst (λ k. length (work.replies_of later k) < length (work.script_of later k)) (sym same)
+        (λ (same : t ≡ number). subst (λ k. length (work.replies_of later k) < length (work.script_in later k)) (sym same)
         (after.busy (subst (λ k. k < (config_of p).mutators) same (subst (λ c. t < c.mutators) after.config below)) (ap is_resting (sym at_number) ∙ ap (λ k. is_resting (machine_at q k)) (sym same) ∙ busy)))
         (λ (other : t ≡ number → ⊥).
         let replies = ap length (after.other t other) in
@@ -170,7 +170,7 @@ pub record IsStepped (p mid q : Plain) (jobs : Jobs) (number : ℕ) (said : Step
   pub next : IsNextTurn p jobs number true (order_at mid number)
   pub has : has_turn mid number ≡ true
   pub event : IsStep mid q number
-  pub says : said ≡ says (config_of mid) (machine_at mid number) (slice_index (words_of mid) (place_of (plan_of (config_of mid) (order_at mid number) (machine_at mid number))))
+  pub says : said ≡ says (config_of mid) (machine_at mid number) (slice_index (words_of mid) (table_index (plan_of (config_of mid) (order_at mid number) (machine_at mid number))))
   pub machines : machines_of q ≡ slice_set (machines_of mid) number (next_machine mid number)
   pub orders : orders_of q ≡ slice_set (orders_of mid) number Nothing
   pub config : config_of q ≡ config_of mid
@@ -182,7 +182,7 @@ module _ (p mid q : Plain) (jobs : Jobs) (number : ℕ) (said : Stepped) (facts 
 
   -- what its access finds
   abbrev got : ℕ
-  got = slice_index (words_of mid) (place_of (plan_of (config_of mid) (order_at mid number) (machine_at mid number)))
+  got = slice_index (words_of mid) (table_index (plan_of (config_of mid) (order_at mid number) (machine_at mid number)))
 
   -- a machine that gives a reply is a mutator, by its number
   pub below_now : (r : Reply) → given_in (machine_at mid number) ≡ Some r → number < (config_of p).mutators
@@ -191,9 +191,9 @@ module _ (p mid q : Plain) (jobs : Jobs) (number : ℕ) (said : Stepped) (facts 
       (sym facts.role ∙ ap is_mutating (sym same_machine) ∙ (given_after full_image (config_of mid) (order_at mid number) got (machine_at mid number) r gives).role)
 
   -- the heap can go on with work in which others stay
-  after_turn : (later : Jobs) → CanRun p jobs → ((t : ℕ) → work.HasScript jobs t → work.HasScript later t) → ((t : ℕ) → work.script_of later t ≡ work.script_of jobs t) → ((t : ℕ) → t ≢ number → work.replies_of later t ≡ work.replies_of jobs t)
-      → (number < (config_of p).mutators → is_resting (next_machine mid number) ≡ false → length (work.replies_of later number) < length (work.script_of later number))
-      → (number < (config_of p).mutators → made_of_machine (next_machine mid number) + length (work.script_of later number) < 4294967295 + (length (work.replies_of later number) + at_hand_of (next_machine mid number)))
+  after_turn : (later : Jobs) → CanRun p jobs → ((t : ℕ) → work.HasScript jobs t → work.HasScript later t) → ((t : ℕ) → work.script_in later t ≡ work.script_in jobs t) → ((t : ℕ) → t ≢ number → work.replies_of later t ≡ work.replies_of jobs t)
+      → (number < (config_of p).mutators → is_resting (next_machine mid number) ≡ false → length (work.replies_of later number) < length (work.script_in later number))
+      → (number < (config_of p).mutators → made_of_machine (next_machine mid number) + length (work.script_in later number) < 4294967295 + (length (work.replies_of later number) + at_hand_of (next_machine mid number)))
       → IsAfter p q jobs later number (next_machine mid number)
   after_turn later before has script other busy made = record {
     config = facts.config ∙ facts.mid_config;
@@ -208,15 +208,15 @@ module _ (p mid q : Plain) (jobs : Jobs) (number : ℕ) (said : Stepped) (facts 
   }
 
   -- in a call there are more commands than replies
-  more_now : CanRun p jobs → number < (config_of p).mutators → is_resting (next_machine mid number) ≡ false → length (work.replies_of jobs number) < length (work.script_of jobs number)
+  more_now : CanRun p jobs → number < (config_of p).mutators → is_resting (next_machine mid number) ≡ false → length (work.replies_of jobs number) < length (work.script_in jobs number)
   more_now before below busy = by_may (may_begin (machine_at p number)) refl
     where
-      by_may : (b : Bool) → may_begin (machine_at p number) ≡ b → length (work.replies_of jobs number) < length (work.script_of jobs number)
+      by_may : (b : Bool) → may_begin (machine_at p number) ≡ b → length (work.replies_of jobs number) < length (work.script_in jobs number)
       by_may false none = before.busy number below (goes_on_with (next_for (config_of p) jobs number) (machine_at p number) (order_at mid number) none facts.next).0
       by_may true may =
           let begun = begins full_image (config_of mid) (next_for (config_of p) jobs number) (machine_at p number) (order_at mid number) got may facts.next
           (ap (λ x. is_resting (machine_after full_image (config_of mid) (order_at mid number) got x)) (sym same_machine) ∙ busy) in
-          slice_get_within (work.script_of jobs number) (length (work.replies_of jobs number)) begun.0 (ap (λ b. if b then work.next_of jobs number else None) (sym (lt-ltb number (config_of p).mutators below)) ∙ begun.1)
+          slice_get_within (work.script_in jobs number) (length (work.replies_of jobs number)) begun.0 (ap (λ b. if b then work.next_of jobs number else None) (sym (lt-ltb number (config_of p).mutators below)) ∙ begun.1)
 
   -- the work is as it was
   pub can_run_on : given_in (machine_at mid number) ≡ None → CanRun p jobs → CanRun q jobs
@@ -224,8 +224,8 @@ module _ (p mid q : Plain) (jobs : Jobs) (number : ℕ) (said : Stepped) (facts 
       can_run_after p q jobs jobs number (next_machine mid number)
       (after_turn jobs before (λ t h. h) (λ t. refl) (λ t other. refl) (more_now before)
       (λ below.
-      names_on full_image (config_of mid) (order_at mid number) got (machine_at mid number) (length (work.script_of jobs number)) (length (work.replies_of jobs number))
-      (subst (λ machine. HasNames machine (length (work.script_of jobs number)) (length (work.replies_of jobs number))) (sym same_machine) (before.made number below)) none)) before
+      names_on full_image (config_of mid) (order_at mid number) got (machine_at mid number) (length (work.script_in jobs number)) (length (work.replies_of jobs number))
+      (subst (λ machine. HasNames machine (length (work.script_in jobs number)) (length (work.replies_of jobs number))) (sym same_machine) (before.made number below)) none)) before
 
   -- the reply is noted
   pub can_run_noted : (r : Reply) → given_in (machine_at mid number) ≡ Some r → CanRun p jobs → CanRun q (work.with_reply jobs number r)
@@ -233,9 +233,9 @@ module _ (p mid q : Plain) (jobs : Jobs) (number : ℕ) (said : Stepped) (facts 
       let below_it = below_now r gives in
       let has = before.jobs_are number below_it in
       let step = given_after full_image (config_of mid) (order_at mid number) got (machine_at mid number) r gives in
-      let now = subst (λ machine. HasNames machine (length (work.script_of jobs number)) (length (work.replies_of jobs number))) (sym same_machine) (before.made number below_it) in
-      let names = names_noted full_image (config_of mid) (order_at mid number) got (machine_at mid number) (length (work.script_of jobs number)) (length (work.replies_of jobs number)) now r gives in
-      let script : length (work.script_of (work.with_reply jobs number r) number) ≡ length (work.script_of jobs number) = ap length (script_kept jobs number r number has) in
+      let now = subst (λ machine. HasNames machine (length (work.script_in jobs number)) (length (work.replies_of jobs number))) (sym same_machine) (before.made number below_it) in
+      let names = names_noted full_image (config_of mid) (order_at mid number) got (machine_at mid number) (length (work.script_in jobs number)) (length (work.replies_of jobs number)) now r gives in
+      let script : length (work.script_in (work.with_reply jobs number r) number) ≡ length (work.script_in jobs number) = ap length (script_kept jobs number r number has) in
       let replies : length (work.replies_of (work.with_reply jobs number r) number) ≡ length (work.replies_of jobs number) + 1 = ap length (replies_same jobs number r has) ∙ length-append (work.replies_of jobs number) (r ∷ []) in
       can_run_after p q jobs (work.with_reply jobs number r) number (next_machine mid number)
       (after_turn (work.with_reply jobs number r) before (λ t h. script_stays jobs number r t has h) (λ t. script_kept jobs number r t has) (λ t other. replies_other jobs number r t other)
@@ -261,7 +261,7 @@ module _ (p mid q : Plain) (jobs : Jobs) (number : ℕ) (said : Stepped) (facts 
         event = event number (order_at mid number);
         is = facts.turn scripts s shows tells;
         waits_is = shown_waits (config_of p) (words_of mid) (machines_of mid) number (machine_at mid number) (order_at mid number) s (shows_mid s shows) here_mid
-            ∙ ap (λ c. again_by (answer_of c (machine_at mid number) (slice_index (words_of mid) (place_of (plan_of c (order_at mid number) (machine_at mid number)))))) (sym facts.mid_config)
+            ∙ ap (λ c. again_by (answer_of c (machine_at mid number) (slice_index (words_of mid) (table_index (plan_of c (order_at mid number) (machine_at mid number)))))) (sym facts.mid_config)
             ∙ ap again_by found.1;
         shows = subst (λ c. Shows (words_of q) (machines_of q) (act (kind full_image c) s (event number (order_at mid number)))) facts.mid_config (facts.event.acts s (shows_mid s shows));
         tells = tells_later scripts s (shows_mid s shows) tells;
@@ -307,7 +307,7 @@ module _ (p mid q : Plain) (jobs : Jobs) (number : ℕ) (said : Stepped) (facts 
       found.1 ∙ sym given.replied ∙ ap reply_in (sym now_next) ∙ has
 
   -- the mutator of that reply is one of the work, and has a command that it answers
-  pub can_tell : CanRun p jobs → said ≡ stepped.Done → work.HasScript jobs number × (length (work.replies_of jobs number) < length (work.script_of jobs number))
+  pub can_tell : CanRun p jobs → said ≡ stepped.Done → work.HasScript jobs number × (length (work.replies_of jobs number) < length (work.script_in jobs number))
   can_tell before done =
       let found = some_given done in
       let below = below_now found.0 found.1 in

@@ -3,7 +3,7 @@ use Rattle.std.proofs.Common.{◌≡◌, ◌<◌, ℕ, Bool, true, false, List, 
 use Rattle.pause_laws.proofs.Pauses.{full_is_pause}
 use Rattle.pause_laws.specs.Image.{full_image}
 use Rattle.std.specs.Prelude.{nat_lt, slice_get, slice_index, slice_index_or, IfSome, is_some, if◌then◌else◌}
-use Rattle.heap_words.specs.Access.{place_of}
+use Rattle.heap_words.specs.Access.{table_index}
 use Rattle.std.specs.Option.{option_map}
 use Rattle.std.proofs.Math.Logic.{∥∥₁_elim}
 use Rattle.std.proofs.Math.Bool.{Bool-set}
@@ -19,12 +19,12 @@ use Rattle.shen_graph.specs.declared.order.Order.{Order}
 use Rattle.heap_machines.proofs.Turns.{role_of, order_alike, rest_is_mutating, begins_at_rest, order_of_script}
 use Rattle.heap_machines.proofs.Names.{command_fits}
 use Rattle.step_core.specs.Actor.{Machine, fresh_helper, Actor}
-use Rattle.step_core.specs.Machines.{takes_of, plan_of, order_by, stands_in, is_resting, may_begin, made_of_machine, kind}
+use Rattle.step_core.specs.Machines.{takes_of, plan_of, order_by, is_machine_at, is_resting, may_begin, made_of_machine, kind}
 use Rattle.heap_machines.specs.Roles.{is_mutating}
 use Rattle.heap_machines.specs.Turn.{order_for}
 use Rattle.step_core.specs.Fit.{IsFitFor}
 use Rattle.step_core.specs.Begins.{ending}
-use Rattle.step_core.specs.Schedule.{Scripts, script_of, turn, turn_of, stands_at, stands_of}
+use Rattle.step_core.specs.Schedule.{Scripts, nth_script, turn, turn_of, is_at_place, is_actor_at}
 use Rattle.heap_words.specs.declared.place.Place.{Place}
 use Rattle.step_core.proofs.Theorem.{run_sound, found_fit}
 use Rattle.heap_machines.proofs.Fit.{fit_is_prop}
@@ -42,23 +42,23 @@ role_shown c words machines number machine some here = ∥∥₁_elim some (hlev
 
 -- the word that a machine finds is fit
 pub fit_shown : (c : Config) (words : List ℕ) (machines : List Machine) (number : ℕ) (machine : Machine) (order : Order) → ∥ IsShownBySome c words machines ∥₁ → slice_get machines number ≡ Some machine → takes_of machine order ≡ true
-    → IsFitFor c order (slice_index words (place_of (plan_of c order machine))) machine
+    → IsFitFor c order (slice_index words (table_index (plan_of c order machine))) machine
 unfolding kind
-fit_shown c words machines number machine order some here takes = ∥∥₁_elim some (fit_is_prop c order (slice_index words (place_of (plan_of c order machine))) machine) (λ shown.
+fit_shown c words machines number machine order some here takes = ∥∥₁_elim some (fit_is_prop c order (slice_index words (table_index (plan_of c order machine))) machine) (λ shown.
     let found = shown_actor words machines (ending full_image c shown.run) number machine shown.shows here in
-    let finds : Finds (kind full_image c) shown.run.start number found.0 order (slice_index words (place_of (plan_of c order machine))) = record {
+    let finds : Finds (kind full_image c) shown.run.start number found.0 order (slice_index words (table_index (plan_of c order machine))) = record {
       stage = ending full_image c shown.run;
       reached = record { events = shown.run.events; ends = refl };
       here = found.1;
       takes = ap (λ x. takes_of x order) found.2 ∙ takes;
-      found = ap (λ ws. slice_index ws (place_of (plan_of c order machine))) (sym shown.shows.words_are) ∙ ap (λ x. slice_index (ending full_image c shown.run).words (place_of (plan_of c order x))) (sym found.2);
+      found = ap (λ ws. slice_index ws (table_index (plan_of c order machine))) (sym shown.shows.words_are) ∙ ap (λ x. slice_index (ending full_image c shown.run).words (table_index (plan_of c order x))) (sym found.2);
     } in
-    subst (λ x. IsFitFor c order (slice_index words (place_of (plan_of c order machine))) x) found.2
-    (found_fit full_image full_is_pause c shown.run.start shown.run.graph shown.run.begins number found.0 order (slice_index words (place_of (plan_of c order machine))) finds))
+    subst (λ x. IsFitFor c order (slice_index words (table_index (plan_of c order machine))) x) found.2
+    (found_fit full_image full_is_pause c shown.run.start shown.run.graph shown.run.begins number found.0 order (slice_index words (table_index (plan_of c order machine))) finds))
 
 -- the turn of an actor, by its machine
-pub actor_turn : (scripts : Scripts) (s : Stage Actor) (number : ℕ) (a : Actor) → slice_get s.machines number ≡ Some a → turn scripts s number ≡ option_map (λ order. event number order) (order_for (slice_get (script_of scripts number) (length a.calls)) a.machine)
-actor_turn scripts s number a here = ap (turn_of scripts number) here ∙ ap (option_map (λ order. event number order)) (order_of_script (script_of scripts number) a.calls a.machine)
+pub actor_turn : (scripts : Scripts) (s : Stage Actor) (number : ℕ) (a : Actor) → slice_get s.machines number ≡ Some a → turn scripts s number ≡ option_map (λ order. event number order) (order_for (slice_get (nth_script scripts number) (length a.calls)) a.machine)
+actor_turn scripts s number a here = ap (turn_of scripts number) here ∙ ap (option_map (λ order. event number order)) (order_of_script (nth_script scripts number) a.calls a.machine)
 
 -- the event of a turn is of the machine whose turn it is
 pub turn_number : (scripts : Scripts) (s : Stage Actor) (k : ℕ) (e : Event Order) → turn scripts s k ≡ Some e → e.number ≡ k
@@ -70,7 +70,7 @@ turn_number scripts s k e is = by_actor (slice_get s.machines k) is
 
     by_actor : (a : Option Actor) → turn_of scripts k a ≡ Some e → e.number ≡ k
     by_actor None is = cc
-    by_actor (Some a) is = by_order (order_by (script_of scripts k) a.calls a.machine) is
+    by_actor (Some a) is = by_order (order_by (nth_script scripts k) a.calls a.machine) is
 
 -- there is a machine at each number
 pub machine_within : (machines : List Machine) (number : ℕ) → number < length machines → slice_get machines number ≡ Some (slice_index_or machines number fresh_helper)
@@ -83,15 +83,15 @@ role_within p number within = role_shown p.config p.words.items (machines_of p) 
 -- what follows in its script, and so what it does
 order_now : (p : Plain) (jobs : Jobs) (number : ℕ) → is_mutating (machine_at p number) ≡ nat_lt number (config_of p).mutators → (scripts : Scripts) (s : Stage Actor) → Tells (config_of p) scripts jobs s
     → (a : Actor) → slice_get s.machines number ≡ Some a
-    → order_for (slice_get (script_of scripts number) (length a.calls)) (machine_at p number) ≡ order_for (next_for (config_of p) jobs number) (machine_at p number)
+    → order_for (slice_get (nth_script scripts number) (length a.calls)) (machine_at p number) ≡ order_for (next_for (config_of p) jobs number) (machine_at p number)
 order_now p jobs number role scripts s tells a here = by_role (nat_lt number (config_of p).mutators) refl
   where
     by_role : (b : Bool) → nat_lt number (config_of p).mutators ≡ b
-        → order_for (slice_get (script_of scripts number) (length a.calls)) (machine_at p number) ≡ order_for (if nat_lt number (config_of p).mutators then work.next_of jobs number else None) (machine_at p number)
+        → order_for (slice_get (nth_script scripts number) (length a.calls)) (machine_at p number) ≡ order_for (if nat_lt number (config_of p).mutators then work.next_of jobs number else None) (machine_at p number)
     by_role true is =
         let below : number < (config_of p).mutators = ltb-true number (config_of p).mutators is in
         ap (λ script. order_for (slice_get script (length a.calls)) (machine_at p number)) (sym (tells.scripts_are number below))
-        ∙ ap (λ k. order_for (slice_get (work.script_of jobs number) k) (machine_at p number)) (sym (ap length (tells.replies number a below here) ∙ length-map a.calls (λ e. e.reply)))
+        ∙ ap (λ k. order_for (slice_get (work.script_in jobs number) k) (machine_at p number)) (sym (ap length (tells.replies number a below here) ∙ length-map a.calls (λ e. e.reply)))
         ∙ ap (λ b. order_for (if b then work.next_of jobs number else None) (machine_at p number)) (sym is)
     by_role false is = order_alike (machine_at p number) _ _ (role ∙ is)
 
@@ -102,7 +102,7 @@ turn_shown p jobs number within role scripts s shows tells =
     let found = shown_actor (words_of p) (machines_of p) s number (machine_at p number) shows (machine_within (machines_of p) number within) in
     let a = found.0 in
     actor_turn scripts s number a found.1
-    ∙ ap (λ machine. option_map (λ order. event number order) (order_for (slice_get (script_of scripts number) (length a.calls)) machine)) found.2
+    ∙ ap (λ machine. option_map (λ order. event number order) (order_for (slice_get (nth_script scripts number) (length a.calls)) machine)) found.2
     ∙ ap (option_map (λ order. event number order)) (order_now p jobs number role scripts s tells a found.1)
 
 -- so the event is that of its order
@@ -120,9 +120,9 @@ some_turn p number has within is scripts s shows =
     let found = shown_actor (words_of p) (machines_of p) s number (machine_at p number) shows (machine_within (machines_of p) number within) in
     let a = found.0 in
     ap is_some (actor_turn scripts s number a found.1)
-    ∙ by_some (order_for (slice_get (script_of scripts number) (length a.calls)) a.machine)
-    ∙ ap (λ machine. is_some (order_for (slice_get (script_of scripts number) (length a.calls)) machine)) found.2
-    ∙ is (slice_get (script_of scripts number) (length a.calls))
+    ∙ by_some (order_for (slice_get (nth_script scripts number) (length a.calls)) a.machine)
+    ∙ ap (λ machine. is_some (order_for (slice_get (nth_script scripts number) (length a.calls)) machine)) found.2
+    ∙ is (slice_get (nth_script scripts number) (length a.calls))
   where
     by_some : (o : Option Order) → is_some (option_map (λ x. event number x) o) ≡ is_some o
     by_some None = refl
@@ -130,14 +130,14 @@ some_turn p number has within is scripts s shows =
 
 -- where the next access of a machine stands on its turn, in a stage that memory shows
 pub stands_shown : (p : Plain) (jobs : Jobs) (number : ℕ) (place : Place) → number < length (machines_of p)
-    → (scripts : Scripts) (s : Stage Actor) → Shows p s → Tells (config_of p) scripts jobs s → stands_at scripts s number place ≡ stands_in place (machine_at p number) (order_for (next_for (config_of p) jobs number) (machine_at p number))
+    → (scripts : Scripts) (s : Stage Actor) → Shows p s → Tells (config_of p) scripts jobs s → is_at_place scripts s number place ≡ is_machine_at place (machine_at p number) (order_for (next_for (config_of p) jobs number) (machine_at p number))
 stands_shown p jobs number place within scripts s shows tells =
     let found = shown_actor (words_of p) (machines_of p) s number (machine_at p number) shows (machine_within (machines_of p) number within) in
     let a = found.0 in
-    ap (stands_of scripts number place) found.1
-    ∙ ap (stands_in place a.machine) (order_of_script (script_of scripts number) a.calls a.machine)
-    ∙ ap (λ machine. stands_in place machine (order_for (slice_get (script_of scripts number) (length a.calls)) machine)) found.2
-    ∙ ap (stands_in place (machine_at p number)) (order_now p jobs number (role_within p number within) scripts s tells a found.1)
+    ap (is_actor_at scripts number place) found.1
+    ∙ ap (is_machine_at place a.machine) (order_of_script (nth_script scripts number) a.calls a.machine)
+    ∙ ap (λ machine. is_machine_at place machine (order_for (slice_get (nth_script scripts number) (length a.calls)) machine)) found.2
+    ∙ ap (is_machine_at place (machine_at p number)) (order_now p jobs number (role_within p number within) scripts s tells a found.1)
 
 -- the command that follows can be given
 pub next_fits : (p : Plain) (jobs : Jobs) (number : ℕ) → CanRun p jobs → number < length (machines_of p) → is_mutating (machine_at p number) ≡ nat_lt number (config_of p).mutators
@@ -147,4 +147,4 @@ next_fits p jobs number can within role may =
     let is : nat_lt number (config_of p).mutators ≡ true = sym role ∙ rest_is_mutating (machine_at p number) rest in
     let below : number < (config_of p).mutators = ltb-true number (config_of p).mutators is in
     subst (λ b. IfSome (if b then work.next_of jobs number else None) (λ command. IsValid command × (made_of_machine (machine_at p number) < 4294967295))) (sym is)
-    (command_fits (machine_at p number) (work.script_of jobs number) (length (work.replies_of jobs number)) (can.commands number below) (can.made number below) may)
+    (command_fits (machine_at p number) (work.script_in jobs number) (length (work.replies_of jobs number)) (can.commands number below) (can.made number below) may)

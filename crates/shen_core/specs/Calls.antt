@@ -5,7 +5,7 @@ use Rattle.steps_base.specs.Steps.{Stage}
 use Rattle.heap_machines.specs.Scripts.{IsOnScript, HasDoneScript}
 use Rattle.step_core.specs.Actor.{Actor}
 use Rattle.heap_machines.specs.Roles.{is_mutating}
-use Rattle.step_core.specs.Schedule.{Scripts, script_of}
+use Rattle.step_core.specs.Schedule.{Scripts, nth_script}
 
 -- The machine is a mutator. The calls that it has ended have the first commands of its script, in order, and a call in
 -- progress has the next one.
@@ -13,13 +13,13 @@ pub record CallsScript (scripts : Scripts) (s : Stage Actor) (t : ℕ) : Type 0 
   pub actor : Actor
   pub here : slice_get s.machines t ≡ Some actor
   pub role : is_mutating actor.machine ≡ true
-  pub calls : IsOnScript (script_of scripts t) actor
+  pub calls : IsOnScript (nth_script scripts t) actor
 
 -- The machine is between two calls. Those that it has ended have the commands of its whole script, in order.
 pub record HasCalled (scripts : Scripts) (s : Stage Actor) (t : ℕ) : Type 0 where
   pub actor : Actor
   pub here : slice_get s.machines t ≡ Some actor
-  pub called : HasDoneScript (script_of scripts t) actor
+  pub called : HasDoneScript (nth_script scripts t) actor
 
 -- each mutator calls the commands of its script, one after the other
 abbrev pub AllCall : Config → Scripts → Stage Actor → Type 0

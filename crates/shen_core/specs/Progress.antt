@@ -15,7 +15,7 @@ use Rattle.pause_laws.specs.Image.{full_image}
 use Rattle.step_core.specs.Settled.{image_in, control_number}
 use Rattle.step_core.specs.Machines.{kind, made_of_machine, at_hand_of, is_resting}
 use Rattle.heap_machines.specs.Turn.{order_for}
-use Rattle.step_core.specs.Schedule.{Scripts, script_of, turn, waits, Task, Agenda, scheduled}
+use Rattle.step_core.specs.Schedule.{Scripts, nth_script, turn, waits, Task, Agenda, scheduled}
 use Rattle.shen_core.specs.declared.plain.Plain.{Plain}
 use Rattle.heap_machines.specs.declared.stepped.Stepped.{Stepped}
 use Rattle.heap_machines.specs.declared.stepped.Stepped.TheVariants.{More, Again, Done, Idle}
@@ -35,7 +35,7 @@ pub record Goes (c : Config) (scripts : Scripts) (s : Stage Actor) (agenda : Age
 
 -- the work has these scripts, and its replies are those of the calls that the machines of the stage have ended
 pub record Tells (c : Config) (scripts : Scripts) (jobs : Jobs) (s : Stage Actor) : Type 0 where
-  pub scripts_are : (t : ℕ) → t < c.mutators → work.script_of jobs t ≡ script_of scripts t
+  pub scripts_are : (t : ℕ) → t < c.mutators → work.script_in jobs t ≡ nth_script scripts t
   pub replies : (t : ℕ) (a : Actor) → t < c.mutators → slice_get s.machines t ≡ Some a → work.replies_of jobs t ≡ map (λ e. e.reply) a.calls
 
 -- a script that a mutator can be given: its commands are in range, and no more than there are names for what they make
@@ -47,9 +47,9 @@ IsRunnable script = All IsValid script × (length script < 4294967295)
 pub record CanRun (p : Plain) (jobs : Jobs) : Type 0 where
   pub orders : All (λ order. order ≡ Nothing) (orders_of p)
   pub jobs_are : (t : ℕ) → t < (config_of p).mutators → work.HasScript jobs t
-  pub commands : (t : ℕ) → t < (config_of p).mutators → All IsValid (work.script_of jobs t)
-  pub busy : (t : ℕ) → t < (config_of p).mutators → is_resting (machine_at p t) ≡ false → length (work.replies_of jobs t) < length (work.script_of jobs t)
-  pub made : (t : ℕ) → t < (config_of p).mutators → made_of_machine (machine_at p t) + length (work.script_of jobs t) < 4294967295 + (length (work.replies_of jobs t) + at_hand_of (machine_at p t))
+  pub commands : (t : ℕ) → t < (config_of p).mutators → All IsValid (work.script_in jobs t)
+  pub busy : (t : ℕ) → t < (config_of p).mutators → is_resting (machine_at p t) ≡ false → length (work.replies_of jobs t) < length (work.script_in jobs t)
+  pub made : (t : ℕ) → t < (config_of p).mutators → made_of_machine (machine_at p t) + length (work.script_in jobs t) < 4294967295 + (length (work.replies_of jobs t) + at_hand_of (machine_at p t))
 
 -- the next command of a machine's script, which only a mutator has
 abbrev pub next_for : Config → Jobs → ℕ → Option Command

@@ -1,6 +1,6 @@
 -- Words and machines in memory, and the stages of runs that they show.
 use Rattle.std.specs.Prelude.{ℕ, ◌≡◌, List, [], ◌∷◌, ◌++◌, map, slice_index}
-use Rattle.heap_words.specs.Access.{place_of}
+use Rattle.heap_words.specs.Access.{table_index}
 use Rattle.heap_words.specs.declared.config.Config.{Config}
 use Rattle.steps_base.specs.Steps.{Stage, Event, act, go, IsEvent}
 use Rattle.shen_graph.specs.declared.order.Order.{Order}
@@ -32,4 +32,4 @@ pub record IsOneEvent (c : Config) (words : List ℕ) (machines : List Machine) 
 
 -- a machine after the step that it makes on these words
 abbrev pub next_by : Config → List ℕ → Order → Machine → Machine
-next_by c words order machine = machine_after full_image c order (slice_index words (place_of (plan_of c order machine))) machine
+next_by c words order machine = machine_after full_image c order (slice_index words (table_index (plan_of c order machine))) machine

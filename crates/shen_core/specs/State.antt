@@ -1,7 +1,7 @@
 -- What callers know of a `Plain`.
 use Rattle.std.specs.Prelude.{ℕ, ◌≡◌, Bool, List, map, slice_index, slice_index_or}
 use Rattle.heap_words.specs.declared.config.Config.{Config}
-use Rattle.heap_words.specs.Access.{place_of}
+use Rattle.heap_words.specs.Access.{table_index}
 use Rattle.heap_words.specs.Ranges.{seat_count}
 use Rattle.steps_base.specs.Steps.{Stage}
 use Rattle.shen_graph.specs.declared.order.Order.{Order}
@@ -49,7 +49,7 @@ has_turn p number = takes_of (machine_at p number) (order_at p number)
 
 -- the word that the machine's next access finds
 abbrev pub found_by : Plain → ℕ → ℕ
-found_by p number = slice_index (words_of p) (place_of (plan_of p.config (order_at p number) (machine_at p number)))
+found_by p number = slice_index (words_of p) (table_index (plan_of p.config (order_at p number) (machine_at p number)))
 
 -- one event of the machine, under its order, leads from the one to the other
 abbrev pub IsStep : Plain → Plain → ℕ → Type 0

@@ -30,8 +30,8 @@ impl Plain {
     ghost use Rattle.shen_graph.specs.declared.order.Order.TheVariants.{Nothing, Begin, End};
     ghost use Rattle.shen_graph.specs.Valid.{IsValid};
     ghost use Rattle.pause_laws.specs.Image.{full_image};
-    ghost use Rattle.heap_words.specs.Access.{place_of};
-    ghost use Rattle.step_core.specs.Machines.{takes_of, plan_of, stands_in, reply_in, place_in, is_resting, may_begin, made_of_machine, WaitsIn};
+    ghost use Rattle.heap_words.specs.Access.{table_index};
+    ghost use Rattle.step_core.specs.Machines.{takes_of, plan_of, is_machine_at, reply_in, place_in, is_resting, may_begin, made_of_machine, WaitsIn};
     ghost use Rattle.step_core.specs.Opening.{opening};
     ghost use Rattle.shen_graph.specs.Graph.{Graph};
     ghost use Rattle.image_graph.specs.State as images;
@@ -176,12 +176,12 @@ impl Plain {
     }
 
     /// Whether the next access of the machine, on its turn, stands at the place.
-    pub fn stands_at(&self, work: &Work, number: usize, place: Place) -> bool
+    pub fn is_at_place(&self, work: &Work, number: usize, place: Place) -> bool
         requires number { number < seats_of self.now }
         requires run { CanRun self.now work.now }
-        ensures { result ≡ stands_in place (machine_at self.now number) (order_for (next_for (config_of self.now) work.now number) (machine_at self.now number)) }
+        ensures { result ≡ is_machine_at place (machine_at self.now number) (order_for (next_for (config_of self.now) work.now number) (machine_at self.now number)) }
     {
-        self.machines[number].stands_at(self.next_command(work, number), place)
+        self.machines[number].is_at_place(self.next_command(work, number), place)
     }
 
     /// Gives the machine its order for its turn, if it has one: a mutator between two calls begins the next command of its
@@ -255,7 +255,7 @@ impl Plain {
         requires number { number < seats_of self.now }
         requires turn { has_turn self.now number ≡ true }
         ensures row { result ≡ plan_of (config_of self.now) (order_at self.now number) (machine_at self.now number) }
-        ensures inside { place_of result < table_words (config_of self.now) }
+        ensures inside { table_index result < table_words (config_of self.now) }
     {
         self.machines[number].plan()
     }
@@ -281,7 +281,7 @@ impl Plain {
         requires rest { AllRest self.old }
         requires room { heap_size (config_of self.old) ≤ text.old.room }
         requires threads { length text.old.roots ≡ (config_of self.old).mutators }
-        ensures shows { (run : Run (config_of self.old)) → Shows self.old (ending full_image (config_of self.old) run) → texts.Shows text.new (config_of self.old).mutators (graph_after full_image (config_of self.old) run) }
+        ensures shows { (run : Run (config_of self.old)) → Shows self.old (ending full_image (config_of self.old) run) → texts.ShowsGraph text.new (config_of self.old).mutators (graph_after full_image (config_of self.old) run) }
 
         // Nothing else changes.
         ensures unchanged { IsUnchanged self.old self.new }

@@ -1,5 +1,5 @@
 ghost use Rattle.std.specs.Prelude.{◌≡◌, ◌<◌, ◌≤◌, true, false, [], length, slice_set, All};
-ghost use Rattle.shen_graph.specs.Work.{replies_of, script_of};
+ghost use Rattle.shen_graph.specs.Work.{replies_of, script_in};
 ghost use Rattle.shen_core.specs.State.{config_of, words_of, machines_of, orders_of, order_at, seats_of, has_turn, IsUnchanged};
 ghost use Rattle.shen_graph.specs.declared.order.Order.TheVariants.{Nothing};
 ghost use Rattle.shen_core.specs.Progress.{Jobs, CanRun, IsTurn, HasTurned, Runs, DoesTask, AllIdle, SomeBusy, HasNext, IsInSeats, agenda};
@@ -71,7 +71,7 @@ impl Plain {
         ensures task { DoesTask self.old work.old (until number place) limit self.new work.new result }
     {
         let mut left = limit;
-        while left > 0 && !self.stands_at(work, number, place) {
+        while left > 0 && !self.is_at_place(work, number, place) {
             if let Stepped::Idle = self.turn(work, number) {
                 return left;
             }

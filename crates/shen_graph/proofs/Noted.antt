@@ -4,7 +4,7 @@ use Rattle.std.specs.Prelude.{IsSome, unwrap_or}
 use Rattle.std.proofs.lemmas.List.{get_or-set_same, get_or-set_other, get_or_past}
 use Rattle.std.proofs.lemmas.Bool.{false≢true, cases_eq, cases_lt}
 use Rattle.shen_graph.specs.declared.command.Reply.{Reply}
-use Rattle.shen_graph.specs.Work.{Progress, HasScript, progress_of, script_of, replies_of, with_reply, begun, answered}
+use Rattle.shen_graph.specs.Work.{Progress, HasScript, progress_of, script_in, replies_of, with_reply, begun, answered}
 
 -- a script that is there lies in the work
 pub has_within : (jobs : List (Option Progress)) (number : ℕ) → HasScript jobs number → number < length jobs
@@ -22,9 +22,9 @@ pub progress_other : (jobs : List (Option Progress)) (number : ℕ) (reply : Rep
 progress_other jobs number reply t other = get_or-set_other jobs number t _ None other
 
 -- scripts stay
-pub script_kept : (jobs : List (Option Progress)) (number : ℕ) (reply : Reply) (t : ℕ) → HasScript jobs number → script_of (with_reply jobs number reply) t ≡ script_of jobs t
+pub script_kept : (jobs : List (Option Progress)) (number : ℕ) (reply : Reply) (t : ℕ) → HasScript jobs number → script_in (with_reply jobs number reply) t ≡ script_in jobs t
 script_kept jobs number reply t has = ⊎_elim
-    (λ (same : t ≡ number). subst (λ n. script_of (with_reply jobs number reply) n ≡ script_of jobs n) (sym same)
+    (λ (same : t ≡ number). subst (λ n. script_in (with_reply jobs number reply) n ≡ script_in jobs n) (sym same)
     (ap (λ o. (unwrap_or o (begun [])).script) (progress_same jobs number reply has)))
     (λ (other : t ≡ number → ⊥). ap (λ o. (unwrap_or o (begun [])).script) (progress_other jobs number reply t other))
     (cases_eq t number)

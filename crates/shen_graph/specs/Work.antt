@@ -34,15 +34,15 @@ progress_of work mutator = slice_index_or work mutator None
 abbrev pub HasScript : List (Option Progress) → ℕ → Type 0
 HasScript work mutator = IsSome (progress_of work mutator)
 
-abbrev pub script_of : List (Option Progress) → ℕ → List Command
-script_of work mutator = (unwrap_or (progress_of work mutator) (begun [])).script
+abbrev pub script_in : List (Option Progress) → ℕ → List Command
+script_in work mutator = (unwrap_or (progress_of work mutator) (begun [])).script
 
 abbrev pub replies_of : List (Option Progress) → ℕ → List Reply
 replies_of work mutator = (unwrap_or (progress_of work mutator) (begun [])).replies
 
 -- the mutator's next command: none at the end of its script
 abbrev pub next_of : List (Option Progress) → ℕ → Option Command
-next_of work mutator = slice_get (script_of work mutator) (length (replies_of work mutator))
+next_of work mutator = slice_get (script_in work mutator) (length (replies_of work mutator))
 
 -- the mutator's next command was answered, and all else is as before
 abbrev pub with_reply : List (Option Progress) → ℕ → Reply → List (Option Progress)

@@ -1,5 +1,5 @@
 ghost use Rattle.std.specs.Prelude.{◌≡◌, ◌+◌, ◌<◌, ◌≤◌, ℕ, [], ◌∷◌, ◌++◌, length, IfOk, slice_get};
-ghost use Rattle.shen_graph.specs.Work.{HasScript, script_of, replies_of, next_of, with_reply, opened, parted, left_over, joined};
+ghost use Rattle.shen_graph.specs.Work.{HasScript, script_in, replies_of, next_of, with_reply, opened, parted, left_over, joined};
 
 use crate::NoMemory;
 use crate::command::{Command, Reply};
@@ -163,7 +163,7 @@ impl Work {
     pub fn next(&self, mutator: usize) -> Option<Command>
         requires { HasScript self.now mutator }
         ensures next { result ≡ next_of self.now mutator }
-        ensures within { length (replies_of self.now mutator) ≤ length (script_of self.now mutator) }
+        ensures within { length (replies_of self.now mutator) ≤ length (script_in self.now mutator) }
     {
         let jobs = &self.jobs;
         match &jobs[mutator] {
@@ -175,7 +175,7 @@ impl Work {
     /// Notes the reply to the mutator's next command, which the one after it is then. It takes no memory.
     pub fn told(&mut self, mutator: usize, reply: Reply)
         requires script { HasScript self.old mutator }
-        requires more { length (replies_of self.old mutator) < length (script_of self.old mutator) }
+        requires more { length (replies_of self.old mutator) < length (script_in self.old mutator) }
         ensures { self.new ≡ with_reply self.old mutator reply }
     {
         let jobs = &mut self.jobs;

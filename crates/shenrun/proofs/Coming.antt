@@ -103,7 +103,7 @@ come_rest c scripts jobs end done n a below here =
 -- ---- the answer
 
 pub answered : (bytes : List ℕ) (c : Config) (scripts : Scripts) (items : List Item) (jobs : Jobs) (end : Closed) (text : Text)
-    → Reads bytes c scripts items → length scripts ≡ c.mutators → (done : HasCome c scripts jobs end) → length text.roots ≡ c.mutators → texts.Shows text c.mutators (after (first_graph c) (past full_image c done.reached.events))
+    → Reads bytes c scripts items → length scripts ≡ c.mutators → (done : HasCome c scripts jobs end) → length text.roots ≡ c.mutators → texts.ShowsGraph text c.mutators (after (first_graph c) (past full_image c done.reached.events))
     → IsRun bytes (answer_text (length text.roots) (λ t. work.replies_of jobs (t - 1)) text.rows (root_of text))
 answered bytes c scripts items jobs end text reads count done roots shows = record {
   config = c;

@@ -9,7 +9,7 @@ use Rattle.std.proofs.lemmas.Bool.Decides.{nat_tests}
 use Rattle.heap_words.specs.declared.config.Config.{Config}
 use Rattle.heap_words.specs.Ranges.{seat_count}
 use Rattle.shen_graph.specs.declared.command.Command.{Command}
-use Rattle.shen_graph.specs.Work.{Progress, HasScript, progress_of, script_of, begun, opened, picked, parted, left_over, is_in_part}
+use Rattle.shen_graph.specs.Work.{Progress, HasScript, progress_of, script_in, begun, opened, picked, parted, left_over, is_in_part}
 use Rattle.shen_graph.proofs.Parts.{same_work, progress_of-picked, progress_of-parted, progress_of-left_over, progress_of-opened}
 use Rattle.shared_steps.specs.Views as views
 use Rattle.shared_steps.specs.Views.{machine_of, whole, is_dealt_to, dealt_to}
@@ -129,7 +129,7 @@ module _ (h : Heap) (scripts : Scripts) (first : Jobs) (bundles : List Bundle) (
         ));
   }
     where
-      script_at : (n : ℕ) (d : Bool) (o : Option (List Command)) → slice_get scripts n ≡ o → (p : Option Progress) → p ≡ (if d then option_map begun (slice_get scripts n) else None) → IsSome p → (unwrap_or p (begun [])).script ≡ schedule.script_of scripts n
+      script_at : (n : ℕ) (d : Bool) (o : Option (List Command)) → slice_get scripts n ≡ o → (p : Option Progress) → p ≡ (if d then option_map begun (slice_get scripts n) else None) → IsSome p → (unwrap_or p (begun [])).script ≡ schedule.nth_script scripts n
       script_at n false o is p e has = absurd (false≢true (subst (λ x. IsSome x) e has))
       script_at n true None is p e has = absurd (false≢true (subst (λ x. IsSome x) (e ∙ ap (option_map begun) is) has))
       script_at n true (Some s) is p e has = ap (λ x. (unwrap_or x (begun [])).script) (e ∙ ap (option_map begun) is) ∙ sym (get_or_from_slice_get scripts n s [] is)

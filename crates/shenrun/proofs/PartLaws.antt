@@ -12,7 +12,7 @@ use Rattle.shen_graph.specs.declared.command.Command.{Command}
 use Rattle.shen_graph.specs.declared.order.Order.{Order}
 use Rattle.shen_graph.specs.declared.order.Order.TheVariants.{Nothing}
 use Rattle.shen_graph.specs.Valid.{IsValid}
-use Rattle.shen_graph.specs.Work.{Progress, HasScript, progress_of, script_of, replies_of, begun, one_of, joined}
+use Rattle.shen_graph.specs.Work.{Progress, HasScript, progress_of, script_in, replies_of, begun, one_of, joined}
 use Rattle.shared_steps.specs.Views as views
 use Rattle.shared_steps.specs.Views.{View, machine_of, merged}
 use Rattle.shared_steps.proofs.Kept.{kept_here, machine_of-kept}
@@ -123,8 +123,8 @@ module _ (h : Heap) (scripts : Scripts) (w a b c : ℕ) (p q r : Part) (of : IsO
     scripts_are = λ n has. script_is n (progress_of p.work n) (progress_of q.work n) (is.scripts_are n) (other.scripts_are n) (progress_of r.work n) (job_here n) has;
   }
     where
-      script_is : (n : ℕ) (x y : Option Progress) → (IsSome x → (unwrap_or x (begun [])).script ≡ schedule.script_of scripts n) → (IsSome y → (unwrap_or y (begun [])).script ≡ schedule.script_of scripts n)
-          → (z : Option Progress) → z ≡ one_of x y → IsSome z → (unwrap_or z (begun [])).script ≡ schedule.script_of scripts n
+      script_is : (n : ℕ) (x y : Option Progress) → (IsSome x → (unwrap_or x (begun [])).script ≡ schedule.nth_script scripts n) → (IsSome y → (unwrap_or y (begun [])).script ≡ schedule.nth_script scripts n)
+          → (z : Option Progress) → z ≡ one_of x y → IsSome z → (unwrap_or z (begun [])).script ≡ schedule.nth_script scripts n
       script_is n None y mine others z e has = ap (λ o. (unwrap_or o (begun [])).script) e ∙ others (subst (λ o. IsSome o) e has)
       script_is n (Some x) y mine others z e has = ap (λ o. (unwrap_or o (begun [])).script) e ∙ mine refl
 
@@ -180,9 +180,9 @@ module _ (h : Heap) (scripts : Scripts) (w a b c : ℕ) (p q r : Part) (of : IsO
       by_idle n x (inr side) = others.idle n x side.0
 
       by_done : (n : ℕ) (x : Actor) → is_mutating x.machine ≡ true → ((machine_of (view_of p.bundle) n ≡ Some x) × (progress_of p.work n ≡ progress_of r.work n)) ⊎ ((machine_of (view_of q.bundle) n ≡ Some x) × (progress_of q.work n ≡ progress_of r.work n))
-          → HasDone (schedule.script_of scripts n) (replies_of r.work n) x
-      by_done n x role (inl side) = subst (λ o. HasDone (schedule.script_of scripts n) (unwrap_or o (begun [])).replies x) side.1 (mine.done n x side.0 role)
-      by_done n x role (inr side) = subst (λ o. HasDone (schedule.script_of scripts n) (unwrap_or o (begun [])).replies x) side.1 (others.done n x side.0 role)
+          → HasDone (schedule.nth_script scripts n) (replies_of r.work n) x
+      by_done n x role (inl side) = subst (λ o. HasDone (schedule.nth_script scripts n) (unwrap_or o (begun [])).replies x) side.1 (mine.done n x side.0 role)
+      by_done n x role (inr side) = subst (λ o. HasDone (schedule.nth_script scripts n) (unwrap_or o (begun [])).replies x) side.1 (others.done n x side.0 role)
 
 -- ---- a part that has run
 

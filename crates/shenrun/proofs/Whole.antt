@@ -31,7 +31,7 @@ use Rattle.pause_laws.proofs.Pauses.{full_is_pause}
 use Rattle.heap_machines.specs.Scripts.{HasDoneScript}
 use Rattle.heap_machines.proofs.Standing.{entries_at_rest}
 use Rattle.step_core.specs.Actor.{Machine, mutating, helping, controlling, fresh_helper, Actor}
-use Rattle.step_core.specs.Schedule.{Scripts, script_of, turn_of}
+use Rattle.step_core.specs.Schedule.{Scripts, nth_script, turn_of}
 use Rattle.step_core.specs.Begun.{begun_by, begun}
 use Rattle.step_core.specs.Settled.{control_number, stored_image, image_in}
 use Rattle.step_core.specs.Sound.{IsSound}
@@ -144,7 +144,7 @@ none_stored c scripts s p seats idle shows =
     let here : slice_get s.machines (control_number c) ≡ Some a = slice_get-get_or s.machines (control_number c) other (omega (arith, seats)) in
     let no_turn = ap (turn_of scripts (control_number c)) (sym here) ∙ idle (control_number c) (omega arith) in
     ap image_in (machine_shown p s (control_number c) a shows here)
-    ∙ idle_stores_none (script_of scripts (control_number c)) a.calls a.machine (nothing_of _ (order_by (script_of scripts (control_number c)) a.calls a.machine) no_turn)
+    ∙ idle_stores_none (nth_script scripts (control_number c)) a.calls a.machine (nothing_of _ (order_by (nth_script scripts (control_number c)) a.calls a.machine) no_turn)
   where
     other : Actor
     other = record { machine = fresh_helper; command = Gc; calls = [] }
@@ -177,7 +177,7 @@ root_shown text g n t i low high lt e =
     ∙ ap (λ (row : List Reference). get_or row i None) (get_or-map-range_with_len (λ k. map (g.root k) (range_with_len 0 16)) 1 n (t - 1) t none (omega arith) (omega arith))
     ∙ get_or-map-range_with_len (g.root t) 0 16 i i None lt (omega arith)
 
-pub text_shown : (n : ℕ) (jobs : Jobs) (h : List Entry) (text : Text) → length text.roots ≡ n → texts.Shows text n (after (graph_opening n) h)
+pub text_shown : (n : ℕ) (jobs : Jobs) (h : List Entry) (text : Text) → length text.roots ≡ n → texts.ShowsGraph text n (after (graph_opening n) h)
     → ((t : ℕ) → 1 ≤ t → t ≤ n → work.replies_of jobs (t - 1) ≡ history.replies_of (of_thread h t))
     → answer_text (length text.roots) (λ t. work.replies_of jobs (t - 1)) text.rows (root_of text) ≡ answer_text n (λ t. history.replies_of (of_thread h t)) (map (row_in (after (graph_opening n) h)) (names_of text)) (after (graph_opening n) h).root
 text_shown n jobs h text count shows told =
@@ -190,7 +190,7 @@ text_shown n jobs h text count shows told =
     (λ t i low high lt. root_shown text g n t i (omega arith) (omega arith) lt shows.roots)
 
 pub replayed : (bytes : List ℕ) (c : Config) (scripts : Scripts) (items : List Item) (limit : ℕ) (jobs : Jobs) (p : Plain) (text : Text)
-    → Reads bytes c scripts items → length scripts ≡ c.mutators → HasFinished c scripts items limit jobs p → length text.roots ≡ c.mutators → texts.Shows text c.mutators (after (first_graph c) (history_of c scripts items limit))
+    → Reads bytes c scripts items → length scripts ≡ c.mutators → HasFinished c scripts items limit jobs p → length text.roots ≡ c.mutators → texts.ShowsGraph text c.mutators (after (first_graph c) (history_of c scripts items limit))
     → IsReplayed bytes limit (answer_text (length text.roots) (λ t. work.replies_of jobs (t - 1)) text.rows (root_of text))
 replayed bytes c scripts items limit jobs p text reads count done roots shows = record {
   config = c;

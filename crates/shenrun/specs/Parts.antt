@@ -6,7 +6,7 @@ use Rattle.heap_words.specs.Ranges.{seat_count}
 use Rattle.shared_steps.specs.Views.{machine_of, whole, dealt_to}
 use Rattle.shen_graph.specs.Work as work
 use Rattle.shen_core.specs.Progress.{IsRunnable}
-use Rattle.step_core.specs.Schedule.{Scripts, script_of}
+use Rattle.step_core.specs.Schedule.{Scripts, nth_script}
 use Rattle.table_heap.specs.Core.{heap_opening}
 use Rattle.table_heap.specs.declared.bundle.Bundle.{Bundle}
 use Rattle.table_heap.specs.declared.heap.Heap.{Heap}
@@ -45,7 +45,7 @@ pub record IsPart (h : Heap) (scripts : Scripts) (workers first beyond : ℕ) (p
   pub of : IsOf part.bundle h
   pub machines : (number : ℕ) → is_some (machine_of (view_of part.bundle) number) ≡ (nat_lt number (seat_count (config_of h).mutators (config_of h).helpers) && is_dealt workers first beyond number)
   pub jobs : (number : ℕ) → is_some (work.progress_of part.work number) ≡ (nat_lt number (config_of h).mutators && is_dealt workers first beyond number)
-  pub scripts_are : (number : ℕ) → work.HasScript part.work number → work.script_of part.work number ≡ script_of scripts number
+  pub scripts_are : (number : ℕ) → work.HasScript part.work number → work.script_in part.work number ≡ nth_script scripts number
 
 -- a part before its run
 pub record IsReady (h : Heap) (scripts : Scripts) (workers first beyond : ℕ) (part : Part) : Type 0 where
@@ -56,7 +56,7 @@ pub record IsReady (h : Heap) (scripts : Scripts) (workers first beyond : ℕ) (
 pub record IsDone (h : Heap) (scripts : Scripts) (workers first beyond : ℕ) (part : Part) : Type 0 where
   pub has : IsPart h scripts workers first beyond part
   pub idle : AreIdleForGood part.bundle
-  pub done : EachMutator (view_of part.bundle) (λ number a. HasDone (script_of scripts number) (work.replies_of part.work number) a)
+  pub done : EachMutator (view_of part.bundle) (λ number a. HasDone (nth_script scripts number) (work.replies_of part.work number) a)
 
 -- the first so many parts, each of one bundle
 abbrev pub AreReady : Heap → Scripts → ℕ → List Part → Type 0

@@ -19,26 +19,26 @@ use Rattle.shen_core.specs.declared.plain.Plain.{Plain}
 use Rattle.shen_core.specs.State.{config_of, orders_of, Shows}
 use Rattle.shen_core.specs.Progress.{Jobs, CanRun, IsInSeats, IsRunnable}
 use Rattle.shen_core.proofs.Fresh.{can_run_first}
-use Rattle.trace_grammar.specs.Spelling.{Line, IsLine, line, space, newline, word_of, numbers, numbers_of, header, IsItem, IsScheduleLine, schedule_line}
+use Rattle.trace_grammar.specs.Spelling.{TraceLine, IsLine, line, space, newline, word_of, numbers, numbers_of, header, IsItem, IsScheduleLine, schedule_line}
 use Rattle.trace_grammar.specs.Grammar.{Reads, scripts_of, items_of}
 use Rattle.trace_grammar.specs.Grammar as grammar
 
 -- the commands of lines in range are valid
-valid_lines : (threads : ℕ) (lines : List Line) (t : ℕ) → AllByRecursion (IsLine threads) lines → AllByRecursion IsValid (grammar.script_of lines t)
+valid_lines : (threads : ℕ) (lines : List TraceLine) (t : ℕ) → AllByRecursion (IsLine threads) lines → AllByRecursion IsValid (grammar.commands_in lines t)
 valid_lines threads [] t all = tt
 valid_lines threads (l ∷ lines) t all = by_thread (eqb l.thread t) (valid_lines threads lines t all.1)
   where
-    by_thread : (own : Bool) → AllByRecursion IsValid (grammar.script_of lines t) → AllByRecursion IsValid (map (λ x. x.command) (cond own (l ∷ filter (λ x. eqb x.thread t) lines) (filter (λ x. eqb x.thread t) lines)))
+    by_thread : (own : Bool) → AllByRecursion IsValid (grammar.commands_in lines t) → AllByRecursion IsValid (map (λ x. x.command) (cond own (l ∷ filter (λ x. eqb x.thread t) lines) (filter (λ x. eqb x.thread t) lines)))
     by_thread true others = (all.0.valid, others)
     by_thread false others = others
 
 pub count_scripts : (bytes : List ℕ) (c : Config) (scripts : List (List Command)) (items : List Item) → Reads bytes c scripts items → length scripts ≡ c.mutators
-count_scripts bytes c scripts items reads = ap length reads.by_thread ∙ length-map-range_with_len (grammar.script_of reads.lines) 1 c.mutators
+count_scripts bytes c scripts items reads = ap length reads.by_thread ∙ length-map-range_with_len (grammar.commands_in reads.lines) 1 c.mutators
 
-script_at : (bytes : List ℕ) (c : Config) (scripts : List (List Command)) (items : List Item) (t : ℕ) → (reads : Reads bytes c scripts items) → t < c.mutators → get_or scripts t [] ≡ grammar.script_of reads.lines (t + 1)
+script_at : (bytes : List ℕ) (c : Config) (scripts : List (List Command)) (items : List Item) (t : ℕ) → (reads : Reads bytes c scripts items) → t < c.mutators → get_or scripts t [] ≡ grammar.commands_in reads.lines (t + 1)
 script_at bytes c scripts items t reads below =
     let none : List Command = [] in
-    ap (λ (ss : List (List Command)). get_or ss t none) reads.by_thread ∙ get_or-map-range_with_len (grammar.script_of reads.lines) 1 c.mutators t (t + 1) none below (omega arith)
+    ap (λ (ss : List (List Command)). get_or ss t none) reads.by_thread ∙ get_or-map-range_with_len (grammar.commands_in reads.lines) 1 c.mutators t (t + 1) none below (omega arith)
 
 pub valid_scripts : (bytes : List ℕ) (c : Config) (scripts : List (List Command)) (items : List Item) → Reads bytes c scripts items → All (All IsValid) scripts
 valid_scripts bytes c scripts items reads = All-from_get_or (All IsValid) scripts [] (λ t within.
@@ -46,18 +46,18 @@ valid_scripts bytes c scripts items reads = All-from_get_or (All IsValid) script
     subst (All IsValid) (sym (script_at bytes c scripts items t reads below)) (All-from_recursion IsValid _ (valid_lines c.mutators reads.lines (t + 1) reads.in_range)))
 
 -- a trace has fewer commands than there are names
-some_bytes : (l : Line) → 1 ≤ length (line l)
+some_bytes : (l : TraceLine) → 1 ≤ length (line l)
 some_bytes l = omega (arith, length-append (decimal l.thread) (space ∷ (word_of l.command ++ (numbers (numbers_of l.command) ++ newline ∷ []))))
 
-few_lines : (lines : List Line) → length lines ≤ length (flat_map line lines)
+few_lines : (lines : List TraceLine) → length lines ≤ length (flat_map line lines)
 few_lines [] = omega arith
 few_lines (l ∷ lines) = omega (arith, few_lines lines, some_bytes l, length-append (line l) (flat_map line lines))
 
-short_script : (lines : List Line) (t : ℕ) → length (grammar.script_of lines t) ≤ length lines
+short_script : (lines : List TraceLine) (t : ℕ) → length (grammar.commands_in lines t) ≤ length lines
 short_script [] t = omega arith
 short_script (l ∷ lines) t = by_thread (eqb l.thread t) (short_script lines t)
   where
-    by_thread : (own : Bool) → length (grammar.script_of lines t) ≤ length lines → length (map (λ x. x.command) (cond own (l ∷ filter (λ x. eqb x.thread t) lines) (filter (λ x. eqb x.thread t) lines))) ≤ length (l ∷ lines)
+    by_thread : (own : Bool) → length (grammar.commands_in lines t) ≤ length lines → length (map (λ x. x.command) (cond own (l ∷ filter (λ x. eqb x.thread t) lines) (filter (λ x. eqb x.thread t) lines))) ≤ length (l ∷ lines)
     by_thread true others = omega arith
     by_thread false others = omega arith
 

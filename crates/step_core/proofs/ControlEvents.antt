@@ -5,7 +5,7 @@ use Rattle.std.proofs.lemmas.List.{length-set, set-get_or, length-append}
 use Rattle.std.proofs.lemmas.Option.{same_Some, slice_get_within}
 use Rattle.std.proofs.lemmas.Bool.{ltb-true, ltb-false}
 use Rattle.heap_words.specs.declared.config.Config.{Config}
-use Rattle.heap_words.specs.Access.{place_of}
+use Rattle.heap_words.specs.Access.{table_index}
 use Rattle.heap_words.specs.Ranges.{seat_count}
 use Rattle.heap_words.specs.Words.{Free, image_start}
 use Rattle.steps_base.specs.Steps.{Stage, accessed, moved}
@@ -59,7 +59,7 @@ module _ (change : Change) (law : IsPause change) (c : Config) (g : Graph) (s : 
   words_after_access = accessed (control_access c k) s.words
 
   abbrev control_after : Actor
-  control_after = took_of change c control_before Nothing (slice_index s.words (place_of (control_access c k))) (controlling k)
+  control_after = took_of change c control_before Nothing (slice_index s.words (table_index (control_access c k))) (controlling k)
 
   -- the world in which an image counts, or none
   abbrev world_held : Option (List ℕ) → World
@@ -116,7 +116,7 @@ module _ (change : Change) (law : IsPause change) (c : Config) (g : Graph) (s : 
 
   -- the word that it finds
   abbrev got : ControlSpot → ℕ
-  got spot = slice_index s.words (place_of (control_access c (control_at spot)))
+  got spot = slice_index s.words (table_index (control_access c (control_at spot)))
 
   -- a spot outside the image
   quiet : (spot : ControlSpot) (here : Here spot) → stored_image spot image ≡ None → told_storing c s spot image ≡ []

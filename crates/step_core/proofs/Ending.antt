@@ -4,7 +4,7 @@ use Rattle.std.specs.Prelude.{◌==◌, nat_lt, slice_get, if◌then◌else◌}
 use Rattle.std.proofs.lemmas.Bool.{true≢false}
 use Rattle.heap_words.specs.declared.config.Config.{Config}
 use Rattle.heap_words.specs.declared.access.Access.{Access}
-use Rattle.heap_words.specs.Access.{place_of}
+use Rattle.heap_words.specs.Access.{table_index}
 use Rattle.heap_words.specs.Words.{End, IsWord, word_at, view}
 use Rattle.steps_base.specs.Touch.{placed}
 use Rattle.steps_base.specs.Steps.{Stage, Event, act, go}
@@ -49,12 +49,12 @@ module _ (c : Config) (m : Mutating) (given : Order) where
 
   -- the access from a spot only reads, or is of another word
   abbrev NotEnd : Spot → Type 0
-  NotEnd spot = (is_load (access_at spot) ≡ true) ⊎ (place_of (access_at spot) ≢ word_at c End)
+  NotEnd spot = (is_load (access_at spot) ≡ true) ⊎ (table_index (access_at spot) ≢ word_at c End)
 
   of_image : (spot : Spot) → StaysIn c m given spot → IsWord c (touch_at c m.seat m.made m.kept given spot).word → NotEnd spot
   of_image spot stays word = inr (λ e. (let above = placed_above c (touch_at c m.seat m.made m.kept given spot) word stays.image in omega (arith, e, above)))
 
-  first_not : (o : Order) → (o ≡ order.Nothing → ⊥) → (is_load (placed c (first_touch m.seat o)) ≡ true) ⊎ (place_of (placed c (first_touch m.seat o)) ≢ word_at c End)
+  first_not : (o : Order) → (o ≡ order.Nothing → ⊥) → (is_load (placed c (first_touch m.seat o)) ≡ true) ⊎ (table_index (placed c (first_touch m.seat o)) ≢ word_at c End)
   first_not order.Nothing some = absurd (some refl)
   first_not (order.Begin command) some = inr (λ e. omega (arith, e))
   first_not order.End some = inr (λ e. omega (arith, e))
@@ -101,7 +101,7 @@ stopping_goes (stop.Check seat) = refl
 stopping_goes stop.Stopped = refl
 
 module _ (c : Config) (seen value : ℕ) where
-  stop_not : (at : StopSpot) → (is_load (access_with c (control.Stopping at) value) ≡ true) ⊎ (place_of (access_with c (control.Stopping at) value) ≢ word_at c End)
+  stop_not : (at : StopSpot) → (is_load (access_with c (control.Stopping at) value) ≡ true) ⊎ (table_index (access_with c (control.Stopping at) value) ≢ word_at c End)
   stop_not stop.Raise = inr (λ e. omega (arith, e))
   stop_not _ = inl refl
 

@@ -6,28 +6,28 @@ use Rattle.std.proofs.lemmas.List.{get_or-set_other, get_or-append_right, get_or
 use Rattle.std.proofs.Math.Seq.{get_or-append_seam}
 use Rattle.std.proofs.lemmas.Bool.{cases_Bool, cases_eq, cond-true, cond-false, false≢true, leb-true, leb-false}
 use Rattle.heap_words.specs.declared.config.Config.{Config}
-use Rattle.heap_words.specs.Access.{place_of, made_of}
+use Rattle.heap_words.specs.Access.{table_index, made_of}
 use Rattle.heap_words.specs.Words.{Word, is_word, is_image, same_word, word_at, view, image_start, table_words}
 use Rattle.heap_words.proofs.Rows.{word_inside, is_image-word_at}
 use Rattle.heap_words.proofs.Stores.{same_word_true, is_word_true, view_word, view_set_all}
 use Rattle.heap_world.specs.Change.{image_view, image_words}
 use Rattle.steps_base.specs.Touch.{Touch, touch, loads, formed, placed, touched}
-use Rattle.steps_base.proofs.Touches.{place_of-access_at, made_of-access_at}
+use Rattle.steps_base.proofs.Touches.{table_index-access_at, made_of-access_at}
 use Rattle.step_core.specs.Settled.{mixed, settled_by}
 use Rattle.step_core.proofs.Facts.{AreRead}
 
 -- the table after an access
 abbrev pub words_after : Config → List ℕ → Touch → List ℕ
-words_after c words t = slice_set words (place_of (placed c t)) (made_of (placed c t) (slice_index words (place_of (placed c t))))
+words_after c words t = slice_set words (table_index (placed c t)) (made_of (placed c t) (slice_index words (table_index (placed c t))))
 
 -- the word that an access finds, by its name
-pub found-placed : (c : Config) (words : List ℕ) (t : Touch) → is_word c t.word ≡ true → slice_index words (place_of (placed c t)) ≡ view c words t.word
-found-placed c words t is = ap (λ k. slice_index words k) (place_of-access_at (word_at c t.word) t.form) ∙ sym (view_word c words t.word (is_word_true c t.word is))
+pub found-placed : (c : Config) (words : List ℕ) (t : Touch) → is_word c t.word ≡ true → slice_index words (table_index (placed c t)) ≡ view c words t.word
+found-placed c words t is = ap (λ k. slice_index words k) (table_index-access_at (word_at c t.word) t.form) ∙ sym (view_word c words t.word (is_word_true c t.word is))
 
 -- the table after it, by the names of its words
 pub view-placed : (c : Config) (words : List ℕ) (t : Touch) → is_word c t.word ≡ true → length words ≡ table_words c → view c (words_after c words t) ≡ touched (view c words) t
 view-placed c words t is long =
-    rw (made_of-access_at (word_at c t.word) t.form, found-placed c words t is, place_of-access_at (word_at c t.word) t.form)
+    rw (made_of-access_at (word_at c t.word) t.form, found-placed c words t is, table_index-access_at (word_at c t.word) t.form)
     (view_set_all c words t.word (formed t.form (view c words t.word)) long (is_word_true c t.word is))
 
 -- a load leaves the table as it is
@@ -107,7 +107,7 @@ settled_touched c words t (Some image) is long outside = mixed_touched c words i
 
 -- and the word that it finds
 pub settled_found : (c : Config) (words : List ℕ) (t : Touch) (o : Option (List ℕ)) → is_word c t.word ≡ true
-    → ((image : List ℕ) → o ≡ Some image → is_image t.word ≡ false) → slice_index words (place_of (placed c t)) ≡ settled_by c words o t.word
+    → ((image : List ℕ) → o ≡ Some image → is_image t.word ≡ false) → slice_index words (table_index (placed c t)) ≡ settled_by c words o t.word
 settled_found c words t None is outside = found-placed c words t is
 settled_found c words t (Some image) is outside = found-placed c words t is ∙ sym (cond-false (is_image t.word) _ _ (outside image refl))
 
@@ -116,8 +116,8 @@ pub image_kept : (c : Config) (words : List ℕ) (t : Touch) (i : ℕ) → is_wo
     → slice_index (words_after c words t) (image_start c + i) ≡ slice_index words (image_start c + i)
 image_kept c words t i is outside =
     let below : word_at c t.word < image_start c = outside_at c t.word is outside in
-    let at : place_of (placed c t) ≡ word_at c t.word = place_of-access_at (word_at c t.word) t.form in
-    get_or-set_other words (place_of (placed c t)) (image_start c + i) _ 0 (λ e. omega (arith, below, at, e))
+    let at : table_index (placed c t) ≡ word_at c t.word = table_index-access_at (word_at c t.word) t.form in
+    get_or-set_other words (table_index (placed c t)) (image_start c + i) _ 0 (λ e. omega (arith, below, at, e))
 
 -- one word more is read
 pub image_grows : (c : Config) (words image : List ℕ) (index : ℕ) → length image ≡ index → AreRead c words image index

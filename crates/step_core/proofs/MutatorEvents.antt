@@ -6,7 +6,7 @@ use Rattle.std.proofs.lemmas.Option.{same_Some}
 use Rattle.std.proofs.lemmas.Bool.{lt-ltb, false≢true}
 use Rattle.heap_words.specs.declared.config.Config.{Config}
 use Rattle.shen_graph.specs.declared.command.Reply.TheVariants.{Full}
-use Rattle.heap_words.specs.Access.{place_of}
+use Rattle.heap_words.specs.Access.{table_index}
 use Rattle.heap_words.specs.Words.{Answer, is_word, is_image, image_start, view}
 use Rattle.steps_base.specs.Touch.{touch, loads, placed, touched}
 use Rattle.steps_base.specs.Steps.{Stage, moved}
@@ -128,7 +128,7 @@ module _ (change : Change) (c : Config) (g : Graph) (s : Stage Actor) (past : Li
   follows_plain : ((image : List ℕ) → held_image c s ≡ Some image → is_image (touch_of c m order).word ≡ false) → Follows c g (moved (kind change c) s number before order) (past ++ entries)
   unfolding kind
   follows_plain no_image =
-      let at : ℕ = place_of (placed c (touch_of c m order)) in
+      let at : ℕ = table_index (placed c (touch_of c m order)) in
       let step = each_step c u m command order thread.fixed (told_now no_image) follows.shared thread.mine takes in
       let owes : Owes c s.words words_then u past number s.machines (touched u.memory (touch_of c m order)) entries (new_then (u.memory (touch_of c m order).word)) =
       owes_stepped change c s.words (held_image c s) follows.block follows.ghost (after g past) past number s.machines order m command calls follows.words word (λ image held. (outside_now image held, no_image image held))
@@ -157,7 +157,7 @@ module _ (change : Change) (c : Config) (g : Graph) (s : Stage Actor) (past : Li
       let held_world : World = record { memory = mixed c s.words image; block = follows.block; ghost = follows.ghost; graph = after g past } in
       let memory_is : settled c s ≡ mixed c s.words image = ap (settled_by c s.words) held in
       let world_is : world_of c s follows.block follows.ghost (after g past) ≡ held_world = ap (λ memory. record { memory = memory; block = follows.block; ghost = follows.ghost; graph = after g past }) memory_is in
-      let at : ℕ = place_of (placed c (touch (Answer seat) loads)) in
+      let at : ℕ = table_index (placed c (touch (Answer seat) loads)) in
       let words_then : List ℕ = words_after c s.words (touch (Answer seat) loads) in
       let same_words : words_then ≡ s.words = words_loaded c s.words (Answer seat) in
       let thread = subst (λ w. IsThread c s.words w (of_thread past (seat + 1)) seat polling (mutator_at seat made kept (Waiting wait.Poll))) world_is (follows.machines seat polling here) in

@@ -3,7 +3,7 @@ use Rattle.std.proofs.Common.{◌≡◌, ◌≢◌, ℕ, ◌+◌, ◌<◌, true,
 use Rattle.std.specs.Prelude.{slice_get, slice_index}
 use Rattle.std.proofs.lemmas.Option.{same_Some}
 use Rattle.heap_words.specs.declared.config.Config.{Config}
-use Rattle.heap_words.specs.Access.{place_of}
+use Rattle.heap_words.specs.Access.{table_index}
 use Rattle.heap_words.specs.Words.{Left, Answer, word_at, view, table_words}
 use Rattle.heap_words.proofs.Stores.{is_word_true}
 use Rattle.heap_words.proofs.Rows.{word_inside}
@@ -12,7 +12,7 @@ use Rattle.steps_base.specs.Steps.{Stage, Event, act, go, HasReached, Finds}
 use Rattle.steps_base.proofs.Laws.{act-event}
 use Rattle.steps_base.proofs.Places.{slice_get-set_same}
 use Rattle.steps_base.proofs.Runs.{reached_has}
-use Rattle.steps_base.proofs.Touches.{place_of-access_at}
+use Rattle.steps_base.proofs.Touches.{table_index-access_at}
 use Rattle.shen_graph.specs.declared.order.Order.{Order}
 use Rattle.shen_graph.specs.declared.order.Order.TheVariants.{Nothing, Begin, End}
 use Rattle.shen_graph.specs.Graph.{Graph}
@@ -98,13 +98,13 @@ module _ (change : Change) (law : IsPause change) (c : Config) (g : Graph) (s : 
   -- the machine of a number after its step, in the stage after it
   machine_next : (number : ℕ) (a : Actor) (order : Order) → slice_get s.machines number ≡ Some a → takes_of a.machine order ≡ true
       → (w : World) × (words : List ℕ) × (es : List Entry)
-      × IsMachine c words w es number (took_of change c a order (slice_index s.words (place_of (plan_of c order a.machine))) a.machine)
-      (machine_after change c order (slice_index s.words (place_of (plan_of c order a.machine))) a.machine)
+      × IsMachine c words w es number (took_of change c a order (slice_index s.words (table_index (plan_of c order a.machine))) a.machine)
+      (machine_after change c order (slice_index s.words (table_index (plan_of c order a.machine))) a.machine)
   unfolding kind
   machine_next number a order here takes =
       let event : Event Order = record { number = number; order = order } in
       let next = goes_event change law c g s h event goes in
-      let there : slice_get (act (kind change c) s event).machines number ≡ Some (took_of change c a order (slice_index s.words (place_of (plan_of c order a.machine))) a.machine) =
+      let there : slice_get (act (kind change c) s event).machines number ≡ Some (took_of change c a order (slice_index s.words (table_index (plan_of c order a.machine))) a.machine) =
       ap (λ t. slice_get t.machines number) (act-event (kind change c) s event a (record { here = here; takes = takes })) ∙ slice_get-set_same s.machines number a _ here in (
         world_of c (act (kind change c) s event) next.follows.block next.follows.ghost (after g (h ++ told c s event)),
         (act (kind change c) s event).words,
@@ -114,26 +114,26 @@ module _ (change : Change) (law : IsPause change) (c : Config) (g : Graph) (s : 
 
   -- a word that a mutator finds is fit
   fit_mutator : (number : ℕ) (a : Actor) (m : Mutating) (order : Order) → slice_get s.machines number ≡ Some a → a.machine ≡ mutating m → takes_at m.spot m.made order ≡ true
-      → IsFit c m order (slice_index s.words (place_of (placed c (touch_of c m order))))
+      → IsFit c m order (slice_index s.words (table_index (placed c (touch_of c m order))))
   fit_mutator number a m order here is takes = (ready, ends order takes)
     where
-      ready : IsReady c (next_of c m order (slice_index s.words (place_of (placed c (touch_of c m order)))))
+      ready : IsReady c (next_of c m order (slice_index s.words (table_index (placed c (touch_of c m order)))))
       ready =
           let next = machine_next number a order here (ap (λ machine. takes_of machine order) is ∙ takes) in
-          let thread = subst (λ machine. IsMachine c next.1 next.0 next.2 number (took_of change c a order (slice_index s.words (place_of (plan_of c order a.machine))) a.machine)
-          (machine_after change c order (slice_index s.words (place_of (plan_of c order machine))) machine)) is next.3 in
+          let thread = subst (λ machine. IsMachine c next.1 next.0 next.2 number (took_of change c a order (slice_index s.words (table_index (plan_of c order a.machine))) a.machine)
+          (machine_after change c order (slice_index s.words (table_index (plan_of c order machine))) machine)) is next.3 in
           thread.mine.ready
 
-      ends : (o : Order) → takes_at m.spot m.made o ≡ true → EndsFit o (slice_index s.words (place_of (placed c (touch_of c m o))))
+      ends : (o : Order) → takes_at m.spot m.made o ≡ true → EndsFit o (slice_index s.words (table_index (placed c (touch_of c m o))))
       ends Nothing takes_it = tt
       ends (Begin command) takes_it = tt
-      ends End takes_it = subst (λ t. slice_index s.words (place_of (placed c t)) ≢ 0) (sym (ends_at c m.seat m.made m.kept m.spot takes_it))
+      ends End takes_it = subst (λ t. slice_index s.words (table_index (placed c t)) ≢ 0) (sym (ends_at c m.seat m.made m.kept m.spot takes_it))
           (subst (λ got. got ≢ 0) (sym (found-placed c s.words (touch Left (subtracts 1)) refl))
           (left_some c is_left s number a goes.counted here (ap (λ machine. is_left (record { machine = machine; command = a.command; calls = a.calls })) is ∙ ends_left m.spot m.made takes_it)))
 
   -- so is one that the control finds
   fit_control : (number : ℕ) (seen : ℕ) (image : List ℕ) (a : Actor) (spot : ControlSpot) → slice_get s.machines number ≡ Some a → a.machine ≡ controlling (record { spot = spot; seen = seen; image = image })
-      → IsWhole c spot image (slice_index s.words (place_of (control_access c (record { spot = spot; seen = seen; image = image }))))
+      → IsWhole c spot image (slice_index s.words (table_index (control_access c (record { spot = spot; seen = seen; image = image }))))
   fit_control number seen image a (LoadWord index) here is =
       λ last. whole_stands change law c g s h number seen image a.command a.calls goes.follows goes.shaken index
       (here ∙ ap (λ machine. Some (record { machine = machine; command = a.command; calls = a.calls })) is) last
@@ -148,12 +148,12 @@ module _ (change : Change) (law : IsPause change) (c : Config) (g : Graph) (s : 
           let thread = thread_of number a m (record { here = here; is = is }) in
           record {
             inside = λ order takes.
-                subst (λ machine. place_of (plan_of c order machine) < table_words c) (sym is)
-                (subst (λ k. k < table_words c) (sym (place_of-access_at (word_at c (touch_of c m order).word) (touch_of c m order).form))
+                subst (λ machine. table_index (plan_of c order machine) < table_words c) (sym is)
+                (subst (λ k. k < table_words c) (sym (table_index-access_at (word_at c (touch_of c m order).word) (touch_of c m order).form))
                 (word_inside c (touch_of c m order).word (is_word_true c (touch_of c m order).word
                 (order_word c m.seat m.made m.kept order m.spot thread.mine.seated.below thread.mine.ready (ap (λ machine. takes_of machine order) (sym is) ∙ takes)))));
             fit = λ order takes.
-                subst (λ machine. IsFitFor c order (slice_index s.words (place_of (plan_of c order machine))) machine) (sym is)
+                subst (λ machine. IsFitFor c order (slice_index s.words (table_index (plan_of c order machine))) machine) (sym is)
                 (fit_mutator number a m order here is (ap (λ machine. takes_of machine order) (sym is) ∙ takes));
           }
       by_machine (helping h) is = record {
@@ -164,9 +164,9 @@ module _ (change : Change) (law : IsPause change) (c : Config) (g : Graph) (s : 
           let facts = subst (λ machine. IsMachine c s.words the_world (of_thread h (number + 1)) number a machine) is (known number a here) in
           record {
             inside = λ order takes.
-                subst (λ machine. place_of (plan_of c order machine) < table_words c) (sym is) (accesses_inside c k.spot (word_stored k.spot k.image) facts.ready);
+                subst (λ machine. table_index (plan_of c order machine) < table_words c) (sym is) (accesses_inside c k.spot (word_stored k.spot k.image) facts.ready);
             fit = λ order takes.
-                subst (λ machine. IsFitFor c order (slice_index s.words (place_of (plan_of c order machine))) machine) (sym is)
+                subst (λ machine. IsFitFor c order (slice_index s.words (table_index (plan_of c order machine))) machine) (sym is)
                 (fit_control number k.seen k.image a k.spot here is);
           }
 
@@ -264,16 +264,16 @@ module _ (change : Change) (law : IsPause change) (c : Config) (s : Stage Actor)
   run_pauses events = pause_is_empty change law c g (go (kind change c) s events) (history change c s events) (goes_all events)
 
   -- a machine that is reached makes an access of the table
-  pub reached_inside : (number : ℕ) (a : Actor) (order : Order) → HasReached (kind change c) s number a → takes_of a.machine order ≡ true → place_of (plan_of c order a.machine) < table_words c
+  pub reached_inside : (number : ℕ) (a : Actor) (order : Order) → HasReached (kind change c) s number a → takes_of a.machine order ≡ true → table_index (plan_of c order a.machine) < table_words c
   reached_inside number a order has takes =
-      (reached_has (kind change c) (λ t. slice_get t.machines number ≡ Some a → place_of (plan_of c order a.machine) < table_words c) s has.stage
+      (reached_has (kind change c) (λ t. slice_get t.machines number ≡ Some a → table_index (plan_of c order a.machine) < table_words c) s has.stage
       (λ events here. ((every_run events).fit number a here).inside order takes) has.reached) has.here
 
   -- a word that a machine finds in some run is fit
   pub found_fit : (number : ℕ) (a : Actor) (order : Order) (told_it : ℕ) → Finds (kind change c) s number a order told_it → IsFitFor c order told_it a.machine
   unfolding kind
   found_fit number a order told_it f =
-      (reached_has (kind change c) (λ t. slice_get t.machines number ≡ Some a → told_it ≡ slice_index t.words (place_of (plan_of c order a.machine)) → IsFitFor c order told_it a.machine) s f.stage
+      (reached_has (kind change c) (λ t. slice_get t.machines number ≡ Some a → told_it ≡ slice_index t.words (table_index (plan_of c order a.machine)) → IsFitFor c order told_it a.machine) s f.stage
       (λ events here found. subst (λ n. IsFitFor c order n a.machine) (sym found) (((every_run events).fit number a here).fit order f.takes))
       f.reached) f.here f.found
 

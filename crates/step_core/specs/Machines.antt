@@ -12,7 +12,7 @@ use Rattle.heap_words.specs.Words.{Word, Pause, Answer, image_start}
 use Rattle.heap_words.specs.Rows.{name_of}
 use Rattle.heap_world.specs.Change.{Change}
 use Rattle.steps_base.specs.Touch.{touch, loads, placed}
-use Rattle.steps_base.specs.Steps.{Kind, Stage}
+use Rattle.steps_base.specs.Steps.{MachineKind, Stage}
 use Rattle.shen_graph.specs.declared.command.Command.{Command}
 use Rattle.shen_graph.specs.declared.command.Command.TheVariants.{Gc}
 use Rattle.shen_graph.specs.declared.command.Reply.{Reply}
@@ -103,9 +103,9 @@ order_by script calls (helping h) = None
 order_by script calls (controlling k) = if is_gone k.spot then None else Some Nothing
 
 -- whether its next access, under what it does on its turn, stands at a place. A machine that is idle stands nowhere
-abbrev pub stands_in : Place → Machine → Option Order → Bool
-stands_in place machine None = false
-stands_in place machine (Some order) = same_place (place_in order machine) place
+abbrev pub is_machine_at : Place → Machine → Option Order → Bool
+is_machine_at place machine None = false
+is_machine_at place machine (Some order) = same_place (place_in order machine) place
 
 -- the reply of its last call, between two calls
 abbrev pub reply_in : Machine → Option Reply
@@ -175,7 +175,7 @@ took_of change c a order got machine = record {
 
 -- The machines of a heap as a kind: an order is taken, an access made, and its word taken, by the rows of the machine. What a
 -- pause makes of the image is a function that is handed in.
-unfoldable pub kind : Change → Config → Kind Actor Order
+unfoldable pub kind : Change → Config → MachineKind Actor Order
 kind change c = record {
   takes = λ a order. takes_of a.machine order;
   plan = λ a order. plan_of c order a.machine;

@@ -7,7 +7,7 @@ use Rattle.heap_words.specs.declared.config.Config.{Config}
 use Rattle.heap_words.specs.declared.place.Place.{Place}
 use Rattle.heap_words.specs.declared.schedule.Item.{Item}
 use Rattle.heap_words.specs.declared.schedule.Item.TheVariants.{Steps, Until, Replies}
-use Rattle.heap_words.specs.Access.{place_of}
+use Rattle.heap_words.specs.Access.{table_index}
 use Rattle.heap_words.specs.Ranges.{seat_count}
 use Rattle.steps_base.specs.Steps.{Stage, Event, act}
 use Rattle.shen_graph.specs.declared.command.Command.{Command}
@@ -15,18 +15,18 @@ use Rattle.shen_graph.specs.declared.order.Order.{Order}
 use Rattle.step_core.specs.Actor.{Machine, Actor}
 use Rattle.heap_world.specs.Change.{Change}
 use Rattle.step_core.specs.Settled.{control_number}
-use Rattle.step_core.specs.Machines.{plan_of, order_by, answer_of, again_by, stands_in, kind}
+use Rattle.step_core.specs.Machines.{plan_of, order_by, answer_of, again_by, is_machine_at, kind}
 
 -- the commands of each mutator
 abbrev pub Scripts : Type 0
 Scripts = List (List Command)
 
-abbrev pub script_of : Scripts → ℕ → List Command
-script_of scripts number = slice_index_or scripts number []
+abbrev pub nth_script : Scripts → ℕ → List Command
+nth_script scripts number = slice_index_or scripts number []
 
 -- what a machine does on its turn: nothing where it is idle
 abbrev pub order_on_turn : Scripts → ℕ → Actor → Machine → Option Order
-order_on_turn scripts number a machine = order_by (script_of scripts number) a.calls machine
+order_on_turn scripts number a machine = order_by (nth_script scripts number) a.calls machine
 
 abbrev pub turn_of : Scripts → ℕ → Option Actor → Option (Event Order)
 turn_of scripts number None = None
@@ -37,7 +37,7 @@ abbrev pub turn : Scripts → Stage Actor → ℕ → Option (Event Order)
 turn scripts s number = turn_of scripts number (slice_get s.machines number)
 
 abbrev pub waits_in : Stage Actor → Config → Order → Machine → Bool
-waits_in s c order machine = again_by (answer_of c machine (slice_index s.words (place_of (plan_of c order machine))))
+waits_in s c order machine = again_by (answer_of c machine (slice_index s.words (table_index (plan_of c order machine))))
 
 abbrev pub waits_of : Config → Stage Actor → Order → Option Actor → Bool
 waits_of c s order None = false
@@ -47,14 +47,14 @@ waits_of c s order (Some a) = waits_in s c order a.machine
 abbrev pub waits : Config → Stage Actor → Event Order → Bool
 waits c s e = waits_of c s e.order (slice_get s.machines e.number)
 
-abbrev pub stands_of : Scripts → ℕ → Place → Option Actor → Bool
-stands_of scripts number place None = false
-stands_of scripts number place (Some a) = stands_in place a.machine (order_on_turn scripts number a a.machine)
+abbrev pub is_actor_at : Scripts → ℕ → Place → Option Actor → Bool
+is_actor_at scripts number place None = false
+is_actor_at scripts number place (Some a) = is_machine_at place a.machine (order_on_turn scripts number a a.machine)
 
 -- Whether the next access of a machine stands at a place. Between two calls that of a mutator is the first one of the command
 -- that follows in its script, or that of its end.
-abbrev pub stands_at : Scripts → Stage Actor → ℕ → Place → Bool
-stands_at scripts s number place = stands_of scripts number place (slice_get s.machines number)
+abbrev pub is_at_place : Scripts → Stage Actor → ℕ → Place → Bool
+is_at_place scripts s number place = is_actor_at scripts number place (slice_get s.machines number)
 
 abbrev pub given_of : Option Actor → ℕ
 given_of None = 0
@@ -99,7 +99,7 @@ waits_then c s (Some e) = waits c s e
 abbrev pub move_of : Config → Scripts → Stage Actor → Task → Option Move
 move_of c scripts s (steps number zero) = None
 move_of c scripts s (steps number (suc count)) = moves (turn scripts s number) (steps number count ∷ [])
-move_of c scripts s (until number place) = if stands_at scripts s number place then None else moves (turn scripts s number) (until number place ∷ [])
+move_of c scripts s (until number place) = if is_at_place scripts s number place then None else moves (turn scripts s number) (until number place ∷ [])
 move_of c scripts s (replies number count) =
     if nat_le count (given s number) then None
     else moves (turn scripts s number) (control_after (waits_then c s (turn scripts s number)) ++ replies number count ∷ [])

@@ -1,7 +1,7 @@
 -- The theorem over every list of events: what holds of each stage that events lead to, and of its history.
 use Rattle.std.specs.Prelude.{ℕ, ◌≡◌, ◌≢◌, ◌+◌, ◌<◌, ◌==◌, Bool, true, false, List, ◌++◌, length, Option, Some, None, slice_get, slice_index, All}
 use Rattle.heap_words.specs.declared.config.Config.{Config}
-use Rattle.heap_words.specs.Access.{place_of}
+use Rattle.heap_words.specs.Access.{table_index}
 use Rattle.heap_words.specs.Ranges.{seat_count}
 use Rattle.heap_words.specs.Words.{Answer, view, table_words}
 use Rattle.steps_base.specs.Steps.{Stage}
@@ -111,8 +111,8 @@ pub record AreCalls (answer : ℕ) (entries : List Entry) (number : ℕ) (a : Ac
 
 -- a machine's next access is of a word of the table, and the word that it finds there is fit
 pub record FindsFit (c : Config) (s : Stage Actor) (a : Actor) : Type 0 where
-  pub inside : (order : Order) → takes_of a.machine order ≡ true → place_of (plan_of c order a.machine) < table_words c
-  pub fit : (order : Order) → takes_of a.machine order ≡ true → IsFitFor c order (slice_index s.words (place_of (plan_of c order a.machine))) a.machine
+  pub inside : (order : Order) → takes_of a.machine order ≡ true → table_index (plan_of c order a.machine) < table_words c
+  pub fit : (order : Order) → takes_of a.machine order ≡ true → IsFitFor c order (slice_index s.words (table_index (plan_of c order a.machine))) a.machine
 
 -- The theorem, of a stage to which events lead from one that begins a graph, and of the history of the events.
 pub record IsSound (c : Config) (g : Graph) (s : Stage Actor) (past : List Entry) : Type 0 where

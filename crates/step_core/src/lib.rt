@@ -6,7 +6,7 @@ mod opening;
 
 ghost use Rattle.std.specs.Prelude.{ℕ, ◌≡◌, ◌<◌, true, List};
 ghost use Rattle.heap_words.specs.declared.config.Config.{Config};
-ghost use Rattle.heap_words.specs.Access.{place_of};
+ghost use Rattle.heap_words.specs.Access.{table_index};
 ghost use Rattle.heap_words.specs.Words.{End, view, table_words};
 ghost use Rattle.steps_base.specs.Steps.{Stage, Event, go, HasReached, Finds};
 ghost use Rattle.shen_graph.specs.declared.order.Order.{Order};
@@ -47,7 +47,7 @@ pub fn opening_begins()
 
 /// A law: a machine that is reached by some steps makes its next access inside the table, whatever order it takes.
 pub fn accesses_are_inside()
-    ensures { (change : Change) → IsPause change → (c : Config) (s : Stage Actor) (g : Graph) → Begins c s g → (number : ℕ) (a : Actor) (order : Order) → HasReached (kind change c) s number a → takes_of a.machine order ≡ true → place_of (plan_of c order a.machine) < table_words c }
+    ensures { (change : Change) → IsPause change → (c : Config) (s : Stage Actor) (g : Graph) → Begins c s g → (number : ℕ) (a : Actor) (order : Order) → HasReached (kind change c) s number a → takes_of a.machine order ≡ true → table_index (plan_of c order a.machine) < table_words c }
 {}
 
 /// A law: a word that a machine finds after some steps is fit.

@@ -2,12 +2,12 @@
 use Rattle.std.proofs.Common.{◌≡◌, ◌≢◌, ℕ, Bool, true, false, length, Option, Some, None, refl, sym, ap, ◌∙◌}
 use Rattle.std.specs.Prelude.{slice_get, slice_index, if◌then◌else◌}
 use Rattle.std.proofs.lemmas.List.{get_or-set_other, length-set}
-use Rattle.heap_words.specs.Access.{place_of}
-use Rattle.steps_base.specs.Steps.{Kind, Stage, Event, moved, act_of, act, IsEvent, Finds, HasReached, RunsAdd, EventsAreSmall}
+use Rattle.heap_words.specs.Access.{table_index}
+use Rattle.steps_base.specs.Steps.{MachineKind, Stage, Event, moved, act_of, act, IsEvent, Finds, HasReached, RunsAdd, EventsAreSmall}
 use Rattle.steps_base.proofs.Runs.{go-none, go-first, go-append, go-step, reached_more}
 use Rattle.steps_base.proofs.Places.{slice_get-set_same, slice_get-set_other}
 
-module _ {R O : Type 0} (kind : Kind R O) where
+module _ {R O : Type 0} (kind : MachineKind R O) where
   -- what holds after an access, and where nothing changes, holds after an event
   pub act_cases : (P : Stage R → Type 0) (s : Stage R) (e : Event O) → P s → ((r : R) → slice_get s.machines e.number ≡ Some r → kind.takes r e.order ≡ true → P (moved kind s e.number r e.order)) → P (act kind s e)
   unfolding act
@@ -35,7 +35,7 @@ module _ {R O : Type 0} (kind : Kind R O) where
   machines_other s e k other =
       act_cases (λ x. slice_get x.machines k ≡ slice_get s.machines k) s e refl (λ r here takes. slice_get-set_other s.machines e.number k _ other)
 
-  pub words_other : (s : Stage R) (e : Event O) (r : R) (k : ℕ) → IsEvent kind s e r → k ≢ place_of (kind.plan r e.order) → slice_index (act kind s e).words k ≡ slice_index s.words k
+  pub words_other : (s : Stage R) (e : Event O) (r : R) (k : ℕ) → IsEvent kind s e r → k ≢ table_index (kind.plan r e.order) → slice_index (act kind s e).words k ≡ slice_index s.words k
   words_other s e r k is other = ap (λ x. slice_index x.words k) (act-event s e r is) ∙ get_or-set_other s.words _ k _ 0 other
 
   pub runs_add : RunsAdd kind
@@ -51,8 +51,8 @@ module _ {R O : Type 0} (kind : Kind R O) where
   }
 
   -- a machine that finds a word goes on from there
-  pub has_next : (start : Stage R) (number : ℕ) (r : R) (order : O) (told : ℕ) → Finds kind start number r order told → HasReached kind start number (kind.took r order told)
-  has_next start number r order told f =
+  pub has_next : (start : Stage R) (number : ℕ) (r : R) (order : O) (got : ℕ) → Finds kind start number r order got → HasReached kind start number (kind.took r order got)
+  has_next start number r order got f =
       let is : IsEvent kind f.stage (record { number = number; order = order }) r = record { here = f.here; takes = f.takes } in
       record {
         stage = act kind f.stage (record { number = number; order = order });

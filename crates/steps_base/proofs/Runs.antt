@@ -1,9 +1,9 @@
 -- The laws of runs, over any kind of machine.
 use Rattle.std.proofs.Common.{◌≡◌, ℕ, List, [], ◌∷◌, ◌++◌, Some, refl, ap, ◌∙◌, subst}
 use Rattle.std.specs.Prelude.{slice_get}
-use Rattle.steps_base.specs.Steps.{Kind, Stage, Event, act, go, IsReached, HasReached, Finds}
+use Rattle.steps_base.specs.Steps.{MachineKind, Stage, Event, act, go, IsReached, HasReached, Finds}
 
-module _ {R O : Type 0} (kind : Kind R O) where
+module _ {R O : Type 0} (kind : MachineKind R O) where
   pub go-none : (s : Stage R) → go kind s [] ≡ s
   unfolding go
   go-none s = refl
@@ -45,5 +45,5 @@ module _ {R O : Type 0} (kind : Kind R O) where
   has_start s number r here = record { stage = s; reached = reached_none s; here = here }
 
   -- a machine that finds a word is reached
-  pub finds_reached : (start : Stage R) (number : ℕ) (r : R) (order : O) (told : ℕ) → Finds kind start number r order told → HasReached kind start number r
-  finds_reached start number r order told f = record { stage = f.stage; reached = f.reached; here = f.here }
+  pub finds_reached : (start : Stage R) (number : ℕ) (r : R) (order : O) (got : ℕ) → Finds kind start number r order got → HasReached kind start number r
+  finds_reached start number r order got f = record { stage = f.stage; reached = f.reached; here = f.here }

@@ -2,11 +2,11 @@
 -- machine. Nothing here knows what the words mean or what the machines are.
 use Rattle.std.specs.Prelude.{ℕ, ◌≡◌, ◌≢◌, Bool, true, List, [], ◌∷◌, ◌++◌, length, Option, Some, None, slice_get, slice_set, slice_index, if◌then◌else◌}
 use Rattle.heap_words.specs.declared.access.Access.{Access}
-use Rattle.heap_words.specs.Access.{place_of, made_of, told_of}
+use Rattle.heap_words.specs.Access.{table_index, made_of, got_of}
 
 -- A kind of machine, by its record R and the orders O that it takes: whether it takes an order now, the access that it
 -- then makes, and what it is after it was told a word.
-pub record Kind (R O : Type 0) : Type 0 where
+pub record MachineKind (R O : Type 0) : Type 0 where
   pub takes : R → O → Bool
   pub plan : R → O → Access
   pub took : R → O → ℕ → R
@@ -23,68 +23,68 @@ pub record Event (O : Type 0) : Type 0 where
 
 -- the words after an access
 abbrev pub accessed : Access → List ℕ → List ℕ
-accessed access words = slice_set words (place_of access) (made_of access (slice_index words (place_of access)))
+accessed access words = slice_set words (table_index access) (made_of access (slice_index words (table_index access)))
 
 -- the word that the machine finds
-abbrev pub found_by : {R O : Type 0} → Kind R O → Stage R → R → O → ℕ
-found_by kind s r order = slice_index s.words (place_of (kind.plan r order))
+abbrev pub found_by : {R O : Type 0} → MachineKind R O → Stage R → R → O → ℕ
+found_by kind s r order = slice_index s.words (table_index (kind.plan r order))
 
 -- the access is made, and the machine is told its word
-abbrev pub moved : {R O : Type 0} → Kind R O → Stage R → ℕ → R → O → Stage R
+abbrev pub moved : {R O : Type 0} → MachineKind R O → Stage R → ℕ → R → O → Stage R
 moved kind s number r order = record {
   words = accessed (kind.plan r order) s.words;
-  machines = slice_set s.machines number (kind.took r order (told_of (kind.plan r order) (found_by kind s r order)));
+  machines = slice_set s.machines number (kind.took r order (got_of (kind.plan r order) (found_by kind s r order)));
 }
 
 -- what an event makes of a stage, by the machine that has its number. An order that the machine does not take changes nothing
-abbrev pub act_of : {R O : Type 0} → Kind R O → Stage R → Event O → Option R → Stage R
+abbrev pub act_of : {R O : Type 0} → MachineKind R O → Stage R → Event O → Option R → Stage R
 act_of kind s e None = s
 act_of kind s e (Some r) = if kind.takes r e.order then moved kind s e.number r e.order else s
 
 -- what an event makes of a stage
-unfoldable pub act : {R O : Type 0} → Kind R O → Stage R → Event O → Stage R
+unfoldable pub act : {R O : Type 0} → MachineKind R O → Stage R → Event O → Stage R
 act kind s e = act_of kind s e (slice_get s.machines e.number)
 
 -- what these events make of it, one after the other
-unfoldable pub go : {R O : Type 0} → Kind R O → Stage R → List (Event O) → Stage R
+unfoldable pub go : {R O : Type 0} → MachineKind R O → Stage R → List (Event O) → Stage R
 go kind s [] = s
 go kind s (e ∷ es) = go kind (act kind s e) es
 
 -- the event is one: there is the machine, and it takes the order
-pub record IsEvent {R O : Type 0} (kind : Kind R O) (s : Stage R) (e : Event O) (r : R) : Type 0 where
+pub record IsEvent {R O : Type 0} (kind : MachineKind R O) (s : Stage R) (e : Event O) (r : R) : Type 0 where
   pub here : slice_get s.machines e.number ≡ Some r
   pub takes : kind.takes r e.order ≡ true
 
 -- some events lead from one stage to the other
-pub record IsReached {R O : Type 0} (kind : Kind R O) (start end : Stage R) : Type 0 where
+pub record IsReached {R O : Type 0} (kind : MachineKind R O) (start end : Stage R) : Type 0 where
   pub events : List (Event O)
   pub ends : go kind start events ≡ end
 
 -- some events lead to a stage in which this machine has this record
-pub record HasReached {R O : Type 0} (kind : Kind R O) (start : Stage R) (number : ℕ) (r : R) : Type 0 where
+pub record HasReached {R O : Type 0} (kind : MachineKind R O) (start : Stage R) (number : ℕ) (r : R) : Type 0 where
   pub stage : Stage R
   pub reached : IsReached kind start stage
   pub here : slice_get stage.machines number ≡ Some r
 
 -- some events lead to a stage in which this machine, under an order that it takes, is told this word
-pub record Finds {R O : Type 0} (kind : Kind R O) (start : Stage R) (number : ℕ) (r : R) (order : O) (told : ℕ) : Type 0 where
+pub record Finds {R O : Type 0} (kind : MachineKind R O) (start : Stage R) (number : ℕ) (r : R) (order : O) (got : ℕ) : Type 0 where
   pub stage : Stage R
   pub reached : IsReached kind start stage
   pub here : slice_get stage.machines number ≡ Some r
   pub takes : kind.takes r order ≡ true
-  pub found : told ≡ told_of (kind.plan r order) (found_by kind stage r order)
+  pub found : got ≡ got_of (kind.plan r order) (found_by kind stage r order)
 
 -- events one after another are one run
-pub record RunsAdd {R O : Type 0} (kind : Kind R O) : Type 0 where
+pub record RunsAdd {R O : Type 0} (kind : MachineKind R O) : Type 0 where
   pub none : (s : Stage R) → go kind s [] ≡ s
   pub first : (s : Stage R) (e : Event O) (es : List (Event O)) → go kind s (e ∷ es) ≡ go kind (act kind s e) es
   pub both : (s : Stage R) (es fs : List (Event O)) → go kind s (es ++ fs) ≡ go kind (go kind s es) fs
   pub last : (s : Stage R) (es : List (Event O)) (e : Event O) → go kind s (es ++ e ∷ []) ≡ act kind (go kind s es) e
 
 -- an event is one access by one machine: it changes at most one word and at most one machine, and makes neither more nor fewer of them
-pub record EventsAreSmall {R O : Type 0} (kind : Kind R O) : Type 0 where
+pub record EventsAreSmall {R O : Type 0} (kind : MachineKind R O) : Type 0 where
   pub words : (s : Stage R) (e : Event O) → length (act kind s e).words ≡ length s.words
   pub machines : (s : Stage R) (e : Event O) → length (act kind s e).machines ≡ length s.machines
   pub other_machines : (s : Stage R) (e : Event O) (k : ℕ) → k ≢ e.number → slice_get (act kind s e).machines k ≡ slice_get s.machines k
-  pub other_words : (s : Stage R) (e : Event O) (r : R) (k : ℕ) → IsEvent kind s e r → k ≢ place_of (kind.plan r e.order) → slice_index (act kind s e).words k ≡ slice_index s.words k
+  pub other_words : (s : Stage R) (e : Event O) (r : R) (k : ℕ) → IsEvent kind s e r → k ≢ table_index (kind.plan r e.order) → slice_index (act kind s e).words k ≡ slice_index s.words k
   pub moved : (s : Stage R) (e : Event O) (r : R) → IsEvent kind s e r → act kind s e ≡ moved kind s e.number r e.order

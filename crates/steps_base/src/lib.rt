@@ -4,16 +4,16 @@
 
 mod table;
 
-ghost use Rattle.steps_base.specs.Steps.{Kind, RunsAdd, EventsAreSmall};
+ghost use Rattle.steps_base.specs.Steps.{MachineKind, RunsAdd, EventsAreSmall};
 
 pub use table::make_access;
 
 /// A law: events one after another are one run.
 pub fn runs_add<R, O>()
-    ensures { (kind : Kind R O) → RunsAdd kind }
+    ensures { (kind : MachineKind R O) → RunsAdd kind }
 {}
 
 /// A law: an event is one access of one word, and changes no machine but its own.
 pub fn events_are_small<R, O>()
-    ensures { (kind : Kind R O) → EventsAreSmall kind }
+    ensures { (kind : MachineKind R O) → EventsAreSmall kind }
 {}

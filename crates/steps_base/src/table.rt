@@ -1,5 +1,5 @@
 ghost use Rattle.std.specs.Prelude.{◌≡◌, ◌<◌, vec_len, slice_index};
-ghost use Rattle.heap_words.specs.Access.{place_of, told_of};
+ghost use Rattle.heap_words.specs.Access.{table_index, got_of};
 ghost use Rattle.steps_base.specs.Steps.{accessed};
 
 use heap_words::Access;
@@ -7,9 +7,9 @@ use heap_words::Access;
 /// Makes an access in a table of words, and returns the word that it found there. The table is at least as long as the
 /// access asks for.
 pub fn make_access(words: &mut Vec<u64>, access: Access) -> u64
-    requires { place_of access < vec_len words.old }
+    requires { table_index access < vec_len words.old }
     ensures words { words.new.items ≡ accessed access words.old.items }
-    ensures told { result ≡ told_of access (slice_index words.old.items (place_of access)) }
+    ensures got { result ≡ got_of access (slice_index words.old.items (table_index access)) }
 {
     let at = access.at();
     let found = words[at];

@@ -37,8 +37,8 @@ unfolding kind
 kind_took c a order got = refl
 
 -- a word that a machine finds after some events is fit
-pub found_fits : (c : Config) (number : ℕ) (a : Actor) (order : Order) (told : ℕ) → Finds (heap_kind c) (heap_opening c) number a order told → IsFitFor c order told a.machine
-found_fits c number a order told finds = found_fit full_image full_is_pause c (opening c) (first_graph c) (opening_begins c) number a order told finds
+pub found_fits : (c : Config) (number : ℕ) (a : Actor) (order : Order) (got : ℕ) → Finds (heap_kind c) (heap_opening c) number a order got → IsFitFor c order got a.machine
+found_fits c number a order got finds = found_fit full_image full_is_pause c (opening c) (first_graph c) (opening_begins c) number a order got finds
 
 -- the words of the opening
 pub first_words : (c : Config) → (heap_opening c).words ≡ opening_words c

@@ -7,7 +7,7 @@ use Rattle.shen_graph.specs.declared.order.Order.TheVariants.{Nothing}
 use Rattle.steps_base.specs.Steps.{Stage}
 use Rattle.step_core.specs.Actor.{Machine, Actor}
 use Rattle.step_core.specs.Machines.{takes_of, may_begin}
-use Rattle.step_core.specs.Schedule.{Scripts, script_of, turn, turn_of}
+use Rattle.step_core.specs.Schedule.{Scripts, nth_script, turn, turn_of}
 use Rattle.heap_machines.proofs.Turns.{turn_in_call, turn_at_rest, order_of_script}
 use Rattle.table_heap.specs.Running.{IsIdleForGood}
 
@@ -27,4 +27,4 @@ idle_takes machine idle = by_may (may_begin machine) refl
 pub idle_turn : (scripts : Scripts) (s : Stage Actor) (number : ℕ) (a : Actor) → slice_get s.machines number ≡ Some a → IsIdleForGood a.machine → turn scripts s number ≡ None
 idle_turn scripts s number a here idle =
     ap (turn_of scripts number) here
-    ∙ ap (option_map (λ order. record { number = number; order = order })) (order_of_script (script_of scripts number) a.calls a.machine ∙ idle (slice_get (script_of scripts number) (length a.calls)))
+    ∙ ap (option_map (λ order. record { number = number; order = order })) (order_of_script (nth_script scripts number) a.calls a.machine ∙ idle (slice_get (nth_script scripts number) (length a.calls)))

@@ -3,7 +3,7 @@ use Rattle.std.proofs.Common.{◌≡◌, ⊎_elim, ℕ, [], length, Some, None, 
 use Rattle.std.specs.Prelude.{slice_get, IsSome, unwrap_or, is_some}
 use Rattle.std.proofs.lemmas.Bool.{false≢true, cases_eq}
 use Rattle.shen_graph.specs.declared.command.Reply.{Reply}
-use Rattle.shen_graph.specs.Work.{Progress, HasScript, progress_of, script_of, replies_of, next_of, begun, answered, with_reply}
+use Rattle.shen_graph.specs.Work.{Progress, HasScript, progress_of, script_in, replies_of, next_of, begun, answered, with_reply}
 use Rattle.shen_graph.proofs.Noted.{progress_same, progress_other}
 use Rattle.table_heap.specs.Running.{Jobs}
 
@@ -12,7 +12,7 @@ module _ (jobs : Jobs) (number : ℕ) (p : Progress) (here : progress_of jobs nu
   pub has_here : HasScript jobs number
   has_here = subst (λ o. IsSome o) (sym here) refl
 
-  pub script_here : script_of jobs number ≡ p.script
+  pub script_here : script_in jobs number ≡ p.script
   script_here = ap (λ o. (unwrap_or o (begun [])).script) here
 
   pub replies_here : replies_of jobs number ≡ p.replies

@@ -39,37 +39,37 @@ module _ {S : Type 0} (c : Config) (items : View Machine) (before : Me S (View A
         kind_plan c a (order_of m) ∙ ap (plan_of c (order_of m)) is ∙ ap (λ k. plan_of k (order_of m) (shown m)) (sym heap) ∙ sym row,
       ))
 
-  module _ (told : ℕ) (after : Me S (View Actor)) (took : Took (heap_kind c) (heap_opening c) number (order_of m) before told after) where
+  module _ (got : ℕ) (after : Me S (View Actor)) (took : Took (heap_kind c) (heap_opening c) number (order_of m) before got after) where
     -- the word that it found is fit
-    pub fits : heap_of m ≡ c → IsFitFor (heap_of m) (order_of m) told (shown m)
+    pub fits : heap_of m ≡ c → IsFitFor (heap_of m) (order_of m) got (shown m)
     fits heap =
-        let found = kept_finds (heap_kind c) (heap_opening c) machine_in number (order_of m) before after told (shown m) took seen_here in
-        subst (λ k. IsFitFor k (order_of m) told (shown m)) (sym heap)
-        (subst (λ x. IsFitFor c (order_of m) told x) found.1 (found_fits c number found.0 (order_of m) told found.2))
+        let found = kept_finds (heap_kind c) (heap_opening c) machine_in number (order_of m) before after got (shown m) took seen_here in
+        subst (λ k. IsFitFor k (order_of m) got (shown m)) (sym heap)
+        (subst (λ x. IsFitFor c (order_of m) got x) found.1 (found_fits c number found.0 (order_of m) got found.2))
 
     -- the bundle has the same numbers
     pub numbers_stay : SameNumbers before.0 after.0
     numbers_stay = subst (λ (v : View Actor). SameNumbers before.0 v) (sym took.view) (same_step before.0 number took.machine _ took.here)
 
-    module _ (n : Machine) (shown_is : shown n ≡ machine_after full_image (heap_of m) (order_of m) told (shown m)) (heap : heap_of m ≡ c) where
+    module _ (n : Machine) (shown_is : shown n ≡ machine_after full_image (heap_of m) (order_of m) got (shown m)) (heap : heap_of m ≡ c) where
       -- memory keeps what the view has
       pub kept_after : kept_of machine_in after.0 ≡ kept_of shown (slice_set items number (Some n))
       kept_after =
-          kept_step (heap_kind c) (heap_opening c) machine_in number (order_of m) before after told (shown m) (shown n) took seen_here
-          (λ a is. ap machine_in (kind_took c a (order_of m) told) ∙ ap (machine_after full_image c (order_of m) told) is ∙ ap (λ k. machine_after full_image k (order_of m) told (shown m)) (sym heap) ∙ sym shown_is)
+          kept_step (heap_kind c) (heap_opening c) machine_in number (order_of m) before after got (shown m) (shown n) took seen_here
+          (λ a is. ap machine_in (kind_took c a (order_of m) got) ∙ ap (machine_after full_image c (order_of m) got) is ∙ ap (λ k. machine_after full_image k (order_of m) got (shown m)) (sym heap) ∙ sym shown_is)
           ∙ ap (λ v. slice_set v number (Some (shown n))) kept
           ∙ sym (kept-set shown items number (Some n))
 
       -- its machines are still of the heap
       pub role_after : is_mutating (shown n) ≡ is_mutating (shown m)
-      role_after = ap is_mutating shown_is ∙ role_stays full_image (heap_of m) (order_of m) told (shown m)
+      role_after = ap is_mutating shown_is ∙ role_stays full_image (heap_of m) (order_of m) got (shown m)
 
 -- the same step, with other names for key and order
-pub took_as : {S : Type 0} (k c : Config) (number : ℕ) (o p : Order) (before : Me S (View Actor)) (told : ℕ) (after : Me S (View Actor)) → k ≡ c → o ≡ p
-    → Took (heap_kind k) (heap_opening k) number o before told after → Took (heap_kind c) (heap_opening c) number p before told after
-took_as k c number o p before told after same order took =
-    subst (λ (x : Config). Took (heap_kind x) (heap_opening x) number p before told after) same
-    (subst (λ (x : Order). Took (heap_kind k) (heap_opening k) number x before told after) order took)
+pub took_as : {S : Type 0} (k c : Config) (number : ℕ) (o p : Order) (before : Me S (View Actor)) (got : ℕ) (after : Me S (View Actor)) → k ≡ c → o ≡ p
+    → Took (heap_kind k) (heap_opening k) number o before got after → Took (heap_kind c) (heap_opening c) number p before got after
+took_as k c number o p before got after same order took =
+    subst (λ (x : Config). Took (heap_kind x) (heap_opening x) number p before got after) same
+    (subst (λ (x : Order). Took (heap_kind k) (heap_opening k) number x before got after) order took)
 
 pub can_as : (k c : Config) (view : View Actor) (number : ℕ) (o p : Order) (access : Access) → k ≡ c → o ≡ p
     → (a : Actor) × (machine_of view number ≡ Some a) × ((heap_kind c).takes a p ≡ true) × ((heap_kind c).plan a p ≡ access)

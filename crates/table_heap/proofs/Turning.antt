@@ -10,7 +10,7 @@ use Rattle.shared_steps.proofs.Shown.{machine_of-set}
 use Rattle.shen_graph.specs.declared.command.Reply.{Reply}
 use Rattle.shen_graph.specs.declared.order.Order.{Order}
 use Rattle.shen_graph.specs.declared.order.Order.TheVariants.{Nothing}
-use Rattle.shen_graph.specs.Work.{HasScript, script_of, replies_of, next_of, answered, with_reply}
+use Rattle.shen_graph.specs.Work.{HasScript, script_in, replies_of, next_of, answered, with_reply}
 use Rattle.step_core.specs.Actor.{Actor}
 use Rattle.step_core.specs.Machines.{answer_of, took_of, reply_in}
 use Rattle.heap_machines.specs.Answer.{stepped_by, says}
@@ -71,14 +71,14 @@ module _ (old mid new : Bundle) (jobs : Jobs) (number : ℕ) (said : Stepped) (m
   order = order_at mid number
 
   abbrev then_is : Actor
-  then_is = took_of full_image mid.config was order made.step.told was.machine
+  then_is = took_of full_image mid.config was order made.step.got was.machine
 
   here : machine_of (view_of old) number ≡ Some was
   here = ap (λ v. machine_of v number) (sym made.unmoved.view) ∙ made.step.took.here
 
   view_is : view_of new ≡ slice_set (view_of old) number (Some then_is)
   view_is =
-      made.step.took.view ∙ ap (λ x. slice_set (view_of mid) number (Some x)) (kind_took mid.config was order made.step.told)
+      made.step.took.view ∙ ap (λ x. slice_set (view_of mid) number (Some x)) (kind_took mid.config was order made.step.got)
       ∙ ap (λ v. slice_set v number (Some then_is)) made.unmoved.view
 
   there : machine_of (view_of new) number ≡ Some then_is
@@ -102,15 +102,15 @@ module _ (old mid new : Bundle) (jobs : Jobs) (number : ℕ) (said : Stepped) (m
         ap (λ o. order_for o was.machine) (sym next) ∙ ap (order_for (next_for old.config jobs number)) (sym (at_number old number was here)) ∙ made.turn
 
   role_then : is_mutating then_is.machine ≡ is_mutating was.machine
-  role_then = role_stays full_image mid.config order made.step.told was.machine
+  role_then = role_stays full_image mid.config order made.step.got was.machine
 
   -- what its step said
-  said_is : said ≡ stepped_by (answer_of mid.config was.machine made.step.told)
-  said_is = made.step.said_is ∙ ap (λ machine. says mid.config machine made.step.told) (at_number mid number was made.step.took.here)
+  said_is : said ≡ stepped_by (answer_of mid.config was.machine made.step.got)
+  said_is = made.step.said_is ∙ ap (λ machine. says mid.config machine made.step.got) (at_number mid number was made.step.took.here)
 
   -- a step that is not done gives no reply
   none_given : (said ≡ stepped.Done → ⊥) → given_in was.machine ≡ None
-  none_given other = other_gives mid.config was.machine made.step.told (λ is. other (said_is ∙ ap stepped_by is))
+  none_given other = other_gives mid.config was.machine made.step.got (λ is. other (said_is ∙ ap stepped_by is))
 
   -- the work is as it was
   pub turned_on : (said ≡ stepped.Done → ⊥) → AreAtWork new jobs
@@ -119,35 +119,35 @@ module _ (old mid new : Bundle) (jobs : Jobs) (number : ℕ) (said : Stepped) (m
     mutators = each_after (view_of old) (view_of new) number was then_is (IsAtWorkOn jobs) (IsAtWorkOn jobs) here view_is before.mutators
         (λ mutates.
         let role = sym role_then ∙ mutates in
-        ((job role).0, (job role).1, goes_on (job role).0 was (job role).2 mid.config order made.step.told (turn_is role) (none_given other)))
+        ((job role).0, (job role).1, goes_on (job role).0 was (job role).2 mid.config order made.step.got (turn_is role) (none_given other)))
         (λ k x different at. at);
   }
 
   -- a step that is done gives one
   some_given : said ≡ stepped.Done → (r : Reply) × (given_in was.machine ≡ Some r)
-  some_given done = done_gives mid.config was.machine made.step.told (done_by (answer_of mid.config was.machine made.step.told) (sym said_is ∙ done))
+  some_given done = done_gives mid.config was.machine made.step.got (done_by (answer_of mid.config was.machine made.step.got) (sym said_is ∙ done))
 
   -- a machine that gives a reply is a mutator
   role_given : (r : Reply) → given_in was.machine ≡ Some r → is_mutating was.machine ≡ true
-  role_given r gives = (given_after full_image mid.config order made.step.told was.machine r gives).role
+  role_given r gives = (given_after full_image mid.config order made.step.got was.machine r gives).role
 
   -- it has a script, and the reply can be noted
-  pub can_tell : said ≡ stepped.Done → HasScript jobs number × (length (replies_of jobs number) < length (script_of jobs number))
+  pub can_tell : said ≡ stepped.Done → HasScript jobs number × (length (replies_of jobs number) < length (script_in jobs number))
   can_tell done =
       let given = some_given done in
       let role = role_given given.0 given.1 in
       let at = job role in (
         has_here jobs number at.0 at.1,
-        subst (λ rs. length rs < length (script_of jobs number)) (sym (replies_here jobs number at.0 at.1))
+        subst (λ rs. length rs < length (script_in jobs number)) (sym (replies_here jobs number at.0 at.1))
             (subst (λ ks. length at.0.replies < length ks) (sym (script_here jobs number at.0 at.1))
-            (more at.0 was at.2 mid.config order made.step.told (turn_is role) given.0 given.1)),
+            (more at.0 was at.2 mid.config order made.step.got (turn_is role) given.0 given.1)),
       )
 
   -- the reply that is at hand is the one that the step gave
   pub reply_given : (r : Reply) → said ≡ stepped.Done → reply_in (machine_at new number) ≡ Some r → given_in was.machine ≡ Some r
   reply_given r done at_hand =
       let given = some_given done in
-      let replied = (given_after full_image mid.config order made.step.told was.machine given.0 given.1).replied in
+      let replied = (given_after full_image mid.config order made.step.got was.machine given.0 given.1).replied in
       given.1 ∙ sym replied ∙ ap reply_in (sym (at_number new number then_is there)) ∙ at_hand
 
   module _ (r : Reply) (done : said ≡ stepped.Done) (at_hand : reply_in (machine_at new number) ≡ Some r) where
@@ -165,7 +165,7 @@ module _ (old mid new : Bundle) (jobs : Jobs) (number : ℕ) (said : Stepped) (m
           (λ mutates. (
             answered (job role).0 r,
             noted_here jobs number (job role).0 (job role).1 r,
-            noted (job role).0 was (job role).2 mid.config order made.step.told (turn_is role) r gives,
+            noted (job role).0 was (job role).2 mid.config order made.step.got (turn_is role) r gives,
           ))
           (λ k x different at. (at.0, progress_other jobs number r k different ∙ at.1, at.2));
     }

@@ -3,13 +3,13 @@ use Rattle.std.specs.Prelude.{[]}
 use Rattle.heap_words.specs.declared.config.Config.{Config}
 use Rattle.shen_graph.specs.declared.command.Command.TheVariants.{Gc}
 use Rattle.shen_graph.specs.declared.order.Order.{Order}
-use Rattle.steps_base.specs.Steps.{Kind, Stage}
+use Rattle.steps_base.specs.Steps.{MachineKind, Stage}
 use Rattle.pause_laws.specs.Image.{full_image}
 use Rattle.step_core.specs.Actor.{Machine, Actor, fresh_helper}
 use Rattle.step_core.specs.Machines.{kind}
 use Rattle.step_core.specs.Opening.{opening}
 
-abbrev pub heap_kind : Config → Kind Actor Order
+abbrev pub heap_kind : Config → MachineKind Actor Order
 heap_kind c = kind full_image c
 
 -- the words and machines with which a heap begins

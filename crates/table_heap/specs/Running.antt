@@ -8,7 +8,7 @@ use Rattle.shen_graph.specs.declared.order.Order.{Order}
 use Rattle.shen_graph.specs.declared.order.Order.TheVariants.{Nothing}
 use Rattle.shen_graph.specs.History as history
 use Rattle.shen_graph.specs.Valid.{IsValid}
-use Rattle.shen_graph.specs.Work.{Progress, HasScript, progress_of, script_of, replies_of, next_of}
+use Rattle.shen_graph.specs.Work.{Progress, HasScript, progress_of, script_in, replies_of, next_of}
 use Rattle.step_core.specs.Actor.{Machine, Actor}
 use Rattle.step_core.specs.Machines.{is_resting, may_begin, made_of_machine, at_hand_of}
 use Rattle.heap_machines.specs.Roles.{is_mutating}
@@ -42,8 +42,8 @@ pub record CanStartOn (jobs : Jobs) (number : ℕ) (a : Actor) : Type 0 where
   pub made : made_of_machine a.machine ≡ 0
   pub script : HasScript jobs number
   pub replies : replies_of jobs number ≡ []
-  pub commands : All IsValid (script_of jobs number)
-  pub few : length (script_of jobs number) < 4294967295
+  pub commands : All IsValid (script_in jobs number)
+  pub few : length (script_in jobs number) < 4294967295
 
 -- a bundle and the work for its mutators, before they begin
 pub record CanStart (b : Bundle) (jobs : Jobs) : Type 0 where
@@ -85,10 +85,10 @@ pub record HasDone (script : List Command) (replies : List Reply) (a : Actor) : 
 
 -- so has each mutator of the bundle, where the first work has the scripts and the second the replies
 abbrev pub HaveDone : Bundle → Jobs → Jobs → Type 0
-HaveDone b jobs later = EachMutator (view_of b) (λ number a. HasDone (script_of jobs number) (replies_of later number) a)
+HaveDone b jobs later = EachMutator (view_of b) (λ number a. HasDone (script_in jobs number) (replies_of later number) a)
 
 -- The work has the same scripts under the same numbers, and what it has for others than the bundle's mutators is as it was.
 pub record AreSameJobs (view : View Actor) (jobs later : Jobs) : Type 0 where
-  pub scripts : (number : ℕ) → script_of later number ≡ script_of jobs number
+  pub scripts : (number : ℕ) → script_in later number ≡ script_in jobs number
   pub numbers : (number : ℕ) → is_some (progress_of later number) ≡ is_some (progress_of jobs number)
   pub others : (number : ℕ) → HasNoMutator view number → progress_of later number ≡ progress_of jobs number

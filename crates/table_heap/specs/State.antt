@@ -73,9 +73,9 @@ pub record IsUnchanged (old new : Bundle) : Type 0 where
 -- The step of a machine was one event of the heap's machines: its access told it this word, and so it said this. No other
 -- machine of the bundle has changed.
 pub record IsStep (old new : Bundle) (number : ℕ) (said : Stepped) : Type 0 where
-  pub told : ℕ
-  pub took : Took (heap_kind old.config) (heap_opening old.config) number (order_at old number) old.seat.me told new.seat.me
-  pub said_is : said ≡ says old.config (machine_at old number) told
+  pub got : ℕ
+  pub took : Took (heap_kind old.config) (heap_opening old.config) number (order_at old number) old.seat.me got new.seat.me
+  pub said_is : said ≡ says old.config (machine_at old number) got
   pub orders : orders_of new ≡ slice_set (orders_of old) number (Some Nothing)
 
 -- A bundle of the heap before the first event: its machines are these, and none has an order.

@@ -125,14 +125,14 @@ impl Bundle {
         if machine.is_idle() {
             return Stepped::Idle;
         }
-        let told = make_step::<Acting, Order, Config, OfHeaps, Brand>(
+        let got = make_step::<Acting, Order, Config, OfHeaps, Brand>(
             &heap.table.shared,
             &mut self.seat,
             number,
             &machine.order(),
             machine.plan(),
         );
-        Stepped::of(machine.took(told))
+        Stepped::of(machine.took(got))
     }
 
     /// The reply of the last call that the mutator has ended, until the next one is ordered.

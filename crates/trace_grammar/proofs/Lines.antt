@@ -5,9 +5,9 @@ use Rattle.std.proofs.lemmas.List.{get_or-take}
 use Rattle.shen_graph.specs.declared.command.Command.{Command}
 use Rattle.shen_graph.specs.declared.command.Command.TheVariants as command
 use Rattle.shen_graph.specs.Valid.{IsValid}
-use Rattle.trace_grammar.specs.declared.kind.Kind.{Kind}
-use Rattle.trace_grammar.specs.declared.kind.Kind.TheVariants.{New, Get, Set, Cas, Xchg, Rd, Wr, Copy, Drop, Same, Gc}
-use Rattle.trace_grammar.specs.Spelling.{Line, IsLine, FitsValue, line, numbers, word_of, numbers_of}
+use Rattle.trace_grammar.specs.declared.kind.CommandKind.{CommandKind}
+use Rattle.trace_grammar.specs.declared.kind.CommandKind.TheVariants.{New, Get, Set, Cas, Xchg, Rd, Wr, Copy, Drop, Same, Gc}
+use Rattle.trace_grammar.specs.Spelling.{TraceLine, IsLine, FitsValue, line, numbers, word_of, numbers_of}
 use Rattle.trace_grammar.specs.Kinds.{kinds, word, limits, command_from, AreWithin, Suit}
 use Rattle.trace_grammar.specs.Scanning.{◌>>=◌, behind, found, positive_at, numbers_at, kind_among, command_at, line_at}
 use Rattle.trace_grammar.specs.Front.{NoDigit}
@@ -15,7 +15,7 @@ use Rattle.trace_grammar.proofs.Numbers.{AreSmall, then_some, same_some, behind_
 
 -- ---- kinds
 
-pub kind_takes : (ks : List Kind) (bytes : List ℕ) (x : Kind × List ℕ) → kind_among ks bytes ≡ Some x → bytes ≡ word x.0 ++ x.1
+pub kind_takes : (ks : List CommandKind) (bytes : List ℕ) (x : CommandKind × List ℕ) → kind_among ks bytes ≡ Some x → bytes ≡ word x.0 ++ x.1
 unfolding kind_among
 kind_takes [] bytes x e = absurd cc
 kind_takes (k ∷ ks) bytes x e = by_first (behind (word k) bytes) refl (kind_takes ks bytes x) e
@@ -23,10 +23,10 @@ kind_takes (k ∷ ks) bytes x e = by_first (behind (word k) bytes) refl (kind_ta
     by_first : (first : Option (List ℕ)) → behind (word k) bytes ≡ first → (kind_among ks bytes ≡ Some x → bytes ≡ word x.0 ++ x.1) → found k first (kind_among ks bytes) ≡ Some x → bytes ≡ word x.0 ++ x.1
     by_first None at_front others e = others e
     by_first (Some rest) at_front others e =
-        let made : Kind × List ℕ = (k, rest) in
-        subst (λ (y : Kind × List ℕ). bytes ≡ word y.0 ++ y.1) (same_some made x e) (behind_takes (word k) bytes rest at_front)
+        let made : CommandKind × List ℕ = (k, rest) in
+        subst (λ (y : CommandKind × List ℕ). bytes ≡ word y.0 ++ y.1) (same_some made x e) (behind_takes (word k) bytes rest at_front)
 
-pub kind_again : (k : Kind) (rest : List ℕ) → kind_among kinds (word k ++ rest) ≡ Some (k, rest)
+pub kind_again : (k : CommandKind) (rest : List ℕ) → kind_among kinds (word k ++ rest) ≡ Some (k, rest)
 unfolding kind_among
 kind_again New rest = refl
 kind_again Get rest = refl
@@ -40,7 +40,7 @@ kind_again Drop rest = refl
 kind_again Same rest = refl
 kind_again Gc rest = refl
 
-pub limits_small : (k : Kind) → AreSmall (limits k)
+pub limits_small : (k : CommandKind) → AreSmall (limits k)
 limits_small New = (lit< tt, (lit< tt, (lit< tt, tt)))
 limits_small Get = (lit< tt, (lit< tt, (lit< tt, tt)))
 limits_small Set = (lit< tt, (lit< tt, (lit< tt, tt)))
@@ -63,7 +63,7 @@ within_at (b ∷ bounds) (n ∷ ns) (suc i) within lt = within_at bounds ns i wi
 within_front : (bounds ns : List ℕ) (i : ℕ) → AreWithin bounds (take (length bounds) ns) → i < length bounds → get_or ns i 0 ≤ get_or bounds i 0
 within_front bounds ns i within lt = subst (λ (n : ℕ). n ≤ get_or bounds i 0) (get_or-take (length bounds) ns i 0 lt) (within_at bounds (take (length bounds) ns) i within lt)
 
-pub suits : (k : Kind) (ns : List ℕ) → AreWithin (limits k) (take (length (limits k)) ns) → Suit k ns
+pub suits : (k : CommandKind) (ns : List ℕ) → AreWithin (limits k) (take (length (limits k)) ns) → Suit k ns
 suits New ns h = let at = λ (i : ℕ). within_front (limits New) ns i h in (at 0 (lit< tt), at 1 (lit< tt), at 2 (lit< tt))
 suits Get ns h = let at = λ (i : ℕ). within_front (limits Get) ns i h in (at 0 (lit< tt), at 1 (lit< tt), at 2 (lit< tt))
 suits Set ns h = let at = λ (i : ℕ). within_front (limits Set) ns i h in (at 0 (lit< tt), at 1 (lit< tt), at 2 (lit< tt))
@@ -78,7 +78,7 @@ suits Gc ns h = tt
 
 -- ---- commands
 
-abbrev pub kind_of : Command → Kind
+abbrev pub kind_of : Command → CommandKind
 kind_of (command.New dst refs nums) = New
 kind_of (command.Get dst src field) = Get
 kind_of (command.Set obj field val) = Set
@@ -118,7 +118,7 @@ four_listed : (ns : List ℕ) → length ns ≡ 4 → get_or ns 0 0 ∷ get_or n
 four_listed [] e = absurd (omega arith)
 four_listed (a ∷ ns) e = ap (λ (xs : List ℕ). a ∷ xs) (three_listed ns (omega arith))
 
-pub made_numbers : (k : Kind) (ns : List ℕ) → AreWithin (limits k) ns → numbers_of (command_from k ns) ≡ ns
+pub made_numbers : (k : CommandKind) (ns : List ℕ) → AreWithin (limits k) ns → numbers_of (command_from k ns) ≡ ns
 made_numbers New ns h = three_listed ns (within_length (limits New) ns h)
 made_numbers Get ns h = three_listed ns (within_length (limits Get) ns h)
 made_numbers Set ns h = three_listed ns (within_length (limits Set) ns h)
@@ -131,7 +131,7 @@ made_numbers Drop ns h = one_listed ns (within_length (limits Drop) ns h)
 made_numbers Same ns h = two_listed ns (within_length (limits Same) ns h)
 made_numbers Gc ns h = none_listed ns (within_length (limits Gc) ns h)
 
-pub made_word : (k : Kind) (ns : List ℕ) → word_of (command_from k ns) ≡ word k
+pub made_word : (k : CommandKind) (ns : List ℕ) → word_of (command_from k ns) ≡ word k
 made_word New ns = refl
 made_word Get ns = refl
 made_word Set ns = refl
@@ -147,7 +147,7 @@ made_word Gc ns = refl
 at_most : (bounds ns : List ℕ) → AreWithin bounds ns → (i : ℕ) → i < length bounds → get_or ns i 0 ≤ get_or bounds i 0
 at_most bounds ns h i lt = within_at bounds ns i h lt
 
-pub made_valid : (k : Kind) (ns : List ℕ) → AreWithin (limits k) ns → IsValid (command_from k ns) × FitsValue (command_from k ns)
+pub made_valid : (k : CommandKind) (ns : List ℕ) → AreWithin (limits k) ns → IsValid (command_from k ns) × FitsValue (command_from k ns)
 made_valid New ns h = let at = at_most (limits New) ns h in let a = at 0 (lit< tt) in let b = at 1 (lit< tt) in let c = at 2 (lit< tt) in ((omega arith, omega arith, omega arith), tt)
 made_valid Get ns h = let at = at_most (limits Get) ns h in let a = at 0 (lit< tt) in let b = at 1 (lit< tt) in let c = at 2 (lit< tt) in ((omega arith, omega arith, omega arith), tt)
 made_valid Set ns h = let at = at_most (limits Set) ns h in let a = at 0 (lit< tt) in let b = at 1 (lit< tt) in let c = at 2 (lit< tt) in ((omega arith, omega arith, omega arith), tt)
@@ -218,16 +218,16 @@ unfolding command_at
 command_again_at c rest valid fits none =
     rw (← word_again c, kind_again (kind_of c) (numbers (numbers_of c) ++ rest), numbers_again (limits (kind_of c)) (numbers_of c) rest (valid_within c valid fits) (limits_small (kind_of c)) none, command_again c) refl
 
-line-append : (l : Line) (rest : List ℕ) → line l ++ rest ≡ decimal l.thread ++ 32 ∷ (word_of l.command ++ (numbers (numbers_of l.command) ++ 10 ∷ rest))
+line-append : (l : TraceLine) (rest : List ℕ) → line l ++ rest ≡ decimal l.thread ++ 32 ∷ (word_of l.command ++ (numbers (numbers_of l.command) ++ 10 ∷ rest))
 line-append l rest =
     append_assoc (decimal l.thread) (32 ∷ (word_of l.command ++ (numbers (numbers_of l.command) ++ 10 ∷ []))) rest
     ∙ ap (λ (bs : List ℕ). decimal l.thread ++ 32 ∷ bs) (append_assoc (word_of l.command) (numbers (numbers_of l.command) ++ 10 ∷ []) rest
     ∙ ap (λ (bs : List ℕ). word_of l.command ++ bs) (append_assoc (numbers (numbers_of l.command)) (10 ∷ []) rest))
 
-line_parts : (bytes gap words end rest : List ℕ) (l : Line) → bytes ≡ decimal l.thread ++ gap → gap ≡ 32 ∷ words → words ≡ word_of l.command ++ (numbers (numbers_of l.command) ++ end) → end ≡ 10 ∷ rest → bytes ≡ line l ++ rest
+line_parts : (bytes gap words end rest : List ℕ) (l : TraceLine) → bytes ≡ decimal l.thread ++ gap → gap ≡ 32 ∷ words → words ≡ word_of l.command ++ (numbers (numbers_of l.command) ++ end) → end ≡ 10 ∷ rest → bytes ≡ line l ++ rest
 line_parts bytes gap words end rest l a b c d = rw (a, b, c, d) (sym (line-append l rest))
 
-pub line_takes : (threads : ℕ) (bytes : List ℕ) (x : Line × List ℕ) → threads < 2 ^ 64 → line_at threads bytes ≡ Some x → (bytes ≡ line x.0 ++ x.1) × IsLine threads x.0
+pub line_takes : (threads : ℕ) (bytes : List ℕ) (x : TraceLine × List ℕ) → threads < 2 ^ 64 → line_at threads bytes ≡ Some x → (bytes ≡ line x.0 ++ x.1) × IsLine threads x.0
 unfolding line_at
 line_takes threads bytes x small e =
     then_some (positive_at threads bytes) (λ t. behind (32 ∷ []) t.1 >>= λ rest. command_at rest >>= λ c. behind (10 ∷ []) c.1 >>= λ end. Some (record { thread = t.0; command = c.0 }, end)) x e (λ t at_t e1.
@@ -236,12 +236,12 @@ line_takes threads bytes x small e =
     then_some (behind (10 ∷ []) c.1) (λ end. Some (record { thread = t.0; command = c.0 }, end)) x e3 (λ end at_end e4.
     let thread = positive_takes threads bytes t small at_t in
     let command = command_takes rest c at_c in
-    let made : Line × List ℕ = (record { thread = t.0; command = c.0 }, end) in
+    let made : TraceLine × List ℕ = (record { thread = t.0; command = c.0 }, end) in
     let spelled : bytes ≡ line made.0 ++ made.1 = line_parts bytes t.1 rest c.1 end made.0 thread.0 (behind_takes (32 ∷ []) t.1 rest at_rest) command.0 (behind_takes (10 ∷ []) c.1 end at_end) in
-    subst (λ (y : Line × List ℕ). (bytes ≡ line y.0 ++ y.1) × IsLine threads y.0) (same_some made x e4)
+    subst (λ (y : TraceLine × List ℕ). (bytes ≡ line y.0 ++ y.1) × IsLine threads y.0) (same_some made x e4)
     (spelled, record { from_one = thread.1; to_last = thread.2; valid = command.1; fits = command.2 })))))
 
-pub line_again : (threads : ℕ) (l : Line) (rest : List ℕ) → threads < 2 ^ 64 → IsLine threads l → line_at threads (line l ++ rest) ≡ Some (l, rest)
+pub line_again : (threads : ℕ) (l : TraceLine) (rest : List ℕ) → threads < 2 ^ 64 → IsLine threads l → line_at threads (line l ++ rest) ≡ Some (l, rest)
 unfolding line_at
 line_again threads l rest small fits =
     ap (line_at threads) (line-append l rest)

@@ -13,47 +13,47 @@ use Rattle.std.proofs.lemmas.Grind.{flat_map-append}
 use Rattle.shen_graph.specs.declared.command.Command.{Command}
 use Rattle.heap_words.specs.declared.config.Config.{Config}
 use Rattle.heap_words.specs.declared.schedule.Item.{Item}
-use Rattle.trace_grammar.specs.Spelling.{Line, IsLine, line, header, space, newline, numbers, word_of, numbers_of, schedule_line}
+use Rattle.trace_grammar.specs.Spelling.{TraceLine, IsLine, line, header, space, newline, numbers, word_of, numbers_of, schedule_line}
 use Rattle.trace_grammar.specs.Front.{IsBehindCommands}
 use Rattle.trace_grammar.specs.Scanning.{numeral, number_at, positive_at, line_at}
-use Rattle.trace_grammar.specs.Grammar.{most_bytes, script_of, scripts_of, with_line, HasTaken, HasScheduled, Reads}
+use Rattle.trace_grammar.specs.Grammar.{most_bytes, commands_in, scripts_of, with_line, HasTaken, HasScheduled, Reads}
 use Rattle.trace_grammar.proofs.Numbers.{same_some}
 use Rattle.trace_grammar.proofs.Lines.{line_again}
 
-all_more : (threads : ℕ) (lines : List Line) (l : Line) → AllByRecursion (IsLine threads) lines → IsLine threads l → AllByRecursion (IsLine threads) (lines ++ l ∷ [])
+all_more : (threads : ℕ) (lines : List TraceLine) (l : TraceLine) → AllByRecursion (IsLine threads) lines → IsLine threads l → AllByRecursion (IsLine threads) (lines ++ l ∷ [])
 all_more threads [] l all fits = (fits, tt)
 all_more threads (x ∷ lines) l all fits = (all.0, all_more threads lines l all.1 fits)
 
 -- ---- scripts
 
-script_of_own : (lines : List Line) (l : Line) (t : ℕ) → t ≡ l.thread → script_of (lines ++ l ∷ []) t ≡ script_of lines t ++ l.command ∷ []
-script_of_own lines l t e =
-    let p = λ (x : Line). eqb x.thread t in
+commands_in_own : (lines : List TraceLine) (l : TraceLine) (t : ℕ) → t ≡ l.thread → commands_in (lines ++ l ∷ []) t ≡ commands_in lines t ++ l.command ∷ []
+commands_in_own lines l t e =
+    let p = λ (x : TraceLine). eqb x.thread t in
     let own : filter p (l ∷ []) ≡ l ∷ [] = rw (is_own l.thread t (sym e)) refl in
-    ap (map (λ (x : Line). x.command)) (filter-append p lines (l ∷ []) ∙ ap (λ (ls : List Line). filter p lines ++ ls) own) ∙ map-append (λ (x : Line). x.command) (filter p lines) (l ∷ [])
+    ap (map (λ (x : TraceLine). x.command)) (filter-append p lines (l ∷ []) ∙ ap (λ (ls : List TraceLine). filter p lines ++ ls) own) ∙ map-append (λ (x : TraceLine). x.command) (filter p lines) (l ∷ [])
   where
     is_own : (a b : ℕ) → a ≡ b → eqb a b ≡ true
     is_own a b h = grind (arith, nat_tests)
 
-script_of_other : (lines : List Line) (l : Line) (t : ℕ) → t ≢ l.thread → script_of (lines ++ l ∷ []) t ≡ script_of lines t
-script_of_other lines l t ne =
-    let p = λ (x : Line). eqb x.thread t in
+commands_in_other : (lines : List TraceLine) (l : TraceLine) (t : ℕ) → t ≢ l.thread → commands_in (lines ++ l ∷ []) t ≡ commands_in lines t
+commands_in_other lines l t ne =
+    let p = λ (x : TraceLine). eqb x.thread t in
     let other : filter p (l ∷ []) ≡ [] = rw (is_other l.thread t (λ h. ne (sym h))) refl in
-    ap (map (λ (x : Line). x.command)) (filter-append p lines (l ∷ []) ∙ ap (λ (ls : List Line). filter p lines ++ ls) other ∙ append-nil (filter p lines))
+    ap (map (λ (x : TraceLine). x.command)) (filter-append p lines (l ∷ []) ∙ ap (λ (ls : List TraceLine). filter p lines ++ ls) other ∙ append-nil (filter p lines))
   where
     is_other : (a b : ℕ) → a ≢ b → eqb a b ≡ false
     is_other a b h = grind (arith, nat_tests)
 
-at_thread : (threads : ℕ) (lines : List Line) (i : ℕ) (d : List Command) → i < threads → get_or (scripts_of threads lines) i d ≡ script_of lines (1 + i)
-at_thread threads lines i d lt = get_or-map-range_with_len (script_of lines) 1 threads i (1 + i) d lt refl
+at_thread : (threads : ℕ) (lines : List TraceLine) (i : ℕ) (d : List Command) → i < threads → get_or (scripts_of threads lines) i d ≡ commands_in lines (1 + i)
+at_thread threads lines i d lt = get_or-map-range_with_len (commands_in lines) 1 threads i (1 + i) d lt refl
 
-scripts_more : (threads : ℕ) (lines : List Line) (l : Line) → IsLine threads l → with_line (scripts_of threads lines) l ≡ scripts_of threads (lines ++ l ∷ [])
+scripts_more : (threads : ℕ) (lines : List TraceLine) (l : TraceLine) → IsLine threads l → with_line (scripts_of threads lines) l ≡ scripts_of threads (lines ++ l ∷ [])
 scripts_more threads lines l fits =
     let olds = scripts_of threads lines in
     let i = l.thread - 1 in
     let script = slice_index_or olds i [] ++ l.command ∷ [] in
-    let size : length olds ≡ threads = length-map-range_with_len (script_of lines) 1 threads in
-    let news : length (scripts_of threads (lines ++ l ∷ [])) ≡ threads = length-map-range_with_len (script_of (lines ++ l ∷ [])) 1 threads in
+    let size : length olds ≡ threads = length-map-range_with_len (commands_in lines) 1 threads in
+    let news : length (scripts_of threads (lines ++ l ∷ [])) ≡ threads = length-map-range_with_len (commands_in (lines ++ l ∷ [])) 1 threads in
     let lens : length (set olds i script) ≡ threads = length-set olds i script ∙ size in
     let in_range : i < threads = omega (arith, fits.from_one, fits.to_last) in
     let one : 1 + i ≡ l.thread = omega (arith, fits.from_one) in
@@ -64,11 +64,11 @@ scripts_more threads lines l fits =
           subst (λ (j : ℕ). get_or (set olds i script) j d ≡ get_or (scripts_of threads (lines ++ l ∷ [])) j d) (sym same)
           (get_or-set_same olds i script d (omega (arith, size))
           ∙ ap (λ (s : List Command). s ++ l.command ∷ []) (at_thread threads lines i [] in_range)
-          ∙ sym (at_thread threads (lines ++ l ∷ []) i d in_range ∙ script_of_own lines l (1 + i) one))
+          ∙ sym (at_thread threads (lines ++ l ∷ []) i d in_range ∙ commands_in_own lines l (1 + i) one))
       | inr other ↦
           get_or-set_other olds i k script d other
           ∙ at_thread threads lines k d within
-          ∙ sym (at_thread threads (lines ++ l ∷ []) k d within ∙ script_of_other lines l (1 + k) (λ h. other (omega arith)))
+          ∙ sym (at_thread threads (lines ++ l ∷ []) k d within ∙ commands_in_other lines l (1 + k) (λ h. other (omega arith)))
     ])
   where
     by_test : (a b : ℕ) (test : Bool) → eqb a b ≡ test → (a ≡ b) ⊎ (a ≢ b)
@@ -83,7 +83,7 @@ scripts_more threads lines l fits =
 pub taken_none : (threads : ℕ) (bytes : List ℕ) (scripts : List (List Command)) → scripts ≡ scripts_of threads [] → HasTaken threads bytes bytes scripts
 taken_none threads bytes scripts e = record { lines = []; in_range = tt; spelled = refl; by_thread = e }
 
-pub taken_more : (threads : ℕ) (bytes rest after : List ℕ) (scripts news : List (List Command)) (l : Line) → HasTaken threads bytes rest scripts → IsLine threads l → rest ≡ line l ++ after → news ≡ with_line scripts l → HasTaken threads bytes after news
+pub taken_more : (threads : ℕ) (bytes rest after : List ℕ) (scripts news : List (List Command)) (l : TraceLine) → HasTaken threads bytes rest scripts → IsLine threads l → rest ≡ line l ++ after → news ≡ with_line scripts l → HasTaken threads bytes after news
 taken_more threads bytes rest after scripts news l taken fits parts made = record {
   lines = taken.lines ++ l ∷ [];
   in_range = all_more threads taken.lines l taken.in_range fits;
@@ -91,12 +91,12 @@ taken_more threads bytes rest after scripts news l taken fits parts made = recor
   by_thread = made ∙ ap (λ (s : List (List Command)). with_line s l) taken.by_thread ∙ scripts_more threads taken.lines l fits;
 }
 
-pub taken_count : (threads : ℕ) (bytes rest after : List ℕ) (scripts news : List (List Command)) (l : Line) (taken : HasTaken threads bytes rest scripts) (fits : IsLine threads l) (parts : rest ≡ line l ++ after) (made : news ≡ with_line scripts l)
+pub taken_count : (threads : ℕ) (bytes rest after : List ℕ) (scripts news : List (List Command)) (l : TraceLine) (taken : HasTaken threads bytes rest scripts) (fits : IsLine threads l) (parts : rest ≡ line l ++ after) (made : news ≡ with_line scripts l)
     → length (taken_more threads bytes rest after scripts news l taken fits parts made).lines ≡ length taken.lines + 1
 unfolding taken_more
 taken_count threads bytes rest after scripts news l taken fits parts made = length-append taken.lines (l ∷ [])
 
-flat_append : (x : Line) (xs : List Line) (rest : List ℕ) → flat_map line (x ∷ xs) ++ rest ≡ line x ++ (flat_map line xs ++ rest)
+flat_append : (x : TraceLine) (xs : List TraceLine) (rest : List ℕ) → flat_map line (x ∷ xs) ++ rest ≡ line x ++ (flat_map line xs ++ rest)
 flat_append x xs rest = ap (λ (bs : List ℕ). bs ++ rest) (flat_map-cons line x xs) ∙ append_assoc (line x) (flat_map line xs) rest
 
 -- what is behind the commands is no line
@@ -106,7 +106,7 @@ no_line threads [] behind = refl
 no_line threads (b ∷ bytes) behind = rw behind refl
 
 -- lines with something behind them that is none are the same
-pub lines_once : (threads : ℕ) (xs ys : List Line) (rest after : List ℕ) → threads < 2 ^ 64 → AllByRecursion (IsLine threads) xs → AllByRecursion (IsLine threads) ys → IsBehindCommands rest → IsBehindCommands after → flat_map line xs ++ rest ≡ flat_map line ys ++ after → (xs ≡ ys) × (rest ≡ after)
+pub lines_once : (threads : ℕ) (xs ys : List TraceLine) (rest after : List ℕ) → threads < 2 ^ 64 → AllByRecursion (IsLine threads) xs → AllByRecursion (IsLine threads) ys → IsBehindCommands rest → IsBehindCommands after → flat_map line xs ++ rest ≡ flat_map line ys ++ after → (xs ≡ ys) × (rest ≡ after)
 lines_once threads [] [] rest after small all_xs all_ys p q e = (refl, e)
 lines_once threads [] (y ∷ ys) rest after small all_xs all_ys p q e =
     let here : line_at threads rest ≡ Some (y, flat_map line ys ++ after) = ap (line_at threads) (e ∙ flat_append y ys after) ∙ line_again threads y (flat_map line ys ++ after) small all_ys.0 in
@@ -117,18 +117,18 @@ lines_once threads (x ∷ xs) [] rest after small all_xs all_ys p q e =
     let none = no_line threads after q in
     absurd cc
 lines_once threads (x ∷ xs) (y ∷ ys) rest after small all_xs all_ys p q e =
-    let one : Line × List ℕ = (x, flat_map line xs ++ rest) in
-    let two : Line × List ℕ = (y, flat_map line ys ++ after) in
+    let one : TraceLine × List ℕ = (x, flat_map line xs ++ rest) in
+    let two : TraceLine × List ℕ = (y, flat_map line ys ++ after) in
     let same : one ≡ two = same_some one two (sym (line_again threads x (flat_map line xs ++ rest) small all_xs.0) ∙ ap (line_at threads) (sym (flat_append x xs rest) ∙ e ∙ flat_append y ys after) ∙ line_again threads y (flat_map line ys ++ after) small all_ys.0) in
-    let others = lines_once threads xs ys rest after small all_xs.1 all_ys.1 p q (ap (λ (z : Line × List ℕ). z.1) same) in
-    (ap (λ (z : Line × List ℕ). z.0 ∷ xs) same ∙ ap (λ (zs : List Line). y ∷ zs) others.0, others.1)
+    let others = lines_once threads xs ys rest after small all_xs.1 all_ys.1 p q (ap (λ (z : TraceLine × List ℕ). z.1) same) in
+    (ap (λ (z : TraceLine × List ℕ). z.0 ∷ xs) same ∙ ap (λ (zs : List TraceLine). y ∷ zs) others.0, others.1)
 
 -- ---- whole traces
 
 -- with no line each script is empty
 pub scripts_of_none : (threads : ℕ) → replicate threads [] ≡ scripts_of threads []
 scripts_of_none threads =
-    let news : length (scripts_of threads []) ≡ threads = length-map-range_with_len (script_of []) 1 threads in
+    let news : length (scripts_of threads []) ≡ threads = length-map-range_with_len (commands_in []) 1 threads in
     let none : List Command = [] in
     let olds : length (replicate threads none) ≡ threads = length-replicate threads none in
     same_lists (replicate threads none) (scripts_of threads []) (olds ∙ sym news) (λ k d lt.
@@ -155,7 +155,7 @@ whole bytes rest behind c threads scripts items short found same taken turned = 
 }
 
 -- there are no more lines than bytes
-pub few_lines : (lines : List Line) → length lines ≤ length (flat_map line lines)
+pub few_lines : (lines : List TraceLine) → length lines ≤ length (flat_map line lines)
 few_lines [] = omega arith
 few_lines (l ∷ lines) =
     let front = ap length (flat_map-cons line l lines) in
@@ -173,7 +173,7 @@ few_turns (items ∷ turns) =
     omega (arith, front, sizes, others)
 
 -- a line of a command is none of the schedule
-pub command_is_no_turn : (threads : ℕ) (l : Line) (bytes rest : List ℕ) → threads < 2 ^ 64 → IsLine threads l → bytes ≡ line l ++ rest → IsBehindCommands bytes → ⊥
+pub command_is_no_turn : (threads : ℕ) (l : TraceLine) (bytes rest : List ℕ) → threads < 2 ^ 64 → IsLine threads l → bytes ≡ line l ++ rest → IsBehindCommands bytes → ⊥
 command_is_no_turn threads l bytes rest small fits e behind =
     let here : line_at threads bytes ≡ Some (l, rest) = ap (line_at threads) e ∙ line_again threads l rest small fits in
     let none = no_line threads bytes behind in

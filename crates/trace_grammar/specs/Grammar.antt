@@ -6,27 +6,27 @@ use Rattle.std.specs.Prelude.{Option}
 use Rattle.shen_graph.specs.declared.command.Command.{Command}
 use Rattle.heap_words.specs.declared.config.Config.{Config}
 use Rattle.heap_words.specs.declared.schedule.Item.{Item}
-use Rattle.trace_grammar.specs.Spelling.{Line, IsLine, line, header, IsScheduleLine, schedule_line}
+use Rattle.trace_grammar.specs.Spelling.{TraceLine, IsLine, line, header, IsScheduleLine, schedule_line}
 
 -- the most bytes of a trace
 abbrev pub most_bytes : ℕ
 most_bytes = 16777216
 
 -- the commands of a thread, in the order of their lines
-abbrev pub script_of : List Line → ℕ → List Command
-script_of lines thread = map (λ l. l.command) (filter (λ l. l.thread == thread) lines)
+abbrev pub commands_in : List TraceLine → ℕ → List Command
+commands_in lines thread = map (λ l. l.command) (filter (λ l. l.thread == thread) lines)
 
 -- the scripts of the threads 1 to `threads`
-abbrev pub scripts_of : ℕ → List Line → List (List Command)
-scripts_of threads lines = map (script_of lines) (range_with_len 1 threads)
+abbrev pub scripts_of : ℕ → List TraceLine → List (List Command)
+scripts_of threads lines = map (commands_in lines) (range_with_len 1 threads)
 
 -- the scripts, with the command of one line more
-abbrev pub with_line : List (List Command) → Line → List (List Command)
+abbrev pub with_line : List (List Command) → TraceLine → List (List Command)
 with_line scripts l = slice_set scripts (l.thread - 1) (slice_index_or scripts (l.thread - 1) [] ++ l.command ∷ [])
 
 -- these lines were taken from the front of the bytes, and what they say is in the scripts
 pub record HasTaken (threads : ℕ) (bytes rest : List ℕ) (scripts : List (List Command)) : Type 0 where
-  pub lines : List Line
+  pub lines : List TraceLine
   pub in_range : AllByRecursion (IsLine threads) lines
   pub spelled : bytes ≡ flat_map line lines ++ rest
   pub by_thread : scripts ≡ scripts_of threads lines
@@ -45,7 +45,7 @@ pub record HasScheduled (c : Config) (bytes : List ℕ) (before after : List Ite
 -- The bytes are the head of a trace, then lines of commands, and then lines of a schedule; and these are the threads'
 -- scripts, and these the items.
 pub record Reads (bytes : List ℕ) (config : Config) (scripts : List (List Command)) (items : List Item) : Type 0 where
-  pub lines : List Line
+  pub lines : List TraceLine
   pub in_range : AllByRecursion (IsLine config.mutators) lines
   pub turns : List (List Item)
   pub turns_in_range : AllByRecursion (IsScheduleLine config) turns

@@ -2,14 +2,14 @@
 use Rattle.std.specs.Prelude.{ℕ, ◌≤◌, List, [], ◌∷◌, codes, slice_index}
 use Rattle.shen_graph.specs.declared.command.Command.{Command}
 use Rattle.shen_graph.specs.declared.command.Command.TheVariants as command
-use Rattle.trace_grammar.specs.declared.kind.Kind.{Kind}
-use Rattle.trace_grammar.specs.declared.kind.Kind.TheVariants.{New, Get, Set, Cas, Xchg, Rd, Wr, Copy, Drop, Same, Gc}
+use Rattle.trace_grammar.specs.declared.kind.CommandKind.{CommandKind}
+use Rattle.trace_grammar.specs.declared.kind.CommandKind.TheVariants.{New, Get, Set, Cas, Xchg, Rd, Wr, Copy, Drop, Same, Gc}
 
-abbrev pub kinds : List Kind
+abbrev pub kinds : List CommandKind
 kinds = New ∷ Get ∷ Set ∷ Cas ∷ Xchg ∷ Rd ∷ Wr ∷ Copy ∷ Drop ∷ Same ∷ Gc ∷ []
 
 -- the word of a kind
-abbrev pub word : Kind → List ℕ
+abbrev pub word : CommandKind → List ℕ
 word New = codes "new"
 word Get = codes "get"
 word Set = codes "set"
@@ -23,7 +23,7 @@ word Same = codes "same"
 word Gc = codes "gc"
 
 -- the largest numbers that may follow: of roots 15, of sizes 16, of fields and indexes 31
-abbrev pub limits : Kind → List ℕ
+abbrev pub limits : CommandKind → List ℕ
 limits New = 15 ∷ 16 ∷ 16 ∷ []
 limits Get = 15 ∷ 15 ∷ 31 ∷ []
 limits Set = 15 ∷ 31 ∷ 15 ∷ []
@@ -37,7 +37,7 @@ limits Same = 15 ∷ 15 ∷ []
 limits Gc = []
 
 -- the command of a kind with these numbers
-abbrev pub command_from : Kind → List ℕ → Command
+abbrev pub command_from : CommandKind → List ℕ → Command
 command_from New ns = command.New (slice_index ns 0) (slice_index ns 1) (slice_index ns 2)
 command_from Get ns = command.Get (slice_index ns 0) (slice_index ns 1) (slice_index ns 2)
 command_from Set ns = command.Set (slice_index ns 0) (slice_index ns 1) (slice_index ns 2)
@@ -58,7 +58,7 @@ AreWithin (limit ∷ limits) [] = ⊥
 AreWithin (limit ∷ limits) (n ∷ ns) = (n ≤ limit) × AreWithin limits ns
 
 -- the first of these numbers are within the limits of the kind
-abbrev pub Suit : Kind → List ℕ → Type 0
+abbrev pub Suit : CommandKind → List ℕ → Type 0
 Suit New ns = (slice_index ns 0 ≤ 15) × (slice_index ns 1 ≤ 16) × (slice_index ns 2 ≤ 16)
 Suit Get ns = (slice_index ns 0 ≤ 15) × (slice_index ns 1 ≤ 15) × (slice_index ns 2 ≤ 31)
 Suit Set ns = (slice_index ns 0 ≤ 15) × (slice_index ns 1 ≤ 31) × (slice_index ns 2 ≤ 15)

@@ -5,8 +5,8 @@ use Rattle.std.specs.List.{prefix_len}
 use Rattle.std.specs.Char.{is_ascii_digit}
 use Rattle.std.specs.Str.Parse.{digits_value}
 use Rattle.shen_graph.specs.declared.command.Command.{Command}
-use Rattle.trace_grammar.specs.declared.kind.Kind.{Kind}
-use Rattle.trace_grammar.specs.Spelling.{Line}
+use Rattle.trace_grammar.specs.declared.kind.CommandKind.{CommandKind}
+use Rattle.trace_grammar.specs.Spelling.{TraceLine}
 use Rattle.trace_grammar.specs.Kinds.{kinds, word, limits, command_from}
 
 infixl 10 ◌>>=◌
@@ -58,12 +58,12 @@ numbers_at (limit ∷ limits) bytes = do
   Some (n.0 ∷ ns.0, ns.1)
 
 -- the kind whose word stands at the front, or what the others give
-abbrev pub found : Kind → Option (List ℕ) → Option (Kind × List ℕ) → Option (Kind × List ℕ)
+abbrev pub found : CommandKind → Option (List ℕ) → Option (CommandKind × List ℕ) → Option (CommandKind × List ℕ)
 found k None others = others
 found k (Some rest) others = Some (k, rest)
 
 -- the first of these kinds whose word stands at the front
-unfoldable pub kind_among : List Kind → List ℕ → Option (Kind × List ℕ)
+unfoldable pub kind_among : List CommandKind → List ℕ → Option (CommandKind × List ℕ)
 kind_among [] bytes = None
 kind_among (k ∷ kinds) bytes = found k (behind (word k) bytes) (kind_among kinds bytes)
 
@@ -75,7 +75,7 @@ command_at bytes = do
   Some (command_from k.0 ns.0, ns.1)
 
 -- a command's line, of a thread from 1 on
-unfoldable pub line_at : ℕ → List ℕ → Option (Line × List ℕ)
+unfoldable pub line_at : ℕ → List ℕ → Option (TraceLine × List ℕ)
 line_at threads bytes = do
   t ← positive_at threads bytes
   rest ← behind (32 ∷ []) t.1

@@ -52,11 +52,11 @@ numbers_of (Same a b) = a ∷ b ∷ []
 numbers_of Gc = []
 
 -- a line of a command: the thread, the command's word and its numbers
-pub record Line : Type 0 where
+pub record TraceLine : Type 0 where
   pub thread : ℕ
   pub command : Command
 
-abbrev pub line : Line → List ℕ
+abbrev pub line : TraceLine → List ℕ
 line l = decimal l.thread ++ space ∷ (word_of l.command ++ (numbers (numbers_of l.command) ++ newline ∷ []))
 
 -- a number that is written fits 64 bits
@@ -65,7 +65,7 @@ FitsValue (Wr obj index value) = value < 2 ^ 64
 FitsValue _ = Unit {0}
 
 -- what may stand on a line where there are so many threads, counted from 1
-pub record IsLine (threads : ℕ) (l : Line) : Type 0 where
+pub record IsLine (threads : ℕ) (l : TraceLine) : Type 0 where
   pub from_one : 1 ≤ l.thread
   pub to_last : l.thread ≤ threads
   pub valid : IsValid l.command

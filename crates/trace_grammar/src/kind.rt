@@ -6,7 +6,7 @@ use shen_graph::Command;
 
 /// The kinds of commands.
 #[derive(Clone, Copy)]
-pub enum Kind {
+pub enum CommandKind {
     New,
     Get,
     Set,
@@ -20,23 +20,23 @@ pub enum Kind {
     Gc,
 }
 
-impl Kind {
+impl CommandKind {
     /// The word that a line of this kind has behind the thread.
     pub fn word(self) -> &'static [u8]
         ensures { result.now ≡ word self }
     {
         match self {
-            Kind::New => b"new",
-            Kind::Get => b"get",
-            Kind::Set => b"set",
-            Kind::Cas => b"cas",
-            Kind::Xchg => b"xchg",
-            Kind::Rd => b"rd",
-            Kind::Wr => b"wr",
-            Kind::Copy => b"copy",
-            Kind::Drop => b"drop",
-            Kind::Same => b"same",
-            Kind::Gc => b"gc",
+            CommandKind::New => b"new",
+            CommandKind::Get => b"get",
+            CommandKind::Set => b"set",
+            CommandKind::Cas => b"cas",
+            CommandKind::Xchg => b"xchg",
+            CommandKind::Rd => b"rd",
+            CommandKind::Wr => b"wr",
+            CommandKind::Copy => b"copy",
+            CommandKind::Drop => b"drop",
+            CommandKind::Same => b"same",
+            CommandKind::Gc => b"gc",
         }
     }
 
@@ -45,17 +45,17 @@ impl Kind {
         ensures { result.now ≡ limits self }
     {
         match self {
-            Kind::New => &[15, 16, 16],
-            Kind::Get => &[15, 15, 31],
-            Kind::Set => &[15, 31, 15],
-            Kind::Cas => &[15, 31, 15, 15],
-            Kind::Xchg => &[15, 15, 31, 15],
-            Kind::Rd => &[15, 31],
-            Kind::Wr => &[15, 31, u64::MAX],
-            Kind::Copy => &[15, 15],
-            Kind::Drop => &[15],
-            Kind::Same => &[15, 15],
-            Kind::Gc => &[],
+            CommandKind::New => &[15, 16, 16],
+            CommandKind::Get => &[15, 15, 31],
+            CommandKind::Set => &[15, 31, 15],
+            CommandKind::Cas => &[15, 31, 15, 15],
+            CommandKind::Xchg => &[15, 15, 31, 15],
+            CommandKind::Rd => &[15, 31],
+            CommandKind::Wr => &[15, 31, u64::MAX],
+            CommandKind::Copy => &[15, 15],
+            CommandKind::Drop => &[15],
+            CommandKind::Same => &[15, 15],
+            CommandKind::Gc => &[],
         }
     }
 
@@ -66,52 +66,52 @@ impl Kind {
     {
         let [first, second, third, fourth] = numbers;
         match self {
-            Kind::New => Command::New {
+            CommandKind::New => Command::New {
                 dst: first as u32,
                 refs: second as u32,
                 nums: third as u32,
             },
-            Kind::Get => Command::Get {
+            CommandKind::Get => Command::Get {
                 dst: first as u32,
                 src: second as u32,
                 field: third as u32,
             },
-            Kind::Set => Command::Set {
+            CommandKind::Set => Command::Set {
                 obj: first as u32,
                 field: second as u32,
                 val: third as u32,
             },
-            Kind::Cas => Command::Cas {
+            CommandKind::Cas => Command::Cas {
                 obj: first as u32,
                 field: second as u32,
                 expect: third as u32,
                 val: fourth as u32,
             },
-            Kind::Xchg => Command::Xchg {
+            CommandKind::Xchg => Command::Xchg {
                 dst: first as u32,
                 obj: second as u32,
                 field: third as u32,
                 val: fourth as u32,
             },
-            Kind::Rd => Command::Rd {
+            CommandKind::Rd => Command::Rd {
                 obj: first as u32,
                 index: second as u32,
             },
-            Kind::Wr => Command::Wr {
+            CommandKind::Wr => Command::Wr {
                 obj: first as u32,
                 index: second as u32,
                 value: third,
             },
-            Kind::Copy => Command::Copy {
+            CommandKind::Copy => Command::Copy {
                 dst: first as u32,
                 src: second as u32,
             },
-            Kind::Drop => Command::Drop { dst: first as u32 },
-            Kind::Same => Command::Same {
+            CommandKind::Drop => Command::Drop { dst: first as u32 },
+            CommandKind::Same => Command::Same {
                 a: first as u32,
                 b: second as u32,
             },
-            Kind::Gc => Command::Gc,
+            CommandKind::Gc => Command::Gc,
         }
     }
 }

@@ -6,7 +6,7 @@ mod laws;
 mod trace;
 mod why;
 
-pub use kind::Kind;
+pub use kind::CommandKind;
 pub use laws::traces_are_read_once;
 pub use trace::{Scripts, Trace};
 pub use why::Why;

@@ -7,7 +7,7 @@ use Rattle.std.specs.Option.{IsSome}
 use Rattle.shen_graph.specs.declared.command.Command.{Command}
 use Rattle.heap_words.specs.declared.config.Config.{Config}
 use Rattle.heap_words.specs.declared.schedule.Item.{Item}
-use Rattle.trace_grammar.specs.Spelling.{Line, IsLine, line, header, schedule_line, IsScheduleLine}
+use Rattle.trace_grammar.specs.Spelling.{TraceLine, IsLine, line, header, schedule_line, IsScheduleLine}
 use Rattle.trace_grammar.specs.Front.{IsBehindCommands}
 use Rattle.trace_grammar.specs.Grammar.{HasTaken}
 use Rattle.trace_grammar.specs.declared.why.Why.{Why}
@@ -24,7 +24,7 @@ nothing : (bytes : List ℕ) → (IsBehindCommands bytes → ⊥) → 1 ≤ leng
 nothing [] some = absurd (some tt)
 nothing (b ∷ bytes) some = omega arith
 
-pub command_cause : (c : Config) (bytes : List ℕ) → (IsBehindCommands bytes → ⊥) → ((l : Line) (rest : List ℕ) → IsLine c.mutators l → bytes ≢ line l ++ rest) → cause_of (body_stage c false) (parts 10 bytes) ≡ None → ⊥
+pub command_cause : (c : Config) (bytes : List ℕ) → (IsBehindCommands bytes → ⊥) → ((l : TraceLine) (rest : List ℕ) → IsLine c.mutators l → bytes ≢ line l ++ rest) → cause_of (body_stage c false) (parts 10 bytes) ≡ None → ⊥
 command_cause c bytes some refused none = by_kind (commands_spell c bytes (nothing bytes some) none)
   where
     by_kind : BeginsWithCommand c bytes ⊎ BeginsWithTurn c bytes → ⊥
@@ -47,7 +47,7 @@ not_later first line e = grind (arith, nat_tests)
 
 -- ---- counts
 
-pub lines_fit : (lines : List Line) (bytes rest : List ℕ) → bytes ≡ flat_map line lines ++ rest → length lines + length rest ≤ length bytes
+pub lines_fit : (lines : List TraceLine) (bytes rest : List ℕ) → bytes ≡ flat_map line lines ++ rest → length lines + length rest ≤ length bytes
 lines_fit lines bytes rest e = let few = few_lines lines in let size = ap length e in let sizes = length-append (flat_map line lines) rest in omega (arith, few, size, sizes)
 
 pub turns_fit : (turns : List (List Item)) (bytes rest : List ℕ) → bytes ≡ flat_map schedule_line turns ++ rest → length turns + length rest ≤ length bytes

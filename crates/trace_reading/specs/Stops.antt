@@ -3,14 +3,14 @@ use Rattle.std.specs.Prelude.{ℕ, ◌≡◌, ◌+◌, List, ◌++◌, length, n
 use Rattle.std.specs.List.{flat_map, AllByRecursion}
 use Rattle.heap_words.specs.declared.config.Config.{Config}
 use Rattle.heap_words.specs.declared.schedule.Item.{Item}
-use Rattle.trace_grammar.specs.Spelling.{newline, Line, line, IsLine, schedule_line, IsScheduleLine}
+use Rattle.trace_grammar.specs.Spelling.{newline, TraceLine, line, IsLine, schedule_line, IsScheduleLine}
 use Rattle.trace_grammar.specs.declared.why.Why.{Why}
 use Rattle.trace_refusals.specs.Causes.{parts}
 use Rattle.trace_refusals.specs.Refused.{body_stage, cause_of}
 
 -- behind lines of commands, of which the first is line 4, these bytes are refused at line n
 pub record StopsCommands (c : Config) (bytes : List ℕ) (n : ℕ) (why : Why) : Type 0 where
-  pub lines : List Line
+  pub lines : List TraceLine
   pub in_range : AllByRecursion (IsLine c.mutators) lines
   pub rest : List ℕ
   pub spelled : bytes ≡ flat_map line lines ++ rest

@@ -4,7 +4,7 @@ ghost use Rattle.std.specs.Option.{option_map};
 ghost use Rattle.std.specs.Io.KnownBytes.{Consumes};
 ghost use Rattle.shen_base.specs.Count.{Rose};
 ghost use Rattle.heap_words.specs.declared.config.Config.{Config as Sizes};
-ghost use Rattle.trace_grammar.specs.Spelling.{Line, IsLine, line, header};
+ghost use Rattle.trace_grammar.specs.Spelling.{TraceLine, IsLine, line, header};
 ghost use Rattle.trace_grammar.specs.Scanning.{sizes_at};
 ghost use Rattle.trace_grammar.specs.Front.{IsBehindCommands};
 ghost use Rattle.trace_grammar.specs.Grammar.{most_bytes, with_line, scripts_of, HasTaken, Reads, Came};
@@ -68,8 +68,8 @@ fn take_line<'a>(
     scripts: &mut Vec<Script>,
 ) -> Result<&'a [u8], LineFault>
     requires { length scripts.old.items ≡ threads }
-    ensures ok { IfOk result (λ rest. (l : Line) × IsLine threads l × (bytes.now ≡ line l ++ rest.now) × (scripts.new.items ≡ with_line scripts.old.items l)) }
-    ensures refused { result ≡ Err LineFault.Refused → (l : Line) (rest : List ℕ) → IsLine threads l → bytes.now ≢ line l ++ rest }
+    ensures ok { IfOk result (λ rest. (l : TraceLine) × IsLine threads l × (bytes.now ≡ line l ++ rest.now) × (scripts.new.items ≡ with_line scripts.old.items l)) }
+    ensures refused { result ≡ Err LineFault.Refused → (l : TraceLine) (rest : List ℕ) → IsLine threads l → bytes.now ≢ line l ++ rest }
 {
     let Some((thread, command, rest)) = line_at(threads, bytes) else {
         return Err(LineFault::Refused);
@@ -122,7 +122,7 @@ fn take_lines<'a>(
 /// The fault of bytes that do not begin with a line of a command, where this is line `number`.
 fn bad_command(config: &Config, number: u64, bytes: &[u8]) -> TraceFault
     requires some { IsBehindCommands bytes.now → ⊥ }
-    requires refused { (l : Line) (rest : List ℕ) → IsLine config.now.mutators l → bytes.now ≢ line l ++ rest }
+    requires refused { (l : TraceLine) (rest : List ℕ) → IsLine config.now.mutators l → bytes.now ≢ line l ++ rest }
     ensures { (why : Cause) × (result ≡ TraceFault.BadLine number why) × (cause_of (body_stage config.now false) (parts 10 bytes.now) ≡ Some why) }
 {
     let why = body_refusal(config, false, bytes).unwrap();

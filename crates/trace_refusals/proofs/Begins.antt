@@ -7,7 +7,7 @@ use Rattle.std.proofs.lemmas.List.Concat.{flat_map-cons}
 use Rattle.std.proofs.lemmas.List.{length-append}
 use Rattle.heap_words.specs.declared.config.Config.{Config}
 use Rattle.heap_words.specs.declared.schedule.Item.{Item}
-use Rattle.trace_grammar.specs.Spelling.{Line, IsLine, line, newline, titled, header, schedule_line, IsScheduleLine}
+use Rattle.trace_grammar.specs.Spelling.{TraceLine, IsLine, line, newline, titled, header, schedule_line, IsScheduleLine}
 use Rattle.trace_grammar.specs.declared.why.Why.{Why}
 use Rattle.trace_refusals.specs.Causes.{parts}
 use Rattle.trace_refusals.specs.Refused.{Stage, Version, Heap, Threads, Commands, Turns, body_stage, cause_of, Follows, Lead, StopsAt}
@@ -79,7 +79,7 @@ begun_head bytes rest c e =
 
 -- ---- the lines behind it
 
-pub begun_lines : (bytes : List ℕ) (lines : List Line) (rest : List ℕ) (n : ℕ) (c : Config) → AllByRecursion (IsLine c.mutators) lines → Begun bytes (flat_map line lines ++ rest) n (Commands c) → Begun bytes rest (n + length lines) (Commands c)
+pub begun_lines : (bytes : List ℕ) (lines : List TraceLine) (rest : List ℕ) (n : ℕ) (c : Config) → AllByRecursion (IsLine c.mutators) lines → Begun bytes (flat_map line lines ++ rest) n (Commands c) → Begun bytes rest (n + length lines) (Commands c)
 begun_lines bytes [] rest n c all b = subst (λ (m : ℕ). Begun bytes rest m (Commands c)) (zero_more n) b
   where
     zero_more : (n : ℕ) → n ≡ n + 0

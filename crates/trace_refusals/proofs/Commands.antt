@@ -4,10 +4,10 @@ use Rattle.std.specs.List.{join_with_byte, AllByRecursion}
 use Rattle.std.specs.Fmt.{decimal}
 use Rattle.std.specs.Cmp.Lexicographic.{same_text}
 use Rattle.std.proofs.lemmas.Bool.{eqb-true}
-use Rattle.trace_grammar.specs.declared.kind.Kind.{Kind}
-use Rattle.trace_grammar.specs.declared.kind.Kind.TheVariants.{New}
+use Rattle.trace_grammar.specs.declared.kind.CommandKind.{CommandKind}
+use Rattle.trace_grammar.specs.declared.kind.CommandKind.TheVariants.{New}
 use Rattle.trace_grammar.specs.Kinds.{kinds, word, limits, command_from, AreWithin}
-use Rattle.trace_grammar.specs.Spelling.{Line, IsLine, line, newline, numbers, word_of, numbers_of}
+use Rattle.trace_grammar.specs.Spelling.{TraceLine, IsLine, line, newline, numbers, word_of, numbers_of}
 use Rattle.trace_grammar.specs.declared.why.Why.TheVariants.{Command}
 use Rattle.trace_grammar.proofs.Numbers.{AreSmall, same_some}
 use Rattle.trace_grammar.proofs.Lines.{limits_small, kind_of, made_numbers, made_word, made_valid, valid_within, word_again}
@@ -19,7 +19,7 @@ use Rattle.trace_refusals.proofs.Heads.{join_numbers}
 
 -- ---- kinds
 
-pub kind_spelled : (ks : List Kind) (w : List ℕ) (k : Kind) → kind_named ks w ≡ Some k → w ≡ word k
+pub kind_spelled : (ks : List CommandKind) (w : List ℕ) (k : CommandKind) → kind_named ks w ≡ Some k → w ≡ word k
 unfolding kind_named
 kind_spelled [] w k e = absurd cc
 kind_spelled (x ∷ ks) w k e = by_test (is_same w (word x)) refl (kind_spelled ks w k) e
@@ -28,12 +28,12 @@ kind_spelled (x ∷ ks) w k e = by_test (is_same w (word x)) refl (kind_spelled 
     by_test true same others e = same_text w (word x) (sym same) ∙ ap word (same_some x k e)
     by_test false other others e = others e
 
-pub kind_again : (k : Kind) → kind_named kinds (word k) ≡ Some k
+pub kind_again : (k : CommandKind) → kind_named kinds (word k) ≡ Some k
 unfolding kind_named
 kind_again New = refl
 kind_again _ = refl
 
-pub kind_word : (k : Kind) → IsWord (word k)
+pub kind_word : (k : CommandKind) → IsWord (word k)
 kind_word New = record { no_space = refl; no_end = refl }
 kind_word _ = record { no_space = refl; no_end = refl }
 
@@ -55,32 +55,32 @@ between_limits [] (n ∷ ns) within = absurd within
 between_limits (b ∷ bounds) [] within = absurd within
 between_limits (b ∷ bounds) (n ∷ ns) within = (omega arith, within.0, between_limits bounds ns within.1)
 
-small_ranges : (threads : ℕ) (k : Kind) → threads < 2 ^ 64 → AreSmallRanges (ranges_of threads (limits k))
+small_ranges : (threads : ℕ) (k : CommandKind) → threads < 2 ^ 64 → AreSmallRanges (ranges_of threads (limits k))
 small_ranges threads k small = (small, small_up_to (limits k) (limits_small k))
 
 -- ---- lines
 
 -- the words of a line
-abbrev pub line_words : Line → List (List ℕ)
+abbrev pub line_words : TraceLine → List (List ℕ)
 line_words l = decimal l.thread ∷ word_of l.command ∷ map decimal (numbers_of l.command)
 
-pub line_is : (l : Line) → join_with_byte 32 (line_words l) ++ newline ∷ [] ≡ line l
+pub line_is : (l : TraceLine) → join_with_byte 32 (line_words l) ++ newline ∷ [] ≡ line l
 line_is l =
     append_assoc (decimal l.thread) (32 ∷ join_with_byte 32 (word_of l.command ∷ map decimal (numbers_of l.command))) (newline ∷ [])
     ∙ ap (λ (t : List ℕ). decimal l.thread ++ 32 ∷ (t ++ newline ∷ [])) (join_numbers (word_of l.command) (numbers_of l.command))
     ∙ ap (λ (t : List ℕ). decimal l.thread ++ 32 ∷ t) (append_assoc (word_of l.command) (numbers (numbers_of l.command)) (newline ∷ []))
 
 -- the numbers of a line: the thread, and those of the command
-fits_ranges : (threads : ℕ) (l : Line) → IsLine threads l → AreBetween (ranges_of threads (limits (kind_of l.command))) (l.thread ∷ numbers_of l.command)
+fits_ranges : (threads : ℕ) (l : TraceLine) → IsLine threads l → AreBetween (ranges_of threads (limits (kind_of l.command))) (l.thread ∷ numbers_of l.command)
 fits_ranges threads l fits = (fits.from_one, fits.to_last, between_limits (limits (kind_of l.command)) (numbers_of l.command) (valid_within l.command fits.valid fits.fits))
 
-pub line_clean : (threads : ℕ) (l : Line) → threads < 2 ^ 64 → IsLine threads l → AllByRecursion IsWord (line_words l)
+pub line_clean : (threads : ℕ) (l : TraceLine) → threads < 2 ^ 64 → IsLine threads l → AllByRecursion IsWord (line_words l)
 line_clean threads l small fits =
     let all = numbers_words (ranges_of threads (limits (kind_of l.command))) (l.thread ∷ numbers_of l.command) (small_ranges threads (kind_of l.command) small) (fits_ranges threads l fits) in
     (all.0, (subst IsWord (word_again l.command) (kind_word (kind_of l.command)), all.1))
 
 -- the words of a line have no cause
-pub line_fine : (threads : ℕ) (l : Line) → threads < 2 ^ 64 → IsLine threads l → command_cause threads (decimal l.thread) (word_of l.command ∷ map decimal (numbers_of l.command)) ≡ None
+pub line_fine : (threads : ℕ) (l : TraceLine) → threads < 2 ^ 64 → IsLine threads l → command_cause threads (decimal l.thread) (word_of l.command ∷ map decimal (numbers_of l.command)) ≡ None
 line_fine threads l small fits =
     let k = kind_of l.command in
     let ranges = ranges_of threads (limits k) in
@@ -94,17 +94,17 @@ line_fine threads l small fits =
     lengths ranges ns between = numbers_length (up_to (limits (kind_of l.command))) (numbers_of l.command) between.2 ∙ up_to_length (limits (kind_of l.command))
 
 -- words without a cause are those of a line
-pub line_spelled : (threads : ℕ) (thread : List ℕ) (ws : List (List ℕ)) → threads < 2 ^ 64 → command_cause threads thread ws ≡ None → (l : Line) × IsLine threads l × (thread ∷ ws ≡ line_words l)
+pub line_spelled : (threads : ℕ) (thread : List ℕ) (ws : List (List ℕ)) → threads < 2 ^ 64 → command_cause threads thread ws ≡ None → (l : TraceLine) × IsLine threads l × (thread ∷ ws ≡ line_words l)
 unfolding command_cause
 line_spelled threads thread [] small e = absurd cc
 line_spelled threads thread (w ∷ ws) small e = by_kind (kind_named kinds w) refl e
   where
-    with_numbers : (k : Kind) → w ≡ word k → (ns : List ℕ) → thread ∷ ws ≡ map decimal ns → AreBetween (ranges_of threads (limits k)) ns → (l : Line) × IsLine threads l × (thread ∷ w ∷ ws ≡ line_words l)
+    with_numbers : (k : CommandKind) → w ≡ word k → (ns : List ℕ) → thread ∷ ws ≡ map decimal ns → AreBetween (ranges_of threads (limits k)) ns → (l : TraceLine) × IsLine threads l × (thread ∷ w ∷ ws ≡ line_words l)
     with_numbers k same [] spelled between = absurd between
     with_numbers k same (n ∷ ns) spelled between =
         let within = within_limits (limits k) ns between.2 in
         let valid = made_valid k ns within in
-        let l : Line = record { thread = n; command = command_from k ns } in
+        let l : TraceLine = record { thread = n; command = command_from k ns } in
         let first : thread ≡ decimal n = cc in
         let others : ws ≡ map decimal ns = cc in (
           l,
@@ -113,13 +113,13 @@ line_spelled threads thread (w ∷ ws) small e = by_kind (kind_named kinds w) re
               ∙ ap (λ (ts : List (List ℕ)). decimal n ∷ word_of (command_from k ns) ∷ ts) (others ∙ ap (map decimal) (sym (made_numbers k ns within))),
         )
 
-    by_count : (k : Kind) → w ≡ word k → (test : Bool) → eqb (length ws) (length (limits k)) ≡ test → cond test (numbers_cause (ranges_of threads (limits k)) (thread ∷ ws)) (Some Command) ≡ None → (l : Line) × IsLine threads l × (thread ∷ w ∷ ws ≡ line_words l)
+    by_count : (k : CommandKind) → w ≡ word k → (test : Bool) → eqb (length ws) (length (limits k)) ≡ test → cond test (numbers_cause (ranges_of threads (limits k)) (thread ∷ ws)) (Some Command) ≡ None → (l : TraceLine) × IsLine threads l × (thread ∷ w ∷ ws ≡ line_words l)
     by_count k same false count e = absurd cc
     by_count k same true count e =
         let size : length ws ≡ length (limits k) = eqb-true _ _ count in
         let made = numbers_spelled (ranges_of threads (limits k)) (thread ∷ ws) (small_ranges threads k small) (ap suc (size ∙ sym (up_to_length (limits k)))) e in
         with_numbers k same made.0 made.1 made.2
 
-    by_kind : (found : Option Kind) → kind_named kinds w ≡ found → numbers_of_kind threads thread found ws ≡ None → (l : Line) × IsLine threads l × (thread ∷ w ∷ ws ≡ line_words l)
+    by_kind : (found : Option CommandKind) → kind_named kinds w ≡ found → numbers_of_kind threads thread found ws ≡ None → (l : TraceLine) × IsLine threads l × (thread ∷ w ∷ ws ≡ line_words l)
     by_kind None is e = absurd cc
     by_kind (Some k) is e = by_count k (kind_spelled kinds w k is) (eqb (length ws) (length (limits k))) refl e

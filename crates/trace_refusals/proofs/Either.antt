@@ -7,7 +7,7 @@ use Rattle.std.proofs.lemmas.List.Concat.{flat_map-cons}
 use Rattle.shen_graph.specs.declared.command.Command.{Command}
 use Rattle.heap_words.specs.declared.config.Config.{Config}
 use Rattle.heap_words.specs.declared.schedule.Item.{Item}
-use Rattle.trace_grammar.specs.Spelling.{Line, IsLine, line, newline, titled, header, schedule_line, IsScheduleLine}
+use Rattle.trace_grammar.specs.Spelling.{TraceLine, IsLine, line, newline, titled, header, schedule_line, IsScheduleLine}
 use Rattle.trace_grammar.specs.Grammar.{most_bytes, scripts_of, items_of, Reads}
 use Rattle.trace_grammar.specs.declared.why.Why.{Why}
 use Rattle.trace_refusals.specs.Causes.{parts}
@@ -109,13 +109,13 @@ of_turns c (text ∷ texts) last lead =
     (it.0 ∷ others.0, (it.1, others.1), ended-cons text texts (schedule_line it.0) (flat_map schedule_line others.0) it.2 others.2 ∙ sym (flat_map-cons schedule_line it.0 others.0))
 
 of_commands : (c : Config) (texts : List (List ℕ)) (last : Stage) → Lead (Commands c) texts last
-    → (lines : List Line) × (turns : List (List Item)) × AllByRecursion (IsLine c.mutators) lines × AllByRecursion (IsScheduleLine c) turns × (ended texts ≡ flat_map line lines ++ flat_map schedule_line turns)
+    → (lines : List TraceLine) × (turns : List (List Item)) × AllByRecursion (IsLine c.mutators) lines × AllByRecursion (IsScheduleLine c) turns × (ended texts ≡ flat_map line lines ++ flat_map schedule_line turns)
 of_commands c [] last lead = ([], [], tt, tt, refl)
 of_commands c (text ∷ texts) last lead = by_kind lead.0 lead.1 lead.2 (of_commands c texts last)
   where
     by_kind : (next : Stage) → Follows (Commands c) text next → Lead next texts last
-        → (Lead (Commands c) texts last → (lines : List Line) × (turns : List (List Item)) × AllByRecursion (IsLine c.mutators) lines × AllByRecursion (IsScheduleLine c) turns × (ended texts ≡ flat_map line lines ++ flat_map schedule_line turns))
-        → (lines : List Line) × (turns : List (List Item)) × AllByRecursion (IsLine c.mutators) lines × AllByRecursion (IsScheduleLine c) turns × (ended (text ∷ texts) ≡ flat_map line lines ++ flat_map schedule_line turns)
+        → (Lead (Commands c) texts last → (lines : List TraceLine) × (turns : List (List Item)) × AllByRecursion (IsLine c.mutators) lines × AllByRecursion (IsScheduleLine c) turns × (ended texts ≡ flat_map line lines ++ flat_map schedule_line turns))
+        → (lines : List TraceLine) × (turns : List (List Item)) × AllByRecursion (IsLine c.mutators) lines × AllByRecursion (IsScheduleLine c) turns × (ended (text ∷ texts) ≡ flat_map line lines ++ flat_map schedule_line turns)
     by_kind next (inl f) lead go =
         let it = f.0 in
         let others = go (subst (λ (s : Stage). Lead s texts last) f.1 lead) in (
@@ -132,7 +132,7 @@ of_commands c (text ∷ texts) last lead = by_kind lead.0 lead.1 lead.2 (of_comm
         ([], it.0 ∷ others.0, tt, (it.1, others.1), ended-cons text texts (schedule_line it.0) (flat_map schedule_line others.0) it.2 others.2 ∙ sym (flat_map-cons schedule_line it.0 others.0))
 
 of_threads : (r w e : ℕ) (texts : List (List ℕ)) (last : Stage) → Lead (Threads r w e) texts last → IsBody last
-    → (c : Config) × (c.regions ≡ r) × (c.region_words ≡ w) × (c.reserve ≡ e) × (lines : List Line) × (turns : List (List Item)) × AllByRecursion (IsLine c.mutators) lines × AllByRecursion (IsScheduleLine c) turns
+    → (c : Config) × (c.regions ≡ r) × (c.region_words ≡ w) × (c.reserve ≡ e) × (lines : List TraceLine) × (turns : List (List Item)) × AllByRecursion (IsLine c.mutators) lines × AllByRecursion (IsScheduleLine c) turns
     × (ended texts ≡ titled (codes "threads") (c.mutators ∷ c.helpers ∷ []) ++ (flat_map line lines ++ flat_map schedule_line turns))
 of_threads r w e [] last lead body = absurd (subst IsBody (sym lead) body)
 of_threads r w e (text ∷ texts) last lead body =
@@ -142,7 +142,7 @@ of_threads r w e (text ∷ texts) last lead body =
     (c, f.1, f.2, f.3, others.0, others.1, others.2, others.3, ended-cons text texts (titled (codes "threads") (c.mutators ∷ c.helpers ∷ [])) (flat_map line others.0 ++ flat_map schedule_line others.1) f.4 others.4)
 
 of_heap : (texts : List (List ℕ)) (last : Stage) → Lead Heap texts last → IsBody last
-    → (c : Config) × (lines : List Line) × (turns : List (List Item)) × AllByRecursion (IsLine c.mutators) lines × AllByRecursion (IsScheduleLine c) turns
+    → (c : Config) × (lines : List TraceLine) × (turns : List (List Item)) × AllByRecursion (IsLine c.mutators) lines × AllByRecursion (IsScheduleLine c) turns
     × (ended texts ≡ titled (codes "heap") (c.regions ∷ c.region_words ∷ c.reserve ∷ []) ++ (titled (codes "threads") (c.mutators ∷ c.helpers ∷ []) ++ (flat_map line lines ++ flat_map schedule_line turns)))
 of_heap [] last lead body = absurd (subst IsBody (sym lead) body)
 of_heap (text ∷ texts) last lead body =

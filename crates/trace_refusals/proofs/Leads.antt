@@ -8,7 +8,7 @@ use Rattle.std.proofs.lemmas.Fmt.{digits_decimal}
 use Rattle.std.proofs.lemmas.List.Splits.{join_with_byte-slice_split}
 use Rattle.heap_words.specs.declared.config.Config.{Config}
 use Rattle.heap_words.specs.declared.schedule.Item.{Item}
-use Rattle.trace_grammar.specs.Spelling.{Line, IsLine, line, newline, item, schedule_line, IsScheduleLine, word_of, numbers_of}
+use Rattle.trace_grammar.specs.Spelling.{TraceLine, IsLine, line, newline, item, schedule_line, IsScheduleLine, word_of, numbers_of}
 use Rattle.trace_grammar.specs.declared.why.Why.TheVariants.{EndOfLine}
 use Rattle.trace_grammar.proofs.Numbers.{own}
 use Rattle.trace_refusals.specs.Causes.{parts, parts_behind, is_same, schedule_cause, command_cause}
@@ -25,7 +25,7 @@ few_threads c = omega (arith, c.in_range.most_mutators)
 
 -- ---- a line of the grammar has no cause, and no end within it
 
-pub line_text : (threads : ℕ) (text : List ℕ) (l : Line) → threads < 2 ^ 64 → IsLine threads l → text ++ newline ∷ [] ≡ line l → (parts 32 text ≡ line_words l) × (is_free 10 text ≡ true)
+pub line_text : (threads : ℕ) (text : List ℕ) (l : TraceLine) → threads < 2 ^ 64 → IsLine threads l → text ++ newline ∷ [] ≡ line l → (parts 32 text ≡ line_words l) × (is_free 10 text ≡ true)
 line_text threads text l small fits e =
     let same : text ≡ join_with_byte 32 (line_words l) = same_before_end text (join_with_byte 32 (line_words l)) newline (e ∙ sym (line_is l)) in
     let clean = line_clean threads l small fits in

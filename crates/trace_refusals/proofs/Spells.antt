@@ -2,7 +2,7 @@
 use Rattle.std.proofs.Common.{◌≡◌, ◌⊎◌, ℕ, ◌≤◌, List, [], ◌∷◌, ◌++◌, length, None, inl, inr, sym, ap, ◌∙◌, append_assoc, arith}
 use Rattle.heap_words.specs.declared.config.Config.{Config}
 use Rattle.heap_words.specs.declared.schedule.Item.{Item}
-use Rattle.trace_grammar.specs.Spelling.{Line, IsLine, line, schedule_line, IsScheduleLine}
+use Rattle.trace_grammar.specs.Spelling.{TraceLine, IsLine, line, schedule_line, IsScheduleLine}
 use Rattle.trace_refusals.specs.Causes.{parts}
 use Rattle.trace_refusals.specs.Refused.{Commands, Turns, IsCommandLine, IsTurn, cause_of}
 use Rattle.trace_refusals.proofs.Lines.{whole_line, cut_line}
@@ -10,7 +10,7 @@ use Rattle.trace_refusals.proofs.Leads.{commands_follow, turns_follow, first_lin
 
 -- a line of a command, or of the schedule, stands there
 abbrev pub BeginsWithCommand : Config → List ℕ → Type 0
-BeginsWithCommand c bytes = (l : Line) × (rest : List ℕ) × IsLine c.mutators l × (bytes ≡ line l ++ rest)
+BeginsWithCommand c bytes = (l : TraceLine) × (rest : List ℕ) × IsLine c.mutators l × (bytes ≡ line l ++ rest)
 
 abbrev pub BeginsWithTurn : Config → List ℕ → Type 0
 BeginsWithTurn c bytes = (items : List Item) × (rest : List ℕ) × IsScheduleLine c items × (bytes ≡ schedule_line items ++ rest)

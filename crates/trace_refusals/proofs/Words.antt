@@ -6,8 +6,8 @@ use Rattle.std.proofs.lemmas.Bool.Decides.{nat_tests}
 use Rattle.std.proofs.lemmas.List.{take_all, drop_all}
 use Rattle.trace_grammar.specs.Scanning.{digit_count, is_numeral}
 use Rattle.heap_words.specs.declared.config.Config.{Config}
-use Rattle.trace_grammar.specs.declared.kind.Kind.{Kind}
-use Rattle.trace_grammar.specs.declared.kind.Kind.TheVariants.{New}
+use Rattle.trace_grammar.specs.declared.kind.CommandKind.{CommandKind}
+use Rattle.trace_grammar.specs.declared.kind.CommandKind.TheVariants.{New}
 use Rattle.trace_grammar.specs.Kinds.{kinds, word, limits}
 use Rattle.trace_grammar.specs.declared.why.Why.{Why}
 use Rattle.trace_grammar.specs.declared.why.Why.TheVariants.{Header, Command, Number, Range}
@@ -92,19 +92,19 @@ ranges_end ranges i words whole le so_far =
 
 -- ---- the loop over the kinds
 
-pub kind_found : (kinds : List Kind) (i : ℕ) (w : List ℕ) (whole : Option Kind) → i < length kinds → true ≡ is_same w (word (get_or kinds i New)) → kind_named (drop i kinds) w ≡ whole → whole ≡ Some (get_or kinds i New)
+pub kind_found : (kinds : List CommandKind) (i : ℕ) (w : List ℕ) (whole : Option CommandKind) → i < length kinds → true ≡ is_same w (word (get_or kinds i New)) → kind_named (drop i kinds) w ≡ whole → whole ≡ Some (get_or kinds i New)
 unfolding kind_named
 kind_found kinds i w whole lt same so_far =
     let one : kind_named (drop i kinds) w ≡ Some (get_or kinds i New) = rw (drop-cons kinds i New, ← same) refl in
     sym so_far ∙ one
 
-pub kind_goes_on : (kinds : List Kind) (i : ℕ) (w : List ℕ) (whole : Option Kind) → i < length kinds → false ≡ is_same w (word (get_or kinds i New)) → kind_named (drop i kinds) w ≡ whole → kind_named (drop (i + 1) kinds) w ≡ whole
+pub kind_goes_on : (kinds : List CommandKind) (i : ℕ) (w : List ℕ) (whole : Option CommandKind) → i < length kinds → false ≡ is_same w (word (get_or kinds i New)) → kind_named (drop i kinds) w ≡ whole → kind_named (drop (i + 1) kinds) w ≡ whole
 unfolding kind_named
 kind_goes_on kinds i w whole lt other so_far =
     let one : kind_named (drop i kinds) w ≡ kind_named (drop (i + 1) kinds) w = rw (add-one, drop-cons kinds i New, ← other) refl in
     sym one ∙ so_far
 
-pub kinds_end : (kinds : List Kind) (i : ℕ) (w : List ℕ) (whole : Option Kind) → length kinds ≤ i → kind_named (drop i kinds) w ≡ whole → whole ≡ None
+pub kinds_end : (kinds : List CommandKind) (i : ℕ) (w : List ℕ) (whole : Option CommandKind) → length kinds ≤ i → kind_named (drop i kinds) w ≡ whole → whole ≡ None
 unfolding kind_named
 kinds_end kinds i w whole le so_far =
     let one : kind_named (drop i kinds) w ≡ None = rw (drop_all i kinds le) refl in
@@ -177,7 +177,7 @@ pub no_kind : (threads : ℕ) (thread : List ℕ) (words : List (List ℕ)) (w :
 unfolding command_cause
 no_kind threads thread words w more e none = rw (e, none) refl
 
-pub kind_known : (threads : ℕ) (thread : List ℕ) (words : List (List ℕ)) (w : List ℕ) (more : List (List ℕ)) (k : Kind) → words ≡ w ∷ more → kind_named kinds w ≡ Some k
+pub kind_known : (threads : ℕ) (thread : List ℕ) (words : List (List ℕ)) (w : List ℕ) (more : List (List ℕ)) (k : CommandKind) → words ≡ w ∷ more → kind_named kinds w ≡ Some k
     → command_cause threads thread words ≡ cond (eqb (length more) (length (limits k))) (numbers_cause (ranges_of threads (limits k)) (thread ∷ more)) (Some Command)
 unfolding command_cause
 kind_known threads thread words w more k e known = rw (e, known) refl
@@ -192,11 +192,11 @@ differs m n ne = grind (arith, nat_tests)
 pub agrees : (m n : ℕ) → m ≡ n → eqb m n ≡ true
 agrees m n e = grind (arith, nat_tests)
 
-pub other_numbers : (threads : ℕ) (thread : List ℕ) (words : List (List ℕ)) (w : List ℕ) (more : List (List ℕ)) (k : Kind) → words ≡ w ∷ more → kind_named kinds w ≡ Some k → (length more ≡ length (limits k) → ⊥)
+pub other_numbers : (threads : ℕ) (thread : List ℕ) (words : List (List ℕ)) (w : List ℕ) (more : List (List ℕ)) (k : CommandKind) → words ≡ w ∷ more → kind_named kinds w ≡ Some k → (length more ≡ length (limits k) → ⊥)
     → command_cause threads thread words ≡ Some Command
 other_numbers threads thread words w more k e known other = kind_known threads thread words w more k e known ∙ rw (differs (length more) (length (limits k)) other) refl
 
-pub command_numbers : (threads : ℕ) (thread : List ℕ) (words : List (List ℕ)) (w : List ℕ) (more : List (List ℕ)) (k : Kind) → words ≡ w ∷ more → kind_named kinds w ≡ Some k → length more ≡ length (limits k)
+pub command_numbers : (threads : ℕ) (thread : List ℕ) (words : List (List ℕ)) (w : List ℕ) (more : List (List ℕ)) (k : CommandKind) → words ≡ w ∷ more → kind_named kinds w ≡ Some k → length more ≡ length (limits k)
     → command_cause threads thread words ≡ or_else (number_cause 1 threads thread) (numbers_cause (map (λ limit. (0, limit)) (limits k)) more)
 command_numbers threads thread words w more k e known same =
     kind_known threads thread words w more k e known ∙ rw (agrees (length more) (length (limits k)) same) (thread_first threads thread (limits k) more)

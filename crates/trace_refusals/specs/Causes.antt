@@ -5,7 +5,7 @@ use Rattle.std.specs.Cmp.Lexicographic.{pointwise}
 use Rattle.std.specs.Str.Parse.{digits_value}
 use Rattle.heap_words.specs.declared.config.Config.{Config}
 use Rattle.heap_words.specs.Ranges.{seat_count}
-use Rattle.trace_grammar.specs.declared.kind.Kind.{Kind}
+use Rattle.trace_grammar.specs.declared.kind.CommandKind.{CommandKind}
 use Rattle.trace_grammar.specs.Kinds.{kinds, word, limits}
 use Rattle.trace_grammar.specs.Scanning.{digit_count, is_numeral}
 use Rattle.trace_grammar.specs.declared.why.Why.{Why}
@@ -69,7 +69,7 @@ threads_ranges = (1, 8) ∷ (0, 3) ∷ []
 -- ---- commands
 
 -- the kind among these that has this word
-unfoldable pub kind_named : List Kind → List ℕ → Option Kind
+unfoldable pub kind_named : List CommandKind → List ℕ → Option CommandKind
 kind_named [] w = None
 kind_named (k ∷ ks) w = if is_same w (word k) then Some k else kind_named ks w
 
@@ -77,7 +77,7 @@ kind_named (k ∷ ks) w = if is_same w (word k) then Some k else kind_named ks w
 abbrev pub ranges_of : ℕ → List ℕ → List (ℕ × ℕ)
 ranges_of threads limits = (1, threads) ∷ map (λ limit. (0, limit)) limits
 
-abbrev pub numbers_of_kind : ℕ → List ℕ → Option Kind → List (List ℕ) → Option Why
+abbrev pub numbers_of_kind : ℕ → List ℕ → Option CommandKind → List (List ℕ) → Option Why
 numbers_of_kind threads thread None ws = Some Command
 numbers_of_kind threads thread (Some k) ws = if length ws == length (limits k) then numbers_cause (ranges_of threads (limits k)) (thread ∷ ws) else Some Command
 

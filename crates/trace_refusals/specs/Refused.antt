@@ -2,7 +2,7 @@
 use Rattle.std.specs.Prelude.{ℕ, ◌≡◌, ◌⊎◌, ◌+◌, ◌≤◌, Bool, true, false, List, [], ◌∷◌, ◌++◌, codes, length, if◌then◌else◌, Option, Some, None}
 use Rattle.heap_words.specs.declared.config.Config.{Config}
 use Rattle.heap_words.specs.declared.schedule.Item.{Item}
-use Rattle.trace_grammar.specs.Spelling.{space, newline, titled, Line, line, IsLine, schedule_line, IsScheduleLine}
+use Rattle.trace_grammar.specs.Spelling.{space, newline, titled, TraceLine, line, IsLine, schedule_line, IsScheduleLine}
 use Rattle.trace_grammar.specs.Grammar.{most_bytes}
 use Rattle.trace_grammar.specs.declared.why.Why.{Why}
 use Rattle.trace_grammar.specs.declared.why.Why.TheVariants.{EndOfLine, ScheduleLast}
@@ -27,7 +27,7 @@ body_stage c true = Turns c
 -- ---- the lines of a trace
 
 abbrev pub IsCommandLine : Config → List ℕ → Type 0
-IsCommandLine c text = (l : Line) × IsLine c.mutators l × (text ++ newline ∷ [] ≡ line l)
+IsCommandLine c text = (l : TraceLine) × IsLine c.mutators l × (text ++ newline ∷ [] ≡ line l)
 
 abbrev pub IsTurn : Config → List ℕ → Type 0
 IsTurn c text = (items : List Item) × IsScheduleLine c items × (text ++ newline ∷ [] ≡ schedule_line items)

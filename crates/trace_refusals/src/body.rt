@@ -8,24 +8,24 @@ use crate::items::schedule_cause;
 use crate::numbers::{number_cause, numbers_cause};
 use crate::parts::{count_words, cut, next_word};
 use heap_words::Config;
-use trace_grammar::{Kind, Why};
+use trace_grammar::{CommandKind, Why};
 
-const KINDS: [Kind; 11] = [
-    Kind::New,
-    Kind::Get,
-    Kind::Set,
-    Kind::Cas,
-    Kind::Xchg,
-    Kind::Rd,
-    Kind::Wr,
-    Kind::Copy,
-    Kind::Drop,
-    Kind::Same,
-    Kind::Gc,
+const KINDS: [CommandKind; 11] = [
+    CommandKind::New,
+    CommandKind::Get,
+    CommandKind::Set,
+    CommandKind::Cas,
+    CommandKind::Xchg,
+    CommandKind::Rd,
+    CommandKind::Wr,
+    CommandKind::Copy,
+    CommandKind::Drop,
+    CommandKind::Same,
+    CommandKind::Gc,
 ];
 
 /// The first of these kinds that has this word.
-fn kind_among(kinds: &[Kind], word: &[u8]) -> Option<Kind>
+fn kind_among(kinds: &[CommandKind], word: &[u8]) -> Option<CommandKind>
     ensures { result ≡ kind_named kinds.now word.now }
 {
     for kind in kinds {

@@ -1,8 +1,8 @@
 -- Reading in a loop: what was read before, and what is still read.
 use Rattle.std.proofs.Common.{◌≡◌, ℕ, suc, ◌+◌, ◌<◌, ◌≤◌, List, [], ◌∷◌, ◌++◌, length, get_or, drop, Option, Some, None, refl, sym, ap, ◌∙◌, append_assoc, add-one, drop-cons}
 use Rattle.std.proofs.lemmas.List.{append-nil, drop_all}
-use Rattle.trace_grammar.specs.declared.kind.Kind.{Kind}
-use Rattle.trace_grammar.specs.declared.kind.Kind.TheVariants.{New}
+use Rattle.trace_grammar.specs.declared.kind.CommandKind.{CommandKind}
+use Rattle.trace_grammar.specs.declared.kind.CommandKind.TheVariants.{New}
 use Rattle.trace_grammar.specs.Kinds.{word}
 use Rattle.trace_grammar.specs.Scanning.{◌>>=◌, behind, spaced_at, numbers_at, kind_among}
 
@@ -34,21 +34,21 @@ numbers_end front limits i bytes whole le so_far =
     let one : with_front front (numbers_at (drop i limits) bytes) ≡ Some (front, bytes) = rw (drop_all i limits le) (ap (λ (ns : List ℕ). Some (ns, bytes)) (append-nil front)) in
     sym so_far ∙ one
 
-pub kind_found : (kinds : List Kind) (i : ℕ) (bytes rest : List ℕ) (whole : Option (Kind × List ℕ)) → i < length kinds → behind (word (get_or kinds i New)) bytes ≡ Some rest
+pub kind_found : (kinds : List CommandKind) (i : ℕ) (bytes rest : List ℕ) (whole : Option (CommandKind × List ℕ)) → i < length kinds → behind (word (get_or kinds i New)) bytes ≡ Some rest
     → kind_among (drop i kinds) bytes ≡ whole → whole ≡ Some (get_or kinds i New, rest)
 unfolding kind_among
 kind_found kinds i bytes rest whole lt h so_far =
     let one : kind_among (drop i kinds) bytes ≡ Some (get_or kinds i New, rest) = rw (drop-cons kinds i New, h) refl in
     sym so_far ∙ one
 
-pub kind_goes_on : (kinds : List Kind) (i : ℕ) (bytes : List ℕ) (whole : Option (Kind × List ℕ)) → i < length kinds → behind (word (get_or kinds i New)) bytes ≡ None
+pub kind_goes_on : (kinds : List CommandKind) (i : ℕ) (bytes : List ℕ) (whole : Option (CommandKind × List ℕ)) → i < length kinds → behind (word (get_or kinds i New)) bytes ≡ None
     → kind_among (drop i kinds) bytes ≡ whole → kind_among (drop (i + 1) kinds) bytes ≡ whole
 unfolding kind_among
 kind_goes_on kinds i bytes whole lt h so_far =
     let one : kind_among (drop i kinds) bytes ≡ kind_among (drop (i + 1) kinds) bytes = rw (add-one, drop-cons kinds i New, h) refl in
     sym one ∙ so_far
 
-pub kinds_end : (kinds : List Kind) (i : ℕ) (bytes : List ℕ) (whole : Option (Kind × List ℕ)) → length kinds ≤ i → kind_among (drop i kinds) bytes ≡ whole → whole ≡ None
+pub kinds_end : (kinds : List CommandKind) (i : ℕ) (bytes : List ℕ) (whole : Option (CommandKind × List ℕ)) → length kinds ≤ i → kind_among (drop i kinds) bytes ≡ whole → whole ≡ None
 unfolding kind_among
 kinds_end kinds i bytes whole le so_far =
     let one : kind_among (drop i kinds) bytes ≡ None = rw (drop_all i kinds le) refl in

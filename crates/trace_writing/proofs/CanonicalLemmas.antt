@@ -10,8 +10,8 @@ use Rattle.std.proofs.lemmas.List.Folds.{flat_map-map}
 use Rattle.shen_graph.specs.declared.command.Command.{Command}
 use Rattle.heap_words.specs.declared.config.Config.{Config}
 use Rattle.heap_words.specs.declared.schedule.Item.{Item}
-use Rattle.trace_grammar.specs.Spelling.{newline, Line, line, spaced_item, schedule_line, IsItem, IsScheduleLine}
-use Rattle.trace_grammar.specs.Grammar.{script_of, scripts_of, items_of, Reads}
+use Rattle.trace_grammar.specs.Spelling.{newline, TraceLine, line, spaced_item, schedule_line, IsItem, IsScheduleLine}
+use Rattle.trace_grammar.specs.Grammar.{commands_in, scripts_of, items_of, Reads}
 use Rattle.trace_writing.proofs.AnswerLemmas.{flat_map-take_more}
 use Rattle.trace_writing.specs.Canonical.{lines_of, lines_from, turns_of, spelling_of, IsWritable}
 
@@ -23,26 +23,26 @@ is_own t = grind (arith, nat_tests)
 pub is_other : (a b : ℕ) → a ≢ b → eqb a b ≡ false
 is_other a b h = grind (arith, nat_tests)
 
-script_of-append : (xs ys : List Line) (t : ℕ) → script_of (xs ++ ys) t ≡ script_of xs t ++ script_of ys t
-script_of-append xs ys t =
-    let p = λ (x : Line). eqb x.thread t in
-    ap (map (λ (x : Line). x.command)) (filter-append p xs ys) ∙ map-append (λ (x : Line). x.command) (filter p xs) (filter p ys)
+commands_in-append : (xs ys : List TraceLine) (t : ℕ) → commands_in (xs ++ ys) t ≡ commands_in xs t ++ commands_in ys t
+commands_in-append xs ys t =
+    let p = λ (x : TraceLine). eqb x.thread t in
+    ap (map (λ (x : TraceLine). x.command)) (filter-append p xs ys) ∙ map-append (λ (x : TraceLine). x.command) (filter p xs) (filter p ys)
 
-own_lines : (t : ℕ) (script : List Command) → script_of (lines_of t script) t ≡ script
+own_lines : (t : ℕ) (script : List Command) → commands_in (lines_of t script) t ≡ script
 own_lines t [] = refl
 own_lines t (c ∷ script) = rw (is_own t) (ap (λ (cs : List Command). c ∷ cs) (own_lines t script))
 
-other_lines : (u t : ℕ) (script : List Command) → u ≢ t → script_of (lines_of u script) t ≡ []
+other_lines : (u t : ℕ) (script : List Command) → u ≢ t → commands_in (lines_of u script) t ≡ []
 other_lines u t [] ne = refl
 other_lines u t (c ∷ script) ne = rw (is_other u t ne) (other_lines u t script ne)
 
 -- threads before the first one have no line
-no_lines : (first t : ℕ) (scripts : List (List Command)) → t < first → script_of (lines_from first scripts) t ≡ []
+no_lines : (first t : ℕ) (scripts : List (List Command)) → t < first → commands_in (lines_from first scripts) t ≡ []
 no_lines first t [] lt = refl
 no_lines first t (script ∷ scripts) lt =
     let ne : first ≢ t = λ e. absurd (omega arith) in
-    script_of-append (lines_of first script) (lines_from (first + 1) scripts) t
-    ∙ ap (λ (cs : List Command). cs ++ script_of (lines_from (first + 1) scripts) t) (other_lines first t script ne)
+    commands_in-append (lines_of first script) (lines_from (first + 1) scripts) t
+    ∙ ap (λ (cs : List Command). cs ++ commands_in (lines_from (first + 1) scripts) t) (other_lines first t script ne)
     ∙ no_lines (first + 1) t scripts (omega arith)
 
 pub map-range_same : {X : Type 0} (f h : ℕ → X) (from n : ℕ) → ((k : ℕ) → from ≤ k → f k ≡ h k) → map f (range_with_len from n) ≡ map h (range_with_len from n)
@@ -54,21 +54,21 @@ map-range_same {X} f h from (suc n) same =
     ∙ ap (λ (t : List X). h from ∷ t) (map-range_same f h (from + 1) n others)
 
 -- the lines of the scripts are those of these scripts
-scripts_again : (first : ℕ) (scripts : List (List Command)) → map (script_of (lines_from first scripts)) (range_with_len first (length scripts)) ≡ scripts
+scripts_again : (first : ℕ) (scripts : List (List Command)) → map (commands_in (lines_from first scripts)) (range_with_len first (length scripts)) ≡ scripts
 scripts_again first [] = refl
 scripts_again first (script ∷ scripts) =
     let all = lines_from first (script ∷ scripts) in
     let others = lines_from (first + 1) scripts in
-    let own : script_of all first ≡ script =
-    script_of-append (lines_of first script) others first
-    ∙ ap (λ (cs : List Command). cs ++ script_of others first) (own_lines first script)
+    let own : commands_in all first ≡ script =
+    commands_in-append (lines_of first script) others first
+    ∙ ap (λ (cs : List Command). cs ++ commands_in others first) (own_lines first script)
     ∙ ap (λ (cs : List Command). script ++ cs) (no_lines (first + 1) first scripts (omega arith)) ∙ append-nil script in
-    let behind : (k : ℕ) → first + 1 ≤ k → script_of all k ≡ script_of others k = λ k low.
+    let behind : (k : ℕ) → first + 1 ≤ k → commands_in all k ≡ commands_in others k = λ k low.
     let ne : first ≢ k = λ e. absurd (omega arith) in
-    script_of-append (lines_of first script) others k ∙ ap (λ (cs : List Command). cs ++ script_of others k) (other_lines first k script ne) in
-    ap (λ (s : List Command). s ∷ map (script_of all) (range_with_len (first + 1) (length scripts))) own
+    commands_in-append (lines_of first script) others k ∙ ap (λ (cs : List Command). cs ++ commands_in others k) (other_lines first k script ne) in
+    ap (λ (s : List Command). s ∷ map (commands_in all) (range_with_len (first + 1) (length scripts))) own
     ∙ ap (λ (ss : List (List Command)). script ∷ ss)
-    (map-range_same (script_of all) (script_of others) (first + 1) (length scripts) behind ∙ scripts_again (first + 1) scripts)
+    (map-range_same (commands_in all) (commands_in others) (first + 1) (length scripts) behind ∙ scripts_again (first + 1) scripts)
 
 -- ---- the schedule has its items
 
@@ -119,7 +119,7 @@ lines_more first zero (script ∷ scripts) d lt =
     append-nil (lines_of first script) ∙ ap (λ (n : ℕ). lines_of n script) same
 lines_more first (suc i) (script ∷ scripts) d lt =
     let later : first + 1 + i ≡ first + suc i = omega arith in
-    ap (λ (ls : List Line). lines_of first script ++ ls) (lines_more (first + 1) i scripts d (omega arith))
+    ap (λ (ls : List TraceLine). lines_of first script ++ ls) (lines_more (first + 1) i scripts d (omega arith))
     ∙ sym (append_assoc (lines_of first script) (lines_from (first + 1) (take i scripts)) (lines_of (first + 1 + i) (get_or scripts i d)))
     ∙ ap (λ (n : ℕ). (lines_of first script ++ lines_from (first + 1) (take i scripts)) ++ lines_of n (get_or scripts i d)) later
 

@@ -9,8 +9,8 @@ use Rattle.std.proofs.lemmas.List.FromFn.{length-map-range_with_len}
 use Rattle.shen_graph.specs.declared.command.Command.{Command}
 use Rattle.heap_words.specs.declared.config.Config.{Config}
 use Rattle.heap_words.specs.declared.schedule.Item.{Item}
-use Rattle.trace_grammar.specs.Spelling.{newline, Line, line, header, IsLine, spaced_item, schedule_line, IsItem, IsScheduleLine}
-use Rattle.trace_grammar.specs.Grammar.{script_of, items_of, Reads}
+use Rattle.trace_grammar.specs.Spelling.{newline, TraceLine, line, header, IsLine, spaced_item, schedule_line, IsItem, IsScheduleLine}
+use Rattle.trace_grammar.specs.Grammar.{commands_in, items_of, Reads}
 use Rattle.trace_writing.specs.Canonical.{lines_of, lines_from, turns_of, spelling_of, IsWritable}
 use Rattle.trace_writing.proofs.CanonicalLemmas.{map-range_same, is_other}
 
@@ -20,13 +20,13 @@ all_append P (x ∷ xs) ys all more = (all.0, all_append P xs ys all.1 more)
 
 -- ---- the commands of a thread, where a line stands before others
 
-own_script : (l : Line) (lines : List Line) (t : ℕ) → l.thread ≡ t → script_of (l ∷ lines) t ≡ l.command ∷ script_of lines t
+own_script : (l : TraceLine) (lines : List TraceLine) (t : ℕ) → l.thread ≡ t → commands_in (l ∷ lines) t ≡ l.command ∷ commands_in lines t
 own_script l lines t e = rw (is_same l.thread t e) refl
   where
     is_same : (a b : ℕ) → a ≡ b → eqb a b ≡ true
     is_same a b h = grind (arith, nat_tests)
 
-other_script : (l : Line) (lines : List Line) (t : ℕ) → l.thread ≢ t → script_of (l ∷ lines) t ≡ script_of lines t
+other_script : (l : TraceLine) (lines : List TraceLine) (t : ℕ) → l.thread ≢ t → commands_in (l ∷ lines) t ≡ commands_in lines t
 other_script l lines t ne = rw (is_other l.thread t ne) refl
 
 same_or_not : (a b : ℕ) → (a ≡ b) ⊎ (a ≢ b)
@@ -38,7 +38,7 @@ same_or_not a b = by_test (eqb a b) refl
 
 -- ---- the lines fit
 
-script_fits : (threads t : ℕ) (lines : List Line) → 1 ≤ t → t ≤ threads → AllByRecursion (IsLine threads) lines → AllByRecursion (IsLine threads) (lines_of t (script_of lines t))
+script_fits : (threads t : ℕ) (lines : List TraceLine) → 1 ≤ t → t ≤ threads → AllByRecursion (IsLine threads) lines → AllByRecursion (IsLine threads) (lines_of t (commands_in lines t))
 script_fits threads t [] low high all = tt
 script_fits threads t (l ∷ lines) low high all =
     let others = script_fits threads t lines low high all.1 in
@@ -49,11 +49,11 @@ script_fits threads t (l ∷ lines) low high all =
       | inr ne ↦ subst (λ (cs : List Command). AllByRecursion (IsLine threads) (lines_of t cs)) (sym (other_script l lines t ne)) others
     ]
 
-scripts_fit : (threads first n : ℕ) (lines : List Line) → 1 ≤ first → first + n ≤ threads + 1 → AllByRecursion (IsLine threads) lines
-    → AllByRecursion (IsLine threads) (lines_from first (map (script_of lines) (range_with_len first n)))
+scripts_fit : (threads first n : ℕ) (lines : List TraceLine) → 1 ≤ first → first + n ≤ threads + 1 → AllByRecursion (IsLine threads) lines
+    → AllByRecursion (IsLine threads) (lines_from first (map (commands_in lines) (range_with_len first n)))
 scripts_fit threads first zero lines low high all = tt
 scripts_fit threads first (suc n) lines low high all =
-    all_append (IsLine threads) (lines_of first (script_of lines first)) _ (script_fits threads first lines low (omega arith) all)
+    all_append (IsLine threads) (lines_of first (commands_in lines first)) _ (script_fits threads first lines low (omega arith) all)
     (scripts_fit threads (first + 1) n lines (omega arith) (omega arith) all)
 
 -- ---- the items fit
@@ -65,35 +65,35 @@ items_fit c (turn ∷ turns) all = all_append (IsItem c) turn (items_of turns) a
 -- ---- the lines are no longer
 
 -- the bytes of the lines of some threads
-abbrev bytes_of : (first n : ℕ) → List Line → ℕ
-bytes_of first n lines = length (flat_map line (lines_from first (map (script_of lines) (range_with_len first n))))
+abbrev bytes_of : (first n : ℕ) → List TraceLine → ℕ
+bytes_of first n lines = length (flat_map line (lines_from first (map (commands_in lines) (range_with_len first n))))
 
 -- those of the first thread, and of the others
-bytes_of_first : (first n : ℕ) (lines : List Line)
-    → bytes_of first (suc n) lines ≡ length (flat_map line (lines_of first (script_of lines first))) + bytes_of (first + 1) n lines
+bytes_of_first : (first n : ℕ) (lines : List TraceLine)
+    → bytes_of first (suc n) lines ≡ length (flat_map line (lines_of first (commands_in lines first))) + bytes_of (first + 1) n lines
 bytes_of_first first n lines =
-    ap length (flat_map-append line (lines_of first (script_of lines first)) (lines_from (first + 1) (map (script_of lines) (range_with_len (first + 1) n))))
-    ∙ length-append (flat_map line (lines_of first (script_of lines first))) _
+    ap length (flat_map-append line (lines_of first (commands_in lines first)) (lines_from (first + 1) (map (commands_in lines) (range_with_len (first + 1) n))))
+    ∙ length-append (flat_map line (lines_of first (commands_in lines first))) _
 
 -- no line of a thread before these
-bytes_behind : (first n : ℕ) (l : Line) (lines : List Line) → l.thread < first → bytes_of first n (l ∷ lines) ≡ bytes_of first n lines
+bytes_behind : (first n : ℕ) (l : TraceLine) (lines : List TraceLine) → l.thread < first → bytes_of first n (l ∷ lines) ≡ bytes_of first n lines
 bytes_behind first n l lines lt =
     ap (λ (ss : List (List Command)). length (flat_map line (lines_from first ss)))
-    (map-range_same (script_of (l ∷ lines)) (script_of lines) first n (λ k low. other_script l lines k (λ e. absurd (omega arith))))
+    (map-range_same (commands_in (l ∷ lines)) (commands_in lines) first n (λ k low. other_script l lines k (λ e. absurd (omega arith))))
 
 -- a line more
-bytes_more : (first n : ℕ) (l : Line) (lines : List Line) → bytes_of first n (l ∷ lines) ≤ length (line l) + bytes_of first n lines
+bytes_more : (first n : ℕ) (l : TraceLine) (lines : List TraceLine) → bytes_of first n (l ∷ lines) ≤ length (line l) + bytes_of first n lines
 bytes_more first zero l lines = omega arith
 bytes_more first (suc n) l lines =
     let whole = bytes_of_first first n (l ∷ lines) in
     let before = bytes_of_first first n lines in
     elim (same_or_not l.thread first) [
       | inl same ↦
-          let own : length (flat_map line (lines_of first (script_of (l ∷ lines) first))) ≡ length (line l) + length (flat_map line (lines_of first (script_of lines first))) =
+          let own : length (flat_map line (lines_of first (commands_in (l ∷ lines) first))) ≡ length (line l) + length (flat_map line (lines_of first (commands_in lines first))) =
           ap (λ (cs : List Command). length (flat_map line (lines_of first cs))) (own_script l lines first same)
-          ∙ ap (λ (t : ℕ). length (flat_map line (record { thread = t; command = l.command } ∷ lines_of first (script_of lines first)))) (sym same)
-          ∙ ap length (flat_map-cons line l (lines_of first (script_of lines first)))
-          ∙ length-append (line l) (flat_map line (lines_of first (script_of lines first))) in
+          ∙ ap (λ (t : ℕ). length (flat_map line (record { thread = t; command = l.command } ∷ lines_of first (commands_in lines first)))) (sym same)
+          ∙ ap length (flat_map-cons line l (lines_of first (commands_in lines first)))
+          ∙ length-append (line l) (flat_map line (lines_of first (commands_in lines first))) in
           let others = bytes_behind (first + 1) n l lines (omega arith) in
           omega (arith, whole, before, own, others)
       | inr ne ↦
@@ -106,7 +106,7 @@ no_bytes : (first n : ℕ) → bytes_of first n [] ≡ 0
 no_bytes first zero = refl
 no_bytes first (suc n) = omega (arith, bytes_of_first first n [], no_bytes (first + 1) n)
 
-bytes_sorted : (first n : ℕ) (lines : List Line) → bytes_of first n lines ≤ length (flat_map line lines)
+bytes_sorted : (first n : ℕ) (lines : List TraceLine) → bytes_of first n lines ≤ length (flat_map line lines)
 bytes_sorted first n [] = omega (arith, no_bytes first n)
 bytes_sorted first n (l ∷ lines) =
     let whole : length (flat_map line (l ∷ lines)) ≡ length (line l) + length (flat_map line lines) = ap length (flat_map-cons line l lines) ∙ length-append (line l) (flat_map line lines) in
@@ -146,7 +146,7 @@ can_be_written bytes c scripts items r =
     let written : length (spelling_of c scripts items) ≡ length (header c) + (length (flat_map line (lines_from 1 scripts)) + length (flat_map schedule_line (turns_of items))) =
     length-append (header c) (flat_map line (lines_from 1 scripts) ++ flat_map schedule_line (turns_of items)) ∙ ap (λ (n : ℕ). length (header c) + n) (length-append (flat_map line (lines_from 1 scripts)) (flat_map schedule_line (turns_of items))) in
     record {
-      threads = ap length r.by_thread ∙ length-map-range_with_len (script_of r.lines) 1 c.mutators;
+      threads = ap length r.by_thread ∙ length-map-range_with_len (commands_in r.lines) 1 c.mutators;
       lines_fit = subst (λ (ss : List (List Command)). AllByRecursion (IsLine c.mutators) (lines_from 1 ss)) (sym r.by_thread) (scripts_fit c.mutators 1 c.mutators r.lines (omega arith) (omega arith) r.in_range);
       items_fit = subst (AllByRecursion (IsItem c)) (sym r.in_order) (items_fit c r.turns r.turns_in_range);
       short = omega (arith, lines, turns, read, written, r.short);

@@ -5,15 +5,15 @@ use Rattle.std.specs.List.{flat_map, AllByRecursion}
 use Rattle.shen_graph.specs.declared.command.Command.{Command}
 use Rattle.heap_words.specs.declared.config.Config.{Config}
 use Rattle.heap_words.specs.declared.schedule.Item.{Item}
-use Rattle.trace_grammar.specs.Spelling.{Line, IsLine, line, header, IsItem, schedule_line}
+use Rattle.trace_grammar.specs.Spelling.{TraceLine, IsLine, line, header, IsItem, schedule_line}
 use Rattle.trace_grammar.specs.Grammar.{most_bytes}
 
 -- the lines of a thread
-abbrev pub lines_of : (thread : ℕ) → (script : List Command) → List Line
+abbrev pub lines_of : (thread : ℕ) → (script : List Command) → List TraceLine
 lines_of thread script = map (λ c. record { thread = thread; command = c }) script
 
 -- the lines of the threads from this one on, one thread after the other
-abbrev pub lines_from : (thread : ℕ) → (scripts : List (List Command)) → List Line
+abbrev pub lines_from : (thread : ℕ) → (scripts : List (List Command)) → List TraceLine
 lines_from thread [] = []
 lines_from thread (script ∷ scripts) = lines_of thread script ++ lines_from (thread + 1) scripts
 

@@ -110,19 +110,19 @@ impl Bundle {
         requires here { is_some (machine_of self.old.seat.me.0 number) ≡ true }
         ensures tally { (self.new.seat.table_id ≡ self.old.seat.table_id) × (length self.new.adders.items ≡ length self.old.adders.items) }
         ensures steps { HaveMade (λ k. if k == number then 1 else 0) self.old.seat.me.0 self.new.seat.me.0 }
-        ensures event { (wish : Wish) × (told : ℕ) × Took adders_kind (opening tally.now.table.shared.key) number wish self.old.seat.me told self.new.seat.me }
+        ensures event { (wish : Wish) × (got : ℕ) × Took adders_kind (opening tally.now.table.shared.key) number wish self.old.seat.me got self.new.seat.me }
     {
         let Some(adder) = self.adders[number] else {
             unreachable!()
         };
-        let told = make_step::<Worker, Wish, usize, OfAdders, Brand>(
+        let got = make_step::<Worker, Wish, usize, OfAdders, Brand>(
             &tally.table.shared,
             &mut self.seat,
             number,
             &adder.wish(),
             adder.plan(),
         );
-        self.adders[number] = Some(adder.took(told));
+        self.adders[number] = Some(adder.took(got));
     }
 
     // The adder makes its next step, if the bundle has it.

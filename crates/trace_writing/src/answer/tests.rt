@@ -1,5 +1,5 @@
 ghost use Rattle.std.specs.Prelude.{◌≡◌, ◌+◌, ◌<◌, ◌≤◌, length, IfOk};
-ghost use Rattle.shen_graph.specs.Work.{HasScript, script_of, replies_of};
+ghost use Rattle.shen_graph.specs.Work.{HasScript, script_in, replies_of};
 
 use crate::{Answer, WriteFault, write_answer};
 use shen_base::MemorySink;
@@ -15,7 +15,7 @@ const FIRST: Name = Name {
 // Work of one thread with three commands of which none was answered.
 fn three_commands(alloc: Global) -> Result<Work, NoMemory>
     ensures script { IfOk result (λ work. HasScript work 0) }
-    ensures three { IfOk result (λ work. length (script_of work 0) ≡ 3) }
+    ensures three { IfOk result (λ work. length (script_in work 0) ≡ 3) }
     ensures none { IfOk result (λ work. length (replies_of work 0) ≡ 0) }
 {
     let mut script = Script::open(alloc)?;
@@ -49,9 +49,9 @@ fn three_commands(alloc: Global) -> Result<Work, NoMemory>
 // One reply more.
 fn tell(work: &mut Work, reply: Reply)
     requires script { HasScript work.old 0 }
-    requires more { length (replies_of work.old 0) < length (script_of work.old 0) }
+    requires more { length (replies_of work.old 0) < length (script_in work.old 0) }
     ensures script { HasScript work.new 0 }
-    ensures same { length (script_of work.new 0) ≡ length (script_of work.old 0) }
+    ensures same { length (script_in work.new 0) ≡ length (script_in work.old 0) }
     ensures one { length (replies_of work.new 0) ≡ length (replies_of work.old 0) + 1 }
 {
     work.told(0, reply);

@@ -9,12 +9,12 @@ use Rattle.schedule_walk.proofs.walk.is_over.Goals as goal
 pub returns-in-Until-clause-over : goal.returns-in-Until-clause-over
 returns-in-Until-clause-over c = λ over.
     subst (λ item. IsOver c.args.plain.now c.args.work.now item) (sym c.in-Until.is)
-    (until_over c.args.plain.now c.args.work.now c.in-Until.number c.in-Until.place (subst (λ item. IsInSeats (config_of c.args.plain.now) item) c.in-Until.is c.requires.item) (sym c.stands_at.ensures ∙ over))
+    (until_over c.args.plain.now c.args.work.now c.in-Until.number c.in-Until.place (subst (λ item. IsInSeats (config_of c.args.plain.now) item) c.in-Until.is c.requires.item) (sym c.is_at_place.ensures ∙ over))
 
 pub returns-in-Until-clause-more : goal.returns-in-Until-clause-more
 returns-in-Until-clause-more c = λ more.
     subst (λ item. GoesOn c.args.plain.now c.args.work.now item) (sym c.in-Until.is)
-    (until_goes_on c.args.plain.now c.args.work.now c.in-Until.number c.in-Until.place (subst (λ item. IsInSeats (config_of c.args.plain.now) item) c.in-Until.is c.requires.item) (sym c.stands_at.ensures ∙ more))
+    (until_goes_on c.args.plain.now c.args.work.now c.in-Until.number c.in-Until.place (subst (λ item. IsInSeats (config_of c.args.plain.now) item) c.in-Until.is c.requires.item) (sym c.is_at_place.ensures ∙ more))
 
 pub returns-in-Replies-clause-over : goal.returns-in-Replies-clause-over
 returns-in-Replies-clause-over c = λ over.

@@ -1,5 +1,5 @@
 use Rattle.std.proofs.Common.{◌≡◌, subst}
-use Rattle.heap_graph.specs.Shows.{Shows}
+use Rattle.heap_graph.specs.Shows.{ShowsGraph}
 use Rattle.pause_laws.specs.Image.{full_image}
 use Rattle.step_core.specs.Begins.{Run, ending, graph_after}
 use Rattle.table_heap.specs.Closed.{stage_of}
@@ -7,4 +7,4 @@ use Rattle.shenrun.proofs.runs.graph_of.Goals as goal
 
 pub returns-clause-shows : goal.returns-clause-shows
 returns-clause-shows c =
-    subst (λ k. (run : Run k) → ending full_image k run ≡ stage_of c.args.heap.now → Shows c.graph.new.text k.mutators (graph_after full_image k run)) c.requires.config c.graph.ensures.shows
+    subst (λ k. (run : Run k) → ending full_image k run ≡ stage_of c.args.heap.now → ShowsGraph c.graph.new.text k.mutators (graph_after full_image k run)) c.requires.config c.graph.ensures.shows

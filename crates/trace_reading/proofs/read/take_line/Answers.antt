@@ -1,7 +1,7 @@
 use Rattle.std.proofs.Common.{ℕ, ◌-◌, ◌∷◌, [], ◌++◌, List, slice_set, sym, ap, ◌∙◌, arith}
 use Rattle.std.proofs.lemmas.List.{get_or_read}
 use Rattle.shen_graph.specs.declared.command.Command.{Command}
-use Rattle.trace_grammar.specs.Spelling.{Line}
+use Rattle.trace_grammar.specs.Spelling.{TraceLine}
 use Rattle.trace_grammar.specs.Scanning.{line_at}
 use Rattle.trace_grammar.proofs.Lines.{line_takes, line_again}
 use Rattle.trace_reading.proofs.read.take_line.Goals as goal
@@ -11,18 +11,18 @@ returns-in_default-clause-refused c = λ _ l rest fits e. let again = line_again
 
 pub overflow_sub-thread : goal.overflow_sub-thread
 overflow_sub-thread c =
-    let read : Line × List ℕ = (record { thread = c.in-Some.thread; command = c.in-Some.command }, c.in-Some.rest.now) in
+    let read : TraceLine × List ℕ = (record { thread = c.in-Some.thread; command = c.in-Some.command }, c.in-Some.rest.now) in
     (line_takes c.args.threads c.args.bytes.now read (omega arith) (sym c.in-Some.ensures)).1.from_one
 
 pub index_mut-requires : goal.index_mut-requires
 index_mut-requires c =
-    let read : Line × List ℕ = (record { thread = c.in-Some.thread; command = c.in-Some.command }, c.in-Some.rest.now) in
+    let read : TraceLine × List ℕ = (record { thread = c.in-Some.thread; command = c.in-Some.command }, c.in-Some.rest.now) in
     let fits = (line_takes c.args.threads c.args.bytes.now read (omega arith) (sym c.in-Some.ensures)).1 in
     omega (arith, fits.from_one, fits.to_last, c.args.scripts.now.ok.0)
 
 pub returns-in-Ok-clause-ok : goal.returns-in-Ok-clause-ok
 returns-in-Ok-clause-ok c =
-    let l : Line = record { thread = c.in-Some.thread; command = c.in-Some.command } in
+    let l : TraceLine = record { thread = c.in-Some.thread; command = c.in-Some.command } in
     let taken = line_takes c.args.threads c.args.bytes.now (l, c.in-Some.rest.now) (omega arith) (sym c.in-Some.ensures) in
     let before = get_or_read c.args.scripts.now.items _ _ (omega (arith, taken.1.from_one, taken.1.to_last)) c.index_mut.ensures.value [] in (
       l,

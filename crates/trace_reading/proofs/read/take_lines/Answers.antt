@@ -1,7 +1,7 @@
 use Rattle.std.proofs.Common.{ℕ, [], length, refl, sym, ap, subst, ◌∙◌, arith}
 use Rattle.std.proofs.lemmas.List.FromFn.{length-map-range_with_len}
 use Rattle.trace_grammar.specs.Spelling.{IsLine}
-use Rattle.trace_grammar.specs.Grammar.{script_of}
+use Rattle.trace_grammar.specs.Grammar.{commands_in}
 use Rattle.trace_grammar.proofs.Traces.{taken_more, taken_count}
 use Rattle.trace_reading.proofs.Bad.{lines_fit}
 use Rattle.trace_reading.proofs.read.take_lines.Goals as goal
@@ -11,7 +11,7 @@ lines-init c = (record { lines = []; in_range = tt; spelled = refl; by_thread = 
 
 pub take_line-requires : goal.take_line-requires
 take_line-requires c =
-    ap length c.lines.invariant.0.by_thread ∙ length-map-range_with_len (script_of c.lines.invariant.0.lines) 1 c.args.config.now.mutators ∙ sym c.mutators-threads.ensures
+    ap length c.lines.invariant.0.by_thread ∙ length-map-range_with_len (commands_in c.lines.invariant.0.lines) 1 c.args.config.now.mutators ∙ sym c.mutators-threads.ensures
 
 pub overflow_add-line : goal.overflow_add-line
 overflow_add-line c = let fit = lines_fit c.lines.invariant.0.lines c.args.bytes.now c.lines.rest.now c.lines.invariant.0.spelled in omega (arith, fit, c.lines.invariant.1, c.requires.few)

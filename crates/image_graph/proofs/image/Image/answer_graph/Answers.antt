@@ -12,6 +12,6 @@ write_graph-requires-clause-stand c =
 pub returns-clause-shows : goal.returns-clause-shows
 returns-clause-shows c = λ block owner p g holds.
     let stands = holding_stands (config_of c.args.self.now) (words_of c.args.self.now) block owner p g c.args.self.now.all_words holds c.requires.calm in
-    subst (λ threads. texts.Shows c.write_graph.new.text threads g) c.requires.threads
+    subst (λ threads. texts.ShowsGraph c.write_graph.new.text threads g) c.requires.threads
     (c.write_graph.ensures.shows stands.0 g
     (rw (c.region_words.ensures, c.heap_in.ensures, c.deref.ensures.value, c.roots_in.ensures, c.deref-2.ensures.value) stands.1))

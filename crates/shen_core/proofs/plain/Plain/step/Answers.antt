@@ -2,7 +2,7 @@ use Rattle.std.proofs.Common.{◌≡◌, not, length, refl, sym, ap, ◌∙◌, 
 use Rattle.std.specs.Prelude.{slice_index}
 use Rattle.std.proofs.lemmas.List.{length-set}
 use Rattle.std.proofs.Math.Logic.{∥∥₁_map}
-use Rattle.heap_words.specs.Access.{place_of}
+use Rattle.heap_words.specs.Access.{table_index}
 use Rattle.heap_words.specs.declared.access.Took.{Took}
 use Rattle.heap_words.specs.declared.access.Took.TheVariants as took
 use Rattle.heap_machines.specs.declared.stepped.Stepped.TheVariants as stepped
@@ -26,8 +26,8 @@ took-requires-clause-fit c =
     let m = c.index_mut-machine.result.now in
     let here = from_read p.machines.items c.args.number m (omega (arith, p.all_machines, c.requires)) c.index_mut-machine.ensures.value in
     let heap = heap_here p.config p.machines.items c.args.number m p.one_heap here in
-    let got : c.make_access-found.result ≡ slice_index p.words.items (place_of (plan_of p.config (order_of m) (shown m))) =
-    c.make_access-found.ensures.told ∙ ap (λ x. slice_index p.words.items (place_of x)) (c.plan.ensures.row ∙ ap (λ k. plan_of k (order_of m) (shown m)) heap) in
+    let got : c.make_access-found.result ≡ slice_index p.words.items (table_index (plan_of p.config (order_of m) (shown m))) =
+    c.make_access-found.ensures.got ∙ ap (λ x. slice_index p.words.items (table_index x)) (c.plan.ensures.row ∙ ap (λ k. plan_of k (order_of m) (shown m)) heap) in
     subst (λ k. IsFitFor k (order_of m) c.make_access-found.result (shown m)) (sym heap)
     (subst (λ x. IsFitFor p.config (order_of m) x (shown m)) (sym got)
     (fit_shown p.config p.words.items _ c.args.number (shown m) (order_of m) p.reached (shown_here p.machines.items c.args.number m here) (c.is_idle.ensures ∙ ap not c.if-is_idle.false)))
@@ -39,7 +39,7 @@ invariant_of-self-2 c =
     let n = c.took.new.self in
     let made = made_from p.config p.words.items c.make_access-found.new.words.items p.machines.items c.args.number m n c.plan.result c.make_access-found.result
     (omega (arith, p.all_machines, c.requires)) c.index_mut-machine.ensures.value p.one_heap (c.is_idle.ensures ∙ ap not c.if-is_idle.false) c.plan.ensures.row
-    c.make_access-found.ensures.words c.make_access-found.ensures.told c.took.ensures.shown in
+    c.make_access-found.ensures.words c.make_access-found.ensures.got c.took.ensures.shown in
     record {
       all_words = ap length c.make_access-found.ensures.words ∙ length-set p.words.items _ _ ∙ p.all_words;
       all_machines = length-set p.machines.items _ _ ∙ p.all_machines;
@@ -55,7 +55,7 @@ returns-clause-event c = λ turn.
     made_step _ _ _ _ _ _ _
     (made_from p.config p.words.items c.make_access-found.new.words.items p.machines.items c.args.number m n c.plan.result c.make_access-found.result
     (omega (arith, p.all_machines, c.requires)) c.index_mut-machine.ensures.value p.one_heap (c.is_idle.ensures ∙ ap not c.if-is_idle.false) c.plan.ensures.row
-    c.make_access-found.ensures.words c.make_access-found.ensures.told c.took.ensures.shown)
+    c.make_access-found.ensures.words c.make_access-found.ensures.got c.took.ensures.shown)
 
 pub returns-clause-orders : goal.returns-clause-orders
 returns-clause-orders c = λ turn.
@@ -65,7 +65,7 @@ returns-clause-orders c = λ turn.
     made_orders _ _ _ _ _ _ _
     (made_from p.config p.words.items c.make_access-found.new.words.items p.machines.items c.args.number m n c.plan.result c.make_access-found.result
     (omega (arith, p.all_machines, c.requires)) c.index_mut-machine.ensures.value p.one_heap (c.is_idle.ensures ∙ ap not c.if-is_idle.false) c.plan.ensures.row
-    c.make_access-found.ensures.words c.make_access-found.ensures.told c.took.ensures.shown)
+    c.make_access-found.ensures.words c.make_access-found.ensures.got c.took.ensures.shown)
     c.took.ensures.order
 
 pub returns-clause-machines : goal.returns-clause-machines
@@ -76,7 +76,7 @@ returns-clause-machines c = λ turn.
     made_machines _ _ _ _ _ _ _
     (made_from p.config p.words.items c.make_access-found.new.words.items p.machines.items c.args.number m n c.plan.result c.make_access-found.result
     (omega (arith, p.all_machines, c.requires)) c.index_mut-machine.ensures.value p.one_heap (c.is_idle.ensures ∙ ap not c.if-is_idle.false) c.plan.ensures.row
-    c.make_access-found.ensures.words c.make_access-found.ensures.told c.took.ensures.shown)
+    c.make_access-found.ensures.words c.make_access-found.ensures.got c.took.ensures.shown)
 
 pub returns-clause-replied : goal.returns-clause-replied
 returns-clause-replied c = λ done none.

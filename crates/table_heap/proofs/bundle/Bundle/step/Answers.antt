@@ -3,7 +3,7 @@ use Rattle.std.specs.Prelude.{slice_set}
 use Rattle.std.specs.Option.{option_copied_mut}
 use Rattle.std.proofs.lemmas.Bool.{false≢true}
 use Rattle.std.proofs.lemmas.List.{length-set}
-use Rattle.heap_words.specs.Access.{place_of}
+use Rattle.heap_words.specs.Access.{table_index}
 use Rattle.heap_words.specs.Words.{table_words}
 use Rattle.shen_graph.specs.declared.order.Order.TheVariants.{Nothing}
 use Rattle.shared_steps.specs.Views.{kept_of}
@@ -93,8 +93,8 @@ returns-then-is_idle-clause-done c =
 
 -- ---- a machine that makes a step
 
-pub make_step-told-requires-clause-inside : goal.make_step-told-requires-clause-inside
-make_step-told-requires-clause-inside c =
+pub make_step-got-requires-clause-inside : goal.make_step-got-requires-clause-inside
+make_step-got-requires-clause-inside c =
     let b = c.args.self.now in
     let m = c.in-Some.machine.now in
     let inside = within shown b.machines.items c.args.number c.requires.here in
@@ -102,10 +102,10 @@ make_step-told-requires-clause-inside c =
     let heap = (b.of_heap c.args.number m here).heap in
     let key = c.args.heap.now.key ∙ sym c.requires.heap.config in
     let words : c.args.heap.now.table.shared.table_id.words ≡ table_words (heap_of m) = c.args.heap.now.all_words ∙ ap table_words (sym c.requires.heap.config ∙ sym heap) in
-    subst (λ n. place_of c.plan.result < n) (sym words) c.plan.ensures.inside
+    subst (λ n. table_index c.plan.result < n) (sym words) c.plan.ensures.inside
 
-pub make_step-told-requires-clause-machine : goal.make_step-told-requires-clause-machine
-make_step-told-requires-clause-machine c =
+pub make_step-got-requires-clause-machine : goal.make_step-got-requires-clause-machine
+make_step-got-requires-clause-machine c =
     let b = c.args.self.now in
     let m = c.in-Some.machine.now in
     let inside = within shown b.machines.items c.args.number c.requires.here in
@@ -124,8 +124,8 @@ took-requires-clause-fit c =
     let here = read_here shown b.machines.items c.args.number c.index_mut.result.now m inside c.index_mut.ensures.value (sym c.as_mut.ensures.value ∙ ap option_copied_mut c.in-Some.is) in
     let heap = (b.of_heap c.args.number m here).heap in
     let key = c.args.heap.now.key ∙ sym c.requires.heap.config in
-    let took = took_as c.args.heap.now.table.shared.key b.config c.args.number c.order.result (order_of m) b.seat.me c.make_step-told.result c.make_step-told.new.seat.me key c.order.ensures c.make_step-told.ensures.took in
-    fits b.config b.machines.items b.seat.me b.kept c.args.number m here c.make_step-told.result c.make_step-told.new.seat.me took heap
+    let took = took_as c.args.heap.now.table.shared.key b.config c.args.number c.order.result (order_of m) b.seat.me c.make_step-got.result c.make_step-got.new.seat.me key c.order.ensures c.make_step-got.ensures.took in
+    fits b.config b.machines.items b.seat.me b.kept c.args.number m here c.make_step-got.result c.make_step-got.new.seat.me took heap
 
 pub invariant_of-self-2 : goal.invariant_of-self-2
 invariant_of-self-2 c =
@@ -135,14 +135,14 @@ invariant_of-self-2 c =
     let here = read_here shown b.machines.items c.args.number c.index_mut.result.now m inside c.index_mut.ensures.value (sym c.as_mut.ensures.value ∙ ap option_copied_mut c.in-Some.is) in
     let heap = (b.of_heap c.args.number m here).heap in
     let key = c.args.heap.now.key ∙ sym c.requires.heap.config in
-    let took = took_as c.args.heap.now.table.shared.key b.config c.args.number c.order.result (order_of m) b.seat.me c.make_step-told.result c.make_step-told.new.seat.me key c.order.ensures c.make_step-told.ensures.took in
+    let took = took_as c.args.heap.now.table.shared.key b.config c.args.number c.order.result (order_of m) b.seat.me c.make_step-got.result c.make_step-got.new.seat.me key c.order.ensures c.make_step-got.ensures.took in
     let n = c.took.new.self in
     record {
       seats = length-set b.machines.items _ _ ∙ b.seats;
-      kept = kept_after b.config b.machines.items b.seat.me b.kept c.args.number m here c.make_step-told.result c.make_step-told.new.seat.me took n c.took.ensures.shown heap;
+      kept = kept_after b.config b.machines.items b.seat.me b.kept c.args.number m here c.make_step-got.result c.make_step-got.new.seat.me took n c.took.ensures.shown heap;
       slots = took.slots ∙ b.slots;
       of_heap = heap_put b.config b.machines.items c.args.number m n here c.took.ensures.heap
-          (role_after b.config b.machines.items b.seat.me b.kept c.args.number m here c.make_step-told.result c.make_step-told.new.seat.me took n c.took.ensures.shown heap) b.of_heap;
+          (role_after b.config b.machines.items b.seat.me b.kept c.args.number m here c.make_step-got.result c.make_step-got.new.seat.me took n c.took.ensures.shown heap) b.of_heap;
     }
 
 pub returns-clause-event : goal.returns-clause-event
@@ -157,9 +157,9 @@ returns-clause-event c = λ _.
     let given = shows_as order_of b.machines.items c.args.number m Nothing here in
     let n = c.took.new.self in
     record {
-      told = c.make_step-told.result;
-      took = took_as c.args.heap.now.table.shared.key b.config c.args.number c.order.result (order_at b c.args.number) b.seat.me c.make_step-told.result c.make_step-told.new.seat.me key (c.order.ensures ∙ sym given) c.make_step-told.ensures.took;
-      said_is = c.of.ensures ∙ ap stepped_by (sym c.took.ensures.answer) ∙ ap (λ k. says k (shown m) c.make_step-told.result) heap ∙ ap (λ x. says b.config x c.make_step-told.result) (sym at);
+      got = c.make_step-got.result;
+      took = took_as c.args.heap.now.table.shared.key b.config c.args.number c.order.result (order_at b c.args.number) b.seat.me c.make_step-got.result c.make_step-got.new.seat.me key (c.order.ensures ∙ sym given) c.make_step-got.ensures.took;
+      said_is = c.of.ensures ∙ ap stepped_by (sym c.took.ensures.answer) ∙ ap (λ k. says k (shown m) c.make_step-got.result) heap ∙ ap (λ x. says b.config x c.make_step-got.result) (sym at);
       orders = kept-set order_of b.machines.items c.args.number (Some n) ∙ ap (λ o. slice_set (kept_of order_of b.machines.items) c.args.number (Some o)) c.took.ensures.order;
     }
 
@@ -171,8 +171,8 @@ returns-clause-same c =
     let here = read_here shown b.machines.items c.args.number c.index_mut.result.now m inside c.index_mut.ensures.value (sym c.as_mut.ensures.value ∙ ap option_copied_mut c.in-Some.is) in
     let heap = (b.of_heap c.args.number m here).heap in
     let key = c.args.heap.now.key ∙ sym c.requires.heap.config in
-    let took = took_as c.args.heap.now.table.shared.key b.config c.args.number c.order.result (order_of m) b.seat.me c.make_step-told.result c.make_step-told.new.seat.me key c.order.ensures c.make_step-told.ensures.took in
-    record { table = c.make_step-told.ensures.table.0; config = refl; numbers = numbers_stay b.config b.machines.items b.seat.me b.kept c.args.number m here c.make_step-told.result c.make_step-told.new.seat.me took }
+    let took = took_as c.args.heap.now.table.shared.key b.config c.args.number c.order.result (order_of m) b.seat.me c.make_step-got.result c.make_step-got.new.seat.me key c.order.ensures c.make_step-got.ensures.took in
+    record { table = c.make_step-got.ensures.table.0; config = refl; numbers = numbers_stay b.config b.machines.items b.seat.me b.kept c.args.number m here c.make_step-got.result c.make_step-got.new.seat.me took }
 
 pub returns-clause-idle : goal.returns-clause-idle
 returns-clause-idle c =

@@ -36,9 +36,9 @@ unreachable-requires c =
     let d = ap is_some (machine_of-index items c.args.number c.index.result.now a ∙ sym c.index.ensures ∙ c.in_default.is) in
     cc
 
-pub make_step-told-requires-clause-machine : goal.make_step-told-requires-clause-machine
+pub make_step-got-requires-clause-machine : goal.make_step-got-requires-clause-machine
 unfolding adders_kind
-make_step-told-requires-clause-machine c =
+make_step-got-requires-clause-machine c =
     let items = c.args.self.now.adders.items in
     let a = within c.args.self.now.seat.me.0 items c.args.number c.args.self.now.kept c.requires.here in
     kept_can adders_kind (opening c.args.tally.now.table.shared.key) adder_of c.args.self.now.seat.me.0 c.args.number c.wish.result c.in-Some.adder c.plan.result
@@ -52,9 +52,9 @@ took-requires c =
     let a = within c.args.self.now.seat.me.0 items c.args.number c.args.self.now.kept c.requires.here in
     let key = c.args.tally.now.table.shared.key in
     let f =
-    kept_finds adders_kind (opening key) adder_of c.args.number c.wish.result c.args.self.now.seat.me c.make_step-told.new.seat.me c.make_step-told.result c.in-Some.adder c.make_step-told.ensures.took
+    kept_finds adders_kind (opening key) adder_of c.args.number c.wish.result c.args.self.now.seat.me c.make_step-got.new.seat.me c.make_step-got.result c.in-Some.adder c.make_step-got.ensures.took
     (ap (λ v. machine_of v c.args.number) c.args.self.now.kept ∙ machine_of-index items c.args.number c.index.result.now a ∙ sym c.index.ensures ∙ c.in-Some.is) in
-    subst (λ (x : Adder). IsFit x c.make_step-told.result) f.1 (finds_fit key c.args.number f.0 c.wish.result c.make_step-told.result f.2)
+    subst (λ (x : Adder). IsFit x c.make_step-got.result) f.1 (finds_fit key c.args.number f.0 c.wish.result c.make_step-got.result f.2)
 
 pub invariant_of-self : goal.invariant_of-self
 unfolding adders_kind
@@ -63,22 +63,22 @@ invariant_of-self c =
     let a = within c.args.self.now.seat.me.0 items c.args.number c.args.self.now.kept c.requires.here in
     record {
       kept =
-          kept_step adders_kind (opening c.args.tally.now.table.shared.key) adder_of c.args.number c.wish.result c.args.self.now.seat.me c.make_step-told.new.seat.me c.make_step-told.result c.in-Some.adder c.took.result
-          c.make_step-told.ensures.took
+          kept_step adders_kind (opening c.args.tally.now.table.shared.key) adder_of c.args.number c.wish.result c.args.self.now.seat.me c.make_step-got.new.seat.me c.make_step-got.result c.in-Some.adder c.took.result
+          c.make_step-got.ensures.took
           (ap (λ v. machine_of v c.args.number) c.args.self.now.kept ∙ machine_of-index items c.args.number c.index.result.now a ∙ sym c.index.ensures ∙ c.in-Some.is)
-          (λ r is. ap (λ x. next_at x c.make_step-told.result) is ∙ sym c.took.ensures)
+          (λ r is. ap (λ x. next_at x c.make_step-got.result) is ∙ sym c.took.ensures)
           ∙ ap (λ (v : View Adder). slice_set v c.args.number (Some c.took.result)) c.args.self.now.kept;
-      slots = c.make_step-told.ensures.took.slots ∙ c.args.self.now.slots;
+      slots = c.make_step-got.ensures.took.slots ∙ c.args.self.now.slots;
       reached =
-          same_reached (length items) (length (slice_set items c.args.number (Some c.took.result))) c.make_step-told.new.seat.me.0 c.make_step-told.new.seat.me.0 (sym (length-set items c.args.number (Some c.took.result))) refl
-          (reached_step adders_kind (opening (length items)) c.args.number c.wish.result c.args.self.now.seat.me c.make_step-told.new.seat.me c.make_step-told.result
-          (subst (λ (n : ℕ). Took adders_kind (opening n) c.args.number c.wish.result c.args.self.now.seat.me c.make_step-told.result c.make_step-told.new.seat.me) (sym c.requires.tally.1) c.make_step-told.ensures.took)
+          same_reached (length items) (length (slice_set items c.args.number (Some c.took.result))) c.make_step-got.new.seat.me.0 c.make_step-got.new.seat.me.0 (sym (length-set items c.args.number (Some c.took.result))) refl
+          (reached_step adders_kind (opening (length items)) c.args.number c.wish.result c.args.self.now.seat.me c.make_step-got.new.seat.me c.make_step-got.result
+          (subst (λ (n : ℕ). Took adders_kind (opening n) c.args.number c.wish.result c.args.self.now.seat.me c.make_step-got.result c.make_step-got.new.seat.me) (sym c.requires.tally.1) c.make_step-got.ensures.took)
           c.args.self.now.reached);
     }
 
 pub returns-clause-steps : goal.returns-clause-steps
 unfolding adders_kind
 returns-clause-steps c =
-    let took = c.make_step-told.ensures.took in
+    let took = c.make_step-got.ensures.took in
     subst (λ (v : View Worker). HaveMade (λ k. if k == c.args.number then 1 else 0) c.args.self.now.seat.me.0 v) (sym took.view)
-    (made_step c.args.self.now.seat.me.0 c.args.number took.machine (adders_kind.took took.machine c.wish.result c.make_step-told.result) took.here refl)
+    (made_step c.args.self.now.seat.me.0 c.args.number took.machine (adders_kind.took took.machine c.wish.result c.make_step-got.result) took.here refl)

@@ -4,12 +4,12 @@ use Rattle.shen_graph.specs.declared.order.Order.TheVariants.{Nothing}
 use Rattle.mutator.specs.Seen.{seen, order_of}
 use Rattle.mutator.specs.Orders.{is_between_calls}
 use Rattle.mutator.specs.Rows.{place_at}
-use Rattle.step_core.specs.Machines.{stands_in}
+use Rattle.step_core.specs.Machines.{is_machine_at}
 use Rattle.heap_machines.specs.declared.machine.Machine.{Machine}
 use Rattle.heap_machines.specs.Shown as machines
 use Rattle.heap_machines.specs.Turn.{order_for}
 use Rattle.heap_machines.proofs.Turns.{stands_in_call, busy_without_order}
-use Rattle.heap_machines.proofs.machine.Machine.stands_at.Goals as goal
+use Rattle.heap_machines.proofs.machine.Machine.is_at_place.Goals as goal
 
 pub returns-then-not-is_idle : goal.returns-then-not-is_idle
 returns-then-not-is_idle c =
@@ -17,5 +17,5 @@ returns-then-not-is_idle c =
     let place = c.args.place in
     let none : order_of m ≡ Nothing = subst (λ (k : Machine). machines.order_of k ≡ Nothing) c.in-Mutator-2.is c.requires in
     let busy : is_between_calls m.spot ≡ false = busy_without_order (is_between_calls m.spot) (order_of m) none (sym c.is_idle.ensures.idle ∙ c.if-not-is_idle.true) in
-    subst (λ (k : Machine). c.is-then-not-is_idle.result ≡ stands_in place (machines.shown k) (order_for c.args.next (machines.shown k))) (sym c.in-Mutator-2.is)
+    subst (λ (k : Machine). c.is-then-not-is_idle.result ≡ is_machine_at place (machines.shown k) (order_for c.args.next (machines.shown k))) (sym c.in-Mutator-2.is)
     (c.is-then-not-is_idle.ensures.test ∙ ap (λ p. same_place p place) (c.place.ensures ∙ ap (λ o. place_at o m.spot) none) ∙ sym (stands_in_call (seen m) c.args.next place busy))

@@ -1,9 +1,9 @@
 use Rattle.std.proofs.Common.{arith}
 use Rattle.shen_core.proofs.Memory.{from_read, none_here}
-use Rattle.shen_core.proofs.plain.Plain.stands_at.Goals as goal
+use Rattle.shen_core.proofs.plain.Plain.is_at_place.Goals as goal
 
-pub stands_at-requires : goal.stands_at-requires
-stands_at-requires c =
+pub is_at_place-requires : goal.is_at_place-requires
+is_at_place-requires c =
     let p = c.args.self.now in
     none_here p.machines.items c.args.number c.index.result.now c.requires.run.orders
     (from_read p.machines.items c.args.number c.index.result.now (omega (arith, p.all_machines, c.requires.number)) c.index.ensures)
