@@ -1,7 +1,7 @@
 -- The end of a schedule that was walked.
-use Rattle.std.proofs.Common.{◌≡◌, ◌<◌, ℕ, ◌+◌, ◌-◌, List, [], ◌++◌, length, Option, Some, None, refl, sym, ap, ◌∙◌, subst, arith, ◌≤◌, ⊎_elim}
+use Rattle.std.proofs.Common.{◌≡◌, ◌<◌, ℕ, ◌+◌, ◌-◌, [], ◌++◌, length, Option, Some, None, refl, sym, ap, ◌∙◌, subst, arith, ◌≤◌, ⊎_elim}
 use Rattle.std.proofs.lemmas.Bool.{cases_lt}
-use Rattle.std.proofs.lemmas.List.{length-append, append-nil}
+use Rattle.std.proofs.lemmas.List.{append-nil}
 use Rattle.steps_base.specs.Steps.{Stage}
 use Rattle.pause_laws.specs.Image.{full_image}
 use Rattle.step_core.specs.Actor.{Actor}
@@ -15,7 +15,7 @@ use Rattle.shen_core.specs.Ending.{EndsRun}
 use Rattle.shen_core.proofs.Going.{goes_same, runs_out}
 use Rattle.shen_core.proofs.Rounds.{idle_round, scheduled_none, ends_idle, ends_out, ends_then}
 use Rattle.schedule_walk.specs.declared.seen.Seen.{Seen}
-use Rattle.schedule_walk.specs.Nexts.{HasSameNext, HasNoNext, IsNext, IsMade, HasNone, MakesNext}
+use Rattle.schedule_walk.specs.Nexts.{HasSameNext, HasNoNext, MakesNext}
 
 -- what was passed over changes nothing of the next event
 pub makes_then : (p q : Plain) (jobs later : Jobs) (todo mid rest : Agenda) (result : Option Seen) → HasSameNext p jobs todo mid → MakesNext p jobs mid q later rest result → MakesNext p jobs todo q later rest result

@@ -1,5 +1,5 @@
 -- Events one after the other.
-use Rattle.std.proofs.Common.{arith, ◌≡◌, ◌<◌, ◌≤◌, ℕ, ◌+◌, ◌-◌, Some, None, sym, ◌∙◌, subst}
+use Rattle.std.proofs.Common.{arith, ◌≡◌, ◌<◌, ℕ, ◌+◌, ◌-◌, Some, None, sym, ◌∙◌, subst}
 use Rattle.steps_base.specs.Steps.{act}
 use Rattle.pause_laws.specs.Image.{full_image}
 use Rattle.step_core.specs.Machines.{kind}

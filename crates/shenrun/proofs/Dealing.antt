@@ -23,7 +23,7 @@ use Rattle.table_heap.specs.declared.heap.Heap.{Heap}
 use Rattle.table_heap.specs.Core.{heap_opening, nobody}
 use Rattle.table_heap.specs.State.{config_of, view_of, IsFresh}
 use Rattle.table_heap.specs.Running.{Jobs}
-use Rattle.table_heap.proofs.Core.{first_count}
+use Rattle.heap_machines.proofs.Openings.{first_count}
 use Rattle.table_heap.proofs.Starting.{fresh_can_start}
 use Rattle.shenrun.specs.Parts.{is_dealt, IsReady, CanBeDealt}
 

@@ -4,7 +4,6 @@ ghost use Rattle.std.specs.Prelude.{◌≤◌};
 use crate::status::Status;
 use crate::top::shenrun;
 use shen_base::{Failed, MemorySink, MemorySource, Source};
-use shen_graph::{Command, Name, PlainGraph, Reply};
 use std::alloc::Global;
 use std::process::Abort;
 use std::sync::Wait;
@@ -887,89 +886,6 @@ fn gate_orders(rt: HostRuntime) -> Result<(), Fail> {
         written.as_slice(),
         b"1 2.1\n2 2.1\n2 ok\n2 ok\ngraph\nobject 0.1 2.1 - - - - - - - - - - - - - - - /\nobject 2.1 /\nroots 1 0.1 2.1 - - - - - - - - - - - - - -\nroots 2 0.1 2.1 2.1 - - - - - - - - - - - - -\n".as_slice()
     );
-    Ok(())
-}
-
-/// Eight threads make an object each, and exchange it for what is in one field.
-const CONTENDED: &str =
-    "shen 1\nheap 8 64 0\nthreads 8 0\n1 new 1 0 0\n1 xchg 2 0 0 1\n2 new 1 0 0\n2 xchg 2 0 0 1\n3 new 1 0 0\n3 xchg 2 0 0 1\n4 new 1 0 0\n4 xchg 2 0 0 1\n5 new 1 0 0\n5 xchg 2 0 0 1\n6 new 1 0 0\n6 xchg 2 0 0 1\n7 new 1 0 0\n7 xchg 2 0 0 1\n8 new 1 0 0\n8 xchg 2 0 0 1\n";
-
-/// Whose object the line of a reply names, as `3 5.1` does that of thread 5: 0 where it names none.
-fn owner_in(line: &[u8]) -> u32 {
-    match line {
-        [_, b' ', thread @ b'1'..=b'8', b'.', b'1'] => u32::from(*thread - b'0'),
-        _ => 0,
-    }
-}
-
-/// What each thread got for its object, by the second of its two replies.
-fn got_by_each(alloc: Global, written: &[u8]) -> Result<Vec<u32>, Fail> {
-    let mut got = Vec::new(alloc);
-    let Ok(text) = str::from_utf8(written) else {
-        return Ok(got);
-    };
-    for (at, line) in text.lines().take(16).enumerate() {
-        if at % 2 == 1 {
-            got.push(owner_in(line.as_bytes()))?;
-        }
-    }
-    Ok(got)
-}
-
-/// The exchanges have one order at most: first that which got nothing, and then each time that which got what the last one put in.
-/// In this order one thread gets the same replies.
-fn is_one_order(rt: &impl Abort, alloc: Global, got: &[u32]) -> Result<u32, Fail> {
-    assert_eq!(rt; got.len(), 8);
-    let mut plain = PlainGraph::open(alloc, 8)?;
-    let mut last: u32 = 0;
-    for _ in 0..8 {
-        let next = got.iter().position(|owner| *owner == last);
-        assert!(rt; next.is_some(), "who got the object of {last}");
-        let thread = next.map_or(1, |at| at as u32 + 1);
-        let new = Command::New {
-            dst: 1,
-            refs: 0,
-            nums: 0,
-        };
-        let own = Name { thread, count: 1 };
-        assert_eq!(rt; plain.apply(alloc, thread, &new)?, Reply::Ref(own));
-        let exchange = Command::Xchg {
-            dst: 2,
-            obj: 0,
-            field: 0,
-            val: 1,
-        };
-        let wanted = if last == 0 {
-            Reply::Null
-        } else {
-            Reply::Ref(Name {
-                thread: last,
-                count: 1,
-            })
-        };
-        assert_eq!(rt; plain.apply(alloc, thread, &exchange)?, wanted);
-        last = thread;
-    }
-    Ok(last)
-}
-
-/// Eight threads, fifty times.
-#[test]
-fn threads_contend(rt: HostRuntime) -> Result<(), Fail> {
-    for round in 0..50 {
-        let (status, written) = outcome(
-            &rt,
-            rt.alloc(),
-            RUN,
-            CONTENDED.as_bytes(),
-            4096,
-            &[],
-            &[],
-        )?;
-        assert_eq!(rt; status, Status::Ok, "round {round}");
-        let got = got_by_each(rt.alloc(), &written)?;
-        is_one_order(&rt, rt.alloc(), &got)?;
-    }
     Ok(())
 }
 
