@@ -5,6 +5,7 @@ ghost use Rattle.shen_core.specs.Progress.{CanRun};
 use crate::commands::put_command;
 use crate::heap::put_heap;
 use crate::row::Row;
+use crate::settled::{refused, settled};
 use crate::terms::{Within, look_within, put_access, put_item, put_machine, put_reply, put_value};
 use crate::view::base;
 use crate::words::Wanted;
@@ -12,7 +13,7 @@ use heap_words::{Access, Item, Place, WordName};
 use schedule_walk::{Seen, Walk};
 use shen_base::Sink;
 use shen_core::{Plain, Stepped};
-use shen_graph::Work;
+use shen_graph::{Command, Work};
 use text_writer::{Block, WriteFault};
 
 // The columns: the number ends before the first.
@@ -180,30 +181,41 @@ impl Listing {
         }
     }
 
-    // Puts what the step of a machine says. The first of a call begins the command that follows in the script.
+    // Puts what the step of a machine says.
     fn put_says(&mut self, plain: &Plain, work: &Work, seen: &Seen)
         requires { CanRun plain.now work.now }
     {
         if let Access::Exchange { expect, .. } = seen.access {
-            self.row.put(if seen.found == expect {
-                b"won".as_slice()
+            self.row.put_further(if seen.found == expect {
+                b"won"
             } else {
-                b"lost".as_slice()
+                b"lost"
             });
         }
-        if self.is_begin(seen) {
-            if seen.number < plain.config().mutators() {
-                if let Some(command) = work.next(seen.number) {
-                    self.row.put(b"begins ");
-                    put_command(&mut self.row, command);
-                }
+        if seen.number < plain.config().mutators() {
+            if let Some(command) = work.next(seen.number) {
+                self.put_of_call(plain, seen, command);
             }
         }
+        if let Some(mutator) = refused(plain, seen) {
+            self.row.put_further(b"settles full of ");
+            put_machine(&mut self.row, plain.config(), mutator);
+        }
         match seen.said {
-            Stepped::Again if seen.place == Place::CX => self.row.put(b", again"),
-            Stepped::Again => self.row.put(b"again"),
+            Stepped::Again => self.row.put_further(b"again"),
             Stepped::Done => self.put_replied(plain, work, seen),
             Stepped::More | Stepped::Idle => {}
+        }
+    }
+
+    // Puts that the step begins a call, or settles its reply. The command is that of the call, or the one after it.
+    fn put_of_call(&mut self, plain: &Plain, seen: &Seen, command: Command) {
+        if self.is_begin(seen) {
+            self.row.put_further(b"begins ");
+            put_command(&mut self.row, command);
+        } else if let Some(reply) = settled(plain, seen, command) {
+            self.row.put_further(b"settles ");
+            put_reply(&mut self.row, reply);
         }
     }
 

@@ -6,6 +6,7 @@ mod heap;
 mod list;
 mod listing;
 mod row;
+mod settled;
 mod status;
 mod terms;
 mod view;

@@ -37,6 +37,14 @@ impl Row {
         }
     }
 
+    /// Puts text, behind a comma where other text ends right here.
+    pub fn put_further(&mut self, text: &[u8]) {
+        if self.used > 0 && self.used <= ROOM && self.bytes[self.used - 1] != b' ' {
+            self.put(b", ");
+        }
+        self.put(text);
+    }
+
     /// Puts a number in decimal.
     pub fn put_number(&mut self, number: u64) {
         let mut digits = [b'0'; 20];
