@@ -1,23 +1,34 @@
 #!/usr/bin/env python3
-"""Compares the listings in pages with what the program writes.
+"""Compares the listings in pages with what the program writes, and checks where listings say that calls are settled.
 
 In a page an indented line that begins with ./shensteps is a command, to be run at the top of the repository; the indented
-lines behind it are what it writes. With --write the pages get what it writes now; read them then.
+lines behind it are what it writes. With --write the pages get what it writes now; read them then. The other listings are of
+random traces, as settling.py makes them and checks them.
 
 usage: test_listings.py [--write]
 """
+import collections
+import os
 import pathlib
 import subprocess
 import sys
 
+sys.dont_write_bytecode = True
+from settling import trace, wrong  # pylint: disable=wrong-import-position
+
 TOP = pathlib.Path(__file__).resolve().parent.parent
 PAGES = ["README.md", "docs/RACES.md"]
 INDENT = "    "
+PROGRAMS = [TOP / "crates" / "shensteps" / "out" / "shensteps", TOP / "out" / "shensteps"]
+TRACES = 60
+# Each command with each reply that it can be given, where all references are one and all numbers are.
+KINDS = 22
 
 
 def written(command):
     """What a command writes, as indented lines."""
-    run = subprocess.run(["sh", "-c", command], cwd=TOP, stdout=subprocess.PIPE, text=True, check=False)
+    wide = {**os.environ, "COLUMNS": "200"}
+    run = subprocess.run(["sh", "-c", command], cwd=TOP, env=wide, stdout=subprocess.PIPE, text=True, check=False)
     return [(INDENT + line).rstrip() for line in run.stdout.splitlines()]
 
 
@@ -36,8 +47,40 @@ def renewed(lines):
     return new, count
 
 
+def is_settled_well(program):
+    """Whether the listings of random traces say rightly where each call is settled."""
+    kinds = collections.Counter()
+    for seed in range(TRACES):
+        run = subprocess.run([program], input=trace(seed), stdout=subprocess.PIPE, text=True, check=False)
+        line = wrong(run.stdout, kinds)
+        if run.returncode or line:
+            print(f"trace({seed}) of settling.py, status {run.returncode}: {line}")
+            return False
+    print(f"{sum(kinds.values())} calls are settled where the listings of {TRACES} random traces say so")
+    return len(kinds) == KINDS
+
+
+def has_bars(program, columns):
+    """Whether the heap is shown with bars in a terminal of so many columns."""
+    env = {**os.environ, "COLUMNS": columns}
+    run = subprocess.run([program, "--heap"], input=trace(0), env=env, stdout=subprocess.PIPE, text=True, check=False)
+    return "[#" in run.stdout
+
+
+def is_well():
+    """Whether the program does what the pages do not show."""
+    program = next((it for it in PROGRAMS if os.access(it, os.X_OK)), None)
+    if not program:
+        print("there is no proved program yet: rt ci makes it")
+        return False
+    bars = [has_bars(program, columns) for columns in ("99", "100", "")]
+    if bars != [False, True, True]:
+        print("the heap does not have bars exactly where a line may have 100 columns")
+    return is_settled_well(program) and bars == [False, True, True]
+
+
 def main():
-    failed, listings = False, 0
+    failed, listings = "--write" not in sys.argv and not is_well(), 0
     for page in PAGES:
         path = TOP / page
         lines = path.read_text().splitlines()

@@ -9,15 +9,10 @@ use shen_base::Sink;
 use shen_core::Plain;
 use text_writer::Block;
 
-// The columns of a line: what a region is, how full it is, and what stands in it.
+// The columns of a line: what a region is, and how full it is.
 const USED: usize = 13;
 
 const BAR: usize = 26;
-
-const OBJECTS: usize = 46;
-
-// The column behind which an object begins a new line.
-const WIDE: usize = 110;
 
 // How many characters a bar has.
 const BAR_CHARACTERS: u64 = 16;
@@ -32,6 +27,11 @@ fn put_bar(row: &mut Row, used: u64, words: u64) {
     row.put(b"]");
 }
 
+// The column in front of what stands in a region, and that behind which an object begins a new line.
+fn object_columns(bars: bool) -> (usize, usize) {
+    if bars { (45, 110) } else { (25, 68) }
+}
+
 // Puts the objects of a region, each with its words; the room of a machine, where it has some here, is their end.
 fn put_objects<K: Sink>(
     row: &mut Row,
@@ -40,16 +40,18 @@ fn put_objects<K: Sink>(
     plain: &Plain,
     region: usize,
     rooms: &[u64],
+    bars: bool,
 ) {
+    let (column, last) = object_columns(bars);
     let mut at = base(plain, region);
     let end = at.saturating_add(top(plain, region));
     for _ in 0..1024 {
         if at >= end {
             return;
         }
-        if row.width() > WIDE {
+        if row.width() > last {
             row.send(block, sink);
-            row.tab(OBJECTS);
+            row.tab(column);
         }
         row.put(b" ");
         let next = at.saturating_add(size_at(plain, at));
@@ -86,6 +88,7 @@ fn put_region<K: Sink>(
     plain: &Plain,
     region: usize,
     rooms: &[u64],
+    bars: bool,
 ) {
     let config = plain.config();
     row.put(b"   region ");
@@ -97,11 +100,14 @@ fn put_region<K: Sink>(
         row.put_number(top(plain, region));
         row.put(b" of ");
         row.put_number(config.region_words() as u64);
-        row.tab(BAR);
-        put_bar(row, top(plain, region), config.region_words() as u64);
-        row.tab(OBJECTS - 1);
+        if bars {
+            row.tab(BAR);
+            put_bar(row, top(plain, region), config.region_words() as u64);
+        }
+        let (column, _) = object_columns(bars);
+        row.tab(column);
         put_owner(row, plain, config, region);
-        put_objects(row, block, sink, plain, region, rooms);
+        put_objects(row, block, sink, plain, region, rooms, bars);
     }
     row.send(block, sink);
 }
@@ -127,17 +133,18 @@ fn put_roots<K: Sink>(
     row.send(block, sink);
 }
 
-/// Puts the heap. `rooms` are the addresses at which machines have room in hand that is no object yet.
+/// Puts the heap, with bars or without. `rooms` are the addresses at which machines have room in hand that is no object yet.
 pub fn put_heap<K: Sink>(
     row: &mut Row,
     block: &mut Block,
     sink: &mut K,
     plain: &Plain,
     rooms: &[u64],
+    bars: bool,
 ) {
     let config = plain.config();
     for region in 0..config.regions() {
-        put_region(row, block, sink, plain, region, rooms);
+        put_region(row, block, sink, plain, region, rooms, bars);
     }
     for mutator in 0..config.mutators() {
         put_roots(row, block, sink, plain, mutator);

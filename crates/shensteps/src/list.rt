@@ -166,14 +166,16 @@ fn list_trace<K: Sink>(alloc: Global, trace: Trace, wanted: Wanted, sink: &mut K
 
 /// Runs the program on these words of the command line, which are without the program's name: reads a trace from the source to
 /// its end, makes the events of its schedule and of the rounds after it, and lists them. Other words are refused before anything
-/// is read. Where there is no listing one line says why; if that cannot be written either, the status is `WriteFault`.
+/// is read. The heap is shown with bars where there is room for them. Where there is no listing one line says why; if that cannot
+/// be written either, the status is `WriteFault`.
 pub fn shensteps<S: Source, K: Sink>(
     alloc: Global,
     words: &[String],
+    bars: bool,
     source: &mut S,
     sink: &mut K,
 ) -> Status {
-    let Some(wanted) = wanted_by(words) else {
+    let Some(wanted) = wanted_by(words, bars) else {
         return match write_all(sink, FORM) {
             Ok(()) => Status::BadWords,
             Err(_) => Status::WriteFault,

@@ -85,7 +85,14 @@ impl Listing {
     // Writes the heap, if it is wanted.
     fn heap<K: Sink>(&mut self, plain: &Plain, sink: &mut K) {
         if self.wanted.heap {
-            put_heap(&mut self.row, &mut self.block, sink, plain, &self.rooms);
+            put_heap(
+                &mut self.row,
+                &mut self.block,
+                sink,
+                plain,
+                &self.rooms,
+                self.wanted.bars,
+            );
         }
     }
 

@@ -17,12 +17,24 @@ use shen_base::{InSource, OutSink};
 use std::alloc::AllocError;
 use std::process::ExitCode;
 use std::{env, io};
+use trace_text::number_in;
 
 /// The status number where the system refuses the words of the command line, or one is not UTF-8.
 const NO_WORDS: u8 = 8;
 
 /// The status number where there is no memory for the words.
 const NO_ROOM_FOR_WORDS: u8 = 9;
+
+/// The columns of a terminal that is too narrow for bars, at most.
+const NARROW: u64 = 99;
+
+// Whether the terminal has room for bars, as far as is known.
+fn is_wide(rt: &HostRuntime) -> bool {
+    match env::var(rt, "COLUMNS") {
+        Ok(columns) => number_in(NARROW, columns.as_bytes()).is_none(),
+        Err(_) => true,
+    }
+}
 
 fn main(rt: HostRuntime) -> ExitCode {
     let args = match env::args(&rt) {
@@ -40,7 +52,7 @@ fn main(rt: HostRuntime) -> ExitCode {
     }
     let mut source = InSource::new(rt.stdin());
     let mut sink = OutSink::new(rt.stdout());
-    let status = shensteps(rt.alloc(), &words, &mut source, &mut sink);
+    let status = shensteps(rt.alloc(), &words, is_wide(&rt), &mut source, &mut sink);
     ExitCode::from(status.number())
 }
 

@@ -21,7 +21,7 @@ fn outcome(
     let bytes = Vec::from_slice(alloc, bytes)?;
     let mut source = MemorySource::new(bytes, 64, Vec::new(alloc));
     let mut sink = MemorySink::with_room(alloc, 4096, 4096, Vec::from_slice(alloc, writes)?)?;
-    let status = shensteps(alloc, &list, &mut source, &mut sink);
+    let status = shensteps(alloc, &list, true, &mut source, &mut sink);
     Ok((status, Vec::from_slice(alloc, sink.bytes())?))
 }
 

@@ -20,6 +20,8 @@ pub struct Wanted {
     pub only: Option<u64>,
     /// Whether the heap is shown after each part.
     pub heap: bool,
+    /// Whether it is shown with bars, for which a line has to be wide.
+    pub bars: bool,
 }
 
 /// The form of the words, as a line.
@@ -27,8 +29,8 @@ pub const FORM: &[u8] =
     b"bad words: the form is shensteps [--steps N] [--from N] [--only MACHINE] [--heap]\n";
 
 /// What the words ask for: each word once at most, in any order, `--steps` and `--from` with a number from 1 to 4000000000,
-/// `--only` with the number of a machine. None for any other words.
-pub fn wanted_by(words: &[String]) -> Option<Wanted> {
+/// `--only` with the number of a machine. None for any other words. The heap has bars where there is room for them.
+pub fn wanted_by(words: &[String], bars: bool) -> Option<Wanted> {
     let mut steps = None;
     let mut from = None;
     let mut only = None;
@@ -65,5 +67,6 @@ pub fn wanted_by(words: &[String]) -> Option<Wanted> {
         from: from.unwrap_or(1),
         only,
         heap,
+        bars,
     })
 }
