@@ -4,12 +4,12 @@ use shen_base::Sink;
 use text_writer::Block;
 
 // The bytes that a row has room for.
-const ROOM: usize = 240;
+const ROOM: usize = 480;
 
 /// One line of the listing while it is set, in columns. What does not fit is left out.
 #[derive(Debug, Drop)]
 pub struct Row {
-    bytes: [u8; 240],
+    bytes: [u8; 480],
     used: usize,
 }
 
@@ -17,7 +17,7 @@ impl Row {
     /// An empty row.
     pub fn new() -> Row {
         Row {
-            bytes: [0; 240],
+            bytes: [0; 480],
             used: 0,
         }
     }
@@ -91,9 +91,10 @@ impl Row {
     pub fn send<K: Sink>(&mut self, block: &mut Block, sink: &mut K) {
         let mut end = self.used.min(ROOM);
         for _ in 0..ROOM {
-            if end > 0 && end <= ROOM && self.bytes[end - 1] == b' ' {
-                end -= 1;
+            if end == 0 || end > ROOM || self.bytes[end - 1] != b' ' {
+                break;
             }
+            end -= 1;
         }
         if end <= ROOM {
             block.put(sink, &self.bytes[..end]);
