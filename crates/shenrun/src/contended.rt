@@ -9,13 +9,39 @@ use shen_graph::{Command, Name, NoMemory, PlainGraph, Reply};
 use std::alloc::Global;
 use std::process::Abort;
 use std::sync::Wait;
+use std::sync::atomic::{AtomicU64, Ordering};
 use std::test::Fail;
+use std::thread;
 use std::thread::Threads;
-use table_heap::OpenGate;
+use table_heap::Gate;
 
 /// Eight threads make an object each, and exchange it for what is in field 0 of the hub.
 const TRACE: &str =
     "shen 1\nheap 8 64 0\nthreads 8 0\n1 new 1 0 0\n1 xchg 2 0 0 1\n2 new 1 0 0\n2 xchg 2 0 0 1\n3 new 1 0 0\n3 xchg 2 0 0 1\n4 new 1 0 0\n4 xchg 2 0 0 1\n5 new 1 0 0\n5 xchg 2 0 0 1\n6 new 1 0 0\n6 xchg 2 0 0 1\n7 new 1 0 0\n7 xchg 2 0 0 1\n8 new 1 0 0\n8 xchg 2 0 0 1\n";
+
+/// The machines of the trace, a bit each: eight mutators and the control.
+const ALL: u64 = 0x1ff;
+
+/// A gate at which each machine waits for all others before its first step, but not for ever.
+#[derive(Drop)]
+struct Together {
+    come: AtomicU64,
+}
+
+impl Gate for Together {
+    fn pass(&self, number: usize) {
+        if self.come.load(Ordering::SeqCst) == ALL {
+            return;
+        }
+        self.come.fetch_or(1 << number.min(63), Ordering::SeqCst);
+        for _ in 0..1_000_000u64 {
+            if self.come.load(Ordering::SeqCst) == ALL {
+                return;
+            }
+            thread::yield_now();
+        }
+    }
+}
 
 /// What is written of a run of the trace.
 fn run_once<R: Threads + Wait + Abort + Sync>(rt: &R, alloc: Global) -> Result<Vec<u8>, Fail> {
@@ -24,8 +50,12 @@ fn run_once<R: Threads + Wait + Abort + Sync>(rt: &R, alloc: Global) -> Result<V
     let bytes = Vec::from_slice(alloc, TRACE.as_bytes())?;
     let mut source = MemorySource::new(bytes, 4096, Vec::new(alloc));
     let mut sink = MemorySink::with_room(alloc, 4096, 4096, Vec::new(alloc))?;
-    let status = shenrun(rt, alloc, &words, &mut source, &mut sink, &OpenGate);
+    let gate = Together {
+        come: AtomicU64::new(0),
+    };
+    let status = shenrun(rt, alloc, &words, &mut source, &mut sink, &gate);
     assert_eq!(rt; status, Status::Ok);
+    assert_eq!(rt; gate.come.load(Ordering::SeqCst), ALL);
     Ok(Vec::from_slice(alloc, sink.bytes())?)
 }
 
