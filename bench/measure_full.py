@@ -1,12 +1,13 @@
 #!/usr/bin/env python3
-"""Measures full collections of a heap of 64 regions of 1024 words beside a plain copy of as many words.
+"""Measures full collections of a heap of 64 regions of 1024 words beside a plain copy of as many words, and beside as many accesses.
 
 usage: measure_full.py [ROUNDS]
 
 Each is done so often in one run of the proved program `bench_full` (20 times if left out): collections of a heap that is full
-of objects of 16 words, all live and all dead, and copies of 65536 words from one slice to another. It prints the words a
-second of each, by the processor's time, and how many times as long a collection takes as a copy. Times mean something only
-beside each other, from one run.
+of objects of 16 words, all live and all dead, copies of 65536 words from one slice to another, and 65536 accesses to one word that
+no other thread accesses, half of them SeqCst stores and half loads: what the steps of a heap that threads share cannot go below.
+It prints the words a second of each, by the processor's time, and how many times as long it takes as a copy. Times mean
+something only beside each other, from one run.
 """
 import os
 import re
@@ -31,8 +32,8 @@ def main():
         stop("there is no proved program yet: rt ci makes it")
     rounds = int(words[0]) if words else 20
     ran = subprocess.run([PROGRAM, str(rounds)], capture_output=True, text=True)
-    times = dict(re.findall(r"(live|dead|copy) (\d+)", ran.stderr))
-    if ran.returncode or len(times) != 3:
+    times = dict(re.findall(r"(live|dead|copy|access) (\d+)", ran.stderr))
+    if ran.returncode or len(times) != 4:
         stop(f"the program ends with {ran.returncode}")
     print(ran.stdout, end="")
     nanoseconds = {name: max(int(time), 1) for name, time in times.items()}

@@ -1,12 +1,12 @@
-//! Measures full collections beside a plain copy of as many words. Its one word is how often each is done. What was kept goes
-//! to the standard output, and the processor times, in nanoseconds, to the standard error.
+//! Measures full collections beside a plain copy of as many words, and beside as many accesses to one word. Its one word is how
+//! often each is done. What was kept goes to the standard output, and the processor times, in nanoseconds, to the standard error.
 #![tactic(auto)]
 
 mod heap;
 mod timing;
 
 use std::{env, io};
-use timing::{all_dead, all_live, copies};
+use timing::{accesses, all_dead, all_live, copies};
 
 fn main(rt: HostRuntime) -> io::Result<()> {
     let alloc = rt.alloc();
@@ -19,6 +19,7 @@ fn main(rt: HostRuntime) -> io::Result<()> {
     let live = all_live(&rt, alloc, rounds)?;
     let dead = all_dead(&rt, alloc, rounds)?;
     let copied = copies(&rt, alloc, rounds)?;
+    let accessed = accesses(&rt, alloc, rounds)?;
     let words = copied.words;
     let kept = live.words;
     let left = dead.words;
@@ -28,5 +29,6 @@ fn main(rt: HostRuntime) -> io::Result<()> {
     let live_time = live.time.as_nanos();
     let dead_time = dead.time.as_nanos();
     let copy_time = copied.time.as_nanos();
-    eprintln!(rt; "live {live_time} dead {dead_time} copy {copy_time}")
+    let access_time = accessed.time.as_nanos();
+    eprintln!(rt; "live {live_time} dead {dead_time} copy {copy_time} access {access_time}")
 }

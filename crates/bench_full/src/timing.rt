@@ -10,6 +10,7 @@ use image_graph::Image;
 use std::alloc::Global;
 use std::io;
 use std::mem::swap;
+use std::sync::atomic::{AtomicU64, Ordering};
 use std::time::{CpuClock, Duration};
 
 /// What so many rounds took, and the words that the last one left.
@@ -89,5 +90,26 @@ pub(crate) fn copies(rt: &impl CpuClock, alloc: Global, rounds: u32) -> io::Resu
     for word in &from {
         words = words.saturating_add(*word);
     }
+    Ok(Measured { time, words })
+}
+
+/// Stores to one word and loads of it, each in the one order of all threads, as often as a copy has words. Nobody else
+/// accesses the word. It stands in memory of its own, since a compiler may keep a local one in a register.
+pub(crate) fn accesses(rt: &impl CpuClock, alloc: Global, rounds: u32) -> io::Result<Measured> {
+    let mut table = Vec::new(alloc);
+    if table.push(AtomicU64::new(0)).is_err() {
+        return Err(no_memory());
+    }
+    let word = &table[0];
+    let mut words = 0u64;
+    let start = rt.thread_cpu_time()?;
+    for _ in 0..rounds {
+        for stored in 0..HEAP_WORDS as u64 / 2 {
+            word.store(stored, Ordering::SeqCst);
+            words = words.saturating_add(word.load(Ordering::SeqCst));
+        }
+    }
+    let end = rt.thread_cpu_time()?;
+    let time = end.saturating_sub(start);
     Ok(Measured { time, words })
 }

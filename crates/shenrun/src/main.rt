@@ -43,4 +43,6 @@ fn main(rt: HostRuntime) -> ExitCode {
 }
 
 #[cfg(test)]
+mod contended;
+#[cfg(test)]
 mod tests;
