@@ -1,5 +1,5 @@
 -- The end of a run on threads: all machines are there, and idle.
-use Rattle.std.proofs.Common.{◌≡◌, ℕ, ◌+◌, ◌-◌, ◌<◌, ◌≤◌, ◌&&◌, Bool, true, false, List, [], length, map, Option, Some, None, refl, sym, ap, ◌∙◌, subst, arith, mod-lt}
+use Rattle.std.proofs.Common.{◌≡◌, ℕ, ◌+◌, ◌-◌, ◌<◌, ◌≤◌, ◌&&◌, true, List, length, Option, Some, None, refl, sym, ap, ◌∙◌, subst, arith, mod-lt}
 use Rattle.std.specs.Prelude.{◌%◌, nat_lt, nat_le, slice_get}
 use Rattle.std.specs.Option.{is_some}
 use Rattle.std.proofs.lemmas.Bool.{lt-ltb, false≢true}
@@ -7,9 +7,7 @@ use Rattle.std.proofs.lemmas.Bool.Decides.{nat_tests}
 use Rattle.heap_words.specs.declared.config.Config.{Config}
 use Rattle.heap_words.specs.declared.schedule.Item.{Item}
 use Rattle.heap_words.specs.Ranges.{seat_count}
-use Rattle.steps_base.specs.Steps.{Stage, Event, IsReached}
-use Rattle.shen_graph.specs.declared.order.Order.{Order}
-use Rattle.shen_graph.specs.Graph.{Graph}
+use Rattle.steps_base.specs.Steps.{Stage, IsReached}
 use Rattle.shen_graph.specs.GraphText.{Text, names_of, root_of}
 use Rattle.shen_graph.specs.History.{Entry, after, of_thread}
 use Rattle.shen_graph.specs.History as history
@@ -24,7 +22,7 @@ use Rattle.step_core.specs.Machines.{is_resting}
 use Rattle.heap_machines.specs.Roles.{is_mutating}
 use Rattle.step_core.specs.Begins.{first_graph, reached, past}
 use Rattle.step_core.specs.Schedule.{Scripts, turn, turn_of}
-use Rattle.shen_core.specs.Calls.{HasCalled, AllHaveCalled}
+use Rattle.shen_core.specs.Calls.{AllHaveCalled}
 use Rattle.shen_core.specs.Progress.{Jobs, AreIdle}
 use Rattle.table_heap.specs.declared.heap.Heap.{Heap}
 use Rattle.table_heap.specs.declared.closed.Closed.{Closed}
@@ -103,29 +101,26 @@ come_rest c scripts jobs end done n a below here =
 -- ---- the history
 
 module _ (c : Config) (scripts : Scripts) (jobs : Jobs) (end : Closed) (done : HasCome c scripts jobs end) where
-  events : List (Event Order)
-  events = done.reached.events
-
-  leads : reached full_image c events ≡ closed.stage_of end
+  leads : reached full_image c done.reached.events ≡ closed.stage_of end
   leads = done.reached.ends
 
-  called : AllHaveCalled c scripts (reached full_image c events)
+  called : AllHaveCalled c scripts (reached full_image c done.reached.events)
   called = subst (λ s. AllHaveCalled c scripts s) (sym leads) done.called
 
   -- the history in which the scripts were called, and what it is
-  pub come_past : List Entry
-  come_past = past full_image c events
+  abbrev pub come_past : List Entry
+  come_past = past full_image c done.reached.events
 
-  pub come_whole : length scripts ≡ c.mutators → IsWhole c scripts events
-  come_whole count = ends.whole c scripts events count (subst (λ s. AreIdle c scripts s) (sym leads) done.idle) called
+  pub come_whole : length scripts ≡ c.mutators → IsWhole c scripts done.reached.events
+  come_whole count = ends.whole c scripts done.reached.events count (subst (λ s. AreIdle c scripts s) (sym leads) done.idle) called
 
   -- the work has its replies
   pub come_told : (t : ℕ) → t < c.mutators → work.replies_of jobs t ≡ history.replies_of (of_thread come_past (t + 1))
   come_told t below =
       let did = called t below in
-      told t did.actor below did.here ∙ sym (ap history.replies_of (ends.entries_called c scripts events t did))
+      told t did.actor below did.here ∙ sym (ap history.replies_of (ends.entries_called c scripts done.reached.events t did))
     where
-      told : (m : ℕ) (a : Actor) → m < c.mutators → slice_get (reached full_image c events).machines m ≡ Some a → work.replies_of jobs m ≡ history.replies_of a.calls
+      told : (m : ℕ) (a : Actor) → m < c.mutators → slice_get (reached full_image c done.reached.events).machines m ≡ Some a → work.replies_of jobs m ≡ history.replies_of a.calls
       told = subst (λ (s : Stage Actor). (m : ℕ) (a : Actor) → m < c.mutators → slice_get s.machines m ≡ Some a → work.replies_of jobs m ≡ history.replies_of a.calls) (sym leads) done.replies
 
 -- ---- the answer

@@ -62,4 +62,4 @@ row_of_replay words input output result no_run no_churn answered e = by_row (row
     by_row : TellsAny words input output → TellsReplay words input output
     by_row (inl replay) = replay
     by_row (inr (inl run)) = absurd (no_run run.0)
-    by_row (inr (inr churn)) = absurd (no_churn (churn.0, churn.1.0, churn.1.1))
+    by_row (inr (inr churn)) = absurd (no_churn (churn.0, (churn.1.0, churn.1.1)))

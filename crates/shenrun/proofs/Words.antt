@@ -4,6 +4,7 @@ use Rattle.std.specs.Prelude.{codes, Option, Some, None, MatchOption, MatchBool}
 use Rattle.std.specs.Fmt.{decimal}
 use Rattle.std.specs.Cmp.Lexicographic.{pointwise}
 use Rattle.std.proofs.lemmas.Bool.{eqb-true, false≢true}
+use Rattle.std.proofs.lemmas.Fmt.{decimal_digit}
 use Rattle.trace_grammar.specs.Spelling.{IsUpTo}
 use Rattle.shenrun.specs.Words.{most_seed, most_rounds, IsReplay, AskReplay, IsRunBy, AskRun, AskTrace, IsChurn, AskChurn, Ask, BeginWith}
 use Rattle.std.proofs.lemmas.Bool.Decides.{nat_tests}
@@ -87,30 +88,20 @@ workers_named words number None are none = λ asked. by_form asked.0 asked.1
         third a b e = ap (λ (ws : List (List ℕ)). get_or ws 2 []) e
 
 -- a seed is 0, or a number from 1 on
-pub no_seed : (word : List ℕ) → (word ≡ codes "0" → ⊥) → ((n : ℕ) → IsUpTo most_seed n → word ≡ decimal n → ⊥) → (n : ℕ) → n ≤ most_seed → word ≡ decimal n → ⊥
-no_seed word no_zero none zero small is = no_zero is
-no_seed word no_zero none (suc n) small is = none (suc n) (omega arith, small) is
 
-pub same_from_bytes : (xs ys : List ℕ) → pointwise eqb xs ys ≡ true → xs ≡ ys
-same_from_bytes xs ys e = same_from_test xs ys e
+pub zero_named : (word : List ℕ) → true ≡ pointwise eqb word (codes "0") → (0 ≤ most_seed) × (word ≡ decimal 0)
+zero_named word e = (omega arith, same_from_test word (codes "0") (sym e) ∙ sym (decimal_digit 0 (omega arith)))
 
-pub other_from_bytes : (xs ys : List ℕ) → pointwise eqb xs ys ≡ false → xs ≡ ys → ⊥
-other_from_bytes xs ys e is = false≢true (sym e ∙ ap (λ (t : List ℕ). pointwise eqb xs t) (sym is) ∙ test_itself xs)
+pub seed_named : (word : List ℕ) (r : Option ℕ) → false ≡ pointwise eqb word (codes "0") → MatchOption r ((n : ℕ) → IsUpTo most_seed n → word ≡ decimal n → ⊥) (λ n. IsUpTo most_seed n × (word ≡ decimal n))
+    → MatchOption r ((n : ℕ) → n ≤ most_seed → word ≡ decimal n → ⊥) (λ n. (n ≤ most_seed) × (word ≡ decimal n))
+seed_named word (Some n) other read = (read.0.1, read.1)
+seed_named word None other none = by_number
+  where
+    by_number : (n : ℕ) → n ≤ most_seed → word ≡ decimal n → ⊥
+    by_number zero small is = false≢true (other ∙ ap (λ (t : List ℕ). pointwise eqb t (codes "0")) (is ∙ decimal_digit 0 (omega arith)) ∙ test_itself (codes "0"))
+    by_number (suc n) small is = none (suc n) (omega arith, small) is
 
--- words of which one is no number in its range ask for no churn
-word_at : (words : List (List ℕ)) (first second third a b c : List ℕ) → words ≡ first ∷ second ∷ third ∷ [] → words ≡ a ∷ b ∷ c ∷ [] → (second ≡ b) × (third ≡ c)
-word_at words first second third a b c are is =
-    let same = sym are ∙ is in
-    (ap (λ (ws : List (List ℕ)). get_or ws 1 []) same, ap (λ (ws : List (List ℕ)). get_or ws 2 []) same)
-
-pub no_churn_seed : (words : List (List ℕ)) (a b : List ℕ) → words ≡ codes "churn" ∷ a ∷ b ∷ [] → ((n : ℕ) → n ≤ most_seed → a ≡ decimal n → ⊥) → AskChurn words → ⊥
-no_churn_seed words a b are none asked =
-    none asked.0 asked.1.1.1 (word_at words (codes "churn") a b (codes "churn") (decimal asked.0) (decimal asked.1.0) are asked.1.1.0).0
-
-pub no_churn_count : (words : List (List ℕ)) (a b : List ℕ) → words ≡ codes "churn" ∷ a ∷ b ∷ [] → ((n : ℕ) → IsUpTo most_rounds n → b ≡ decimal n → ⊥) → AskChurn words → ⊥
-no_churn_count words a b are none asked =
-    none asked.1.0 asked.1.1.2 (word_at words (codes "churn") a b (codes "churn") (decimal asked.0) (decimal asked.1.0) are asked.1.1.0).1
-
+-- words of which both are numbers in their ranges ask for a churn
 pub is_churn : (words : List (List ℕ)) (a b : List ℕ) (seed count : ℕ) → words ≡ codes "churn" ∷ a ∷ b ∷ [] → (seed ≤ most_seed) × (a ≡ decimal seed) → IsUpTo most_rounds count × (b ≡ decimal count) → IsChurn words seed count
 is_churn words a b seed count are first second =
     (are ∙ ap (λ (t : List ℕ). codes "churn" ∷ t ∷ b ∷ []) first.1 ∙ ap (λ (t : List ℕ). codes "churn" ∷ decimal seed ∷ t ∷ []) second.1, first.0, second.0)

@@ -1,4 +1,4 @@
-use Rattle.std.proofs.Common.{ℕ, List, map, refl, ◌≡◌}
+use Rattle.std.proofs.Common.{ℕ, List, map, refl}
 use Rattle.std.specs.String.{string_bytes}
 use Rattle.trace_writing.specs.Message.{line_text}
 use Rattle.trace_writing.specs.declared.message.Line.TheVariants as line

@@ -1,7 +1,5 @@
-use Rattle.std.proofs.Common.{rules, List, ◌≡◌, ◌<◌, ◌≤◌, length, ap, sym, subst, ◌∙◌, arith}
+use Rattle.std.proofs.Common.{rules, ◌<◌, ◌≤◌, length, sym, subst, arith}
 use Rattle.heap_words.specs.declared.config.Config.{Config}
-use Rattle.shen_graph.specs.declared.command.Command.{Command}
-use Rattle.shen_graph.specs.Work.{opened}
 use Rattle.step_core.specs.Schedule.{Scripts}
 use Rattle.shenrun.specs.declared.parts.Part.{Part}
 use Rattle.shenrun.specs.Parts.{AreReady, IsDone}
