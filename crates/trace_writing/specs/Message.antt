@@ -1,10 +1,22 @@
--- The text of the one line that is written where there is no answer.
+-- The text that is written where no trace is answered: one line, or the eight of a churn.
 use Rattle.std.specs.Prelude.{ℕ, List, [], ◌∷◌, ◌++◌, codes}
 use Rattle.std.specs.Fmt.{decimal}
+use Rattle.churn.specs.declared.summary.Summary.{Summary}
 use Rattle.trace_grammar.specs.Spelling.{newline}
 use Rattle.trace_grammar.specs.Why.{text_of}
 use Rattle.trace_writing.specs.declared.message.Line.{Line}
-use Rattle.trace_writing.specs.declared.message.Line.TheVariants.{BadWords, BadLine, TooLong, Unfinished, ReadFault, NoMemory}
+use Rattle.trace_writing.specs.declared.message.Line.TheVariants.{BadWords, BadLine, TooLong, Unfinished, ReadFault, NoMemory, Churn}
+
+-- what is told of a run of the workload, whose threads are three: a line each, the last one without its end
+abbrev pub summary_text : Summary → List ℕ
+summary_text s =
+    codes "churn " ++ (decimal s.seed ++ (codes " " ++ (decimal s.count
+    ++ (codes "\nthreads 3\ncommands " ++ (decimal s.commands
+    ++ (codes "\nbad " ++ (decimal s.bad
+    ++ (codes "\nfull " ++ (decimal s.full
+    ++ (codes "\nobjects " ++ (decimal s.objects
+    ++ (codes "\nwords " ++ (decimal s.words
+    ++ (codes "\nsum " ++ decimal s.sum))))))))))))))
 
 -- what a line says
 abbrev pub message : Line → List ℕ
@@ -14,6 +26,7 @@ message TooLong = codes "too long: more than 16777216 bytes"
 message (Unfinished steps) = codes "unfinished after " ++ decimal steps ++ codes " steps"
 message ReadFault = codes "read fault"
 message NoMemory = codes "out of memory"
+message (Churn s) = summary_text s
 
 -- the line
 abbrev pub line_text : Line → List ℕ

@@ -3,13 +3,14 @@ ghost use Rattle.std.specs.Fmt.{decimal};
 ghost use Rattle.text_writer.specs.Sending.{Writes, outlet};
 ghost use Rattle.trace_grammar.specs.Spelling.{newline};
 ghost use Rattle.trace_grammar.specs.Why.{text_of as why_text};
-ghost use Rattle.trace_writing.specs.Message.{line_text};
+ghost use Rattle.trace_writing.specs.Message.{line_text, summary_text};
 
+use churn::Summary;
 use shen_base::Sink;
 use text_writer::{Block, WriteFault, write_all};
 use trace_grammar::Why;
 
-/// The one line that stands in the place of an answer.
+/// The one line that stands in the place of an answer, or the lines of a churn.
 #[derive(Clone, Copy, Debug, PartialEq, Eq)]
 pub enum Line {
     /// The words of the command line are outside their grammar: `bad words`.
@@ -24,6 +25,9 @@ pub enum Line {
     ReadFault,
     /// Memory was refused: `out of memory`.
     NoMemory,
+    /// What a run of the workload told: eight lines, `churn SEED COUNT`, `threads 3`, and then `commands`, `bad`, `full`,
+    /// `objects`, `words` and `sum`, each with its number.
+    Churn(Summary),
 }
 
 /// Writes the line to the sink. It takes no memory, and calls the sink at most once per byte. After `WriteFault` a front
@@ -39,6 +43,7 @@ pub fn write_line<K: Sink>(sink: &mut K, line: &Line) -> Result<(), WriteFault>
         Line::Unfinished { steps } => write_unfinished(sink, *steps),
         Line::ReadFault => write_all(sink, b"read fault\n"),
         Line::NoMemory => write_all(sink, b"out of memory\n"),
+        Line::Churn(summary) => write_churn(sink, *summary),
     }
 }
 
@@ -65,6 +70,32 @@ fn write_unfinished<K: Sink>(sink: &mut K, steps: u64) -> Result<(), WriteFault>
     block.put(sink, b"unfinished after ");
     block.put_number(sink, steps);
     block.put(sink, b" steps\n");
+    block.finish(sink)
+}
+
+// Writes the lines of a churn.
+fn write_churn<K: Sink>(sink: &mut K, told: Summary) -> Result<(), WriteFault>
+    ensures { Writes result (outlet (K.written sink.old) (K.faults sink.old) (K.calls sink.old))
+        (outlet (K.written sink.new) (K.faults sink.new) (K.calls sink.new)) (summary_text told ++ newline ∷ []) }
+{
+    let mut block = Block::new();
+    block.put(sink, b"churn ");
+    block.put_number(sink, told.seed);
+    block.put(sink, b" ");
+    block.put_number(sink, told.count);
+    block.put(sink, b"\nthreads 3\ncommands ");
+    block.put_number(sink, told.commands);
+    block.put(sink, b"\nbad ");
+    block.put_number(sink, told.bad);
+    block.put(sink, b"\nfull ");
+    block.put_number(sink, told.full);
+    block.put(sink, b"\nobjects ");
+    block.put_number(sink, told.objects);
+    block.put(sink, b"\nwords ");
+    block.put_number(sink, told.words);
+    block.put(sink, b"\nsum ");
+    block.put_number(sink, told.sum);
+    block.put(sink, b"\n");
     block.finish(sink)
 }
 

@@ -1,4 +1,5 @@
 use crate::{Line, WriteFault, write_line};
+use churn::Summary;
 use shen_base::MemorySink;
 use std::alloc::{AllocError, Global};
 use std::test::Fail;
@@ -11,7 +12,7 @@ fn written(
     piece: usize,
     failing: Vec<u64>,
 ) -> Result<(Vec<u8>, Result<(), WriteFault>), AllocError> {
-    let mut sink = match MemorySink::with_room(alloc, 100, piece.max(1), failing) {
+    let mut sink = match MemorySink::with_room(alloc, 200, piece.max(1), failing) {
         Ok(sink) => sink,
         Err(_) => return Err(AllocError),
     };
@@ -47,6 +48,19 @@ fn each_line_has_its_text(rt: HostRuntime) -> Result<(), Fail> {
         ),
         (Line::ReadFault, "read fault\n"),
         (Line::NoMemory, "out of memory\n"),
+        (
+            Line::Churn(Summary {
+                seed: 0,
+                count: 20_000,
+                commands: 1,
+                bad: 2,
+                full: 3,
+                objects: 4,
+                words: 5,
+                sum: 18_446_744_073_709_551_615,
+            }),
+            "churn 0 20000\nthreads 3\ncommands 1\nbad 2\nfull 3\nobjects 4\nwords 5\nsum 18446744073709551615\n",
+        ),
     ] {
         for piece in [1, 7, 8] {
             let (bytes, ending) = written(alloc, &line, piece, Vec::new(alloc))?;
