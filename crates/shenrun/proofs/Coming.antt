@@ -1,5 +1,5 @@
 -- The end of a run on threads: all machines are there, and idle.
-use Rattle.std.proofs.Common.{◌≡◌, ℕ, ◌+◌, ◌-◌, ◌<◌, ◌≤◌, ◌&&◌, Bool, true, false, List, [], length, map, Option, Some, None, refl, sym, ap, ◌∙◌, subst, arith, mod-lt}
+use Rattle.std.proofs.Common.{◌≡◌, ℕ, ◌+◌, ◌-◌, ◌<◌, ◌≤◌, ◌&&◌, true, List, length, Option, Some, None, refl, sym, ap, ◌∙◌, subst, arith, mod-lt}
 use Rattle.std.specs.Prelude.{◌%◌, nat_lt, nat_le, slice_get}
 use Rattle.std.specs.Option.{is_some}
 use Rattle.std.proofs.lemmas.Bool.{lt-ltb, false≢true}
@@ -7,11 +7,9 @@ use Rattle.std.proofs.lemmas.Bool.Decides.{nat_tests}
 use Rattle.heap_words.specs.declared.config.Config.{Config}
 use Rattle.heap_words.specs.declared.schedule.Item.{Item}
 use Rattle.heap_words.specs.Ranges.{seat_count}
-use Rattle.steps_base.specs.Steps.{Stage, Event, IsReached}
-use Rattle.shen_graph.specs.declared.order.Order.{Order}
-use Rattle.shen_graph.specs.Graph.{Graph}
+use Rattle.steps_base.specs.Steps.{Stage, IsReached}
 use Rattle.shen_graph.specs.GraphText.{Text, names_of, root_of}
-use Rattle.shen_graph.specs.History.{after, of_thread}
+use Rattle.shen_graph.specs.History.{Entry, after, of_thread}
 use Rattle.shen_graph.specs.History as history
 use Rattle.shen_graph.specs.Work as work
 use Rattle.heap_graph.specs.Shows as texts
@@ -24,7 +22,7 @@ use Rattle.step_core.specs.Machines.{is_resting}
 use Rattle.heap_machines.specs.Roles.{is_mutating}
 use Rattle.step_core.specs.Begins.{first_graph, reached, past}
 use Rattle.step_core.specs.Schedule.{Scripts, turn, turn_of}
-use Rattle.shen_core.specs.Calls.{HasCalled, AllHaveCalled}
+use Rattle.shen_core.specs.Calls.{AllHaveCalled}
 use Rattle.shen_core.specs.Progress.{Jobs, AreIdle}
 use Rattle.table_heap.specs.declared.heap.Heap.{Heap}
 use Rattle.table_heap.specs.declared.closed.Closed.{Closed}
@@ -38,7 +36,7 @@ use Rattle.trace_grammar.specs.Grammar.{Reads}
 use Rattle.trace_writing.specs.Answer.{answer_text}
 use Rattle.shenrun.specs.declared.parts.Part.{Part}
 use Rattle.shenrun.specs.Parts.{IsDone}
-use Rattle.shenrun.specs.Replayed.{IsRun}
+use Rattle.shenrun.specs.Replayed.{IsWhole, IsRun}
 use Rattle.shenrun.specs.Running.{HasCome}
 use Rattle.shenrun.proofs.Whole as ends
 
@@ -100,40 +98,47 @@ come_rest c scripts jobs end done n a below here =
     let is : called.actor ≡ a = let e = sym called.here ∙ here in cc in
     ap (λ (x : Actor). is_resting x.machine) (sym is) ∙ called.called.rest
 
+-- ---- the history
+
+module _ (c : Config) (scripts : Scripts) (jobs : Jobs) (end : Closed) (done : HasCome c scripts jobs end) where
+  leads : reached full_image c done.reached.events ≡ closed.stage_of end
+  leads = done.reached.ends
+
+  called : AllHaveCalled c scripts (reached full_image c done.reached.events)
+  called = subst (λ s. AllHaveCalled c scripts s) (sym leads) done.called
+
+  -- the history in which the scripts were called, and what it is
+  abbrev pub come_past : List Entry
+  come_past = past full_image c done.reached.events
+
+  pub come_whole : length scripts ≡ c.mutators → IsWhole c scripts done.reached.events
+  come_whole count = ends.whole c scripts done.reached.events count (subst (λ s. AreIdle c scripts s) (sym leads) done.idle) called
+
+  -- the work has its replies
+  pub come_told : (t : ℕ) → t < c.mutators → work.replies_of jobs t ≡ history.replies_of (of_thread come_past (t + 1))
+  come_told t below =
+      let did = called t below in
+      told t did.actor below did.here ∙ sym (ap history.replies_of (ends.entries_called c scripts done.reached.events t did))
+    where
+      told : (m : ℕ) (a : Actor) → m < c.mutators → slice_get (reached full_image c done.reached.events).machines m ≡ Some a → work.replies_of jobs m ≡ history.replies_of a.calls
+      told = subst (λ (s : Stage Actor). (m : ℕ) (a : Actor) → m < c.mutators → slice_get s.machines m ≡ Some a → work.replies_of jobs m ≡ history.replies_of a.calls) (sym leads) done.replies
+
 -- ---- the answer
 
 pub answered : (bytes : List ℕ) (c : Config) (scripts : Scripts) (items : List Item) (jobs : Jobs) (end : Closed) (text : Text)
-    → Reads bytes c scripts items → length scripts ≡ c.mutators → (done : HasCome c scripts jobs end) → length text.roots ≡ c.mutators → texts.ShowsGraph text c.mutators (after (first_graph c) (past full_image c done.reached.events))
+    → Reads bytes c scripts items → length scripts ≡ c.mutators → (done : HasCome c scripts jobs end) → length text.roots ≡ c.mutators → texts.ShowsGraph text c.mutators (after (first_graph c) (come_past c scripts jobs end done))
     → IsRun bytes (answer_text (length text.roots) (λ t. work.replies_of jobs (t - 1)) text.rows (root_of text))
 answered bytes c scripts items jobs end text reads count done roots shows = record {
   config = c;
   scripts = scripts;
   items = items;
   reads = reads;
-  events = events;
-  whole = ends.whole c scripts events count idle called;
-  text = record { names = names_of text; reach = shows.reach; text = ends.text_shown c.mutators jobs (past full_image c events) text roots shows replies };
+  events = done.reached.events;
+  whole = come_whole c scripts jobs end done count;
+  text = record { names = names_of text; reach = shows.reach; text = ends.text_shown c.mutators jobs (come_past c scripts jobs end done) text roots shows replies };
 }
   where
-    events : List (Event Order)
-    events = done.reached.events
-
-    leads : reached full_image c events ≡ closed.stage_of end
-    leads = done.reached.ends
-
-    idle : AreIdle c scripts (reached full_image c events)
-    idle = subst (λ s. AreIdle c scripts s) (sym leads) done.idle
-
-    called : AllHaveCalled c scripts (reached full_image c events)
-    called = subst (λ s. AllHaveCalled c scripts s) (sym leads) done.called
-
-    told : (t : ℕ) (a : Actor) → t < c.mutators → slice_get (reached full_image c events).machines t ≡ Some a → work.replies_of jobs t ≡ history.replies_of a.calls
-    told = subst (λ (s : Stage Actor). (t : ℕ) (a : Actor) → t < c.mutators → slice_get s.machines t ≡ Some a → work.replies_of jobs t ≡ history.replies_of a.calls) (sym leads) done.replies
-
-    replies : (t : ℕ) → 1 ≤ t → t ≤ c.mutators → work.replies_of jobs (t - 1) ≡ history.replies_of (of_thread (past full_image c events) t)
+    replies : (t : ℕ) → 1 ≤ t → t ≤ c.mutators → work.replies_of jobs (t - 1) ≡ history.replies_of (of_thread (come_past c scripts jobs end done) t)
     replies t low high =
-        let below : t - 1 < c.mutators = omega arith in
-        let did = called (t - 1) below in
         let back : t - 1 + 1 ≡ t = omega arith in
-        told (t - 1) did.actor below did.here
-        ∙ sym (ap history.replies_of (ap (of_thread (past full_image c events)) (sym back) ∙ ends.entries_called c scripts events (t - 1) did))
+        come_told c scripts jobs end done (t - 1) (omega arith) ∙ ap (λ n. history.replies_of (of_thread (come_past c scripts jobs end done) n)) back

@@ -1,5 +1,6 @@
--- Where the words ask for a replay or a run, a trace comes and nothing fails, the other statuses cannot be.
-use Rattle.std.proofs.Common.{◌≡◌, ◌⊎◌, inl, inr, ℕ, ◌≤◌, List, ◌++◌, length, Option, Some, None, sym, ap, subst, ◌∙◌, arith}
+-- Where the words ask for a replay or a run, a trace comes and nothing fails, the other statuses cannot be; nor can those of a
+-- trace where they ask for a churn.
+use Rattle.std.proofs.Common.{◌≡◌, ◌⊎◌, inl, inr, ℕ, ◌≤◌, List, ◌++◌, length, Option, Some, None, refl, sym, ap, subst, ◌∙◌, arith}
 use Rattle.std.specs.Io.KnownBytes.{Consumes, IsAtEnd}
 use Rattle.std.proofs.lemmas.List.{length-append, append-nil}
 use Rattle.shen_base.specs.Count.{Rose}
@@ -12,8 +13,9 @@ use Rattle.trace_writing.specs.Message.{line_text}
 use Rattle.trace_writing.specs.declared.message.Line.TheVariants.{TooLong}
 use Rattle.shenrun.specs.declared.status.Status.{Status}
 use Rattle.shenrun.specs.declared.status.Status.TheVariants.{Ok, BadWords, BadTrace, Unfinished, ReadFault, WriteFault, NoMemory}
-use Rattle.shenrun.specs.Words.{Ask}
+use Rattle.shenrun.specs.Words.{AskTrace, AskChurn}
 use Rattle.shenrun.specs.Answered.{Input, Output, IsRefused, IsTooLong, IsAnswered, IsAnswer}
+use Rattle.shenrun.proofs.Words.{churn_reads_none}
 
 -- what came from known bytes to their end is these bytes
 came_all : (bytes other : List ℕ) (before after : Option (List ℕ)) → before ≡ Some bytes → Came before after other → other ≡ bytes
@@ -39,12 +41,22 @@ no_bad_trace input out bytes config scripts items told reads (inr long) =
     absurd (omega (arith, came_short bytes long.0.0 input.before input.after told long.0.1, long.0.2, reads.short))
 
 pub complete : (words : List (List ℕ)) (input : Input) (output : Output) (status : Status) → IsAnswered words input output status
-    → (bytes : List ℕ) (config : Config) (scripts : List (List Command)) (items : List Item) → Ask words → input.before ≡ Some bytes → Reads bytes config scripts items
+    → (bytes : List ℕ) (config : Config) (scripts : List (List Command)) (items : List Item) → AskTrace words → input.before ≡ Some bytes → Reads bytes config scripts items
     → (Rose input.faults_before input.faults_after → ⊥) → (Rose output.before.faults output.after.faults → ⊥) → IsAnswer words status
 complete words input output Ok answered bytes config scripts items asked told reads read_fine written_fine = tt
-complete words input output BadWords answered bytes config scripts items asked told reads read_fine written_fine = answered.1.0 asked
+complete words input output BadWords answered bytes config scripts items asked told reads read_fine written_fine = answered.1.0 (inl asked)
 complete words input output BadTrace answered bytes config scripts items asked told reads read_fine written_fine = no_bad_trace input answered.0 bytes config scripts items told reads answered.1.1
 complete words input output Unfinished answered bytes config scripts items asked told reads read_fine written_fine = (answered.1.0, answered.1.1)
 complete words input output ReadFault answered bytes config scripts items asked told reads read_fine written_fine = read_fine answered.1.1
 complete words input output WriteFault answered bytes config scripts items asked told reads read_fine written_fine = written_fine answered.0
 complete words input output NoMemory answered bytes config scripts items asked told reads read_fine written_fine = tt
+
+pub churned : (words : List (List ℕ)) (input : Input) (output : Output) (status : Status) → IsAnswered words input output status → AskChurn words → (Rose output.before.faults output.after.faults → ⊥)
+    → (status ≡ Ok) ⊎ (status ≡ NoMemory)
+churned words input output Ok answered asked written_fine = inl refl
+churned words input output BadWords answered asked written_fine = absurd (answered.1.0 (inr asked))
+churned words input output BadTrace answered asked written_fine = absurd (churn_reads_none words asked answered.1.0)
+churned words input output Unfinished answered asked written_fine = absurd (churn_reads_none words asked (inl (answered.1.0, answered.1.1)))
+churned words input output ReadFault answered asked written_fine = absurd (churn_reads_none words asked answered.1.0)
+churned words input output WriteFault answered asked written_fine = absurd (written_fine answered.0)
+churned words input output NoMemory answered asked written_fine = inr refl

@@ -9,23 +9,21 @@ use Rattle.std.proofs.lemmas.Bool.Decides.{nat_tests}
 use Rattle.heap_words.specs.declared.config.Config.{Config}
 use Rattle.heap_words.specs.Ranges.{seat_count}
 use Rattle.shen_graph.specs.declared.command.Command.{Command}
-use Rattle.shen_graph.specs.Work.{Progress, HasScript, progress_of, script_in, begun, opened, picked, parted, left_over, is_in_part}
+use Rattle.shen_graph.specs.Work.{Progress, progress_of, begun, opened, picked, parted, left_over, is_in_part}
 use Rattle.shen_graph.proofs.Parts.{same_work, progress_of-picked, progress_of-parted, progress_of-left_over, progress_of-opened}
-use Rattle.shared_steps.specs.Views as views
 use Rattle.shared_steps.specs.Views.{machine_of, whole, is_dealt_to, dealt_to}
 use Rattle.shared_steps.proofs.Shown.{machine_of-whole, machine_of-picked}
-use Rattle.step_core.specs.Actor.{Actor}
 use Rattle.step_core.specs.Schedule.{Scripts}
 use Rattle.step_core.specs.Schedule as schedule
 use Rattle.shen_core.specs.Progress.{IsRunnable}
 use Rattle.table_heap.specs.declared.bundle.Bundle.{Bundle}
 use Rattle.table_heap.specs.declared.heap.Heap.{Heap}
 use Rattle.table_heap.specs.Core.{heap_opening, nobody}
-use Rattle.table_heap.specs.State.{config_of, view_of, IsFresh}
+use Rattle.table_heap.specs.State.{config_of, IsFresh}
 use Rattle.table_heap.specs.Running.{Jobs}
 use Rattle.heap_machines.proofs.Openings.{first_count}
 use Rattle.table_heap.proofs.Starting.{fresh_can_start}
-use Rattle.shenrun.specs.Parts.{is_dealt, IsReady, CanBeDealt}
+use Rattle.shenrun.specs.Parts.{IsReady, CanBeDealt}
 
 -- ---- tests and options
 

@@ -8,3 +8,4 @@ pub mod PartLaws
 pub mod Dealing
 pub mod Coming
 pub mod Loops
+pub mod Churned

@@ -10,8 +10,9 @@ use Rattle.trace_writing.specs.Message.{line_text}
 use Rattle.trace_writing.specs.declared.message.Line.TheVariants as line
 use Rattle.shenrun.specs.declared.status.Status.{Status}
 use Rattle.shenrun.specs.declared.status.Status.TheVariants.{Ok, BadWords, BadTrace, Unfinished, ReadFault, WriteFault, NoMemory}
-use Rattle.shenrun.specs.Words.{IsReplay, AskReplay, AskRun, Ask}
+use Rattle.shenrun.specs.Words.{IsReplay, AskReplay, AskRun, AskTrace, IsChurn, Ask}
 use Rattle.shenrun.specs.Replayed.{IsReplayed, IsRun, IsUnfinished}
+use Rattle.shenrun.specs.Churned.{IsChurned}
 
 -- all that the source had came, it is refused, and the line that is written says where and why
 abbrev pub IsRefused : (before after : Option (List ℕ)) → List ℕ → Type 0
@@ -31,14 +32,15 @@ pub record Input : Type 0 where
 -- The texts that go with each status but that of a write fault.
 abbrev pub Allows : List (List ℕ) → Input → Status → List ℕ → Type 0
 Allows words input Ok out = ((steps : ℕ) × IsReplay words steps × ((bytes : List ℕ) × Came input.before input.after bytes × IsReplayed bytes steps out))
-    ⊎ (AskRun words × ((bytes : List ℕ) × Came input.before input.after bytes × IsRun bytes out))
+    ⊎ ((AskRun words × ((bytes : List ℕ) × Came input.before input.after bytes × IsRun bytes out))
+    ⊎ ((seed : ℕ) × ((count : ℕ) × IsChurn words seed count × IsChurned seed count out)))
 Allows words input BadWords out = (Ask words → ⊥) × (out ≡ line_text line.BadWords)
-Allows words input BadTrace out = Ask words
+Allows words input BadTrace out = AskTrace words
     × (IsRefused input.before input.after out
     ⊎ (IsTooLong input.before input.after × (out ≡ line_text line.TooLong)))
 Allows words input Unfinished out = (steps : ℕ) × IsReplay words steps × ((bytes : List ℕ) × Came input.before input.after bytes × IsUnfinished bytes steps)
     × (out ≡ line_text (line.Unfinished steps))
-Allows words input ReadFault out = Ask words × Rose input.faults_before input.faults_after × (out ≡ line_text line.ReadFault)
+Allows words input ReadFault out = AskTrace words × Rose input.faults_before input.faults_after × (out ≡ line_text line.ReadFault)
 Allows words input WriteFault out = ⊥
 Allows words input NoMemory out = Ask words × (out ≡ line_text line.NoMemory)
 

@@ -1,5 +1,6 @@
 pub mod Words
 pub mod Replayed
+pub mod Churned
 pub mod Running
 pub mod Answered
 pub mod Number

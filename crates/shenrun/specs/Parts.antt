@@ -1,7 +1,6 @@
 -- Parts of a heap's machines, each with the work for its mutators.
-use Rattle.std.specs.Prelude.{ℕ, ◌≡◌, ◌+◌, ◌-◌, ◌<◌, ◌%◌, ◌&&◌, Bool, nat_lt, nat_le, List, length, All, Some, slice_get, MatchBool}
+use Rattle.std.specs.Prelude.{ℕ, ◌≡◌, ◌+◌, ◌%◌, ◌&&◌, Bool, nat_lt, nat_le, List, length, All, Some, slice_get, MatchBool}
 use Rattle.std.specs.Option.{is_some}
-use Rattle.heap_words.specs.declared.config.Config.{Config}
 use Rattle.heap_words.specs.Ranges.{seat_count}
 use Rattle.shared_steps.specs.Views.{machine_of, whole, dealt_to}
 use Rattle.shen_graph.specs.Work as work

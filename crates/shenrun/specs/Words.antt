@@ -1,5 +1,5 @@
 -- The words of the command line.
-use Rattle.std.specs.Prelude.{ℕ, ◌≡◌, ◌⊎◌, List, [], ◌∷◌, codes}
+use Rattle.std.specs.Prelude.{ℕ, ◌≡◌, ◌≤◌, ◌⊎◌, List, [], ◌∷◌, codes}
 use Rattle.std.specs.Fmt.{decimal}
 use Rattle.trace_grammar.specs.Spelling.{IsUpTo}
 
@@ -32,9 +32,29 @@ IsRunBy words workers =
 abbrev pub AskRun : List (List ℕ) → Type 0
 AskRun words = (workers : ℕ) × IsRunBy words workers
 
--- the words ask for either
+-- the words ask for either, and so for a trace
+abbrev pub AskTrace : List (List ℕ) → Type 0
+AskTrace words = AskReplay words ⊎ AskRun words
+
+-- the largest number from which a churn is made
+abbrev pub most_seed : ℕ
+most_seed = 1000000
+
+-- the most rounds of each thread of a churn
+abbrev pub most_rounds : ℕ
+most_rounds = 20000
+
+-- the words ask for a churn, which is made from the seed and has so many rounds
+abbrev pub IsChurn : List (List ℕ) → (seed count : ℕ) → Type 0
+IsChurn words seed count = (words ≡ codes "churn" ∷ decimal seed ∷ decimal count ∷ []) × (seed ≤ most_seed) × IsUpTo most_rounds count
+
+-- the words ask for a churn
+abbrev pub AskChurn : List (List ℕ) → Type 0
+AskChurn words = (seed : ℕ) × ((count : ℕ) × IsChurn words seed count)
+
+-- the words ask for anything
 abbrev pub Ask : List (List ℕ) → Type 0
-Ask words = AskReplay words ⊎ AskRun words
+Ask words = AskTrace words ⊎ AskChurn words
 
 -- the first word is this one
 abbrev pub BeginWith : List ℕ → List (List ℕ) → Type 0

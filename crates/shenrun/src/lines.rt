@@ -1,4 +1,4 @@
-//! What both commands read and write: a trace comes in, and an answer or one line goes out.
+//! What the commands read and write: a trace comes in, and an answer or one line goes out.
 ghost use Rattle.std.specs.Prelude.{◌≡◌, ◌<◌, ℕ, List, IfOk, IfErr, OnOk, length};
 ghost use Rattle.shen_graph.specs.Work.{HasScript};
 ghost use Rattle.text_writer.specs.Sending.{outlet};
@@ -6,7 +6,7 @@ ghost use Rattle.trace_grammar.specs.Grammar.{Came, Reads};
 ghost use Rattle.trace_writing.specs.Message.{line_text};
 ghost use Rattle.trace_writing.specs.Answer.{text_of};
 ghost use Rattle.shenrun.specs.Ends.{EndsWith};
-ghost use Rattle.shenrun.specs.Words.{Ask};
+ghost use Rattle.shenrun.specs.Words.{AskTrace};
 ghost use Rattle.shenrun.specs.Answered.{IsAnswered};
 
 use crate::status::Status;
@@ -14,7 +14,7 @@ use shen_base::{Sink, Source};
 use std::alloc::Global;
 use trace_text::{Answer, Line, Trace, TraceFault, read_trace, write_answer, write_line};
 
-/// Writes the one line of a status.
+/// Writes the one line of a status, or the lines of a churn.
 pub fn say<K: Sink>(sink: &mut K, line: Line, status: Status) -> Status
     ensures { EndsWith (line_text line) status result (outlet (K.written sink.old) (K.faults sink.old) (K.calls sink.old))
         (outlet (K.written sink.new) (K.faults sink.new) (K.calls sink.new)) }
@@ -45,7 +45,7 @@ pub fn taken<S: Source, K: Sink>(
 ) -> Result<Trace, Status>
     ensures ok { IfOk result (λ trace. (bytes : List ℕ) × Came (S.left source.old) (S.left source.new) bytes × Reads bytes trace.config trace.scripts trace.schedule) }
     ensures unused { OnOk result (sink.new ≡ sink.old) }
-    ensures refused { IfErr result (λ status. (words : List (List ℕ)) → Ask words → IsAnswered words
+    ensures refused { IfErr result (λ status. (words : List (List ℕ)) → AskTrace words → IsAnswered words
         (record { before = S.left source.old; after = S.left source.new; faults_before = S.faults source.old; faults_after = S.faults source.new })
         (record { before = outlet (K.written sink.old) (K.faults sink.old) (K.calls sink.old); after = outlet (K.written sink.new) (K.faults sink.new) (K.calls sink.new) }) status) }
 {

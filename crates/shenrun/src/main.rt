@@ -1,6 +1,7 @@
 //! `shenrun` runs traces of commands on a region heap.
 #![tactic(auto)]
 
+mod churns;
 mod lines;
 mod parts;
 mod replay;

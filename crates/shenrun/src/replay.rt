@@ -16,7 +16,7 @@ ghost use Rattle.shen_core.specs.Progress.{AllRest};
 ghost use Rattle.text_writer.specs.Sending.{outlet};
 ghost use Rattle.trace_grammar.specs.Grammar.{Came, Reads};
 ghost use Rattle.trace_writing.specs.Answer.{text_of};
-ghost use Rattle.shenrun.specs.Words.{IsReplay, AskReplay, Ask, BeginWith};
+ghost use Rattle.shenrun.specs.Words.{IsReplay, AskReplay, AskTrace, BeginWith};
 ghost use Rattle.shenrun.specs.Replayed.{IsReplayed, IsUnfinished};
 ghost use Rattle.shenrun.specs.Running.{HasFinished};
 ghost use Rattle.shenrun.specs.Answered.{IsAnswered, IsAnswer};
@@ -123,7 +123,8 @@ fn replay<S: Source, K: Sink>(alloc: Global, steps: u64, source: &mut S, sink: &
     give(sink, &answer)
 }
 
-/// Runs the program on words of the command line that do not begin with `run`; the words are without the program's name.
+/// Runs the program on words of the command line that begin neither with `run` nor with `churn`; the words are without the
+/// program's name.
 /// `replay` reads a trace from the source to its end, runs its schedule and then rounds on a heap that collects in pauses, and
 /// writes the replies and the final graph to the sink; with `--steps N` it makes N steps at most. Any other words are refused
 /// before anything is read. Where there is no answer one line says why; if that cannot be written either, the status is
@@ -134,7 +135,8 @@ pub fn alone<S: Source, K: Sink>(
     source: &mut S,
     sink: &mut K,
 ) -> Status
-    requires { BeginWith (codes "run") (map string_bytes words.now) → ⊥ }
+    requires run { BeginWith (codes "run") (map string_bytes words.now) → ⊥ }
+    requires churn { BeginWith (codes "churn") (map string_bytes words.now) → ⊥ }
 
     // The replies and the graph that are written are those of one legal history, that of exactly the events of the schedule
     // and of the rounds after it, in which each thread's commands are its script. It is a history of a graph that never
@@ -151,12 +153,12 @@ pub fn alone<S: Source, K: Sink>(
 
     // Where the source has the bytes of a trace, and nothing fails, there is an answer, or the steps are used up, or memory
     // is refused.
-    ensures complete { (bytes : List ℕ) (config : Sizes) (scripts : List (List Command)) (items : List Item) → Ask (map string_bytes words.now)
+    ensures complete { (bytes : List ℕ) (config : Sizes) (scripts : List (List Command)) (items : List Item) → AskTrace (map string_bytes words.now)
         → S.left source.old ≡ Some bytes → Reads bytes config scripts items
         → (Rose (S.faults source.old) (S.faults source.new) → ⊥) → (Rose (K.faults sink.old) (K.faults sink.new) → ⊥) → IsAnswer (map string_bytes words.now) result }
 
-    // Words that are refused are refused before anything is read.
-    ensures unread { (Ask (map string_bytes words.now) → ⊥) → source.new ≡ source.old }
+    // Other words are refused before anything is read.
+    ensures unread { (AskTrace (map string_bytes words.now) → ⊥) → source.new ≡ source.old }
 {
     match steps_of(words) {
         Some(steps) => replay(alloc, steps, source, sink),

@@ -1,11 +1,12 @@
 //! `run`: the scripts of a trace on a heap that threads share.
-ghost use Rattle.std.specs.Prelude.{◌≡◌, ◌≤◌, ◌<◌, ℕ, List, IfOk, IfErr, MatchOption, length, map};
+ghost use Rattle.std.specs.Prelude.{◌≡◌, ◌≤◌, ◌<◌, ℕ, List, IfOk, IfErr, MatchOption, All, length, map};
 ghost use Rattle.std.specs.String.{string_bytes};
 ghost use Rattle.steps_base.specs.Steps.{Event, go};
 ghost use Rattle.shen_graph.specs.declared.order.Order.{Order};
 ghost use Rattle.shen_graph.specs.Work.{HasScript};
 ghost use Rattle.heap_graph.specs.Shows.{ShowsGraph};
 ghost use Rattle.pause_laws.specs.Image.{full_image};
+ghost use Rattle.shen_core.specs.Progress.{IsRunnable};
 ghost use Rattle.step_core.specs.Begins.{Run, ending, graph_after};
 ghost use Rattle.text_writer.specs.Sending.{outlet};
 ghost use Rattle.trace_grammar.specs.Grammar.{Reads};
@@ -22,7 +23,7 @@ use crate::status::Status;
 use crate::threads::run_parts;
 use heap_words::{Config, NoMemory};
 use shen_base::{Sink, Source};
-use shen_graph::{GraphText, Work};
+use shen_graph::{GraphText, Script, Work};
 use std::alloc::Global;
 use std::sync::Wait;
 use std::thread::Threads;
@@ -30,7 +31,7 @@ use table_heap::{Closed, Gate, Heap};
 use trace_text::{Answer, Line, Trace, number_in};
 
 /// The most machines that a heap has, and so the most bundles.
-const MOST_MACHINES: u64 = 12;
+pub const MOST_MACHINES: u64 = 12;
 
 /// The bundles that a run may make, where the words ask for one: `run`, or `run --workers K`.
 pub fn workers_of(words: &[String]) -> Option<u64>
@@ -45,30 +46,32 @@ pub fn workers_of(words: &[String]) -> Option<u64>
     }
 }
 
-/// Runs the scripts of a trace on a heap of their own, in so many bundles at most, until all machines are idle.
-fn run_scripts<R: Threads + Wait + Sync, G: Gate>(
+/// Runs scripts, one for each mutator, on a heap of their own, in so many bundles at most, until all machines are idle.
+pub fn run_scripts<R: Threads + Wait + Sync, G: Gate>(
     rt: &R,
     alloc: Global,
-    trace: Trace,
+    config: Config,
+    scripts: Vec<Script>,
     workers: u64,
     gate: &G,
 ) -> Result<(Work, Closed), NoMemory>
     requires workers { 1 ≤ workers }
-    requires reads { (bytes : List ℕ) × Reads bytes trace.config trace.scripts trace.schedule }
-    ensures { IfOk result (λ x. HasCome trace.config trace.scripts x.0 x.1) }
+    requires count { length scripts.items ≡ config.mutators }
+    requires runnable { All IsRunnable scripts.items }
+    ensures { IfOk result (λ x. HasCome config scripts.items x.0 x.1) }
 {
-    let bundles = trace.config.seats().min(workers as usize);
-    let Ok(work) = Work::of(alloc, trace.scripts.into_vec()) else {
+    let bundles = config.seats().min(workers as usize);
+    let Ok(work) = Work::of(alloc, scripts) else {
         return Err(NoMemory);
     };
-    let (heap, bundles) = Heap::open(alloc, trace.config, bundles)?;
+    let (heap, bundles) = Heap::open(alloc, config, bundles)?;
     let parts = dealt(alloc, &heap, work, bundles)?;
     let Part { bundle, work } = run_parts(rt, alloc, &heap, gate, parts)?;
     Ok((work, heap.close(bundle)))
 }
 
 /// The graph that a heap stands for, as it is to be written.
-fn graph_of(alloc: Global, config: Config, heap: &mut Closed) -> Result<GraphText, NoMemory>
+pub fn graph_of(alloc: Global, config: Config, heap: &mut Closed) -> Result<GraphText, NoMemory>
     requires config { config_of heap.old ≡ config }
     requires rest { AllRest heap.old }
     ensures shows { IfOk result (λ text. (run : Run config) → ending full_image config run ≡ stage_of heap.old → ShowsGraph text config.mutators (graph_after full_image config run)) }
@@ -95,7 +98,8 @@ fn answer_to<R: Threads + Wait + Sync, G: Gate>(
     ensures scripts { IfOk result (λ answer. (mutator : ℕ) → mutator < length answer.graph.roots → HasScript answer.replies mutator) }
 {
     let config = trace.config;
-    let (replies, mut heap) = run_scripts(rt, alloc, trace, workers, gate)?;
+    let scripts = trace.scripts.into_vec();
+    let (replies, mut heap) = run_scripts(rt, alloc, config, scripts, workers, gate)?;
     let graph = graph_of(alloc, config, &mut heap)?;
     Ok(Answer { replies, graph })
 }

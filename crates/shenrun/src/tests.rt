@@ -727,7 +727,7 @@ fn a_full_sink_has_a_front(rt: HostRuntime) -> Result<(), Fail> {
 
 #[test]
 fn other_words_are_refused(rt: HostRuntime) -> Result<(), Fail> {
-    let lists: [&[&str]; 17] = [
+    let lists: [&[&str]; 30] = [
         &[],
         &["run", "run"],
         &["run", "--workers"],
@@ -745,6 +745,19 @@ fn other_words_are_refused(rt: HostRuntime) -> Result<(), Fail> {
         &["replay", "--steps", "4000000001"],
         &["replay", "--steps", "5 "],
         &["replay", "--steps", "5", "--steps", "5"],
+        &["churn"],
+        &["churn", "1"],
+        &["churn", "0", "0"],
+        &["churn", "0", "20001"],
+        &["churn", "1000001", "1"],
+        &["churn", "00", "1"],
+        &["churn", "01", "1"],
+        &["churn", "0", "01"],
+        &["churn", "-1", "1"],
+        &["churn", "0", "1", "1"],
+        &["churn", "", "1"],
+        &["churn", "18446744073709551616", "1"],
+        &["Churn", "0", "1"],
     ];
     for words in lists {
         let (status, written) = outcome(&rt, rt.alloc(), words, STORED.as_bytes(), 8, &[1], &[])?;
@@ -808,12 +821,43 @@ fn runs_are_answered(rt: HostRuntime) -> Result<(), Fail> {
     Ok(())
 }
 
+/// Words that ask for a churn, and what is told of it.
+const CHURNS: &[(&[&str], &str)] = &[
+    (
+        &["churn", "0", "1"],
+        "churn 0 1\nthreads 3\ncommands 30\nbad 0\nfull 0\nobjects 7\nwords 88\nsum 3\n",
+    ),
+    (
+        &["churn", "1000000", "1"],
+        "churn 1000000 1\nthreads 3\ncommands 30\nbad 0\nfull 0\nobjects 7\nwords 88\nsum 3000003\n",
+    ),
+    (
+        &["churn", "7", "200"],
+        "churn 7 200\nthreads 3\ncommands 4806\nbad 0\nfull 0\nobjects 52\nwords 508\nsum 64500\n",
+    ),
+];
+
+/// A churn reads nothing: the first call of the source would fail.
+#[test]
+fn churns_are_summed_up(rt: HostRuntime) -> Result<(), Fail> {
+    for (words, answer) in CHURNS {
+        let (status, written) = outcome(&rt, rt.alloc(), words, b"", 8, &[1], &[])?;
+        assert_eq!(rt; written.as_slice(), answer.as_bytes());
+        assert_eq!(rt; status, Status::Ok);
+    }
+    let (status, written) = outcome(&rt, rt.alloc(), &["churn", "0", "1"], b"", 8, &[], &[2])?;
+    assert_eq!(rt; status, Status::WriteFault);
+    assert_eq!(rt; written.as_slice(), b"churn 0 ".as_slice());
+    Ok(())
+}
+
 /// A gate that holds machine 0 in its first pass until machine 1 has passed so often. It notes where that does not come about.
 #[derive(Drop)]
 struct Held {
     wanted: u64,
     first: AtomicU64,
     second: AtomicU64,
+    third: AtomicU64,
     late: AtomicBool,
 }
 
@@ -823,6 +867,7 @@ impl Held {
             wanted,
             first: AtomicU64::new(0),
             second: AtomicU64::new(0),
+            third: AtomicU64::new(0),
             late: AtomicBool::new(false),
         }
     }
@@ -843,6 +888,9 @@ impl Gate for Held {
         if number == 1 {
             self.second.fetch_add(1, Ordering::SeqCst);
         }
+        if number == 2 {
+            self.third.fetch_add(1, Ordering::SeqCst);
+        }
         if number == 0 && self.first.fetch_add(1, Ordering::SeqCst) == 0 {
             self.hold();
         }
@@ -861,6 +909,18 @@ fn gate_two_threads(rt: HostRuntime) -> Result<(), Fail> {
     assert!(rt; !gate.late.load(Ordering::SeqCst));
     assert!(rt; gate.first.load(Ordering::SeqCst) >= 18);
     assert!(rt; gate.second.load(Ordering::SeqCst) >= 18);
+    let gate = Held::until(1);
+    let words = ["churn", "7", "10"];
+    let (status, written) = outcome_at(&rt, rt.alloc(), &words, b"", 64, &[], &[], &gate)?;
+    assert_eq!(rt; status, Status::Ok);
+    assert_eq!(rt;
+        written.as_slice(),
+        b"churn 7 10\nthreads 3\ncommands 246\nbad 0\nfull 0\nobjects 34\nwords 328\nsum 375\n".as_slice()
+    );
+    assert!(rt; !gate.late.load(Ordering::SeqCst));
+    assert!(rt; gate.first.load(Ordering::SeqCst) >= 492);
+    assert!(rt; gate.second.load(Ordering::SeqCst) >= 492);
+    assert!(rt; gate.third.load(Ordering::SeqCst) >= 492);
     Ok(())
 }
 

@@ -1,5 +1,5 @@
 //! The top call: words and a trace in, an answer or one line out.
-ghost use Rattle.std.specs.Prelude.{◌≡◌, ◌⊎◌, ℕ, List, Some, MatchBool, codes, map};
+ghost use Rattle.std.specs.Prelude.{◌≡◌, ◌⊎◌, ℕ, List, Some, MatchBool, map};
 ghost use Rattle.std.specs.String.{string_bytes};
 ghost use Rattle.std.specs.Io.KnownBytes.{Appends};
 ghost use Rattle.shen_base.specs.Count.{Rose};
@@ -8,10 +8,12 @@ ghost use Rattle.heap_words.specs.declared.schedule.Item.{Item};
 ghost use Rattle.shen_graph.specs.declared.command.Command.{Command};
 ghost use Rattle.text_writer.specs.Sending.{outlet};
 ghost use Rattle.trace_grammar.specs.Grammar.{Came, Reads};
-ghost use Rattle.shenrun.specs.Words.{IsReplay, AskRun, Ask, BeginWith};
+ghost use Rattle.shenrun.specs.Words.{IsReplay, AskRun, AskTrace, IsChurn, AskChurn, BeginWith};
 ghost use Rattle.shenrun.specs.Replayed.{IsReplayed, IsRun};
+ghost use Rattle.shenrun.specs.Churned.{IsChurned};
 ghost use Rattle.shenrun.specs.Answered.{IsAnswered, IsAnswer};
 
+use crate::churns::{churn, workload_of};
 use crate::lines::say;
 use crate::replay::alone;
 use crate::runs::{run, workers_of};
@@ -23,12 +25,12 @@ use std::thread::Threads;
 use table_heap::Gate;
 use trace_text::Line;
 
-// Whether the first word is `run`.
-fn begins_with_run(words: &[String]) -> bool
-    ensures { MatchBool result (BeginWith (codes "run") (map string_bytes words.now)) (BeginWith (codes "run") (map string_bytes words.now) → ⊥) }
+// Whether this word is the first one.
+fn begin_with(first: &str, words: &[String]) -> bool
+    ensures { MatchBool result (BeginWith first.now (map string_bytes words.now)) (BeginWith first.now (map string_bytes words.now) → ⊥) }
 {
     match words {
-        [word, ..] => word.as_str() == "run",
+        [word, ..] => word.as_str() == first,
         [] => false,
     }
 }
@@ -37,9 +39,10 @@ fn begins_with_run(words: &[String]) -> bool
 /// from the source to its end, run it on a heap that collects in pauses, and write the replies and the final graph to the
 /// sink. `replay` makes the steps of the schedule and then of rounds on the caller's thread; with `--steps N` it makes N steps
 /// at most. `run` gives each machine a thread of its own, and takes no notice of the schedule; with `--workers K` the machines are
-/// dealt to K threads at most, of which the caller's is one. Each step of a machine passes the gate there. Any other words are refused
-/// before anything is read. Where there is no answer one line says why; if that cannot be written either, the status is
-/// `WriteFault`.
+/// dealt to K threads at most, of which the caller's is one. `churn SEED COUNT` reads nothing: it makes the scripts of three
+/// threads from the two numbers, runs them as `run` does, and writes what is told of the run in eight lines. Each step of a
+/// machine passes the gate there. Any other words are refused before anything is read. Where there is no answer one line says
+/// why; if that cannot be written either, the status is `WriteFault`.
 pub fn shenrun<R: Threads + Wait + Sync, S: Source, K: Sink, G: Gate>(
     rt: &R,
     alloc: Global,
@@ -52,11 +55,14 @@ pub fn shenrun<R: Threads + Wait + Sync, S: Source, K: Sink, G: Gate>(
     // script. Of a replay it is that of exactly the events of the schedule and of the rounds after it; of a run that of
     // some events, after which all machines are idle. It is a history of a graph that never moves or frees an object,
     // whatever pauses collect; and it has an allocation that was refused only where live objects and the other threads'
-    // allocations that were not answered yet crowded the regions.
+    // allocations that were not answered yet crowded the regions. Of a churn the eight lines are those of the history in
+    // which its threads run one after the other and no allocation is refused, whatever order they ran in.
     ensures headline { result ≡ Status.Ok → ((steps : ℕ) × IsReplay (map string_bytes words.now) steps × ((bytes : List ℕ) × ((out : List ℕ)
         × Came (S.left source.old) (S.left source.new) bytes × IsReplayed bytes steps out × Appends (K.written sink.old) (K.written sink.new) out)))
-        ⊎ (AskRun (map string_bytes words.now) × ((bytes : List ℕ) × ((out : List ℕ)
-        × Came (S.left source.old) (S.left source.new) bytes × IsRun bytes out × Appends (K.written sink.old) (K.written sink.new) out))) }
+        ⊎ ((AskRun (map string_bytes words.now) × ((bytes : List ℕ) × ((out : List ℕ)
+        × Came (S.left source.old) (S.left source.new) bytes × IsRun bytes out × Appends (K.written sink.old) (K.written sink.new) out)))
+        ⊎ ((seed : ℕ) × ((count : ℕ) × IsChurn (map string_bytes words.now) seed count × ((out : List ℕ)
+        × IsChurned seed count out × Appends (K.written sink.old) (K.written sink.new) out)))) }
 
     // What each status says of the words, of what came and of what was written; and that the sink was called at most once for
     // each byte of the text.
@@ -64,18 +70,26 @@ pub fn shenrun<R: Threads + Wait + Sync, S: Source, K: Sink, G: Gate>(
         (record { before = S.left source.old; after = S.left source.new; faults_before = S.faults source.old; faults_after = S.faults source.new })
         (record { before = outlet (K.written sink.old) (K.faults sink.old) (K.calls sink.old); after = outlet (K.written sink.new) (K.faults sink.new) (K.calls sink.new) }) result }
 
-    // Where the source has the bytes of a trace, and nothing fails, there is an answer, or the steps are used up, or memory
+    // Where a trace is asked for, the source has the bytes of one, and nothing fails, there is an answer, or the steps are used up, or memory
     // is refused.
-    ensures complete { (bytes : List ℕ) (config : Sizes) (scripts : List (List Command)) (items : List Item) → Ask (map string_bytes words.now)
+    ensures complete { (bytes : List ℕ) (config : Sizes) (scripts : List (List Command)) (items : List Item) → AskTrace (map string_bytes words.now)
         → S.left source.old ≡ Some bytes → Reads bytes config scripts items
         → (Rose (S.faults source.old) (S.faults source.new) → ⊥) → (Rose (K.faults sink.old) (K.faults sink.new) → ⊥) → IsAnswer (map string_bytes words.now) result }
 
-    // Words that are refused are refused before anything is read.
-    ensures unread { (Ask (map string_bytes words.now) → ⊥) → source.new ≡ source.old }
+    // Where a churn is asked for and the sink does not fail, there is an answer, or memory is refused.
+    ensures churned { AskChurn (map string_bytes words.now) → (Rose (K.faults sink.old) (K.faults sink.new) → ⊥) → (result ≡ Status.Ok) ⊎ (result ≡ Status.NoMemory) }
+
+    // A churn reads nothing, and other words are refused before anything is read.
+    ensures unread { (AskTrace (map string_bytes words.now) → ⊥) → source.new ≡ source.old }
 {
-    match workers_of(words) {
-        Some(workers) => run(rt, alloc, workers, source, sink, gate),
-        None if begins_with_run(words) => say(sink, Line::BadWords, Status::BadWords),
-        None => alone(alloc, words, source, sink),
+    if let Some(workers) = workers_of(words) {
+        return run(rt, alloc, workers, source, sink, gate);
     }
+    if let Some(workload) = workload_of(words) {
+        return churn(rt, alloc, workload, sink, gate);
+    }
+    if begin_with("run", words) || begin_with("churn", words) {
+        return say(sink, Line::BadWords, Status::BadWords);
+    }
+    alone(alloc, words, source, sink)
 }

@@ -24,4 +24,4 @@ returns-in-Err-ReadFault-clause-refused g c = λ words asked.
 
 pub returns-in-Err-NoMemory-clause-refused : goal.returns-in-Err-NoMemory-clause-refused
 returns-in-Err-NoMemory-clause-refused g c = λ words asked.
-    said words _ _ (line_text line.NoMemory) NoMemory c.say-in-Err-NoMemory.result (asked, refl) c.say-in-Err-NoMemory.ensures
+    said words _ _ (line_text line.NoMemory) NoMemory c.say-in-Err-NoMemory.result (inl asked, refl) c.say-in-Err-NoMemory.ensures

@@ -1,4 +1,4 @@
-use Rattle.std.proofs.Common.{ℕ, List, map, refl, ◌≡◌}
+use Rattle.std.proofs.Common.{ℕ, List, map, refl}
 use Rattle.std.specs.String.{string_bytes}
 use Rattle.trace_writing.specs.Message.{line_text}
 use Rattle.trace_writing.specs.declared.message.Line.TheVariants as line
@@ -7,7 +7,7 @@ use Rattle.shenrun.specs.declared.status.Status.TheVariants.{BadWords}
 use Rattle.shenrun.specs.Answered.{Input, Output}
 use Rattle.shenrun.proofs.Ends.{said, row_of_replay}
 use Rattle.shenrun.proofs.Complete.{complete}
-use Rattle.shenrun.proofs.Words.{run_begins, asks_neither}
+use Rattle.shenrun.proofs.Words.{run_begins, churn_begins, asks_none}
 use Rattle.shenrun.proofs.replay.alone.Goals as goal
 
 pub returns-in-Some-clause-headline : goal.returns-in-Some-clause-headline
@@ -18,7 +18,7 @@ returns-in-Some-clause-headline g c = λ e.
       before = outlet (g.K.Sink.written c.args.sink.now) (g.K.Sink.faults c.args.sink.now) (g.K.Sink.calls c.args.sink.now);
       after = outlet (g.K.Sink.written c.replay.new.sink) (g.K.Sink.faults c.replay.new.sink) (g.K.Sink.calls c.replay.new.sink);
     } in
-    row_of_replay words input output c.replay.result (λ asked. c.requires (run_begins words asked)) (c.replay.ensures words c.in-Some.ensures) e
+    row_of_replay words input output c.replay.result (λ asked. c.requires.run (run_begins words asked)) (λ asked. c.requires.churn (churn_begins words asked)) (c.replay.ensures words c.in-Some.ensures) e
 
 pub returns-in-Some-clause-answered : goal.returns-in-Some-clause-answered
 returns-in-Some-clause-answered g c = c.replay.ensures (map string_bytes c.args.words.now) c.in-Some.ensures
@@ -30,4 +30,4 @@ returns-in-Some-clause-complete g c = λ bytes config scripts items asked told r
 pub returns-in-None-clause-answered : goal.returns-in-None-clause-answered
 returns-in-None-clause-answered g c =
     let words : List (List ℕ) = map string_bytes c.args.words.now in
-    said words _ _ (line_text line.BadWords) BadWords c.say.result (asks_neither words c.in-None.ensures (λ asked. c.requires (run_begins words asked)), refl) c.say.ensures
+    said words _ _ (line_text line.BadWords) BadWords c.say.result (asks_none words c.in-None.ensures (λ asked. c.requires.run (run_begins words asked)) (λ asked. c.requires.churn (churn_begins words asked)), refl) c.say.ensures

@@ -28,7 +28,7 @@ returns-in-Err-NoMemory g c = λ words asked.
       before = outlet (g.K.Sink.written c.args.sink.now) (g.K.Sink.faults c.args.sink.now) (g.K.Sink.calls c.args.sink.now);
       after = outlet (g.K.Sink.written c.say-in-Err-NoMemory.new.sink) (g.K.Sink.faults c.say-in-Err-NoMemory.new.sink) (g.K.Sink.calls c.say-in-Err-NoMemory.new.sink);
     } in
-    said words input output (line_text line.NoMemory) NoMemory c.say-in-Err-NoMemory.result (inl (c.args.steps, asked), refl)
+    said words input output (line_text line.NoMemory) NoMemory c.say-in-Err-NoMemory.result (inl (inl (c.args.steps, asked)), refl)
     (subst (λ s. EndsWith (line_text line.NoMemory) NoMemory c.say-in-Err-NoMemory.result (outlet (g.K.Sink.written s) (g.K.Sink.faults s) (g.K.Sink.calls s)) output.after) c.in-Ok.ensures.unused c.say-in-Err-NoMemory.ensures)
 
 pub returns : goal.returns

@@ -6,8 +6,10 @@ use Rattle.text_writer.specs.Sending.{outlet}
 use Rattle.shenrun.specs.declared.status.Status.TheVariants.{BadWords}
 use Rattle.shenrun.specs.Answered.{Input, Output}
 use Rattle.shenrun.proofs.Ends.{said, row_of_ok}
-use Rattle.shenrun.proofs.Complete.{complete}
-use Rattle.shenrun.proofs.Words.{replay_begins, asks_neither}
+use Rattle.shenrun.proofs.Complete.{complete, churned}
+use Rattle.shenrun.proofs.Words.{asks_none, replay_is_no_run, replay_is_no_churn}
+use Rattle.shenrun.specs.Words.{AskReplay}
+use Rattle.shenrun.proofs.top.shenrun.Goals.{then-begin_with-via-then-begin_with, then-begin_with-via-else-begin_with+then-begin_with-2}
 use Rattle.shenrun.proofs.top.shenrun.Goals as goal
 
 pub returns-in-Some-clause-headline : goal.returns-in-Some-clause-headline
@@ -27,7 +29,30 @@ pub returns-in-Some-clause-complete : goal.returns-in-Some-clause-complete
 returns-in-Some-clause-complete g c = λ bytes config scripts items asked told reads read_fine written_fine.
     complete (map string_bytes c.args.words.now) _ _ c.run.result (c.run.ensures (map string_bytes c.args.words.now) c.in-Some.ensures) bytes config scripts items asked told reads read_fine written_fine
 
-pub returns-in-None-clause-answered : goal.returns-in-None-clause-answered
-returns-in-None-clause-answered g c =
+pub returns-in-Some-workload_of-clause-headline : goal.returns-in-Some-workload_of-clause-headline
+returns-in-Some-workload_of-clause-headline g c = λ e.
     let words : List (List ℕ) = map string_bytes c.args.words.now in
-    said words _ _ (line_text line.BadWords) BadWords c.say.result (asks_neither words (λ asked. replay_begins words asked c.if-begins_with_run.ensures) c.in-None.ensures, refl) c.say.ensures
+    let input : Input = record { before = g.S.Source.left c.args.source.now; after = g.S.Source.left c.args.source.now; faults_before = g.S.Source.faults c.args.source.now; faults_after = g.S.Source.faults c.args.source.now } in
+    let output : Output = record {
+      before = outlet (g.K.Sink.written c.args.sink.now) (g.K.Sink.faults c.args.sink.now) (g.K.Sink.calls c.args.sink.now);
+      after = outlet (g.K.Sink.written c.churn.new.sink) (g.K.Sink.faults c.churn.new.sink) (g.K.Sink.calls c.churn.new.sink);
+    } in
+    row_of_ok words input output c.churn.result (c.churn.ensures words input c.in-Some-workload_of.ensures) e
+
+pub returns-in-Some-workload_of-clause-answered : goal.returns-in-Some-workload_of-clause-answered
+returns-in-Some-workload_of-clause-answered g c = c.churn.ensures (map string_bytes c.args.words.now) _ c.in-Some-workload_of.ensures
+
+pub returns-in-Some-workload_of-clause-churned : goal.returns-in-Some-workload_of-clause-churned
+returns-in-Some-workload_of-clause-churned g c = λ asked written_fine.
+    let input : Input = record { before = g.S.Source.left c.args.source.now; after = g.S.Source.left c.args.source.now; faults_before = g.S.Source.faults c.args.source.now; faults_after = g.S.Source.faults c.args.source.now } in
+    churned (map string_bytes c.args.words.now) input _ c.churn.result (c.churn.ensures (map string_bytes c.args.words.now) input c.in-Some-workload_of.ensures) asked written_fine
+
+pub returns-then-begin_with-clause-answered : goal.returns-then-begin_with-clause-answered
+returns-then-begin_with-clause-answered g c =
+    let words : List (List ℕ) = map string_bytes c.args.words.now in
+    let none : AskReplay words → ⊥ = λ asked.
+    elim c.then-begin_with.branch as (λ _. ⊥) [
+      | then-begin_with-via-then-begin_with w ↦ replay_is_no_run words asked w.if-begin_with.ensures
+      | then-begin_with-via-else-begin_with+then-begin_with-2 w ↦ replay_is_no_churn words asked w.if-begin_with-2.ensures
+    ] in
+    said words _ _ (line_text line.BadWords) BadWords c.say.result (asks_none words none c.in_default.ensures c.in_default-workload_of.ensures, refl) c.say.ensures
