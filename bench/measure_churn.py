@@ -4,7 +4,8 @@
 usage: measure_churn.py [SEED COUNT]
 
 The two numbers are 7 and 20000 where they are not given. It prints the seconds of the whole process, the median of five, and the
-commands a second; then, where there is a JDK with Shenandoah, the same of bench/Churn.java, also of its threads alone,
+commands a second; the steps and the collections of the same scripts under `replay`, in rounds, since of threads nobody counts
+them (how they are found, measure_pauses.py says); then, where there is a JDK with Shenandoah, the same of bench/Churn.java, also of its threads alone,
 since most of that process is the start of the machine. Both have to write the same eight lines. Times mean something only
 beside each other, from one run.
 """
@@ -14,6 +15,8 @@ import subprocess
 import sys
 import tempfile
 import time
+
+import measure_pauses
 
 TOP = os.path.dirname(os.path.dirname(os.path.abspath(__file__)))
 PLACES = [os.path.join(TOP, "crates", "shenrun", "out", "shenrun"), os.path.join(TOP, "out", "shenrun")]
@@ -39,6 +42,31 @@ def tell(name, seconds, commands):
     middle = statistics.median(seconds)
     print(f"{name}: {middle:.3f} s, {commands / middle / 1e6:.2f} million commands a second")
     return middle
+
+
+def script(seed, count, thread):
+    """The commands of a thread of the workload."""
+    yield from ("new 1 16 0", f"set 0 {thread} 1")
+    for i in range(count):
+        k = i % 16
+        yield from (f"new 2 {(seed + i) % 4} {1 + i % 8}", f"wr 2 0 {seed + i + 1}", f"set 1 {k} 2", "drop 2")
+        yield from (f"get 3 1 {k}", "rd 3 0", f"cas 1 {k} 3 3", f"xchg 4 1 {k} 3")
+
+
+def steps_with(seed, count, helpers):
+    """The steps that the scripts take under `replay` with so many helpers."""
+    with tempfile.NamedTemporaryFile("w", suffix=".trace") as trace:
+        trace.write(f"shen 1\nheap 16 256 2\nthreads 3 {helpers}\n")
+        for thread in (1, 2, 3):
+            trace.writelines(f"{thread} {command}\n" for command in script(seed, count, thread))
+        trace.flush()
+        return measure_pauses.steps_of(trace.name)
+
+
+def count_steps(numbers, commands):
+    found = [steps_with(*map(int, numbers), helpers) for helpers in range(4)]
+    cycles = measure_pauses.pauses_told(found)
+    print(f"the same scripts under replay: {found[2]} steps, {found[2] / commands:.1f} a command, and {cycles} collections")
 
 
 def has_shenandoah():
@@ -71,10 +99,12 @@ def main():
     print(lines, end="")
     commands = int(lines.splitlines()[2].split()[1])
     ours = tell("shenrun churn, whole process", [seconds for seconds, _, _ in runs], commands)
+    count_steps(numbers, commands)
     if has_shenandoah():
         measure_java(numbers, lines, commands, ours)
     else:
         print("no JDK with Shenandoah is here, so nothing stands beside it")
 
 
-main()
+if __name__ == "__main__":
+    main()

@@ -106,6 +106,14 @@ def fresh():
     return tempfile.NamedTemporaryFile("w", suffix=".trace")
 
 
+def pauses_told(found):
+    """The pauses of three threads, by the steps that they take with no helper, one, two and three."""
+    counts = {(more - found[0]) / (12 * helpers) for helpers, more in enumerate(found) if helpers}
+    if len(counts) != 1 or not next(iter(counts)).is_integer():
+        stop(f"the helpers do not tell the same number of pauses: {found}")
+    return int(counts.pop())
+
+
 def measure_churn(commands):
     regions, size = CHURN
     found = []
@@ -115,10 +123,7 @@ def measure_churn(commands):
             found.append(steps_of(file.name))
             if helpers == 0:
                 seconds = seconds_of(file.name)
-    counts = {(more - found[0]) / (12 * helpers) for helpers, more in enumerate(found) if helpers}
-    if len(counts) != 1 or not next(iter(counts)).is_integer():
-        stop(f"the helpers do not tell the same number of pauses: {found}")
-    count = int(counts.pop())
+    count = pauses_told(found)
     copied = 2 * count * image_words(regions, size, 3, 0)
     with fresh() as file:
         churn(commands, *ROOMY, 0, file)
@@ -153,4 +158,5 @@ def main():
         measure_size(regions, size)
 
 
-main()
+if __name__ == "__main__":
+    main()

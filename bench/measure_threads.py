@@ -7,7 +7,9 @@ Without a file it writes three traces of its own, of four threads with 800000 co
 load and store one field of the hub (`one field`); each does so with a field of an object of its own (`own fields`); each asks
 only whether two of its roots are the same (`no field`), so it shares no word with another, but its state word stands beside
 theirs. For each trace it prints the commands and the steps of `replay`, and for `replay` and for `run` with 1, 2 and 4 threads
-of the system the time, the processor's time, and the commands a second beside those of `replay`. Each time is the least of
+of the system the time, the processor's time, the commands a second, also beside those of `replay`, and how many steps a second
+the four threads of the trace make, without those of the control: as many as where one thread runs after the other, and more where
+they meet, since who loses tries again. Each time is the least of
 five runs, less the least of runs that read the same bytes and are refused at the last line. Times mean something only beside
 each other, from one run, and those of several threads only where no other program wants the processors.
 """
@@ -87,12 +89,18 @@ def measure(program, name, trace):
         refused.flush()
         reading = least(refused.name, 3, program, "replay")
     made = steps(program, trace)
+    with tempfile.NamedTemporaryFile() as apart:
+        threads = int(given.split(b"\n", 3)[2].split()[1])
+        items = b" ".join(b"%d=%d" % (t, count) for t in range(1, threads + 1))
+        apart.write(given + (b"" if b"\n!" in given else b"! " + items + b"\n"))
+        apart.flush()
+        own = steps(program, apart.name)
     print(f"{name}: {count} commands, {made} steps by replay, {reading[0]:.3f} s to read")
     replayed = None
     for way in WAYS:
         seconds, used = (max(it - read, 1e-6) for it, read in zip(least(trace, 0, program, *way), reading))
         replayed = replayed or seconds
-        each = f", {made / seconds / 1e6:.1f} million steps a second" if way[0] == "replay" else ""
+        each = f", {(made if way[0] == 'replay' else own) / seconds / 1e6:.1f} million steps a second"
         print(
             f"  {' '.join(way):16} {seconds:6.3f} s, {used:6.3f} s of processors, {count / seconds / 1e6:6.2f} million"
             f" commands a second, {replayed / seconds:5.2f} of replay's{each}"
@@ -116,4 +124,5 @@ def main():
                 measure(program, name, trace.name)
 
 
-main()
+if __name__ == "__main__":
+    main()
