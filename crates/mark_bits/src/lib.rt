@@ -1,0 +1,42 @@
+//! Where the mark of an object stands: each word of the heap has one bit in the words of grey bits and one in the words of
+//! black bits, 64 to a word, and an object's mark is the bit of its address. Grey is an object that marking has met, black
+//! one whose references it looks at or has looked at.
+#![tactic(auto)]
+
+ghost use Rattle.std.specs.Prelude.{◌≡◌, ◌≢◌};
+ghost use Rattle.std.specs.Int.{bit_at};
+ghost use Rattle.heap_words.specs.Words.{Heap, Grey, IsWord};
+ghost use Rattle.mark_bits.specs.Marks as marks;
+
+use heap_words::Config;
+
+/// The word of marks that has the bit of an address of the heap, counted from 0.
+pub fn mark_word(config: Config, address: u64) -> usize
+    requires { IsWord config (Heap address) }
+    ensures value { result ≡ marks.mark_word config address }
+    ensures inside { IsWord config (Grey result) }
+{
+    (address as usize - config.region_words()) / 64
+}
+
+/// The word in which the bit of an address of the heap is set, and no other.
+pub fn mark_mask(config: Config, address: u64) -> u64
+    requires { IsWord config (Heap address) }
+    ensures { result ≡ marks.mark_mask config address }
+{
+    1 << ((address - config.region_words() as u64) % 64)
+}
+
+/// The address of the lowest bit that is set, in a word of marks of which these bits are some.
+pub fn lowest_address(config: Config, word: usize, bits: u64) -> u64
+    requires inside { IsWord config (Grey word) }
+    requires some { bits ≢ 0 }
+    ensures { result ≡ marks.lowest_address config word bits }
+{
+    config.region_words() as u64 + 64 * word as u64 + bits.trailing_zeros() as u64
+}
+
+/// A law: each address of the heap has a bit of its own.
+pub fn marks_are_apart()
+    ensures { marks.MarksAreApart }
+{}

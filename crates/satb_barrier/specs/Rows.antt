@@ -1,0 +1,73 @@
+-- The rows of the steps by which a mutator records an address: for each spot its place, the access that it makes and what
+-- follows. A buffer has room for 8 entries. One that is full is emptied first: each entry is marked grey, and then the count
+-- is 0.
+use Rattle.std.specs.Prelude.{ℕ, ◌≤◌, ◌+◌, Bool, true, false, ◌&&◌, nat_lt, ⊤, if◌then◌else◌}
+use Rattle.heap_words.specs.declared.config.Config.{Config}
+use Rattle.heap_words.specs.declared.place.Place.{Place}
+use Rattle.heap_words.specs.declared.place.Place.TheVariants as place
+use Rattle.heap_words.specs.declared.access.Took.{Took}
+use Rattle.heap_words.specs.declared.access.Took.TheVariants.{More, Done}
+use Rattle.heap_words.specs.Words.{Count, Buffer, Grey, Heap, IsWord, is_word}
+use Rattle.steps_base.specs.Touch.{Touch, touch, loads, stores, sets_bits}
+use Rattle.mark_bits.specs.Marks.{mark_word, mark_mask}
+use Rattle.satb_barrier.specs.declared.spot.RememberSpot.{RememberSpot}
+use Rattle.satb_barrier.specs.declared.spot.RememberSpot.TheVariants.{LoadCount, LoadEntry, MarkEntry, ClearCount, StoreEntry, StoreCount, Recorded}
+
+-- the place of the next access. There is none at the end, where it is named as that of the last access
+abbrev pub place_at : RememberSpot → Place
+place_at LoadCount = place.BC
+place_at (LoadEntry entry) = place.BL
+place_at (MarkEntry entry found) = place.GO
+place_at ClearCount = place.BZ
+place_at (StoreEntry entry) = place.BE
+place_at (StoreCount entry) = place.BN
+place_at Recorded = place.BN
+
+-- the access that marks an address grey
+abbrev pub grey_touch : Config → ℕ → Touch
+grey_touch c address = touch (Grey (mark_word c address)) (sets_bits (mark_mask c address))
+
+-- the next access, of the mutator that records the address
+abbrev pub touch_at : Config → ℕ → ℕ → RememberSpot → Touch
+touch_at c mutator address LoadCount = touch (Count mutator) loads
+touch_at c mutator address (LoadEntry entry) = touch (Buffer mutator entry) loads
+touch_at c mutator address (MarkEntry entry found) = grey_touch c found
+touch_at c mutator address ClearCount = touch (Count mutator) (stores 0)
+touch_at c mutator address (StoreEntry entry) = touch (Buffer mutator entry) (stores address)
+touch_at c mutator address (StoreCount entry) = touch (Count mutator) (stores (entry + 1))
+touch_at c mutator address Recorded = touch (Count mutator) loads
+
+-- what follows, by the word that was found
+abbrev pub next_at : RememberSpot → ℕ → RememberSpot
+next_at LoadCount got = if nat_lt got 8 then StoreEntry got else LoadEntry 0
+next_at (LoadEntry entry) got = MarkEntry entry got
+next_at (MarkEntry entry found) got = if nat_lt entry 7 then LoadEntry (entry + 1) else ClearCount
+next_at ClearCount got = StoreEntry 0
+next_at (StoreEntry entry) got = StoreCount entry
+next_at (StoreCount entry) got = Recorded
+next_at Recorded got = Recorded
+
+-- whether the address is recorded
+abbrev pub is_recorded : RememberSpot → Bool
+is_recorded Recorded = true
+is_recorded _ = false
+
+-- what the step says: it never waits, and ends with the count
+abbrev pub says_at : RememberSpot → Took
+says_at (StoreCount entry) = Done
+says_at Recorded = Done
+says_at _ = More
+
+-- whether the numbers of a spot are in range: there is such an entry, and what was found in it is an address of the heap
+abbrev pub is_ready : Config → RememberSpot → Bool
+is_ready c (LoadEntry entry) = nat_lt entry 8
+is_ready c (MarkEntry entry found) = nat_lt entry 8 && is_word c (Heap found)
+is_ready c (StoreEntry entry) = nat_lt entry 8
+is_ready c (StoreCount entry) = nat_lt entry 8
+is_ready c _ = true
+
+-- the word is fit: no count is above 8, and each entry is an address of the heap
+abbrev pub IsFit : Config → RememberSpot → ℕ → Type 0
+IsFit c LoadCount got = got ≤ 8
+IsFit c (LoadEntry entry) got = IsWord c (Heap got)
+IsFit c _ got = ⊤

@@ -1,0 +1,74 @@
+-- The recording of an address by itself: the steps of the mutator that records it, and between them whatever other machines do.
+use Rattle.std.specs.Prelude.{ℕ, ◌≡◌, true, false, List, [], ◌∷◌, ◌++◌, ⊤}
+use Rattle.heap_words.specs.declared.config.Config.{Config}
+use Rattle.heap_words.specs.Words.{Word, Heap, IsWord}
+use Rattle.steps_base.specs.Touch.{touched}
+use Rattle.satb_barrier.specs.declared.spot.RememberSpot.{RememberSpot}
+use Rattle.satb_barrier.specs.declared.spot.RememberSpot.TheVariants.{LoadCount, Recorded}
+use Rattle.satb_barrier.specs.Rows.{touch_at, next_at, is_recorded, is_ready, IsFit}
+use Rattle.satb_barrier.specs.Recorded.{IsRecorded, IsBuffer, LeaveBuffer}
+
+-- the words, and where the mutator stands
+pub record Recording : Type 0 where
+  pub memory : Word → ℕ
+  pub spot : RememberSpot
+
+-- the mutator makes its next access, or others make steps, after which the words are these
+pub data Move : Type 0 where
+  own : Move
+  others : (after : Word → ℕ) → Move
+
+-- the mutator begins to record, in these words
+abbrev pub recording_from : (Word → ℕ) → Recording
+recording_from memory = record { memory = memory; spot = LoadCount }
+
+-- what was recorded in one is recorded in the other
+abbrev pub KeepsRecorded : Config → ℕ → Recording → Recording → Type 0
+KeepsRecorded c mutator one other = (x : ℕ) → IsRecorded c one.memory mutator x → IsRecorded c other.memory mutator x
+
+module _ (c : Config) (mutator address : ℕ) where
+  -- the word that the mutator finds
+  abbrev pub word_found : Recording → ℕ
+  word_found s = s.memory (touch_at c mutator address s.spot).word
+
+  -- what a move makes of it
+  abbrev pub after_move : Recording → Move → Recording
+  after_move s own = record { memory = touched s.memory (touch_at c mutator address s.spot); spot = next_at s.spot (word_found s) }
+  after_move s (others after) = record { memory = after; spot = s.spot }
+
+  -- what moves make of it, one after the other
+  unfoldable pub after_moves : Recording → List Move → Recording
+  after_moves s [] = s
+  after_moves s (move ∷ moves) = after_moves (after_move s move) moves
+
+  -- a move may be made: the mutator makes a step until the address is recorded, and others leave its buffer
+  abbrev pub IsMove : Recording → Move → Type 0
+  IsMove s own = is_recorded s.spot ≡ false
+  IsMove s (others after) = LeaveBuffer mutator s.memory after
+
+  -- each of these moves may be made, one after the other
+  unfoldable pub AreMoves : Recording → List Move → Type 0
+  AreMoves s [] = ⊤
+  AreMoves s (move ∷ moves) = IsMove s move × AreMoves (after_move s move) moves
+
+  -- what holds after each list of moves from the words in which it began
+  pub record RecordingHolds (s : Recording) : Type 0 where
+    -- the mutator's buffer is one
+    pub buffer : IsBuffer c s.memory mutator
+    -- its next access can be made, and the word that it finds is fit
+    pub ready : is_ready c s.spot ≡ true
+    pub fits : is_recorded s.spot ≡ false → IsFit c s.spot (word_found s)
+    -- at the end the address is recorded
+    pub recorded : s.spot ≡ Recorded → IsRecorded c s.memory mutator address
+
+-- The recording of an address of the heap, from words in which the mutator's buffer is one, whatever others do.
+pub record RecordingIsKept : Type 0 where
+  -- at its end the address is grey or in the buffer
+  pub each : (c : Config) (mutator address : ℕ) (memory : Word → ℕ) (moves : List Move)
+      → IsWord c (Heap address) → IsBuffer c memory mutator → AreMoves c mutator address (recording_from memory) moves
+      → RecordingHolds c mutator address (after_moves c mutator address (recording_from memory) moves)
+  -- and what was recorded at any time stays so
+  pub keeps : (c : Config) (mutator address : ℕ) (memory : Word → ℕ) (moves more : List Move)
+      → IsWord c (Heap address) → IsBuffer c memory mutator → AreMoves c mutator address (recording_from memory) (moves ++ more)
+      → KeepsRecorded c mutator (after_moves c mutator address (recording_from memory) moves)
+      (after_moves c mutator address (recording_from memory) (moves ++ more))
