@@ -8,10 +8,11 @@ use Rattle.heap_words.specs.declared.config.Config.{Config}
 use Rattle.heap_words.specs.Words.{Word, Count, Buffer, Heap, IsWord}
 use Rattle.steps_base.specs.Touch.{touch, touched, loads, stores}
 use Rattle.mark_bits.specs.Marks.{mark_word, mark_bit, HasMark}
+use Rattle.mark_bits.specs.Touches.{grey_touch}
 use Rattle.mark_bits.proofs.Marking.{bit_below, bits_stay, mark_set}
 use Rattle.satb_barrier.specs.declared.spot.RememberSpot.{RememberSpot}
 use Rattle.satb_barrier.specs.declared.spot.RememberSpot.TheVariants.{LoadCount, LoadEntry, MarkEntry, ClearCount, StoreEntry, StoreCount, Recorded}
-use Rattle.satb_barrier.specs.Rows.{grey_touch, touch_at, next_at, is_recorded, is_ready, IsFit}
+use Rattle.satb_barrier.specs.Rows.{touch_at, next_at, is_recorded, is_ready, IsFit}
 use Rattle.satb_barrier.specs.Recorded.{greys_in, IsRecorded, IsBuffer, LeaveBuffer}
 
 -- so many entries of a buffer are grey, from the first on

@@ -7,9 +7,9 @@ use Rattle.heap_words.specs.declared.place.Place.{Place}
 use Rattle.heap_words.specs.declared.place.Place.TheVariants as place
 use Rattle.heap_words.specs.declared.access.Took.{Took}
 use Rattle.heap_words.specs.declared.access.Took.TheVariants.{More, Done}
-use Rattle.heap_words.specs.Words.{Count, Buffer, Grey, Heap, IsWord, is_word}
-use Rattle.steps_base.specs.Touch.{Touch, touch, loads, stores, sets_bits}
-use Rattle.mark_bits.specs.Marks.{mark_word, mark_mask}
+use Rattle.heap_words.specs.Words.{Count, Buffer, Heap, IsWord, is_word}
+use Rattle.steps_base.specs.Touch.{Touch, touch, loads, stores}
+use Rattle.mark_bits.specs.Touches.{grey_touch}
 use Rattle.satb_barrier.specs.declared.spot.RememberSpot.{RememberSpot}
 use Rattle.satb_barrier.specs.declared.spot.RememberSpot.TheVariants.{LoadCount, LoadEntry, MarkEntry, ClearCount, StoreEntry, StoreCount, Recorded}
 
@@ -22,10 +22,6 @@ place_at ClearCount = place.BZ
 place_at (StoreEntry entry) = place.BE
 place_at (StoreCount entry) = place.BN
 place_at Recorded = place.BN
-
--- the access that marks an address grey
-abbrev pub grey_touch : Config → ℕ → Touch
-grey_touch c address = touch (Grey (mark_word c address)) (sets_bits (mark_mask c address))
 
 -- the next access, of the mutator that records the address
 abbrev pub touch_at : Config → ℕ → ℕ → RememberSpot → Touch

@@ -5,7 +5,7 @@ ghost use Rattle.steps_base.specs.Touch.{placed};
 ghost use Rattle.satb_barrier.specs.Rows as rows;
 
 use heap_words::{Access, Config, Place, Took};
-use mark_bits::{mark_mask, mark_word};
+use mark_bits::grey_access;
 
 // The last entry of a buffer.
 const LAST_ENTRY: usize = 7;
@@ -80,10 +80,7 @@ impl RememberSpot {
             RememberSpot::LoadEntry { entry } => Access::Load {
                 at: config.buffer_at(mutator, entry),
             },
-            RememberSpot::MarkEntry { found, .. } => Access::Or {
-                at: config.grey_at(mark_word(config, found)),
-                value: mark_mask(config, found),
-            },
+            RememberSpot::MarkEntry { found, .. } => grey_access(config, found),
             RememberSpot::ClearCount => Access::Store {
                 at: config.count_at(mutator),
                 value: 0,
