@@ -1,0 +1,38 @@
+-- That the pauses of marking keep the graph, and what they leave.
+use Rattle.std.specs.Prelude.{ℕ, ◌≡◌, ◌↔◌, ◌⊎◌, true, Option}
+use Rattle.heap_words.specs.declared.config.Config.{Config}
+use Rattle.heap_words.specs.Words.{Word, Cset}
+use Rattle.heap_graph.specs.Walk.{has}
+use Rattle.shen_graph.specs.Graph.{Graph}
+use Rattle.heap_world.specs.World.{Plot}
+use Rattle.image_laws.specs.Full.{root_words}
+use Rattle.image_laws.specs.Promised.{Promises}
+use Rattle.image_graph.specs.Holds.{HoldsBy}
+use Rattle.mark_laws.specs.Marks.{is_grey, is_black, IsKept}
+use Rattle.mark_laws.specs.Init.{init_marked}
+use Rattle.mark_laws.specs.Close.{IsTraced, closed}
+use Rattle.mark_laws.specs.Facts.{IsReachable, IsMarking, IsMarkedThrough}
+
+-- the words stand for the same graph, and marking runs
+pub record BeginsMarking (c : Config) (after : Word → ℕ) (block : Plot) (owner : ℕ → Option ℕ) (p : Promises) (g : Graph) : Type 0 where
+  pub holds : HoldsBy c after block owner p g
+  pub marking : IsMarking c after block
+
+-- The beginning of marking: the words stand for the same graph, and what holds while marking runs holds.
+abbrev pub InitMarks : Type 0
+InitMarks = (c : Config) (memory : Word → ℕ) (block : Plot) (owner : ℕ → Option ℕ) (p : Promises) (g : Graph) → HoldsBy c memory block owner p g → memory Cset ≡ 0
+    → BeginsMarking c (init_marked c memory) block owner p g
+
+-- Closing the marks blackens exactly what tracing comes to, ..
+pub record AreClosed (c : Config) (before after : Word → ℕ) : Type 0 where
+  pub black : (a : ℕ) → (is_black c after a ≡ true) ↔ ((is_black c before a ≡ true) ⊎ IsTraced c before a)
+  pub grey : (a : ℕ) → (is_grey c after a ≡ true) ↔ IsTraced c before a
+
+abbrev pub ClosingTraces : Type 0
+ClosingTraces = (c : Config) (memory : Word → ℕ) (block : Plot) (owner : ℕ → Option ℕ) (p : Promises) (g : Graph) → HoldsBy c memory block owner p g → IsMarking c memory block
+    → AreClosed c memory (closed c memory)
+
+-- .. so that each object that can be reached is kept.
+abbrev pub ClosingKeeps : Type 0
+ClosingKeeps = (c : Config) (memory : Word → ℕ) (block : Plot) (owner : ℕ → Option ℕ) (p : Promises) (g : Graph) → HoldsBy c memory block owner p g → IsMarking c memory block
+    → HoldsBy c (closed c memory) block owner p g × IsMarkedThrough c (closed c memory) block

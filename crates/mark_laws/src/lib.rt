@@ -1,0 +1,21 @@
+//! What the pauses of marking make of the words of a heap by their names, and that they keep the graph: laws, as theorems
+//! and no code.
+#![tactic(auto)]
+
+ghost use Rattle.mark_laws.specs.Laws.{InitMarks, ClosingTraces, ClosingKeeps};
+
+/// A law: the beginning of marking keeps the graph, and what holds while marking runs holds after it.
+pub fn init_marks()
+    ensures { InitMarks }
+{}
+
+/// A law: closing the marks makes black exactly what was black and what tracing comes to, and grey exactly the latter.
+pub fn closing_traces()
+    ensures { ClosingTraces }
+{}
+
+/// A law: once the marks are closed, the words stand for the same graph, each object that can be reached is kept, and each
+/// field of a kept object is null or names a kept object.
+pub fn closing_keeps()
+    ensures { ClosingKeeps }
+{}
