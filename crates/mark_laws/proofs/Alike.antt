@@ -1,5 +1,5 @@
 -- Words that agree in all that a graph stands on, so that they hold the same graph.
-use Rattle.std.proofs.Common.{◌≡◌, ◌≢◌, ℕ, ◌+◌, ◌<◌, ◌≤◌, ◌⊎◌, ◌++◌, ◌∷◌, [], true, zero, suc, cond, nat_le, List, map, Some, None, Option, refl, sym, ap, ◌∙◌, subst}
+use Rattle.std.proofs.Common.{◌≡◌, ℕ, ◌+◌, ◌≤◌, ◌++◌, ◌∷◌, [], zero, suc, cond, nat_le, map, None, Option, refl, sym, ap, ◌∙◌, subst}
 use Rattle.std.specs.List.{range_with_len}
 use Rattle.std.proofs.Math.Path.{fun_ext}
 use Rattle.heap_words.specs.declared.config.Config.{Config}
@@ -7,14 +7,14 @@ use Rattle.heap_words.specs.Words.{Word, Cset, Free, Top, Current, Root, Wait, A
 use Rattle.heap_words.specs.Encoding.{is_forwarded, refs_in, nums_in, shape_word, request_count_in, request_shape_in}
 use Rattle.regions.specs.Sets.{IsIn, IsOutside}
 use Rattle.regions.specs.Place.{region_with}
-use Rattle.shen_graph.specs.Graph.{Graph, Reference}
-use Rattle.heap_world.specs.World.{Plot, thing, Points, IsFilled, IsFreeWord, AreCurrent}
+use Rattle.shen_graph.specs.Graph.{Graph}
+use Rattle.heap_world.specs.World.{Plot, Points, IsFilled, IsFreeWord, AreCurrent}
 use Rattle.image_laws.specs.Held.{IsAmong, HoldsGraph}
 use Rattle.image_laws.specs.Full.{now_in, roots_below, answers_below, root_words}
 use Rattle.image_laws.specs.Promised.{Promises, with_promised}
 use Rattle.image_laws.specs.Image.{AnswerStands, RootsStand}
 use Rattle.image_laws.specs.Serving.{asked_shape, AreAsking}
-use Rattle.image_graph.specs.Holds.{HoldsBy, HasMoved, AreNext}
+use Rattle.image_graph.specs.Holds.{HoldsBy}
 
 -- n has the words of m on which a graph stands
 pub record AreAlike (m n : Word → ℕ) : Type 0 where

@@ -1,12 +1,9 @@
 -- The beginning of marking keeps the graph, and what holds while marking runs holds after it.
-use Rattle.std.proofs.Common.{◌≡◌, ◌≢◌, ℕ, ◌+◌, ◌-◌, ◌<◌, ◌≤◌, ◌==◌, ◌&&◌, nat_le, true, false, Some, Option, Bool, inl, inr, ⊎_elim, refl, sym, ap, ◌∙◌, subst, arith}
-use Rattle.std.specs.Int.{bit_at}
-use Rattle.std.proofs.lemmas.Bool.{and_parts, and_from, le-leb, leb-true, eqb-true, eq-eqb, cases_Bool, true≢false}
+use Rattle.std.proofs.Common.{◌≡◌, ℕ, ◌+◌, ◌≤◌, ◌==◌, ◌&&◌, nat_le, true, false, Some, Option, Bool, inl, inr, ⊎_elim, refl, sym, ap, ◌∙◌, arith}
+use Rattle.std.proofs.lemmas.Bool.{and_parts, and_from, le-leb, leb-true, true≢false}
 use Rattle.std.proofs.lemmas.Nat.Bits.{bit_at-zero}
 use Rattle.heap_words.specs.declared.config.Config.{Config}
-use Rattle.heap_words.specs.Words.{Word, Cset, Top, Heap}
-use Rattle.heap_words.specs.Encoding.{refs_in}
-use Rattle.regions.specs.Place.{base_of, region_with}
+use Rattle.heap_words.specs.Words.{Word, Cset, Heap}
 use Rattle.shen_graph.specs.declared.name.Name.{Name}
 use Rattle.shen_graph.specs.Graph.{Graph}
 use Rattle.heap_graph.specs.Walk.{has}
@@ -15,7 +12,8 @@ use Rattle.image_laws.specs.Held.{IsAmong}
 use Rattle.image_laws.specs.Full.{root_words}
 use Rattle.image_laws.specs.Promised.{Promises}
 use Rattle.image_graph.specs.Holds.{HoldsBy}
-use Rattle.mark_laws.specs.Marks.{is_grey, is_black, mark_word, mark_bit, mark_bits, IsNew, IsKept}
+use Rattle.mark_bits.specs.Marks.{mark_bit}
+use Rattle.mark_laws.specs.Marks.{is_grey, is_black, IsNew, IsKept}
 use Rattle.mark_laws.specs.Init.{init_marked}
 use Rattle.mark_laws.specs.Facts.{IsObjectAt, IsReachable, IsOpen, IsChained, begins, goes_on, IsFollowed, from_grey, from_black, from_entry, from_new, from_field, IsMarking}
 use Rattle.mark_laws.specs.Laws.{BeginsMarking}

@@ -1,24 +1,22 @@
 -- Closing the marks: what becomes black and grey, and that each object that can be reached is then kept.
-use Rattle.std.proofs.Common.{◌≡◌, ◌≢◌, ℕ, ◌+◌, ◌*◌, ◌-◌, ◌<◌, ◌≤◌, ◌⊎◌, ◌==◌, ◌&&◌, ◌||◌, nat_le, max, true, false, Bool, Some, Option, inl, inr, ⊎_elim, refl, sym, ap, ◌∙◌, subst, arith}
+use Rattle.std.proofs.Common.{◌≡◌, ◌≢◌, ℕ, ◌+◌, ◌*◌, ◌<◌, ◌≤◌, ◌⊎◌, ◌==◌, ◌&&◌, nat_le, max, true, false, Bool, Option, inl, inr, ⊎_elim, refl, sym, ap, ◌∙◌, subst, arith}
 use Rattle.std.specs.Int.{bit_at}
 use Rattle.std.specs.Int.RustNames.{bit_or}
 use Rattle.std.proofs.lemmas.Bool.{and_parts, and_from, le-leb, leb-true, eqb-true, eq-eqb, cases_Bool, true≢false}
 use Rattle.std.proofs.lemmas.Nat.Bits.{bit_at_or, bit_at-lt}
 use Rattle.heap_words.specs.declared.config.Config.{Config}
-use Rattle.heap_words.specs.Words.{Word, Cset, Top, Count, Buffer, Grey, Black, Heap}
+use Rattle.heap_words.specs.Words.{Word, Buffer, Grey, Black, Heap}
 use Rattle.heap_words.specs.Encoding.{refs_in}
-use Rattle.shen_graph.specs.declared.name.Name.{Name}
 use Rattle.shen_graph.specs.Graph.{Graph}
 use Rattle.heap_graph.specs.Walk.{has}
-use Rattle.heap_world.specs.World.{Plot, thing}
-use Rattle.image_laws.specs.Held.{IsAmong}
-use Rattle.image_laws.specs.Full.{root_words}
+use Rattle.heap_world.specs.World.{Plot}
 use Rattle.image_laws.specs.Promised.{Promises}
 use Rattle.image_graph.specs.Holds.{HoldsBy}
-use Rattle.mark_laws.specs.Marks.{is_grey, is_black, mark_word, mark_bit, mark_bits, IsNew, IsKept}
+use Rattle.mark_bits.specs.Marks.{mark_word, mark_bit}
+use Rattle.mark_laws.specs.Marks.{is_grey, is_black, mark_bits, IsNew, IsKept}
 use Rattle.mark_laws.specs.Close.{IsTraced, traced_in, closed}
 use Rattle.mark_laws.specs.Close as close
-use Rattle.mark_laws.specs.Facts.{IsObjectAt, IsReachable, IsOpen, IsChained, begins, goes_on, IsSafe, IsEntry, IsFollowed, from_grey, from_black, from_entry, from_new, from_field, IsMarking, IsMarkedThrough}
+use Rattle.mark_laws.specs.Facts.{IsObjectAt, IsReachable, IsChained, begins, goes_on, IsSafe, IsEntry, IsFollowed, from_grey, from_black, from_entry, from_new, from_field, IsMarking, IsMarkedThrough}
 use Rattle.mark_laws.specs.Laws.{AreClosed}
 use Rattle.mark_laws.proofs.Bits.{one, mark_at}
 use Rattle.mark_laws.proofs.Alike.{AreAlike, holds_alike, root_words_same}

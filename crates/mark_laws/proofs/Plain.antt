@@ -1,5 +1,5 @@
 -- Words that hold a graph while no region is in the collection set: no object has moved.
-use Rattle.std.proofs.Common.{◌≡◌, ◌≢◌, ℕ, ◌+◌, ◌-◌, ◌<◌, ◌≤◌, true, false, Some, None, Option, cond, get_or, slice_get, ⊎_elim, sym, ap, ◌∙◌, subst, arith}
+use Rattle.std.proofs.Common.{◌≡◌, ◌≢◌, ℕ, ◌+◌, ◌-◌, ◌<◌, ◌≤◌, true, false, Some, None, Option, get_or, slice_get, ⊎_elim, sym, ap, ◌∙◌, subst, arith}
 use Rattle.std.specs.Int.{bit_at}
 use Rattle.std.proofs.lemmas.Bool.{cases_Bool, cond-false}
 use Rattle.std.proofs.lemmas.Nat.Bits.{bit_at-zero}
@@ -11,7 +11,7 @@ use Rattle.regions.specs.Place.{base_of, region_with, IsOf}
 use Rattle.regions.proofs.PlaceLemmas.{regions_tile}
 use Rattle.shen_graph.specs.declared.name.Name.{Name}
 use Rattle.shen_graph.specs.Graph.{Graph, Reference}
-use Rattle.heap_world.specs.World.{Plot, Block, thing, name_at, words_of, IsPlotted}
+use Rattle.heap_world.specs.World.{Plot, Block, thing, words_of, IsPlotted}
 use Rattle.heap_world.proofs.Pointing.{piece_inside, named_thing, named_if_not_0}
 use Rattle.image_laws.specs.Held.{from_root, from_field, IsAmong}
 use Rattle.image_laws.specs.Plot.{heap_end}

@@ -1,15 +1,12 @@
 -- What holds in every pause while marking runs, and what holds once it has ended.
-use Rattle.std.specs.Prelude.{ℕ, ◌≡◌, ◌≢◌, ◌+◌, ◌<◌, ◌≤◌, ◌⊎◌, true, false, Some, Option}
+use Rattle.std.specs.Prelude.{ℕ, ◌≡◌, ◌≢◌, ◌+◌, ◌<◌, ◌≤◌, ◌⊎◌, true, false, Some}
 use Rattle.heap_words.specs.declared.config.Config.{Config}
 use Rattle.heap_words.specs.Words.{Word, Cset, Top, Tams, Count, Buffer, Heap}
 use Rattle.heap_words.specs.Encoding.{refs_in, shape_word}
 use Rattle.shen_graph.specs.declared.name.Name.{Name}
-use Rattle.shen_graph.specs.Graph.{Graph}
 use Rattle.heap_world.specs.World.{Plot, thing}
 use Rattle.image_laws.specs.Held.{IsHeld, IsAmong}
 use Rattle.image_laws.specs.Full.{now_in, root_words}
-use Rattle.image_laws.specs.Promised.{Promises}
-use Rattle.image_graph.specs.Holds.{HoldsBy}
 use Rattle.mark_laws.specs.Marks.{is_grey, is_black, IsNew, IsKept}
 
 -- an object stands at an address, and its shape word says so
@@ -73,7 +70,3 @@ pub record IsMarkedThrough (c : Config) (memory : Word → ℕ) (block : Plot) :
   pub reachable : (a : ℕ) → IsReachable c memory a → IsKept c memory a
   pub fields : (a i : ℕ) → IsObjectAt memory block a → IsKept c memory a → i < refs_in (memory (Heap (a + 1))) → memory (Heap (a + 3 + i)) ≢ 0
       → IsObjectAt memory block (memory (Heap (a + 3 + i))) × IsKept c memory (memory (Heap (a + 3 + i)))
-
--- the words stand for some graph while marking runs
-abbrev pub MarksSome : Config → (Word → ℕ) → Type 0
-MarksSome c memory = ∥ ((block : Plot) × (owner : ℕ → Option ℕ) × (p : Promises) × (g : Graph) × HoldsBy c memory block owner p g × IsMarking c memory block) ∥₁

@@ -2,16 +2,14 @@
 use Rattle.std.specs.Prelude.{ℕ, ◌≡◌, ◌↔◌, ◌⊎◌, true, Option}
 use Rattle.heap_words.specs.declared.config.Config.{Config}
 use Rattle.heap_words.specs.Words.{Word, Cset}
-use Rattle.heap_graph.specs.Walk.{has}
 use Rattle.shen_graph.specs.Graph.{Graph}
 use Rattle.heap_world.specs.World.{Plot}
-use Rattle.image_laws.specs.Full.{root_words}
 use Rattle.image_laws.specs.Promised.{Promises}
 use Rattle.image_graph.specs.Holds.{HoldsBy}
-use Rattle.mark_laws.specs.Marks.{is_grey, is_black, IsKept}
+use Rattle.mark_laws.specs.Marks.{is_grey, is_black}
 use Rattle.mark_laws.specs.Init.{init_marked}
 use Rattle.mark_laws.specs.Close.{IsTraced, closed}
-use Rattle.mark_laws.specs.Facts.{IsReachable, IsMarking, IsMarkedThrough}
+use Rattle.mark_laws.specs.Facts.{IsMarking, IsMarkedThrough}
 
 -- the words stand for the same graph, and marking runs
 pub record BeginsMarking (c : Config) (after : Word → ℕ) (block : Plot) (owner : ℕ → Option ℕ) (p : Promises) (g : Graph) : Type 0 where

@@ -1,17 +1,10 @@
 -- The mark bits of addresses: what is grey, what is black, and what marking keeps.
-use Rattle.std.specs.Prelude.{ℕ, ◌≡◌, ◌+◌, ◌-◌, ◌*◌, ◌/◌, ◌%◌, ◌^◌, ◌≤◌, ◌⊎◌, ◌==◌, ◌&&◌, nat_le, if◌then◌else◌, Bool, true, zero, suc}
+use Rattle.std.specs.Prelude.{ℕ, ◌≡◌, ◌+◌, ◌-◌, ◌*◌, ◌^◌, ◌≤◌, ◌⊎◌, ◌==◌, ◌&&◌, nat_le, if◌then◌else◌, Bool, true, zero, suc}
 use Rattle.std.specs.Int.{bit_at}
-use Rattle.std.specs.Int.RustNames.{bit_or}
 use Rattle.heap_words.specs.declared.config.Config.{Config}
 use Rattle.heap_words.specs.Words.{Word, Tams, Grey, Black}
 use Rattle.regions.specs.Place.{base_of, region_with}
-
--- the word in which an address has its mark bit, and which bit of it
-abbrev pub mark_word : Config → ℕ → ℕ
-mark_word c a = (a - c.region_words) / 64
-
-abbrev pub mark_bit : Config → ℕ → ℕ
-mark_bit c a = (a - c.region_words) % 64
+use Rattle.mark_bits.specs.Marks.{mark_word, mark_bit}
 
 -- an address is grey: it was found by marking. Grey and not black, it has still to be scanned.
 abbrev pub is_grey : Config → (Word → ℕ) → ℕ → Bool
@@ -37,12 +30,3 @@ bits_of test first (suc k) = (if test (first + k) then 1 else 0) * 2 ^ k + bits_
 -- the mark bits of a set of addresses, by the number of the word
 abbrev pub mark_bits : Config → (ℕ → Bool) → ℕ → ℕ
 mark_bits c set n = bits_of set (c.region_words + 64 * n) 64
-
--- the words after the addresses of a set were made grey, or black
-abbrev pub greyed : Config → (ℕ → Bool) → (Word → ℕ) → Word → ℕ
-greyed c set memory (Grey n) = bit_or (memory (Grey n)) (mark_bits c set n)
-greyed c set memory word = memory word
-
-abbrev pub blackened : Config → (ℕ → Bool) → (Word → ℕ) → Word → ℕ
-blackened c set memory (Black n) = bit_or (memory (Black n)) (mark_bits c set n)
-blackened c set memory word = memory word
