@@ -2,7 +2,7 @@
 use Rattle.std.proofs.Common.{◌≡◌, ℕ, ◌+◌, ◌-◌, ◌*◌, ◌^◌, ◌<◌, ◌≤◌, cond, Bool, true, false, zero, suc, ⊎_elim, refl, sym, ap, ◌∙◌, arith}
 use Rattle.std.specs.Int.{bit_at}
 use Rattle.std.proofs.lemmas.Bool.{cases_lt}
-use Rattle.std.proofs.lemmas.Nat.Bits.{bit_at_cat_low, bit_at_cat_high, bit_at_above}
+use Rattle.std.proofs.lemmas.Nat.Bits.{bit_at_cat_low, bit_at_cat_high}
 use Rattle.std.proofs.Math.Nat.{pow-suc}
 use Rattle.heap_words.specs.declared.config.Config.{Config}
 use Rattle.mark_bits.specs.Marks.{mark_word, mark_bit}
@@ -41,9 +41,6 @@ bits_at test first (suc k) j below = ⊎_elim
     lowest : (b : Bool) → bit_at (one b) 0 ≡ one b
     lowest true = refl
     lowest false = refl
-
-pub bits_past : (test : ℕ → Bool) (first n j : ℕ) → n ≤ j → bit_at (bits_of test first n) j ≡ 0
-bits_past test first n j past = bit_at_above (bits_of test first n) n j (bits_small test first n) past
 
 -- an address by its word and bit
 pub address_again : (c : Config) (a : ℕ) → c.region_words ≤ a → c.region_words + 64 * mark_word c a + mark_bit c a ≡ a
