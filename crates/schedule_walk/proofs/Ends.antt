@@ -1,5 +1,5 @@
 -- The end of a schedule that was walked.
-use Rattle.std.proofs.Common.{◌≡◌, ◌<◌, ℕ, ◌+◌, ◌-◌, [], ◌++◌, length, Option, Some, None, refl, sym, ap, ◌∙◌, subst, arith, ◌≤◌, ⊎_elim}
+use Rattle.std.proofs.Common.{◌≡◌, ◌<◌, ℕ, ◌+◌, ◌-◌, [], ◌++◌, length, refl, sym, ap, ◌∙◌, subst, arith, ◌≤◌, ⊎_elim}
 use Rattle.std.proofs.lemmas.Bool.{cases_lt}
 use Rattle.std.proofs.lemmas.List.{append-nil}
 use Rattle.steps_base.specs.Steps.{Stage}
@@ -14,17 +14,7 @@ use Rattle.shen_core.specs.Progress.{Jobs, Tells, Runs, AllIdle, SomeBusy, agend
 use Rattle.shen_core.specs.Ending.{EndsRun}
 use Rattle.shen_core.proofs.Going.{goes_same, runs_out}
 use Rattle.shen_core.proofs.Rounds.{idle_round, scheduled_none, ends_idle, ends_out, ends_then}
-use Rattle.schedule_walk.specs.declared.seen.Seen.{Seen}
-use Rattle.schedule_walk.specs.Nexts.{HasSameNext, HasNoNext, MakesNext}
-
--- what was passed over changes nothing of the next event
-pub makes_then : (p q : Plain) (jobs later : Jobs) (todo mid rest : Agenda) (result : Option Seen) → HasSameNext p jobs todo mid → MakesNext p jobs mid q later rest result → MakesNext p jobs todo q later rest result
-makes_then p q jobs later todo mid rest None same makes scripts s shows tells =
-    let none = makes scripts s shows tells in
-    record { none = same scripts s shows tells ∙ none.none; none_later = none.none_later; shows = none.shows; tells = none.tells }
-makes_then p q jobs later todo mid rest (Some seen) same makes scripts s shows tells =
-    let made = makes scripts s shows tells in
-    record { event = made.event; is = same scripts s shows tells ∙ made.is; shows = made.shows; tells = made.tells; sees = made.sees }
+use Rattle.schedule_walk.specs.Nexts.{HasNoNext}
 
 -- where there is no event and all are idle, only rounds are left
 rounds_left : (p : Plain) (jobs : Jobs) (rest : Agenda) (left : ℕ) → HasNoNext p jobs rest → AllIdle p jobs → Runs p jobs rest left p jobs (agenda [] 0) left
