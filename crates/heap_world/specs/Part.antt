@@ -15,8 +15,8 @@ pub record PartStep (c : Config) (u : World) (seat : ℕ) (t : Touch) (facts : W
   pub graph : world.graph ≡ u.graph
   pub shared : Shared c world
   pub own : facts world
-  pub keeps : Keeps seat u world
-  pub others : (k : ℕ) → k ≢ seat → Rely k u world
+  pub keeps : Keeps c seat u world
+  pub others : (k : ℕ) → k ≢ seat → Rely c k u world
 
 -- A part, by where it stands (S) and what it was asked for (A): its rows, what holds of it, that this stays while others
 -- step, and what its own steps owe.
@@ -25,6 +25,6 @@ pub record Part (S A : Type 0) : Type 1 where
   pub next : Config → A → S → ℕ → S
   pub ended : S → Bool
   pub facts : Config → ℕ → A → World → S → Type 0
-  pub stable : (c : Config) (u w : World) (seat : ℕ) (asked : A) (at : S) → Shared c u → Rely seat u w → facts c seat asked u at → facts c seat asked w at
+  pub stable : (c : Config) (u w : World) (seat : ℕ) (asked : A) (at : S) → Shared c u → Rely c seat u w → facts c seat asked u at → facts c seat asked w at
   pub step : (c : Config) (u : World) (seat : ℕ) (asked : A) (at : S) → ended at ≡ false → Shared c u → facts c seat asked u at
       → PartStep c u seat (touch seat asked at) (λ w. facts c seat asked w (next c asked at (u.memory (touch seat asked at).word)))

@@ -1,12 +1,15 @@
 -- What it means that the words of a heap stand for a graph.
-use Rattle.std.specs.Prelude.{ℕ, ◌≡◌, ◌⊎◌, ◌+◌, ◌<◌, ◌≤◌, ◌^◌, Bool, false, Option, Some, None}
+use Rattle.std.specs.Prelude.{ℕ, ◌≡◌, ◌≢◌, ◌⊎◌, ◌+◌, ◌<◌, ◌≤◌, ◌^◌, Bool, true, false, Option, Some, None}
+use Rattle.std.specs.Int.{bit_at}
 use Rattle.heap_words.specs.declared.config.Config.{Config}
-use Rattle.heap_words.specs.Words.{Word, Phase, Cset, Free, Evac, Top, Current, Heap}
+use Rattle.heap_words.specs.Words.{Word, Phase, Cset, Free, Evac, Top, Tams, Current, Count, Buffer, Grey, Black, Heap}
+use Rattle.heap_words.specs.Encoding.{plain_header, shape_word}
 use Rattle.heap_words.specs.Ranges.{seat_count}
-use Rattle.regions.specs.Place.{base_of}
+use Rattle.regions.specs.Place.{base_of, region_with}
 use Rattle.regions.specs.Sets.{IsIn}
 use Rattle.shen_graph.specs.declared.name.Name.{Name}
 use Rattle.shen_graph.specs.Graph.{Reference, Object, Graph}
+use Rattle.mark_bits.specs.Marks.{address_at, mark_at, HasMark}
 use Rattle.heap_world.specs.Objects.{Refers, IsObject}
 
 -- A piece of the part of a region that is in use: an object of a name, with so many references and numbers; so many words
@@ -63,6 +66,15 @@ no_ghost = record { owner = λ r. None; snapshot = no_snapshot; recording = λ s
 abbrev pub with_owner : Ghost → (ℕ → Option ℕ) → Ghost
 with_owner ghost owner =
     record { owner = owner; snapshot = ghost.snapshot; recording = ghost.recording; scanning = ghost.scanning; copying = ghost.copying; working = ghost.working }
+
+-- and with other seats that record, or scan
+abbrev pub with_recording : Ghost → (ℕ → Option ℕ) → Ghost
+with_recording ghost recording =
+    record { owner = ghost.owner; snapshot = ghost.snapshot; recording = recording; scanning = ghost.scanning; copying = ghost.copying; working = ghost.working }
+
+abbrev pub with_scanning : Ghost → (ℕ → Option Scan) → Ghost
+with_scanning ghost scanning =
+    record { owner = ghost.owner; snapshot = ghost.snapshot; recording = ghost.recording; scanning = scanning; copying = ghost.copying; working = ghost.working }
 
 -- a memory, how its regions are divided, ghost state, and the graph that the memory stands for
 pub record World : Type 0 where
@@ -155,9 +167,9 @@ AreRooms c top current block = (a seat words : ℕ) → block a ≡ Some (hand s
 abbrev pub ArePromises : Plot → Type 0
 ArePromises block = (a seat words : ℕ) → block a ≡ Some (promised seat words) → 3 ≤ words
 
--- words that only fill are one word at least
+-- words that only fill were an object, so they are three words at least
 abbrev pub AreFillers : Plot → Type 0
-AreFillers block = (a words : ℕ) → block a ≡ Some (filler words) → 1 ≤ words
+AreFillers block = (a words : ℕ) → block a ≡ Some (filler words) → 3 ≤ words
 
 -- The heap is parsable: pieces fill the parts in use, one after another, and each has the least size of its kind.
 pub record IsParsable (c : Config) (top : ℕ → ℕ) (block : Plot) : Type 0 where
@@ -177,34 +189,115 @@ pub record AreOwned (c : Config) (top : ℕ → ℕ) (free : ℕ) (current : ℕ
   pub currents : AreCurrent c current owner
   pub rooms : AreRooms c top current block
 
--- no collection runs beside the threads: the phase is 0, no region is in the collection set, and nobody copies
+-- nothing but marking runs beside the threads: the phase is 0 or 1, no region is in the collection set, and nobody copies
 pub record IsCalm (phase cset evac : ℕ) : Type 0 where
-  pub phase_is : phase ≡ 0
+  pub phase_is : phase ≤ 1
   pub cset_is : cset ≡ 0
   pub evac_is : evac ≡ 0
 
--- and the ghost state says so: there is no snapshot, and no seat records, scans, copies or works
-pub record IsUncollected (snapshot : Snapshot) (recording : ℕ → Option ℕ) (scanning : ℕ → Option Scan) (copying : ℕ → Bool) (working : ℕ → Option ℕ) : Type 0 where
-  pub empty : snapshot ≡ no_snapshot
-  pub records_none : (seat : ℕ) → recording seat ≡ None
-  pub scans_none : (seat : ℕ) → scanning seat ≡ None
+-- and the ghost state says so: no seat copies or works
+pub record IsUncopied (copying : ℕ → Bool) (working : ℕ → Option ℕ) : Type 0 where
   pub copies_none : (seat : ℕ) → copying seat ≡ false
   pub works_none : (seat : ℕ) → working seat ≡ None
 
--- no collection has left words that only fill
-abbrev pub HasNoFiller : Plot → Type 0
-HasNoFiller block = (a words : ℕ) → block a ≡ Some (filler words) → ⊥
+-- so many words are a new object: its shape word says so, and its references are null
+pub record IsBlank (heap : ℕ → ℕ) (a words : ℕ) : Type 0 where
+  pub refs : ℕ
+  pub nums : ℕ
+  pub long : words ≡ 3 + refs + nums
+  pub few_refs : refs ≤ 16
+  pub few_nums : nums ≤ 16
+  pub shape : heap (a + 1) ≡ shape_word refs nums
+  pub nulls : (i : ℕ) → i < refs → heap (a + 3 + i) ≡ 0
+
+-- Pieces that nobody writes to: an object that was promised is a new one, and words that only fill begin with the header of an
+-- object that has not moved.
+pub record AreUnwritten (heap : ℕ → ℕ) (block : Plot) : Type 0 where
+  pub blanks : (a seat words : ℕ) → block a ≡ Some (promised seat words) → IsBlank heap a words
+  pub headers : (a words : ℕ) → block a ≡ Some (filler words) → heap a ≡ plain_header
+
+-- Marking from a snapshot at the beginning. What is marked is an object: one of the graph, or one that is promised.
+pub data IsMarkable (block : Plot) (a : ℕ) : Type 0 where
+  object : (name : Name) (refs nums : ℕ) → block a ≡ Some (thing name refs nums) → IsMarkable block a
+  to_come : (seat words : ℕ) → block a ≡ Some (promised seat words) → IsMarkable block a
+
+-- an address is at or above a top of its region, and so, where that is the top at mark start, was allocated since
+abbrev pub IsYoung : Config → (ℕ → ℕ) → ℕ → Type 0
+IsYoung c top a = base_of c (region_with c a) + top (region_with c a) ≤ a
+
+-- An address is noted: it will be marked, for it is grey, an entry of a mutator's buffer below its count, or about to be recorded
+-- by a mutator. What is noted stays so until the pause that ends marking.
+pub data IsNoted (c : Config) (grey count : ℕ → ℕ) (buffer : ℕ → ℕ → ℕ) (recording : ℕ → Option ℕ) (v : ℕ) : Type 0 where
+  by_mark : HasMark c grey v → IsNoted c grey count buffer recording v
+  by_entry : (t k : ℕ) → t < c.mutators → k < count t → buffer t k ≡ v → IsNoted c grey count buffer recording v
+  by_hand : (t : ℕ) → t < c.mutators → recording t ≡ Some v → IsNoted c grey count buffer recording v
+
+-- A field has still to be loaded by a scan: its object is not black, or a machine scans it and has not come past the field.
+pub data IsToScan (c : Config) (black : ℕ → ℕ) (scanning : ℕ → Option Scan) (a k : ℕ) : Type 0 where
+  is_white : mark_at c black a ≡ 0 → IsToScan c black scanning a k
+  in_scan : (seat at : ℕ) → seat < seat_count c.mutators c.helpers → scanning seat ≡ Some (record { object = a; field = at }) → at ≤ k → IsToScan c black scanning a k
+
+-- the reference that a field of the snapshot had
+abbrev pub was_at : Snapshot → ℕ → ℕ → ℕ
+was_at s a k = s.heap (a + 3 + k)
+
+-- marking needs that field no more: it was null, or its object is noted
+abbrev pub IsDone : Snapshot → (ℕ → Type 0) → ℕ → ℕ → Type 0
+IsDone s Noted a k = (was_at s a k ≡ 0) ⊎ Noted (was_at s a k)
+
+-- A reference of the snapshot is not lost: marking needs it no more, or the field still holds it and a scan has still to come to it.
+pub data IsTracedAt (c : Config) (s : Snapshot) (heap black : ℕ → ℕ) (scanning : ℕ → Option Scan) (Noted : ℕ → Type 0) (a k : ℕ) : Type 0 where
+  done : IsDone s Noted a k → IsTracedAt c s heap black scanning Noted a k
+  stands : heap (a + 3 + k) ≡ was_at s a k → IsToScan c black scanning a k → IsTracedAt c s heap black scanning Noted a k
+
+-- no reference of the snapshot is lost, and what roots and answers named then is noted
+pub record IsTraced (c : Config) (s : Snapshot) (heap black : ℕ → ℕ) (scanning : ℕ → Option Scan) (Noted : ℕ → Type 0) : Type 0 where
+  pub edges : (a refs nums k : ℕ) (name : Name) → s.block a ≡ Some (thing name refs nums) → k < refs → IsTracedAt c s heap black scanning Noted a k
+  pub starts : (a : ℕ) → s.starts a ≡ true → Noted a
+
+-- words of marks are words of 64 bits, and what they mark are objects
+pub record AreMarks (c : Config) (marks : ℕ → ℕ) (block : Plot) : Type 0 where
+  pub small : (n : ℕ) → marks n < 2 ^ 64
+  pub of_objects : (n k : ℕ) → k < 64 → bit_at (marks n) k ≡ 1 → IsMarkable block (address_at c n k)
+
+-- each mutator has at most 8 entries in its buffer, and they are objects
+pub record AreEntries (c : Config) (count : ℕ → ℕ) (buffer : ℕ → ℕ → ℕ) (block : Plot) : Type 0 where
+  pub few : (t : ℕ) → t < c.mutators → count t ≤ 8
+  pub of_objects : (t k : ℕ) → t < c.mutators → k < count t → IsMarkable block (buffer t k)
+
+-- While the phase is 1, objects are marked from a snapshot: no reference of it is lost, its objects are where they were, and each
+-- object is one of the snapshot, or was named by a root or an answer then, or was allocated since. Marks and buffers have objects alone. In
+-- other phases there is no snapshot.
+pub record KeepsSnapshot (c : Config) (phase : ℕ) (grey black count : ℕ → ℕ) (buffer : ℕ → ℕ → ℕ) (top tams heap : ℕ → ℕ) (block : Plot) (s : Snapshot) (recording : ℕ → Option ℕ) (scanning : ℕ → Option Scan) : Type 0 where
+  pub empty : phase ≢ 1 → s ≡ no_snapshot
+  pub traced : IsTraced c s heap black scanning (IsNoted c grey count buffer recording)
+  pub kept : (a refs nums : ℕ) (name : Name) → s.block a ≡ Some (thing name refs nums) → block a ≡ Some (thing name refs nums)
+  pub older : phase ≡ 1 → (a refs nums : ℕ) (name : Name) → block a ≡ Some (thing name refs nums) → (s.block a ≡ Some (thing name refs nums)) ⊎ ((s.starts a ≡ true) ⊎ IsYoung c s.top a)
+  pub promises : phase ≡ 1 → (a seat words : ℕ) → block a ≡ Some (promised seat words) → s.starts a ≡ true
+  pub fillers : phase ≡ 1 → (a words : ℕ) → block a ≡ Some (filler words) → IsYoung c s.top a → ⊥
+  pub young : phase ≡ 1 → (a seat words : ℕ) → block a ≡ Some (hand seat words) → IsYoung c s.top a
+  pub floors : (r : ℕ) → r < c.regions → s.top r ≤ top r
+  pub tams_are : phase ≡ 1 → (r : ℕ) → r < c.regions → tams r ≡ s.top r
+  pub greys : phase ≡ 1 → AreMarks c grey block
+  pub blacks : phase ≡ 1 → AreMarks c black block
+  pub entries : phase ≡ 1 → AreEntries c count buffer block
 
 -- The facts that all machines share, in groups, each over the words that it speaks of: a step that changes none of these words
 -- hands the group on as it is.
-pub record SharedFacts (c : Config) (top heap : ℕ → ℕ) (block : Plot) (ghost : Ghost) (object : Name → Option Object) (count : ℕ → ℕ) (phase cset evac free : ℕ) (current : ℕ → ℕ) : Type 0 where
+pub record SharedFacts (c : Config) (top heap : ℕ → ℕ) (block : Plot) (ghost : Ghost) (object : Name → Option Object) (count : ℕ → ℕ) (phase cset evac free : ℕ) (current : ℕ → ℕ)
+    (grey black entries : ℕ → ℕ) (buffer : ℕ → ℕ → ℕ) (tams : ℕ → ℕ) : Type 0 where
   pub parsable : IsParsable c top block
   pub contents : HasContents c heap block object count
   pub owned : AreOwned c top free current block ghost.owner
   pub calm : IsCalm phase cset evac
-  pub uncollected : IsUncollected ghost.snapshot ghost.recording ghost.scanning ghost.copying ghost.working
-  pub unfilled : HasNoFiller block
+  pub uncopied : IsUncopied ghost.copying ghost.working
+  pub unwritten : AreUnwritten heap block
+  pub marked : KeepsSnapshot c phase grey black entries buffer top tams heap block ghost.snapshot ghost.recording ghost.scanning
 
 abbrev pub Shared : Config → World → Type 0
 Shared c w = SharedFacts c (λ r. w.memory (Top r)) (λ a. w.memory (Heap a)) w.block w.ghost w.graph.object w.graph.count (w.memory Phase) (w.memory Cset) (w.memory Evac)
-    (w.memory Free) (λ s. w.memory (Current s))
+    (w.memory Free) (λ s. w.memory (Current s)) (λ n. w.memory (Grey n)) (λ n. w.memory (Black n)) (λ t. w.memory (Count t)) (λ t k. w.memory (Buffer t k)) (λ r. w.memory (Tams r))
+
+-- what is noted in a world
+abbrev pub NotedIn : Config → World → ℕ → Type 0
+NotedIn c w v = IsNoted c (λ n. w.memory (Grey n)) (λ t. w.memory (Count t)) (λ t k. w.memory (Buffer t k)) w.ghost.recording v
