@@ -43,7 +43,7 @@ marking_touched memory t is = fun_ext (λ word. ⊎_elim
     (cases_Bool (is_marking word)))
 
 -- with its own words a memory is itself
-same_marking : (memory : Word → ℕ) → with_marking memory memory ≡ memory
+pub same_marking : (memory : Word → ℕ) → with_marking memory memory ≡ memory
 same_marking memory = fun_ext (λ word. ⊎_elim
     (λ (of_marking : is_marking word ≡ true). cond-true (is_marking word) _ _ of_marking)
     (λ (other : is_marking word ≡ false). cond-false (is_marking word) _ _ other)
