@@ -54,7 +54,8 @@ impl FieldSpot {
         ensures { result ≡ rows.field_place self }
     {
         match self {
-            FieldSpot::Load | FieldSpot::LoadExpected { .. } | FieldSpot::LoadOld { .. } => Place::FL,
+            FieldSpot::Load | FieldSpot::LoadExpected { .. } | FieldSpot::LoadOld { .. } =>
+                Place::FL,
             FieldSpot::Store { .. } => Place::FS,
             FieldSpot::Swap { .. } => Place::FX,
             FieldSpot::Exchange { .. } => Place::CX,
@@ -89,7 +90,9 @@ impl FieldSpot {
         match self {
             FieldSpot::Load => after_field(got),
             FieldSpot::LoadExpected { expect, value } => after_expected(object, expect, value, got),
-            FieldSpot::LoadOld { value } => Overwritten::Set { object, value }.overwrite(phase, got),
+            FieldSpot::LoadOld { value } => Overwritten::Set { object, value }.overwrite(
+                phase, got,
+            ),
             FieldSpot::Store { .. } => Spot::Leave { reply: Reply::Ok },
             FieldSpot::Swap { .. } => Overwritten::Xchg.overwrite(phase, got),
             FieldSpot::Exchange { found, .. } if got == found => {

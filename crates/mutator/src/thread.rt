@@ -215,7 +215,10 @@ impl Mutator {
                 self.spot = at.after(self.kept.phase, object, got);
                 return at.says(got);
             }
-            Spot::Recording { at, address, next } => self.spot = next.remember(address, at.after(got)),
+            Spot::Recording { at, address, next } => self.spot = next.remember(
+                address,
+                at.after(got),
+            ),
             Spot::OnNumber { at, .. } => self.spot = at.after(got),
             Spot::Showing { value, at } => self.spot = at.after(value, got),
             Spot::StoreRoot { .. } | Spot::AskCycle => self.spot = Spot::Leave { reply: Reply::Ok },
