@@ -1,4 +1,5 @@
-ghost use Rattle.std.specs.Prelude.{◌≡◌, ◌<◌, ◌↔◌, true, false};
+ghost use Rattle.std.specs.Prelude.{◌≡◌, ◌<◌, ◌↔◌, ◌==◌, true, false};
+ghost use Rattle.std.specs.Int.{bit_at};
 ghost use Rattle.heap_words.specs.Access.{table_index};
 ghost use Rattle.heap_words.specs.Words.{table_words};
 ghost use Rattle.heap_world.specs.Change.{image_words};
@@ -11,10 +12,10 @@ use heap_words::{Access, Config, Place, Took, Unit};
 use regions::size;
 use scan_steps::ScanSpot;
 
-// What is asked for: a cycle, or room for an object.
-const CYCLE: u64 = 1;
+// The bits of what is asked for: a cycle, and room for an object.
+const CYCLE: u32 = 0;
 
-const ROOM: u64 = 2;
+const ROOM: u32 = 1;
 
 // The phase between two cycles.
 const IDLE: u64 = 0;
@@ -165,11 +166,15 @@ const STOP: ControlSpot = ControlSpot::Stopping {
 fn is_asked(phase: u64, asked: u64) -> bool
     ensures { result ≡ rows.begins_pause phase asked }
 {
-    if phase == IDLE {
-        asked & (CYCLE | ROOM) != 0
-    } else {
-        asked & ROOM != 0
-    }
+    is_set(asked, ROOM) || (phase == IDLE && is_set(asked, CYCLE))
+}
+
+// Whether a bit of the word is set.
+fn is_set(word: u64, bit: u32) -> bool
+    requires { bit < 64 }
+    ensures { result ≡ (bit_at word bit == 1) }
+{
+    word >> bit & 1 == 1
 }
 
 // What it does where no pause is asked for.
