@@ -1,7 +1,7 @@
 -- The test of a dead region says what it is to be dead.
-use Rattle.std.proofs.Common.{◌≡◌, ℕ, ◌+◌, ◌-◌, ◌<◌, ◌≤◌, ◌==◌, ◌&&◌, ◌↔◌, not, Bool, true, false, ⊎_elim, refl, sym, ap, ◌∙◌, subst, arith}
+use Rattle.std.proofs.Common.{◌≡◌, ℕ, ◌+◌, ◌-◌, ◌<◌, ◌≤◌, ◌==◌, ◌&&◌, ◌↔◌, not, Bool, true, false, sym, ap, ◌∙◌, arith}
 use Rattle.std.specs.Int.{bit_at}
-use Rattle.std.proofs.lemmas.Bool.{and_parts, and_from, eqb-true, eq-eqb, not-true, not-false, not_from_false, cases_Bool, true≢false, false≢true}
+use Rattle.std.proofs.lemmas.Bool.{and_parts, and_from, eqb-true, eq-eqb, not-true, not-false, not_from_false, false_from_ne_true, true≢false}
 use Rattle.heap_words.specs.declared.config.Config.{Config}
 use Rattle.heap_words.specs.Words.{Word, Free, Top, Tams, Current}
 use Rattle.heap_words.specs.Ranges.{seat_count}
@@ -15,10 +15,12 @@ module _ (c : Config) (m : Word → ℕ) (r : ℕ) where
   pub current_is : is_current c m r ≡ true → IsSomeSeats c m r
   current_is is =
       let at = any_is (λ seat. m (Current seat) == r + 1) 0 (seat_count c.mutators c.helpers) is in
-      (at.0, omega (arith, at.1), eqb-true (m (Current at.0)) (r + 1) at.2)
+      (0 + at.0, omega (arith, at.1), eqb-true (m (Current (0 + at.0))) (r + 1) at.2)
 
   pub is_current_of : IsSomeSeats c m r → is_current c m r ≡ true
-  is_current_of is = any_at (λ seat. m (Current seat) == r + 1) 0 (seat_count c.mutators c.helpers) is.0 is.1 (eq-eqb (m (Current is.0)) (r + 1) is.2)
+  is_current_of is =
+      let here : 0 + is.0 ≡ is.0 = omega arith in
+      any_at (λ seat. m (Current seat) == r + 1) 0 (seat_count c.mutators c.helpers) is.0 is.1 (eq-eqb (m (Current (0 + is.0))) (r + 1) (ap (λ seat. m (Current seat)) here ∙ is.2))
 
   pub black_in : has_black c m r ≡ true → (a : ℕ) × IsOf c r a × (is_black c m a ≡ true)
   black_in is =
@@ -30,34 +32,40 @@ module _ (c : Config) (m : Word → ℕ) (r : ℕ) where
       let here : base_of c r + (a - base_of c r) ≡ a = omega (arith, of.from) in
       any_at (is_black c m) (base_of c r) c.region_words (a - base_of c r) (omega (arith, of.from, of.before)) (ap (is_black c m) here ∙ is)
 
+  abbrev used : Bool
+  used = bit_at (m Free) r == 0
+
+  abbrev unseated : Bool
+  unseated = not (is_current c m r)
+
+  abbrev filled : Bool
+  filled = m (Top r) == m (Tams r)
+
+  abbrev bare : Bool
+  bare = not (has_black c m r)
+
   is_so : is_dead c m r ≡ true → IsDead c m r
   is_so is =
-      let first = and_parts (bit_at (m Free) r == 0) (not (is_current c m r) && (m (Top r) == m (Tams r)) && not (has_black c m r)) is in
-      let second = and_parts (not (is_current c m r)) ((m (Top r) == m (Tams r)) && not (has_black c m r)) first.1 in
-      let third = and_parts (m (Top r) == m (Tams r)) (not (has_black c m r)) second.1 in
+      let first = and_parts (used && unseated && filled) bare is in
+      let second = and_parts (used && unseated) filled first.0 in
+      let third = and_parts used unseated second.0 in
       record {
-        in_use = eqb-true (bit_at (m Free) r) 0 first.0;
-        nobodys = λ seat. true≢false (sym (is_current_of seat) ∙ not-true (is_current c m r) second.0);
-        no_new = eqb-true (m (Top r)) (m (Tams r)) third.0;
-        unmarked = λ a of. ⊎_elim
-            (λ (black : is_black c m a ≡ true). absurd (true≢false (sym (has_black_at a of black) ∙ not-true (has_black c m r) third.1)))
-            (λ (none : is_black c m a ≡ false). none)
-            (cases_Bool (is_black c m a));
+        in_use = eqb-true (bit_at (m Free) r) 0 third.0;
+        nobodys = λ seat. true≢false (sym (is_current_of seat) ∙ not-true (is_current c m r) third.1);
+        no_new = eqb-true (m (Top r)) (m (Tams r)) second.1;
+        unmarked = λ a of. false_from_ne_true (is_black c m a) (λ black. true≢false (sym (has_black_at a of black) ∙ not-true (has_black c m r) first.1));
       }
 
   is_told : IsDead c m r → is_dead c m r ≡ true
   is_told is =
-      let unseated : is_current c m r ≡ false = ⊎_elim
-          (λ (seat : is_current c m r ≡ true). absurd (is.nobodys (current_is seat)))
-          (λ (none : is_current c m r ≡ false). none)
-          (cases_Bool (is_current c m r)) in
-      let unmarked : has_black c m r ≡ false = ⊎_elim
-          (λ (black : has_black c m r ≡ true). let at = black_in black in absurd (true≢false (sym at.2 ∙ is.unmarked at.0 at.1)))
-          (λ (none : has_black c m r ≡ false). none)
-          (cases_Bool (has_black c m r)) in
-      and_from (bit_at (m Free) r == 0) (not (is_current c m r) && (m (Top r) == m (Tams r)) && not (has_black c m r)) (eq-eqb (bit_at (m Free) r) 0 is.in_use)
-      (and_from (not (is_current c m r)) ((m (Top r) == m (Tams r)) && not (has_black c m r)) (not_from_false (is_current c m r) unseated)
-      (and_from (m (Top r) == m (Tams r)) (not (has_black c m r)) (eq-eqb (m (Top r)) (m (Tams r)) is.no_new) (not_from_false (has_black c m r) unmarked)))
+      let no_seat : is_current c m r ≡ false = false_from_ne_true (is_current c m r) (λ seat. is.nobodys (current_is seat)) in
+      let no_mark : has_black c m r ≡ false = false_from_ne_true (has_black c m r)
+          (λ black. let at = black_in black in true≢false (sym at.2 ∙ is.unmarked at.0 at.1)) in
+      and_from (used && unseated && filled) bare
+      (and_from (used && unseated) filled
+      (and_from used unseated (eq-eqb (bit_at (m Free) r) 0 is.in_use) (not_from_false (is_current c m r) no_seat))
+      (eq-eqb (m (Top r)) (m (Tams r)) is.no_new))
+      (not_from_false (has_black c m r) no_mark)
 
   pub dead_is_dead : (is_dead c m r ≡ true) ↔ IsDead c m r
   dead_is_dead = (is_so, is_told)
