@@ -42,7 +42,7 @@ use Rattle.mutator.specs.Told.{told_of}
 use Rattle.mutator.specs.Fit.{IsReady}
 use Rattle.step_core.specs.Actor.{entry_of, command_by}
 use Rattle.step_core.specs.Own.{root_now, IsInHand}
-use Rattle.mark_steps.specs.Record.{RememberFacts}
+use Rattle.mark_steps.specs.Recording.{CanRecord}
 use Rattle.heap_world.specs.World.{World, Plot, Scan, hand, name_at, Points, Target, IsUsable, IsCovered, Shared}
 use Rattle.heap_world.specs.Asking as asking
 use Rattle.heap_world.specs.Asking.{Asking, HasNoPromise, IsAsked}
@@ -261,7 +261,7 @@ SpotFacts c w seat made kept command fixed LoadPhase = IsBegun made command fixe
 SpotFacts c w seat made kept command fixed LoadSet = IsBegun made command fixed kept.command
 SpotFacts c w seat made kept command fixed (Loading at) = LoadFacts w seat made kept.command command fixed at
 SpotFacts c w seat made kept command fixed (OnField object at) = FieldFacts c w seat kept.command command fixed object at
-SpotFacts c w seat made kept command fixed (Recording at address next) = RememberFacts c w seat address at × RecordFacts c w seat kept.command command fixed address next
+SpotFacts c w seat made kept command fixed (Recording at address next) = CanRecord c w seat address at × RecordFacts c w seat kept.command command fixed address next
 SpotFacts c w seat made kept command fixed (OnNumber object refs at) = NumberFacts w seat kept.command command fixed object refs at
 SpotFacts c w seat made kept command fixed (Showing value at) = ShowFacts w kept.command fixed value at
 SpotFacts c w seat made kept command fixed (StoreRoot value) =
