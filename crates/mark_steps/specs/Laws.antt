@@ -2,7 +2,7 @@
 use Rattle.std.specs.Prelude.{ℕ, ◌≡◌, ◌≢◌, ◌<◌, ◌==◌, false, if◌then◌else◌, Some, None}
 use Rattle.heap_words.specs.declared.config.Config.{Config}
 use Rattle.heap_words.specs.Words.{Phase, IsWord}
-use Rattle.heap_world.specs.World.{World, with_recording, IsMarkable, NotedIn, Shared}
+use Rattle.heap_world.specs.World.{World, hand, with_recording, IsMarkable, NotedIn, Shared}
 use Rattle.heap_world.specs.Rely.{Keeps, Rely}
 use Rattle.heap_world.specs.Part.{PartStep}
 use Rattle.satb_barrier.specs.declared.spot.RememberSpot.{RememberSpot}
@@ -34,7 +34,7 @@ pub record TakesInHand (c : Config) (u : World) (mutator v : ℕ) : Type 0 where
 -- A mutator that overwrites a reference records it.
 pub record RecordingSteps : Type 0 where
   pub begins : (c : Config) (u : World) (mutator v : ℕ) → mutator < c.mutators → u.memory Phase ≡ 1 → IsMarkable u.block v
-      → u.ghost.recording mutator ≡ None → u.ghost.scanning mutator ≡ None → Shared c u → TakesInHand c u mutator v
+      → u.ghost.recording mutator ≡ None → u.ghost.scanning mutator ≡ None → ((a words : ℕ) → u.block a ≡ Some (hand mutator words) → ⊥) → Shared c u → TakesInHand c u mutator v
   pub each : (c : Config) (u : World) (mutator v : ℕ) (at : RememberSpot) → remember.is_recorded at ≡ false → Shared c u → CanRecord c u mutator v at → RecordStep c u mutator v at
   pub stays : (c : Config) (u w : World) (mutator v : ℕ) (at : RememberSpot) → Rely c mutator u w → CanRecord c u mutator v at → CanRecord c w mutator v at
   pub fits : (c : Config) (u : World) (mutator v : ℕ) (at : RememberSpot) → CanRecord c u mutator v at → remember.IsFit c at (u.memory (remember.touch_at c mutator v at).word)

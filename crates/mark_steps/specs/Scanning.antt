@@ -7,7 +7,7 @@ use Rattle.heap_words.specs.Ranges.{seat_count}
 use Rattle.heap_words.specs.Words.{Phase, Heap}
 use Rattle.mark_bits.specs.Marks.{address_at}
 use Rattle.shen_graph.specs.declared.name.Name.{Name}
-use Rattle.heap_world.specs.World.{World, Scan, Plot, thing, IsMarkable, NotedIn, was_at, IsDone}
+use Rattle.heap_world.specs.World.{World, Scan, Plot, thing, hand, IsMarkable, NotedIn, was_at, IsDone}
 use Rattle.scan_steps.specs.declared.spot.ScanSpot.{ScanSpot}
 use Rattle.scan_steps.specs.declared.spot.ScanSpot.TheVariants.{LoadBlack, SetBlack, LoadShape, LoadField, SetGrey}
 use Rattle.scan_steps.specs.Rows.{is_ready}
@@ -48,10 +48,11 @@ ScanFacts c w (LoadField address field refs) = IsAtField w address field refs
 ScanFacts c w (SetGrey address field refs found) = IsAtField w address field refs × IsMarkable w.block found × IsDoneOrFound c w address field found
 ScanFacts c w _ = ⊤
 
--- Objects are marked, and the machine is in the scan of which its spot tells.
+-- Objects are marked, and the machine is in the scan of which its spot tells. It has no room in hand.
 pub record CanScan (c : Config) (w : World) (seat : ℕ) (at : ScanSpot) : Type 0 where
   pub seated : seat < seat_count c.mutators c.helpers
   pub phase : w.memory Phase ≡ 1
   pub scanning : w.ghost.scanning seat ≡ scanning_of at
   pub ready : is_ready c at ≡ true
+  pub hands : (a words : ℕ) → w.block a ≡ Some (hand seat words) → ⊥
   pub facts : ScanFacts c w at
