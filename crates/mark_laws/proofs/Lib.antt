@@ -5,3 +5,4 @@ pub mod Begun
 pub mod Traced
 pub mod Ranges
 pub mod Closed
+pub mod Dead

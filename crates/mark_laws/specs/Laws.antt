@@ -1,7 +1,8 @@
 -- That the pauses of marking keep the graph, and what they leave.
-use Rattle.std.specs.Prelude.{ℕ, ◌≡◌, ◌↔◌, ◌⊎◌, true, Option}
+use Rattle.std.specs.Prelude.{ℕ, ◌≡◌, ◌≤◌, ◌↔◌, ◌⊎◌, true, Option}
 use Rattle.heap_words.specs.declared.config.Config.{Config}
-use Rattle.heap_words.specs.Words.{Word, Cset}
+use Rattle.heap_words.specs.Words.{Word, Cset, Current}
+use Rattle.heap_words.specs.Ranges.{seat_count}
 use Rattle.shen_graph.specs.Graph.{Graph}
 use Rattle.heap_world.specs.World.{Plot}
 use Rattle.image_laws.specs.Promised.{Promises}
@@ -10,6 +11,7 @@ use Rattle.mark_laws.specs.Marks.{is_grey, is_black}
 use Rattle.mark_laws.specs.Init.{init_marked}
 use Rattle.mark_laws.specs.Close.{IsTraced, closed}
 use Rattle.mark_laws.specs.Facts.{IsMarking, IsMarkedThrough}
+use Rattle.mark_laws.specs.Final.{IsDead, is_dead, dead_in, freed_block, freed_owner, final_marked}
 
 -- the words stand for the same graph, and marking runs
 pub record BeginsMarking (c : Config) (after : Word → ℕ) (block : Plot) (owner : ℕ → Option ℕ) (p : Promises) (g : Graph) : Type 0 where
@@ -34,3 +36,19 @@ ClosingTraces = (c : Config) (memory : Word → ℕ) (block : Plot) (owner : ℕ
 abbrev pub ClosingKeeps : Type 0
 ClosingKeeps = (c : Config) (memory : Word → ℕ) (block : Plot) (owner : ℕ → Option ℕ) (p : Promises) (g : Graph) → HoldsBy c memory block owner p g → IsMarking c memory block
     → HoldsBy c (closed c memory) block owner p g × IsMarkedThrough c (closed c memory) block
+
+-- The test of a dead region says what it is to be dead.
+abbrev pub DeadIsDead : Type 0
+DeadIsDead = (c : Config) (memory : Word → ℕ) (r : ℕ) → (is_dead c memory r ≡ true) ↔ IsDead c memory r
+
+-- no seat but those of the heap has a current region
+abbrev pub HasNoMoreSeats : Config → (Word → ℕ) → Type 0
+HasNoMoreSeats c memory = (seat : ℕ) → seat_count c.mutators c.helpers ≤ seat → memory (Current seat) ≡ 0
+
+-- The end of marking: nothing that can be reached lies in a dead region, so that without the pieces of those the words stand
+-- for the same graph, and each object that can be reached is kept.
+abbrev pub EndKeeps : Type 0
+EndKeeps = (c : Config) (memory : Word → ℕ) (block : Plot) (owner : ℕ → Option ℕ) (p : Promises) (g : Graph) → HoldsBy c memory block owner p g → IsMarking c memory block
+    → HasNoMoreSeats c memory
+    → HoldsBy c (final_marked c memory) (freed_block c (dead_in c memory) block) (freed_owner (dead_in c memory) owner) p g
+      × IsMarkedThrough c (final_marked c memory) (freed_block c (dead_in c memory) block)

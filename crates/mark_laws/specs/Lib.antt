@@ -2,4 +2,5 @@ pub mod Marks
 pub mod Init
 pub mod Close
 pub mod Facts
+pub mod Final
 pub mod Laws

@@ -2,7 +2,7 @@
 //! and no code.
 #![tactic(auto)]
 
-ghost use Rattle.mark_laws.specs.Laws.{InitMarks, ClosingTraces, ClosingKeeps};
+ghost use Rattle.mark_laws.specs.Laws.{InitMarks, ClosingTraces, ClosingKeeps, DeadIsDead};
 
 /// A law: the beginning of marking keeps the graph, and what holds while marking runs holds after it.
 pub fn init_marks()
@@ -18,4 +18,10 @@ pub fn closing_traces()
 /// field of a kept object is null or names a kept object.
 pub fn closing_keeps()
     ensures { ClosingKeeps }
+{}
+
+/// A law: a region that the test of dead regions tells is in use, nobody's current one, without an object that is new, and
+/// without a mark; and it tells each such region.
+pub fn dead_is_dead()
+    ensures { DeadIsDead }
 {}
