@@ -9,7 +9,7 @@ use Rattle.alloc_buffers.specs.declared.spot.TakeSpot.{TakeSpot}
 use Rattle.alloc_buffers.specs.declared.spot.TakeSpot.TheVariants.{LoadCurrent, LoadTop, LoadFree, TakeRegion, StoreCurrent, StoreTop, Ended}
 use Rattle.alloc_buffers.specs.Facts.{HasLess, TakeFacts, CanTake}
 
-module _ (c : Config) (u w : World) (seat : ℕ) (rely : Rely seat u w) (own : (r : ℕ) → u.memory (Current seat) ≡ r + 1 → u.ghost.owner r ≡ Some seat) where
+module _ (c : Config) (u w : World) (seat : ℕ) (rely : Rely c seat u w) (own : (r : ℕ) → u.memory (Current seat) ≡ r + 1 → u.ghost.owner r ≡ Some seat) where
   -- that there was less room stays
   less_stays : (words : ℕ) → HasLess c u.memory seat words → HasLess c w.memory seat words
   less_stays words less r is =
@@ -33,7 +33,7 @@ module _ (c : Config) (u w : World) (seat : ℕ) (rely : Rely seat u w) (own : (
   take_stays words (Ended NoRoom) facts = less_stays words facts
 
 -- all that it counts on stays
-pub can_take_stays : (c : Config) (u w : World) (seat words : ℕ) (take : TakeSpot) → Shared c u → Rely seat u w → CanTake c u seat words take → CanTake c w seat words take
+pub can_take_stays : (c : Config) (u w : World) (seat words : ℕ) (take : TakeSpot) → Shared c u → Rely c seat u w → CanTake c u seat words take → CanTake c w seat words take
 can_take_stays c u w seat words take shared rely can = record {
   seated = can.seated;
   least = can.least;
@@ -41,4 +41,6 @@ can_take_stays c u w seat words take shared rely can = record {
   ready = can.ready;
   facts = take_stays c u w seat rely (λ r is. shared.owned.currents.own seat r is) words take can.facts;
   hands = λ a more is. can.hands a more (rely.no_hands a more is);
+  records_none = rely.marks.recording ∙ can.records_none;
+  scans_none = rely.marks.scanning ∙ can.scans_none;
 }

@@ -7,17 +7,18 @@ use Rattle.std.proofs.lemmas.Bool.Decides.{nat_tests}
 use Rattle.std.proofs.lemmas.Option.{same_Some}
 use Rattle.heap_words.specs.declared.config.Config.{Config}
 use Rattle.heap_words.specs.Ranges.{seat_count}
-use Rattle.heap_words.specs.Words.{Word, Free, Top, Current, Heap}
+use Rattle.heap_words.specs.Words.{Word, Phase, Free, Top, Tams, Current, Count, Buffer, Grey, Black, Heap}
 use Rattle.steps_base.specs.Touch.{touch, loads, touched}
 use Rattle.regions.specs.Place.{base_of}
 use Rattle.regions.specs.Sets.{lowest_in}
 use Rattle.shen_graph.specs.declared.name.Name.{Name}
-use Rattle.heap_world.specs.World.{World, with_owner, Plot, Block, thing, hand, promised, name_at, AreCurrent, AreRooms, Shared}
-use Rattle.heap_world.specs.Rely.{Keeps, Rely}
+use Rattle.heap_world.specs.World.{World, with_owner, Plot, Block, thing, hand, promised, name_at, IsMarkable, AreCurrent, AreRooms, Shared}
+use Rattle.heap_world.specs.Rely.{Keeps, RelyMarks, Rely}
 use Rattle.heap_world.specs.Part.{PartStep}
 use Rattle.heap_world.proofs.Updates.{updated, updated_same, updated_there, updated_else}
 use Rattle.heap_world.proofs.Keeping.{load_keeps, rely_same, keeps_of}
-use Rattle.heap_world.proofs.NewPiece.{CanGrow, names_stay, stays, old_hand, own_hand, old_promise, parsable_more, contents_more, owned_more, unfilled_more}
+use Rattle.heap_world.proofs.NewPiece.{CanGrow, names_stay, stays, old_hand, own_hand, old_promise, parsable_more, contents_more, owned_more, unwritten_more, markable_more, marking_more}
+use Rattle.heap_world.proofs.Marked.{rely_marks}
 use Rattle.heap_world.proofs.FreeRegions.{lowest_within, owner_stays, free_without, currents_stay}
 use Rattle.alloc_buffers.specs.declared.spot.Kind.{Kind}
 use Rattle.alloc_buffers.specs.declared.spot.Taken.TheVariants.{At, NoRoom}
@@ -73,20 +74,28 @@ module _ (c : Config) (u : World) (seat words : ℕ) (kind : Kind) where
   abbrev accessed : TakeSpot → World
   accessed take = record { memory = touched u.memory (touch_at seat words take); block = u.block; ghost = u.ghost; graph = u.graph }
 
+  -- nothing of marking changes where neither its words nor pieces do
+  same_in : (w : World) → w.block ≡ u.block → w.ghost.snapshot ≡ u.ghost.snapshot → w.ghost.recording ≡ u.ghost.recording → ((n : ℕ) → w.memory (Grey n) ≡ u.memory (Grey n)) → ((t : ℕ) → w.memory (Count t) ≡ u.memory (Count t))
+      → ((t k : ℕ) → w.memory (Buffer t k) ≡ u.memory (Buffer t k)) → ((a : ℕ) → w.memory (Heap (a + 1)) ≡ u.memory (Heap (a + 1))) → w.memory Phase ≡ u.memory Phase → (j : ℕ) → w.ghost.scanning ≡ u.ghost.scanning → RelyMarks c j u w
+  same_in w block snapshot recording greys counts buffers shapes phase j scanning =
+      rely_marks c u w j phase greys counts buffers snapshot (λ t. ap (λ f. f t) recording) (ap (λ f. f j) scanning) (λ a is. subst (λ b. IsMarkable b a) (sym block) is) (λ a is. shapes a)
+
   module _ (take : TakeSpot) (going : is_ended take ≡ false) (shared : Shared c u) (can : CanTake c u seat words take) where
     -- there is no room in hand
     none_in_hand : (a more : ℕ) → u.block a ≡ Some (hand seat more) → ⊥
     none_in_hand a more is = none_taken words take going a more (can.hands a more is)
 
     -- what it counts on at another spot, in a world of the same pieces
-    can_at : (next : TakeSpot) (w : World) → w.block ≡ u.block → is_ready c seat words next ≡ true → TakeFacts c w seat words next → CanTake c w seat words next
-    can_at next w block ready facts = record {
+    can_at : (next : TakeSpot) (w : World) → w.block ≡ u.block → w.ghost.recording ≡ u.ghost.recording → w.ghost.scanning ≡ u.ghost.scanning → is_ready c seat words next ≡ true → TakeFacts c w seat words next → CanTake c w seat words next
+    can_at next w block recording scanning ready facts = record {
       seated = can.seated;
       least = can.least;
       most = can.most;
       ready = ready;
       facts = facts;
       hands = λ a more is. absurd (none_in_hand a more (ap (λ b. b a) (sym block) ∙ is));
+      records_none = ap (λ f. f seat) recording ∙ can.records_none;
+      scans_none = ap (λ f. f seat) scanning ∙ can.scans_none;
     }
 
     -- a load that leads to another spot
@@ -97,9 +106,9 @@ module _ (c : Config) (u : World) (seat words : ℕ) (kind : Kind) where
       memory = rw loaded (load_keeps u.memory at);
       graph = refl;
       shared = shared;
-      own = rw (loaded, leads) (can_at next u refl ready facts);
-      keeps = keeps_of seat u u (rely_same seat u);
-      others = λ j d. rely_same j u;
+      own = rw (loaded, leads) (can_at next u refl refl refl ready facts);
+      keeps = keeps_of c seat u u (rely_same c seat u);
+      others = λ j d. rely_same c j u;
     }
 
   -- the load of the current region
@@ -184,15 +193,16 @@ module _ (c : Config) (u : World) (seat words : ℕ) (kind : Kind) where
             rooms = shared.owned.rooms;
           };
           calm = shared.calm;
-          uncollected = shared.uncollected;
-          unfilled = shared.unfilled;
+          uncopied = shared.uncopied;
+          unwritten = shared.unwritten;
+          marked = shared.marked;
         };
         own = subst (λ s. CanTake c (taken_world region) seat words s)
             (sym (cond-true (bit_at (u.memory Free) region == 1) (StoreCurrent region) LoadFree won))
-            (can_at (TakeRegion region) refl shared can (StoreCurrent region) (taken_world region) refl
+            (can_at (TakeRegion region) refl shared can (StoreCurrent region) (taken_world region) refl refl refl
             (and_from _ _ (and_from _ _ (lt-ltb seat (seat_count c.mutators c.helpers) can.seated) (lt-ltb (region + 1) (2 ^ 64) (omega (arith, within, few)))) (lt-ltb _ _ within))
             (record { within = within; own = updated_there u.ghost.owner region (Some seat); empty = shared.owned.free_word.empty region within bit }));
-        keeps = search (arith, nat_tests);
+        keeps = (let marks = same_in (taken_world region) refl refl refl (λ n. refl) (λ t. refl) (λ t k. refl) (λ a. refl) refl seat refl in let kept = marks.keeps in search (arith, nat_tests, kept));
         others = λ j d. record {
           names = λ a n is. is;
           targets = λ a more_refs more_nums n has. record { piece = has.piece };
@@ -211,8 +221,9 @@ module _ (c : Config) (u : World) (seat words : ℕ) (kind : Kind) where
           wait = refl;
           answer = refl;
           state = refl;
-          phase = refl;
           cset = refl;
+          asked = λ is. is;
+          marks = same_in (taken_world region) refl refl refl (λ n. refl) (λ t. refl) (λ t k. refl) (λ a. refl) refl j refl;
         };
       }
 
@@ -231,14 +242,15 @@ module _ (c : Config) (u : World) (seat words : ℕ) (kind : Kind) where
         rooms = shared.owned.rooms;
       };
       calm = shared.calm;
-      uncollected = shared.uncollected;
-      unfilled = shared.unfilled;
+      uncopied = shared.uncopied;
+      unwritten = shared.unwritten;
+      marked = shared.marked;
     };
     own = subst (λ s. CanTake c (accessed (TakeRegion region)) seat words s)
         (sym (cond-false (bit_at (u.memory Free) region == 1) (StoreCurrent region) LoadFree lost))
-        (can_at (TakeRegion region) refl shared can LoadFree (accessed (TakeRegion region)) refl refl can.facts.0);
-    keeps = search (arith, nat_tests);
-    others = λ j d. search (arith, nat_tests);
+        (can_at (TakeRegion region) refl shared can LoadFree (accessed (TakeRegion region)) refl refl refl refl can.facts.0);
+    keeps = (let marks = same_in (accessed (TakeRegion region)) refl refl refl (λ n. refl) (λ t. refl) (λ t k. refl) (λ a. refl) refl seat refl in let kept = marks.keeps in search (arith, nat_tests, kept));
+    others = λ j d. let marks = same_in (accessed (TakeRegion region)) refl refl refl (λ n. refl) (λ t. refl) (λ t k. refl) (λ a. refl) refl j refl in search (arith, nat_tests, marks);
   }
 
   -- the step that takes a region
@@ -264,14 +276,15 @@ module _ (c : Config) (u : World) (seat words : ℕ) (kind : Kind) where
             rooms = rooms_with c (λ r. u.memory (Top r)) (λ s. u.memory (Current s)) u.block seat region (none_in_hand (StoreCurrent region) refl shared can) shared.owned.rooms;
           };
           calm = shared.calm;
-          uncollected = shared.uncollected;
-          unfilled = shared.unfilled;
+          uncopied = shared.uncopied;
+          unwritten = shared.unwritten;
+          marked = shared.marked;
         };
-        own = can_at (StoreCurrent region) refl shared can (StoreTop region 0) (accessed (StoreCurrent region)) refl
+        own = can_at (StoreCurrent region) refl shared can (StoreTop region 0) (accessed (StoreCurrent region)) refl refl refl
             (and_from _ _ (and_from _ _ (lt-ltb _ _ taken.within) (lt-ltb _ _ (omega (arith, most)))) (le-leb _ _ (omega (arith, most, long))))
             (record { within = taken.within; is_current = cond-true (seat == seat) _ _ (eq-eqb seat seat refl); top_is = taken.empty; room = omega (arith, most, long) });
-        keeps = search (arith, nat_tests);
-        others = λ j d. search (arith, nat_tests);
+        keeps = (let marks = same_in (accessed (StoreCurrent region)) refl refl refl (λ n. refl) (λ t. refl) (λ t k. refl) (λ a. refl) refl seat refl in let kept = marks.keeps in search (arith, nat_tests, kept));
+        others = λ j d. let marks = same_in (accessed (StoreCurrent region)) refl refl refl (λ n. refl) (λ t. refl) (λ t k. refl) (λ a. refl) refl j refl in search (arith, nat_tests, marks);
       }
 
   module _ (region top : ℕ) (shared : Shared c u) (can : CanTake c u seat words (StoreTop region top)) where
@@ -317,8 +330,10 @@ module _ (c : Config) (u : World) (seat words : ℕ) (kind : Kind) where
       contents = contents_more c tops currents u.block region top words seat grows (λ a. u.memory (Heap a)) u.graph.object u.graph.count shared.contents;
       owned = owned_more c tops currents u.block region top words seat grows (u.memory Free) u.ghost.owner can.seated roomy.is_current none shared.owned;
       calm = shared.calm;
-      uncollected = shared.uncollected;
-      unfilled = unfilled_more c tops currents u.block region top words seat grows shared.unfilled;
+      uncopied = shared.uncopied;
+      unwritten = unwritten_more c tops currents u.block region top words seat grows (λ a. u.memory (Heap a)) shared.unwritten;
+      marked = marking_more c tops currents u.block region top words seat grows (u.memory Phase) (λ n. u.memory (Grey n)) (λ n. u.memory (Black n)) (λ t. u.memory (Count t)) (λ t k. u.memory (Buffer t k))
+          (λ r. u.memory (Tams r)) (λ a. u.memory (Heap a)) u.ghost.snapshot u.ghost.recording u.ghost.scanning shared.marked;
     }
 
     -- what a word stands for it still stands for
@@ -338,10 +353,16 @@ module _ (c : Config) (u : World) (seat words : ℕ) (kind : Kind) where
       ready = refl;
       facts = updated_there u.block address (Some (hand seat words));
       hands = own_hand c tops currents u.block region top words seat grows none;
+      records_none = can.records_none;
+      scans_none = can.scans_none;
     }
 
+    -- marking goes on
+    marks_grown : (j : ℕ) → RelyMarks c j u grown_world
+    marks_grown j = rely_marks c u grown_world j refl (λ n. refl) (λ t. refl) (λ t k. refl) refl (λ t. refl) refl (markable_more c tops currents u.block region top words seat grows) (λ a is. refl)
+
     -- the facts of the seat's machine stand
-    keeps_grown : Keeps seat u grown_world
+    keeps_grown : Keeps c seat u grown_world
     keeps_grown = record {
       names = names;
       targets = λ a refs nums n has. record { piece = stays_there a (thing n refs nums) has.piece };
@@ -355,10 +376,11 @@ module _ (c : Config) (u : World) (seat words : ℕ) (kind : Kind) where
       count = refl;
       wait = refl;
       answer = refl;
+      marks = (marks_grown seat).keeps;
     }
 
     -- others can rely on what they knew
-    others_grown : (j : ℕ) → j ≢ seat → Rely j u grown_world
+    others_grown : (j : ℕ) → j ≢ seat → Rely c j u grown_world
     others_grown j differs = record {
       names = names;
       targets = λ a refs nums n has. record { piece = stays_there a (thing n refs nums) has.piece };
@@ -377,8 +399,9 @@ module _ (c : Config) (u : World) (seat words : ℕ) (kind : Kind) where
       wait = refl;
       answer = refl;
       state = refl;
-      phase = refl;
       cset = refl;
+      asked = λ is. is;
+      marks = marks_grown j;
     }
 
     -- the store of the top puts the words into hand

@@ -1,5 +1,5 @@
 -- What a machine of a seat counts on while it takes room.
-use Rattle.std.specs.Prelude.{ℕ, ◌≡◌, ◌+◌, ◌<◌, ◌≤◌, true, Some}
+use Rattle.std.specs.Prelude.{ℕ, ◌≡◌, ◌+◌, ◌<◌, ◌≤◌, true, Some, None}
 use Rattle.heap_words.specs.declared.config.Config.{Config}
 use Rattle.heap_words.specs.Ranges.{seat_count}
 use Rattle.heap_words.specs.Words.{Word, Top, Current}
@@ -44,7 +44,7 @@ IsTakenRoom (Ended (At address)) words a more = (a ≡ address) × (more ≡ wor
 IsTakenRoom _ words a more = ⊥
 
 -- What a machine of a seat that takes room for so many words counts on. It has no room in hand but what the taking has
--- ended with.
+-- ended with, and neither records nor scans.
 pub record CanTake (c : Config) (w : World) (seat words : ℕ) (take : TakeSpot) : Type 0 where
   pub seated : seat < seat_count c.mutators c.helpers
   pub least : 3 ≤ words
@@ -52,3 +52,5 @@ pub record CanTake (c : Config) (w : World) (seat words : ℕ) (take : TakeSpot)
   pub ready : is_ready c seat words take ≡ true
   pub facts : TakeFacts c w seat words take
   pub hands : (a more : ℕ) → w.block a ≡ Some (hand seat more) → IsTakenRoom take words a more
+  pub records_none : w.ghost.recording seat ≡ None
+  pub scans_none : w.ghost.scanning seat ≡ None

@@ -2,17 +2,19 @@
 use Rattle.std.proofs.Common.{◌≡◌, ℕ, inl, inr, ⊎_elim, true, false, Some, None, refl, sym, ap, ◌∙◌}
 use Rattle.std.proofs.Math.Path.{fun_ext}
 use Rattle.std.proofs.lemmas.Bool.{cases_Bool, cond-true, cond-false}
+use Rattle.heap_words.specs.declared.config.Config.{Config}
 use Rattle.heap_words.specs.Words.{Word, same_word, write}
 use Rattle.heap_words.proofs.Stores.{same_word_true}
 use Rattle.shen_graph.specs.declared.name.Name.{Name}
 use Rattle.shen_graph.specs.Graph.{Reference}
-use Rattle.heap_world.specs.World.{World, Plot, no_ghost, IsUncollected, Target, IsUsable, Points, name_at}
+use Rattle.heap_world.specs.World.{World, Plot, no_ghost, IsUncopied, Target, IsUsable, Points, name_at}
 use Rattle.heap_world.proofs.Pointing.{named_thing}
+use Rattle.heap_world.proofs.Marked.{same_marks}
 use Rattle.heap_world.specs.Rely.{Keeps, Rely}
 
--- nobody marks, copies or works in no ghost state
-pub none_collects : IsUncollected no_ghost.snapshot no_ghost.recording no_ghost.scanning no_ghost.copying no_ghost.working
-none_collects = record { empty = refl; records_none = λ seat. refl; scans_none = λ seat. refl; copies_none = λ seat. refl; works_none = λ seat. refl }
+-- nobody copies or works in no ghost state
+pub none_copies : IsUncopied no_ghost.copying no_ghost.working
+none_copies = record { copies_none = λ seat. refl; works_none = λ seat. refl }
 
 -- a word stands for what it stood for where names stay
 pub points_stay : (u w : Plot) → ((a : ℕ) (name : Name) → name_at (u a) ≡ Some name → name_at (w a) ≡ Some name) → (word : ℕ) (reference : Reference) → Points u word reference → Points w word reference
@@ -37,8 +39,8 @@ usable_now block word None points = inl points
 usable_now block word (Some name) points = let piece = named_thing (block word) name points in inr (name, piece.0, piece.1, record { piece = piece.2 })
 
 -- where nothing changes, everything can be relied on
-pub rely_same : (seat : ℕ) (u : World) → Rely seat u u
-rely_same seat u = record {
+pub rely_same : (c : Config) (seat : ℕ) (u : World) → Rely c seat u u
+rely_same c seat u = record {
   names = λ a name is. is;
   targets = λ a refs nums name is. is;
   hands = λ a words is. is;
@@ -56,13 +58,14 @@ rely_same seat u = record {
   wait = refl;
   answer = refl;
   state = refl;
-  phase = refl;
   cset = refl;
+  asked = λ is. is;
+  marks = same_marks c u seat;
 }
 
 -- what is relied on keeps all that the facts of a seat stand on
-pub keeps_of : (seat : ℕ) (u w : World) → Rely seat u w → Keeps seat u w
-keeps_of seat u w rely = record {
+pub keeps_of : (c : Config) (seat : ℕ) (u w : World) → Rely c seat u w → Keeps c seat u w
+keeps_of c seat u w rely = record {
   names = rely.names;
   targets = rely.targets;
   hands = rely.hands;
@@ -75,4 +78,5 @@ keeps_of seat u w rely = record {
   count = rely.count;
   wait = rely.wait;
   answer = rely.answer;
+  marks = rely.marks.keeps;
 }

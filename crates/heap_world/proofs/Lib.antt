@@ -4,6 +4,9 @@ pub mod Pointing
 pub mod Apart
 pub mod Pieces
 pub mod Joined
+pub mod Unwritten
+pub mod Traced
+pub mod Marked
 pub mod NewPiece
 pub mod FreeRegions
 pub mod Objects

@@ -1,6 +1,6 @@
 -- A piece that is no object yet, room in hand or a promised object, becomes one: it keeps its words, and the graph has the object
 -- under a fresh name.
-use Rattle.std.proofs.Common.{◌≡◌, ◌≢◌, ℕ, zero, suc, ◌+◌, ◌<◌, ◌≤◌, true, false, replicate, Option, Some, None, ⊎_elim, refl, sym, ap, ◌∙◌, subst, arith}
+use Rattle.std.proofs.Common.{◌≡◌, ◌≢◌, ℕ, zero, suc, ◌+◌, ◌<◌, ◌≤◌, ◌⊎◌, true, false, replicate, Option, Some, None, ⊎_elim, refl, sym, ap, ◌∙◌, subst, arith}
 use Rattle.std.specs.Prelude.{◌==◌, if◌then◌else◌, slice_get}
 use Rattle.std.proofs.lemmas.Bool.{cases_eq, cases_Bool, cond-true, cond-false, eq-eqb}
 use Rattle.std.proofs.lemmas.Bool.Decides.{nat_tests}
@@ -12,10 +12,12 @@ use Rattle.shen_graph.specs.declared.name.Name.{Name}
 use Rattle.shen_graph.specs.Graph.{Object, same_name, blank}
 use Rattle.shen_graph.proofs.PlainLemmas.{same_name-true, same_name-itself}
 use Rattle.heap_words.specs.Encoding.{fresh_word}
-use Rattle.heap_world.specs.World.{Block, thing, hand, promised, filler, words_of, Plot, name_at, Points, IsInUse, IsPlotted, IsFilled, IsThing, IsGiven, AreObjects, IsParsable, AreOwned, HasNoFiller}
+use Rattle.heap_world.specs.World.{Block, thing, hand, promised, filler, words_of, Plot, name_at, Points, IsInUse, IsPlotted, IsFilled, IsThing, IsGiven, AreObjects, IsParsable, AreOwned, AreUnwritten, Snapshot, Scan, IsMarkable, IsYoung, KeepsSnapshot}
 use Rattle.heap_world.proofs.Updates.{updated, updated_there, updated_else}
 use Rattle.heap_world.proofs.Pointing.{named_thing}
 use Rattle.heap_world.proofs.Objects.{two_names, where_object}
+use Rattle.heap_world.proofs.Unwritten.{unwritten_stays}
+use Rattle.heap_world.proofs.Marked.{markable_stays, marked_made}
 use Rattle.heap_world.proofs.Pieces.{piece_cases, object_reads}
 
 -- the references of a new object are null, and its numbers 0
@@ -133,9 +135,28 @@ module _ (c : Config) (top : ℕ → ℕ) (block : Plot) (address refs nums : �
     fillers = λ a words is. parsable.fillers a words (old_unnamed a (filler words) refl is).1;
   }
 
-  -- no more words only fill
-  pub unfilled_again : HasNoFiller block → HasNoFiller new_block
-  unfilled_again none a words is = none a words (old_unnamed a (filler words) refl is).1
+  -- pieces that nobody writes to are as before
+  pub unwritten_again : (heap : ℕ → ℕ) → AreUnwritten heap block → AreUnwritten heap new_block
+  unwritten_again heap = unwritten_stays heap heap block new_block (λ a other more is. ((old_promise a other more is).1, λ k below. refl)) (λ a more is. ((old_unnamed a (filler more) refl is).1, refl))
+
+  -- a piece elsewhere stands where it stood
+  elsewhere : (a : ℕ) (b : Block) → block a ≡ Some b → a ≢ address → new_block a ≡ Some b
+  elsewhere a b is other = updated_else block address (Some new_thing) a (λ e. other (sym e)) ∙ is
+
+  -- what can be marked still can
+  pub markable_again : (a : ℕ) → IsMarkable block a → IsMarkable new_block a
+  markable_again = markable_stays block new_block things_stay (λ a other more is. ⊎_elim
+      (λ (same : a ≡ address). IsMarkable.object name refs nums (ap new_block same ∙ updated_there block address (Some new_thing)))
+      (λ (differs : a ≢ address). IsMarkable.to_come other more (elsewhere a (promised other more) is differs))
+      (cases_eq a address))
+
+  -- marking goes on, where the piece is young, or was named when marking began
+  pub marking_again : (phase : ℕ) (grey black count : ℕ → ℕ) (buffer : ℕ → ℕ → ℕ) (tams heap : ℕ → ℕ) (s : Snapshot) (recording : ℕ → Option ℕ) (scanning : ℕ → Option Scan)
+      → (phase ≡ 1 → (s.starts address ≡ true) ⊎ IsYoung c s.top address)
+      → KeepsSnapshot c phase grey black count buffer top tams heap block s recording scanning → KeepsSnapshot c phase grey black count buffer top tams heap new_block s recording scanning
+  marking_again phase grey black count buffer tams heap s recording scanning known marked =
+      marked_made c phase grey black count buffer top tams heap block s recording scanning marked new_block address refs nums name (updated_there block address (Some new_thing)) known things_stay elsewhere
+      (λ a b is other. sym (updated_else block address (Some new_thing) a (λ e. other (sym e))) ∙ is)
 
   module _ (heap : ℕ → ℕ) (object : Name → Option Object) (objects : AreObjects heap block object) (fresh : (o : Object) → object name ≡ Some o → ⊥) (o : Object) where
     -- the objects of other names are as before

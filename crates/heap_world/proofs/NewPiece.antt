@@ -1,13 +1,17 @@
 -- A new piece at the top of a region: the words between the old top and the new one, in a seat's hand.
-use Rattle.std.proofs.Common.{◌≡◌, ◌≢◌, ℕ, ◌+◌, ◌<◌, ◌≤◌, Option, Some, ⊎_elim, refl, sym, ap, ◌∙◌, subst, arith}
+use Rattle.std.proofs.Common.{◌≡◌, ◌≢◌, ℕ, ◌+◌, ◌<◌, ◌≤◌, Option, Some, inl, inr, ⊎_elim, refl, sym, ap, ◌∙◌, subst, arith}
+use Rattle.std.proofs.lemmas.Bool.{cases_eq}
 use Rattle.std.proofs.lemmas.Option.{none-some, same_Some}
 use Rattle.heap_words.specs.declared.config.Config.{Config}
 use Rattle.heap_words.specs.Ranges.{seat_count}
-use Rattle.regions.specs.Place.{base_of}
+use Rattle.regions.specs.Place.{base_of, IsOf}
+use Rattle.regions.proofs.PlaceLemmas.{regions_tile}
 use Rattle.shen_graph.specs.declared.name.Name.{Name}
 use Rattle.shen_graph.specs.Graph.{Object}
-use Rattle.heap_world.specs.World.{Block, thing, hand, promised, filler, Plot, name_at, AreObjects, IsFreeWord, AreCurrent, IsRoom, AreRooms, IsParsable, HasContents, AreOwned, HasNoFiller}
+use Rattle.heap_world.specs.World.{Block, thing, hand, promised, filler, Plot, name_at, AreObjects, IsFreeWord, AreCurrent, IsRoom, AreRooms, IsParsable, HasContents, AreOwned, AreUnwritten, Snapshot, Scan, IsMarkable, IsYoung, KeepsSnapshot}
 use Rattle.heap_world.proofs.Updates.{updated, updated_there, updated_else}
+use Rattle.heap_world.proofs.Unwritten.{unwritten_stays}
+use Rattle.heap_world.proofs.Marked.{markable_stays, marked_more}
 use Rattle.heap_world.proofs.Joined as joined
 use Rattle.heap_world.proofs.Joined.{CanJoin}
 use Rattle.heap_world.proofs.Pieces.{some_words, piece_cases, object_reads}
@@ -88,10 +92,6 @@ module _ (c : Config) (top current : ℕ → ℕ) (block : Plot) (region at word
       (λ (old : (a ≢ address) × (block a ≡ Some (filler more))). old.1)
       (piece_cases block address (hand seat words) a (filler more) is)
 
-  -- no more words only fill
-  pub unfilled_more : HasNoFiller block → HasNoFiller new_block
-  unfilled_more none a more is = none a more (old_filler a more is)
-
   -- the heap is parsable
   pub parsable_more : IsParsable c new_top new_block
   parsable_more = record {
@@ -100,6 +100,37 @@ module _ (c : Config) (top current : ℕ → ℕ) (block : Plot) (region at word
     promises = λ a other more is. grows.parsable.promises a other more (old_promise a other more is);
     fillers = λ a more is. grows.parsable.fillers a more (old_filler a more is);
   }
+
+  -- pieces that nobody writes to are as before
+  pub unwritten_more : (heap : ℕ → ℕ) → AreUnwritten heap block → AreUnwritten heap new_block
+  unwritten_more heap = unwritten_stays heap heap block new_block (λ a other more is. (old_promise a other more is, λ k below. refl)) (λ a more is. (old_filler a more is, refl))
+
+  -- what can be marked still can
+  pub markable_more : (a : ℕ) → IsMarkable block a → IsMarkable new_block a
+  markable_more = markable_stays block new_block (λ a refs nums name is. stays a (thing name refs nums) is) (λ a other more is. IsMarkable.to_come other more (stays a (promised other more) is))
+
+  -- the new piece is young: the top at mark start is no higher than the one on which it stands
+  young_there : (start : ℕ → ℕ) → ((r : ℕ) → r < c.regions → start r ≤ top r) → IsYoung c start address
+  young_there start floors =
+      let inside : IsOf c region address = record { from = omega arith; before = (let room = grows.room in let some = grows.some in omega (arith, room, some)) } in
+      let floor = floors region grows.within in
+      let top_is = grows.top_is in
+      subst (λ r. base_of c r + start r ≤ address) (sym (regions_tile.of_no_other c region address inside)) (omega (arith, floor, top_is))
+
+  -- marking goes on
+  pub marking_more : (phase : ℕ) (grey black count : ℕ → ℕ) (buffer : ℕ → ℕ → ℕ) (tams heap : ℕ → ℕ) (s : Snapshot) (recording : ℕ → Option ℕ) (scanning : ℕ → Option Scan)
+      → KeepsSnapshot c phase grey black count buffer top tams heap block s recording scanning → KeepsSnapshot c phase grey black count buffer new_top tams heap new_block s recording scanning
+  marking_more phase grey black count buffer tams heap s recording scanning marked =
+      marked_more c phase grey black count buffer top tams heap block s recording scanning marked new_top new_block address (young_there s.top marked.floors)
+      (λ r. ⊎_elim
+      (λ (same : r ≡ region). let now : new_top r ≡ at + words = ap new_top same ∙ updated_there top region (at + words) in let was : top r ≡ at = ap top same ∙ grows.top_is in omega (arith, now, was))
+      (λ (other : r ≢ region). let now : new_top r ≡ top r = updated_else top region (at + words) r (λ e. other (sym e)) in omega (arith, now))
+      (cases_eq r region))
+      stays
+      (λ a b is. ⊎_elim
+      (λ (new : (a ≡ address) × (hand seat words ≡ b)). inr (new.0, seat, words, sym new.1))
+      (λ (old : (a ≢ address) × (block a ≡ Some b)). inl old.1)
+      (piece_cases block address (hand seat words) a b is))
 
   -- the words are those of the graph's objects
   objects_more : (heap : ℕ → ℕ) (object : Name → Option Object) → AreObjects heap block object → AreObjects heap new_block object

@@ -1,18 +1,20 @@
 -- A word of an object changes, and the graph's object with it.
-use Rattle.std.proofs.Common.{◌≡◌, ◌≢◌, ℕ, ◌+◌, ◌<◌, ◌≤◌, false, List, length, Option, Some, ⊎_elim, refl, sym, ap, ◌∙◌, arith}
+use Rattle.std.proofs.Common.{◌≡◌, ◌≢◌, ℕ, ◌+◌, ◌<◌, ◌≤◌, ◌⊎◌, inl, inr, false, List, length, Option, Some, ⊎_elim, refl, sym, ap, ◌∙◌, subst, arith}
 use Rattle.std.specs.Prelude.{if◌then◌else◌, slice_get, slice_set}
 use Rattle.std.proofs.lemmas.Bool.{cases_Bool, cases_eq, cond-true, cond-false}
 use Rattle.std.proofs.lemmas.List.{length-set}
 use Rattle.std.proofs.lemmas.Option.{same_Some, slice_get_within, slice_get-get_or}
 use Rattle.heap_words.specs.declared.config.Config.{Config}
-use Rattle.heap_words.specs.Words.{Heap, Top, write}
+use Rattle.heap_words.specs.Words.{Phase, Grey, Black, Count, Buffer, Heap, Top, Tams, write}
 use Rattle.steps_base.proofs.Places.{slice_get-set_same, slice_get-set_other}
 use Rattle.shen_graph.specs.declared.name.Name.{Name}
 use Rattle.shen_graph.specs.Graph.{Reference, Object, Graph, same_name}
 use Rattle.shen_graph.proofs.PlainLemmas.{same_name-true, same_name-itself}
-use Rattle.heap_world.specs.World.{World, thing, hand, promised, Plot, Points, Target, IsPlotted, IsThing, AreObjects, Shared}
+use Rattle.heap_world.specs.World.{World, Block, thing, hand, promised, filler, words_of, Plot, Points, Target, IsPlotted, IsThing, AreObjects, IsMarkable, IsDone, IsCovered, NotedIn, Shared}
 use Rattle.heap_world.specs.Rely.{Rely}
 use Rattle.heap_world.proofs.Updates.{updated, updated_same, updated_else}
+use Rattle.heap_world.proofs.Unwritten.{unwritten_stays}
+use Rattle.heap_world.proofs.Marked.{rely_marks, marked_stored}
 use Rattle.heap_world.proofs.Apart.{one_piece}
 use Rattle.heap_world.proofs.Pieces.{object_reads}
 
@@ -122,10 +124,34 @@ abbrev pub changed : Graph → Name → Object → (ℕ → ℕ → Reference) �
 changed g name o root = record { object = where_object g.object name o; root = root; count = g.count }
 
 module _ (c : Config) (u : World) (a refs nums at value : ℕ) (name : Name) (o : Object) (root : ℕ → ℕ → Reference) (shared : Shared c u) (target : Target u.block a refs nums name) where
-  -- what machines share, after a word of an object and the graph's object have changed
-  pub shared_stored : a ≤ at → at < a + (3 + refs + nums) → IsThing (updated (λ b. u.memory (Heap b)) at value) u.block a refs nums name o
+  -- the words of another piece stay
+  else_stays : a ≤ at → at < a + (3 + refs + nums) → (b k : ℕ) (x : Block) → u.block b ≡ Some x → (x ≡ thing name refs nums → ⊥) → k < words_of x
+      → updated (λ b. u.memory (Heap b)) at value (b + k) ≡ u.memory (Heap (b + k))
+  else_stays from_start to_end b k x is differs below = updated_else (λ b. u.memory (Heap b)) at value (b + k) (λ same.
+      let same_piece : b ≡ a = one_piece c (λ r. u.memory (Top r)) u.block shared.parsable.plotted b a (b + k) x (thing name refs nums) is target.piece (omega arith) (omega (arith, below)) (omega (arith, same, from_start)) (omega (arith, same, to_end)) in
+      differs (same_Some x (thing name refs nums) (sym is ∙ ap u.block same_piece ∙ target.piece)))
+
+  -- a field of the snapshot stays, or it is the one that is stored, and then it is covered
+  field_stays : a ≤ at → at < a + (3 + refs + nums) → ((i : ℕ) → i < refs → at ≡ a + 3 + i → IsCovered c u a i)
+      → (b more_refs more_nums k : ℕ) (n : Name) → u.ghost.snapshot.block b ≡ Some (thing n more_refs more_nums) → k < more_refs
+      → (updated (λ b. u.memory (Heap b)) at value (b + 3 + k) ≡ u.memory (Heap (b + 3 + k))) ⊎ IsDone u.ghost.snapshot (NotedIn c u) b k
+  field_stays from_start to_end covered b more_refs more_nums k n is below = ⊎_elim
+      (λ (same : at ≡ b + 3 + k).
+      let there = shared.marked.kept b more_refs more_nums n is in
+      let same_piece : b ≡ a = one_piece c (λ r. u.memory (Top r)) u.block shared.parsable.plotted b a (b + 3 + k) (thing n more_refs more_nums) (thing name refs nums) there target.piece
+          (omega arith) (omega (arith, below)) (omega (arith, same, from_start)) (omega (arith, same, to_end)) in
+      let both : Some (thing n more_refs more_nums) ≡ Some (thing name refs nums) = sym there ∙ ap u.block same_piece ∙ target.piece in
+      let refs_are : more_refs ≡ refs = cc in
+      inr (subst (λ x. IsDone u.ghost.snapshot (NotedIn c u) x k) (sym same_piece)
+      (covered k (omega (arith, below, refs_are)) (omega (arith, same, same_piece)) more_refs more_nums n (ap u.ghost.snapshot.block (sym same_piece) ∙ is) below)))
+      (λ (other : at ≢ b + 3 + k). inl (updated_else (λ b. u.memory (Heap b)) at value (b + 3 + k) other))
+      (cases_eq at (b + 3 + k))
+
+  -- what machines share, after a word of an object and the graph's object have changed. A field of the snapshot is covered.
+  pub shared_stored : a ≤ at → at < a + (3 + refs + nums) → ((i : ℕ) → i < refs → at ≡ a + 3 + i → IsCovered c u a i)
+      → IsThing (updated (λ b. u.memory (Heap b)) at value) u.block a refs nums name o
       → Shared c (stored u at value (changed u.graph name o root))
-  shared_stored from_start to_end is = record {
+  shared_stored from_start to_end covered is = record {
     parsable = shared.parsable;
     contents = record {
       objects = objects_stored c (λ r. u.memory (Top r)) (λ b. u.memory (Heap b)) u.block u.graph.object shared.parsable.plotted shared.contents.objects a refs nums at value name o target.piece from_start to_end is;
@@ -136,14 +162,31 @@ module _ (c : Config) (u : World) (a refs nums at value : ℕ) (name : Name) (o 
     };
     owned = shared.owned;
     calm = shared.calm;
-    uncollected = shared.uncollected;
-    unfilled = shared.unfilled;
+    uncopied = shared.uncopied;
+    unwritten = unwritten_stays (λ b. u.memory (Heap b)) (updated (λ b. u.memory (Heap b)) at value) u.block u.block
+        (λ b seat words is_promised. (is_promised, λ k below. else_stays from_start to_end b k (promised seat words) is_promised (λ differ. cc) below))
+        (λ b words is_filler. (is_filler,
+        let header : b + 0 ≡ b = omega arith in
+        ap (updated (λ b. u.memory (Heap b)) at value) (sym header)
+        ∙ else_stays from_start to_end b 0 (filler words) is_filler (λ differ. cc) (let long = shared.parsable.fillers b words is_filler in omega (arith, long))
+        ∙ ap (λ b. u.memory (Heap b)) header))
+        shared.unwritten;
+    marked = marked_stored c (u.memory Phase) (λ n. u.memory (Grey n)) (λ n. u.memory (Black n)) (λ t. u.memory (Count t)) (λ t k. u.memory (Buffer t k)) (λ r. u.memory (Top r)) (λ r. u.memory (Tams r))
+        (λ b. u.memory (Heap b)) u.block u.ghost.snapshot u.ghost.recording u.ghost.scanning shared.marked (updated (λ b. u.memory (Heap b)) at value) (field_stays from_start to_end covered);
   }
 
+  -- the shape of an object stays
+  shape_stays : a ≤ at → at < a + (3 + refs + nums) → at ≢ a + 1 → (b : ℕ) → IsMarkable u.block b → updated (λ b. u.memory (Heap b)) at value (b + 1) ≡ u.memory (Heap (b + 1))
+  shape_stays from_start to_end no_shape b (IsMarkable.object n more_refs more_nums is) = updated_else (λ b. u.memory (Heap b)) at value (b + 1) (λ same.
+      let same_piece : b ≡ a = one_piece c (λ r. u.memory (Top r)) u.block shared.parsable.plotted b a (b + 1) (thing n more_refs more_nums) (thing name refs nums) is target.piece (omega arith) (omega arith) (omega (arith, same, from_start)) (omega (arith, same, to_end)) in
+      no_shape (omega (arith, same, same_piece)))
+  shape_stays from_start to_end no_shape b (IsMarkable.to_come seat words is) =
+      else_stays from_start to_end b 1 (promised seat words) is (λ differ. cc) (let long = shared.parsable.promises b seat words is in omega (arith, long))
+
   -- and what another mutator relies on, if its roots are as before
-  pub rely_stored : a ≤ at → at < a + (3 + refs + nums) → (seat : ℕ) → ((i : ℕ) → root (seat + 1) i ≡ u.graph.root (seat + 1) i)
-      → Rely seat u (stored u at value (changed u.graph name o root))
-  rely_stored from_start to_end seat roots = record {
+  pub rely_stored : a + 3 ≤ at → at < a + (3 + refs + nums) → (seat : ℕ) → ((i : ℕ) → root (seat + 1) i ≡ u.graph.root (seat + 1) i)
+      → Rely c seat u (stored u at value (changed u.graph name o root))
+  rely_stored behind to_end seat roots = let from_start : a ≤ at = omega (arith, behind) in record {
     names = λ b n is. is;
     targets = λ b more_refs more_nums n has. record { piece = has.piece };
     hands = λ b words is. is;
@@ -167,6 +210,8 @@ module _ (c : Config) (u : World) (a refs nums at value : ℕ) (name : Name) (o 
     wait = refl;
     answer = refl;
     state = refl;
-    phase = refl;
     cset = refl;
+    asked = λ is. is;
+    marks = rely_marks c u (stored u at value (changed u.graph name o root)) seat refl (λ n. refl) (λ t. refl) (λ t k. refl) refl (λ t. refl) refl (λ b is. is)
+        (shape_stays from_start to_end (λ same. omega (arith, same, behind)));
   }

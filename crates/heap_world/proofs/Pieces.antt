@@ -22,7 +22,7 @@ pub some_words : (c : Config) (top current : ℕ → ℕ) (block : Plot) → IsP
 some_words c top current block parsable rooms a (thing name refs nums) is = omega arith
 some_words c top current block parsable rooms a (hand seat words) is = let room = rooms a seat words is in omega (arith, room.some)
 some_words c top current block parsable rooms a (promised seat words) is = let long = parsable.promises a seat words is in omega (arith, long)
-some_words c top current block parsable rooms a (filler words) is = parsable.fillers a words is
+some_words c top current block parsable rooms a (filler words) is = (let long = parsable.fillers a words is in omega (arith, long))
 
 -- A piece ends before a region, or lies in its part in use, or begins behind it.
 abbrev Beside : Config → (ℕ → ℕ) → ℕ → ℕ → Block → Type 0

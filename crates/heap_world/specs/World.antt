@@ -216,7 +216,7 @@ pub record AreUnwritten (heap : ℕ → ℕ) (block : Plot) : Type 0 where
   pub blanks : (a seat words : ℕ) → block a ≡ Some (promised seat words) → IsBlank heap a words
   pub headers : (a words : ℕ) → block a ≡ Some (filler words) → heap a ≡ plain_header
 
--- Marking from a snapshot at the beginning. What is marked is an object: one of the graph, or one that is promised.
+-- Marking from a snapshot at the beginning: what is marked is an object: one of the graph, or one that is promised.
 pub data IsMarkable (block : Plot) (a : ℕ) : Type 0 where
   object : (name : Name) (refs nums : ℕ) → block a ≡ Some (thing name refs nums) → IsMarkable block a
   to_come : (seat words : ℕ) → block a ≡ Some (promised seat words) → IsMarkable block a
@@ -265,6 +265,11 @@ pub record IsTraced (c : Config) (s : Snapshot) (heap black : ℕ → ℕ) (scan
   pub edges : (a refs nums k : ℕ) (name : Name) → s.block a ≡ Some (thing name refs nums) → k < refs → IsTracedAt c s heap black scanning Noted a k
   pub starts : (a : ℕ) → s.starts a ≡ true → Noted a
 
+-- what roots and answers of the snapshot lead to, by its fields
+pub data IsLed (s : Snapshot) : ℕ → Type 0 where
+  by_start : (a : ℕ) → s.starts a ≡ true → IsLed s a
+  by_field : (a refs nums k : ℕ) (name : Name) → IsLed s a → s.block a ≡ Some (thing name refs nums) → k < refs → was_at s a k ≢ 0 → IsLed s (was_at s a k)
+
 -- words of marks are words of 64 bits, and what they mark are objects
 pub record AreMarks (c : Config) (marks : ℕ → ℕ) (block : Plot) : Type 0 where
   pub small : (n : ℕ) → marks n < 2 ^ 64
@@ -282,6 +287,7 @@ pub record KeepsSnapshot (c : Config) (phase : ℕ) (grey black count : ℕ → 
   pub empty : phase ≢ 1 → s ≡ no_snapshot
   pub begun : IsSnapshot c s
   pub traced : IsTraced c s heap black scanning (IsNoted c grey count buffer recording)
+  pub led : (a refs nums : ℕ) (name : Name) → s.block a ≡ Some (thing name refs nums) → IsLed s a
   pub kept : (a refs nums : ℕ) (name : Name) → s.block a ≡ Some (thing name refs nums) → block a ≡ Some (thing name refs nums)
   pub older : phase ≡ 1 → (a refs nums : ℕ) (name : Name) → block a ≡ Some (thing name refs nums) → (s.block a ≡ Some (thing name refs nums)) ⊎ ((s.starts a ≡ true) ⊎ IsYoung c s.top a)
   pub promises : phase ≡ 1 → (a seat words : ℕ) → block a ≡ Some (promised seat words) → s.starts a ≡ true
@@ -312,3 +318,7 @@ Shared c w = SharedFacts c (λ r. w.memory (Top r)) (λ a. w.memory (Heap a)) w.
 -- what is noted in a world
 abbrev pub NotedIn : Config → World → ℕ → Type 0
 NotedIn c w v = IsNoted c (λ n. w.memory (Grey n)) (λ t. w.memory (Count t)) (λ t k. w.memory (Buffer t k)) w.ghost.recording v
+
+-- marking needs a field of the snapshot no more, if an object of it has that field
+abbrev pub IsCovered : Config → World → ℕ → ℕ → Type 0
+IsCovered c w a k = (refs nums : ℕ) (name : Name) → w.ghost.snapshot.block a ≡ Some (thing name refs nums) → k < refs → IsDone w.ghost.snapshot (NotedIn c w) a k
