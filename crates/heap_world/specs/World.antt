@@ -241,16 +241,6 @@ pub data IsToScan (c : Config) (black : ℕ → ℕ) (scanning : ℕ → Option 
 abbrev pub was_at : Snapshot → ℕ → ℕ → ℕ
 was_at s a k = s.heap (a + 3 + k)
 
--- What roots and answers of the snapshot lead to: they named it, or a field of what they lead to did.
-pub data IsLedTo (s : Snapshot) : ℕ → Type 0 where
-  from_start : (a : ℕ) → s.starts a ≡ true → IsLedTo s a
-  from_field : (a refs nums k : ℕ) (name : Name) → IsLedTo s a → s.block a ≡ Some (thing name refs nums) → k < refs → was_at s a k ≢ 0 → IsLedTo s (was_at s a k)
-
--- A snapshot is of what was reachable at mark start: roots and answers lead to each of its objects, and none has been allocated since.
-pub record IsSnapshot (c : Config) (s : Snapshot) : Type 0 where
-  pub led : (a refs nums : ℕ) (name : Name) → s.block a ≡ Some (thing name refs nums) → IsLedTo s a
-  pub old : (a refs nums : ℕ) (name : Name) → s.block a ≡ Some (thing name refs nums) → IsYoung c s.top a → ⊥
-
 -- marking needs that field no more: it was null, or its object is noted
 abbrev pub IsDone : Snapshot → (ℕ → Type 0) → ℕ → ℕ → Type 0
 IsDone s Noted a k = (was_at s a k ≡ 0) ⊎ Noted (was_at s a k)
@@ -285,9 +275,9 @@ pub record AreEntries (c : Config) (count : ℕ → ℕ) (buffer : ℕ → ℕ �
 -- other phases there is no snapshot.
 pub record KeepsSnapshot (c : Config) (phase : ℕ) (grey black count : ℕ → ℕ) (buffer : ℕ → ℕ → ℕ) (top tams heap : ℕ → ℕ) (block : Plot) (s : Snapshot) (recording : ℕ → Option ℕ) (scanning : ℕ → Option Scan) : Type 0 where
   pub empty : phase ≢ 1 → s ≡ no_snapshot
-  pub begun : IsSnapshot c s
   pub traced : IsTraced c s heap black scanning (IsNoted c grey count buffer recording)
   pub led : (a refs nums : ℕ) (name : Name) → s.block a ≡ Some (thing name refs nums) → IsLed s a
+  pub old : (a refs nums : ℕ) (name : Name) → s.block a ≡ Some (thing name refs nums) → IsYoung c s.top a → ⊥
   pub kept : (a refs nums : ℕ) (name : Name) → s.block a ≡ Some (thing name refs nums) → block a ≡ Some (thing name refs nums)
   pub older : phase ≡ 1 → (a refs nums : ℕ) (name : Name) → block a ≡ Some (thing name refs nums) → (s.block a ≡ Some (thing name refs nums)) ⊎ ((s.starts a ≡ true) ⊎ IsYoung c s.top a)
   pub promises : phase ≡ 1 → (a seat words : ℕ) → block a ≡ Some (promised seat words) → s.starts a ≡ true
