@@ -16,7 +16,7 @@ pub record Asked : Type 0 where
 -- the rows, the facts and the proofs of taking room
 abbrev pub take_part : Part TakeSpot Asked
 take_part = record {
-  touch = λ seat asked take. touch_at seat asked.words take;
+  touch = λ c seat asked take. touch_at seat asked.words take;
   next = λ c asked take got. next_at c asked.words asked.kind take got;
   ended = λ take. is_ended take;
   facts = λ c seat asked w take. CanTake c w seat asked.words take;

@@ -13,10 +13,14 @@ use Rattle.steps_base.proofs.Touches.{table_index-access_at}
 use Rattle.handshake.specs.declared.stop_spot.StopSpot.{StopSpot}
 use Rattle.handshake.specs.declared.stop_spot.StopSpot.TheVariants as stop
 use Rattle.handshake.specs.Rows.{after_seat, stop_touch}
+use Rattle.heap_words.specs.declared.access.Unit.TheVariants.{Worked, NoneLeft}
+use Rattle.scan_steps.specs.declared.spot.ScanSpot.{ScanSpot}
+use Rattle.scan_steps.specs.declared.spot.ScanSpot.TheVariants as scan
+use Rattle.scan_steps.specs.Rows as scans
 use Rattle.heap_world.specs.Change.{image_words}
 use Rattle.control_steps.specs.declared.spot.ControlSpot.{ControlSpot}
-use Rattle.control_steps.specs.declared.spot.ControlSpot.TheVariants.{LookLeft, StoreEnd, LookAsked, LookFree, Stopping, LoadWord, StoreWord, Go, Gone}
-use Rattle.control_steps.specs.Rows.{control_touch, stopping, begins_pause, wants_pause, next_spot}
+use Rattle.control_steps.specs.declared.spot.ControlSpot.TheVariants.{LookLeft, StoreEnd, LookAsked, LookFree, Scanning, Stopping, LoadWord, StoreWord, Go, Gone}
+use Rattle.control_steps.specs.Rows.{control_touch, after_scan, stopping, begins_pause, unasked, wants_pause, next_spot}
 use Rattle.control_steps.specs.Ready.{is_ready, AccessesAreInside, StaysReady}
 
 -- of two spots
@@ -33,21 +37,28 @@ checks_on : (c : Config) (b : Bool) (x y : StopSpot) → (b ≡ true → is_read
 checks_on c true x y one other = one refl
 checks_on c false x y one other = other refl
 
+-- where a scan goes on
+scans_on : (c : Config) (at : ScanSpot) → scans.is_ready c at ≡ true → is_ready c (after_scan at) ≡ true
+scans_on c (scan.Ended Worked) ready = refl
+scans_on c (scan.Ended NoneLeft) ready = refl
+scans_on c at ready = search (arith, and_parts)
+
 pub stays_ready : StaysReady
-stays_ready c seen LookLeft got ready = of_two c (got == 0) StoreEnd LookAsked (λ e. refl) (λ e. refl)
-stays_ready c seen StoreEnd got ready = refl
-stays_ready c seen LookAsked got ready = of_two c (begins_pause got) (Stopping stop.Raise) LookFree (λ e. refl) (λ e. refl)
-stays_ready c seen LookFree got ready = of_two c (wants_pause c seen got) (Stopping stop.Raise) LookLeft (λ e. refl) (λ e. refl)
-stays_ready c seen (Stopping stop.Raise) got ready = (let some = c.in_range.least_mutators in grind (arith, nat_tests))
-stays_ready c seen (Stopping (stop.Check seat)) got ready =
+stays_ready c phase seen LookLeft got ready goes = of_two c (got == 0) StoreEnd LookAsked (λ e. refl) (λ e. refl)
+stays_ready c phase seen StoreEnd got ready goes = refl
+stays_ready c phase seen LookAsked got ready goes = of_two c (begins_pause phase got) (Stopping stop.Raise) (unasked phase) (λ e. refl) (λ e. of_two c (phase == 0) LookFree (Scanning scan.LoadClaim) (λ e. refl) (λ e. refl))
+stays_ready c phase seen LookFree got ready goes = of_two c (wants_pause c seen got) (Stopping stop.Raise) LookLeft (λ e. refl) (λ e. refl)
+stays_ready c phase seen (Scanning at) got ready goes = scans_on c (scans.next_at c at got) goes
+stays_ready c phase seen (Stopping stop.Raise) got ready goes = (let some = c.in_range.least_mutators in grind (arith, nat_tests))
+stays_ready c phase seen (Stopping (stop.Check seat)) got ready goes =
     checks_on c (got == 0) (after_seat c seat) (stop.Check seat)
     (λ e. checks_on c (nat_lt (seat + 1) (c.mutators + c.helpers)) (stop.Check (seat + 1)) stop.Stopped (λ more. grind (arith, nat_tests)) (λ all. lt-ltb _ _ (some_words c)))
     (λ e. ready)
-stays_ready c seen (Stopping stop.Stopped) got ready = lt-ltb _ _ (some_words c)
-stays_ready c seen (LoadWord index) got ready = of_two c (nat_lt (index + 1) (image_words c)) (LoadWord (index + 1)) (StoreWord 0) (λ more. more) (λ all. lt-ltb _ _ (some_words c))
-stays_ready c seen (StoreWord index) got ready = of_two c (nat_lt (index + 1) (image_words c)) (StoreWord (index + 1)) Go (λ more. more) (λ all. refl)
-stays_ready c seen Go got ready = refl
-stays_ready c seen Gone got ready = refl
+stays_ready c phase seen (Stopping stop.Stopped) got ready goes = lt-ltb _ _ (some_words c)
+stays_ready c phase seen (LoadWord index) got ready goes = of_two c (nat_lt (index + 1) (image_words c)) (LoadWord (index + 1)) (StoreWord 0) (λ more. more) (λ all. lt-ltb _ _ (some_words c))
+stays_ready c phase seen (StoreWord index) got ready goes = of_two c (nat_lt (index + 1) (image_words c)) (StoreWord (index + 1)) Go (λ more. more) (λ all. refl)
+stays_ready c phase seen Go got ready goes = refl
+stays_ready c phase seen Gone got ready goes = refl
 
 -- an access of a word of the table is inside it
 placed_inside : (c : Config) (t : Touch) → is_word c t.word ≡ true → table_index (placed c t) < table_words c
@@ -55,12 +66,13 @@ placed_inside c t is = subst (λ k. k < table_words c) (sym (table_index-access_
 
 -- the control's are
 pub accesses_inside : AccessesAreInside
-accesses_inside c LookLeft value ready = placed_inside c (control_touch LookLeft) refl
-accesses_inside c StoreEnd value ready = placed_inside c (control_touch StoreEnd) refl
-accesses_inside c LookAsked value ready = placed_inside c (control_touch LookAsked) refl
-accesses_inside c LookFree value ready = placed_inside c (control_touch LookFree) refl
+accesses_inside c LookLeft value ready = placed_inside c (control_touch c LookLeft) refl
+accesses_inside c StoreEnd value ready = placed_inside c (control_touch c StoreEnd) refl
+accesses_inside c LookAsked value ready = placed_inside c (control_touch c LookAsked) refl
+accesses_inside c LookFree value ready = placed_inside c (control_touch c LookFree) refl
+accesses_inside c (Scanning at) value ready = search (arith, nat_tests)
 accesses_inside c (Stopping at) value ready = placed_inside c (stop_touch at) (and_parts _ _ (and_parts _ _ ready).0).0
 accesses_inside c (LoadWord index) value ready = (let below = ltb-true _ _ ready in omega (arith, below))
 accesses_inside c (StoreWord index) value ready = (let below = ltb-true _ _ ready in omega (arith, below))
-accesses_inside c Go value ready = placed_inside c (control_touch Go) refl
-accesses_inside c Gone value ready = placed_inside c (control_touch Gone) refl
+accesses_inside c Go value ready = placed_inside c (control_touch c Go) refl
+accesses_inside c Gone value ready = placed_inside c (control_touch c Gone) refl

@@ -1,5 +1,5 @@
--- The rows of the control: for each spot its place, the access that it makes and what follows. In a heap whose only pauses are
--- full collections the phase is always 0, so no row reads it.
+-- The rows of the control: for each spot its place, the access that it makes and what follows. While objects are marked, in phase
+-- 1, it works on units as helpers do, and once none is left it makes the pause that ends the phase.
 use Rattle.std.specs.Prelude.{ℕ, ◌+◌, ◌*◌, ◌==◌, Bool, true, false, ◌&&◌, ◌||◌, nat_lt, List, [], ◌∷◌, ◌++◌, slice_index, if◌then◌else◌}
 use Rattle.std.specs.Int.{bit_at}
 use Rattle.heap_words.specs.declared.config.Config.{Config}
@@ -9,21 +9,27 @@ use Rattle.heap_words.specs.declared.access.Took.{Took}
 use Rattle.heap_words.specs.declared.access.Took.TheVariants.{More, Again}
 use Rattle.heap_words.specs.declared.place.Place.{Place}
 use Rattle.heap_words.specs.declared.place.Place.TheVariants as place
-use Rattle.heap_words.specs.Words.{Left, End, Ask, Free, image_start}
+use Rattle.heap_words.specs.Words.{Word, Left, End, Ask, Free, Phase, image_start}
 use Rattle.steps_base.specs.Touch.{Touch, touch, loads, stores, placed}
 use Rattle.regions.specs.Sets.{members_below}
 use Rattle.handshake.specs.declared.stop_spot.StopSpot.{StopSpot}
 use Rattle.handshake.specs.declared.stop_spot.StopSpot.TheVariants as stop
 use Rattle.handshake.specs.Rows.{stop_place, stop_touch, stop_next, go_touch}
+use Rattle.heap_words.specs.declared.access.Unit.TheVariants.{Worked, NoneLeft}
+use Rattle.scan_steps.specs.declared.spot.ScanSpot.{ScanSpot}
+use Rattle.scan_steps.specs.declared.spot.ScanSpot.TheVariants as scan
+use Rattle.scan_steps.specs.Rows as scans
 use Rattle.heap_world.specs.Change.{Change, image_view, image_words}
 use Rattle.control_steps.specs.declared.spot.ControlSpot.{ControlSpot}
-use Rattle.control_steps.specs.declared.spot.ControlSpot.TheVariants.{LookLeft, StoreEnd, LookAsked, LookFree, Stopping, LoadWord, StoreWord, Go, Gone}
+use Rattle.control_steps.specs.declared.spot.ControlSpot.TheVariants.{LookLeft, StoreEnd, LookAsked, LookFree, Scanning, Stopping, LoadWord, StoreWord, Go, Gone}
 
 -- what the events see of the control
 pub record Controlling : Type 0 where
   pub spot : ControlSpot
-  -- the free word that it has seen: that of the image at the end of its last pause
+  -- the free word that it has seen: that of the image at the end of its last pause that ended with phase 0
   pub seen : ℕ
+  -- the phase at the end of its last pause
+  pub phase : ℕ
   -- the words of the image that it has loaded so far, and those of the new image while it stores them; outside pauses none
   pub image : List ℕ
 
@@ -38,6 +44,7 @@ control_place LookLeft = place.I0
 control_place StoreEnd = place.IE
 control_place LookAsked = place.I1
 control_place LookFree = place.I2
+control_place (Scanning at) = scans.place_at at
 control_place (Stopping at) = stop_place at
 control_place (LoadWord index) = place.PL
 control_place (StoreWord index) = place.PS
@@ -45,20 +52,21 @@ control_place Go = place.P3
 control_place Gone = place.IE
 
 -- the next access of a word that is not of the image
-abbrev pub control_touch : ControlSpot → Touch
-control_touch LookLeft = touch Left loads
-control_touch StoreEnd = touch End (stores 1)
-control_touch LookAsked = touch Ask loads
-control_touch LookFree = touch Free loads
-control_touch (Stopping at) = stop_touch at
-control_touch Go = go_touch
-control_touch _ = touch Left loads
+abbrev pub control_touch : Config → ControlSpot → Touch
+control_touch c LookLeft = touch Left loads
+control_touch c StoreEnd = touch End (stores 1)
+control_touch c LookAsked = touch Ask loads
+control_touch c LookFree = touch Free loads
+control_touch c (Scanning at) = scans.touch_at c at
+control_touch c (Stopping at) = stop_touch at
+control_touch c Go = go_touch
+control_touch c _ = touch Left loads
 
 -- the next access, by the word of the new image that is stored. The words of the image are accessed by their places
 abbrev pub access_with : Config → ControlSpot → ℕ → Access
 access_with c (LoadWord index) value = Load (image_start c + index)
 access_with c (StoreWord index) value = Store (image_start c + index) value
-access_with c spot value = placed c (control_touch spot)
+access_with c spot value = placed c (control_touch c spot)
 
 -- the word of the new image that a spot stores
 abbrev pub word_stored : ControlSpot → List ℕ → ℕ
@@ -74,25 +82,36 @@ abbrev pub stopping : StopSpot → ControlSpot
 stopping stop.Stopped = LoadWord 0
 stopping at = Stopping at
 
--- whether a pause is asked for: by bit 0 for a cycle, by bit 1 because a mutator waits for room
-abbrev pub begins_pause : ℕ → Bool
-begins_pause asked = (bit_at asked 0 == 1) || (bit_at asked 1 == 1)
+-- where it stands that scans: once a unit is done it looks again what is to do, and once none was left it makes a pause
+abbrev pub after_scan : ScanSpot → ControlSpot
+after_scan (scan.Ended Worked) = LookLeft
+after_scan (scan.Ended NoneLeft) = Stopping stop.Raise
+after_scan at = Scanning at
+
+-- whether a pause is asked for: by bit 1 because a mutator waits for room, and in phase 0 by bit 0 for a cycle
+abbrev pub begins_pause : ℕ → ℕ → Bool
+begins_pause phase asked = (bit_at asked 1 == 1) || ((phase == 0) && (bit_at asked 0 == 1))
+
+-- what it does where no pause is asked for: in phase 0 it looks at the free word, and in phase 1 it claims a unit
+abbrev pub unasked : ℕ → ControlSpot
+unasked phase = if phase == 0 then LookFree else Scanning scan.LoadClaim
 
 -- whether the free word calls for a pause: fewer than half of the regions are free, and it is not the word seen
 abbrev pub wants_pause : Config → ℕ → ℕ → Bool
 wants_pause c seen free = nat_lt (2 * members_below free 64) c.regions && (if free == seen then false else true)
 
--- where it stands next, by the word that was found
-abbrev pub next_spot : Config → ℕ → ControlSpot → ℕ → ControlSpot
-next_spot c seen LookLeft got = if got == 0 then StoreEnd else LookAsked
-next_spot c seen StoreEnd got = Gone
-next_spot c seen LookAsked got = if begins_pause got then Stopping stop.Raise else LookFree
-next_spot c seen LookFree got = if wants_pause c seen got then Stopping stop.Raise else LookLeft
-next_spot c seen (Stopping at) got = stopping (stop_next c at got)
-next_spot c seen (LoadWord index) got = if nat_lt (index + 1) (image_words c) then LoadWord (index + 1) else StoreWord 0
-next_spot c seen (StoreWord index) got = if nat_lt (index + 1) (image_words c) then StoreWord (index + 1) else Go
-next_spot c seen Go got = LookLeft
-next_spot c seen Gone got = Gone
+-- where it stands next, by the phase, the free word that it has seen and the word that was found
+abbrev pub next_spot : Config → (phase seen : ℕ) → ControlSpot → ℕ → ControlSpot
+next_spot c phase seen LookLeft got = if got == 0 then StoreEnd else LookAsked
+next_spot c phase seen StoreEnd got = Gone
+next_spot c phase seen LookAsked got = if begins_pause phase got then Stopping stop.Raise else unasked phase
+next_spot c phase seen LookFree got = if wants_pause c seen got then Stopping stop.Raise else LookLeft
+next_spot c phase seen (Scanning at) got = after_scan (scans.next_at c at got)
+next_spot c phase seen (Stopping at) got = stopping (stop_next c at got)
+next_spot c phase seen (LoadWord index) got = if nat_lt (index + 1) (image_words c) then LoadWord (index + 1) else StoreWord 0
+next_spot c phase seen (StoreWord index) got = if nat_lt (index + 1) (image_words c) then StoreWord (index + 1) else Go
+next_spot c phase seen Go got = LookLeft
+next_spot c phase seen Gone got = Gone
 
 -- the image then: with the last word that is loaded it is changed
 abbrev pub next_image : Change → Config → ControlSpot → List ℕ → ℕ → List ℕ
@@ -100,22 +119,33 @@ next_image change c (LoadWord index) image got = if nat_lt (index + 1) (image_wo
 next_image change c (StoreWord index) image got = if nat_lt (index + 1) (image_words c) then image else []
 next_image change c _ image got = []
 
--- the free word that it has seen then: that of the new image, once there is one
+-- the free word that it has seen after a pause: that of the new image, if the pause has ended with phase 0
+abbrev pub seen_after : ℕ → (Word → ℕ) → ℕ
+seen_after seen memory = if memory Phase == 0 then memory Free else seen
+
+-- the free word that it has seen then
 abbrev pub next_seen : Change → Config → ControlSpot → List ℕ → ℕ → ℕ → ℕ
-next_seen change c (LoadWord index) image seen got = if nat_lt (index + 1) (image_words c) then seen else image_view c (change c (image ++ got ∷ [])) Free
+next_seen change c (LoadWord index) image seen got = if nat_lt (index + 1) (image_words c) then seen else seen_after seen (image_view c (change c (image ++ got ∷ [])))
 next_seen change c _ image seen got = seen
+
+-- the phase then: that of the new image, once there is one
+abbrev pub next_phase : Change → Config → ControlSpot → List ℕ → ℕ → ℕ → ℕ
+next_phase change c (LoadWord index) image phase got = if nat_lt (index + 1) (image_words c) then phase else image_view c (change c (image ++ got ∷ [])) Phase
+next_phase change c _ image phase got = phase
 
 -- what it is then
 abbrev pub control_next : Change → Config → Controlling → ℕ → Controlling
 control_next change c k got = record {
-  spot = next_spot c k.seen k.spot got;
+  spot = next_spot c k.phase k.seen k.spot got;
   seen = next_seen change c k.spot k.image k.seen got;
+  phase = next_phase change c k.spot k.image k.phase got;
   image = next_image change c k.spot k.image got;
 }
 
--- what a step says that finds this word: that it waits, or that there is more to do
+-- what a step says that finds this word: that it waits, that a helper was faster, or that there is more to do
 abbrev pub says_at : Config → ℕ → ControlSpot → ℕ → Took
 says_at c seen LookFree got = if wants_pause c seen got then More else Again
+says_at c seen (Scanning (scan.ClaimUnit unit)) got = if got == unit then More else Again
 says_at c seen (Stopping (stop.Check seat)) got = if got == 0 then More else Again
 says_at c seen _ got = More
 

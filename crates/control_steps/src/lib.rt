@@ -1,7 +1,7 @@
 //! The control of a heap, step by step: it looks whether a collection is wanted, stops the mutators and helpers, loads all words
-//! of the image, stores those of the new image, and lets the others go on; once all mutators have ended it ends too. Each step is
-//! one access of one word. The rows in `specs/Rows.antt` say for each spot what it does and what follows, for any change of the
-//! image.
+//! of the image, stores those of the new image, and lets the others go on; while objects are marked it scans units as helpers do;
+//! once all mutators have ended it ends too. Each step is one access of one word. The rows in `specs/Rows.antt` say for each spot
+//! what it does and what follows, for any change of the image.
 #![tactic(auto)]
 
 mod spot;
@@ -10,7 +10,7 @@ ghost use Rattle.control_steps.specs.Ready.{AccessesAreInside, StaysReady};
 
 pub use spot::{ControlSpot, image_words};
 
-/// A law: the control's accesses are of words of the table, whatever words it finds.
+/// A law: the control's accesses are of words of the table, whatever words it finds; in a scan, where the scan can go on from them.
 pub fn control_stays_inside()
     ensures inside { AccessesAreInside }
     ensures stays { StaysReady }

@@ -1,19 +1,24 @@
-ghost use Rattle.std.specs.Prelude.{◌≡◌, ◌<◌, ◌↔◌, true, false};
+ghost use Rattle.std.specs.Prelude.{◌≡◌, ◌<◌, ◌↔◌, ◌==◌, true, false};
+ghost use Rattle.std.specs.Int.{bit_at};
 ghost use Rattle.heap_words.specs.Access.{table_index};
 ghost use Rattle.heap_words.specs.Words.{table_words};
 ghost use Rattle.heap_world.specs.Change.{image_words};
 ghost use Rattle.control_steps.specs.Rows as rows;
-ghost use Rattle.control_steps.specs.Ready.{is_ready};
+ghost use Rattle.control_steps.specs.Ready.{is_ready, ScanGoesOn};
 ghost use Rattle.control_steps.specs.Waits.{waits_at};
 
 use handshake::{StopSpot, go_access};
-use heap_words::{Access, Config, Place, Took};
+use heap_words::{Access, Config, Place, Took, Unit};
 use regions::size;
+use scan_steps::ScanSpot;
 
-// What is asked for: a cycle, or room for an object.
-const CYCLE: u64 = 1;
+// The bits of what is asked for: a cycle, and room for an object.
+const CYCLE: u32 = 0;
 
-const ROOM: u64 = 2;
+const ROOM: u32 = 1;
+
+// The phase between two cycles.
+const IDLE: u64 = 0;
 
 /// Where the control stands.
 #[derive(Clone, Copy, Debug, PartialEq, Eq)]
@@ -26,6 +31,11 @@ pub enum ControlSpot {
     LookAsked,
     /// It loads the free word.
     LookFree,
+    /// It claims a unit of marking and scans it.
+    Scanning {
+        /// Where the scan stands.
+        at: ScanSpot,
+    },
     /// It stops the mutators and helpers.
     Stopping {
         /// Where the stopping stands.
@@ -57,6 +67,7 @@ impl ControlSpot {
             ControlSpot::StoreEnd | ControlSpot::Gone => Place::IE,
             ControlSpot::LookAsked => Place::I1,
             ControlSpot::LookFree => Place::I2,
+            ControlSpot::Scanning { at } => at.place(),
             ControlSpot::Stopping { at } => at.place(),
             ControlSpot::LoadWord { .. } => Place::PL,
             ControlSpot::StoreWord { .. } => Place::PS,
@@ -92,6 +103,7 @@ impl ControlSpot {
             ControlSpot::LookFree => Access::Load {
                 at: config.free_at(),
             },
+            ControlSpot::Scanning { at } => at.access(config),
             ControlSpot::Stopping { at } => at.access(config),
             ControlSpot::LoadWord { index } => Access::Load {
                 at: config.image_start() + index,
@@ -105,19 +117,21 @@ impl ControlSpot {
         }
     }
 
-    /// Where it stands after it, by the free word that it has seen and the word that the access has found.
-    pub fn after(self, config: Config, seen: u64, got: u64) -> ControlSpot
-        requires { is_ready config self ≡ true }
-        ensures row { result ≡ rows.next_spot config seen self got }
+    /// Where it stands after it, by the phase and the free word that it has seen, and the word that the access has found.
+    pub fn after(self, config: Config, phase: u64, seen: u64, got: u64) -> ControlSpot
+        requires ready { is_ready config self ≡ true }
+        requires fit { ScanGoesOn config self got }
+        ensures row { result ≡ rows.next_spot config phase seen self got }
         ensures ready { is_ready config result ≡ true }
     {
         match self {
             ControlSpot::LookLeft if got == 0 => ControlSpot::StoreEnd,
             ControlSpot::LookLeft => ControlSpot::LookAsked,
-            ControlSpot::LookAsked if is_asked(got) => STOP,
-            ControlSpot::LookAsked => ControlSpot::LookFree,
+            ControlSpot::LookAsked if is_asked(phase, got) => STOP,
+            ControlSpot::LookAsked => unasked(phase),
             ControlSpot::LookFree if is_wanted(config, seen, got) => STOP,
             ControlSpot::LookFree | ControlSpot::Go => ControlSpot::LookLeft,
+            ControlSpot::Scanning { at } => after_scan(at.after(config, got)),
             ControlSpot::Stopping { at } => stopping(at.after(config, got)),
             ControlSpot::LoadWord { index } => after_load(config, index),
             ControlSpot::StoreWord { index } => after_store(config, index),
@@ -132,6 +146,9 @@ impl ControlSpot {
     {
         match self {
             ControlSpot::LookFree if !is_wanted(config, seen, got) => Took::Again,
+            ControlSpot::Scanning {
+                at: ScanSpot::ClaimUnit { unit },
+            } if got != unit => Took::Again,
             ControlSpot::Stopping {
                 at: StopSpot::Check { .. },
             } if got != 0 => Took::Again,
@@ -145,11 +162,45 @@ const STOP: ControlSpot = ControlSpot::Stopping {
     at: StopSpot::Raise,
 };
 
-// Whether a pause is asked for.
-fn is_asked(asked: u64) -> bool
-    ensures { result ≡ rows.begins_pause asked }
+// Whether a pause is asked for. In the middle of a cycle one that is asked for can wait.
+fn is_asked(phase: u64, asked: u64) -> bool
+    ensures { result ≡ rows.begins_pause phase asked }
 {
-    asked & (CYCLE | ROOM) != 0
+    is_set(asked, ROOM) || (phase == IDLE && is_set(asked, CYCLE))
+}
+
+// Whether a bit of the word is set.
+fn is_set(word: u64, bit: u32) -> bool
+    requires { bit < 64 }
+    ensures { result ≡ (bit_at word bit == 1) }
+{
+    word >> bit & 1 == 1
+}
+
+// What it does where no pause is asked for.
+fn unasked(phase: u64) -> ControlSpot
+    ensures { result ≡ rows.unasked phase }
+{
+    if phase == IDLE {
+        ControlSpot::LookFree
+    } else {
+        ControlSpot::Scanning {
+            at: ScanSpot::LoadClaim,
+        }
+    }
+}
+
+// Once a unit is done it looks again what is to do, and once none was left it makes a pause.
+fn after_scan(at: ScanSpot) -> ControlSpot
+    ensures { result ≡ rows.after_scan at }
+{
+    match at {
+        ScanSpot::Ended { unit: Unit::Worked } => ControlSpot::LookLeft,
+        ScanSpot::Ended {
+            unit: Unit::NoneLeft,
+        } => STOP,
+        at => ControlSpot::Scanning { at },
+    }
 }
 
 // Whether the free word calls for a pause.
@@ -181,7 +232,7 @@ pub fn image_words(config: Config) -> usize
 // What follows once a word of the image is loaded.
 fn after_load(config: Config, index: usize) -> ControlSpot
     requires { index < image_words config }
-    ensures row { result ≡ rows.next_spot config 0 (ControlSpot.LoadWord index) 0 }
+    ensures row { result ≡ rows.next_spot config 0 0 (ControlSpot.LoadWord index) 0 }
     ensures ready { is_ready config result ≡ true }
 {
     if index + 1 < image_words(config) {
@@ -194,7 +245,7 @@ fn after_load(config: Config, index: usize) -> ControlSpot
 // What follows once a word of the new image is stored.
 fn after_store(config: Config, index: usize) -> ControlSpot
     requires { index < image_words config }
-    ensures row { result ≡ rows.next_spot config 0 (ControlSpot.StoreWord index) 0 }
+    ensures row { result ≡ rows.next_spot config 0 0 (ControlSpot.StoreWord index) 0 }
     ensures ready { is_ready config result ≡ true }
 {
     if index + 1 < image_words(config) {

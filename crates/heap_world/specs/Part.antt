@@ -21,10 +21,10 @@ pub record PartStep (c : Config) (u : World) (seat : ℕ) (t : Touch) (facts : W
 -- A part, by where it stands (S) and what it was asked for (A): its rows, what holds of it, that this stays while others
 -- step, and what its own steps owe.
 pub record Part (S A : Type 0) : Type 1 where
-  pub touch : ℕ → A → S → Touch
+  pub touch : Config → ℕ → A → S → Touch
   pub next : Config → A → S → ℕ → S
   pub ended : S → Bool
   pub facts : Config → ℕ → A → World → S → Type 0
   pub stable : (c : Config) (u w : World) (seat : ℕ) (asked : A) (at : S) → Shared c u → Rely c seat u w → facts c seat asked u at → facts c seat asked w at
   pub step : (c : Config) (u : World) (seat : ℕ) (asked : A) (at : S) → ended at ≡ false → Shared c u → facts c seat asked u at
-      → PartStep c u seat (touch seat asked at) (λ w. facts c seat asked w (next c asked at (u.memory (touch seat asked at).word)))
+      → PartStep c u seat (touch c seat asked at) (λ w. facts c seat asked w (next c asked at (u.memory (touch c seat asked at).word)))

@@ -11,10 +11,12 @@ use Rattle.mutator.specs.declared.spot.Spot.{Spot}
 use Rattle.mutator.specs.declared.spot.Spot.TheVariants.{Entering, OnField, Making, Waiting, Leave}
 use Rattle.mutator.specs.declared.spot.Kept.{Kept}
 use Rattle.mutator.specs.declared.fields.FieldSpot.TheVariants.{Exchange}
+use Rattle.shen_graph.specs.declared.command.Command.{Command}
+use Rattle.mutator.specs.declared.makes.MakeSpot.{MakeSpot}
 use Rattle.mutator.specs.declared.makes.MakeSpot.TheVariants.{Taking}
 use Rattle.mutator.specs.declared.waits.WaitSpot.TheVariants.{Poll}
 use Rattle.mutator.specs.WaitRows.{call_says}
-use Rattle.mutator.specs.Rows.{given_at, take_next, answer_at}
+use Rattle.mutator.specs.Rows.{given_at, take_next, make_says, answer_at}
 
 -- a step that says one of two things, of which neither is Done, is not done
 not_done : (b : Bool) (one other : Took) → (one ≡ took.Done → ⊥) → (other ≡ took.Done → ⊥) → (if b then one else other) ≡ took.Done → ⊥
@@ -26,14 +28,18 @@ goes_on : (said : Took) → call_says said ≡ took.Done → ⊥
 goes_on took.Again is = cc
 goes_on _ is = cc
 
+-- nor does the making of an object
+pub makes_go_on : (c : Config) (command : Command) (at : MakeSpot) (got : ℕ) → make_says c command at got ≡ took.Done → ⊥
+makes_go_on c command (Taking take) got is = goes_on (takes.says take (take_next c command take got)) is
+makes_go_on c command _ got is = cc
+
 -- a step that says Done gives its reply, and no other step does
 pub done_gives : (c : Config) (kept : Kept) (spot : Spot) (got : ℕ) → answer_at c kept spot got ≡ took.Done → (r : Reply) × (given_at spot ≡ Some r)
 done_gives c kept (Leave r) got is = (r, refl)
 done_gives c kept (Entering at next) got is = absurd (goes_on (enter_says at got) is)
 done_gives c kept (OnField object (Exchange found expect value)) got is = absurd (not_done (got == found) took.More took.Again (λ e. cc) (λ e. cc) is)
-done_gives c kept (Making (Taking take)) got is = absurd (goes_on (takes.says take (take_next c kept.command take got)) is)
 done_gives c kept (Waiting Poll) got is = absurd (not_done (got == 0) took.Again took.More (λ e. cc) (λ e. cc) is)
 done_gives c kept (OnField object at) got is = absurd (cc)
-done_gives c kept (Making at) got is = absurd (cc)
+done_gives c kept (Making at) got is = absurd (makes_go_on c kept.command at got is)
 done_gives c kept (Waiting at) got is = absurd (cc)
 done_gives c kept _ got is = absurd (cc)

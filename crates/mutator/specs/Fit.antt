@@ -1,6 +1,7 @@
 -- Which words a mutator can go on from.
-use Rattle.std.specs.Prelude.{ℕ, ◌≡◌, ◌≢◌, ◌==◌, Bool, true, false, ◌&&◌, nat_lt, if◌then◌else◌}
+use Rattle.std.specs.Prelude.{ℕ, ◌≡◌, ◌≢◌, Bool, true, false, ◌&&◌, nat_lt, if◌then◌else◌}
 use Rattle.heap_words.specs.declared.config.Config.{Config}
+use Rattle.heap_words.specs.Words.{Heap, is_word}
 use Rattle.steps_base.specs.Fits.{touch_fits}
 use Rattle.shen_graph.specs.declared.order.Order.{Order}
 use Rattle.shen_graph.specs.declared.order.Order.TheVariants.{Nothing, End}
@@ -9,9 +10,11 @@ use Rattle.handshake.specs.declared.enter_spot.EnterSpot.{EnterSpot}
 use Rattle.handshake.specs.Rows.{is_entered}
 use Rattle.alloc_buffers.specs.declared.spot.TakeSpot.{TakeSpot}
 use Rattle.alloc_buffers.specs.Rows as takes
+use Rattle.satb_barrier.specs.declared.spot.RememberSpot.{RememberSpot}
+use Rattle.satb_barrier.specs.Rows as satb
 use Rattle.mutator.specs.declared.spot.Kept.{Kept}
 use Rattle.mutator.specs.declared.spot.Spot.{Spot}
-use Rattle.mutator.specs.declared.spot.Spot.TheVariants.{Entering, LoadSet, Making, Waiting}
+use Rattle.mutator.specs.declared.spot.Spot.TheVariants.{Entering, LoadSet, Recording, Making, Waiting}
 use Rattle.mutator.specs.declared.makes.MakeSpot.{MakeSpot}
 use Rattle.mutator.specs.declared.makes.MakeSpot.TheVariants.{Taking, StoreWord, StoreRoot}
 use Rattle.mutator.specs.declared.waits.WaitSpot.{WaitSpot}
@@ -52,11 +55,16 @@ abbrev pub wait_fits : ℕ → Command → WaitSpot → Bool
 wait_fits made command wait.StoreRequest = can_make made command
 wait_fits made command at = can_count made at
 
--- Whether the numbers of a spot, beside those of its access, are in range. As long as no collection sets the phase, it is
--- 0 wherever a call has begun.
+-- whether the recording of an address of the heap has not ended, and its numbers are in range
+abbrev pub remember_fits : Config → ℕ → RememberSpot → Bool
+remember_fits c address at = (if satb.is_recorded at then false else true) && (satb.is_ready c at && is_word c (Heap address))
+
+-- Whether the numbers of a spot, beside those of its access, are in range. As long as no collection copies objects, the phase
+-- is 0 or 1 wherever a call has begun.
 abbrev pub numbers_fit : Config → ℕ → Kept → Spot → Bool
 numbers_fit c made kept (Entering at next) = is_outside at
-numbers_fit c made kept LoadSet = kept.phase == 0
+numbers_fit c made kept LoadSet = nat_lt kept.phase 2
+numbers_fit c made kept (Recording at address next) = remember_fits c address at
 numbers_fit c made kept (Making at) = can_make made kept.command && make_fits c kept.command at
 numbers_fit c made kept (Waiting at) = wait_fits made kept.command at
 numbers_fit c made kept _ = true

@@ -1,6 +1,6 @@
 -- The rows of the steps of a mutator: for each spot its place, the access that it makes and what follows. The spots of a
 -- part of a call stand together.
-use Rattle.std.specs.Prelude.{ℕ, ◌+◌, ◌==◌, nat_lt, length, Option, Some, None, if◌then◌else◌}
+use Rattle.std.specs.Prelude.{ℕ, ◌+◌, ◌==◌, Bool, ◌&&◌, nat_lt, length, Option, Some, None, if◌then◌else◌}
 use Rattle.heap_words.specs.declared.config.Config.{Config}
 use Rattle.heap_words.specs.declared.place.Place.{Place}
 use Rattle.heap_words.specs.declared.place.Place.TheVariants as place
@@ -16,6 +16,9 @@ use Rattle.alloc_buffers.specs.declared.spot.Kind.TheVariants.{Fresh}
 use Rattle.alloc_buffers.specs.declared.spot.Taken.TheVariants.{At, NoRoom}
 use Rattle.alloc_buffers.specs.declared.spot.TakeSpot.{TakeSpot}
 use Rattle.alloc_buffers.specs.declared.spot.TakeSpot.TheVariants as take_spot
+use Rattle.satb_barrier.specs.Rows as satb
+use Rattle.satb_barrier.specs.declared.spot.RememberSpot.{RememberSpot}
+use Rattle.satb_barrier.specs.declared.spot.RememberSpot.TheVariants.{LoadCount, Recorded}
 use Rattle.shen_graph.specs.declared.name.Name.{Name}
 use Rattle.shen_graph.specs.declared.command.Command.{Command}
 use Rattle.shen_graph.specs.declared.command.Command.TheVariants.{New, Get, Set, Cas, Xchg, Rd, Wr, Copy, Drop, Same, Gc}
@@ -26,12 +29,14 @@ use Rattle.shen_graph.specs.declared.order.Order.TheVariants.{Nothing, Begin, En
 use Rattle.shen_graph.specs.Step.{yes_or_no}
 use Rattle.mutator.specs.declared.spot.Kept.{Kept}
 use Rattle.mutator.specs.declared.spot.Spot.{Spot}
-use Rattle.mutator.specs.declared.spot.Spot.TheVariants.{Rest, Ended, Entering, LoadPhase, LoadSet, Loading, OnField, OnNumber, Showing, StoreRoot, Making, AskCycle, Waiting, Leave, Gone}
+use Rattle.mutator.specs.declared.spot.Spot.TheVariants.{Rest, Ended, Entering, LoadPhase, LoadSet, Loading, OnField, Recording, OnNumber, Showing, StoreRoot, Making, AskCycle, Waiting, Leave, Gone}
 use Rattle.mutator.specs.declared.spot.Entered.TheVariants.{Call}
 use Rattle.mutator.specs.declared.loads.LoadSpot.{LoadSpot}
 use Rattle.mutator.specs.declared.loads.LoadSpot.TheVariants as load
 use Rattle.mutator.specs.declared.fields.FieldSpot.{FieldSpot}
 use Rattle.mutator.specs.declared.fields.FieldSpot.TheVariants as fields
+use Rattle.mutator.specs.declared.overwrites.Overwritten.{Overwritten}
+use Rattle.mutator.specs.declared.overwrites.Overwritten.TheVariants as overwrites
 use Rattle.mutator.specs.declared.numbers.NumberSpot.{NumberSpot}
 use Rattle.mutator.specs.declared.numbers.NumberSpot.TheVariants as number
 use Rattle.mutator.specs.declared.shows.ShowSpot.{ShowSpot}
@@ -66,6 +71,7 @@ load_place (load.Shape object second third) = place.SH
 abbrev pub field_place : FieldSpot → Place
 field_place fields.Load = place.FL
 field_place (fields.LoadExpected expect value) = place.FL
+field_place (fields.LoadOld value) = place.FL
 field_place (fields.Store value) = place.FS
 field_place (fields.Swap value) = place.FX
 field_place (fields.Exchange found expect value) = place.CX
@@ -97,6 +103,7 @@ place_at order LoadPhase = place.PH
 place_at order LoadSet = place.CS
 place_at order (Loading at) = load_place at
 place_at order (OnField object at) = field_place at
+place_at order (Recording at address next) = satb.place_at at
 place_at order (OnNumber object refs at) = number_place at
 place_at order (Showing value at) = show_place at
 place_at order (StoreRoot value) = place.RS
@@ -120,6 +127,7 @@ load_touch seat command (load.Shape object second third) = touch (Heap (object +
 abbrev pub field_touch : ℕ → Command → FieldSpot → Touch
 field_touch object command fields.Load = touch (Heap (object + 3 + index_of command)) loads
 field_touch object command (fields.LoadExpected expect value) = touch (Heap (object + 3 + index_of command)) loads
+field_touch object command (fields.LoadOld value) = touch (Heap (object + 3 + index_of command)) loads
 field_touch object command (fields.Store value) = touch (Heap (object + 3 + index_of command)) (stores value)
 field_touch object command (fields.Swap value) = touch (Heap (object + 3 + index_of command)) (swaps value)
 field_touch object command (fields.Exchange found expect value) = touch (Heap (object + 3 + index_of command)) (exchanges found value)
@@ -151,6 +159,7 @@ touch_at c seat made kept order LoadPhase = touch Phase loads
 touch_at c seat made kept order LoadSet = touch Cset loads
 touch_at c seat made kept order (Loading at) = load_touch seat kept.command at
 touch_at c seat made kept order (OnField object at) = field_touch object kept.command at
+touch_at c seat made kept order (Recording at address next) = satb.touch_at c seat address at
 touch_at c seat made kept order (OnNumber object refs at) = number_touch object refs kept.command at
 touch_at c seat made kept order (Showing value at) = show_touch seat value kept.command at
 touch_at c seat made kept order (StoreRoot value) = touch (Root seat (dst_of kept.command)) (stores value)
@@ -193,17 +202,21 @@ on_number (Rd obj index) object shape = OnNumber object (refs_in shape) number.L
 on_number (Wr obj index value) object shape = OnNumber object (refs_in shape) number.Store
 on_number _ object shape = Leave reply.Bad
 
--- where it goes on with the field or number of the object
-abbrev pub with_part : Command → ℕ → ℕ → ℕ → ℕ → Spot
-with_part (Get dst src field) object second third shape = OnField object fields.Load
-with_part (Set obj field val) object second third shape = OnField object (fields.Store second)
-with_part (Cas obj field expect val) object second third shape = OnField object (fields.LoadExpected second third)
-with_part (Xchg dst obj field val) object second third shape = OnField object (fields.Swap second)
-with_part command object second third shape = on_number command object shape
+-- what a Set does to the field first: while objects are marked it looks what it will overwrite
+abbrev pub first_of_set : ℕ → ℕ → FieldSpot
+first_of_set phase value = if phase == 1 then fields.LoadOld value else fields.Store value
+
+-- where a call goes on, in its phase, with the field or number of the object
+abbrev pub with_part : ℕ → Command → ℕ → ℕ → ℕ → ℕ → Spot
+with_part phase (Get dst src field) object second third shape = OnField object fields.Load
+with_part phase (Set obj field val) object second third shape = OnField object (first_of_set phase second)
+with_part phase (Cas obj field expect val) object second third shape = OnField object (fields.LoadExpected second third)
+with_part phase (Xchg dst obj field val) object second third shape = OnField object (fields.Swap second)
+with_part phase command object second third shape = on_number command object shape
 
 -- the reply is Bad where the object has no such part
-abbrev pub after_shape : Command → ℕ → ℕ → ℕ → ℕ → Spot
-after_shape command object second third shape = if has_part command shape then with_part command object second third shape else Leave reply.Bad
+abbrev pub after_shape : ℕ → Command → ℕ → ℕ → ℕ → ℕ → Spot
+after_shape phase command object second third shape = if has_part command shape then with_part phase command object second third shape else Leave reply.Bad
 
 -- where it goes on with the reference that was in the field, for a root
 abbrev pub after_field : ℕ → Spot
@@ -212,6 +225,25 @@ after_field value = Showing value (if value == 0 then show.StoreRoot reply.Null 
 -- where it goes on with it to exchange it, if it is the one that is to be there
 abbrev pub after_expected : ℕ → ℕ → ℕ → ℕ → Spot
 after_expected object expect value found = if found == expect then OnField object (fields.Exchange found expect value) else Leave reply.No
+
+-- where a call goes on with the reference that it overwrites, once that is recorded
+abbrev pub after_recording : ℕ → Overwritten → Spot
+after_recording found (overwrites.Set object value) = OnField object (fields.Store value)
+after_recording found overwrites.Xchg = after_field found
+after_recording found overwrites.Cas = Leave reply.Yes
+
+-- whether an overwritten reference has to be recorded: objects are marked, and it is not null
+abbrev pub is_to_record : ℕ → ℕ → Bool
+is_to_record phase found = (phase == 1) && nat_lt 0 found
+
+-- where a call goes on, in its phase, with the reference that it overwrites
+abbrev pub overwritten : (phase found : ℕ) → Overwritten → Spot
+overwritten phase found next = if is_to_record phase found then Recording LoadCount found next else after_recording found next
+
+-- where it goes on that records an address and stands so
+abbrev pub after_remember : ℕ → Overwritten → RememberSpot → Spot
+after_remember address next Recorded = after_recording address next
+after_remember address next at = Recording at address next
 
 -- the name of a name word
 abbrev pub name_in : ℕ → Name
@@ -232,18 +264,19 @@ abbrev pub after_word : ℕ → ℕ → ℕ → Spot
 after_word words address done = Making (if nat_lt done words then make.StoreWord address done else make.StoreRoot address)
 
 -- where each part of a call goes on after its access, by the word that it was told
-abbrev pub load_next : Command → LoadSpot → ℕ → Spot
-load_next command load.First got = after_root command got
-load_next command (load.Second first) got = after_second command first got
-load_next command (load.Third first second) got = after_roots command first second got
-load_next command (load.Shape object second third) got = after_shape command object second third got
+abbrev pub load_next : ℕ → Command → LoadSpot → ℕ → Spot
+load_next phase command load.First got = after_root command got
+load_next phase command (load.Second first) got = after_second command first got
+load_next phase command (load.Third first second) got = after_roots command first second got
+load_next phase command (load.Shape object second third) got = after_shape phase command object second third got
 
-abbrev pub field_next : ℕ → FieldSpot → ℕ → Spot
-field_next object fields.Load got = after_field got
-field_next object (fields.LoadExpected expect value) got = after_expected object expect value got
-field_next object (fields.Store value) got = Leave reply.Ok
-field_next object (fields.Swap value) got = after_field got
-field_next object (fields.Exchange found expect value) got = if got == found then Leave reply.Yes else OnField object (fields.LoadExpected expect value)
+abbrev pub field_next : ℕ → ℕ → FieldSpot → ℕ → Spot
+field_next phase object fields.Load got = after_field got
+field_next phase object (fields.LoadExpected expect value) got = after_expected object expect value got
+field_next phase object (fields.LoadOld value) got = overwritten phase got (overwrites.Set object value)
+field_next phase object (fields.Store value) got = Leave reply.Ok
+field_next phase object (fields.Swap value) got = overwritten phase got overwrites.Xchg
+field_next phase object (fields.Exchange found expect value) got = if got == found then overwritten phase found overwrites.Cas else OnField object (fields.LoadExpected expect value)
 
 abbrev pub number_next : NumberSpot → ℕ → Spot
 number_next number.Load got = Leave (reply.Number got)
@@ -276,8 +309,9 @@ next_at c m order got (Ended reply) = begun order m
 next_at c m order got (Entering at next) = record m { spot = after_enter next (enters.enter_next at got) }
 next_at c m order got LoadPhase = record m { kept = record m.kept { phase = got }; spot = LoadSet }
 next_at c m order got LoadSet = record m { kept = record m.kept { cset = got }; spot = first_spot m.kept.command }
-next_at c m order got (Loading at) = record m { spot = load_next m.kept.command at got }
-next_at c m order got (OnField object at) = record m { spot = field_next object at got }
+next_at c m order got (Loading at) = record m { spot = load_next m.kept.phase m.kept.command at got }
+next_at c m order got (OnField object at) = record m { spot = field_next m.kept.phase object at got }
+next_at c m order got (Recording at address next) = record m { spot = after_remember address next (satb.next_at at got) }
 next_at c m order got (OnNumber object refs at) = record m { spot = number_next at got }
 next_at c m order got (Showing value at) = record m { spot = show_next value at got }
 next_at c m order got (StoreRoot value) = record m { spot = Leave reply.Ok }

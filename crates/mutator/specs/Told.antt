@@ -48,6 +48,7 @@ load_told memory seat command (load.Shape object second third) = if has_part com
 abbrev pub field_told : (Word → ℕ) → ℕ → Command → FieldSpot → Option Reply
 field_told memory object command fields.Load = Some (shown_word memory (memory (Heap (object + 3 + index_of command))))
 field_told memory object command (fields.LoadExpected expect value) = if name_the_same memory (memory (Heap (object + 3 + index_of command))) expect then None else Some reply.No
+field_told memory object command (fields.LoadOld value) = None
 field_told memory object command (fields.Store value) = Some reply.Ok
 field_told memory object command (fields.Swap value) = Some (shown_word memory (memory (Heap (object + 3 + index_of command))))
 field_told memory object command (fields.Exchange found expect value) = if memory (Heap (object + 3 + index_of command)) == found then Some reply.Yes else None

@@ -4,6 +4,7 @@ ghost use Rattle.steps_base.specs.Fits.{touch_fits};
 ghost use Rattle.mutator.specs.Rows as rows;
 
 use crate::commands::index_of;
+use crate::overwrites::Overwritten;
 use crate::shows::after_field;
 use crate::spot::Spot;
 use heap_words::{Access, Config, Place, Took};
@@ -18,6 +19,11 @@ pub enum FieldSpot {
     LoadExpected {
         /// The reference that is to be there.
         expect: u64,
+        /// The reference that is to be stored then.
+        value: u64,
+    },
+    /// It loads the field, to record what it is about to overwrite there.
+    LoadOld {
         /// The reference that is to be stored then.
         value: u64,
     },
@@ -48,7 +54,8 @@ impl FieldSpot {
         ensures { result ≡ rows.field_place self }
     {
         match self {
-            FieldSpot::Load | FieldSpot::LoadExpected { .. } => Place::FL,
+            FieldSpot::Load | FieldSpot::LoadExpected { .. } | FieldSpot::LoadOld { .. } =>
+                Place::FL,
             FieldSpot::Store { .. } => Place::FS,
             FieldSpot::Swap { .. } => Place::FX,
             FieldSpot::Exchange { .. } => Place::CX,
@@ -62,7 +69,9 @@ impl FieldSpot {
     {
         let at = config.heap_at(object + 3 + index_of(command) as u64);
         match self {
-            FieldSpot::Load | FieldSpot::LoadExpected { .. } => Access::Load { at },
+            FieldSpot::Load | FieldSpot::LoadExpected { .. } | FieldSpot::LoadOld { .. } => {
+                Access::Load { at }
+            }
             // These three keep AreObjects.
             FieldSpot::Store { value } => Access::Store { at, value },
             FieldSpot::Swap { value } => Access::Swap { at, value },
@@ -74,15 +83,21 @@ impl FieldSpot {
         }
     }
 
-    /// Where the call goes on with the reference that was in the field of the object.
-    pub(crate) fn after(self, object: u64, got: u64) -> Spot
-        ensures { result ≡ rows.field_next object self got }
+    /// Where the call goes on, in its phase, with the reference that was in the field of the object.
+    pub(crate) fn after(self, phase: u64, object: u64, got: u64) -> Spot
+        ensures { result ≡ rows.field_next phase object self got }
     {
         match self {
-            FieldSpot::Load | FieldSpot::Swap { .. } => after_field(got),
+            FieldSpot::Load => after_field(got),
             FieldSpot::LoadExpected { expect, value } => after_expected(object, expect, value, got),
+            FieldSpot::LoadOld { value } => Overwritten::Set { object, value }.overwrite(
+                phase, got,
+            ),
             FieldSpot::Store { .. } => Spot::Leave { reply: Reply::Ok },
-            FieldSpot::Exchange { found, .. } if got == found => Spot::Leave { reply: Reply::Yes },
+            FieldSpot::Swap { .. } => Overwritten::Xchg.overwrite(phase, got),
+            FieldSpot::Exchange { found, .. } if got == found => {
+                Overwritten::Cas.overwrite(phase, found)
+            }
             FieldSpot::Exchange { expect, value, .. } => Spot::OnField {
                 object,
                 at: FieldSpot::LoadExpected { expect, value },

@@ -65,9 +65,9 @@ impl LoadSpot {
         Access::Load { at }
     }
 
-    /// Where the call goes on with the word that was loaded.
-    pub(crate) fn after(self, command: Command, got: u64) -> Spot
-        ensures { result ≡ rows.load_next command self got }
+    /// Where the call goes on, in its phase, with the word that was loaded.
+    pub(crate) fn after(self, phase: u64, command: Command, got: u64) -> Spot
+        ensures { result ≡ rows.load_next phase command self got }
     {
         match self {
             LoadSpot::First => after_root(command, got),
@@ -77,7 +77,7 @@ impl LoadSpot {
                 object,
                 second,
                 third,
-            } => after_shape(command, object, second, third, got),
+            } => after_shape(phase, command, object, second, third, got),
         }
     }
 }
@@ -154,15 +154,22 @@ fn after_roots(command: Command, first: u64, second: u64, third: u64) -> Spot
 }
 
 // Where it goes on with an object of this shape: the reply is Bad where it has no such field or number.
-fn after_shape(command: Command, object: u64, second: u64, third: u64, shape: u64) -> Spot
-    ensures { result ≡ rows.after_shape command object second third shape }
+fn after_shape(
+    phase: u64,
+    command: Command,
+    object: u64,
+    second: u64,
+    third: u64,
+    shape: u64,
+) -> Spot
+    ensures { result ≡ rows.after_shape phase command object second third shape }
 {
     if !has_part(command, shape) {
         return Spot::Leave { reply: Reply::Bad };
     }
     let at = match command {
         Command::Get { .. } => FieldSpot::Load,
-        Command::Set { .. } => FieldSpot::Store { value: second },
+        Command::Set { .. } => first_of_set(phase, second),
         Command::Xchg { .. } => FieldSpot::Swap { value: second },
         Command::Cas { .. } => FieldSpot::LoadExpected {
             expect: second,
@@ -171,6 +178,17 @@ fn after_shape(command: Command, object: u64, second: u64, third: u64, shape: u6
         _ => return on_number(command, object, shape),
     };
     Spot::OnField { object, at }
+}
+
+// What a Set does to the field first: while objects are marked it looks what it will overwrite.
+fn first_of_set(phase: u64, value: u64) -> FieldSpot
+    ensures { result ≡ rows.first_of_set phase value }
+{
+    if phase == 1 {
+        FieldSpot::LoadOld { value }
+    } else {
+        FieldSpot::Store { value }
+    }
 }
 
 // Where a command on a number goes on with it.

@@ -6,10 +6,12 @@ use crate::fields::FieldSpot;
 use crate::loads::LoadSpot;
 use crate::makes::MakeSpot;
 use crate::numbers::NumberSpot;
+use crate::overwrites::Overwritten;
 use crate::shows::ShowSpot;
 use crate::waits::WaitSpot;
 use handshake::EnterSpot;
 use heap_words::{Place, Took};
+use satb_barrier::RememberSpot;
 use shen_graph::{Command, Order, Reply};
 
 /// What a call keeps of its start.
@@ -91,6 +93,15 @@ pub enum Spot {
         /// What it does to the field.
         at: FieldSpot,
     },
+    /// It records a reference that it overwrites while objects are marked.
+    Recording {
+        /// Where the recording stands.
+        at: RememberSpot,
+        /// The reference.
+        address: u64,
+        /// What follows.
+        next: Overwritten,
+    },
     /// It works on the command's number.
     OnNumber {
         /// The object.
@@ -146,6 +157,7 @@ impl Spot {
             Spot::LoadSet => Place::CS,
             Spot::Loading { at } => at.place(),
             Spot::OnField { at, .. } => at.place(),
+            Spot::Recording { at, .. } => at.place(),
             Spot::OnNumber { at, .. } => at.place(),
             Spot::Showing { at, .. } => at.place(),
             Spot::StoreRoot { .. } => Place::RS,

@@ -1,6 +1,7 @@
-use crate::{Entered, Mutator, Spot, WaitSpot};
+use crate::{Entered, FieldSpot, LoadSpot, Mutator, Overwritten, ShowSpot, Spot, WaitSpot};
 use handshake::EnterSpot;
 use heap_words::{Access, Config, Place, Took};
+use satb_barrier::RememberSpot;
 use shen_graph::{Command, Name, Reply};
 use std::test::Fail;
 
@@ -115,5 +116,146 @@ fn the_end_of_a_thread(rt: HostRuntime) -> Result<(), Fail> {
     assert!(rt; mutator.plan() == Access::Sub { at, value: 1 });
     assert!(rt; mutator.took(1) == Took::More);
     assert!(rt; mutator.is_idle() && mutator.is_resting());
+    Ok(())
+}
+
+// While objects are marked, a Set of field 1 of the object at 64 loads the field, and records the address 90 that it finds,
+// before it stores.
+#[test]
+fn a_set_that_records(rt: HostRuntime) -> Result<(), Fail> {
+    let command = Command::Set {
+        obj: 0,
+        field: 1,
+        val: 2,
+    };
+    let shape = LoadSpot::Shape {
+        object: 64,
+        second: 99,
+        third: 0,
+    };
+    let set = Overwritten::Set {
+        object: 64,
+        value: 99,
+    };
+    let load = FieldSpot::LoadOld { value: 99 };
+    let store = Spot::OnField {
+        object: 64,
+        at: FieldSpot::Store { value: 99 },
+    };
+    let record = Spot::Recording {
+        at: RememberSpot::LoadCount,
+        address: 90,
+        next: set,
+    };
+    let two_fields = 65536 + 2 * 256;
+    assert!(rt;
+        shape.after(1, command, two_fields)
+            == Spot::OnField {
+                object: 64,
+                at: load
+            }
+    );
+    assert!(rt; shape.after(0, command, two_fields) == store);
+    assert!(rt; load.place() == Place::FL);
+    assert!(rt; load.after(1, 64, 90) == record);
+    assert!(rt; load.after(1, 64, 0) == store);
+    assert!(rt; set.remember(90, RememberSpot::Recorded) == store);
+    Ok(())
+}
+
+// A whole Set in phase 1, whose thread's buffer is full: the entries are marked, and the one that it has then is what the Set
+// overwrites. In this heap the count is word 40, the entries are the words from 41 on, and the grey bits those from 51 on.
+#[test]
+fn a_set_with_a_full_buffer(rt: HostRuntime) -> Result<(), Fail> {
+    let config = Config::new(4, 64, 1, 0, 0)?;
+    let mut mutator = Mutator::new(config, 0);
+    mutator.begin(Command::Set {
+        obj: 0,
+        field: 0,
+        val: 1,
+    });
+    // E1, E2, PH, CS, RL of both roots, and SH of an object of one field
+    for found in [0, 0, 1, 0, 64, 99, 65536 + 256] {
+        assert!(rt; mutator.took(found) == Took::More);
+    }
+    assert!(rt; mutator.place() == Place::FL);
+    let at = config.heap_at(67);
+    assert!(rt; mutator.plan() == Access::Load { at });
+    assert!(rt; mutator.took(90) == Took::More);
+    assert!(rt; mutator.place() == Place::BC);
+    assert!(rt; mutator.plan() == Access::Load { at: 40 });
+    assert!(rt; mutator.took(8) == Took::More);
+    for entry in 0..8 {
+        assert!(rt; mutator.place() == Place::BL);
+        assert!(rt; mutator.plan() == Access::Load { at: 41 + entry });
+        assert!(rt; mutator.took(70) == Took::More);
+        assert!(rt; mutator.place() == Place::GO);
+        assert!(rt;
+            mutator.plan()
+                == Access::Or {
+                    at: 51,
+                    value: 1 << 6
+                }
+        );
+        assert!(rt; mutator.took(0) == Took::More);
+    }
+    assert!(rt; mutator.place() == Place::BZ);
+    assert!(rt; mutator.plan() == Access::Store { at: 40, value: 0 });
+    assert!(rt; mutator.took(8) == Took::More);
+    assert!(rt; mutator.place() == Place::BE);
+    assert!(rt; mutator.plan() == Access::Store { at: 41, value: 90 });
+    assert!(rt; mutator.took(70) == Took::More);
+    assert!(rt; mutator.place() == Place::BN);
+    assert!(rt; mutator.plan() == Access::Store { at: 40, value: 1 });
+    assert!(rt; mutator.took(0) == Took::More);
+    assert!(rt; mutator.place() == Place::FS);
+    assert!(rt; mutator.plan() == Access::Store { at, value: 99 });
+    assert!(rt; mutator.took(90) == Took::More);
+    assert!(rt; mutator.took(1) == Took::Done);
+    assert!(rt; mutator.reply() == Reply::Ok);
+    Ok(())
+}
+
+// An Xchg and a Cas record what they have overwritten, but not null; in phase 0 nothing is recorded.
+#[test]
+fn what_is_overwritten(rt: HostRuntime) -> Result<(), Fail> {
+    let swap = FieldSpot::Swap { value: 99 };
+    let shows = Spot::Showing {
+        value: 90,
+        at: ShowSpot::LoadName,
+    };
+    let records = Spot::Recording {
+        at: RememberSpot::LoadCount,
+        address: 90,
+        next: Overwritten::Xchg,
+    };
+    assert!(rt; swap.after(1, 64, 90) == records);
+    assert!(rt; swap.after(0, 64, 90) == shows);
+    assert!(rt; Overwritten::Xchg.remember(90, RememberSpot::Recorded) == shows);
+    let none = Spot::Showing {
+        value: 0,
+        at: ShowSpot::StoreRoot { reply: Reply::Null },
+    };
+    assert!(rt; swap.after(1, 64, 0) == none);
+    let exchange = FieldSpot::Exchange {
+        found: 90,
+        expect: 90,
+        value: 99,
+    };
+    let yes = Spot::Leave { reply: Reply::Yes };
+    let records = Spot::Recording {
+        at: RememberSpot::LoadCount,
+        address: 90,
+        next: Overwritten::Cas,
+    };
+    assert!(rt; exchange.after(1, 64, 90) == records);
+    assert!(rt; exchange.after(0, 64, 90) == yes);
+    assert!(rt; Overwritten::Cas.remember(90, RememberSpot::Recorded) == yes);
+    let null = FieldSpot::Exchange {
+        found: 0,
+        expect: 0,
+        value: 99,
+    };
+    assert!(rt; null.after(1, 64, 0) == yes);
     Ok(())
 }

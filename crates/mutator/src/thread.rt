@@ -160,6 +160,8 @@ impl Mutator {
             },
             Spot::Loading { at } => at.access(config, seat, command),
             Spot::OnField { object, at } => at.access(config, object, command),
+            // keeps IsBuffer
+            Spot::Recording { at, address, .. } => at.access(config, seat, address),
             Spot::OnNumber { object, refs, at } => at.access(config, object, refs, command),
             Spot::Showing { value, at } => at.access(config, seat, value, command),
             // keeps HasItsOwn.roots
@@ -208,11 +210,15 @@ impl Mutator {
                 self.kept.cset = got;
                 self.spot = first_spot(self.kept.command);
             }
-            Spot::Loading { at } => self.spot = at.after(self.kept.command, got),
+            Spot::Loading { at } => self.spot = at.after(self.kept.phase, self.kept.command, got),
             Spot::OnField { object, at } => {
-                self.spot = at.after(object, got);
+                self.spot = at.after(self.kept.phase, object, got);
                 return at.says(got);
             }
+            Spot::Recording { at, address, next } => self.spot = next.remember(
+                address,
+                at.after(got),
+            ),
             Spot::OnNumber { at, .. } => self.spot = at.after(got),
             Spot::Showing { value, at } => self.spot = at.after(value, got),
             Spot::StoreRoot { .. } | Spot::AskCycle => self.spot = Spot::Leave { reply: Reply::Ok },

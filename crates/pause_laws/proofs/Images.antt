@@ -7,7 +7,7 @@ use Rattle.std.proofs.Math.Logic.{∥∥₁_elim}
 use Rattle.std.proofs.Math.Nat.{ℕ_set}
 use Rattle.std.proofs.Math.Path.{fun_ext}
 use Rattle.heap_words.specs.declared.config.Config.{Config}
-use Rattle.heap_words.specs.Words.{Word, Pause, Left, End, State, Top, Heap, is_word, is_image, word_at, image_start, table_words, view}
+use Rattle.heap_words.specs.Words.{Word, Pause, Left, End, State, Top, Heap, IsWord, is_word, is_image, word_at, image_start, table_words, view}
 use Rattle.heap_words.specs.Rows.{name_of}
 use Rattle.heap_words.proofs.Named.{name_of-word_at, are_read_whole}
 use Rattle.heap_words.proofs.Rows.{word_inside, is_image-word_at}
@@ -21,12 +21,16 @@ use Rattle.image_laws.proofs.Reached.{can_pack}
 use Rattle.image_laws.proofs.Origin.{kept_inside, lie_apart}
 use Rattle.image_laws.proofs.Walked.{walk_keeps}
 use Rattle.image_graph.specs.Holds.{Holds, HoldsSome}
-use Rattle.pause_laws.specs.Image.{full_image}
+use Rattle.pause_laws.specs.Image.{image_of, full_image}
 use Rattle.image_laws.proofs.Still.{full_still}
 use Rattle.pause_laws.proofs.Outside.{IsZeroOutside, full_outside}
 
+-- a memory has as many words of the image as it should
+pub image_of_length : (c : Config) (memory : Word → ℕ) → length (image_of c memory) ≡ image_words c
+image_of_length c memory = length-map-range_with_len (λ k. memory (name_of c (image_start c + k))) 0 (image_words c)
+
 pub image_length : (c : Config) (image : List ℕ) → length (full_image c image) ≡ image_words c
-image_length c image = length-map-range_with_len (λ k. full c (image_view c image) (name_of c (image_start c + k))) 0 (image_words c)
+image_length c image = image_of_length c (full c (image_view c image))
 
 -- a word of an image, and one before it
 inside_word : (c : Config) (image : List ℕ) (k : ℕ) → image_start c ≤ k → get_or (replicate (image_start c) 0 ++ image) k 0 ≡ get_or image (k - image_start c) 0
@@ -38,7 +42,7 @@ before_word c image k below =
     get_or_append_left (replicate (image_start c) none) image 0 k (omega (arith, below, length-replicate (image_start c) none)) ∙ get_or-replicate (image_start c) k none 0 below
 
 -- a full collection leaves the words before the image
-full_before : (c : Config) (m : Word → ℕ) (word : Word) → is_image word ≡ false → full c m word ≡ m word
+pub full_before : (c : Config) (m : Word → ℕ) (word : Word) → is_image word ≡ false → full c m word ≡ m word
 unfolding packed made_in refused
 full_before c m Pause other = full_still c Pause (λ w t r. refl) m (λ w. refl)
 full_before c m Left other = full_still c Left (λ w t r. refl) m (λ w. refl)
@@ -46,33 +50,40 @@ full_before c m End other = full_still c End (λ w t r. refl) m (λ w. refl)
 full_before c m (State s) other = full_still c (State s) (λ w t r. refl) m (λ w. refl)
 full_before c m _ other = absurd (true≢false other)
 
-module _ (c : Config) (image : List ℕ) (zero_outside : IsZeroOutside c (full c (image_view c image))) where
-  abbrev m : Word → ℕ
-  m = image_view c image
-
-  word_by_name : (word : Word) → image_view c (full_image c image) word ≡ full c m word
-  word_by_name word = ⊎_elim
-      (λ (yes : is_word c word ≡ true).
-      let is = is_word_true c word yes in
+-- Words that differ from those of an image in the image alone are read there by their names.
+module _ (c : Config) (image : List ℕ) (after : Word → ℕ) (before : (word : Word) → is_image word ≡ false → after word ≡ image_view c image word) where
+  pub word_by_name : (word : Word) → IsWord c word → image_view c (image_of c after) word ≡ after word
+  word_by_name word is =
       let inside = word_inside c word is in
-      view_word c (replicate (image_start c) 0 ++ full_image c image) word is
+      view_word c (replicate (image_start c) 0 ++ image_of c after) word is
       ∙ ⊎_elim
       (λ (below : word_at c word < image_start c).
       let first : is_image word ≡ false = is_image-word_at c word is ∙ lt-leb (image_start c) (word_at c word) below in
-      before_word c (full_image c image) (word_at c word) below
-      ∙ sym (before_word c image (word_at c word) below) ∙ sym (view_word c (replicate (image_start c) 0 ++ image) word is) ∙ sym (full_before c m word first))
+      before_word c (image_of c after) (word_at c word) below
+      ∙ sym (before_word c image (word_at c word) below) ∙ sym (view_word c (replicate (image_start c) 0 ++ image) word is) ∙ sym (before word first))
       (λ (from : image_start c ≤ word_at c word).
       let place : image_start c + (word_at c word - image_start c) ≡ word_at c word = omega (arith, from) in
-      inside_word c (full_image c image) (word_at c word) from
-      ∙ get_or-map-range_with_len (λ k. full c m (name_of c (image_start c + k))) 0 (image_words c) (word_at c word - image_start c) (word_at c word - image_start c) 0
+      inside_word c (image_of c after) (word_at c word) from
+      ∙ get_or-map-range_with_len (λ k. after (name_of c (image_start c + k))) 0 (image_words c) (word_at c word - image_start c) (word_at c word - image_start c) 0
       (omega (arith, from, inside)) (omega arith)
-      ∙ ap (λ k. full c m (name_of c k)) place ∙ ap (full c m) (name_of-word_at c word is))
-      (cases_lt (word_at c word) (image_start c)))
-      (λ (other : is_word c word ≡ false). view_none c (replicate (image_start c) 0 ++ full_image c image) word other ∙ sym (zero_outside word other))
-      (cases_Bool (is_word c word))
+      ∙ ap (λ k. after (name_of c k)) place ∙ ap after (name_of-word_at c word is))
+      (cases_lt (word_at c word) (image_start c))
 
-  pub view_full : image_view c (full_image c image) ≡ full c m
-  view_full = fun_ext word_by_name
+  -- and a table that reads so is the image, behind zeros
+  pub table_by_name : (table : List ℕ) → length table ≡ table_words c → ((word : Word) → IsWord c word → view c table word ≡ after word)
+      → table ≡ replicate (image_start c) 0 ++ image_of c after
+  table_by_name table long reads =
+      let none : ℕ = 0 in
+      are_read_whole c table (replicate (image_start c) none ++ image_of c after) long
+      (omega (arith, length-append (replicate (image_start c) none) (image_of c after), length-replicate (image_start c) none, image_of_length c after))
+      (λ word is. reads word is ∙ sym (word_by_name word is))
+
+module _ (c : Config) (image : List ℕ) (zero_outside : IsZeroOutside c (full c (image_view c image))) where
+  pub view_full : image_view c (full_image c image) ≡ full c (image_view c image)
+  view_full = fun_ext (λ word. ⊎_elim
+      (λ (yes : is_word c word ≡ true). word_by_name c image (full c (image_view c image)) (full_before c (image_view c image)) word (is_word_true c word yes))
+      (λ (other : is_word c word ≡ false). view_none c (replicate (image_start c) 0 ++ full_image c image) word other ∙ sym (zero_outside word other))
+      (cases_Bool (is_word c word)))
 
 -- where an image holds a graph, words out of the table stay 0
 holds_outside : (c : Config) (words : List ℕ) (g : Graph) → Holds c (view c words) g → IsZeroOutside c (full c (view c words))
@@ -94,7 +105,4 @@ image_is_full c image holds =
 pub table_is_full : (c : Config) (image table : List ℕ) → length table ≡ table_words c → HoldsSome c (image_view c image) → view c table ≡ full c (image_view c image)
     → table ≡ replicate (image_start c) 0 ++ full_image c image
 table_is_full c image table long holds is =
-    let none : ℕ = 0 in
-    are_read_whole c table (replicate (image_start c) none ++ full_image c image) long
-    (omega (arith, length-append (replicate (image_start c) none) (full_image c image), length-replicate (image_start c) none, image_length c image))
-    (λ word inside. ap (λ (m : Word → ℕ). m word) (is ∙ sym (image_is_full c image holds)))
+    table_by_name c image (full c (image_view c image)) (full_before c (image_view c image)) table long (λ word inside. ap (λ (m : Word → ℕ). m word) is)

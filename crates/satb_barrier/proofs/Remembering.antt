@@ -14,28 +14,7 @@ use Rattle.satb_barrier.specs.declared.spot.RememberSpot.{RememberSpot}
 use Rattle.satb_barrier.specs.declared.spot.RememberSpot.TheVariants.{LoadCount, LoadEntry, MarkEntry, ClearCount, StoreEntry, StoreCount, Recorded}
 use Rattle.satb_barrier.specs.Rows.{touch_at, next_at, is_recorded, is_ready, IsFit}
 use Rattle.satb_barrier.specs.Recorded.{greys_in, IsRecorded, IsBuffer, LeaveBuffer}
-
--- so many entries of a buffer are grey, from the first on
-abbrev pub AreGrey : Config → (Word → ℕ) → ℕ → ℕ → Type 0
-AreGrey c memory mutator n = (k : ℕ) → k < n → HasMark c (greys_in memory) (memory (Buffer mutator k))
-
--- what holds of the words at each spot
-abbrev pub RememberFacts : Config → (Word → ℕ) → ℕ → ℕ → RememberSpot → Type 0
-RememberFacts c memory mutator address LoadCount = ⊤
-RememberFacts c memory mutator address (LoadEntry entry) = (memory (Count mutator) ≡ 8) × (entry < 8) × AreGrey c memory mutator entry
-RememberFacts c memory mutator address (MarkEntry entry found) =
-    (memory (Count mutator) ≡ 8) × (entry < 8) × AreGrey c memory mutator entry × (memory (Buffer mutator entry) ≡ found)
-RememberFacts c memory mutator address ClearCount = (memory (Count mutator) ≡ 8) × AreGrey c memory mutator 8
-RememberFacts c memory mutator address (StoreEntry entry) = (memory (Count mutator) ≡ entry) × (entry < 8)
-RememberFacts c memory mutator address (StoreCount entry) =
-    (memory (Count mutator) ≡ entry) × (entry < 8) × (memory (Buffer mutator entry) ≡ address)
-RememberFacts c memory mutator address Recorded = IsRecorded c memory mutator address
-
--- what a mutator counts on while it records an address
-pub record CanRemember (c : Config) (memory : Word → ℕ) (mutator address : ℕ) (spot : RememberSpot) : Type 0 where
-  pub buffer : IsBuffer c memory mutator
-  pub ready : is_ready c spot ≡ true
-  pub facts : RememberFacts c memory mutator address spot
+use Rattle.satb_barrier.specs.Facts.{AreGrey, RememberFacts, CanRemember}
 
 -- what was recorded before is recorded then
 abbrev pub KeepRecorded : Config → ℕ → (Word → ℕ) → (Word → ℕ) → Type 0

@@ -1,4 +1,5 @@
 pub mod Rows
 pub mod Seen
 pub mod Recorded
+pub mod Facts
 pub mod Runs

@@ -1,17 +1,15 @@
 -- The machines of a heap, as its events see them.
-use Rattle.std.specs.Prelude.{ℕ, ◌+◌, Bool, true, List, [], ◌∷◌, Option, Some, None}
+use Rattle.std.specs.Prelude.{ℕ, ◌+◌, List, [], ◌∷◌, Option, Some, None}
 use Rattle.shen_graph.specs.declared.command.Command.{Command}
 use Rattle.shen_graph.specs.declared.command.Reply.{Reply}
 use Rattle.shen_graph.specs.declared.order.Order.{Order}
 use Rattle.shen_graph.specs.declared.order.Order.TheVariants.{Nothing, Begin, End}
 use Rattle.shen_graph.specs.History.{Entry}
 use Rattle.mutator.specs.Rows.{Mutating}
+use Rattle.helper.specs.Rows as helpers
+use Rattle.helper.specs.Rows.{Helping}
 use Rattle.control_steps.specs.declared.spot.ControlSpot.TheVariants.{LookLeft}
 use Rattle.control_steps.specs.Rows.{Controlling}
-
--- What memory keeps of a helper. It has nothing to do in a heap that only collects in pauses.
-pub record Helping : Type 0 where
-  pub ended : Bool
 
 -- what memory keeps of a machine, by its role
 pub data Machine : Type 0 where
@@ -26,13 +24,13 @@ pub record Actor : Type 0 where
   pub command : Command
   pub calls : List Entry
 
--- a helper as a heap begins with it
-abbrev pub fresh_helper : Machine
-fresh_helper = helping (record { ended = true })
+-- the helper of a seat as a heap begins with it
+abbrev pub fresh_helper : ℕ → Machine
+fresh_helper seat = helping (helpers.fresh_helper seat)
 
 -- and a control that has seen this free word
 abbrev pub fresh_control : ℕ → Machine
-fresh_control free = controlling (record { spot = LookLeft; seen = free; image = [] })
+fresh_control free = controlling (record { spot = LookLeft; seen = free; phase = 0; image = [] })
 
 -- the entry of a command of a seat, once its reply is settled
 abbrev pub entry_of : ℕ → Command → Reply → Entry

@@ -29,6 +29,10 @@ use Rattle.mutator.specs.Orders.{is_between_calls, takes_commands, takes_at}
 use Rattle.mutator.specs.Rows.{touch_of, next_of, given_at, answer_at, reply_at, place_at}
 use Rattle.mutator.specs.Told.{told_of}
 use Rattle.mutator.specs.Waits.{WaitsAt}
+use Rattle.helper.specs.declared.spot.HelpSpot.TheVariants.{LoadEnd}
+use Rattle.helper.specs.Rows as help
+use Rattle.helper.specs.Rows.{help_place, help_touch, help_next, help_says}
+use Rattle.helper.specs.Waits as helpers
 use Rattle.control_steps.specs.declared.spot.ControlSpot.{ControlSpot}
 use Rattle.control_steps.specs.declared.spot.ControlSpot.TheVariants.{LookLeft, StoreWord}
 use Rattle.control_steps.specs.Rows.{control_place, control_access, control_next, control_says, is_gone}
@@ -39,31 +43,31 @@ use Rattle.step_core.specs.Settled.{settled}
 -- whether it takes the order
 abbrev pub takes_of : Machine → Order → Bool
 takes_of (mutating m) order = takes_at m.spot m.made order
-takes_of (helping h) order = false
+takes_of (helping h) order = is_nothing order && (if help.is_gone h.spot then false else true)
 takes_of (controlling k) order = is_nothing order && (if is_gone k.spot then false else true)
 
 -- its next access, under an order
 abbrev pub plan_of : Config → Order → Machine → Access
 plan_of c order (mutating m) = placed c (touch_of c m order)
-plan_of c order (helping h) = placed c (touch Pause loads)
+plan_of c order (helping h) = placed c (help_touch c h)
 plan_of c order (controlling k) = control_access c k
 
 -- the place of its next access
 abbrev pub place_in : Order → Machine → Place
 place_in order (mutating m) = place_at order m.spot
-place_in order (helping h) = place.H0
+place_in order (helping h) = help_place h
 place_in order (controlling k) = control_place k.spot
 
 -- what it is after the access, by the word that it was told
 abbrev pub machine_after : Change → Config → Order → ℕ → Machine → Machine
 machine_after change c order got (mutating m) = mutating (next_of c m order got)
-machine_after change c order got (helping h) = helping h
+machine_after change c order got (helping h) = helping (help_next c h got)
 machine_after change c order got (controlling k) = controlling (control_next change c k got)
 
 -- what it says of the step that finds this word: nothing where it never makes one
 abbrev pub answer_of : Config → Machine → ℕ → Option Took
 answer_of c (mutating m) got = Some (answer_at c m.kept m.spot got)
-answer_of c (helping h) got = None
+answer_of c (helping h) got = Some (help_says c h got)
 answer_of c (controlling k) got = Some (control_says c k got)
 
 -- the calls that its step ends, in a call of this command
@@ -125,7 +129,7 @@ may_begin _ = false
 -- where its step that finds this word says that it waits
 abbrev pub WaitsIn : Config → Machine → ℕ → Type 0
 WaitsIn c (mutating m) got = WaitsAt m.spot got
-WaitsIn c (helping h) got = ⊥
+WaitsIn c (helping h) got = helpers.WaitsAt c h got
 WaitsIn c (controlling k) got = control.WaitsAt c k got
 
 -- how many objects it has made
@@ -133,9 +137,15 @@ abbrev pub made_of_machine : Machine → ℕ
 made_of_machine (mutating m) = m.made
 made_of_machine _ = 0
 
--- how many replies are at hand, of calls that have done their work: 1 where a mutator leaves or clears its answer, else none
+-- how many replies are at hand, of calls that have done their work: 1 where a mutator leaves or clears its answer, or records what
+-- its Cas has overwritten, else none
+abbrev pub recorded_at_hand : Overwritten → ℕ
+recorded_at_hand overwrites.Cas = 1
+recorded_at_hand _ = 0
+
 abbrev pub at_hand : Spot → ℕ
 at_hand (Leave reply) = 1
+at_hand (Recording at address next) = recorded_at_hand next
 at_hand (Waiting (wait.ClearAnswer reply)) = 1
 at_hand _ = 0
 
@@ -146,15 +156,15 @@ at_hand_of _ = 0
 -- which numbers have machines of the role: the mutators come first, then the helpers, then the control
 abbrev pub HasNumber : Config → ℕ → Machine → Type 0
 HasNumber c number (mutating m) = (m.seat ≡ number) × (number < c.mutators)
-HasNumber c number (helping h) = (c.mutators ≤ number) × (number < c.mutators + c.helpers)
+HasNumber c number (helping h) = (h.seat ≡ number) × (c.mutators ≤ number) × (number < c.mutators + c.helpers)
 HasNumber c number (controlling k) = number ≡ c.mutators + c.helpers
 
--- It is idle, and may go on: a mutator takes commands, and the graph has as many objects of its thread as it has made; the
--- control is in no pause.
-abbrev pub IsIdle : Graph → ℕ → Machine → Type 0
-IsIdle g number (mutating m) = (g.count (number + 1) ≡ m.made) × (takes_commands m.spot ≡ true)
-IsIdle g number (helping h) = Unit {0}
-IsIdle g number (controlling k) = (k.spot ≡ LookLeft) × (k.image ≡ [])
+-- It is idle, and may go on: a mutator takes commands, and the graph has as many objects of its thread as it has made; a helper is
+-- between two rounds; the control is in no pause and no unit, and knows the phase.
+abbrev pub IsIdle : (phase : ℕ) → Graph → ℕ → Machine → Type 0
+IsIdle phase g number (mutating m) = (g.count (number + 1) ≡ m.made) × (takes_commands m.spot ≡ true)
+IsIdle phase g number (helping h) = h.spot ≡ LoadEnd
+IsIdle phase g number (controlling k) = (k.spot ≡ LookLeft) × (k.image ≡ []) × (k.phase ≡ phase)
 
 -- whether a step says that it waits
 abbrev pub is_again : Took → Bool

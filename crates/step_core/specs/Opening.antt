@@ -38,7 +38,7 @@ opening_words c =
 abbrev pub opening_machine : Config → ℕ → Machine
 opening_machine c number =
     if nat_lt number c.mutators then mutating (fresh_mutator number)
-    else (if nat_lt number (c.mutators + c.helpers) then fresh_helper else fresh_control (first_free c.regions))
+    else (if nat_lt number (c.mutators + c.helpers) then fresh_helper number else fresh_control (first_free c.regions))
 
 abbrev pub opening_actor : Config → ℕ → Actor
 opening_actor c number = record { machine = opening_machine c number; command = Gc; calls = [] }

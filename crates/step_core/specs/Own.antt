@@ -4,16 +4,28 @@ use Rattle.heap_words.specs.Words.{Root}
 use Rattle.shen_graph.specs.declared.command.Command.{Command}
 use Rattle.mutator.specs.declared.spot.Kept.{Kept}
 use Rattle.mutator.specs.declared.spot.Spot.{Spot}
-use Rattle.mutator.specs.declared.spot.Spot.TheVariants.{Showing, Making}
+use Rattle.mutator.specs.declared.spot.Spot.TheVariants.{Recording, Showing, Making}
+use Rattle.mutator.specs.declared.overwrites.Overwritten.{Overwritten}
+use Rattle.mutator.specs.declared.overwrites.Overwritten.TheVariants as overwrites
 use Rattle.mutator.specs.declared.makes.MakeSpot.{MakeSpot}
 use Rattle.mutator.specs.declared.makes.MakeSpot.TheVariants as make
 use Rattle.mutator.specs.Commands.{dst_of}
 use Rattle.mutator.specs.Rows.{Mutating, words_of}
 use Rattle.heap_world.specs.World.{World, hand, Points}
 
+-- the word that counts as a root where a call has the value of its own root in hand
+abbrev pub root_with : World → ℕ → (dst value : ℕ) → ℕ → ℕ
+root_with w seat dst value index = if index == dst then value else w.memory (Root seat index)
+
+-- and where it records what it has overwritten: an Xchg has that in hand for its root
+abbrev pub root_recording : World → ℕ → (dst value : ℕ) → Overwritten → ℕ → ℕ
+root_recording w seat dst value overwrites.Xchg index = root_with w seat dst value index
+root_recording w seat dst value _ index = w.memory (Root seat index)
+
 -- the word that counts as a root of the mutator: while a call has the root's new value in hand, that value
 abbrev pub root_now : World → ℕ → Kept → Spot → ℕ → ℕ
-root_now w seat kept (Showing value at) index = if index == dst_of kept.command then value else w.memory (Root seat index)
+root_now w seat kept (Showing value at) index = root_with w seat (dst_of kept.command) value index
+root_now w seat kept (Recording at address next) index = root_recording w seat (dst_of kept.command) address next index
 root_now w seat kept _ index = w.memory (Root seat index)
 
 -- room is in hand while an object is made: these words from this address on

@@ -10,10 +10,11 @@ use Rattle.mutator.specs.declared.waits.WaitSpot.TheVariants as wait
 use Rattle.mutator.specs.Orders.{takes_at}
 use Rattle.mutator.specs.Rows.{Mutating, touch_of}
 use Rattle.control_steps.specs.Rows.{Controlling}
-use Rattle.step_core.specs.Actor.{controlling, Actor}
+use Rattle.helper.specs.Rows.{Helping, help_touch}
+use Rattle.step_core.specs.Actor.{helping, controlling, Actor}
 use Rattle.step_core.specs.Settled.{control_number}
 use Rattle.step_core.specs.Sound.{IsMutator}
-use Rattle.step_core.specs.Standing.{standing_at, control_standing}
+use Rattle.step_core.specs.Standing.{standing_at, help_standing, control_standing}
 
 -- the control works in a pause, or has done so and not ended it yet: it is behind its last check, and has not let the others go on
 pub record IsInPause (c : Config) (s : Stage Actor) : Type 0 where
@@ -23,9 +24,16 @@ pub record IsInPause (c : Config) (s : Stage Actor) : Type 0 where
   pub is : actor.machine ≡ controlling control
   pub pausing : is_pausing (control_standing control.spot) ≡ true
 
+-- the machine of a number is a helper that stands so
+pub record IsHelper (s : Stage Actor) (number : ℕ) (a : Actor) (h : Helping) : Type 0 where
+  pub here : slice_get s.machines number ≡ Some a
+  pub is : a.machine ≡ helping h
+
 -- No mutator is in the heap, where calls load the phase and do their work until they leave: each is between two calls, enters, or
--- waits for an object. And none makes an access to a word of the image, but one that waits looks for its answer.
+-- waits for an object; and no helper is. None makes an access to a word of the image, but a mutator that waits looks for its answer.
 pub record IsEmpty (c : Config) (s : Stage Actor) : Type 0 where
   pub nobody : (number : ℕ) (a : Actor) (m : Mutating) → IsMutator s number a m → is_within (standing_at m.spot) ≡ false
+  pub no_helper : (number : ℕ) (a : Actor) (h : Helping) → IsHelper s number a h → is_within (help_standing h.spot) ≡ false
+  pub no_access : (number : ℕ) (a : Actor) (h : Helping) → IsHelper s number a h → is_image (help_touch c h).word ≡ false
   pub only_polls : (number : ℕ) (a : Actor) (m : Mutating) (order : Order) → IsMutator s number a m → takes_at m.spot m.made order ≡ true
       → (is_image (touch_of c m order).word ≡ false) ⊎ (m.spot ≡ Waiting wait.Poll)

@@ -12,7 +12,9 @@ use Rattle.shen_graph.specs.Graph.{Graph}
 use Rattle.shen_graph.specs.History.{Entry, after, EachIsLegal, of_thread}
 use Rattle.shen_graph.specs.Crowd.{AreCrowded}
 use Rattle.mutator.specs.declared.spot.Spot.{Spot}
-use Rattle.mutator.specs.declared.spot.Spot.TheVariants.{Showing, Leave, Entering, Waiting}
+use Rattle.mutator.specs.declared.spot.Spot.TheVariants.{Recording, Showing, Leave, Entering, Waiting}
+use Rattle.mutator.specs.declared.overwrites.Overwritten.{Overwritten}
+use Rattle.mutator.specs.declared.overwrites.Overwritten.TheVariants as overwrites
 use Rattle.mutator.specs.declared.spot.Entered.TheVariants.{Waited}
 use Rattle.mutator.specs.declared.waits.WaitSpot.{WaitSpot}
 use Rattle.mutator.specs.declared.waits.WaitSpot.TheVariants as wait
@@ -91,7 +93,13 @@ has_waited answer wait.LoadAnswer = answer == 1
 has_waited answer (wait.ClearAnswer reply) = true
 has_waited answer _ = false
 
+-- of who records what it has overwritten, where it has overwritten it
+abbrev pub has_overwritten : Overwritten → Bool
+has_overwritten (overwrites.Set object value) = false
+has_overwritten _ = true
+
 abbrev pub has_settled : ℕ → Spot → Bool
+has_settled answer (Recording at address next) = has_overwritten next
 has_settled answer (Showing value at) = true
 has_settled answer (Leave reply) = true
 has_settled answer (Entering at Waited) = answer == 1

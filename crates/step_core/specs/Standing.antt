@@ -4,6 +4,8 @@ use Rattle.mutator.specs.declared.spot.Spot.{Spot}
 use Rattle.mutator.specs.declared.spot.Spot.TheVariants.{Rest, Ended, Entering, Waiting, Leave, Gone}
 use Rattle.mutator.specs.declared.waits.WaitSpot.{WaitSpot}
 use Rattle.mutator.specs.declared.waits.WaitSpot.TheVariants as wait
+use Rattle.helper.specs.declared.spot.HelpSpot.{HelpSpot}
+use Rattle.helper.specs.declared.spot.HelpSpot.TheVariants as help
 use Rattle.control_steps.specs.declared.spot.ControlSpot.{ControlSpot}
 use Rattle.control_steps.specs.declared.spot.ControlSpot.TheVariants.{Stopping, LoadWord, StoreWord, Go}
 use Rattle.step_core.specs.Actor.{Machine, mutating, helping, controlling}
@@ -23,6 +25,13 @@ standing_at (Waiting at) = wait_standing at
 standing_at (Leave reply) = leaves
 standing_at _ = inside
 
+abbrev pub help_standing : HelpSpot → Standing
+help_standing help.LoadEnd = outside
+help_standing help.Gone = outside
+help_standing (help.Entering at) = enter_standing at
+help_standing help.Leave = leaves
+help_standing _ = inside
+
 abbrev pub control_standing : ControlSpot → Standing
 control_standing (Stopping at) = stop_standing at
 control_standing (LoadWord index) = works
@@ -32,5 +41,5 @@ control_standing _ = idle
 
 abbrev pub standing_of : Machine → Standing
 standing_of (mutating m) = standing_at m.spot
-standing_of (helping h) = outside
+standing_of (helping h) = help_standing h.spot
 standing_of (controlling k) = control_standing k.spot

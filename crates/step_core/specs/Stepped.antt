@@ -1,8 +1,9 @@
 -- What one machine knows of a world, and what each step of a place owes.
+use Rattle.std.specs.Int.{bit_at}
 use Rattle.std.specs.Prelude.{ℕ, ◌≡◌, ◌≢◌, ◌⊎◌, ◌+◌, ◌<◌, ◌≤◌, Bool, true, false, length, Option, Some, None}
 use Rattle.heap_words.specs.declared.config.Config.{Config}
 use Rattle.heap_words.specs.Encoding.{fresh_word}
-use Rattle.heap_words.specs.Words.{Heap, Root, Wait, Answer}
+use Rattle.heap_words.specs.Words.{Heap, Root, Wait, Answer, Ask, Phase}
 use Rattle.steps_base.specs.Touch.{touched}
 use Rattle.shen_graph.specs.declared.name.Name.{Name}
 use Rattle.shen_graph.specs.declared.command.Command.{Command}
@@ -17,13 +18,15 @@ use Rattle.shen_graph.specs.declared.order.Order.{Order}
 use Rattle.shen_graph.specs.declared.order.Order.TheVariants.{Nothing}
 use Rattle.mutator.specs.declared.spot.Kept.{Kept}
 use Rattle.mutator.specs.declared.spot.Spot.{Spot}
-use Rattle.mutator.specs.declared.spot.Spot.TheVariants.{Rest, Ended, Entering, LoadPhase, LoadSet, Loading, OnField, OnNumber, Showing, StoreRoot, Making, AskCycle, Waiting, Leave, Gone}
+use Rattle.mutator.specs.declared.spot.Spot.TheVariants.{Rest, Ended, Entering, LoadPhase, LoadSet, Loading, OnField, Recording, OnNumber, Showing, StoreRoot, Making, AskCycle, Waiting, Leave, Gone}
 use Rattle.mutator.specs.declared.spot.Entered.{Entered}
 use Rattle.mutator.specs.declared.spot.Entered.TheVariants.{Call, Waited}
 use Rattle.mutator.specs.declared.loads.LoadSpot.{LoadSpot}
 use Rattle.mutator.specs.declared.loads.LoadSpot.TheVariants as load
 use Rattle.mutator.specs.declared.fields.FieldSpot.{FieldSpot}
 use Rattle.mutator.specs.declared.fields.FieldSpot.TheVariants as fields
+use Rattle.mutator.specs.declared.overwrites.Overwritten.{Overwritten}
+use Rattle.mutator.specs.declared.overwrites.Overwritten.TheVariants as overwrites
 use Rattle.mutator.specs.declared.numbers.NumberSpot.{NumberSpot}
 use Rattle.mutator.specs.declared.numbers.NumberSpot.TheVariants as numbers
 use Rattle.mutator.specs.declared.shows.ShowSpot.{ShowSpot}
@@ -39,7 +42,8 @@ use Rattle.mutator.specs.Told.{told_of}
 use Rattle.mutator.specs.Fit.{IsReady}
 use Rattle.step_core.specs.Actor.{entry_of, command_by}
 use Rattle.step_core.specs.Own.{root_now, IsInHand}
-use Rattle.heap_world.specs.World.{World, Plot, hand, name_at, Points, Target, IsUsable, Shared}
+use Rattle.mark_steps.specs.Recording.{CanRecord}
+use Rattle.heap_world.specs.World.{World, Plot, Scan, hand, name_at, Points, Target, IsUsable, IsCovered, Shared}
 use Rattle.heap_world.specs.Asking as asking
 use Rattle.heap_world.specs.Asking.{Asking, HasNoPromise, IsAsked}
 use Rattle.heap_world.specs.Rely.{Rely}
@@ -180,11 +184,15 @@ pub record IsFull (command : Command) (fixed : Option Reply) : Type 0 where
 abbrev pub IsAsking : World → ℕ → ℕ → Command → Command → Option Reply → Asking → Type 0
 IsAsking w seat made k command fixed what = IsMaking made command fixed (dst_of k) (refs_of k) (nums_of k) × IsAsked w.memory w.block w.graph.count seat what
 
+-- it asks for its object, and the word of what is asked has the bit that a mutator waits
+abbrev pub IsHeard : World → ℕ → ℕ → Command → Command → Option Reply → Type 0
+IsHeard w seat made k command fixed = IsAsking w seat made k command fixed (asking.asks (refs_of k) (nums_of k)) × (bit_at (w.memory Ask) 1 ≡ 1)
+
 -- Where a mutator polls, it asks for its object, was given it, or was refused it. The words that count may say so before the
 -- word of the table does that it polls: then the history does not have yet that the heap is full.
 abbrev pub IsPolling : World → ℕ → ℕ → Command → Command → Option Reply → Type 0
 IsPolling w seat made k command fixed =
-    IsAsking w seat made k command fixed (asking.asks (refs_of k) (nums_of k))
+    IsHeard w seat made k command fixed
     ⊎ (IsAsking w seat made k command fixed (asking.given (refs_of k) (nums_of k)) ⊎ (IsRefused command fixed × IsAsked w.memory w.block w.graph.count seat asking.refused))
 
 -- and once it has found that it is answered, it was given its object, or the heap is full
@@ -200,12 +208,20 @@ LoadFacts w seat made k command fixed (load.Second first) = IsBegun made command
 LoadFacts w seat made k command fixed (load.Third first second) = IsBegun made command fixed k × (2 < length (roots_of k)) × HasFirst w seat k first × HasRoot w seat k 1 second
 LoadFacts w seat made k command fixed (load.Shape object second third) = IsBegun made command fixed k × (is_on_object k ≡ true) × HasRoots w seat k object second third
 
-abbrev pub FieldFacts : World → ℕ → Command → Command → Option Reply → ℕ → FieldSpot → Type 0
-FieldFacts w seat k command fixed object fields.Load = (fixed ≡ None) × IsGet w seat command object (index_of k) (dst_of k)
-FieldFacts w seat k command fixed object (fields.LoadExpected expect value) = (fixed ≡ None) × IsCas w seat command object (index_of k) expect value
-FieldFacts w seat k command fixed object (fields.Store value) = (fixed ≡ None) × IsSet w seat command object (index_of k) value
-FieldFacts w seat k command fixed object (fields.Swap value) = (fixed ≡ None) × IsXchg w seat command object (index_of k) value (dst_of k)
-FieldFacts w seat k command fixed object (fields.Exchange found expect value) = (fixed ≡ None) × IsCas w seat command object (index_of k) expect value × (found ≡ expect)
+abbrev pub FieldFacts : Config → World → ℕ → Command → Command → Option Reply → ℕ → FieldSpot → Type 0
+FieldFacts c w seat k command fixed object fields.Load = (fixed ≡ None) × IsGet w seat command object (index_of k) (dst_of k)
+FieldFacts c w seat k command fixed object (fields.LoadExpected expect value) = (fixed ≡ None) × IsCas w seat command object (index_of k) expect value
+FieldFacts c w seat k command fixed object (fields.LoadOld value) = (fixed ≡ None) × IsSet w seat command object (index_of k) value
+FieldFacts c w seat k command fixed object (fields.Store value) = (fixed ≡ None) × IsSet w seat command object (index_of k) value × IsCovered c w object (index_of k)
+FieldFacts c w seat k command fixed object (fields.Swap value) = (fixed ≡ None) × IsXchg w seat command object (index_of k) value (dst_of k)
+FieldFacts c w seat k command fixed object (fields.Exchange found expect value) = (fixed ≡ None) × IsCas w seat command object (index_of k) expect value × (found ≡ expect)
+
+-- what follows once an overwritten reference is recorded: a Set covers what its field had in the snapshot, and of an Xchg and a Cas the
+-- reply is settled
+abbrev pub RecordFacts : Config → World → ℕ → Command → Command → Option Reply → ℕ → Overwritten → Type 0
+RecordFacts c w seat k command fixed address (overwrites.Set object value) = FieldFacts c w seat k command fixed object (fields.Store value)
+RecordFacts c w seat k command fixed address overwrites.Xchg = IsFound w fixed address (dst_of k)
+RecordFacts c w seat k command fixed address overwrites.Cas = fixed ≡ Some reply.Yes
 
 abbrev pub NumberFacts : World → ℕ → Command → Command → Option Reply → ℕ → ℕ → NumberSpot → Type 0
 NumberFacts w seat k command fixed object refs numbers.Load = (fixed ≡ None) × IsRd w seat command object refs (index_of k)
@@ -229,7 +245,7 @@ EnterFacts w seat made k command fixed Waited = IsAnswered w seat made k command
 abbrev pub WaitFacts : World → ℕ → ℕ → Command → Command → Option Reply → WaitSpot → Type 0
 WaitFacts w seat made k command fixed wait.StoreRequest = IsAsking w seat made k command fixed asking.nothing
 WaitFacts w seat made k command fixed wait.AskRoom = IsAsking w seat made k command fixed (asking.asks (refs_of k) (nums_of k))
-WaitFacts w seat made k command fixed wait.StepOut = IsAsking w seat made k command fixed (asking.asks (refs_of k) (nums_of k))
+WaitFacts w seat made k command fixed wait.StepOut = IsHeard w seat made k command fixed
 WaitFacts w seat made k command fixed wait.Poll = IsPolling w seat made k command fixed
 WaitFacts w seat made k command fixed wait.LoadAnswer = IsAnswered w seat made k command fixed
 WaitFacts w seat made k command fixed (wait.StoreRoot address) =
@@ -244,7 +260,8 @@ SpotFacts c w seat made kept command fixed (Entering at next) = EnterFacts w sea
 SpotFacts c w seat made kept command fixed LoadPhase = IsBegun made command fixed kept.command
 SpotFacts c w seat made kept command fixed LoadSet = IsBegun made command fixed kept.command
 SpotFacts c w seat made kept command fixed (Loading at) = LoadFacts w seat made kept.command command fixed at
-SpotFacts c w seat made kept command fixed (OnField object at) = FieldFacts w seat kept.command command fixed object at
+SpotFacts c w seat made kept command fixed (OnField object at) = FieldFacts c w seat kept.command command fixed object at
+SpotFacts c w seat made kept command fixed (Recording at address next) = CanRecord c w seat address at × RecordFacts c w seat kept.command command fixed address next
 SpotFacts c w seat made kept command fixed (OnNumber object refs at) = NumberFacts w seat kept.command command fixed object refs at
 SpotFacts c w seat made kept command fixed (Showing value at) = ShowFacts w kept.command fixed value at
 SpotFacts c w seat made kept command fixed (StoreRoot value) =
@@ -273,10 +290,39 @@ IsSeatedIn c w seat made waiting =
 abbrev pub Seated : Config → World → Mutating → Type 0
 Seated c w m = IsSeatedIn c w m.seat m.made (is_waiting m.spot)
 
+-- what a mutator is about to record
+abbrev pub recording_of : Spot → Option ℕ
+recording_of (Recording at address next) = Some address
+recording_of _ = None
+
+-- whether the phase that a call has loaded is the phase: from there on until it waits or leaves
+abbrev pub has_phase : Spot → Bool
+has_phase LoadSet = true
+has_phase (Loading at) = true
+has_phase (OnField object at) = true
+has_phase (Recording at address next) = true
+has_phase (OnNumber object refs at) = true
+has_phase (Showing value at) = true
+has_phase (StoreRoot value) = true
+has_phase (Making at) = true
+has_phase AskCycle = true
+has_phase _ = false
+
+-- Of marking a mutator counts on this: what it is about to record is what its spot says, it scans nothing, and the phase that its
+-- call has loaded is the phase.
+pub record HasMarking (phase : ℕ) (recording : Option ℕ) (scanning : Option Scan) (kept : Kept) (spot : Spot) : Type 0 where
+  pub records : recording ≡ recording_of spot
+  pub scans : scanning ≡ None
+  pub phase_is : has_phase spot ≡ true → kept.phase ≡ phase
+
+abbrev pub HasMarkingIn : World → ℕ → Kept → Spot → Type 0
+HasMarkingIn w seat kept spot = HasMarking (w.memory Phase) (w.ghost.recording seat) (w.ghost.scanning seat) kept spot
+
 -- what a mutator counts on
 pub record Mine (c : Config) (w : World) (m : Mutating) (command : Command) (fixed : Option Reply) : Type 0 where
   pub seated : Seated c w m
   pub ready : IsReady c m
+  pub marking : HasMarkingIn w m.seat m.kept m.spot
   pub roots : (i : ℕ) → i < 16 → Points w.block (root_now w m.seat m.kept m.spot i) (w.graph.root (m.seat + 1) i)
   pub hands : (a words : ℕ) → w.block a ≡ Some (hand m.seat words) → IsInHand m.kept m.spot a words
   pub facts : SpotFacts c w m.seat m.made m.kept command fixed m.spot
@@ -308,7 +354,7 @@ pub record Stepped (c : Config) (u : World) (m : Mutating) (command : Command) (
   pub settles : (reply : Reply) → told_of u.memory m ≡ Some reply → (fixed ≡ None) × (given_at m.spot ≡ None)
   pub shared : Shared c world
   pub mine : Mine c world (next_of c m order (u.memory (touch_of c m order).word)) (command_by order command) (fixed_by fixed (told_of u.memory m) (given_at m.spot))
-  pub others : (seat : ℕ) → seat ≢ m.seat → Rely seat u world
+  pub others : (seat : ℕ) → seat ≢ m.seat → Rely c seat u world
 
 -- What is proved of each spot: from the shared facts and the mutator's own its step is as it should be, under each order
 -- that it takes.

@@ -1,0 +1,112 @@
+-- The rows of a helper: for each spot its place, the access that it makes and what follows. In each round it looks whether the
+-- control has ended, enters the heap, loads phase and collection set, works on one unit and leaves the heap. In phase 0 there is
+-- no unit, and it leaves at once.
+use Rattle.std.specs.Prelude.{ℕ, ◌==◌, Bool, true, false, if◌then◌else◌}
+use Rattle.heap_words.specs.declared.config.Config.{Config}
+use Rattle.heap_words.specs.declared.place.Place.{Place}
+use Rattle.heap_words.specs.declared.place.Place.TheVariants as place
+use Rattle.heap_words.specs.declared.access.Took.{Took}
+use Rattle.heap_words.specs.declared.access.Took.TheVariants.{More, Again}
+use Rattle.heap_words.specs.Words.{End, Phase, Cset}
+use Rattle.steps_base.specs.Touch.{Touch, touch, loads}
+use Rattle.handshake.specs.declared.enter_spot.EnterSpot.{EnterSpot}
+use Rattle.handshake.specs.declared.enter_spot.EnterSpot.TheVariants as enter
+use Rattle.handshake.specs.Rows.{enter_place, enter_touch, enter_next, leave_touch}
+use Rattle.scan_steps.specs.declared.spot.ScanSpot.{ScanSpot}
+use Rattle.scan_steps.specs.declared.spot.ScanSpot.TheVariants as scan
+use Rattle.scan_steps.specs.Rows as scans
+use Rattle.helper.specs.declared.spot.HelpSpot.{HelpSpot}
+use Rattle.helper.specs.declared.spot.HelpSpot.TheVariants.{LoadEnd, Entering, LoadPhase, LoadSet, Scanning, Leave, Gone}
+
+-- what the events see of a helper
+pub record Helping : Type 0 where
+  pub seat : ℕ
+  -- the phase and the collection set that its last round has loaded
+  pub phase : ℕ
+  pub cset : ℕ
+  pub spot : HelpSpot
+
+-- the helper of a seat before its first round
+abbrev pub fresh_helper : ℕ → Helping
+fresh_helper seat = record { seat = seat; phase = 0; cset = 0; spot = LoadEnd }
+
+-- whether it has ended
+abbrev pub is_gone : HelpSpot → Bool
+is_gone Gone = true
+is_gone _ = false
+
+-- the place of the next access. There is none at the end, where it is named as that of the last access
+abbrev pub place_at : HelpSpot → Place
+place_at LoadEnd = place.H0
+place_at (Entering at) = enter_place at
+place_at LoadPhase = place.PH
+place_at LoadSet = place.CS
+place_at (Scanning at) = scans.place_at at
+place_at Leave = place.LV
+place_at Gone = place.H0
+
+abbrev pub help_place : Helping → Place
+help_place h = place_at h.spot
+
+-- the next access, of the helper of a seat
+abbrev pub touch_at : Config → ℕ → HelpSpot → Touch
+touch_at c seat LoadEnd = touch End loads
+touch_at c seat (Entering at) = enter_touch seat at
+touch_at c seat LoadPhase = touch Phase loads
+touch_at c seat LoadSet = touch Cset loads
+touch_at c seat (Scanning at) = scans.touch_at c at
+touch_at c seat Leave = leave_touch seat
+touch_at c seat Gone = touch End loads
+
+abbrev pub help_touch : Config → Helping → Touch
+help_touch c h = touch_at c h.seat h.spot
+
+-- where it stands that enters: once it is inside it loads the phase
+abbrev pub after_enter : EnterSpot → HelpSpot
+after_enter enter.Inside = LoadPhase
+after_enter at = Entering at
+
+-- where it stands that scans: once the unit is done, or none was left, it leaves
+abbrev pub after_scan : ScanSpot → HelpSpot
+after_scan (scan.Ended unit) = Leave
+after_scan at = Scanning at
+
+-- where it stands next, by the word that was found
+abbrev pub next_spot : Config → HelpSpot → ℕ → HelpSpot
+next_spot c LoadEnd got = if got == 1 then Gone else Entering enter.Raise
+next_spot c (Entering at) got = after_enter (enter_next at got)
+next_spot c LoadPhase got = if got == 0 then Leave else LoadSet
+next_spot c LoadSet got = Scanning scan.LoadClaim
+next_spot c (Scanning at) got = after_scan (scans.next_at c at got)
+next_spot c Leave got = LoadEnd
+next_spot c Gone got = Gone
+
+-- the phase that it has loaded then
+abbrev pub next_phase : HelpSpot → ℕ → ℕ → ℕ
+next_phase LoadPhase phase got = got
+next_phase _ phase got = phase
+
+-- and the collection set
+abbrev pub next_set : HelpSpot → ℕ → ℕ → ℕ
+next_set LoadSet cset got = got
+next_set _ cset got = cset
+
+-- what it is then
+abbrev pub help_next : Config → Helping → ℕ → Helping
+help_next c h got = record {
+  seat = h.seat;
+  phase = next_phase h.spot h.phase got;
+  cset = next_set h.spot h.cset got;
+  spot = next_spot c h.spot got;
+}
+
+-- what a step says that finds this word: that it waits, that another was faster, or that there is more to do
+abbrev pub says_at : Config → HelpSpot → ℕ → Took
+says_at c (Entering enter.Await) got = if got == 0 then More else Again
+says_at c LoadPhase got = if got == 0 then Again else More
+says_at c (Scanning scan.LoadClaim) got = if scans.has_unit c got then More else Again
+says_at c (Scanning (scan.ClaimUnit unit)) got = if got == unit then More else Again
+says_at c _ got = More
+
+abbrev pub help_says : Config → Helping → ℕ → Took
+help_says c h got = says_at c h.spot got

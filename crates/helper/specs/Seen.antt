@@ -1,0 +1,12 @@
+-- What the events see of a helper.
+use Rattle.heap_words.specs.declared.config.Config.{Config}
+use Rattle.helper.specs.declared.helper.Helper.{Helper}
+use Rattle.helper.specs.Rows.{Helping}
+
+-- all but its configuration
+abbrev pub seen_helper : Helper → Helping
+seen_helper h = record { seat = h.seat; phase = h.phase; cset = h.cset; spot = h.spot }
+
+-- the heap that it works on
+abbrev pub config_of : Helper → Config
+config_of h = h.config

@@ -1,0 +1,21 @@
+-- Where a step of a helper says that it waits, or that another machine was faster, by the word that it finds.
+use Rattle.std.specs.Prelude.{ℕ, ◌≡◌, ◌≢◌, ◌≤◌}
+use Rattle.heap_words.specs.declared.config.Config.{Config}
+use Rattle.handshake.specs.declared.enter_spot.EnterSpot.TheVariants.{Await}
+use Rattle.scan_steps.specs.declared.spot.ScanSpot.TheVariants.{LoadClaim, ClaimUnit}
+use Rattle.scan_steps.specs.Rows.{unit_limit}
+use Rattle.helper.specs.declared.spot.HelpSpot.{HelpSpot}
+use Rattle.helper.specs.declared.spot.HelpSpot.TheVariants.{Entering, LoadPhase, Scanning}
+use Rattle.helper.specs.Rows.{Helping}
+
+-- At E4 a pause is wanted; at PH the phase is 0; at MC the claim word is at or past the number of units; at KX it is not the one
+-- that was loaded. At each other place it never waits.
+abbrev pub waits_at : Config → HelpSpot → ℕ → Type 0
+waits_at c (Entering Await) got = got ≢ 0
+waits_at c LoadPhase got = got ≡ 0
+waits_at c (Scanning LoadClaim) got = unit_limit c ≤ got
+waits_at c (Scanning (ClaimUnit unit)) got = got ≢ unit
+waits_at c _ got = ⊥
+
+abbrev pub WaitsAt : Config → Helping → ℕ → Type 0
+WaitsAt c h got = waits_at c h.spot got

@@ -1,0 +1,24 @@
+-- What a mutator counts on while it records an address, where objects are marked from a snapshot.
+use Rattle.std.specs.Prelude.{ℕ, ◌≡◌, ◌<◌, Option, Some, None}
+use Rattle.heap_words.specs.declared.config.Config.{Config}
+use Rattle.heap_words.specs.Words.{Phase}
+use Rattle.heap_world.specs.World.{World, hand, IsMarkable}
+use Rattle.satb_barrier.specs.declared.spot.RememberSpot.{RememberSpot}
+use Rattle.satb_barrier.specs.declared.spot.RememberSpot.TheVariants.{Recorded}
+use Rattle.satb_barrier.specs.Facts.{CanRemember}
+
+-- the address that it has in hand, by where it stands: none once the address is recorded
+abbrev pub recording_of : RememberSpot → ℕ → Option ℕ
+recording_of Recorded v = None
+recording_of _ v = Some v
+
+-- Objects are marked, and the address is one that can be. The mutator has it in hand until it is recorded; it scans nothing, and has no
+-- room in hand.
+pub record CanRecord (c : Config) (w : World) (mutator v : ℕ) (at : RememberSpot) : Type 0 where
+  pub seated : mutator < c.mutators
+  pub phase : w.memory Phase ≡ 1
+  pub markable : IsMarkable w.block v
+  pub recording : w.ghost.recording mutator ≡ recording_of at v
+  pub scanning : w.ghost.scanning mutator ≡ None
+  pub hands : (a words : ℕ) → w.block a ≡ Some (hand mutator words) → ⊥
+  pub words : CanRemember c w.memory mutator v at

@@ -1,0 +1,16 @@
+//! What the steps of recording and of scanning owe, where objects are marked from a snapshot beside the machines that change
+//! references: laws, as theorems and no code.
+#![tactic(auto)]
+
+ghost use Rattle.mark_steps.specs.Laws.{RecordingSteps, ScanningSteps};
+
+/// A law: each step of a mutator that records an address keeps what all machines share and what the others rely on, and
+/// the address is noted from the first step on.
+pub fn recording_steps()
+    ensures { RecordingSteps }
+{}
+
+/// A law: each step of a machine that scans a unit of marking keeps what all machines share and what the others rely on.
+pub fn scanning_steps()
+    ensures { ScanningSteps }
+{}
