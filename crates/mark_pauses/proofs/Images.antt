@@ -1,16 +1,16 @@
 -- The words of an image after a pause, by their names.
-use Rattle.std.proofs.Common.{◌≡◌, ℕ, ◌==◌, Bool, true, false, refl, ◌∙◌}
-use Rattle.std.specs.Prelude.{if◌then◌else◌}
+use Rattle.std.proofs.Common.{◌≡◌, ℕ, Bool, true, false, List, ◌++◌, length, replicate, refl, ap}
+use Rattle.std.specs.Prelude.{if◌then◌else◌, ◌==◌}
+use Rattle.std.specs.Int.{bit_at}
 use Rattle.std.proofs.lemmas.Bool.{true≢false}
 use Rattle.heap_words.specs.declared.config.Config.{Config}
-use Rattle.heap_words.specs.Words.{Word, Pause, Left, End, State, Phase, is_image}
-use Rattle.heap_world.specs.Change.{image_view}
-use Rattle.image_laws.specs.Full.{full}
+use Rattle.heap_words.specs.Words.{Word, Pause, Left, End, State, Phase, Ask, IsWord, is_image, image_start, table_words, view}
+use Rattle.heap_world.specs.Change.{image_words, image_view}
 use Rattle.pause_laws.proofs.Images.{full_before, image_of_length, word_by_name, table_by_name}
 use Rattle.mark_laws.specs.Init.{init_marked}
 use Rattle.mark_laws.specs.Final.{mark_ended}
-use Rattle.mark_pauses.specs.Collect.{is_room_asked, collected}
-use Rattle.mark_pauses.specs.Laws.{ImageIsCollected, TableIsCollected}
+use Rattle.mark_pauses.specs.Collect.{collected, collect_image}
+use Rattle.mark_pauses.specs.Laws.{TableIsCollected}
 
 -- of two numbers that are the same
 of_two : (b : Bool) (x y n : ℕ) → x ≡ n → y ≡ n → (if b then x else y) ≡ n
@@ -35,18 +35,21 @@ end_before c m _ other = absurd (true≢false other)
 
 pub collected_before : (c : Config) (m : Word → ℕ) (word : Word) → is_image word ≡ false → collected c m word ≡ m word
 collected_before c m word other =
-    by_test (is_room_asked m) (m Phase == 0)
-  where
-    by_test : (room idle : Bool) → (if room then full c m else (if idle then init_marked c m else mark_ended c m)) word ≡ m word
-    by_test true idle = full_before c m word other
-    by_test false true = init_before c m word other
-    by_test false false = end_before c m word other
+    of_two (bit_at (m Ask) 1 == 1) _ _ (m word) (full_before c m word other)
+    (of_two (m Phase == 0) _ _ (m word) (init_before c m word other) (end_before c m word other))
 
-pub image_is_collected : ImageIsCollected
-image_is_collected = record {
-  long = λ c image. image_of_length c (collected c (image_view c image));
-  words = λ c image word is. word_by_name c image (collected c (image_view c image)) (collected_before c (image_view c image)) word is;
-}
+-- a pause keeps the length of the image
+pub collected_length : (c : Config) (image : List ℕ) → length (collect_image c image) ≡ image_words c
+collected_length c image = image_of_length c (collected c (image_view c image))
+
+-- by their names the words of the table are those that it makes of them
+pub collected_by_name : (c : Config) (image : List ℕ) (word : Word) → IsWord c word → image_view c (collect_image c image) word ≡ collected c (image_view c image) word
+collected_by_name c image = word_by_name c image (collected c (image_view c image)) (collected_before c (image_view c image))
+
+-- and a table that reads so is the image, behind zeros
+pub collected_table : (c : Config) (image table : List ℕ) → length table ≡ table_words c
+    → ((word : Word) → IsWord c word → view c table word ≡ collected c (image_view c image) word) → table ≡ replicate (image_start c) 0 ++ collect_image c image
+collected_table c image = table_by_name c image (collected c (image_view c image)) (collected_before c (image_view c image))
 
 pub table_is_collected : TableIsCollected
-table_is_collected c image table long reads = table_by_name c image (collected c (image_view c image)) (collected_before c (image_view c image)) table long reads
+table_is_collected c image table long whole can is = collected_table c image table whole (λ word inside. ap (λ (m : Word → ℕ). m word) is)
