@@ -96,12 +96,12 @@ module _ (c : Config) (m : Word → ℕ) (g : Graph) (asking : ℕ → Asking) (
       (ap (λ (o : Object). slice_get o.refs field) (old_object c.mutators g p (are_fresh c m g asking r) k reached) ∙ is)
 
   -- what was found is held, and the other way round
-  found_held : (a : ℕ) → has (held_in c m) a ≡ true → IsHeld (now_in m) heap IsRoot a
+  pub found_held : (a : ℕ) → has (held_in c m) a ≡ true → IsHeld (now_in m) heap IsRoot a
   found_held a found =
       let size : kept_in c m a ≡ object_words (heap (a + 1)) = cond-true (has (held_in c m) a) (object_words (heap (a + 1))) 0 found in
       are.only a (omega (arith, size))
 
-  held_found : (a : ℕ) → IsHeld (now_in m) heap IsRoot a → has (held_in c m) a ≡ true
+  pub held_found : (a : ℕ) → IsHeld (now_in m) heap IsRoot a → has (held_in c m) a ≡ true
   held_found a held = ⊎_elim
       (λ (yes : has (held_in c m) a ≡ true). yes)
       (λ (other : has (held_in c m) a ≡ false).
