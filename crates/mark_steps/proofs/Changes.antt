@@ -50,8 +50,8 @@ same_marking memory = fun_ext (λ word. ⊎_elim
     (cases_Bool (is_marking word)))
 
 -- and so a load changes none
-pub marking_loaded : (memory : Word → ℕ) (at : Word) → with_marking memory (touched memory (touch at loads)) ≡ touched memory (touch at loads)
-marking_loaded memory at = subst (λ after. with_marking memory after ≡ after) (load_keeps memory at) (same_marking memory)
+pub marking_loaded : (memory : Word → ℕ) (at : Word) → with_marking memory memory ≡ touched memory (touch at loads)
+marking_loaded memory at = same_marking memory ∙ load_keeps memory at
 
 module _ (c : Config) (u : World) (seat : ℕ) (marking : Word → ℕ) (recording : ℕ → Option ℕ) (scanning : ℕ → Option Scan) where
   -- the world after such a step

@@ -10,7 +10,7 @@ use Rattle.heap_words.specs.Words.{Word, Phase, Count, Buffer, Grey, Black, Heap
 use Rattle.steps_base.specs.Touch.{touched}
 use Rattle.mark_bits.specs.Marks.{mark_word, mark_bit, address_at, HasMark}
 use Rattle.mark_bits.proofs.Marking.{word_back, bit_back, mark_stays, word_inside}
-use Rattle.heap_world.specs.World.{World, Scan, Plot, with_recording, IsMarkable, IsNoted, IsToScan, AreMarks, AreEntries, NotedIn, Shared}
+use Rattle.heap_world.specs.World.{World, Scan, hand, with_recording, IsMarkable, IsNoted, IsToScan, AreMarks, AreEntries, NotedIn, Shared}
 use Rattle.heap_world.specs.Rely.{Keeps, Rely}
 use Rattle.heap_world.proofs.Keeping.{load_keeps}
 use Rattle.heap_world.proofs.Updates.{updated, updated_there, updated_else}
@@ -39,8 +39,8 @@ in_hand _ v going = refl
 -- the address is noted, in hand or recorded
 noted_at : (c : Config) (memory : Word → ℕ) (recording : ℕ → Option ℕ) (mutator v : ℕ) (at : RememberSpot) → mutator < c.mutators → recording mutator ≡ recording_of at v → CanRemember c memory mutator v at
     → IsNoted c (λ n. memory (Grey n)) (λ t. memory (Count t)) (λ t k. memory (Buffer t k)) recording v
-noted_at c memory recording mutator v Recorded seated hand can = recorded_noted c memory recording mutator v seated can.facts
-noted_at c memory recording mutator v _ seated hand can = IsNoted.by_hand mutator seated hand
+noted_at c memory recording mutator v Recorded seated holds can = recorded_noted c memory recording mutator v seated can.facts
+noted_at c memory recording mutator v _ seated holds can = IsNoted.by_hand mutator seated holds
 
 -- a number written where it stood
 stays_if : (b : Bool) (n : ℕ) → (if b then n else n) ≡ n
@@ -204,6 +204,7 @@ module _ (c : Config) (u : World) (mutator v : ℕ) where
       markable = can.markable;
       recording = updated_there u.ghost.recording mutator (recording_of (next at) v);
       scanning = can.scanning;
+      hands = can.hands;
       words = subst (λ m. CanRemember c m mutator v (next at)) (sym (marking_touched u.memory (touch_at c mutator v at) (of_marking at))) (remembers at going shared can).next;
     }
 
@@ -214,7 +215,7 @@ module _ (c : Config) (u : World) (mutator v : ℕ) where
 
 -- A mutator takes an address in hand.
 module _ (c : Config) (u : World) (mutator v : ℕ) (seated : mutator < c.mutators) (marking : u.memory Phase ≡ 1) (object : IsMarkable u.block v)
-    (idle : u.ghost.recording mutator ≡ None) (scanless : u.ghost.scanning mutator ≡ None) (shared : Shared c u) where
+    (idle : u.ghost.recording mutator ≡ None) (scanless : u.ghost.scanning mutator ≡ None) (roomless : (a words : ℕ) → u.block a ≡ Some (hand mutator words) → ⊥) (shared : Shared c u) where
   abbrev taken : ℕ → Option ℕ
   taken = updated u.ghost.recording mutator (Some v)
 
@@ -252,6 +253,7 @@ module _ (c : Config) (u : World) (mutator v : ℕ) (seated : mutator < c.mutato
     markable = object;
     recording = updated_there u.ghost.recording mutator (Some v);
     scanning = scanless;
+    hands = roomless;
     words = record {
       buffer = record {
         few = (shared.marked.entries marking).few mutator seated;
@@ -292,6 +294,7 @@ module _ (c : Config) (u w : World) (mutator : ℕ) (rely : Rely c mutator u w) 
     markable = rely.marks.keeps.markable v can.markable;
     recording = rely.marks.recording ∙ can.recording;
     scanning = rely.marks.scanning ∙ can.scanning;
+    hands = λ a words is. can.hands a words (rely.no_hands a words is);
     words = can_remember_stays c mutator u.memory w.memory buffer_left v at can.words;
   }
 
