@@ -1,13 +1,14 @@
 -- The step by which the control has read the last word of an image: the new image counts from here on, all at once, and each machine
 -- is where it should be in it.
-use Rattle.std.proofs.Common.{◌≡◌, ◌≢◌, ℕ, ◌+◌, ◌<◌, ◌≤◌, inl, inr, ⊎_elim, true, false, List, [], ◌++◌, length, Option, Some, refl, sym, ap, ◌∙◌, subst, arith}
+use Rattle.std.proofs.Common.{◌≡◌, ◌≢◌, ℕ, ◌+◌, ◌<◌, ◌≤◌, inl, inr, ⊎_elim, true, false, List, [], ◌++◌, length, Option, Some, None, refl, sym, ap, ◌∙◌, subst, arith}
 use Rattle.std.specs.Prelude.{◌*◌, ◌-◌, ◌==◌, sum_by, slice_get, if◌then◌else◌}
-use Rattle.std.proofs.lemmas.Bool.{false≢true, lt-ltb}
+use Rattle.std.specs.Int.{bit_at}
+use Rattle.std.proofs.lemmas.Bool.{cases_eq, false≢true, lt-ltb}
 use Rattle.std.proofs.lemmas.List.{append-nil}
 use Rattle.std.proofs.lemmas.List.Elements.{All-nil}
 use Rattle.heap_words.specs.declared.config.Config.{Config}
 use Rattle.heap_words.specs.Ranges.{seat_count}
-use Rattle.heap_words.specs.Words.{Root, Answer, view}
+use Rattle.heap_words.specs.Words.{Phase, Ask, Root, Answer, view}
 use Rattle.packing.specs.Tops.{sum_below}
 use Rattle.packing.proofs.Sums.{sum_same}
 use Rattle.shen_graph.specs.declared.command.Command.{Command}
@@ -30,19 +31,21 @@ use Rattle.heap_world.proofs.Keeping.{usable_now}
 use Rattle.heap_world.specs.World.{Ghost, World, Plot, hand, Points, Shared}
 use Rattle.heap_world.specs.Asking.{Asking, nothing, asks, refused, given, IsAsked}
 use Rattle.heap_world.specs.Change.{Change, Answers, IsPause, IsPaused, image_view, image_words, words_given}
-use Rattle.heap_world.specs.Represents.{Represents}
+use Rattle.heap_world.specs.Represents.{NobodyMarks, Represents}
 use Rattle.heap_world.specs.Roots.{HasNoMore}
 use Rattle.control_steps.specs.declared.spot.ControlSpot.TheVariants.{StoreWord}
 use Rattle.step_core.specs.Actor.{Machine, mutating, helping, controlling, Actor}
 use Rattle.step_core.specs.Settled.{mixed, settled_by, control_number}
 use Rattle.step_core.specs.Own.{root_now, IsInHand}
 use Rattle.step_core.specs.Standing.{standing_at, standing_of}
-use Rattle.step_core.specs.Stepped.{IsMaking, IsPolling, IsAnswered, SpotFacts, Mine}
+use Rattle.step_core.specs.Stepped.{IsMaking, IsPolling, IsAnswered, SpotFacts, recording_of, has_phase, Mine}
 use Rattle.step_core.specs.Threads.{IsSettled}
 use Rattle.step_core.proofs.Facts.{IsSeen, IsShort, AreRead, IsThread, IsMachine, PromisedToMutators, Owes, words_promised}
 use Rattle.step_core.proofs.Asked.{asking_by, asking_asks, asking_refused, asking_given, asking_at, asking_in, asking_of, asked_same, polling_asked, answered_asked, nothing_then, refused_then, given_then, asks_then, promised_given}
+use Rattle.step_core.proofs.Helpers.{scans_none_outside, help_outside}
 use Rattle.step_core.proofs.Images.{mixed_whole}
 use Rattle.step_core.proofs.Pauses.{open_world}
+use Rattle.step_core.proofs.Replies.{answered_polls}
 use Rattle.step_core.proofs.Roles.{full_settled, machine_there, mutator_there}
 use Rattle.step_core.proofs.Spots.{mutator_at}
 
@@ -68,6 +71,46 @@ none_outside kept (Waiting at) a words out is = is
 none_outside kept Gone a words out is = is
 none_outside kept _ a words out is = cc
 
+-- it records nothing, and its call does not know the phase
+records_none : (spot : Spot) → is_within (standing_at spot) ≡ false → recording_of spot ≡ None
+records_none Rest out = refl
+records_none (Ended reply) out = refl
+records_none (Entering at then_on) out = refl
+records_none (Waiting at) out = refl
+records_none Gone out = refl
+records_none _ out = cc
+
+phase_unknown : (spot : Spot) → is_within (standing_at spot) ≡ false → has_phase spot ≡ false
+phase_unknown Rest out = refl
+phase_unknown (Ended reply) out = refl
+phase_unknown (Entering at then_on) out = refl
+phase_unknown (Waiting at) out = refl
+phase_unknown Gone out = refl
+phase_unknown _ out = cc
+
+-- who asks has set the bit that a mutator waits
+heard_poll : (w : World) (seat made refs nums : ℕ) (k command : Command) (fixed : Option Reply) → IsPolling w seat made k command fixed → asking_by (w.memory (Answer seat)) k ≡ asks refs nums → bit_at (w.memory Ask) 1 ≡ 1
+heard_poll w seat made refs nums k command fixed (inl waits) is = waits.1
+heard_poll w seat made refs nums k command fixed (inr (inl has)) is = absurd (let clash = sym (asking_given _ k has.1.1) ∙ is in cc (clash))
+heard_poll w seat made refs nums k command fixed (inr (inr full)) is = absurd (let clash = sym (asking_refused _ k full.1.1) ∙ is in cc (clash))
+
+heard_outside : (c : Config) (w : World) (seat made refs nums : ℕ) (kept : Kept) (spot : Spot) (command : Command) (fixed : Option Reply) → is_within (standing_at spot) ≡ false
+    → Mine c w (mutator_at seat made kept spot) command fixed → asking_at spot (w.memory (Answer seat)) kept.command ≡ asks refs nums → bit_at (w.memory Ask) 1 ≡ 1
+heard_outside c w seat made refs nums kept (Waiting wait.Poll) command fixed out mine is = heard_poll w seat made refs nums kept.command command fixed mine.facts is
+heard_outside c w seat made refs nums kept (Entering at Waited) command fixed out mine is =
+    heard_poll w seat made refs nums kept.command command fixed (answered_polls w seat made kept.command command fixed mine.facts) is
+heard_outside c w seat made refs nums kept Rest command fixed out mine is = absurd (cc (is))
+heard_outside c w seat made refs nums kept (Ended reply) command fixed out mine is = absurd (cc (is))
+heard_outside c w seat made refs nums kept Gone command fixed out mine is = absurd (cc (is))
+heard_outside c w seat made refs nums kept (Entering at Call) command fixed out mine is = absurd (cc (is))
+heard_outside c w seat made refs nums kept (Waiting wait.StoreRequest) command fixed out mine is = absurd (cc (out))
+heard_outside c w seat made refs nums kept (Waiting wait.AskRoom) command fixed out mine is = absurd (cc (out))
+heard_outside c w seat made refs nums kept (Waiting wait.StepOut) command fixed out mine is = absurd (cc (out))
+heard_outside c w seat made refs nums kept (Waiting wait.LoadAnswer) command fixed out mine is = absurd (cc (out))
+heard_outside c w seat made refs nums kept (Waiting (wait.StoreRoot address)) command fixed out mine is = absurd (cc (out))
+heard_outside c w seat made refs nums kept (Waiting (wait.ClearAnswer reply)) command fixed out mine is = absurd (cc (out))
+heard_outside c w seat made refs nums kept _ command fixed out mine is = absurd (cc (out))
+
 -- what it has asked for stands in the words
 asked_outside : (c : Config) (w : World) (seat made : ℕ) (kept : Kept) (spot : Spot) (command : Command) (fixed : Option Reply) → is_within (standing_at spot) ≡ false
     → Mine c w (mutator_at seat made kept spot) command fixed → IsAsked w.memory w.block w.graph.count seat (asking_at spot (w.memory (Answer seat)) kept.command)
@@ -88,7 +131,8 @@ asked_outside c w seat made kept _ command fixed out mine = cc
 -- The mutators in a new image: it stands for the same graph, and answers who asks.
 module _ (c : Config) (words : List ℕ) (u w : World) (t made : ℕ) (kept : Kept) (b : Actor) (x : Asking)
     (asked : IsAsked w.memory w.block w.graph.count t x) (graph : w.graph ≡ u.graph)
-    (roots : (i : ℕ) → i < 16 → Points w.block (w.memory (Root t i)) (w.graph.root (t + 1) i)) (none : (a more : ℕ) → w.block a ≡ Some (hand t more) → ⊥) where
+    (roots : (i : ℕ) → i < 16 → Points w.block (w.memory (Root t i)) (w.graph.root (t + 1) i)) (none : (a more : ℕ) → w.block a ≡ Some (hand t more) → ⊥)
+    (records : w.ghost.recording t ≡ None) (scans : w.ghost.scanning t ≡ None) where
   -- what it counts on then, where it is outside
   mine_outside : (spot : Spot) (fixed : Option Reply) → is_within (standing_at spot) ≡ false → Mine c u (mutator_at t made kept spot) b.command fixed
       → (is_waiting spot ≡ false → IsAsked w.memory w.block w.graph.count t nothing) → SpotFacts c w t made kept b.command fixed spot → Mine c w (mutator_at t made kept spot) b.command fixed
@@ -100,6 +144,7 @@ module _ (c : Config) (words : List ℕ) (u w : World) (t made : ℕ) (kept : Ke
       unasked = unasked;
     };
     ready = mine.ready;
+    marking = record { records = records ∙ sym (records_none spot out); scans = scans; phase_is = λ knows. absurd (false≢true (sym (phase_unknown spot out) ∙ knows)) };
     roots = λ i small. subst (λ word. Points w.block word (w.graph.root (t + 1) i)) (sym (root_outside w t kept spot i out)) (roots i small);
     hands = λ a more is. absurd (none a more is);
     facts = facts;
@@ -180,10 +225,10 @@ module _ (c : Config) (words : List ℕ) (u w : World) (t made : ℕ) (kept : Ke
     -- where it polls
     poll_then : IsCrowdedOut (asking_by (u.memory (Answer t)) kept.command) → Answers (asking_by (u.memory (Answer t)) kept.command) x → (old : Thread u (Waiting wait.Poll)) → IsPolling u t made kept.command b.command old.fixed → Thread w (Waiting wait.Poll)
     poll_then short answers old (inl waits) = ⊎_elim
-        (λ (none_left : IsAsked w.memory w.block w.graph.count t refused × (x ≡ refused)). refused_first short waits.1.1 none_left.0 none_left.1 old waits.0)
+        (λ (none_left : IsAsked w.memory w.block w.graph.count t refused × (x ≡ refused)). refused_first short waits.0.1.1 none_left.0 none_left.1 old waits.0.0)
         (λ (has : IsAsked w.memory w.block w.graph.count t (given (refs_of kept.command) (nums_of kept.command))).
-        given_now (Waiting wait.Poll) refl refl (λ e. (let before = waits.1.1 in omega (arith, sym whole ∙ e, before))) has.1 old (inr (inl (waits.0, has))))
-        (asks_then w.memory w.block w.graph.count t (refs_of kept.command) (nums_of kept.command) x (subst (λ y. Answers y x) (asking_asks _ kept.command waits.1.1) answers) asked)
+        given_now (Waiting wait.Poll) refl refl (λ e. (let before = waits.0.1.1 in omega (arith, sym whole ∙ e, before))) has.1 old (inr (inl (waits.0.0, has))))
+        (asks_then w.memory w.block w.graph.count t (refs_of kept.command) (nums_of kept.command) x (subst (λ y. Answers y x) (asking_asks _ kept.command waits.0.1.1) answers) asked)
     poll_then short answers old (inr (inl has)) =
         let still = given_then w.memory w.block w.graph.count t (refs_of kept.command) (nums_of kept.command) x (subst (λ y. Answers y x) (asking_given _ kept.command has.1.1) answers) asked in
         given_now (Waiting wait.Poll) refl refl (λ e. (let before = has.1.1 in omega (arith, sym whole ∙ e, before))) still.1 old (inr (inl (has.0, still)))
@@ -261,9 +306,42 @@ module _ (c : Config) (words : List ℕ) (block : Plot) (ghost : Ghost) (g : Gra
       (subst (λ j. IsAsked (view c words) block g.count j (asking_at m.spot (view c words (Answer j)) m.kept.command)) thread.number_is
       (asked_outside c before m.seat m.made m.kept m.spot there.0.command thread.fixed out thread.mine))
 
+  -- nobody scans
+  scans_of : (k : ℕ) (b : Actor) (machine : Machine) → k ≢ control_number c → is_within (standing_of machine) ≡ false → IsMachine c words before (of_thread past (k + 1)) k b machine → ghost.scanning k ≡ None
+  scans_of k b (mutating m) other out is = subst (λ j. ghost.scanning j ≡ None) is.number_is is.mine.marking.scans
+  scans_of k b (helping h) other out is = scans_none_outside c before k h.phase h.spot out is.facts
+  scans_of k b (controlling h) other out is = absurd (other is.number_is)
+
+  -- and nobody records
+  pub nobody_marks : AllKnown → AllOutside → ghost.scanning (control_number c) ≡ None → NobodyMarks c ghost
+  nobody_marks known outside idle = record {
+    records_none = λ t below.
+        let there = mutator_there c words before past machines seats known t below in
+        let m = there.1 in
+        let out : is_within (standing_at m.spot) ≡ false = ap (λ machine. is_within (standing_of machine)) (sym there.3) ∙ outside t there.0 there.2 (λ e. omega (arith, below, e)) in
+        subst (λ j. ghost.recording j ≡ None) there.4.number_is (there.4.mine.marking.records ∙ records_none m.spot out);
+    scans_none = λ k below. ⊎_elim
+        (λ (same : k ≡ control_number c). subst (λ j. ghost.scanning j ≡ None) (sym same) idle)
+        (λ (other : k ≢ control_number c).
+        let there = machine_there c words before past machines seats k below in
+        scans_of k there.0 there.0.machine other (outside k there.0 there.1 other) (known k there.0 there.1))
+        (cases_eq k (control_number c));
+  }
+
+  -- who asks for an object has set the bit that a mutator waits
+  heard_there : AllKnown → AllOutside → (t refs nums : ℕ) → t < c.mutators → asking t ≡ asks refs nums → bit_at (view c words Ask) 1 ≡ 1
+  heard_there known outside t refs nums below asks_so =
+      let there = mutator_there c words before past machines seats known t below in
+      let m = there.1 in
+      let thread = there.4 in
+      let out : is_within (standing_at m.spot) ≡ false = ap (λ machine. is_within (standing_of machine)) (sym there.3) ∙ outside t there.0 there.2 (λ e. omega (arith, below, e)) in
+      let is : asking t ≡ asking_at m.spot (view c words (Answer t)) m.kept.command = ap (λ o. asking_of o (view c words (Answer t))) there.2 ∙ ap (λ machine. asking_in machine (view c words (Answer t))) there.3 in
+      heard_outside c before m.seat m.made refs nums m.kept m.spot there.0.command thread.fixed out thread.mine
+      (ap (λ j. asking_at m.spot (view c words (Answer j)) m.kept.command) thread.number_is ∙ sym is ∙ asks_so)
+
   -- The image that was read stands for the graph.
-  pub image_stands : Shared c before → PromisedToMutators c block → HasNoMore c.mutators g → AllKnown → AllOutside → Represents c (image_view c image) g asking
-  image_stands shared promised_to no_more known outside =
+  pub image_stands : Shared c before → PromisedToMutators c block → HasNoMore c.mutators g → AllKnown → AllOutside → ghost.scanning (control_number c) ≡ None → Represents c (image_view c image) g asking
+  image_stands shared promised_to no_more known outside idle =
       let whole : view c words ≡ mixed c words image = sym (mixed_whole c words image read) in
       record {
         block = block;
@@ -279,15 +357,17 @@ module _ (c : Config) (words : List ℕ) (block : Plot) (ghost : Ghost) (g : Gra
             (subst (λ word. Points block word (g.root (m.seat + 1) i)) (root_outside before m.seat m.kept m.spot i out) (thread.mine.roots i small)));
         none = no_hands shared known outside;
         asked = λ t below. asked_same (mixed c words image) (image_view c image) block g.count t (asking t) refl refl (λ a. refl) (subst (λ memory. IsAsked memory block g.count t (asking t)) whole (asked_there known outside t below));
+        heard = λ t refs nums below asks_so. subst (λ memory. bit_at (memory Ask) 1 ≡ 1) whole (heard_there known outside t refs nums below asks_so);
         promised_to = promised_to;
+        unmarking = nobody_marks known outside idle;
         no_more = no_more;
       }
 
   -- The new image counts: what the step owes.
   module _ (change : Change) (law : IsPause change) (long : length image ≡ image_words c) (shared : Shared c before) (promised_to : PromisedToMutators c block) (no_more : HasNoMore c.mutators g)
-      (known : AllKnown) (outside : AllOutside) where
+      (known : AllKnown) (outside : AllOutside) (idle : ghost.scanning (control_number c) ≡ None) where
     paused : IsPaused c (image_view c image) (image_view c (change c image)) g asking
-    paused = law.pauses c image g asking long (image_stands shared promised_to no_more known outside)
+    paused = law.pauses c image g asking long (image_stands shared promised_to no_more known outside idle)
 
     -- the world then
     abbrev then_world : World
@@ -317,6 +397,7 @@ module _ (c : Config) (words : List ℕ) (block : Plot) (ghost : Ghost) (g : Gra
         let asks_so : asking k ≡ asking_at m.spot (view c words (Answer k)) m.kept.command = ap (λ o. asking_of o (view c words (Answer k))) there ∙ ap (λ machine. asking_in machine (view c words (Answer k))) is in
         subst (λ j. IsThread c words then_world (of_thread past (k + 1)) k b (mutator_at j m.made m.kept m.spot)) (sym thread.number_is)
         (thread_then c words before then_world k m.made m.kept b (paused.asked_then k) (asked_in_it k below) refl (λ i small. paused.stands.roots k i below small) (λ a more. paused.stands.none a k more)
+        (paused.stands.unmarking.records_none k below) (paused.stands.unmarking.scans_none k (omega (arith, below)))
         (of_thread past (k + 1)) refl m.spot out (λ refs nums asks_by. crowded_then k below refs nums (asks_so ∙ asks_by))
         (subst (λ y. Answers y (paused.asked_then k)) asks_so (paused.answers k below))
         (subst (λ j. IsThread c words before (of_thread past (k + 1)) k b (mutator_at j m.made m.kept m.spot)) thread.number_is thread))
@@ -325,12 +406,19 @@ module _ (c : Config) (words : List ℕ) (block : Plot) (ghost : Ghost) (g : Gra
     machine_then : (k : ℕ) (b : Actor) (machine : Machine) → slice_get machines k ≡ Some b → b.machine ≡ machine → k ≢ control_number c → is_within (standing_of machine) ≡ false
         → IsMachine c words before (of_thread past (k + 1)) k b machine → IsMachine c words then_world (of_thread past (k + 1)) k b machine
     machine_then k b (mutating m) there is other out thread = mutator_then k b m there is out thread
-    machine_then k b (helping h) there is other out thread = record { least = thread.least; below = thread.below; hands = λ a more. paused.stands.none a k more }
+    machine_then k b (helping h) there role other out is = record {
+      number_is = is.number_is;
+      ready = is.ready;
+      facts = help_outside c then_world k h.phase h.spot out (paused.stands.unmarking.scans_none k (let below = is.below in omega (arith, below)));
+      least = is.least;
+      below = is.below;
+      hands = λ a more. paused.stands.none a k more;
+    }
     machine_then k b (controlling h) there is other out thread = absurd (other thread.number_is)
 
     -- what the control owes
     pub paused_owes : (seen : ℕ) (command : Command) (calls : List Entry) → Owes c words words before past (control_number c) machines (settled_by c words (Some (change c image))) []
-        (record { machine = controlling (record { spot = StoreWord 0; seen = seen; image = change c image }); command = command; calls = calls ++ [] })
+        (record { machine = controlling (record { spot = StoreWord 0; seen = seen; phase = image_view c (change c image) Phase; image = change c image }); command = command; calls = calls ++ [] })
     paused_owes seen command calls = record {
       world = then_world;
       memory_is = refl;
@@ -343,6 +431,8 @@ module _ (c : Config) (words : List ℕ) (block : Plot) (ghost : Ghost) (g : Gra
         number_is = refl;
         hands = λ a more. paused.stands.none a (control_number c) more;
         ready = lt-ltb _ _ (some_words c);
+        phase_is = refl;
+        facts = paused.stands.unmarking.scans_none (control_number c) (omega arith);
         aims = (law.long c image long, λ i below. absurd (omega (arith, below)));
       };
       others = λ k b other there is.
