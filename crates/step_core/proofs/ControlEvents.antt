@@ -21,7 +21,9 @@ use Rattle.handshake.proofs.Still.{pause_empty}
 use Rattle.heap_world.specs.World.{World, Shared}
 use Rattle.scan_steps.specs.declared.spot.ScanSpot.{ScanSpot}
 use Rattle.scan_steps.specs.Rows as scans
+use Rattle.scan_steps.specs.Seen as scan
 use Rattle.mark_steps.proofs.Scans.{scan_inside}
+use Rattle.mark_steps.proofs.Parts.{scanning_steps}
 use Rattle.heap_world.specs.Change.{Change, IsPause, image_view, image_words}
 use Rattle.control_steps.specs.declared.spot.ControlSpot.{ControlSpot}
 use Rattle.control_steps.specs.declared.spot.ControlSpot.TheVariants.{LookLeft, StoreEnd, LookAsked, LookFree, Scanning, Stopping, LoadWord, StoreWord, Go, Gone}
@@ -224,6 +226,15 @@ module _ (change : Change) (law : IsPause change) (c : Config) (g : Graph) (s : 
       (stored_owes change c s.words follows.block follows.ghost (after g past) past s.machines image index seen phase command calls known.ready follows.words known.aims.0 known.aims.1 follows.seats
       (shared_held change law c g s past number k command calls follows shaken here) follows.promised_to (control_held change law c g s past number k command calls follows shaken here)
       (known_held change law c g s past number k command calls follows shaken here))
+
+  -- a word that it finds while it scans is fit
+  pub scan_fit : (at : ScanSpot) → Here (Scanning at) → scan.IsFit c at (got (Scanning at))
+  scan_fit at here =
+      let known = control_held change law c g s past number (control_at (Scanning at)) command calls follows shaken here in
+      let ready = and_parts _ _ known.ready in
+      let found : got (Scanning at) ≡ view c s.words (scans.touch_at c at).word = found-placed c s.words (scans.touch_at c at) (is_word_from c _ (scan_inside c at ready.0)) in
+      subst (λ n. scan.IsFit c at n) (sym found)
+      (scanning_steps.fits c open_now (control_number c) at (not_gone (scans.is_ended at) ready.1) (shared_held change law c g s past number (control_at (Scanning at)) command calls follows shaken here) known.facts)
 
   -- a step of a scan
   scan_word : (at : ScanSpot) → Here (Scanning at) → ControlGoal (Scanning at)
