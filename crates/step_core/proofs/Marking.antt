@@ -1,5 +1,8 @@
 -- What a mutator counts on of marking while its seat's own words change, and what others rely on then.
-use Rattle.std.proofs.Common.{◌≡◌, ◌≢◌, ℕ, ◌+◌, ◌<◌, inl, inr, ⊎_elim, Bool, true, false, Option, Some, None, refl, sym, ap, ◌∙◌, subst}
+use Rattle.std.proofs.Common.{◌≡◌, ◌≢◌, ℕ, ◌+◌, ◌<◌, ◌⊎◌, inl, inr, ⊎_elim, Bool, true, false, Option, Some, None, refl, sym, ap, ◌∙◌, subst, w64, arith}
+use Rattle.std.specs.Prelude.{bit_or}
+use Rattle.std.specs.Int.{bit_at}
+use Rattle.std.proofs.lemmas.Nat.Bits.{bit_at_set_same, bit_at_set_other}
 use Rattle.heap_words.specs.declared.config.Config.{Config}
 use Rattle.heap_words.specs.Words.{Word, Phase, Count, Buffer, Grey, Black, Heap}
 use Rattle.shen_graph.specs.declared.name.Name.{Name}
@@ -58,6 +61,13 @@ covered_found c u w a k shared marks found refs nums name is below =
     by_edge (IsTracedAt.stands same scan) =
         subst (λ s. IsDone s (NotedIn c w) a k) (sym marks.snapshot)
         (⊎_elim (λ null. inl (sym same ∙ null)) (λ noted. inr (subst (NotedIn c w) same noted)) found)
+
+-- the bit that a mutator waits stays where a cycle is asked for, and is there where a mutator has asked for room
+pub still_waits : (n : ℕ) → bit_at n 1 ≡ 1 → bit_at (bit_or n 1) 1 ≡ 1
+still_waits n is = bit_at_set_other w64 n 0 (omega arith) 1 (omega arith) ∙ is
+
+pub now_waits : (n : ℕ) → bit_at (bit_or n 2) 1 ≡ 1
+now_waits n = bit_at_set_same w64 n 1 (omega arith)
 
 -- what is relied on twice
 pub marks_twice : (c : Config) (seat : ℕ) (u v w : World) → RelyMarks c seat u v → RelyMarks c seat v w → RelyMarks c seat u w
