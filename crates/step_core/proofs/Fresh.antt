@@ -77,11 +77,13 @@ module _ (c : Config) (u : World) (seat made : ℕ) (kept : Kept) (command : Com
       uncopied = shared.uncopied;
       unwritten = unwritten_stays (λ a. u.memory (Heap a)) (λ a. stored_world.memory (Heap a)) u.block u.block
           (λ a seat_then words is. (is, λ k below. else_stays a k (promised seat_then words) is (not_room a (promised seat_then words) is (λ differ. cc)) below))
-          (λ a words is. (is,
-          let header : a + 0 ≡ a = omega arith in
-          ap (λ b. stored_world.memory (Heap b)) (sym header)
-          ∙ else_stays a 0 (filler words) is (not_room a (filler words) is (λ differ. cc)) (let long = shared.parsable.fillers a words is in omega (arith, long))
-          ∙ ap (λ b. u.memory (Heap b)) header))
+          (λ a words is. (
+            is,
+            let header : a + 0 ≡ a = omega arith in
+                ap (λ b. stored_world.memory (Heap b)) (sym header)
+                ∙ else_stays a 0 (filler words) is (not_room a (filler words) is (λ differ. cc)) (let long = shared.parsable.fillers a words is in omega (arith, long))
+                ∙ ap (λ b. u.memory (Heap b)) header,
+          ))
           shared.unwritten;
       marked = marked_elsewhere c (u.memory Phase) (λ n. u.memory (Grey n)) (λ n. u.memory (Black n)) (λ t. u.memory (Count t)) (λ t k. u.memory (Buffer t k)) (λ r. u.memory (Top r)) (λ r. u.memory (Tams r))
           (λ a. u.memory (Heap a)) u.block u.ghost.snapshot u.ghost.recording u.ghost.scanning shared.marked (λ a. stored_world.memory (Heap a))
