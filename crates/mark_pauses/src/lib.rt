@@ -1,13 +1,22 @@
-//! What the pauses of a heap in which objects are marked beside the mutators make of its words: by the phase and by what is asked
-//! for, marking begins or ends, or the whole heap is collected. Laws, as theorems and no code.
+//! What a pause does while objects may be marked: it begins marking or ends it, or collects in full where a mutator waits.
+//! It keeps the graph, and answers who waits. Laws, as theorems and no code.
 #![tactic(auto)]
 
-ghost use Rattle.mark_pauses.specs.Laws.{ImageIsCollected, TableIsCollected};
+ghost use Rattle.mark_pauses.specs.Laws.{MarkingStands, ReachableAreMarked, RepresentingCanCollect, TableIsCollected};
 
-/// A law: a pause keeps the length of the image, and the words of the image after it are, by their names, those that it makes of
-/// the words.
-pub fn image_is_collected()
-    ensures { ImageIsCollected }
+/// A law: words that represent a graph while objects are marked hold it, and marking comes to each object that can be reached.
+pub fn marking_stands()
+    ensures { MarkingStands }
+{}
+
+/// A law: once the marks are closed, each object that can be reached is marked or has been allocated since mark start.
+pub fn reachable_are_marked()
+    ensures { ReachableAreMarked }
+{}
+
+/// A law: words that represent a graph are such that a pause can collect.
+pub fn representing_can_collect()
+    ensures { RepresentingCanCollect }
 {}
 
 /// A law: a table that reads as a pause makes of an image is the image after it, behind words that are 0.

@@ -1,5 +1,5 @@
 -- What a step owes that changes only words of marking, and who records and scans what.
-use Rattle.std.proofs.Common.{◌≡◌, ◌≢◌, ℕ, ◌+◌, ◌<◌, ◌⊎◌, inl, inr, ⊎_elim, Bool, true, false, Option, Some, refl, sym, ap, ◌∙◌, subst}
+use Rattle.std.proofs.Common.{◌≡◌, ◌≢◌, ℕ, ◌<◌, ◌⊎◌, ⊎_elim, Bool, true, false, Option, Some, refl, sym, ap, ◌∙◌}
 use Rattle.std.specs.Prelude.{if◌then◌else◌}
 use Rattle.std.proofs.Math.Path.{fun_ext}
 use Rattle.std.proofs.lemmas.Bool.{cases_Bool, cond-true, cond-false, false≢true}
@@ -10,7 +10,7 @@ use Rattle.steps_base.specs.Touch.{Touch, touch, loads, touched}
 use Rattle.mark_bits.specs.Marks.{HasMark}
 use Rattle.shen_graph.specs.declared.name.Name.{Name}
 use Rattle.heap_world.specs.World.{World, Scan, thing, with_recording, with_scanning, IsNoted, IsToScan, IsDone, AreMarks, AreEntries, KeepsSnapshot, NotedIn, Shared}
-use Rattle.heap_world.specs.Rely.{KeepsMarks, Keeps, RelyMarks, Rely}
+use Rattle.heap_world.specs.Rely.{KeepsMarks, Keeps, Rely}
 use Rattle.heap_world.specs.Part.{PartStep}
 use Rattle.heap_world.proofs.Keeping.{load_keeps}
 use Rattle.heap_world.proofs.Traced.{traced_noted, traced_scanned}
@@ -85,6 +85,7 @@ module _ (c : Config) (u : World) (seat : ℕ) (marking : Word → ℕ) (recordi
           (traced_noted c u.ghost.snapshot (λ a. u.memory (Heap a)) (λ n. u.memory (Black n)) u.ghost.scanning (NotedIn c u)
           (IsNoted c (λ n. marking (Grey n)) (λ t. marking (Count t)) (λ t k. marking (Buffer t k)) recording) step.noted shared.marked.traced);
       led = shared.marked.led;
+      old = shared.marked.old;
       kept = shared.marked.kept;
       older = shared.marked.older;
       promises = shared.marked.promises;

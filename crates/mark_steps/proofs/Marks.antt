@@ -1,5 +1,5 @@
 -- What is marked is a word of the heap, and an object more that is marked.
-use Rattle.std.proofs.Common.{◌≡◌, ◌≢◌, ℕ, ◌+◌, ◌*◌, ◌%◌, ◌^◌, ◌<◌, ◌≤◌, Bool, true, false, ⊎_elim, inl, inr, ◌⊎◌, refl, sym, ap, ◌∙◌, subst, arith, w64}
+use Rattle.std.proofs.Common.{◌≡◌, ◌≢◌, ℕ, ◌+◌, ◌*◌, ◌^◌, ◌<◌, ◌≤◌, true, false, ⊎_elim, sym, ap, ◌∙◌, subst, arith, w64}
 use Rattle.std.specs.Prelude.{◌==◌, bit_or}
 use Rattle.std.specs.Int.{bit_at}
 use Rattle.std.proofs.lemmas.Bool.{cases_Bool, cond-true, cond-false, eqb-true}
@@ -11,7 +11,7 @@ use Rattle.heap_words.specs.Words.{Top, Heap, IsWord}
 use Rattle.heap_words.specs.Encoding.{refs_in}
 use Rattle.heap_words.proofs.Shapes.{refs_in-shape_word}
 use Rattle.mark_bits.specs.Marks.{mark_word, mark_bit, mark_mask, address_at, with_mark}
-use Rattle.mark_bits.proofs.Marking.{word_back, bit_back, bit_below, address_back}
+use Rattle.mark_bits.proofs.Marking.{bit_below}
 use Rattle.heap_world.specs.World.{thing, promised, Plot, IsMarkable, AreMarks, World, Shared}
 use Rattle.heap_world.proofs.Pointing.{piece_inside}
 

@@ -1,8 +1,8 @@
 -- The steps by which a mutator records an address.
-use Rattle.std.proofs.Common.{◌≡◌, ◌≢◌, ℕ, ◌+◌, ◌<◌, ◌≤◌, Bool, true, false, Option, Some, None, ⊎_elim, inl, inr, ◌⊎◌, refl, sym, ap, ◌∙◌, subst, arith}
-use Rattle.std.specs.Prelude.{◌==◌, ◌&&◌, if◌then◌else◌}
+use Rattle.std.proofs.Common.{◌≡◌, ◌≢◌, ℕ, ◌+◌, ◌<◌, ◌≤◌, true, false, Option, Some, None, ⊎_elim, inl, inr, refl, sym, ap, ◌∙◌, subst, arith}
+use Rattle.std.specs.Prelude.{◌==◌, ◌&&◌}
 use Rattle.std.specs.Int.{bit_at}
-use Rattle.std.proofs.lemmas.Bool.{cases_eq, cond-true, cond-false, eq-eqb, ne_eqb, and_parts}
+use Rattle.std.proofs.lemmas.Bool.{cases_eq, cond-true, cond-false, eq-eqb, ne_eqb}
 use Rattle.std.proofs.lemmas.Bool.Decides.{nat_tests}
 use Rattle.std.proofs.lemmas.Option.{same_Some}
 use Rattle.heap_words.specs.declared.config.Config.{Config}
@@ -22,7 +22,7 @@ use Rattle.satb_barrier.specs.Facts.{CanRemember}
 use Rattle.satb_barrier.proofs.Remembering.{RememberStep, can_remember_stays, each_remembers}
 use Rattle.mark_steps.specs.Recording.{recording_of, CanRecord}
 use Rattle.mark_steps.specs.Laws.{RecordStep, with_in_hand, TakesInHand}
-use Rattle.mark_steps.proofs.Changes.{is_marking, with_marking, marking_touched, same_marking, world_after, IsMarkingStep, shared_after, keeps_after, others_after, step_after}
+use Rattle.mark_steps.proofs.Changes.{is_marking, marking_touched, same_marking, world_after, IsMarkingStep, shared_after, keeps_after, others_after, step_after}
 use Rattle.mark_steps.proofs.Marks.{markable_word, marks_with}
 
 -- what is recorded is noted
@@ -41,11 +41,6 @@ noted_at : (c : Config) (memory : Word → ℕ) (recording : ℕ → Option ℕ)
     → IsNoted c (λ n. memory (Grey n)) (λ t. memory (Count t)) (λ t k. memory (Buffer t k)) recording v
 noted_at c memory recording mutator v Recorded seated holds can = recorded_noted c memory recording mutator v seated can.facts
 noted_at c memory recording mutator v _ seated holds can = IsNoted.by_hand mutator seated holds
-
--- a number written where it stood
-stays_if : (b : Bool) (n : ℕ) → (if b then n else n) ≡ n
-stays_if true n = refl
-stays_if false n = refl
 
 module _ (c : Config) (u : World) (mutator v : ℕ) where
   -- the words after the access of a spot
@@ -104,12 +99,6 @@ module _ (c : Config) (u : World) (mutator v : ℕ) where
       subst (λ m. (k : ℕ) → k < m (Count mutator) → IsMarkable u.block (m (Buffer mutator k))) same (λ k below. entries.of_objects mutator k seated below)
 
   module _ (at : RememberSpot) (going : is_recorded at ≡ false) (shared : Shared c u) (can : CanRecord c u mutator v at) where
-    abbrev marks : AreMarks c (λ n. u.memory (Grey n)) u.block
-    marks = shared.marked.greys can.phase
-
-    abbrev entries : AreEntries c (λ t. u.memory (Count t)) (λ t k. u.memory (Buffer t k)) u.block
-    entries = shared.marked.entries can.phase
-
     -- what the step keeps of the words by themselves
     remembers : RememberStep c u.memory mutator v at
     remembers = each_remembers c u.memory mutator v at going (markable_word c u v shared can.markable) can.words
@@ -138,7 +127,7 @@ module _ (c : Config) (u : World) (mutator v : ℕ) where
   greys_then (MarkEntry entry found) shared can =
       let entries = shared.marked.entries can.phase in
       let object : IsMarkable u.block found =
-          subst (IsMarkable u.block) can.words.facts.3 (entries.of_objects mutator entry can.seated (let full = can.words.facts.0 in let below = can.words.facts.1 in omega (arith, full, below))) in
+      subst (IsMarkable u.block) can.words.facts.3 (entries.of_objects mutator entry can.seated (let full = can.words.facts.0 in let below = can.words.facts.1 in omega (arith, full, below))) in
       marks_with c (λ n. u.memory (Grey n)) u.block found (markable_word c u found shared object) object (shared.marked.greys can.phase)
   greys_then _ shared can = shared.marked.greys can.phase
 
@@ -155,7 +144,7 @@ module _ (c : Config) (u : World) (mutator v : ℕ) where
       let is_count = can.words.facts.0 in
       let other : entry ≢ k = omega (arith, below, is_count) in
       let stays : after (StoreEntry entry) (Buffer mutator k) ≡ u.memory (Buffer mutator k) =
-          cond-false ((mutator == mutator) && (entry == k)) _ _ (grind (arith, nat_tests)) in
+      cond-false ((mutator == mutator) && (entry == k)) _ _ (grind (arith, nat_tests)) in
       subst (IsMarkable u.block) (sym stays) ((shared.marked.entries can.phase).of_objects mutator k can.seated below)
   own_entries (StoreCount entry) shared can k below =
       let is_count = can.words.facts.0 in

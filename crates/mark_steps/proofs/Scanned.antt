@@ -1,6 +1,5 @@
 -- Fields that a scan has still to come to, while a machine makes an object black or goes on to the next field.
-use Rattle.std.proofs.Common.{◌≡◌, ◌≢◌, ℕ, ◌+◌, ◌<◌, ◌≤◌, ◌⊎◌, inl, inr, ⊎_elim, Option, Some, None, sym, ap, ◌∙◌, arith}
-use Rattle.std.specs.Int.{bit_at}
+use Rattle.std.proofs.Common.{◌≡◌, ◌≢◌, ℕ, ◌<◌, ◌≤◌, ◌⊎◌, inl, inr, ⊎_elim, Option, Some, None, sym, ap, ◌∙◌, arith}
 use Rattle.std.proofs.lemmas.Bool.{cases_eq, cases_lt}
 use Rattle.std.proofs.lemmas.Option.{same_Some}
 use Rattle.std.proofs.lemmas.Nat.Bits.{bit_at-lt}
@@ -59,9 +58,9 @@ module _ (c : Config) (seat : ℕ) (scanning : ℕ → Option Scan) (next : Opti
       (λ (other : a ≢ object).
       let bit = bit_at-lt (with_mark c black object (mark_word c a)) (mark_bit c a) in
       let unset : mark_at c (with_mark c black object) a ≢ 1 = λ set. ⊎_elim
-          (λ (same : a ≡ object). other same)
-          (λ was. (let one : mark_at c black a ≡ 1 = was in omega (arith, one, white)))
-          (mark_no_more c black object a there here set) in
+      (λ (same : a ≡ object). other same)
+      (λ was. (let one : mark_at c black a ≡ 1 = was in omega (arith, one, white)))
+      (mark_no_more c black object a there here set) in
       IsToScan.is_white (omega (arith, bit, unset)))
       (cases_eq a object)
   scan_blackened object there here idle own (IsToScan.in_scan s at inside is less) = ⊎_elim

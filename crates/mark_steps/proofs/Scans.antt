@@ -1,15 +1,14 @@
 -- The steps by which a machine scans a unit of marking.
-use Rattle.std.proofs.Common.{◌≡◌, ◌≢◌, ℕ, ◌+◌, ◌*◌, ◌%◌, ◌^◌, ◌<◌, ◌≤◌, nat_lt, Bool, true, false, Option, Some, None, length, ⊎_elim, inl, inr, ◌⊎◌, refl, sym, ap, ◌∙◌, subst, arith, mod-lt}
+use Rattle.std.proofs.Common.{◌≡◌, ◌≢◌, ℕ, ◌+◌, ◌*◌, ◌%◌, ◌<◌, ◌≤◌, nat_lt, true, false, Option, Some, None, length, ⊎_elim, inl, inr, ◌⊎◌, refl, sym, ap, ◌∙◌, subst, arith, mod-lt}
 use Rattle.std.proofs.Math.Path.{fun_ext}
-use Rattle.std.specs.Prelude.{◌==◌, ◌&&◌, if◌then◌else◌, slice_get}
-use Rattle.std.specs.Int.{bit_at}
+use Rattle.std.specs.Prelude.{◌==◌}
 use Rattle.std.proofs.lemmas.Bool.{cases_eq, cases_Bool, cond-true, cond-false, eq-eqb, eqb-true, ne_eqb, and_from, and_parts, lt-ltb, ltb-true, ltb-false, le-leb}
 use Rattle.std.proofs.lemmas.Bool.Decides.{nat_tests}
 use Rattle.std.proofs.lemmas.Option.{slice_get-get_or}
 use Rattle.heap_words.specs.declared.config.Config.{Config}
 use Rattle.heap_words.specs.declared.access.Unit.TheVariants.{Worked, NoneLeft}
 use Rattle.heap_words.specs.Encoding.{refs_in}
-use Rattle.heap_words.specs.Words.{Word, Phase, Claim, Count, Buffer, Grey, Black, Heap, IsWord, is_word, bit_words}
+use Rattle.heap_words.specs.Words.{Word, Claim, Count, Buffer, Grey, Black, Heap, IsWord, is_word, bit_words}
 use Rattle.heap_words.proofs.Shapes.{refs_in-shape_word}
 use Rattle.steps_base.specs.Touch.{touched}
 use Rattle.mark_bits.specs.Marks.{mark_word, mark_bit, mark_at, address_at, lowest_address, HasMark}
@@ -18,16 +17,15 @@ use Rattle.shen_graph.specs.declared.name.Name.{Name}
 use Rattle.shen_graph.specs.Graph.{Reference}
 use Rattle.heap_world.specs.World.{World, Scan, thing, Points, was_at, IsMarkable, IsNoted, IsToScan, IsDone, IsTracedAt, AreMarks, AreEntries, NotedIn, Shared}
 use Rattle.heap_world.specs.Rely.{Rely}
-use Rattle.heap_world.proofs.Keeping.{load_keeps}
 use Rattle.heap_world.proofs.Pointing.{named_thing}
 use Rattle.heap_world.proofs.Updates.{updated, updated_there, updated_else}
 use Rattle.scan_steps.specs.declared.spot.ScanSpot.{ScanSpot}
 use Rattle.scan_steps.specs.declared.spot.ScanSpot.TheVariants.{LoadClaim, ClaimUnit, LoadGrey, LoadBlack, SetBlack, LoadShape, LoadField, SetGrey, Ended}
 use Rattle.scan_steps.specs.Rows.{touch_at, next_at, next_reference, has_unit, has_fields, unscanned_in, is_ended, is_ready}
 use Rattle.scan_steps.proofs.Found.{unscanned_found}
-use Rattle.mark_steps.specs.Scanning.{scan_at, scanning_of, MarkObjects, IsAtField, IsDoneOrFound, ScanFacts, CanScan}
+use Rattle.mark_steps.specs.Scanning.{scan_at, scanning_of, IsAtField, IsDoneOrFound, ScanFacts, CanScan}
 use Rattle.mark_steps.specs.Laws.{ScanStep}
-use Rattle.mark_steps.proofs.Changes.{with_marking, marking_touched, marking_loaded, world_after, IsMarkingStep, step_after}
+use Rattle.mark_steps.proofs.Changes.{with_marking, marking_touched, marking_loaded, world_after, step_after}
 use Rattle.mark_steps.proofs.Marks.{markable_shape, markable_word, marks_with}
 use Rattle.mark_steps.proofs.Scanned.{scan_of_others, scan_passes, scan_blackened}
 
