@@ -1,14 +1,13 @@
 -- What a mutator counts on of marking while its seat's own words change, and what others rely on then.
-use Rattle.std.proofs.Common.{◌≡◌, ◌≢◌, ℕ, ◌+◌, ◌<◌, ◌⊎◌, inl, inr, ⊎_elim, Bool, true, false, Option, Some, None, refl, sym, ap, ◌∙◌, subst, w64, arith}
+use Rattle.std.proofs.Common.{◌≡◌, ◌≢◌, ℕ, ◌+◌, ◌⊎◌, inl, inr, ⊎_elim, Bool, Option, Some, None, refl, sym, ap, ◌∙◌, subst, w64, arith}
 use Rattle.std.specs.Prelude.{bit_or}
 use Rattle.std.specs.Int.{bit_at}
 use Rattle.std.proofs.lemmas.Nat.Bits.{bit_at_set_same, bit_at_set_other}
 use Rattle.heap_words.specs.declared.config.Config.{Config}
 use Rattle.heap_words.specs.Words.{Word, Phase, Count, Buffer, Grey, Black, Heap}
-use Rattle.shen_graph.specs.declared.name.Name.{Name}
 use Rattle.shen_graph.specs.Graph.{Graph}
 use Rattle.heap_world.specs.World.{World, thing, Snapshot, NotedIn, was_at, IsDone, IsTracedAt, IsCovered, Shared}
-use Rattle.heap_world.specs.Rely.{KeepsMarks, Keeps, RelyMarks, Rely}
+use Rattle.heap_world.specs.Rely.{KeepsMarks, RelyMarks, Rely}
 use Rattle.heap_world.proofs.Marked.{rely_marks}
 use Rattle.step_core.specs.Stepped.{HasMarkingBy}
 

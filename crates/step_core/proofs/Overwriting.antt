@@ -1,13 +1,13 @@
 -- A mutator that overwrites a reference, while objects are marked and in other phases: it takes the reference in hand, to record it, or
 -- marking needs the field no more.
 use Rattle.std.proofs.Common.{◌≡◌, ◌≢◌, ℕ, ◌+◌, ◌<◌, ⊎_elim, inl, inr, true, false, Option, Some, None, refl, sym, ◌∙◌, arith}
-use Rattle.std.specs.Prelude.{◌==◌, ◌&&◌, nat_lt, if◌then◌else◌}
-use Rattle.std.proofs.lemmas.Bool.{and_from, and_parts, cases_Bool, eqb-true, eqb-false, lt-ltb, ltb-true, false≢true}
+use Rattle.std.specs.Prelude.{◌==◌, nat_lt, if◌then◌else◌}
+use Rattle.std.proofs.lemmas.Bool.{and_from, and_parts, cases_Bool, eqb-true, eqb-false, lt-ltb, ltb-true}
 use Rattle.std.proofs.lemmas.Bool.Decides.{nat_tests}
 use Rattle.heap_words.specs.declared.config.Config.{Config}
-use Rattle.heap_words.specs.Words.{Top, Phase, Heap, is_word}
+use Rattle.heap_words.specs.Words.{Top, Heap}
 use Rattle.heap_words.proofs.Stores.{is_word_from}
-use Rattle.steps_base.specs.Fits.{form_fits, is_number}
+use Rattle.steps_base.specs.Fits.{form_fits}
 use Rattle.shen_graph.specs.declared.command.Command.{Command}
 use Rattle.shen_graph.specs.declared.command.Reply.{Reply}
 use Rattle.shen_graph.specs.declared.order.Order.TheVariants.{Nothing}

@@ -32,7 +32,7 @@ use Rattle.heap_world.specs.World.{World, Points, IsUsable, Shared}
 use Rattle.step_core.specs.Stepped.{IsRootWord, HasRoot, HasObject, HasFirst, IsGet, IsSet, IsCas, IsXchg, IsRd, IsWr, IsFound, IsCopy, IsFilling, IsAsking, IsHeard, IsPolling, IsAnswered, LoadFacts, FieldFacts, RecordFacts, NumberFacts, ShowFacts, MakeFacts, EnterFacts, WaitFacts, SpotFacts, IsSeatedIn, recording_of, has_phase, Mine}
 use Rattle.step_core.specs.Own.{root_now, root_recording}
 use Rattle.heap_world.specs.Asking as asking
-use Rattle.heap_world.specs.Asking.{Asking, HasNoPromise, IsRequest, IsPromise, IsAsked}
+use Rattle.heap_world.specs.Asking.{Asking, HasNoPromise, IsAsked}
 use Rattle.heap_world.specs.Rely.{Keeps, Rely}
 use Rattle.alloc_buffers.specs.Facts.{TakeFacts}
 use Rattle.alloc_buffers.proofs.TakeStays.{take_stays}

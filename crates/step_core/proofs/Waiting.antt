@@ -20,7 +20,7 @@ use Rattle.mutator.specs.Commands.{refs_of, nums_of}
 use Rattle.mutator.specs.Rows.{Mutating}
 use Rattle.heap_world.specs.World.{World, Shared, promised}
 use Rattle.heap_world.specs.Asking as asking
-use Rattle.heap_world.specs.Asking.{IsPromise, IsAsked}
+use Rattle.heap_world.specs.Asking.{IsPromise}
 use Rattle.heap_world.specs.Rely.{Keeps, RelyMarks}
 use Rattle.step_core.specs.Stepped.{IsAnswered, Mine, Row}
 use Rattle.step_core.proofs.Spots.{mutator_at, accessed}
