@@ -1,3 +1,5 @@
 pub mod Images
 pub mod Chains
 pub mod Standing
+pub mod Pruned
+pub mod Beginning
