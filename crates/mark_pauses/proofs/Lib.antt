@@ -3,3 +3,4 @@ pub mod Chains
 pub mod Standing
 pub mod Pruned
 pub mod Beginning
+pub mod Ending
