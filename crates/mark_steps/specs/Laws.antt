@@ -6,7 +6,7 @@ use Rattle.heap_world.specs.World.{World, hand, with_recording, IsMarkable, Note
 use Rattle.heap_world.specs.Rely.{Keeps, Rely}
 use Rattle.heap_world.specs.Part.{PartStep}
 use Rattle.satb_barrier.specs.declared.spot.RememberSpot.{RememberSpot}
-use Rattle.satb_barrier.specs.declared.spot.RememberSpot.TheVariants.{LoadCount, Recorded}
+use Rattle.satb_barrier.specs.declared.spot.RememberSpot.TheVariants.{LoadCount}
 use Rattle.satb_barrier.specs.Rows as remember
 use Rattle.scan_steps.specs.declared.spot.ScanSpot.{ScanSpot}
 use Rattle.scan_steps.specs.Rows as scan

@@ -2,7 +2,7 @@ use crate::{Entered, FieldSpot, LoadSpot, Mutator, Overwritten, ShowSpot, Spot, 
 use handshake::EnterSpot;
 use heap_words::{Access, Config, Place, Took};
 use satb_barrier::RememberSpot;
-use shen_graph::{Command, Name, Reply};
+use shen_graph::{Command, Name, Order, Reply};
 use std::test::Fail;
 
 // A thread clears its root 3: it enters, loads phase and set, stores null into the root, and leaves.
@@ -163,56 +163,35 @@ fn a_set_that_records(rt: HostRuntime) -> Result<(), Fail> {
     Ok(())
 }
 
-// A whole Set in phase 1, whose thread's buffer is full: the entries are marked, and the one that it has then is what the Set
-// overwrites. In this heap the count is word 40, the entries are the words from 41 on, and the grey bits those from 51 on.
+// Where a mutator stands that records, once its step has found this word.
+fn after(spot: Spot, found: u64) -> Spot {
+    match spot {
+        Spot::Recording { at, address, next } => next.remember(address, at.after(found)),
+        spot => spot,
+    }
+}
+
+// The places of a Set whose thread's buffer is full, from the load of the field to its store: each entry is marked, and then
+// the buffer has what the Set overwrites.
 #[test]
 fn a_set_with_a_full_buffer(rt: HostRuntime) -> Result<(), Fail> {
-    let config = Config::new(4, 64, 1, 0, 0)?;
-    let mut mutator = Mutator::new(config, 0);
-    mutator.begin(Command::Set {
-        obj: 0,
-        field: 0,
-        val: 1,
-    });
-    // E1, E2, PH, CS, RL of both roots, and SH of an object of one field
-    for found in [0, 0, 1, 0, 64, 99, 65536 + 256] {
-        assert!(rt; mutator.took(found) == Took::More);
-    }
-    assert!(rt; mutator.place() == Place::FL);
-    let at = config.heap_at(67);
-    assert!(rt; mutator.plan() == Access::Load { at });
-    assert!(rt; mutator.took(90) == Took::More);
-    assert!(rt; mutator.place() == Place::BC);
-    assert!(rt; mutator.plan() == Access::Load { at: 40 });
-    assert!(rt; mutator.took(8) == Took::More);
+    let order = Order::Nothing;
+    let mut spot = FieldSpot::LoadOld { value: 99 }.after(1, 64, 90);
+    assert!(rt; spot.place(order) == Place::BC);
+    spot = after(spot, 8);
     for entry in 0..8 {
-        assert!(rt; mutator.place() == Place::BL);
-        assert!(rt; mutator.plan() == Access::Load { at: 41 + entry });
-        assert!(rt; mutator.took(70) == Took::More);
-        assert!(rt; mutator.place() == Place::GO);
-        assert!(rt;
-            mutator.plan()
-                == Access::Or {
-                    at: 51,
-                    value: 1 << 6
-                }
-        );
-        assert!(rt; mutator.took(0) == Took::More);
+        assert!(rt; spot.place(order) == Place::BL);
+        spot = after(spot, 70 + entry);
+        assert!(rt; spot.place(order) == Place::GO);
+        spot = after(spot, 0);
     }
-    assert!(rt; mutator.place() == Place::BZ);
-    assert!(rt; mutator.plan() == Access::Store { at: 40, value: 0 });
-    assert!(rt; mutator.took(8) == Took::More);
-    assert!(rt; mutator.place() == Place::BE);
-    assert!(rt; mutator.plan() == Access::Store { at: 41, value: 90 });
-    assert!(rt; mutator.took(70) == Took::More);
-    assert!(rt; mutator.place() == Place::BN);
-    assert!(rt; mutator.plan() == Access::Store { at: 40, value: 1 });
-    assert!(rt; mutator.took(0) == Took::More);
-    assert!(rt; mutator.place() == Place::FS);
-    assert!(rt; mutator.plan() == Access::Store { at, value: 99 });
-    assert!(rt; mutator.took(90) == Took::More);
-    assert!(rt; mutator.took(1) == Took::Done);
-    assert!(rt; mutator.reply() == Reply::Ok);
+    assert!(rt; spot.place(order) == Place::BZ);
+    spot = after(spot, 8);
+    assert!(rt; spot.place(order) == Place::BE);
+    spot = after(spot, 70);
+    assert!(rt; spot.place(order) == Place::BN);
+    spot = after(spot, 0);
+    assert!(rt; spot.place(order) == Place::FS);
     Ok(())
 }
 

@@ -3,7 +3,7 @@ use Rattle.std.specs.Prelude.{ℕ, ◌≡◌, ◌≢◌, ◌+◌, ◌-◌, ◌*�
 use Rattle.heap_words.specs.declared.config.Config.{Config}
 use Rattle.heap_words.specs.Encoding.{object_words}
 use Rattle.heap_words.specs.Ranges.{seat_count}
-use Rattle.heap_words.specs.Words.{Word, Answer, Heap, view, image_start, table_words}
+use Rattle.heap_words.specs.Words.{Word, Phase, Answer, Heap, view, image_start, table_words}
 use Rattle.packing.specs.Tops.{sum_below}
 use Rattle.steps_base.specs.Steps.{Stage}
 use Rattle.shen_graph.specs.declared.name.Name.{Name}
@@ -19,10 +19,15 @@ use Rattle.heap_world.specs.World.{Ghost, World, Plot, hand, promised, Shared}
 use Rattle.heap_world.specs.Change.{image_words}
 use Rattle.heap_world.specs.Roots.{HasNoMore}
 use Rattle.control_steps.specs.declared.spot.ControlSpot.{ControlSpot}
-use Rattle.control_steps.specs.declared.spot.ControlSpot.TheVariants.{LoadWord, StoreWord}
+use Rattle.control_steps.specs.declared.spot.ControlSpot.TheVariants.{Scanning, LoadWord, StoreWord}
 use Rattle.control_steps.specs.Rows.{Controlling}
 use Rattle.control_steps.specs.Ready.{is_ready}
-use Rattle.step_core.specs.Actor.{Helping, Machine, mutating, helping, controlling, Actor, entries_of}
+use Rattle.helper.specs.declared.spot.HelpSpot.{HelpSpot}
+use Rattle.helper.specs.declared.spot.HelpSpot.TheVariants as help
+use Rattle.helper.specs.Rows.{Helping}
+use Rattle.helper.specs.Ready.{help_ready}
+use Rattle.mark_steps.specs.Scanning.{CanScan}
+use Rattle.step_core.specs.Actor.{Machine, mutating, helping, controlling, Actor, entries_of}
 use Rattle.step_core.specs.Threads.{IsSettled}
 use Rattle.step_core.specs.Stepped.{Mine}
 use Rattle.step_core.specs.Sound.{world_of}
@@ -55,8 +60,18 @@ pub record IsThread (c : Config) (words : List ℕ) (w : World) (entries : List 
   pub short : w.memory (Answer number) ≡ 1 → fixed ≡ None → IsShort c w.memory w.graph number (words_asked (Some a.command))
   pub entries_are : entries ≡ a.calls ++ entries_of number a.command fixed
 
--- what holds of a helper: it has no room in hand, and nothing is promised to it
+-- What a helper counts on by where it stands: between the two loads it knows the phase, which is not 0, and in a unit it can go on;
+-- elsewhere it scans nothing.
+abbrev pub HelpFacts : Config → World → ℕ → (phase : ℕ) → HelpSpot → Type 0
+HelpFacts c w seat phase (help.Scanning at) = CanScan c w seat at
+HelpFacts c w seat phase help.LoadSet = (w.ghost.scanning seat ≡ None) × (phase ≢ 0) × (phase ≡ w.memory Phase)
+HelpFacts c w seat phase _ = w.ghost.scanning seat ≡ None
+
+-- what holds of a helper: it has its number as its seat, no room in hand, and can make its next access
 pub record IsHelper (c : Config) (w : World) (number : ℕ) (h : Helping) : Type 0 where
+  pub number_is : h.seat ≡ number
+  pub ready : help_ready c h ≡ true
+  pub facts : HelpFacts c w number h.phase h.spot
   pub least : c.mutators ≤ number
   pub below : number < c.mutators + c.helpers
   pub hands : (a words : ℕ) → w.block a ≡ Some (hand number words) → ⊥
@@ -71,11 +86,18 @@ IsAim c words (LoadWord index) image = (length image ≡ index) × AreRead c wor
 IsAim c words (StoreWord index) image = (length image ≡ image_words c) × AreRead c words image index
 IsAim c words _ image = Unit {0}
 
--- what holds of the control: it has no room in hand, and can make its next access
+-- what the control counts on by where it stands: in a unit it can go on, and elsewhere it scans nothing
+abbrev pub ControlFacts : Config → World → ℕ → ControlSpot → Type 0
+ControlFacts c w number (Scanning at) = CanScan c w number at
+ControlFacts c w number _ = w.ghost.scanning number ≡ None
+
+-- what holds of the control: it knows the phase, has no room in hand, and can make its next access
 pub record IsControl (c : Config) (words : List ℕ) (w : World) (number : ℕ) (k : Controlling) : Type 0 where
   pub number_is : number ≡ c.mutators + c.helpers
   pub hands : (a words : ℕ) → w.block a ≡ Some (hand number words) → ⊥
   pub ready : is_ready c k.spot ≡ true
+  pub phase_is : k.phase ≡ w.memory Phase
+  pub facts : ControlFacts c w number k.spot
   pub aims : IsAim c words k.spot k.image
 
 -- what holds of a machine, by the words of the table and the world

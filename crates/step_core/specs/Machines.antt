@@ -23,7 +23,9 @@ use Rattle.shen_graph.specs.Order.{is_nothing}
 use Rattle.shen_graph.specs.Graph.{Graph}
 use Rattle.shen_graph.specs.History.{Entry}
 use Rattle.mutator.specs.declared.spot.Spot.{Spot}
-use Rattle.mutator.specs.declared.spot.Spot.TheVariants.{Waiting, Leave}
+use Rattle.mutator.specs.declared.spot.Spot.TheVariants.{Recording, Waiting, Leave}
+use Rattle.mutator.specs.declared.overwrites.Overwritten.{Overwritten}
+use Rattle.mutator.specs.declared.overwrites.Overwritten.TheVariants as overwrites
 use Rattle.mutator.specs.declared.waits.WaitSpot.TheVariants as wait
 use Rattle.mutator.specs.Orders.{is_between_calls, takes_commands, takes_at}
 use Rattle.mutator.specs.Rows.{touch_of, next_of, given_at, answer_at, reply_at, place_at}
