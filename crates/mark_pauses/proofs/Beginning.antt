@@ -1,17 +1,16 @@
 -- The beginning of marking: the words represent the same graph, and the snapshot is what can be reached.
-use Rattle.std.proofs.Common.{◌≡◌, ◌≢◌, ℕ, ◌+◌, ◌*◌, ◌<◌, ◌≤◌, ◌&&◌, nat_le, Bool, true, false, slice_get, Option, Some, None, inl, inr, refl, sym, ap, ◌∙◌, subst, arith}
+use Rattle.std.proofs.Common.{◌≡◌, ◌≢◌, ℕ, ◌+◌, ◌*◌, ◌<◌, ◌≤◌, ◌&&◌, nat_le, Bool, true, false, Some, None, inl, refl, sym, ap, ◌∙◌, subst, arith}
 use Rattle.std.proofs.lemmas.Bool.{and_parts, and_from, le-leb, leb-true}
 use Rattle.std.proofs.lemmas.Nat.Bits.{bit_at-zero}
 use Rattle.std.proofs.lemmas.Option.{slice_get_within}
 use Rattle.heap_words.specs.declared.config.Config.{Config}
-use Rattle.heap_words.specs.Words.{Word, Phase, Cset, Evac, Free, Top, Tams, Current, Root, Count, Buffer, Wait, Answer, Grey, Black, Heap}
+use Rattle.heap_words.specs.Words.{Word, Phase, Top, Tams, Root, Count, Buffer, Answer, Grey, Black, Heap}
 use Rattle.heap_words.specs.Encoding.{refs_in}
-use Rattle.regions.specs.Place.{base_of, region_with}
 use Rattle.shen_graph.specs.declared.name.Name.{Name}
 use Rattle.shen_graph.specs.Graph.{Graph, Object, Reference}
 use Rattle.mark_bits.specs.Marks.{mark_bit}
 use Rattle.heap_graph.specs.Walk.{has}
-use Rattle.heap_world.specs.World.{Block, thing, hand, promised, filler, Plot, Snapshot, Ghost, name_at, Points, IsThing, AreObjects, AreUnwritten, AreMarks, IsMarkable, IsYoung, IsNoted, IsToScan, IsTracedAt, IsLed, KeepsSnapshot}
+use Rattle.heap_world.specs.World.{Block, thing, promised, filler, Plot, Snapshot, Ghost, name_at, Points, IsThing, AreObjects, AreUnwritten, AreMarks, IsMarkable, IsYoung, IsNoted, IsToScan, IsTracedAt, IsLed, KeepsSnapshot}
 use Rattle.heap_world.specs.Asking.{Asking, nothing, asks, refused, given, IsAsked}
 use Rattle.heap_world.specs.Represents.{Represents}
 use Rattle.heap_world.proofs.Pointing.{named_thing}
@@ -26,7 +25,6 @@ use Rattle.pause_laws.proofs.Before.{promised_at}
 use Rattle.pause_laws.proofs.Dead.{plain}
 use Rattle.pause_laws.proofs.Holding.{holds_by}
 use Rattle.pause_laws.proofs.Reached.{found_held, held_found}
-use Rattle.mark_laws.specs.Marks.{mark_bits}
 use Rattle.mark_laws.specs.Init.{init_marked}
 use Rattle.mark_laws.specs.Facts.{IsReachable}
 use Rattle.mark_laws.proofs.Bits.{one, bits_small, bits_at, mark_at}

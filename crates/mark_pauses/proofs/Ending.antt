@@ -1,21 +1,19 @@
 -- The end of marking: each object is marked or new, so none lies in a dead region, and the words represent the same graph.
-use Rattle.std.proofs.Common.{◌≡◌, ◌≢◌, ℕ, ◌+◌, ◌-◌, ◌<◌, ◌≤◌, ◌^◌, max, Bool, true, false, Option, Some, None, inl, inr, ⊎_elim, refl, sym, ap, ◌∙◌, subst, arith}
-use Rattle.std.specs.Prelude.{if◌then◌else◌}
+use Rattle.std.proofs.Common.{◌≡◌, ℕ, ◌+◌, ◌<◌, ◌≤◌, max, Bool, true, false, Option, Some, None, ⊎_elim, refl, sym, ap, ◌∙◌, arith}
 use Rattle.std.specs.Int.{bit_at}
-use Rattle.std.specs.Int.RustNames.{bit_or}
 use Rattle.std.proofs.lemmas.Bool.{cond-true, cond-false, cases_Bool, cases_lt, true≢false}
 use Rattle.std.proofs.lemmas.Nat.{or_lt}
 use Rattle.std.proofs.lemmas.Nat.Bits.{bit_at_or}
 use Rattle.std.proofs.lemmas.Option.{none-some}
 use Rattle.heap_words.specs.declared.config.Config.{Config}
 use Rattle.heap_words.specs.Ranges.{seat_count}
-use Rattle.heap_words.specs.Words.{Word, Phase, Cset, Evac, Free, Top, Tams, Current, Root, Count, Buffer, Wait, Answer, Grey, Black, Heap}
-use Rattle.regions.specs.Place.{base_of, region_with, IsOf}
+use Rattle.heap_words.specs.Words.{Word, Phase, Free, Top, Tams, Current, Root, Count, Buffer, Answer, Grey, Black, Heap}
+use Rattle.regions.specs.Place.{base_of, region_with}
 use Rattle.regions.specs.Sets.{IsIn}
 use Rattle.regions.proofs.PlaceLemmas.{regions_tile}
 use Rattle.shen_graph.specs.declared.name.Name.{Name}
-use Rattle.shen_graph.specs.Graph.{Graph, Reference}
-use Rattle.heap_world.specs.World.{Block, thing, hand, promised, filler, words_of, Plot, Ghost, no_snapshot, name_at, Points, IsInUse, IsPlotted, IsFilled, AreObjects, IsFreeWord, AreCurrent, IsMarkable}
+use Rattle.shen_graph.specs.Graph.{Graph}
+use Rattle.heap_world.specs.World.{Block, thing, hand, promised, filler, words_of, Plot, Ghost, no_snapshot, name_at, IsInUse, IsPlotted, IsFilled, AreObjects, IsFreeWord, AreCurrent, IsMarkable}
 use Rattle.heap_world.specs.Asking.{Asking, nothing, asks, refused, given, IsAsked}
 use Rattle.heap_world.specs.Represents.{Represents}
 use Rattle.heap_world.proofs.Pointing.{named_thing}
@@ -27,7 +25,7 @@ use Rattle.pause_laws.proofs.Dead.{plain}
 use Rattle.pause_laws.proofs.Holding.{holds_by}
 use Rattle.mark_laws.specs.Marks.{is_black, bits_of, IsNew, IsKept}
 use Rattle.mark_laws.specs.Close.{closed}
-use Rattle.mark_laws.specs.Final.{IsDead, is_dead, dead_in, freed_block, freed_owner, mark_ended}
+use Rattle.mark_laws.specs.Final.{IsDead, dead_in, freed_block, freed_owner, mark_ended}
 use Rattle.mark_laws.specs.Laws.{HasNoMoreSeats}
 use Rattle.mark_laws.proofs.Bits.{one, bits_small, bits_at}
 use Rattle.mark_laws.proofs.Closed.{safe_kept}

@@ -4,3 +4,5 @@ pub mod Standing
 pub mod Pruned
 pub mod Beginning
 pub mod Ending
+pub mod Outside
+pub mod Pauses
