@@ -11,7 +11,7 @@ use Rattle.shen_graph.specs.Graph.{Graph, Object, Reference}
 use Rattle.mark_bits.specs.Marks.{mark_bit}
 use Rattle.heap_graph.specs.Walk.{has}
 use Rattle.heap_world.specs.World.{Block, thing, promised, filler, Plot, Snapshot, Ghost, name_at, Points, IsThing, AreObjects, AreUnwritten, AreMarks, IsMarkable, IsYoung, IsNoted, IsToScan, IsTracedAt, IsLed, KeepsSnapshot}
-use Rattle.heap_world.specs.Asking.{Asking, nothing, asks, refused, given, IsAsked}
+use Rattle.heap_world.specs.Asking.{Asking, asks, given, IsAsked}
 use Rattle.heap_world.specs.Represents.{Represents}
 use Rattle.heap_world.proofs.Pointing.{named_thing}
 use Rattle.image_laws.specs.Held.{IsAmong}
@@ -29,6 +29,7 @@ use Rattle.mark_laws.specs.Init.{init_marked}
 use Rattle.mark_laws.specs.Facts.{IsReachable}
 use Rattle.mark_laws.proofs.Bits.{one, bits_small, bits_at, mark_at}
 use Rattle.mark_laws.proofs.Plain.{root_reached, field_reached, reach_ind}
+use Rattle.mark_pauses.proofs.Asked.{asked_stays}
 use Rattle.mark_pauses.proofs.Chains.{piece_below, piece_above, markable_piece, reached_markable}
 use Rattle.mark_pauses.proofs.Pruned.{pruned, WasFiller, thing_stays, promised_stays, thing_was, hand_was, promised_was, filler_was, pruned_from, pruned_plotted, pruned_filled}
 
@@ -220,26 +221,8 @@ module _ (c : Config) (m : Word → ℕ) (g : Graph) (asking : ℕ → Asking) (
   }
 
   -- what is asked and promised stays
-  asked_again : (t : ℕ) (x : Asking) → IsAsked m r.block g.count t x → IsAsked n plot g.count t x
-  asked_again t nothing asked = (asked.0, asked.1, λ a words is. asked.2 a words (promised_was found r.block a t words is))
-  asked_again t (asks refs nums) asked = (
-    record { wait_is = asked.0.wait_is; few_refs = asked.0.few_refs; few_nums = asked.0.few_nums; few = asked.0.few },
-    asked.1,
-    λ a words is. asked.2 a words (promised_was found r.block a t words is),
-  )
-  asked_again t refused asked = (asked.0, asked.1, λ a words is. asked.2 a words (promised_was found r.block a t words is))
-  asked_again t (given refs nums) asked = (
-    asked.0,
-    asked.1,
-    record {
-      here = promised_stays found r.block (m (Answer t)) t (3 + refs + nums) asked.2.here;
-      words = asked.2.words;
-      only = λ b more is. asked.2.only b more (promised_was found r.block b t more is);
-      few_refs = asked.2.few_refs;
-      few_nums = asked.2.few_nums;
-      few = asked.2.few;
-    },
-  )
+  asked_again : (t : ℕ) → IsAsked m r.block g.count t (asking t) → IsAsked n plot g.count t (asking t)
+  asked_again t asked = asked_stays m n r.block plot g.count t refl refl (λ a. refl) (λ a words is. promised_stays found r.block a t words is) (λ a words is. promised_was found r.block a t words is) (asking t) asked
 
   abbrev ghost : Ghost
   ghost = record { owner = r.ghost.owner; snapshot = snapshot; recording = r.ghost.recording; scanning = r.ghost.scanning; copying = r.ghost.copying; working = r.ghost.working }
@@ -269,7 +252,7 @@ module _ (c : Config) (m : Word → ℕ) (g : Graph) (asking : ℕ → Asking) (
     };
     roots = roots_again;
     none = λ a seat words is. r.none a seat words (hand_was found r.block a seat words is);
-    asked = λ t inside. asked_again t (asking t) (r.asked t inside);
+    asked = λ t inside. asked_again t (r.asked t inside);
     heard = λ t refs nums inside is. absurd (nobody t refs nums inside is);
     promised_to = λ a seat words is. r.promised_to a seat words (promised_was found r.block a seat words is);
     unmarking = record { records_none = r.unmarking.records_none; scans_none = r.unmarking.scans_none };

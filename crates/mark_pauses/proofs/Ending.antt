@@ -7,14 +7,14 @@ use Rattle.std.proofs.lemmas.Nat.Bits.{bit_at_or}
 use Rattle.std.proofs.lemmas.Option.{none-some}
 use Rattle.heap_words.specs.declared.config.Config.{Config}
 use Rattle.heap_words.specs.Ranges.{seat_count}
-use Rattle.heap_words.specs.Words.{Word, Phase, Free, Top, Tams, Current, Root, Count, Buffer, Answer, Grey, Black, Heap}
+use Rattle.heap_words.specs.Words.{Word, Phase, Free, Top, Tams, Current, Root, Count, Buffer, Grey, Black, Heap}
 use Rattle.regions.specs.Place.{base_of, region_with}
 use Rattle.regions.specs.Sets.{IsIn}
 use Rattle.regions.proofs.PlaceLemmas.{regions_tile}
 use Rattle.shen_graph.specs.declared.name.Name.{Name}
 use Rattle.shen_graph.specs.Graph.{Graph}
 use Rattle.heap_world.specs.World.{Block, thing, hand, promised, filler, words_of, Plot, Ghost, no_snapshot, name_at, IsInUse, IsPlotted, IsFilled, AreObjects, IsFreeWord, AreCurrent, IsMarkable}
-use Rattle.heap_world.specs.Asking.{Asking, nothing, asks, refused, given, IsAsked}
+use Rattle.heap_world.specs.Asking.{Asking, asks, IsAsked}
 use Rattle.heap_world.specs.Represents.{Represents}
 use Rattle.heap_world.proofs.Pointing.{named_thing}
 use Rattle.heap_world.proofs.Pieces.{some_words, object_reads}
@@ -31,6 +31,7 @@ use Rattle.mark_laws.proofs.Bits.{one, bits_small, bits_at}
 use Rattle.mark_laws.proofs.Closed.{safe_kept}
 use Rattle.mark_laws.proofs.Dead.{dead_is_dead}
 use Rattle.mark_laws.proofs.Plain.{below_top}
+use Rattle.mark_pauses.proofs.Asked.{asked_stays}
 use Rattle.mark_pauses.proofs.Chains.{piece_below, markable_piece, markable_safe, is_marking}
 
 module _ (c : Config) (m : Word → ℕ) (g : Graph) (asking : ℕ → Asking) (r : Represents c m g asking) (on : m Phase ≡ 1) where
@@ -191,26 +192,8 @@ module _ (c : Config) (m : Word → ℕ) (g : Graph) (asking : ℕ → Asking) (
   }
 
   -- what is asked and promised stays
-  asked_again : (t : ℕ) (x : Asking) → IsAsked m r.block g.count t x → IsAsked n plot g.count t x
-  asked_again t nothing asked = (asked.0, asked.1, λ a words is. asked.2 a words (left a (promised t words) is).1)
-  asked_again t (asks refs nums) asked = (
-    record { wait_is = asked.0.wait_is; few_refs = asked.0.few_refs; few_nums = asked.0.few_nums; few = asked.0.few },
-    asked.1,
-    λ a words is. asked.2 a words (left a (promised t words) is).1,
-  )
-  asked_again t refused asked = (asked.0, asked.1, λ a words is. asked.2 a words (left a (promised t words) is).1)
-  asked_again t (given refs nums) asked = (
-    asked.0,
-    asked.1,
-    record {
-      here = promised_stays (m (Answer t)) t (3 + refs + nums) asked.2.here;
-      words = asked.2.words;
-      only = λ b more is. asked.2.only b more (left b (promised t more) is).1;
-      few_refs = asked.2.few_refs;
-      few_nums = asked.2.few_nums;
-      few = asked.2.few;
-    },
-  )
+  asked_again : (t : ℕ) → IsAsked m r.block g.count t (asking t) → IsAsked n plot g.count t (asking t)
+  asked_again t asked = asked_stays m n r.block plot g.count t refl refl (λ a. refl) (λ a words is. promised_stays a t words is) (λ a words is. (left a (promised t words) is).1) (asking t) asked
 
   abbrev ghost : Ghost
   ghost = record {
@@ -251,7 +234,7 @@ module _ (c : Config) (m : Word → ℕ) (g : Graph) (asking : ℕ → Asking) (
     };
     roots = λ t i inside few. points_stay r.block plot names_stay (m (Root t i)) (g.root (t + 1) i) (r.roots t i inside few);
     none = λ a seat words is. r.none a seat words (left a (hand seat words) is).1;
-    asked = λ t inside. asked_again t (asking t) (r.asked t inside);
+    asked = λ t inside. asked_again t (r.asked t inside);
     heard = λ t refs nums inside is. absurd (nobody t refs nums inside is);
     promised_to = λ a seat words is. r.promised_to a seat words (left a (promised seat words) is).1;
     unmarking = record { records_none = r.unmarking.records_none; scans_none = r.unmarking.scans_none };

@@ -1,6 +1,7 @@
 pub mod Images
 pub mod Chains
 pub mod Standing
+pub mod Asked
 pub mod Pruned
 pub mod Beginning
 pub mod Ending
