@@ -85,6 +85,7 @@ module _ (c : Config) (u : World) (seat : ℕ) (marking : Word → ℕ) (recordi
           (traced_noted c u.ghost.snapshot (λ a. u.memory (Heap a)) (λ n. u.memory (Black n)) u.ghost.scanning (NotedIn c u)
           (IsNoted c (λ n. marking (Grey n)) (λ t. marking (Count t)) (λ t k. marking (Buffer t k)) recording) step.noted shared.marked.traced);
       led = shared.marked.led;
+      old = shared.marked.old;
       kept = shared.marked.kept;
       older = shared.marked.older;
       promises = shared.marked.promises;

@@ -1,5 +1,5 @@
 -- Recording an address and scanning a unit of marking as parts: any machine that has a seat can have them inside.
-use Rattle.std.proofs.Common.{ℕ}
+use Rattle.std.proofs.Common.{ℕ, refl}
 use Rattle.std.specs.Prelude.{⊤}
 use Rattle.heap_world.specs.Part.{Part}
 use Rattle.satb_barrier.specs.declared.spot.RememberSpot.{RememberSpot}
@@ -49,6 +49,7 @@ recording_steps = record {
 -- and those of scanning
 pub scanning_steps : ScanningSteps
 scanning_steps = record {
+  begins = λ c u seat seated marking idle roomless. record { seated = seated; phase = marking; scanning = idle; ready = refl; hands = roomless; facts = tt };
   each = λ c u seat at going shared can. each_scans c u seat at going shared can;
   stays = λ c u w seat at rely can. can_scan_stays c u w seat rely at can;
   fits = λ c u seat at going shared can. (each_scans c u seat at going shared can).own.ready;

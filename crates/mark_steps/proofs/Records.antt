@@ -1,6 +1,6 @@
 -- The steps by which a mutator records an address.
-use Rattle.std.proofs.Common.{◌≡◌, ◌≢◌, ℕ, ◌+◌, ◌<◌, ◌≤◌, Bool, true, false, Option, Some, None, ⊎_elim, inl, inr, refl, sym, ap, ◌∙◌, subst, arith}
-use Rattle.std.specs.Prelude.{◌==◌, ◌&&◌, if◌then◌else◌}
+use Rattle.std.proofs.Common.{◌≡◌, ◌≢◌, ℕ, ◌+◌, ◌<◌, ◌≤◌, true, false, Option, Some, None, ⊎_elim, inl, inr, refl, sym, ap, ◌∙◌, subst, arith}
+use Rattle.std.specs.Prelude.{◌==◌, ◌&&◌}
 use Rattle.std.specs.Int.{bit_at}
 use Rattle.std.proofs.lemmas.Bool.{cases_eq, cond-true, cond-false, eq-eqb, ne_eqb}
 use Rattle.std.proofs.lemmas.Bool.Decides.{nat_tests}
@@ -41,11 +41,6 @@ noted_at : (c : Config) (memory : Word → ℕ) (recording : ℕ → Option ℕ)
     → IsNoted c (λ n. memory (Grey n)) (λ t. memory (Count t)) (λ t k. memory (Buffer t k)) recording v
 noted_at c memory recording mutator v Recorded seated holds can = recorded_noted c memory recording mutator v seated can.facts
 noted_at c memory recording mutator v _ seated holds can = IsNoted.by_hand mutator seated holds
-
--- a number written where it stood
-stays_if : (b : Bool) (n : ℕ) → (if b then n else n) ≡ n
-stays_if true n = refl
-stays_if false n = refl
 
 module _ (c : Config) (u : World) (mutator v : ℕ) where
   -- the words after the access of a spot
@@ -104,12 +99,6 @@ module _ (c : Config) (u : World) (mutator v : ℕ) where
       subst (λ m. (k : ℕ) → k < m (Count mutator) → IsMarkable u.block (m (Buffer mutator k))) same (λ k below. entries.of_objects mutator k seated below)
 
   module _ (at : RememberSpot) (going : is_recorded at ≡ false) (shared : Shared c u) (can : CanRecord c u mutator v at) where
-    abbrev marks : AreMarks c (λ n. u.memory (Grey n)) u.block
-    marks = shared.marked.greys can.phase
-
-    abbrev entries : AreEntries c (λ t. u.memory (Count t)) (λ t k. u.memory (Buffer t k)) u.block
-    entries = shared.marked.entries can.phase
-
     -- what the step keeps of the words by themselves
     remembers : RememberStep c u.memory mutator v at
     remembers = each_remembers c u.memory mutator v at going (markable_word c u v shared can.markable) can.words
