@@ -1,3 +1,5 @@
 pub mod State
 pub mod Steps
 pub mod Colours
+pub mod Listed
+pub mod Beginning
