@@ -3,3 +3,4 @@ pub mod Steps
 pub mod Colours
 pub mod Listed
 pub mod Beginning
+pub mod Tracing
