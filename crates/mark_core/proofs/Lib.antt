@@ -4,3 +4,4 @@ pub mod Colours
 pub mod Listed
 pub mod Beginning
 pub mod Tracing
+pub mod Closing
