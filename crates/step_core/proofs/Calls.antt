@@ -2,7 +2,7 @@
 use Rattle.std.proofs.Common.{◌≡◌, ℕ, ◌+◌, ◌<◌, true, false, Option, Some, None, refl, sym, ap, ◌∙◌, arith}
 use Rattle.std.proofs.lemmas.Bool.Decides.{nat_tests}
 use Rattle.heap_words.specs.declared.config.Config.{Config}
-use Rattle.heap_words.specs.Words.{Root}
+use Rattle.heap_words.specs.Words.{Ask, Root}
 use Rattle.shen_graph.specs.declared.command.Command.{Command}
 use Rattle.shen_graph.specs.declared.command.Reply.{Reply}
 use Rattle.shen_graph.specs.declared.command.Reply.TheVariants as reply
@@ -18,7 +18,7 @@ use Rattle.heap_world.specs.World.{World, hand, Points}
 use Rattle.step_core.specs.Actor.{command_by}
 use Rattle.step_core.specs.Stepped.{IsSeatedIn, HasMarkingBy, Mine, Row, OrderedRow}
 use Rattle.step_core.proofs.Spots.{mutator_at, accessed_by, accessed}
-use Rattle.step_core.proofs.Marking.{marks_in}
+use Rattle.step_core.proofs.Marking.{marks_in, still_waits}
 use Rattle.step_core.proofs.Ready.{leaving, rest_ready}
 use Rattle.step_core.proofs.Settling.{legal_answer, graph_answer}
 
@@ -99,7 +99,7 @@ module _ (c : Config) (u : World) (seat made : ℕ) (kept : Kept) (command : Com
         settles = λ r e. (mine.facts.0, refl);
         shared = shared;
         mine = leaving c _ seat made kept command reply.Ok mine.seated (mine.marking.records, mine.marking.scans) mine.roots mine.hands;
-        others = λ j d. let marks = marks_in c u (accessed c u (at_spot AskCycle)).memory u.graph j refl (λ n. refl) (λ t. refl) (λ t k. refl) (λ a. refl) in search (arith, nat_tests, marks);
+        others = λ j d. let marks = marks_in c u (accessed c u (at_spot AskCycle)).memory u.graph j refl (λ n. refl) (λ t. refl) (λ t k. refl) (λ a. refl) in let waits = still_waits (u.memory Ask) in search (arith, nat_tests, marks, waits);
       }
 
   -- the last step of a call gives its reply

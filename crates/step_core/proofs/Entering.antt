@@ -1,7 +1,7 @@
 -- The steps by which a mutator enters the heap, and the load of the phase with which a call begins.
 use Rattle.std.proofs.Common.{◌≡◌, ℕ, ◌<◌, Bool, true, false, Option, None, refl, sym, ap, ◌∙◌, subst, arith}
 use Rattle.std.specs.Prelude.{◌==◌, if◌then◌else◌}
-use Rattle.std.proofs.lemmas.Bool.{and_from, lt-ltb, eq-eqb, false≢true}
+use Rattle.std.proofs.lemmas.Bool.{and_from, lt-ltb, false≢true}
 use Rattle.std.proofs.lemmas.Bool.Decides.{nat_tests}
 use Rattle.heap_words.specs.declared.config.Config.{Config}
 use Rattle.heap_words.specs.Words.{Pause, State, Phase}

@@ -1,11 +1,13 @@
 -- What a mutator counts on of marking while its seat's own words change, and what others rely on then.
-use Rattle.std.proofs.Common.{◌≡◌, ◌≢◌, ℕ, ◌+◌, ◌<◌, inl, inr, ⊎_elim, Bool, true, false, Option, Some, None, refl, sym, ap, ◌∙◌, subst}
+use Rattle.std.proofs.Common.{◌≡◌, ◌≢◌, ℕ, ◌+◌, ◌⊎◌, inl, inr, ⊎_elim, Bool, Option, Some, None, refl, sym, ap, ◌∙◌, subst, w64, arith}
+use Rattle.std.specs.Prelude.{bit_or}
+use Rattle.std.specs.Int.{bit_at}
+use Rattle.std.proofs.lemmas.Nat.Bits.{bit_at_set_same, bit_at_set_other}
 use Rattle.heap_words.specs.declared.config.Config.{Config}
 use Rattle.heap_words.specs.Words.{Word, Phase, Count, Buffer, Grey, Black, Heap}
-use Rattle.shen_graph.specs.declared.name.Name.{Name}
 use Rattle.shen_graph.specs.Graph.{Graph}
 use Rattle.heap_world.specs.World.{World, thing, Snapshot, NotedIn, was_at, IsDone, IsTracedAt, IsCovered, Shared}
-use Rattle.heap_world.specs.Rely.{KeepsMarks, Keeps, RelyMarks, Rely}
+use Rattle.heap_world.specs.Rely.{KeepsMarks, RelyMarks, Rely}
 use Rattle.heap_world.proofs.Marked.{rely_marks}
 use Rattle.step_core.specs.Stepped.{HasMarkingBy}
 
@@ -19,10 +21,6 @@ pub marks_in : (c : Config) (u : World) (memory : Word → ℕ) (g : Graph) (sea
 marks_in c u memory g seat phase greys counts buffers heap =
     rely_marks c u (world_with u memory g) seat phase greys counts buffers refl (λ t. refl) refl (λ a is. is) (λ a is. heap (a + 1))
 
--- a mutator that knows the phase need not use it
-pub unphased : (w : World) (seat : ℕ) (in_hand : Option ℕ) (loaded after : ℕ) (knows : Bool) → HasMarkingBy w seat in_hand loaded knows → HasMarkingBy w seat in_hand after false
-unphased w seat in_hand loaded after knows marking = record { records = marking.records; scans = marking.scans; phase_is = λ no. absurd (cc (no)) }
-
 -- what a mutator counts on of marking stays while others step
 pub marking_relied : (c : Config) (u w : World) (seat : ℕ) (in_hand : Option ℕ) (loaded : ℕ) (knows : Bool) → RelyMarks c seat u w → HasMarkingBy u seat in_hand loaded knows → HasMarkingBy w seat in_hand loaded knows
 marking_relied c u w seat in_hand loaded knows marks marking = record {
@@ -32,7 +30,7 @@ marking_relied c u w seat in_hand loaded knows marks marking = record {
 }
 
 -- a field that marking needs no more stays one
-pub done_stays : (c : Config) (u w : World) (a k : ℕ) → KeepsMarks c u w → IsDone u.ghost.snapshot (NotedIn c u) a k → IsDone w.ghost.snapshot (NotedIn c w) a k
+done_stays : (c : Config) (u w : World) (a k : ℕ) → KeepsMarks c u w → IsDone u.ghost.snapshot (NotedIn c u) a k → IsDone w.ghost.snapshot (NotedIn c w) a k
 done_stays c u w a k marks is =
     subst (λ s. IsDone s (NotedIn c w) a k) (sym marks.snapshot) (⊎_elim (λ null. inl null) (λ noted. inr (marks.noted (was_at u.ghost.snapshot a k) noted)) is)
 
@@ -59,8 +57,15 @@ covered_found c u w a k shared marks found refs nums name is below =
         subst (λ s. IsDone s (NotedIn c w) a k) (sym marks.snapshot)
         (⊎_elim (λ null. inl (sym same ∙ null)) (λ noted. inr (subst (NotedIn c w) same noted)) found)
 
+-- the bit that a mutator waits stays where a cycle is asked for, and is there where a mutator has asked for room
+pub still_waits : (n : ℕ) → bit_at n 1 ≡ 1 → bit_at (bit_or n 1) 1 ≡ 1
+still_waits n is = bit_at_set_other w64 n 0 (omega arith) 1 (omega arith) ∙ is
+
+pub now_waits : (n : ℕ) → bit_at (bit_or n 2) 1 ≡ 1
+now_waits n = bit_at_set_same w64 n 1 (omega arith)
+
 -- what is relied on twice
-pub marks_twice : (c : Config) (seat : ℕ) (u v w : World) → RelyMarks c seat u v → RelyMarks c seat v w → RelyMarks c seat u w
+marks_twice : (c : Config) (seat : ℕ) (u v w : World) → RelyMarks c seat u v → RelyMarks c seat v w → RelyMarks c seat u w
 marks_twice c seat u v w first second = record {
   keeps = record {
     phase = second.keeps.phase ∙ first.keeps.phase;

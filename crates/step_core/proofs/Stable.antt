@@ -32,7 +32,7 @@ use Rattle.heap_world.specs.World.{World, Points, IsUsable, Shared}
 use Rattle.step_core.specs.Stepped.{IsRootWord, HasRoot, HasObject, HasFirst, IsGet, IsSet, IsCas, IsXchg, IsRd, IsWr, IsFound, IsCopy, IsFilling, IsAsking, IsHeard, IsPolling, IsAnswered, LoadFacts, FieldFacts, RecordFacts, NumberFacts, ShowFacts, MakeFacts, EnterFacts, WaitFacts, SpotFacts, IsSeatedIn, recording_of, has_phase, Mine}
 use Rattle.step_core.specs.Own.{root_now, root_recording}
 use Rattle.heap_world.specs.Asking as asking
-use Rattle.heap_world.specs.Asking.{Asking, HasNoPromise, IsRequest, IsPromise, IsAsked}
+use Rattle.heap_world.specs.Asking.{Asking, HasNoPromise, IsAsked}
 use Rattle.heap_world.specs.Rely.{Keeps, Rely}
 use Rattle.alloc_buffers.specs.Facts.{TakeFacts}
 use Rattle.alloc_buffers.proofs.TakeStays.{take_stays}
@@ -82,7 +82,7 @@ module _ (c : Config) (u w : World) (seat : ℕ) (keeps : Keeps c seat u w) wher
   get_stays command object field dst is = record { src = is.src; is = is.is; small = is.small; of = object_stays is.src object is.of; below = is.below }
 
   -- what a Set counts on stays
-  set_stays : (command : Command) (object field value : ℕ) → IsSet u seat command object field value → IsSet w seat command object field value
+  pub set_stays : (command : Command) (object field value : ℕ) → IsSet u seat command object field value → IsSet w seat command object field value
   set_stays command object field value is = record {
     obj = is.obj;
     val = is.val;
@@ -93,7 +93,7 @@ module _ (c : Config) (u w : World) (seat : ℕ) (keeps : Keeps c seat u w) wher
   }
 
   -- what a Cas counts on stays
-  cas_stays : (command : Command) (object field expect value : ℕ) → IsCas u seat command object field expect value → IsCas w seat command object field expect value
+  pub cas_stays : (command : Command) (object field expect value : ℕ) → IsCas u seat command object field expect value → IsCas w seat command object field expect value
   cas_stays command object field expect value is = record {
     obj = is.obj;
     expected = is.expected;
@@ -106,7 +106,7 @@ module _ (c : Config) (u w : World) (seat : ℕ) (keeps : Keeps c seat u w) wher
   }
 
   -- what an Xchg counts on stays
-  xchg_stays : (command : Command) (object field value dst : ℕ) → IsXchg u seat command object field value dst → IsXchg w seat command object field value dst
+  pub xchg_stays : (command : Command) (object field value dst : ℕ) → IsXchg u seat command object field value dst → IsXchg w seat command object field value dst
   xchg_stays command object field value dst is = record {
     obj = is.obj;
     val = is.val;
