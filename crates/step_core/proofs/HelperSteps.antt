@@ -1,5 +1,5 @@
 -- What the steps of a helper owe.
-use Rattle.std.proofs.Common.{◌≡◌, ◌≢◌, ℕ, ◌+◌, ◌<◌, ◌≤◌, Bool, true, false, Some, None, refl, sym, ◌∙◌, subst, arith}
+use Rattle.std.proofs.Common.{◌≡◌, ◌≢◌, ℕ, ◌≤◌, Bool, true, false, Some, None, refl, sym, ◌∙◌, subst, arith}
 use Rattle.std.specs.Prelude.{◌==◌, if◌then◌else◌}
 use Rattle.std.proofs.lemmas.Bool.{and_parts, eqb-false, cond-false, ne_eqb}
 use Rattle.heap_words.specs.declared.config.Config.{Config}
@@ -12,8 +12,8 @@ use Rattle.scan_steps.specs.declared.spot.ScanSpot.TheVariants as scan
 use Rattle.scan_steps.specs.Rows as scans
 use Rattle.helper.specs.declared.spot.HelpSpot.{HelpSpot}
 use Rattle.helper.specs.declared.spot.HelpSpot.TheVariants.{LoadEnd, Entering, LoadPhase, LoadSet, Scanning, Leave, Gone}
-use Rattle.helper.specs.Rows.{Helping, is_gone, touch_at, help_touch, after_enter, after_scan, next_spot, next_phase, next_set, help_next}
-use Rattle.helper.specs.Ready.{help_ready, ScanGoesOn}
+use Rattle.helper.specs.Rows.{Helping, is_gone, touch_at, help_touch, after_enter, after_scan, next_spot, next_phase, help_next}
+use Rattle.helper.specs.Ready.{ScanGoesOn}
 use Rattle.helper.proofs.Ready.{stays_ready}
 use Rattle.mark_steps.specs.Scanning.{CanScan}
 use Rattle.mark_steps.proofs.Parts.{scanning_steps}

@@ -1,9 +1,7 @@
 -- What holds of helpers and of the control by where they stand: it stays while others step, and outside the heap nobody scans.
-use Rattle.std.proofs.Common.{◌≡◌, ℕ, ◌+◌, ◌<◌, true, false, Some, None, refl, sym, ◌∙◌, subst}
-use Rattle.std.proofs.lemmas.Bool.{and_parts}
+use Rattle.std.proofs.Common.{◌≡◌, ℕ, ◌+◌, ◌<◌, false, None, refl, sym, ◌∙◌, subst}
 use Rattle.heap_words.specs.declared.config.Config.{Config}
-use Rattle.heap_words.specs.Words.{IsWord, is_word, is_image}
-use Rattle.heap_words.proofs.Stores.{is_word_from}
+use Rattle.heap_words.specs.Words.{IsWord, is_image}
 use Rattle.handshake.specs.declared.enter_spot.EnterSpot.TheVariants as enter
 use Rattle.handshake.specs.Standing.{is_within}
 use Rattle.helper.specs.declared.spot.HelpSpot.{HelpSpot}
