@@ -1,5 +1,5 @@
 -- The steps of the control outside the words of an image: it looks, scans, stops the other machines, and lets them go.
-use Rattle.std.proofs.Common.{◌≡◌, ◌≢◌, ℕ, ◌+◌, ◌≤◌, Bool, true, false, List, [], ◌++◌, length, None, refl, sym, ap, ◌∙◌, subst, arith}
+use Rattle.std.proofs.Common.{◌≡◌, ◌≢◌, ℕ, ◌+◌, Bool, true, false, List, [], ◌++◌, length, None, refl, sym, ap, ◌∙◌, subst, arith}
 use Rattle.std.specs.Prelude.{◌==◌, if◌then◌else◌}
 use Rattle.std.proofs.lemmas.Bool.{and_parts, eqb-false}
 use Rattle.heap_words.specs.declared.config.Config.{Config}
@@ -31,6 +31,7 @@ use Rattle.step_core.proofs.Facts.{ControlFacts, IsAim, IsControl, IsMachine, Pr
 use Rattle.step_core.proofs.Images.{words_after, view-placed}
 use Rattle.step_core.proofs.Alike.{is_of_handshake, load_step, store_step}
 use Rattle.step_core.proofs.Marking.{world_with}
+use Rattle.step_core.proofs.Helpers.{phase_one}
 use Rattle.step_core.proofs.Quiet.{quiet_owes}
 
 -- another machine is no control
@@ -161,10 +162,7 @@ module _ (c : Config) (words : List ℕ) (block : Plot) (ghost : Ghost) (g : Gra
         let calm = shared.calm.phase_is in
         let other = eqb-false _ _ some in
         let same = known.phase_is in
-        scanning_steps.begins c u (control_number c) (omega arith) (one_of calm (λ none. other (same ∙ none))) known.facts known.hands
-      where
-        one_of : {n : ℕ} → n ≤ 1 → n ≢ 0 → n ≡ 1
-        one_of {n} small more = grind (arith, small, more)
+        scanning_steps.begins c u (control_number c) (omega arith) (phase_one _ calm (λ none. other (same ∙ none))) known.facts known.hands
 
     -- it looks what is asked for
     pub look_asked : (got : ℕ) → Quiet LookAsked got
