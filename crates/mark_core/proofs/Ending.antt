@@ -1,13 +1,11 @@
 -- The end of marking makes the words that it says, and keeps the graph.
-use Rattle.std.proofs.Common.{◌≡◌, ℕ, ◌≤◌, Option, List, sym, ap, ◌∙◌, subst, arith}
-use Rattle.std.proofs.lemmas.Bool.{lt-ltb}
+use Rattle.std.proofs.Common.{◌≡◌, ℕ, List, ap, ◌∙◌, arith}
 use Rattle.std.proofs.lemmas.Bool.Decides.{nat_tests}
 use Rattle.heap_words.specs.declared.config.Config.{Config}
-use Rattle.heap_words.specs.Words.{Word, Current, view}
-use Rattle.heap_words.specs.Ranges.{seat_count}
+use Rattle.heap_words.specs.Words.{Current, view}
 use Rattle.heap_words.proofs.Stores.{view_none}
 use Rattle.mark_laws.specs.Close.{closed}
-use Rattle.mark_laws.specs.Final.{is_dead, dead_in, freed, final_marked}
+use Rattle.mark_laws.specs.Final.{is_dead, freed, final_marked}
 use Rattle.mark_laws.specs.Laws.{HasNoMoreSeats}
 use Rattle.image_graph.specs.declared.image.Image.{Image}
 use Rattle.image_graph.specs.State.{config_of, words_of, memory_of}

@@ -1,5 +1,5 @@
 -- What freeing one region after another makes of the words, and which regions it frees.
-use Rattle.std.proofs.Common.{◌≡◌, ℕ, ◌+◌, ◌*◌, ◌%◌, ◌^◌, ◌<◌, ◌≤◌, ◌&&◌, ◌==◌, not, nat_lt, cond, max, Bool, true, false, suc, List, refl, sym, ap, ◌∙◌, subst, arith}
+use Rattle.std.proofs.Common.{◌≡◌, ℕ, ◌+◌, ◌*◌, ◌%◌, ◌^◌, ◌<◌, ◌&&◌, ◌==◌, not, nat_lt, cond, Bool, true, false, suc, List, refl, sym, ap, ◌∙◌, arith}
 use Rattle.std.specs.Int.{bit_at}
 use Rattle.std.specs.Int.RustNames.{bit_or}
 use Rattle.std.proofs.lemmas.Bool.Decides.{nat_tests}
@@ -13,7 +13,6 @@ use Rattle.mark_laws.specs.Marks.{bits_of}
 use Rattle.mark_laws.specs.Final.{is_current, has_black, is_dead, freed}
 use Rattle.mark_laws.proofs.Bits.{one, bits_small}
 use Rattle.mark_core.specs.Steps.{freed_one, freed_below}
-use Rattle.mark_core.proofs.Beginning.{below_and_past}
 
 -- one region
 

@@ -1,12 +1,11 @@
-use Rattle.std.proofs.Common.{◌≡◌, ◌⊎◌, ℕ, true, inl, inr, ⊎_elim, sym, ap, ◌∙◌, subst}
-use Rattle.heap_words.specs.declared.config.Config.{Config}
+use Rattle.std.proofs.Common.{◌≡◌, ℕ, true, inl, inr, ⊎_elim, sym, ap, subst}
 use Rattle.heap_words.specs.Words.{Word, Free}
 use Rattle.regions.specs.Sets.{IsIn}
 use Rattle.image_graph.specs.State.{config_of, words_of, memory_of}
 use Rattle.image_graph.specs.Holds.{HoldsBy}
 use Rattle.mark_laws.specs.Close.{closed}
 use Rattle.mark_laws.specs.Facts.{IsMarkedThrough}
-use Rattle.mark_laws.specs.Final.{IsDead, dead_in, freed_block, freed_owner, final_marked}
+use Rattle.mark_laws.specs.Final.{IsDead, dead_in, freed_block, freed_owner}
 use Rattle.mark_laws.proofs.Dead.{dead_is_dead}
 use Rattle.mark_laws.proofs.Freed.{free_was, free_is}
 use Rattle.mark_laws.proofs.Ended.{ended_holds, ended_through}
@@ -21,17 +20,16 @@ pub returns-clause-freed : goal.returns-clause-freed
 returns-clause-freed c = λ r below.
     let g = config_of c.args.image.now in
     let m : Word → ℕ = memory_of c.args.image.now in
-    let words = ap (λ n. n Free) (returns-clause-words c) in
-    (
+    let words = ap (λ n. n Free) (returns-clause-words c) in (
       (λ is. ⊎_elim
-      (λ (was : IsIn (m Free) r). inl was)
-      (λ (dead : dead_in g m r ≡ true). inr ((dead_is_dead g (closed g m) r).0 dead))
-      (free_was g (dead_in g m) (closed g m) r below (subst (λ set. IsIn set r) words is))),
+          (λ (was : IsIn (m Free) r). inl was)
+          (λ (dead : dead_in g m r ≡ true). inr ((dead_is_dead g (closed g m) r).0 dead))
+          (free_was g (dead_in g m) (closed g m) r below (subst (λ set. IsIn set r) words is))),
       (λ is. subst (λ set. IsIn set r) (sym words)
-      (free_is g (dead_in g m) (closed g m) r below (⊎_elim
-      (λ (was : IsIn (m Free) r). inl was)
-      (λ (dead : IsDead g (closed g m) r). inr ((dead_is_dead g (closed g m) r).1 dead))
-      is))),
+          (free_is g (dead_in g m) (closed g m) r below (⊎_elim
+          (λ (was : IsIn (m Free) r). inl was)
+          (λ (dead : IsDead g (closed g m) r). inr ((dead_is_dead g (closed g m) r).1 dead))
+          is))),
     )
 
 pub returns-clause-ends : goal.returns-clause-ends
