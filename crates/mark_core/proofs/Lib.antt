@@ -7,3 +7,4 @@ pub mod Tracing
 pub mod Closing
 pub mod Freeing
 pub mod Ending
+pub mod Some

@@ -10,6 +10,7 @@ use Rattle.mark_laws.proofs.Dead.{dead_is_dead}
 use Rattle.mark_laws.proofs.Freed.{free_was, free_is}
 use Rattle.mark_laws.proofs.Ended.{ended_holds, ended_through}
 use Rattle.mark_core.proofs.Ending.{no_more_seats, final_words}
+use Rattle.mark_core.proofs.Some.{holds_ended}
 use Rattle.mark_core.proofs.end.final_mark.Goals as goal
 
 pub returns-clause-words : goal.returns-clause-words
@@ -40,3 +41,8 @@ returns-clause-ends c = λ block owner p graph holds marking.
     let seats = no_more_seats g (words_of c.args.image.now) in
     subst (λ n. HoldsBy g n (freed_block g out block) (freed_owner out owner) p graph × IsMarkedThrough g n (freed_block g out block)) (sym (returns-clause-words c))
     (ended_holds g m block owner p graph holds marking seats, ended_through g m block owner p graph holds marking seats)
+
+pub returns-clause-holds : goal.returns-clause-holds
+returns-clause-holds c =
+    holds_ended (config_of c.args.image.now) (memory_of c.args.image.now) (memory_of c.free_dead.new.image)
+    (dead_in (config_of c.args.image.now) (memory_of c.args.image.now)) (returns-clause-ends c) c.requires
