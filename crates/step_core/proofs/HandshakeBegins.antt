@@ -1,6 +1,7 @@
 -- The handshake and the count where runs begin.
 use Rattle.std.proofs.Common.{◌≡◌, ℕ, ◌<◌, ◌≤◌, true, false, refl, ap, arith}
 use Rattle.heap_words.specs.declared.config.Config.{Config}
+use Rattle.heap_words.specs.Words.{Phase, view}
 use Rattle.steps_base.specs.Steps.{Stage}
 use Rattle.shen_graph.specs.Graph.{Graph}
 use Rattle.handshake.specs.Standing.{outside, idle, control_seat}
@@ -54,8 +55,8 @@ module _ (c : Config) (s : Stage Actor) (g : Graph) (begins : Begins c s g) wher
   begins_shaken =
       let control = there_is s.machines (control_seat c) (omega (arith, begins.seats)) in
       shaken_begins c standing s control.0 begins.words begins.seats control.1
-      (let new = begins.machines (control_seat c) control.0 control.1 in control_idle c g (control_seat c) (control.0).machine new.number_is new.idle refl)
-      (λ seat a below here. let new = begins.machines seat a here in idle_outside c g seat a.machine new.number_is new.idle below)
+      (let new = begins.machines (control_seat c) control.0 control.1 in control_idle c (view c s.words Phase) g (control_seat c) (control.0).machine new.number_is new.idle refl)
+      (λ seat a below here. let new = begins.machines seat a here in idle_outside c (view c s.words Phase) g seat a.machine new.number_is new.idle below)
       begins.outside.pause begins.outside.states
 
   pub begins_counted : IsCounted c is_left s
