@@ -46,7 +46,9 @@ pub mod ControlObeys
 pub mod HelperObeys
 pub mod MachinesObey
 pub mod Held
+pub mod Aims
 pub mod MutatorEvents
+pub mod HelperEvents
 pub mod ControlEvents
 pub mod Induction
 pub mod HandshakeBegins

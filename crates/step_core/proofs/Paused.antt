@@ -45,6 +45,7 @@ use Rattle.step_core.proofs.Asked.{asking_by, asking_asks, asking_refused, askin
 use Rattle.step_core.proofs.Images.{mixed_whole}
 use Rattle.step_core.proofs.Helpers.{scans_none_outside, help_outside}
 use Rattle.step_core.proofs.Pauses.{open_world}
+use Rattle.step_core.proofs.Replies.{answered_polls}
 use Rattle.step_core.proofs.Roles.{full_settled, machine_there, mutator_there, unmarking_by}
 use Rattle.step_core.proofs.Spots.{mutator_at}
 
@@ -117,13 +118,10 @@ heard_polling w seat made refs nums k command fixed (inl waits) is = waits.1
 heard_polling w seat made refs nums k command fixed (inr (inl has)) is = absurd (let other = sym (asking_given _ k has.1.1) ∙ is in cc (other))
 heard_polling w seat made refs nums k command fixed (inr (inr refused_so)) is = absurd (let other = sym (asking_refused _ k refused_so.1.1) ∙ is in cc (other))
 
-heard_answered : (w : World) (seat made refs nums : ℕ) (k command : Command) (fixed : Option Reply) → IsAnswered w seat made k command fixed → asking_by (w.memory (Answer seat)) k ≡ asks refs nums → ⊥
-heard_answered w seat made refs nums k command fixed (inl has) is = let other = sym (asking_given _ k has.1.1) ∙ is in cc (other)
-heard_answered w seat made refs nums k command fixed (inr refused_so) is = let other = sym (asking_refused _ k refused_so.1.1) ∙ is in cc (other)
-
 heard_outside : (c : Config) (w : World) (seat made refs nums : ℕ) (kept : Kept) (spot : Spot) (command : Command) (fixed : Option Reply) → is_within (standing_at spot) ≡ false
     → Mine c w (mutator_at seat made kept spot) command fixed → asking_at spot (w.memory (Answer seat)) kept.command ≡ asks refs nums → bit_at (w.memory Ask) 1 ≡ 1
-heard_outside c w seat made refs nums kept (Entering at Waited) command fixed out mine is = absurd (heard_answered w seat made refs nums kept.command command fixed mine.facts is)
+heard_outside c w seat made refs nums kept (Entering at Waited) command fixed out mine is =
+    heard_polling w seat made refs nums kept.command command fixed (answered_polls w seat made kept.command command fixed mine.facts) is
 heard_outside c w seat made refs nums kept (Waiting wait.Poll) command fixed out mine is = heard_polling w seat made refs nums kept.command command fixed mine.facts is
 heard_outside c w seat made refs nums kept (Waiting at) command fixed out mine is = absurd (cc (out))
 heard_outside c w seat made refs nums kept _ command fixed out mine is = absurd (cc (is, out))
