@@ -36,16 +36,60 @@ is_of_handshake _ = false
 -- a store into such a word leaves the others
 alike_written : (memory : Word → ℕ) (word : Word) (value : ℕ) → is_of_handshake word ≡ true → AreAlike memory (write memory word value)
 alike_written memory Pause value is = record {
-  phase = refl; cset = refl; ask = refl; tops = λ r. refl; currents = λ seat. refl; roots = λ t i. refl; waits = λ t. refl; answers = λ t. refl; counts = λ t. refl; buffers = λ t k. refl; greys = λ n. refl; heap = λ a. refl;
+  phase = refl;
+  cset = refl;
+  ask = refl;
+  tops = λ r. refl;
+  currents = λ seat. refl;
+  roots = λ t i. refl;
+  waits = λ t. refl;
+  answers = λ t. refl;
+  counts = λ t. refl;
+  buffers = λ t k. refl;
+  greys = λ n. refl;
+  heap = λ a. refl;
 }
 alike_written memory Left value is = record {
-  phase = refl; cset = refl; ask = refl; tops = λ r. refl; currents = λ seat. refl; roots = λ t i. refl; waits = λ t. refl; answers = λ t. refl; counts = λ t. refl; buffers = λ t k. refl; greys = λ n. refl; heap = λ a. refl;
+  phase = refl;
+  cset = refl;
+  ask = refl;
+  tops = λ r. refl;
+  currents = λ seat. refl;
+  roots = λ t i. refl;
+  waits = λ t. refl;
+  answers = λ t. refl;
+  counts = λ t. refl;
+  buffers = λ t k. refl;
+  greys = λ n. refl;
+  heap = λ a. refl;
 }
 alike_written memory End value is = record {
-  phase = refl; cset = refl; ask = refl; tops = λ r. refl; currents = λ seat. refl; roots = λ t i. refl; waits = λ t. refl; answers = λ t. refl; counts = λ t. refl; buffers = λ t k. refl; greys = λ n. refl; heap = λ a. refl;
+  phase = refl;
+  cset = refl;
+  ask = refl;
+  tops = λ r. refl;
+  currents = λ seat. refl;
+  roots = λ t i. refl;
+  waits = λ t. refl;
+  answers = λ t. refl;
+  counts = λ t. refl;
+  buffers = λ t k. refl;
+  greys = λ n. refl;
+  heap = λ a. refl;
 }
 alike_written memory (State other) value is = record {
-  phase = refl; cset = refl; ask = refl; tops = λ r. refl; currents = λ seat. refl; roots = λ t i. refl; waits = λ t. refl; answers = λ t. refl; counts = λ t. refl; buffers = λ t k. refl; greys = λ n. refl; heap = λ a. refl;
+  phase = refl;
+  cset = refl;
+  ask = refl;
+  tops = λ r. refl;
+  currents = λ seat. refl;
+  roots = λ t i. refl;
+  waits = λ t. refl;
+  answers = λ t. refl;
+  counts = λ t. refl;
+  buffers = λ t k. refl;
+  greys = λ n. refl;
+  heap = λ a. refl;
 }
 alike_written memory _ value is = absurd (cc (is))
 
