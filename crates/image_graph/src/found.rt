@@ -2,7 +2,7 @@
 
 ghost use Rattle.std.specs.Prelude.{◌≡◌, ◌≢◌, ◌+◌, ◌<◌, [], slice_get};
 ghost use Rattle.heap_words.specs.Words.{Heap, IsWord};
-ghost use Rattle.heap_graph.specs.Walk.{with_address};
+ghost use Rattle.heap_graph.specs.Walk.{has, with_address};
 ghost use Rattle.image_graph.specs.State.{config_of, found_of, AreFound, IsUnchanged};
 
 use crate::image::Image;
@@ -36,5 +36,18 @@ impl Image {
         ensures { result ≡ slice_get (found_of self.now) turn }
     {
         self.addresses.get(turn).copied()
+    }
+
+    /// Whether the object at an address was found.
+    pub fn is_found(&self, address: u64) -> bool
+        requires { AreFound self.now }
+        ensures { result ≡ has (found_of self.now) address }
+    {
+        let first = self.config.region_words() as u64;
+        if address < first {
+            return false;
+        }
+        let index = (address - first) as usize;
+        index < self.marks.len() && self.marks[index]
     }
 }

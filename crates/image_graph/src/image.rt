@@ -25,7 +25,7 @@ impl Image {
     ghost use Rattle.std.specs.Prelude.{ℕ, ◌<◌, true, false, slice_set, slice_index, Option, IfOk};
     ghost use Rattle.heap_words.specs.Words.{Word, Cset, Top, Heap, IsWord, word_at, write};
     ghost use Rattle.image_laws.specs.Full.{now_in};
-    ghost use Rattle.image_graph.specs.State.{config_of, words_of, memory_of, places_of, IsUnchanged, IsSomeSeats};
+    ghost use Rattle.image_graph.specs.State.{config_of, words_of, memory_of, marks_of, found_of, places_of, IsUnchanged, IsSomeSeats};
     ghost use Rattle.image_graph.specs.Holds.{HoldsSome};
     ghost use Rattle.image_graph.specs.Left.{ShowsTheGraph};
 
@@ -71,12 +71,14 @@ impl Image {
         self.words[at]
     }
 
-    /// Puts a value at a place of the table. No other word changes, and no new place of an object.
+    /// Puts a value at a place of the table. No other word changes, nor which objects were found, nor their new places.
     pub fn set_word(&mut self, at: usize, value: u64)
         requires { at < table_words (config_of self.old) }
         ensures config { config_of self.new ≡ config_of self.old }
         ensures words { words_of self.new ≡ slice_set (words_of self.old) at value }
         ensures places { places_of self.new ≡ places_of self.old }
+        ensures found { found_of self.new ≡ found_of self.old }
+        ensures marks { marks_of self.new ≡ marks_of self.old }
         ensures named { (word : Word) → IsWord (config_of self.old) word → word_at (config_of self.old) word ≡ at → memory_of self.new ≡ write (memory_of self.old) word value }
     {
         self.words[at] = value;

@@ -1,46 +1,36 @@
--- What the control makes of the words of an image in a pause: by the phase and by what is asked for, marking begins or ends, or the
--- whole heap is collected.
-use Rattle.std.specs.Prelude.{ℕ, ◌≡◌, ◌≢◌, ◌==◌, if◌then◌else◌, Bool, Option}
+-- What a pause makes of the words of an image: a full collection where a mutator waits, and else what is due by the phase.
+use Rattle.std.specs.Prelude.{ℕ, ◌≡◌, ◌≤◌, ◌+◌, ◌==◌, if◌then◌else◌, map, Option}
 use Rattle.std.specs.Int.{bit_at}
+use Rattle.std.specs.List.{range_with_len}
 use Rattle.heap_words.specs.declared.config.Config.{Config}
-use Rattle.heap_words.specs.Words.{Word, Phase, Cset, Ask}
+use Rattle.heap_words.specs.Words.{Word, Phase, Cset, Ask, image_start}
+use Rattle.heap_words.specs.Rows.{name_of}
 use Rattle.shen_graph.specs.Graph.{Graph}
 use Rattle.heap_world.specs.World.{Plot}
-use Rattle.heap_world.specs.Change.{Change, image_view}
+use Rattle.heap_world.specs.Change.{Change, image_words, image_view}
 use Rattle.image_laws.specs.Full.{full}
 use Rattle.image_laws.specs.Promised.{Promises}
-use Rattle.image_graph.specs.Holds.{HoldsBy, HoldsSome}
-use Rattle.pause_laws.specs.Image.{image_of}
+use Rattle.image_graph.specs.Holds.{HoldsBy}
 use Rattle.mark_laws.specs.Init.{init_marked}
 use Rattle.mark_laws.specs.Final.{mark_ended}
 use Rattle.mark_laws.specs.Facts.{IsMarking}
-use Rattle.mark_laws.specs.Laws.{HasNoMoreSeats}
 
--- a mutator waits for room
-abbrev pub is_room_asked : (Word → ℕ) → Bool
-is_room_asked memory = bit_at (memory Ask) 1 == 1
-
--- Where a mutator waits for room the whole heap is collected. Else marking begins in phase 0, and ends in phase 1.
+-- The words after a pause. Where a mutator waits, the heap is collected in full; else marking begins, or ends where it runs.
 abbrev pub collected : Config → (Word → ℕ) → Word → ℕ
-collected c memory = if is_room_asked memory then full c memory else (if memory Phase == 0 then init_marked c memory else mark_ended c memory)
+collected c memory word =
+    if bit_at (memory Ask) 1 == 1 then full c memory word else (if memory Phase == 0 then init_marked c memory word else mark_ended c memory word)
 
--- the words of the image after a pause, in the order of their places
+-- the words of the image after it, in the order of their places
 abbrev pub collect_image : Change
-collect_image c image = image_of c (collected c (image_view c image))
+collect_image c image = map (λ k. collected c (image_view c image) (name_of c (image_start c + k))) (range_with_len 0 (image_words c))
 
--- The words of an image hold a graph while objects are marked.
-pub record HoldsMarking (c : Config) (memory : Word → ℕ) : Type 0 where
-  pub block : Plot
-  pub owner : ℕ → Option ℕ
-  pub promises : Promises
-  pub graph : Graph
-  pub holds : HoldsBy c memory block owner promises graph
-  pub marking : IsMarking c memory block
-
--- What a pause can go on from: the words hold a graph, no region is collected, no seat but those of the heap has a current region,
--- and in phase 1 they do so while objects are marked.
-pub record IsCollectable (c : Config) (memory : Word → ℕ) : Type 0 where
-  pub holds : HoldsSome c memory
+-- What a pause needs of the words: they hold a graph, nothing but marking runs, and while it does, what holds then.
+pub record CanCollect (c : Config) (memory : Word → ℕ) (block : Plot) (owner : ℕ → Option ℕ) (p : Promises) (g : Graph) : Type 0 where
+  pub holds : HoldsBy c memory block owner p g
+  pub phase_is : memory Phase ≤ 1
   pub uncollected : memory Cset ≡ 0
-  pub seats : HasNoMoreSeats c memory
-  pub marking : memory Phase ≢ 0 → ∥ HoldsMarking c memory ∥₁
+  pub marking : memory Phase ≡ 1 → IsMarking c memory block
+
+-- so it is in some way
+abbrev pub CanCollectSome : Config → (Word → ℕ) → Type 0
+CanCollectSome c memory = ∥ ((g : Graph) × (block : Plot) × (owner : ℕ → Option ℕ) × (p : Promises) × CanCollect c memory block owner p g) ∥₁

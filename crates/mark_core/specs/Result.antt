@@ -1,0 +1,34 @@
+-- When marking runs over an image, and what its pauses do to the graph that the image holds.
+use Rattle.std.specs.Prelude.{ℕ, ◌≡◌, ◌<◌, ◌↔◌, ◌⊎◌, Bool, Option}
+use Rattle.heap_words.specs.declared.config.Config.{Config}
+use Rattle.heap_words.specs.Words.{Word, Free}
+use Rattle.regions.specs.Sets.{IsIn}
+use Rattle.shen_graph.specs.Graph.{Graph}
+use Rattle.heap_world.specs.World.{Plot}
+use Rattle.image_laws.specs.Promised.{Promises}
+use Rattle.image_graph.specs.Holds.{HoldsBy}
+use Rattle.mark_laws.specs.Facts.{IsMarking, IsMarkedThrough}
+use Rattle.mark_laws.specs.Final.{IsDead, freed_block, freed_owner}
+use Rattle.mark_laws.specs.Laws.{BeginsMarking}
+
+-- the words hold some graph while marking runs
+abbrev pub MarksSome : Config → (Word → ℕ) → Type 0
+MarksSome c memory = ∥ ((g : Graph) × (block : Plot) × (owner : ℕ → Option ℕ) × (p : Promises) × HoldsBy c memory block owner p g × IsMarking c memory block) ∥₁
+
+-- whatever graph the words held, in whatever way, they hold it afterwards in the same way, and marking runs
+abbrev pub BeginsToMark : Config → (before after : Word → ℕ) → Type 0
+BeginsToMark c before after = (block : Plot) (owner : ℕ → Option ℕ) (p : Promises) (g : Graph) → HoldsBy c before block owner p g → BeginsMarking c after block owner p g
+
+-- .. and all that can be reached is marked
+abbrev pub MarksThrough : Config → (before after : Word → ℕ) → Type 0
+MarksThrough c before after = (block : Plot) (owner : ℕ → Option ℕ) (p : Promises) (g : Graph) → HoldsBy c before block owner p g → IsMarking c before block
+    → HoldsBy c after block owner p g × IsMarkedThrough c after block
+
+-- .. without the pieces of the regions that were freed
+abbrev pub EndsMarking : Config → (out : ℕ → Bool) → (before after : Word → ℕ) → Type 0
+EndsMarking c out before after = (block : Plot) (owner : ℕ → Option ℕ) (p : Promises) (g : Graph) → HoldsBy c before block owner p g → IsMarking c before block
+    → HoldsBy c after (freed_block c out block) (freed_owner out owner) p g × IsMarkedThrough c after (freed_block c out block)
+
+-- the regions that are free afterwards: those that were, and those that are dead once the marks are closed
+abbrev pub FreesTheDead : Config → (before closed after : Word → ℕ) → Type 0
+FreesTheDead c before closed after = (r : ℕ) → r < c.regions → IsIn (after Free) r ↔ (IsIn (before Free) r ⊎ IsDead c closed r)

@@ -1,0 +1,44 @@
+-- What the steps of the pauses of marking make of the words of an image.
+use Rattle.std.specs.Prelude.{ℕ, ◌+◌, ◌*◌, ◌%◌, ◌^◌, ◌==◌, ◌&&◌, if◌then◌else◌, Bool, nat_lt}
+use Rattle.std.specs.Int.RustNames.{bit_or}
+use Rattle.heap_words.specs.declared.config.Config.{Config}
+use Rattle.heap_words.specs.Words.{Word, Free, Top, Tams, Limit, Count, Grey, Black}
+use Rattle.mark_laws.specs.Marks.{bits_of, mark_bits}
+
+-- in so many words of marks exactly a set is grey, and nothing is black
+abbrev pub greyed : Config → (ℕ → Bool) → ℕ → (Word → ℕ) → Word → ℕ
+greyed c set words memory (Grey n) = if nat_lt n words then mark_bits c set n else memory (Grey n)
+greyed c set words memory (Black n) = if nat_lt n words then 0 else memory (Black n)
+greyed c set words memory word = memory word
+
+-- in so many words of marks a set has become grey and black
+abbrev pub marked : Config → (ℕ → Bool) → ℕ → (Word → ℕ) → Word → ℕ
+marked c set words memory (Grey n) = if nat_lt n words then bit_or (memory (Grey n)) (mark_bits c set n) else memory (Grey n)
+marked c set words memory (Black n) = if nat_lt n words then bit_or (memory (Black n)) (mark_bits c set n) else memory (Black n)
+marked c set words memory word = memory word
+
+-- the tops of so many regions are noted
+abbrev pub noted : ℕ → (Word → ℕ) → Word → ℕ
+noted regions memory (Tams r) = if nat_lt r regions then memory (Top r) else memory (Tams r)
+noted regions memory word = memory word
+
+-- the buffers of so many mutators are empty
+abbrev pub emptied : ℕ → (Word → ℕ) → Word → ℕ
+emptied mutators memory (Count t) = if nat_lt t mutators then 0 else memory (Count t)
+emptied mutators memory word = memory word
+
+-- of so many regions those that a test tells are freed
+abbrev pub freed_below : (ℕ → Bool) → ℕ → (Word → ℕ) → Word → ℕ
+freed_below out regions memory Free = bit_or (memory Free) (bits_of out 0 regions)
+freed_below out regions memory (Top r) = if nat_lt r regions && out r then 0 else memory (Top r)
+freed_below out regions memory (Tams r) = if nat_lt r regions && out r then 0 else memory (Tams r)
+freed_below out regions memory (Limit r) = if nat_lt r regions && out r then 0 else memory (Limit r)
+freed_below out regions memory word = memory word
+
+-- one region is freed
+abbrev pub freed_one : ℕ → (Word → ℕ) → Word → ℕ
+freed_one region memory Free = bit_or (memory Free) (1 * 2 ^ region % 2 ^ 64)
+freed_one region memory (Top r) = if r == region then 0 else memory (Top r)
+freed_one region memory (Tams r) = if r == region then 0 else memory (Tams r)
+freed_one region memory (Limit r) = if r == region then 0 else memory (Limit r)
+freed_one region memory word = memory word

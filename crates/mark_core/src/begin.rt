@@ -1,0 +1,123 @@
+//! The beginning of marking.
+
+ghost use Rattle.std.specs.Prelude.{ℕ, ◌≡◌, ◌<◌, ◌≤◌, [], map};
+ghost use Rattle.std.specs.List.{range_with_len};
+ghost use Rattle.heap_words.specs.Words.{Cset, Root, Answer};
+ghost use Rattle.heap_graph.specs.Walk.{with_address, with_addresses};
+ghost use Rattle.image_laws.specs.Full.{roots_below, answers_below, root_words};
+ghost use Rattle.image_graph.specs.State.{config_of, memory_of, found_of, AreFound, IsUnchanged};
+ghost use Rattle.image_graph.specs.Holds.{HoldsSome};
+ghost use Rattle.mark_laws.specs.Init.{init_marked};
+ghost use Rattle.mark_core.specs.Steps.{noted};
+ghost use Rattle.mark_core.specs.Trace.{HasRootsInside};
+ghost use Rattle.mark_core.specs.Result.{BeginsToMark};
+
+use crate::clear::empty_buffers;
+use crate::colour::grey_found;
+use image_graph::Image;
+
+// Notes what the roots of a mutator name.
+fn find_roots(image: &mut Image, mutator: usize)
+    requires mutator { mutator < (config_of image.old).mutators }
+    requires inside { HasRootsInside (config_of image.old) (memory_of image.old) }
+    requires found { AreFound image.old }
+    ensures unchanged { IsUnchanged image.old image.new }
+    ensures found { AreFound image.new }
+    ensures noted { found_of image.new ≡ with_addresses (found_of image.old) (map (λ i. memory_of image.old (Root mutator i)) (range_with_len 0 16)) }
+{
+    let config = image.config();
+    for index in 0..16 {
+        let word = image.word(config.root_at(mutator, index));
+        image.find(word);
+    }
+}
+
+// Notes what the roots of all mutators name.
+fn find_all_roots(image: &mut Image)
+    requires inside { HasRootsInside (config_of image.old) (memory_of image.old) }
+    requires found { AreFound image.old }
+    ensures unchanged { IsUnchanged image.old image.new }
+    ensures found { AreFound image.new }
+    ensures noted { found_of image.new ≡ with_addresses (found_of image.old) (roots_below (memory_of image.old) (config_of image.old).mutators) }
+{
+    let config = image.config();
+    for mutator in 0..config.mutators() {
+        find_roots(image, mutator);
+    }
+}
+
+// Notes the object that is the answer of a mutator: 0 is no answer yet, and 1 says that the heap is full.
+fn find_answer(image: &mut Image, mutator: usize)
+    requires mutator { mutator < (config_of image.old).mutators }
+    requires inside { HasRootsInside (config_of image.old) (memory_of image.old) }
+    requires found { AreFound image.old }
+    ensures unchanged { IsUnchanged image.old image.new }
+    ensures found { AreFound image.new }
+    ensures none { memory_of image.old (Answer mutator) ≤ 1 → found_of image.new ≡ found_of image.old }
+    ensures noted { 1 < memory_of image.old (Answer mutator) → found_of image.new ≡ with_address (found_of image.old) (memory_of image.old (Answer mutator)) }
+{
+    let config = image.config();
+    let answer = image.word(config.answer_at(mutator));
+    if answer <= 1 {
+        return;
+    }
+    image.find(answer);
+}
+
+// Notes the objects that are answers.
+fn find_answers(image: &mut Image)
+    requires inside { HasRootsInside (config_of image.old) (memory_of image.old) }
+    requires found { AreFound image.old }
+    ensures unchanged { IsUnchanged image.old image.new }
+    ensures found { AreFound image.new }
+    ensures noted { found_of image.new ≡ with_addresses (found_of image.old) (answers_below (memory_of image.old) (config_of image.old).mutators) }
+{
+    let config = image.config();
+    for mutator in 0..config.mutators() {
+        find_answer(image, mutator);
+    }
+}
+
+// Finds what roots and answers name.
+fn find_named(image: &mut Image)
+    requires { HasRootsInside (config_of image.old) (memory_of image.old) }
+    ensures unchanged { IsUnchanged image.old image.new }
+    ensures found { AreFound image.new }
+    ensures named { found_of image.new ≡ with_addresses [] (root_words (config_of image.old) (memory_of image.old)) }
+{
+    image.forget_found();
+    find_all_roots(image);
+    find_answers(image);
+}
+
+// Notes the tops of all regions.
+fn note_tops(image: &mut Image)
+    ensures config { config_of image.new ≡ config_of image.old }
+    ensures words { memory_of image.new ≡ noted (config_of image.old).regions (memory_of image.old) }
+{
+    let config = image.config();
+    for region in 0..config.regions() {
+        let top = image.edge(region);
+        image.set_word(config.tams_at(region), top);
+    }
+}
+
+/// Begins marking: no mark is left of an earlier one, the objects that roots and answers name are grey, the tops of the
+/// regions are noted, and no unit is claimed and nothing asked for. The image holds a graph, and no region is in the
+/// collection set. The image holds the same graph afterwards. Takes no memory, and time linear in the words of the heap.
+pub fn init_mark(image: &mut Image)
+    requires holds { HoldsSome (config_of image.old) (memory_of image.old) }
+    requires calm { memory_of image.old Cset ≡ 0 }
+    ensures config { config_of image.new ≡ config_of image.old }
+    ensures words { memory_of image.new ≡ init_marked (config_of image.old) (memory_of image.old) }
+    ensures begins { BeginsToMark (config_of image.old) (memory_of image.old) (memory_of image.new) }
+{
+    find_named(image);
+    grey_found(image);
+    note_tops(image);
+    empty_buffers(image);
+    let config = image.config();
+    image.set_word(config.claim_at(), 0);
+    image.set_word(config.ask_at(), 0);
+    image.set_word(config.phase_at(), 1);
+}

@@ -1,0 +1,15 @@
+//! The pauses of marking over an image: its beginning, the closing of the marks, and its end.
+#![tactic(auto)]
+
+mod begin;
+mod clear;
+mod close;
+mod colour;
+mod dead;
+mod end;
+mod look;
+mod trace;
+
+pub use begin::init_mark;
+pub use close::close_marks;
+pub use end::final_mark;
