@@ -19,13 +19,8 @@ use Rattle.image_laws.specs.Full.{full}
 use Rattle.image_graph.specs.declared.image.Image.{Image}
 use Rattle.image_graph.specs.Holds.{HoldsSome}
 use Rattle.image_graph.specs.State as images
-<<<<<<< HEAD
-use Rattle.pause_laws.specs.Image.{full_image}
-use Rattle.pause_laws.proofs.Dead.{plain}
-=======
 use Rattle.heap_machines.specs.Pause.{pause_image}
-use Rattle.pause_laws.proofs.Before.{plain}
->>>>>>> origin/run
+use Rattle.pause_laws.proofs.Dead.{plain}
 use Rattle.pause_laws.proofs.Promises.{promises_of}
 use Rattle.pause_laws.proofs.Holding.{waits_for, holds_by}
 use Rattle.pause_laws.proofs.Answered.{represents_again}
