@@ -1,13 +1,13 @@
 -- The plot in which objects that nothing leads to only fill.
-use Rattle.std.proofs.Common.{◌≡◌, ℕ, ◌+◌, Bool, true, false, Option, Some, None, refl, sym, ap, ◌∙◌, subst, arith}
+use Rattle.std.proofs.Common.{◌≡◌, ℕ, ◌+◌, Bool, true, false, Some, refl, sym, ap, ◌∙◌, subst, arith}
 use Rattle.std.specs.Prelude.{if◌then◌else◌}
 use Rattle.std.specs.Option.{option_map}
 use Rattle.std.proofs.lemmas.Bool.{cond-true}
-use Rattle.std.proofs.lemmas.Option.{none-some, same_Some}
 use Rattle.heap_words.specs.declared.config.Config.{Config}
 use Rattle.regions.specs.Place.{base_of}
 use Rattle.shen_graph.specs.declared.name.Name.{Name}
 use Rattle.heap_world.specs.World.{Block, thing, hand, promised, filler, words_of, Plot, IsInUse, IsPlotted, IsFilled}
+use Rattle.pause_laws.proofs.Mapped.{from_option}
 
 -- a piece that stays, or of which only the words stay
 abbrev pub pruned_piece : Bool → Block → Block
@@ -25,10 +25,6 @@ pruned_words false (thing name refs nums) = refl
 pruned_words live (hand seat words) = refl
 pruned_words live (promised seat words) = refl
 pruned_words live (filler words) = refl
-
-from_option : (f : Block → Block) (o : Option Block) (b : Block) → option_map f o ≡ Some b → (x : Block) × (o ≡ Some x) × (f x ≡ b)
-from_option f None b is = absurd (none-some b is)
-from_option f (Some x) b is = (x, refl, same_Some (f x) b is)
 
 -- an object of it was one, and something leads to it
 thing_of : (live : Bool) (x : Block) (name : Name) (refs nums : ℕ) → pruned_piece live x ≡ thing name refs nums → (x ≡ thing name refs nums) × (live ≡ true)
