@@ -6,12 +6,11 @@ use Rattle.heap_words.specs.declared.access.Access.{Access}
 use Rattle.heap_words.specs.declared.access.Took.{Took}
 use Rattle.heap_words.specs.declared.access.Took.TheVariants.{Again}
 use Rattle.heap_words.specs.declared.place.Place.{Place}
-use Rattle.heap_words.specs.declared.place.Place.TheVariants as place
 use Rattle.heap_words.specs.Place.{same_place}
-use Rattle.heap_words.specs.Words.{Word, Pause, Answer, image_start}
+use Rattle.heap_words.specs.Words.{Word, Answer, image_start}
 use Rattle.heap_words.specs.Rows.{name_of}
 use Rattle.heap_world.specs.Change.{Change}
-use Rattle.steps_base.specs.Touch.{touch, loads, placed}
+use Rattle.steps_base.specs.Touch.{placed}
 use Rattle.steps_base.specs.Steps.{MachineKind, Stage}
 use Rattle.shen_graph.specs.declared.command.Command.{Command}
 use Rattle.shen_graph.specs.declared.command.Command.TheVariants.{Gc}
@@ -105,7 +104,7 @@ next_order (Some command) = Begin command
 -- What it does on its turn, by its script and the calls that it has ended: in a call it goes on. It is idle where it has ended.
 abbrev pub order_by : List Command → List Entry → Machine → Option Order
 order_by script calls (mutating m) = if takes_commands m.spot then Some (next_order (slice_get script (length calls))) else (if is_between_calls m.spot then None else Some Nothing)
-order_by script calls (helping h) = None
+order_by script calls (helping h) = if help.is_gone h.spot then None else Some Nothing
 order_by script calls (controlling k) = if is_gone k.spot then None else Some Nothing
 
 -- whether its next access, under what it does on its turn, stands at a place. A machine that is idle stands nowhere
