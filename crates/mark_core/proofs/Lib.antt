@@ -5,3 +5,4 @@ pub mod Listed
 pub mod Beginning
 pub mod Tracing
 pub mod Closing
+pub mod Freeing

@@ -69,3 +69,10 @@ module _ (c : Config) (m : Word → ℕ) (r : ℕ) where
 
   pub dead_is_dead : (is_dead c m r ≡ true) ↔ IsDead c m r
   dead_is_dead = (is_so, is_told)
+
+  -- where all else of a dead region holds, the marks decide
+  pub marks_decide : bit_at (m Free) r ≡ 0 → is_current c m r ≡ false → m (Top r) ≡ m (Tams r) → is_dead c m r ≡ not (has_black c m r)
+  marks_decide free seat top =
+      ap (λ b. b && unseated && filled && bare) (eq-eqb (bit_at (m Free) r) 0 free)
+      ∙ ap (λ b. not b && filled && bare) seat
+      ∙ ap (λ b. b && bare) (eq-eqb (m (Top r)) (m (Tams r)) top)
