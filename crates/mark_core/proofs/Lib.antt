@@ -6,3 +6,4 @@ pub mod Beginning
 pub mod Tracing
 pub mod Closing
 pub mod Freeing
+pub mod Ending
