@@ -35,7 +35,7 @@ use Rattle.step_core.specs.Settled.{settled, settled_by, mixed, stored_image, im
 use Rattle.step_core.specs.Sound.{world_of, is_clearing, IsSound}
 use Rattle.step_core.specs.Begins.{Run, ending, history_in, graph_after}
 use Rattle.heap_machines.specs.Pause.{pause_image}
-use Rattle.pause_laws.proofs.Before.{plain}
+use Rattle.pause_laws.proofs.Dead.{plain}
 use Rattle.pause_laws.proofs.Promises.{promises_of}
 use Rattle.pause_laws.proofs.Holding.{holds_by}
 use Rattle.heap_machines.proofs.Pauses.{heap_pauses}

@@ -20,7 +20,7 @@ use Rattle.image_graph.specs.declared.image.Image.{Image}
 use Rattle.image_graph.specs.Holds.{HoldsSome}
 use Rattle.image_graph.specs.State as images
 use Rattle.heap_machines.specs.Pause.{pause_image}
-use Rattle.pause_laws.proofs.Before.{plain}
+use Rattle.pause_laws.proofs.Dead.{plain}
 use Rattle.pause_laws.proofs.Promises.{promises_of}
 use Rattle.pause_laws.proofs.Holding.{waits_for, holds_by}
 use Rattle.pause_laws.proofs.Answered.{represents_again}
@@ -174,7 +174,9 @@ represents_then c m left ended g r = record {
   roots = r.roots;
   none = r.none;
   asked = r.asked;
+  heard = r.heard;
   promised_to = r.promised_to;
+  unmarking = r.unmarking;
   no_more = r.no_more;
 }
 
