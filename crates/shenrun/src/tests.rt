@@ -431,7 +431,7 @@ const MARKED: &[Row] = &[
     // A helper has claimed a unit when the thread overwrites a field. The object that was there is recorded, and lives in a root.
     Row {
         words: REPLAY,
-        trace: "shen 1\nheap 4 64 0\nthreads 1 1\n1 new 1 1 0\n1 set 0 0 1\n1 new 2 0 0\n1 set 1 0 2\n1 drop 2\n1 gc\n1 get 2 1 0\n1 set 1 0 0\n! 1=6 3@PS 3@I0 2@KX 1@RS 2@LV 1=7 1@BN 2:1 2@LV 1=8 3@P3\n",
+        trace: "shen 1\nheap 4 64 0\nthreads 1 1\n1 new 1 1 0\n1 set 0 0 1\n1 new 2 0 0\n1 set 1 0 2\n1 drop 2\n1 gc\n1 get 2 1 0\n1 set 1 0 0\n! 1=6 3@PS 3@I0 2@KX 1@RS 2@LV 2:1 1=7 1@BN 2@LV 2:1 1=8 3@P3\n",
         answer: "1 1.1\n1 ok\n1 1.2\n1 ok\n1 ok\n1 ok\n1 1.2\n1 ok\ngraph\nobject 0.1 1.1 - - - - - - - - - - - - - - - /\nobject 1.1 0.1 /\nobject 1.2 /\nroots 1 0.1 1.1 1.2 - - - - - - - - - - - - -\n",
     },
 ];
