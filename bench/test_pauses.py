@@ -8,15 +8,10 @@ control stands at each place of stopping. The replies and the graph are the same
 pauses.txt, with its replies and graphs. The rules say how many steps each trace takes: it is answered with so many, and
 unfinished with one fewer. No answer was taken from the program.
 """
-import os
-import re
-import subprocess
 import sys
 
-HERE = os.path.dirname(os.path.abspath(__file__))
-TOP = os.path.dirname(HERE)
-PLACES = [os.path.join(TOP, "crates", "shenrun", "out", "shenrun"), os.path.join(TOP, "out", "shenrun")]
-PROGRAM = next((it for it in PLACES if os.access(it, os.X_OK)), None)
+sys.dont_write_bytecode = True
+from cases import Case, cases, count_failures, program  # pylint: disable=wrong-import-position
 
 # The race. A third thread asks for the pauses, one at the start and one behind it; machine 4 is the control.
 RACE = """# a race of two threads against a pause
@@ -88,53 +83,6 @@ STOPS = {
 }
 
 
-class Case:
-    """A trace with its answer, as pauses.txt writes it: the title behind `#`, a line with the heap, the threads, the steps and
-    the pauses, the commands of each thread with their replies, the schedule behind `!`, and the lines of the graph. `word*n`
-    stands for that word n times."""
-
-    def __init__(self, text, items=None, steps=None):
-        title, head, *rest = text.split("\n")
-        self.title = title[2:]
-        heap, threads, *counts = head.split(", ")
-        self.steps = steps or int(counts[0].split()[0])
-        lines, replies, graph = ["shen 1", heap, threads], [], ["graph"]
-        for line in rest:
-            told = re.match(r"(\d): (.*)", line)
-            if told:
-                for call in told[2].split("; "):
-                    command, reply = call.split(" -> ")
-                    lines.append(f"{told[1]} {command}")
-                    replies.append(f"{told[1]} {reply}")
-            elif line.startswith("! "):
-                items = line[2:]
-            else:
-                graph.append(re.sub(r"(\S+)\*(\d+)", lambda it: " ".join([it[1]] * int(it[2])), line))
-        schedule = [f"! {items}"] if items else []
-        self.trace = "\n".join([*lines, *schedule, ""]).encode()
-        self.answer = "\n".join([*replies, *graph, ""]).encode()
-
-    def fails(self):
-        """What is wrong with the program's answers to it."""
-        status, written = run(self.trace, self.steps)
-        if (status, written) == (4, unfinished(self.steps)):
-            yield f"it takes more than {self.steps} steps"
-        elif (status, written) != (0, self.answer):
-            yield f"another answer, with status {status}:\n{written.decode(errors='replace')}"
-        elif run(self.trace, self.steps - 1) != (4, unfinished(self.steps - 1)):
-            yield f"it takes fewer than {self.steps} steps"
-
-
-def unfinished(steps):
-    return f"unfinished after {steps} steps\n".encode()
-
-
-def run(trace, steps):
-    """The exit number of a replay, and what it writes."""
-    ran = subprocess.run([PROGRAM, "replay", "--steps", str(steps)], input=trace, stdout=subprocess.PIPE)
-    return ran.returncode, ran.stdout
-
-
 def races():
     """The traces of the first table."""
     for place, (stop, *rows) in STOPS.items():
@@ -145,23 +93,11 @@ def races():
                 yield case
 
 
-def cases():
-    """The traces of the second table."""
-    with open(os.path.join(HERE, "pauses.txt"), encoding="utf-8") as file:
-        for block in file.read().strip().split("\n\n"):
-            yield Case(block)
-
-
 def main():
-    if not PROGRAM:
+    if not program("shenrun"):
         print("test_pauses.py: there is no proved program yet: rt ci makes it", file=sys.stderr)
         return 2
-    failed, number = 0, 0
-    for case in [*races(), *cases()]:
-        number += 1
-        for why in case.fails():
-            print(f"{case.title}: {why}")
-            failed += 1
+    number, failed = count_failures([*races(), *cases("pauses.txt")], Case.fails)
     print(f"{number - failed} traces with pauses are as the rules say, {failed} are not")
     return 1 if failed else 0
 
