@@ -6,9 +6,9 @@ usage: test_marking.py
 There are two tables. In the first a thread overwrites a field while a helper scans the object: each stands at each of its
 places. The second one is marking.txt. A line behind `=` says what holds after the items above it, and one behind `end:` what
 holds when all machines are idle: the places of machines, and words of the heap, which are followed through the events that
-`shensteps` lists. `grey` and `black` tell all marked objects, `buffer` the entries below the count; `start` is a region's
-top when marking began. An object is told by its name, or by `@` and its address once a full collection has moved it. The
-rules also say how many steps and pauses each trace takes. No answer was taken from the programs.
+`shensteps` lists. `grey` and `black` tell all objects whose bit is set, `buffer` the entries below the count; `start` is a
+region's top when marking began. The rules also say how many steps and pauses each trace takes. No answer was taken from the
+programs.
 """
 import re
 import subprocess
@@ -40,7 +40,7 @@ STEPS = {True: 1427, False: 1422}
 ASK = "what is asked for"
 ASKED = ["nothing", "a cycle", "room", "a cycle, room"]
 MACHINE = re.compile(r" *\d+  (?:thread (?P<thread>\d)|helper (?P<helper>\d)|control) +(?P<place>\w\w)  (?P<rest>.*)")
-VALUE = r"(a cycle, room|a cycle|room|nothing|\{[\d ]*\}|[\d.]+|-)"
+VALUE = r"(a cycle, room|a cycle|room|nothing|\{[\d. ]*\}|[\d.]+|-)"
 WORDS = "phase|claimed work|what is asked for|free regions|(?:grey|black) word \\d+|buffer (?:count|entry \\d) of thread \\d"
 ACCESS = re.compile(rf"([a-z ]+?) ({WORDS}|(?:top|mark start) of region \d+)(?:: {VALUE}(?: to {VALUE})?)? +{VALUE}(?: |$)")
 
@@ -55,40 +55,34 @@ def races():
 
 
 def value(text):
-    """A value of the listing: a number, a set of regions, or a name."""
+    """A value of the listing: a number, a name, or a set of regions or names."""
     if text in ASKED:
         return ASKED.index(text)
     if text.startswith("{"):
-        return set(map(int, text[1:-1].split()))
+        return set(text[1:-1].split())
     return int(text) if text.isdigit() else text
 
 
 class Heap:
-    """What the listed events have made of the words, and where objects were made."""
+    """What the listed events have made of the words."""
 
     def __init__(self, case):
-        _, regions, self.words_each, _ = case.heap.split()
-        self.regions, self.words_each = int(regions), int(self.words_each)
-        self.words = {"free regions": set(range(1, self.regions)), "top of region 0": 19}
-        self.names, self.rooms = {self.words_each: "0.1"}, {}
+        self.regions, words = map(int, case.heap.split()[1:3])
+        self.mark_words = (self.regions * words + 63) // 64
+        self.words = {"free regions": {str(it) for it in range(1, self.regions)}, "top of region 0": 19}
 
     def word(self, name):
-        return self.words.get(name, "-" if name.startswith("buffer entry") else 0)
+        """What stands in a word, by its name in the listing; at first that is 0."""
+        nothing = {"grey": set(), "black": set(), "buffer": 0 if "count" in name else "-"}
+        return self.words.get(name, nothing.get(name.split()[0], 0))
 
-    def take(self, machine, place, rest):
-        """Takes an event; whether it has found what stood there."""
-        settles = re.search(r"settles (\d\.\d+)$", rest)
-        if place == "RS" and settles and machine in self.rooms:
-            self.names[self.rooms.pop(machine)] = settles[1]
+    def take(self, place, rest):
+        """Takes an event; whether it has found what stood there. A pause also finds marks of objects that are gone."""
         access = ACCESS.match(rest)
         if not access:
             return True
         verb, name, first, second, found = access.groups()
         found, before = value(found), self.word(name)
-        if place == "TS":
-            self.rooms[machine] = (int(name.split()[-1]) + 1) * self.words_each + found
-        if place == "PS" and name == ASK and found & 2:
-            self.names = {}
         if verb == "store":
             self.words[name] = value(first)
         elif verb == "set in":
@@ -97,15 +91,12 @@ class Heap:
             self.words[name] = before - value(first)
         elif verb == "exchange" and value(first) == found:
             self.words[name] = value(second)
-        return found == before
+        return found == before or (place in ("PL", "PS") and isinstance(found, set))
 
     def marked(self, colour):
-        """The objects whose bits are set in the words of a colour."""
-        bits = ""
-        for number in range((self.regions * self.words_each + 63) // 64):
-            bits += f"{self.word(f'{colour} word {number}'):064b}"[::-1]
-        found = [it + self.words_each for it, bit in enumerate(bits) if bit == "1"]
-        return " ".join(self.names.get(it, f"@{it}") for it in found) or "none"
+        """The objects whose bits are set in the words of a colour, in the order of their names."""
+        found = set().union(*(self.word(f"{colour} word {it}") for it in range(self.mark_words)))
+        return " ".join(sorted(found, key=lambda it: list(map(int, it.split("."))))) or "none"
 
     def buffered(self, thread):
         """The entries of a thread's buffer."""
@@ -124,7 +115,7 @@ class Heap:
         if kind == "asked":
             return f"asked {ASKED[self.word(ASK)]}"
         if kind == "free":
-            return "free {" + " ".join(map(str, sorted(self.word("free regions")))) + "}"
+            return "free {" + " ".join(sorted(self.word("free regions"), key=int)) + "}"
         return f"{kind} {self.word('claimed work' if kind == 'claim' else kind)}"
 
 
@@ -160,9 +151,9 @@ def fails(case):
         return
     heap, made = Heap(case), 0
     for items, text in case.told:
-        for number, place, rest in events[made : ends[items]]:
+        for _, place, rest in events[made : ends[items]]:
             made += 1
-            if not heap.take(number, place, rest):
+            if not heap.take(place, rest):
                 yield f"event {made} finds another word than was left there: {rest}"
         for what in text.split("; "):
             machine = re.match(r"(\d+) (?:at|has)", what)
