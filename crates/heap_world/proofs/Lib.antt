@@ -7,6 +7,7 @@ pub mod Joined
 pub mod Unwritten
 pub mod Traced
 pub mod Marked
+pub mod Unmarked
 pub mod NewPiece
 pub mod FreeRegions
 pub mod Objects

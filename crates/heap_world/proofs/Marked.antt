@@ -58,6 +58,7 @@ module _ (c : Config) (phase : ℕ) (grey black count : ℕ → ℕ) (buffer : �
     empty = marked.empty;
     traced = traced_stored c s heap black scanning (IsNoted c grey count buffer recording) after stays marked.traced;
     led = marked.led;
+    old = marked.old;
     kept = marked.kept;
     older = marked.older;
     promises = marked.promises;
@@ -84,6 +85,7 @@ module _ (c : Config) (phase : ℕ) (grey black count : ℕ → ℕ) (buffer : �
     empty = marked.empty;
     traced = marked.traced;
     led = marked.led;
+    old = marked.old;
     kept = λ a refs nums name is. stays a (thing name refs nums) (marked.kept a refs nums name is);
     older = λ on a refs nums name is. marked.older on a refs nums name (old a (thing name refs nums) (λ seat words same. (let differ = same in cc)) is);
     promises = λ on a seat words is. marked.promises on a seat words (old a (promised seat words) (λ other more same. (let differ = same in cc)) is);
@@ -113,6 +115,7 @@ module _ (c : Config) (phase : ℕ) (grey black count : ℕ → ℕ) (buffer : �
     empty = marked.empty;
     traced = marked.traced;
     led = marked.led;
+    old = marked.old;
     kept = λ a more_refs more_nums n is. things a more_refs more_nums n (marked.kept a more_refs more_nums n is);
     older = λ on a more_refs more_nums n is. ⊎_elim
         (λ (same : a ≡ address). inr (subst (λ x. (s.starts x ≡ true) ⊎ IsYoung c s.top x) (sym same) (known on)))

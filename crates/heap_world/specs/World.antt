@@ -277,6 +277,7 @@ pub record KeepsSnapshot (c : Config) (phase : ℕ) (grey black count : ℕ → 
   pub empty : phase ≢ 1 → s ≡ no_snapshot
   pub traced : IsTraced c s heap black scanning (IsNoted c grey count buffer recording)
   pub led : (a refs nums : ℕ) (name : Name) → s.block a ≡ Some (thing name refs nums) → IsLed s a
+  pub old : (a refs nums : ℕ) (name : Name) → s.block a ≡ Some (thing name refs nums) → IsYoung c s.top a → ⊥
   pub kept : (a refs nums : ℕ) (name : Name) → s.block a ≡ Some (thing name refs nums) → block a ≡ Some (thing name refs nums)
   pub older : phase ≡ 1 → (a refs nums : ℕ) (name : Name) → block a ≡ Some (thing name refs nums) → (s.block a ≡ Some (thing name refs nums)) ⊎ ((s.starts a ≡ true) ⊎ IsYoung c s.top a)
   pub promises : phase ≡ 1 → (a seat words : ℕ) → block a ≡ Some (promised seat words) → s.starts a ≡ true

@@ -8,7 +8,8 @@ use Rattle.sliding.specs.Slide.{renewed, slid}
 use Rattle.sliding.proofs.Slid.{slid_is}
 use Rattle.shen_graph.specs.declared.name.Name.{Name}
 use Rattle.shen_graph.specs.Graph.{Graph, Object}
-use Rattle.heap_world.proofs.Keeping.{none_collects}
+use Rattle.heap_world.proofs.Keeping.{none_copies}
+use Rattle.heap_world.proofs.Unmarked.{none_marked}
 use Rattle.heap_world.specs.World.{Plot, hand, promised, filler, name_at, AreObjects, IsGiven, Shared}
 use Rattle.image_laws.specs.Held.{from_root, IsAmong}
 use Rattle.image_laws.specs.Plot.{AreThings, heap_end, packed_block, packed_top}
@@ -60,9 +61,13 @@ module _ (c : Config) (memory : Word → ℕ) (block : Plot) (g : Graph) (now ke
       currents = record { within = λ seat r is. absurd (omega (arith, is)); own = λ seat r is. absurd (omega (arith, is)) };
       rooms = λ a seat words is. absurd (none-some _ (are_things a (hand seat words) is).1);
     };
-    calm = record { phase_is = refl; cset_is = refl; evac_is = refl };
-    uncollected = none_collects;
-    unfilled = λ a words is. none-some _ (are_things a (filler words) is).1;
+    calm = record { phase_is = omega arith; cset_is = refl; evac_is = refl };
+    uncopied = none_copies;
+    unwritten = record {
+      blanks = λ a seat words is. absurd (none-some _ (are_things a (promised seat words) is).1);
+      headers = λ a words is. absurd (none-some _ (are_things a (filler words) is).1);
+    };
+    marked = none_marked c _ _ _ _ _ _ _ _ _ _ _ refl;
   }
 
   pub keeps_graph : KeepsGraph c memory block g now kept roots

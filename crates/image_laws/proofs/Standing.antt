@@ -9,7 +9,7 @@ use Rattle.packing.proofs.Places.{stays_above}
 use Rattle.sliding.specs.Slide.{renewed}
 use Rattle.shen_graph.specs.declared.name.Name.{Name}
 use Rattle.shen_graph.specs.Graph.{Graph}
-use Rattle.heap_world.specs.World.{Plot, name_at, Points}
+use Rattle.heap_world.specs.World.{Plot, name_at, Points, IsPlotted, AreObjects}
 use Rattle.heap_world.proofs.Pointing.{named_thing}
 use Rattle.image_laws.specs.Held.{IsAmong, HoldsGraph}
 use Rattle.image_laws.specs.Plot.{packed_block}
@@ -24,23 +24,28 @@ use Rattle.image_laws.proofs.Walked.{walk_keeps}
 use Rattle.image_laws.proofs.Roots.{root_named, root_held, root_among, answer_among}
 
 -- an object with a plain header is its own current copy
-own_copy : (memory : Word → ℕ) (a : ℕ) → memory (Heap a) ≡ plain_header → now_in memory a ≡ a
+pub own_copy : (memory : Word → ℕ) (a : ℕ) → memory (Heap a) ≡ plain_header → now_in memory a ≡ a
 own_copy memory a plain =
     cond-false (is_forwarded (memory (Heap a))) (forwardee_in (memory (Heap a))) a (ap is_forwarded plain)
 
-pub standing_holds : (c : Config) (memory : Word → ℕ) (block : Plot) (g : Graph) (p : Promises) → ImageStands c memory block g p
+pub objects_hold : (c : Config) (memory : Word → ℕ) (block : Plot) (g : Graph) (p : Promises) → IsPlotted c (λ r. memory (Top r)) block
+    → AreObjects (λ a. memory (Heap a)) block (with_promised g p).object → RootsStand c memory block g p
     → HoldsGraph c (λ r. memory (Top r)) (λ a. memory (Heap a)) block (now_in memory) (IsAmong (root_words c memory)) (with_promised g p)
-standing_holds c memory block g p stands = record {
-  plotted = stands.plotted;
+objects_hold c memory block g p plotted objects rooted = record {
+  plotted = plotted;
   current = λ word name is.
       let piece = named_thing (block word) name is in
-      let object = stands.objects.each word piece.0 piece.1 name piece.2 in
+      let object = objects.each word piece.0 piece.1 name piece.2 in
       (piece.0, piece.1, ap block (own_copy memory word object.2.header) ∙ piece.2);
-  each = λ a refs nums name held is. stands.objects.each a refs nums name is;
-  once = λ a b refs nums more_refs more_nums name held_a held_b is_a is_b. stands.objects.once a b refs nums more_refs more_nums name is_a is_b;
-  root_named = root_named c (λ r. memory (Top r)) memory block g p stands.plotted stands.rooted;
-  root_held = root_held c (λ r. memory (Top r)) memory block g p stands.plotted stands.rooted;
+  each = λ a refs nums name held is. objects.each a refs nums name is;
+  once = λ a b refs nums more_refs more_nums name held_a held_b is_a is_b. objects.once a b refs nums more_refs more_nums name is_a is_b;
+  root_named = root_named c (λ r. memory (Top r)) memory block g p plotted rooted;
+  root_held = root_held c (λ r. memory (Top r)) memory block g p plotted rooted;
 }
+
+pub standing_holds : (c : Config) (memory : Word → ℕ) (block : Plot) (g : Graph) (p : Promises) → ImageStands c memory block g p
+    → HoldsGraph c (λ r. memory (Top r)) (λ a. memory (Heap a)) block (now_in memory) (IsAmong (root_words c memory)) (with_promised g p)
+standing_holds c memory block g p stands = objects_hold c memory block g p stands.plotted stands.objects stands.rooted
 
 module _ (c : Config) (memory : Word → ℕ) (block : Plot) (g : Graph) (p : Promises)
     (holds : HoldsGraph c (λ r. memory (Top r)) (λ a. memory (Heap a)) block (now_in memory) (IsAmong (root_words c memory)) (with_promised g p))

@@ -1,0 +1,10 @@
+pub mod State
+pub mod Steps
+pub mod Colours
+pub mod Listed
+pub mod Beginning
+pub mod Tracing
+pub mod Closing
+pub mod Freeing
+pub mod Ending
+pub mod Some

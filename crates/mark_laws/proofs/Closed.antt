@@ -42,7 +42,7 @@ module _ (c : Config) (m : Word → ℕ) (block : Plot) (owner : ℕ → Option 
   pub closed_holds : HoldsBy c n block owner p g
   closed_holds = holds_alike m n alike c block owner p g holds
 
-  followed : (a : ℕ) → IsTraced c m a → IsFollowed c m block a
+  pub followed : (a : ℕ) → IsTraced c m a → IsFollowed c m block a
   followed _ (close.from_grey a is) = from_grey a is
   followed _ (close.from_buffer t i below few some) = from_entry (m (Buffer t i)) (t, i, below, few, refl)
   followed _ (close.from_field a i traced plain few some) = from_field a i (followed a traced) few some
@@ -52,7 +52,7 @@ module _ (c : Config) (m : Word → ℕ) (block : Plot) (owner : ℕ → Option 
       let at = object_above c m block owner p g holds marking.uncollected a is.refs is.nums is.name is.here in
       (at.0, omega (arith, at.1))
 
-  inside : (a : ℕ) → IsTraced c m a → (c.region_words ≤ a) × (a < c.region_words + c.regions * c.region_words)
+  pub inside : (a : ℕ) → IsTraced c m a → (c.region_words ≤ a) × (a < c.region_words + c.regions * c.region_words)
   inside a traced = object_inside a (marking.objects a (followed a traced))
 
   listed : (a : ℕ) → IsTraced c m a → has (traced_in c m) a ≡ true
@@ -121,7 +121,7 @@ module _ (c : Config) (m : Word → ℕ) (block : Plot) (owner : ℕ → Option 
   chain_traced _ (goes_on a i before few some is) = close.from_field a i (chain_traced a before) (chain_open a before) few some
 
   -- what is safe is kept afterwards
-  safe_kept : (a : ℕ) → IsSafe c m a → IsKept c n a
+  pub safe_kept : (a : ℕ) → IsSafe c m a → IsKept c n a
   safe_kept a safe = ⊎_elim
       (λ (kept : IsKept c m a). ⊎_elim (λ (black : is_black c m a ≡ true). inl (black_stays a black)) (λ (fresh : IsNew c m a). inr fresh) kept)
       (λ (chain : IsChained c m a). inl (traced_black a (chain_traced a chain)))

@@ -1,11 +1,43 @@
 -- That what a pause makes of an image is what a pause owes.
-use Rattle.std.specs.Prelude.{ℕ, ◌≡◌, ◌++◌, List, length, replicate}
+use Rattle.std.specs.Prelude.{ℕ, ◌≡◌, ◌++◌, List, length, replicate, Option}
 use Rattle.heap_words.specs.declared.config.Config.{Config}
-use Rattle.heap_words.specs.Words.{image_start, table_words, view}
-use Rattle.heap_world.specs.Change.{image_words, image_view}
+use Rattle.heap_words.specs.Words.{Word, Phase, image_start, table_words, view}
+use Rattle.shen_graph.specs.Graph.{Graph}
+use Rattle.heap_world.specs.World.{Plot}
+use Rattle.heap_world.specs.Asking.{Asking}
+use Rattle.heap_world.specs.Represents.{Represents}
+use Rattle.heap_world.specs.Change.{image_words, image_view, IsPause}
+use Rattle.image_laws.specs.Promised.{Promises}
+use Rattle.image_graph.specs.Holds.{HoldsBy}
+use Rattle.mark_laws.specs.Close.{closed}
+use Rattle.mark_laws.specs.Facts.{IsMarking, IsMarkedThrough}
 use Rattle.mark_pauses.specs.Collect.{collected, collect_image, CanCollectSome}
 
--- A table that reads as a pause makes of an image is that image after it, behind words that are 0.
+-- Words that represent a graph while objects are marked hold it, and marking comes to each object that can be reached.
+abbrev pub MarkingStands : Type 0
+MarkingStands = (c : Config) (memory : Word → ℕ) (g : Graph) (asking : ℕ → Asking) → Represents c memory g asking → memory Phase ≡ 1
+    → (block : Plot) × (owner : ℕ → Option ℕ) × (p : Promises) × HoldsBy c memory block owner p g × IsMarking c memory block
+
+-- So once the marks are closed, each object that can be reached is marked or has been allocated since mark start.
+abbrev pub ReachableAreMarked : Type 0
+ReachableAreMarked = (c : Config) (memory : Word → ℕ) (g : Graph) (asking : ℕ → Asking) → Represents c memory g asking → memory Phase ≡ 1
+    → (block : Plot) × (owner : ℕ → Option ℕ) × (p : Promises) × HoldsBy c (closed c memory) block owner p g × IsMarkedThrough c (closed c memory) block
+
+-- Words that represent a graph are such that a pause can collect.
+abbrev pub RepresentingCanCollect : Type 0
+RepresentingCanCollect = (c : Config) (memory : Word → ℕ) (g : Graph) (asking : ℕ → Asking) → Represents c memory g asking → CanCollectSome c memory
+
+-- By their names the words of an image after a pause are those that the pause makes of its words.
+abbrev pub ImageIsCollected : Type 0
+ImageIsCollected = (c : Config) (image : List ℕ) → length image ≡ image_words c → CanCollectSome c (image_view c image)
+    → image_view c (collect_image c image) ≡ collected c (image_view c image)
+
+-- So a table that reads as a pause makes of an image is that image after it, behind words that are 0.
 abbrev pub TableIsCollected : Type 0
 TableIsCollected = (c : Config) (image table : List ℕ) → length image ≡ image_words c → length table ≡ table_words c → CanCollectSome c (image_view c image)
     → view c table ≡ collected c (image_view c image) → table ≡ replicate (image_start c) 0 ++ collect_image c image
+
+-- Beginning and ending marking, and collecting in full where a mutator waits, is what a pause owes: it keeps the graph, answers each
+-- mutator that asks, and refuses an object only where the heap is crowded.
+abbrev pub CollectIsPause : Type 0
+CollectIsPause = IsPause collect_image

@@ -1,14 +1,16 @@
 -- What the steps of recording and of scanning owe.
 use Rattle.std.specs.Prelude.{ℕ, ◌≡◌, ◌≢◌, ◌<◌, ◌==◌, false, if◌then◌else◌, Some, None}
 use Rattle.heap_words.specs.declared.config.Config.{Config}
+use Rattle.heap_words.specs.Ranges.{seat_count}
 use Rattle.heap_words.specs.Words.{Phase, IsWord}
 use Rattle.heap_world.specs.World.{World, hand, with_recording, IsMarkable, NotedIn, Shared}
 use Rattle.heap_world.specs.Rely.{Keeps, Rely}
 use Rattle.heap_world.specs.Part.{PartStep}
 use Rattle.satb_barrier.specs.declared.spot.RememberSpot.{RememberSpot}
-use Rattle.satb_barrier.specs.declared.spot.RememberSpot.TheVariants.{LoadCount, Recorded}
+use Rattle.satb_barrier.specs.declared.spot.RememberSpot.TheVariants.{LoadCount}
 use Rattle.satb_barrier.specs.Rows as remember
 use Rattle.scan_steps.specs.declared.spot.ScanSpot.{ScanSpot}
+use Rattle.scan_steps.specs.declared.spot.ScanSpot.TheVariants.{LoadClaim}
 use Rattle.scan_steps.specs.Rows as scan
 use Rattle.scan_steps.specs.Seen as seen
 use Rattle.mark_steps.specs.Recording.{CanRecord}
@@ -47,6 +49,7 @@ ScanStep c u seat at = PartStep c u seat (scan.touch_at c at) (λ w. CanScan c w
 
 -- A machine that scans makes grey what the fields of black objects name.
 pub record ScanningSteps : Type 0 where
+  pub begins : (c : Config) (u : World) (seat : ℕ) → seat < seat_count c.mutators c.helpers → u.memory Phase ≡ 1 → u.ghost.scanning seat ≡ None → ((a words : ℕ) → u.block a ≡ Some (hand seat words) → ⊥) → CanScan c u seat LoadClaim
   pub each : (c : Config) (u : World) (seat : ℕ) (at : ScanSpot) → scan.is_ended at ≡ false → Shared c u → CanScan c u seat at → ScanStep c u seat at
   pub stays : (c : Config) (u w : World) (seat : ℕ) (at : ScanSpot) → Rely c seat u w → CanScan c u seat at → CanScan c w seat at
   pub fits : (c : Config) (u : World) (seat : ℕ) (at : ScanSpot) → scan.is_ended at ≡ false → Shared c u → CanScan c u seat at → seen.IsFit c at (u.memory (scan.touch_at c at).word)

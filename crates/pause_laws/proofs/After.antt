@@ -1,19 +1,28 @@
 -- Words that stand for a graph with promised objects represent it: the promised objects are no objects of the graph any more.
-use Rattle.std.proofs.Common.{◌≡◌, ◌≢◌, ℕ, ◌+◌, ◌-◌, ◌<◌, Bool, true, false, slice_get, Some, None, ⊎_elim, refl, sym, ap, ◌∙◌, arith}
+use Rattle.std.proofs.Common.{zero, suc, length, replicate, subst, ◌≡◌, ◌≢◌, ℕ, ◌+◌, ◌-◌, ◌<◌, Bool, true, false, slice_get, Some, None, ⊎_elim, refl, sym, ap, ◌∙◌, arith}
 use Rattle.std.specs.Prelude.{if◌then◌else◌}
 use Rattle.std.proofs.lemmas.Bool.{cond-true, cond-false, cases_Bool}
+use Rattle.std.proofs.lemmas.List.{length-replicate}
 use Rattle.std.proofs.lemmas.Option.{none-some, same_Some}
 use Rattle.heap_words.specs.declared.config.Config.{Config}
 use Rattle.heap_words.specs.Words.{Word, Free, Top, Root, Heap}
 use Rattle.shen_graph.specs.declared.name.Name.{Name}
 use Rattle.shen_graph.specs.Graph.{Graph, Object, Reference, blank, fresh, same_reference}
-use Rattle.heap_world.specs.World.{Block, thing, hand, promised, filler, no_ghost, words_of, Plot, name_at, Points, IsGiven, AreObjects, SharedFacts}
+use Rattle.shen_graph.proofs.PlainLemmas.{same_name-itself}
+use Rattle.heap_world.specs.World.{Block, thing, hand, promised, filler, no_ghost, words_of, Plot, name_at, Points, IsGiven, IsThing, AreObjects, IsBlank, SharedFacts}
 use Rattle.heap_world.proofs.Pointing.{named_thing}
-use Rattle.heap_world.proofs.Keeping.{none_collects}
+use Rattle.heap_world.proofs.Keeping.{none_copies}
+use Rattle.heap_world.proofs.Unmarked.{none_marked}
 use Rattle.image_laws.specs.Promised.{Promises, with_promised}
 use Rattle.image_laws.specs.Image.{ImageStands}
 use Rattle.image_laws.proofs.Promised.{same_reference-true}
 use Rattle.pause_laws.proofs.Mapped.{mapped, mapped_at, mapped_from, plotted_alike, filled_alike}
+
+-- an element of a list of equal ones
+pub replicate_at : {A : Type 0} (n i : ℕ) (x : A) → i < n → slice_get (replicate n x) i ≡ Some x
+replicate_at zero i x below = absurd (omega (arith, below))
+replicate_at (suc n) zero x below = refl
+replicate_at (suc n) (suc i) x below = replicate_at n i x (omega (arith, below))
 
 -- whether a name is that of a promised object
 abbrev pub is_promised : Promises → Name → Bool
@@ -187,10 +196,37 @@ module _ (c : Config) (m : Word → ℕ) (block : Plot) (g : Graph) (p : Promise
         stands.objects.once a b refs nums more_refs more_nums n (left a refs nums n is_a).0 (left b more_refs more_nums n is_b).0;
   }
 
+  -- a promised piece is a new object
+  blank_of : (a refs nums more less : ℕ) (n : Name) (o : Object) → IsThing heap block a refs nums n o → o ≡ blank more less → IsBlank heap a (3 + refs + nums)
+  blank_of a refs nums more less n o is same =
+      let null : Reference = None in
+      let long : more ≡ refs = sym (length-replicate more null) ∙ ap (λ (x : Object). length x.refs) (sym same) ∙ is.refs_are in
+      record {
+        refs = refs;
+        nums = nums;
+        long = refl;
+        few_refs = is.few_refs;
+        few_nums = is.few_nums;
+        shape = is.shape;
+        nulls = λ i below.
+            is.references i null (ap (λ (x : Object). slice_get x.refs i) same ∙ replicate_at more i null (omega (arith, below, long)));
+      }
+
+  blank_at : (a seat words : ℕ) → taken a ≡ Some (promised seat words) → IsBlank heap a words
+  blank_at a seat words is =
+      let x = gone a seat words is in
+      let o = stands.objects.each a x.refs x.nums x.name x.here in
+      let test : is_promised p x.name ≡ true = ap (λ k. same_reference k (Some x.name)) x.named ∙ same_name-itself x.name in
+      let new : Some o.0 ≡ Some (blank (p.refs x.name.thread) (p.nums x.name.thread)) =
+      sym o.1 ∙ cond-true (is_promised p x.name) (Some (blank (p.refs x.name.thread) (p.nums x.name.thread))) (g.object x.name) test in
+      subst (IsBlank heap a) x.words_are
+      (blank_of a x.refs x.nums (p.refs x.name.thread) (p.nums x.name.thread) x.name o.0 o.2 (same_Some o.0 (blank (p.refs x.name.thread) (p.nums x.name.thread)) new))
+
   -- what all machines share holds, where nothing is collected and no seat has a region
-  pub shared_facts : (phase cset evac : ℕ) (current : ℕ → ℕ) → phase ≡ 0 → cset ≡ 0 → evac ≡ 0 → ((seat : ℕ) → current seat ≡ 0)
-      → SharedFacts c (λ q. m (Top q)) heap taken no_ghost g.object g.count phase cset evac (m Free) current
-  shared_facts phase cset evac current no_phase no_cset no_evac none = record {
+  pub shared_facts : (phase cset evac : ℕ) (current grey black entries : ℕ → ℕ) (buffer : ℕ → ℕ → ℕ) (tams : ℕ → ℕ)
+      → phase ≡ 0 → cset ≡ 0 → evac ≡ 0 → ((seat : ℕ) → current seat ≡ 0)
+      → SharedFacts c (λ q. m (Top q)) heap taken no_ghost g.object g.count phase cset evac (m Free) current grey black entries buffer tams
+  shared_facts phase cset evac current grey black entries buffer tams no_phase no_cset no_evac none = record {
     parsable = record {
       plotted = plotted_alike c (λ q. m (Top q)) block (as_promised p) same_words stands.plotted;
       filled = filled_alike c (λ q. m (Top q)) block (as_promised p) same_words stands.filled;
@@ -206,9 +242,10 @@ module _ (c : Config) (m : Word → ℕ) (block : Plot) (g : Graph) (p : Promise
       };
       rooms = λ a seat words is. absurd (no_hands a seat words is);
     };
-    calm = record { phase_is = no_phase; cset_is = no_cset; evac_is = no_evac };
-    uncollected = none_collects;
-    unfilled = no_fillers;
+    calm = record { phase_is = omega (arith, no_phase); cset_is = no_cset; evac_is = no_evac };
+    uncopied = none_copies;
+    unwritten = record { blanks = blank_at; headers = λ a words is. absurd (no_fillers a words is) };
+    marked = none_marked c phase grey black entries buffer (λ q. m (Top q)) tams heap taken no_ghost.recording no_ghost.scanning no_phase;
   }
 
   pub roots_left : (t i : ℕ) → t < c.mutators → i < 16 → Points taken (m (Root t i)) (g.root (t + 1) i)

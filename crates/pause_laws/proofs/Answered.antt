@@ -3,7 +3,7 @@ use Rattle.std.proofs.Common.{◌≡◌, ◌≢◌, ℕ, ◌+◌, ◌<◌, ◌�
 use Rattle.std.proofs.lemmas.Bool.{cond-true, cond-false, cases_eq, eq-eqb, ne_eqb}
 use Rattle.std.proofs.lemmas.Option.{none-some}
 use Rattle.heap_words.specs.declared.config.Config.{Config}
-use Rattle.heap_words.specs.Words.{Word, Phase, Cset, Evac, Current, Wait, Answer}
+use Rattle.heap_words.specs.Words.{Word, Phase, Cset, Evac, Tams, Current, Count, Buffer, Wait, Answer, Grey, Black}
 use Rattle.heap_words.specs.Encoding.{request_shape_in, refs_in, nums_in}
 use Rattle.shen_graph.specs.Graph.{Graph, fresh}
 use Rattle.heap_world.specs.World.{no_ghost}
@@ -30,6 +30,16 @@ is_answer (asks refs nums) answer = ⊎_elim
     (cases_eq answer 1)
 is_answer refused answer = tt
 is_answer (given refs nums) answer = (refl, refl)
+
+-- and asks no more
+nobody_asks : (x : Asking) (answer refs nums : ℕ) → then_of x answer ≡ asks refs nums → ⊥
+nobody_asks nothing answer refs nums is = cc
+nobody_asks (asks more less) answer refs nums is = ⊎_elim
+    (λ (one : answer ≡ 1). let answered : refused ≡ asks refs nums = sym (cond-true (answer == 1) refused (given more less) (eq-eqb answer 1 one)) ∙ is in cc)
+    (λ (other : answer ≢ 1). let answered : given more less ≡ asks refs nums = sym (cond-false (answer == 1) refused (given more less) (ne_eqb answer 1 other)) ∙ is in cc)
+    (cases_eq answer 1)
+nobody_asks refused answer refs nums is = cc
+nobody_asks (given more less) answer refs nums is = cc
 
 module _ (c : Config) (m : Word → ℕ) (g : Graph) (asking : ℕ → Asking) (r : Represents c m g asking) where
   abbrev p : Promises
@@ -110,7 +120,7 @@ module _ (c : Config) (m : Word → ℕ) (g : Graph) (asking : ℕ → Asking) (
         block = plot_then c m g asking r;
         ghost = no_ghost;
         shared = shared_facts c (full c m) (plot c m g asking r) g q facts (full c m Phase) (full c m Cset) (full c m Evac) (λ s. full c m (Current s))
-            (full_phase c m) (full_cset c m) (full_evac c m) (full_current c m);
+            (λ n. full c m (Grey n)) (λ n. full c m (Black n)) (λ t. full c m (Count t)) (λ t k. full c m (Buffer t k)) (λ q. full c m (Tams q)) (full_phase c m) (full_cset c m) (full_evac c m) (full_current c m);
         roots = roots_left c (full c m) (plot c m g asking r) g q facts;
         none = no_hands c (full c m) (plot c m g asking r) g q facts;
         asked = λ t inside. asked_by t (asking t) inside refl (r.asked t inside);
@@ -118,5 +128,7 @@ module _ (c : Config) (m : Word → ℕ) (g : Graph) (asking : ℕ → Asking) (
             let x = gone c (full c m) (plot c m g asking r) g q facts a seat words is in
             let at = facts.stands.rooted.no_more_promised x.name.thread x.name x.named in
             omega (arith, x.seat_is, at.1, at.2);
+        heard = λ t refs nums inside is. absurd (nobody_asks (asking t) (full c m (Answer t)) refs nums is);
+        unmarking = record { records_none = λ t inside. refl; scans_none = λ seat inside. refl };
         no_more = r.no_more;
       }

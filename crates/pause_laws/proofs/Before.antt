@@ -1,4 +1,4 @@
--- The words of an image before a pause: promised objects are objects of a larger graph, and the words stand for it.
+-- The words of an image before a pause: promised objects are objects of a larger graph, and the words hold it.
 use Rattle.std.proofs.Common.{◌≡◌, ℕ, ◌+◌, ◌-◌, ◌<◌, ◌⊎◌, ◌&&◌, inl, inr, true, false, nat_le, nat_lt, slice_get, Option, Some, ⊎_elim, refl, sym, ap, ◌∙◌, subst, arith}
 use Rattle.std.proofs.lemmas.Bool.{cond-true, cond-false, cases_Bool, and_parts, leb-true, ltb-true}
 use Rattle.std.proofs.lemmas.Option.{none-some, same_Some}
@@ -9,7 +9,7 @@ use Rattle.shen_graph.specs.Graph.{Graph, Object, blank, fresh, same_reference}
 use Rattle.shen_graph.specs.Reach.{IsReachable}
 use Rattle.shen_graph.specs.Reach as reach
 use Rattle.shen_graph.proofs.PlainLemmas.{same_name-itself}
-use Rattle.heap_world.specs.World.{Block, thing, hand, promised, filler, words_of, Plot, name_at, Points, IsThing, AreObjects}
+use Rattle.heap_world.specs.World.{Block, thing, hand, promised, filler, words_of, Plot, name_at, Points, IsPlotted, IsFilled, IsThing, AreObjects}
 use Rattle.heap_world.specs.Asking.{Asking, nothing, asks, refused, given, IsPromise, IsAsked}
 use Rattle.heap_world.specs.Represents.{Represents}
 use Rattle.heap_world.specs.Roots.{is_root_of}
@@ -17,11 +17,13 @@ use Rattle.heap_world.proofs.Pointing.{named_thing}
 use Rattle.heap_world.proofs.Pieces.{object_reads}
 use Rattle.heap_world.proofs.Keeping.{points_stay}
 use Rattle.heap_world.proofs.NewObject.{new_object}
-use Rattle.image_laws.specs.Plot.{AreThings}
+use Rattle.image_laws.specs.Held.{IsAmong, HoldsGraph}
+use Rattle.image_laws.specs.Full.{now_in, root_words}
 use Rattle.image_laws.specs.Promised.{Promises, with_promised}
-use Rattle.image_laws.specs.Image.{AnswerStands, RootsStand, ImageStands}
+use Rattle.image_laws.specs.Image.{AnswerStands, RootsStand}
 use Rattle.image_laws.proofs.Promised.{same_reference-true}
 use Rattle.image_laws.proofs.Reached.{named_object}
+use Rattle.image_laws.proofs.Standing.{objects_hold}
 use Rattle.pause_laws.proofs.Promises.{promised_ref, promised_refs, promised_nums, promises_of, ref_of, refs_of, nums_of, promised_one}
 use Rattle.pause_laws.proofs.Mapped.{mapped, mapped_at, mapped_from, plotted_alike, filled_alike}
 
@@ -56,8 +58,8 @@ module _ (c : Config) (m : Word → ℕ) (g : Graph) (asking : ℕ → Asking) (
   abbrev p : Promises
   p = promises_of c g asking
 
-  abbrev pub plain : Plot
-  plain = mapped (as_object g asking) r.block
+  abbrev pub live : Plot
+  live = mapped (as_object g asking) r.block
 
   -- what was promised was given
   by_asking : (a seat words : ℕ) (x : Asking) → asking seat ≡ x → IsAsked m r.block g.count seat x → r.block a ≡ Some (promised seat words) → IsPromisedAt c m r.block g asking a seat words
@@ -92,7 +94,7 @@ module _ (c : Config) (m : Word → ℕ) (g : Graph) (asking : ℕ → Asking) (
       omega (arith, refs, nums, at.long)
 
   -- objects stand where they stood
-  pub names_stay : (a : ℕ) (n : Name) → name_at (r.block a) ≡ Some n → name_at (plain a) ≡ Some n
+  pub names_stay : (a : ℕ) (n : Name) → name_at (r.block a) ≡ Some n → name_at (live a) ≡ Some n
   names_stay a n is = let was = named_thing (r.block a) n is in ap name_at (mapped_at (as_object g asking) r.block a (thing n was.0 was.1) was.2)
 
   -- a name that has an object is no thread's next one
@@ -129,16 +131,16 @@ module _ (c : Config) (m : Word → ℕ) (g : Graph) (asking : ℕ → Asking) (
       ∙ ap (λ k. Some (blank k (p.nums (t + 1)))) sizes ∙ ap (λ k. Some (blank refs k)) more
 
   -- each piece is an object of the larger graph
-  object_at : (a : ℕ) (b : Block) → r.block a ≡ Some b → ObjectAt heap plain (with_promised g p).object a (as_object g asking b)
+  object_at : (a : ℕ) (b : Block) → r.block a ≡ Some b → ObjectAt heap live (with_promised g p).object a (as_object g asking b)
   object_at a (thing name refs nums) is =
       let o = r.shared.contents.objects.each a refs nums name is in
-      (o.0, larger_object name o.0 o.1, object_reads heap heap r.block plain a refs nums name o.0 (λ k below. refl) names_stay o.2)
+      (o.0, larger_object name o.0 o.1, object_reads heap heap r.block live a refs nums name o.0 (λ k below. refl) names_stay o.2)
   object_at a (hand seat words) is = tt
   object_at a (filler words) is = tt
   object_at a (promised seat words) is =
       let at = promised_at a seat words is in
-      let made = new_object heap plain a seat (g.count (seat + 1)) at.refs at.nums at.promise.few_refs at.promise.few_nums at.promise.words in
-      subst (λ (x : Asking). ObjectAt heap plain (with_promised g p).object a (thing (fresh g (seat + 1)) (promised_refs x) (promised_nums x))) (sym at.is_given)
+      let made = new_object heap live a seat (g.count (seat + 1)) at.refs at.nums at.promise.few_refs at.promise.few_nums at.promise.words in
+      subst (λ (x : Asking). ObjectAt heap live (with_promised g p).object a (thing (fresh g (seat + 1)) (promised_refs x) (promised_nums x))) (sym at.is_given)
       (blank at.refs at.nums, promised_object seat at.refs at.nums at.inside at.is_given, made)
 
   -- an object of the larger graph was an object or a promised one
@@ -146,10 +148,10 @@ module _ (c : Config) (m : Word → ℕ) (g : Graph) (asking : ℕ → Asking) (
       → (r.block a ≡ Some (thing name refs nums)) ⊎ ((seat : ℕ) × (words : ℕ) × (r.block a ≡ Some (promised seat words)) × (name ≡ fresh g (seat + 1)))
   kind_of a refs nums name (thing n more_refs more_nums) is same = inl (is ∙ ap Some same)
   kind_of a refs nums name (hand seat words) is same = absurd (r.none a seat words is)
-  kind_of a refs nums name (filler words) is same = absurd (r.shared.unfilled a words is)
+  kind_of a refs nums name (filler words) is same = cc
   kind_of a refs nums name (promised seat words) is same = inr (seat, words, is, sym (same_Some (fresh g (seat + 1)) name (ap (λ b. name_at (Some b)) same)))
 
-  pub kind_at : (a refs nums : ℕ) (name : Name) → plain a ≡ Some (thing name refs nums)
+  pub kind_at : (a refs nums : ℕ) (name : Name) → live a ≡ Some (thing name refs nums)
       → (r.block a ≡ Some (thing name refs nums)) ⊎ ((seat : ℕ) × (words : ℕ) × (r.block a ≡ Some (promised seat words)) × (name ≡ fresh g (seat + 1)))
   kind_at a refs nums name is =
       let was = mapped_from (as_object g asking) r.block a (thing name refs nums) is in
@@ -160,7 +162,7 @@ module _ (c : Config) (m : Word → ℕ) (g : Graph) (asking : ℕ → Asking) (
   names_differ a refs nums seat name is next = let o = r.shared.contents.objects.each a refs nums name is in not_next name o.0 seat o.1 next
 
   -- no two have one name
-  once_each : (a b refs nums more_refs more_nums : ℕ) (name : Name) → plain a ≡ Some (thing name refs nums) → plain b ≡ Some (thing name more_refs more_nums) → a ≡ b
+  once_each : (a b refs nums more_refs more_nums : ℕ) (name : Name) → live a ≡ Some (thing name refs nums) → live b ≡ Some (thing name more_refs more_nums) → a ≡ b
   once_each a b refs nums more_refs more_nums name is_a is_b = ⊎_elim
       (λ (old_a : r.block a ≡ Some (thing name refs nums)). ⊎_elim
       (λ (old_b : r.block b ≡ Some (thing name more_refs more_nums)). r.shared.contents.objects.once a b refs nums more_refs more_nums name old_a old_b)
@@ -174,39 +176,26 @@ module _ (c : Config) (m : Word → ℕ) (g : Graph) (asking : ℕ → Asking) (
       (kind_at b more_refs more_nums name is_b))
       (kind_at a refs nums name is_a)
 
-  objects_plain : AreObjects heap plain (with_promised g p).object
-  objects_plain = record {
+  pub live_objects : AreObjects heap live (with_promised g p).object
+  live_objects = record {
     each = λ a refs nums name is.
         let was = mapped_from (as_object g asking) r.block a (thing name refs nums) is in
-        subst (ObjectAt heap plain (with_promised g p).object a) was.2 (object_at a was.0 was.1);
+        subst (ObjectAt heap live (with_promised g p).object a) was.2 (object_at a was.0 was.1);
     once = once_each;
   }
 
-  -- each piece is an object
-  has_name : (a : ℕ) (b : Block) → r.block a ≡ Some b → (name : Name) × (name_at (Some (as_object g asking b)) ≡ Some name)
-  has_name a (thing name refs nums) is = (name, refl)
-  has_name a (hand seat words) is = absurd (r.none a seat words is)
-  has_name a (filler words) is = absurd (r.shared.unfilled a words is)
-  has_name a (promised seat words) is = (fresh g (seat + 1), refl)
-
-  things_plain : AreThings plain
-  things_plain a b is =
-      let was = mapped_from (as_object g asking) r.block a b is in
-      let named = has_name a was.0 was.1 in
-      (named.0, ap (λ x. name_at (Some x)) (sym was.2) ∙ named.1)
-
   -- an answer stands for what was promised
-  answer_of : (t : ℕ) (x : Asking) → asking t ≡ x → IsAsked m r.block g.count t x → AnswerStands plain (m (Answer t)) (promised_ref g (t + 1) x)
+  answer_of : (t : ℕ) (x : Asking) → asking t ≡ x → IsAsked m r.block g.count t x → AnswerStands live (m (Answer t)) (promised_ref g (t + 1) x)
   answer_of t nothing is asked = inl (omega (arith, asked.1), refl)
   answer_of t (asks refs nums) is asked = inl (omega (arith, asked.1), refl)
   answer_of t refused is asked = inl (omega (arith, asked.1), refl)
   answer_of t (given refs nums) is asked =
       inr (asked.1, fresh g (t + 1), refl, ap name_at (mapped_at (as_object g asking) r.block (m (Answer t)) (promised t (3 + refs + nums)) asked.2.here))
 
-  pub rooted_plain : RootsStand c m plain g p
-  rooted_plain = record {
-    roots = λ t i inside few. points_stay r.block plain names_stay (m (Root t i)) (g.root (t + 1) i) (r.roots t i inside few);
-    answers = λ t inside. subst (AnswerStands plain (m (Answer t))) (sym (ref_of c g asking t inside)) (answer_of t (asking t) refl (r.asked t inside));
+  pub live_rooted : RootsStand c m live g p
+  live_rooted = record {
+    roots = λ t i inside few. points_stay r.block live names_stay (m (Root t i)) (g.root (t + 1) i) (r.roots t i inside few);
+    answers = λ t inside. subst (AnswerStands live (m (Answer t))) (sym (ref_of c g asking t inside)) (answer_of t (asking t) refl (r.asked t inside));
     no_more_roots = λ t i name is. ⊎_elim
         (λ (yes : is_root_of c.mutators t i ≡ true).
         let one = and_parts (nat_le 1 t) (nat_le t c.mutators && nat_lt i 16) yes in
@@ -219,25 +208,20 @@ module _ (c : Config) (m : Word → ℕ) (g : Graph) (asking : ℕ → Asking) (
     no_more_promised = λ t name is. let one = promised_one c g asking t name is in (one.0, one.1, one.2);
   }
 
-  -- so the words stand for the graph with the promised objects
-  pub plain_stands : ImageStands c m plain g p
-  plain_stands = record {
-    plotted = plotted_alike c (λ q. m (Top q)) r.block (as_object g asking) same_words r.shared.parsable.plotted;
-    filled = filled_alike c (λ q. m (Top q)) r.block (as_object g asking) same_words r.shared.parsable.filled;
-    objects = objects_plain;
-    things = things_plain;
-    free_word = record {
-      no_more = r.shared.owned.free_word.no_more;
-      empty = r.shared.owned.free_word.empty;
-      nobodys = λ q below member. refl;
-    };
-    rooted = rooted_plain;
-  }
+  pub live_plotted : IsPlotted c (λ q. m (Top q)) live
+  live_plotted = plotted_alike c (λ q. m (Top q)) r.block (as_object g asking) same_words r.shared.parsable.plotted
+
+  pub live_filled : IsFilled c (λ q. m (Top q)) live
+  live_filled = filled_alike c (λ q. m (Top q)) r.block (as_object g asking) same_words r.shared.parsable.filled
+
+  -- so the words hold the graph with the promised objects
+  pub live_holds : HoldsGraph c (λ q. m (Top q)) heap live (now_in m) (IsAmong (root_words c m)) (with_promised g p)
+  live_holds = objects_hold c m live g p live_plotted live_objects live_rooted
 
   -- An object that the graph reaches has an address.
   pub reached_at : (n : Name) → IsReachable g n → (a : ℕ) × (refs : ℕ) × (nums : ℕ) × (r.block a ≡ Some (thing n refs nums))
   reached_at n (reach.from_root t i _ is) =
-      let at = rooted_plain.no_more_roots t i n is in
+      let at = live_rooted.no_more_roots t i n is in
       let points : name_at (r.block (m (Root at.0 i))) ≡ Some n =
       subst (Points r.block (m (Root at.0 i))) (ap (λ k. g.root k i) (sym at.2) ∙ is) (r.roots at.0 i at.1 at.3) in
       let piece = named_thing (r.block (m (Root at.0 i))) n points in

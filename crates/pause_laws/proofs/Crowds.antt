@@ -19,7 +19,7 @@ use Rattle.image_laws.specs.Served.{tops_at_turn, given_in}
 use Rattle.image_laws.proofs.Served.{tops_are_served, requests_are_answered}
 use Rattle.image_laws.proofs.Crowded.{full_is_crowded}
 use Rattle.pause_laws.proofs.Promises.{promised_ref, promised_refs, promised_nums, promises_of, ref_of, refs_of, nums_of}
-use Rattle.pause_laws.proofs.Before.{plain}
+use Rattle.pause_laws.proofs.Dead.{plain}
 use Rattle.pause_laws.proofs.Holding.{request_reads, waits_for, are_fresh, holds_by}
 use Rattle.image_laws.proofs.Still.{packed_wait}
 use Rattle.pause_laws.proofs.Paused.{then_of, asked_then}

@@ -11,10 +11,10 @@ use Rattle.heap_world.specs.Asking.{Asking, nothing, asks, refused, given, IsReq
 use Rattle.heap_world.specs.Represents.{Represents}
 use Rattle.image_laws.specs.Promised.{Promises, AreFresh}
 use Rattle.image_laws.specs.Serving.{asked_shape, asked_name, IsAsking}
-use Rattle.image_laws.proofs.Standing.{standing_holds}
 use Rattle.image_graph.specs.Holds.{HoldsBy, HoldsSome}
 use Rattle.pause_laws.proofs.Promises.{promised_ref, promises_of, ref_of, promised_one}
-use Rattle.pause_laws.proofs.Before.{plain, not_next, plain_stands, reached_at}
+use Rattle.pause_laws.proofs.Before.{not_next, reached_at}
+use Rattle.pause_laws.proofs.Dead.{plain, plain_headers, plain_rooted, plain_holds, plain_filled, plain_things}
 
 -- A request reads as what it was made of.
 pub record ReadsAs (memory : Word → ℕ) (t count refs nums : ℕ) : Type 0 where
@@ -112,26 +112,22 @@ module _ (c : Config) (m : Word → ℕ) (g : Graph) (asking : ℕ → Asking) (
 
   -- so the image holds the graph
   pub holds_by : HoldsBy c m (plain c m g asking r) r.ghost.owner p g
-  holds_by =
-      let stands = plain_stands c m g asking r in
-      record {
-        objects = standing_holds c m (plain c m g asking r) g p stands;
-        rooted = stands.rooted;
-        moved = λ a refs nums name is forwarded.
-            let object = stands.objects.each a refs nums name is in
-            absurd (true≢false (sym forwarded ∙ ap is_forwarded object.2.header));
-        filled = stands.filled;
-        things = stands.things;
-        free_word = r.shared.owned.free_word;
-        currents = r.shared.owned.currents;
-        asking = λ t from inside waits. are_asking t inside waits;
-        next = record {
-          asked = λ t inside waits. let asked = who_waits t inside waits in (request_reads m g.count t asked.refs asked.nums asked.request).counted;
-          promised = λ t name is. (promised_one c g asking t name is).4;
-          given = r.shared.contents.given;
-        };
-        unreached = are_fresh;
-      }
+  holds_by = record {
+    objects = plain_holds c m g asking r;
+    rooted = plain_rooted c m g asking r;
+    moved = λ a refs nums name is forwarded. absurd (true≢false (sym forwarded ∙ ap is_forwarded (plain_headers c m g asking r a refs nums name is)));
+    filled = plain_filled c m g asking r;
+    things = plain_things c m g asking r;
+    free_word = r.shared.owned.free_word;
+    currents = r.shared.owned.currents;
+    asking = λ t from inside waits. are_asking t inside waits;
+    next = record {
+      asked = λ t inside waits. let asked = who_waits t inside waits in (request_reads m g.count t asked.refs asked.nums asked.request).counted;
+      promised = λ t name is. (promised_one c g asking t name is).4;
+      given = r.shared.contents.given;
+    };
+    unreached = are_fresh;
+  }
 
   pub holds_some : HoldsSome c m
   holds_some = ∣ (g, (plain c m g asking r, r.ghost.owner, p, holds_by)) ∣₁

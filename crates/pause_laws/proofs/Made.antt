@@ -1,5 +1,5 @@
 -- An answer that is an address is that of the object that was promised, and one that is none promises nothing.
-use Rattle.std.proofs.Common.{◌≡◌, ℕ, ◌+◌, ◌-◌, ◌<◌, ◌≤◌, zero, suc, true, length, replicate, slice_get, Some, None, ⊎_elim, refl, sym, ap, ◌∙◌, subst, arith}
+use Rattle.std.proofs.Common.{◌≡◌, ℕ, ◌+◌, ◌-◌, ◌<◌, ◌≤◌, true, length, Some, None, ⊎_elim, refl, sym, ap, ◌∙◌, subst, arith}
 use Rattle.std.proofs.lemmas.Bool.{cond-true, cases_lt}
 use Rattle.std.proofs.lemmas.Bool.Decides.{nat_tests}
 use Rattle.std.proofs.lemmas.List.{length-replicate}
@@ -15,13 +15,7 @@ use Rattle.heap_world.specs.Asking.{HasNoPromise, IsPromise}
 use Rattle.heap_world.proofs.Pointing.{named_thing}
 use Rattle.image_laws.specs.Promised.{Promises, with_promised}
 use Rattle.pause_laws.proofs.Mapped.{mapped_at}
-use Rattle.pause_laws.proofs.After.{is_promised, as_promised, IsAfter, IsPromisedThing, taken, gone}
-
--- an element of a list of equal ones
-replicate_at : {A : Type 0} (n i : ℕ) (x : A) → i < n → slice_get (replicate n x) i ≡ Some x
-replicate_at zero i x below = absurd (omega (arith, below))
-replicate_at (suc n) zero x below = refl
-replicate_at (suc n) (suc i) x below = replicate_at n i x (omega (arith, below))
+use Rattle.pause_laws.proofs.After.{is_promised, as_promised, IsAfter, IsPromisedThing, replicate_at, taken, gone}
 
 -- the words of a blank object are those of a new one
 blank_words : (heap : ℕ → ℕ) (block : Plot) (a t made refs nums : ℕ) (n : Name) → n ≡ record { thread = t + 1; count = made + 1 } → IsThing heap block a refs nums n (blank refs nums)

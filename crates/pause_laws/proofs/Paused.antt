@@ -16,7 +16,7 @@ use Rattle.heap_world.specs.World.{thing, promised, Plot, name_at}
 use Rattle.heap_world.specs.Asking.{Asking, nothing, asks, refused, given}
 use Rattle.heap_world.specs.Represents.{Represents}
 use Rattle.heap_world.proofs.Pointing.{named_thing}
-use Rattle.image_laws.specs.Held.{IsAmong}
+use Rattle.image_laws.specs.Held.{IsHeld, IsAmong, AreKept}
 use Rattle.image_laws.specs.Pack.{CanPack}
 use Rattle.image_laws.specs.Plot.{packed_block}
 use Rattle.image_laws.specs.Full.{packed_in, now_in, root_words, kept_in, asked_in, packed, full}
@@ -30,7 +30,8 @@ use Rattle.image_laws.proofs.Served.{requests_are_answered}
 use Rattle.image_laws.proofs.Serving.{full_stands}
 use Rattle.image_laws.proofs.Walked.{walk_keeps}
 use Rattle.pause_laws.proofs.Promises.{promises_of, promised_one}
-use Rattle.pause_laws.proofs.Before.{plain, not_next, kind_at, reached_at}
+use Rattle.pause_laws.proofs.Before.{not_next, kind_at, reached_at}
+use Rattle.pause_laws.proofs.Dead.{plain, held_live}
 use Rattle.pause_laws.proofs.Holding.{next_asked, holds_by}
 use Rattle.image_laws.proofs.Turned.{SamePromise, IsPromisedAsAsked, promise_after, piece_after}
 use Rattle.pause_laws.proofs.After.{IsKnown, IsAfter, taken}
@@ -88,12 +89,14 @@ module _ (c : Config) (m : Word → ℕ) (g : Graph) (asking : ℕ → Asking) (
       sym (same_Some (asked_name after at.0) n (sym new.ref ∙ own)) ∙ asked_next at.0 at.1 new.waits ∙ ap (fresh g) (sym at.2))
       (promise_after c after p at.0 c.mutators)
 
+  kept_are : AreKept (λ a. m (Heap a)) (IsHeld (now_in m) (λ a. m (Heap a)) (IsAmong (root_words c m))) kept
+  kept_are = walk_keeps c m (plain c m g asking r) (with_promised g p) (holds_by c m g asking r).objects
+
   -- an object that has a piece then had one before
   can : CanPack c (λ s. m (Top s)) (λ a. m (Heap a)) (plain c m g asking r) (with_promised g p).object (now_in m) kept
   can =
       let holds = holds_by c m g asking r in
-      can_pack c (λ s. m (Top s)) (λ a. m (Heap a)) (plain c m g asking r) (now_in m) (IsAmong (root_words c m)) (with_promised g p) holds.objects kept
-      (walk_keeps c m (plain c m g asking r) (with_promised g p) holds.objects)
+      can_pack c (λ s. m (Top s)) (λ a. m (Heap a)) (plain c m g asking r) (now_in m) (IsAmong (root_words c m)) (with_promised g p) holds.objects kept kept_are
 
   had_piece : (a refs nums : ℕ) (n : Name) (o : Object) → plot a ≡ Some (thing n refs nums) → g.object n ≡ Some o → (b : ℕ) × (r.block b ≡ Some (thing n refs nums))
   had_piece a refs nums n o there object = ⊎_elim
@@ -103,7 +106,7 @@ module _ (c : Config) (m : Word → ℕ) (g : Graph) (asking : ℕ → Asking) (
       (λ (is : r.block from.0 ≡ Some (thing n refs nums)). (from.0, is))
       (λ (new : (seat : ℕ) × (words : ℕ) × (r.block from.0 ≡ Some (promised seat words)) × (n ≡ fresh g (seat + 1))).
       absurd (not_next c m g asking r n o new.0 object new.3))
-      (kind_at c m g asking r from.0 refs nums n from.4))
+      (kind_at c m g asking r from.0 refs nums n (held_live c m g asking r from.0 refs nums n (kept_are.only from.0 from.1) from.4)))
       (λ (made : (t : ℕ) × (t < c.mutators) × (after (Wait t) ≢ 0) × (Some n ≡ Some (asked_name after t))).
       absurd (not_next c m g asking r n o made.0 object (same_Some n (asked_name after made.0) made.3 ∙ asked_next made.0 made.1 made.2)))
       (piece_after c after (packed_block c kept (plain c m g asking r)) c.mutators a (thing n refs nums) there)

@@ -25,8 +25,8 @@ use Rattle.image_laws.proofs.Walked.{walk_keeps}
 use Rattle.image_laws.proofs.Promised.{old_object, reaches_promised}
 use Rattle.pause_laws.proofs.Sorted.{sorted_names}
 use Rattle.pause_laws.proofs.Promises.{promises_of, promised_one}
-use Rattle.pause_laws.proofs.Before.{plain, names_stay, kind_at, names_differ, rooted_plain, reached_at}
-use Rattle.pause_laws.proofs.Holding.{are_fresh, holds_by}
+use Rattle.pause_laws.proofs.Before.{live, live_holds, live_rooted, names_stay, kind_at, names_differ, reached_at}
+use Rattle.pause_laws.proofs.Holding.{are_fresh}
 
 -- the names of the addresses of a list that have one
 abbrev with_one : Option Name → List Name → List Name
@@ -71,7 +71,7 @@ module _ (c : Config) (m : Word → ℕ) (g : Graph) (asking : ℕ → Asking) (
   more = with_promised g p
 
   abbrev block : Plot
-  block = plain c m g asking r
+  block = live c m g asking r
 
   abbrev heap : ℕ → ℕ
   heap a = m (Heap a)
@@ -80,7 +80,7 @@ module _ (c : Config) (m : Word → ℕ) (g : Graph) (asking : ℕ → Asking) (
   IsRoot = IsAmong (root_words c m)
 
   holds : HoldsGraph c (λ s. m (Top s)) heap block (now_in m) IsRoot more
-  holds = (holds_by c m g asking r).objects
+  holds = live_holds c m g asking r
 
   are : AreKept heap (IsHeld (now_in m) heap IsRoot) (kept_in c m)
   are = walk_keeps c m block more holds
@@ -88,7 +88,7 @@ module _ (c : Config) (m : Word → ℕ) (g : Graph) (asking : ℕ → Asking) (
   -- the larger graph reaches what the graph does
   reach_more : (n : Name) → IsReachable g n → IsReachable more n
   reach_more n (reach.from_root t i _ is) =
-      let at = (rooted_plain c m g asking r).no_more_roots t i n is in
+      let at = (live_rooted c m g asking r).no_more_roots t i n is in
       let few : i ≢ 16 = omega (arith, at.3) in
       reach.from_root t i n (cond-false (i == 16) (p.ref t) (g.root t i) (ne_eqb i 16 few) ∙ is)
   reach_more n (reach.from_field k _ field reached is) =
@@ -96,12 +96,12 @@ module _ (c : Config) (m : Word → ℕ) (g : Graph) (asking : ℕ → Asking) (
       (ap (λ (o : Object). slice_get o.refs field) (old_object c.mutators g p (are_fresh c m g asking r) k reached) ∙ is)
 
   -- what was found is held, and the other way round
-  found_held : (a : ℕ) → has (held_in c m) a ≡ true → IsHeld (now_in m) heap IsRoot a
+  pub found_held : (a : ℕ) → has (held_in c m) a ≡ true → IsHeld (now_in m) heap IsRoot a
   found_held a found =
       let size : kept_in c m a ≡ object_words (heap (a + 1)) = cond-true (has (held_in c m) a) (object_words (heap (a + 1))) 0 found in
       are.only a (omega (arith, size))
 
-  held_found : (a : ℕ) → IsHeld (now_in m) heap IsRoot a → has (held_in c m) a ≡ true
+  pub held_found : (a : ℕ) → IsHeld (now_in m) heap IsRoot a → has (held_in c m) a ≡ true
   held_found a held = ⊎_elim
       (λ (yes : has (held_in c m) a ≡ true). yes)
       (λ (other : has (held_in c m) a ≡ false).

@@ -1,5 +1,7 @@
 pub mod Spots
 pub mod Settling
+pub mod Marking
+pub mod Overwriting
 pub mod Naming
 pub mod Loading
 pub mod InHand
@@ -9,6 +11,7 @@ pub mod Loads
 pub mod Fields
 pub mod RootStores
 pub mod Stores
+pub mod Recording
 pub mod Ready
 pub mod Entering
 pub mod Waiting
@@ -20,6 +23,11 @@ pub mod Facts
 pub mod Ordered
 pub mod Within
 pub mod Images
+pub mod Alike
+pub mod Helpers
+pub mod Answers
+pub mod Quiet
+pub mod HelperSteps
 pub mod Outside
 pub mod Asked
 pub mod Refusing
@@ -35,9 +43,12 @@ pub mod Paused
 pub mod Adapter
 pub mod MutatorObeys
 pub mod ControlObeys
+pub mod HelperObeys
 pub mod MachinesObey
 pub mod Held
+pub mod Aims
 pub mod MutatorEvents
+pub mod HelperEvents
 pub mod ControlEvents
 pub mod Induction
 pub mod HandshakeBegins

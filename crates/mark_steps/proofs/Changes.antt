@@ -1,0 +1,169 @@
+-- What a step owes that changes only words of marking, and who records and scans what.
+use Rattle.std.proofs.Common.{◌≡◌, ◌≢◌, ℕ, ◌<◌, ◌⊎◌, ⊎_elim, Bool, true, false, Option, Some, refl, sym, ap, ◌∙◌}
+use Rattle.std.specs.Prelude.{if◌then◌else◌}
+use Rattle.std.proofs.Math.Path.{fun_ext}
+use Rattle.std.proofs.lemmas.Bool.{cases_Bool, cond-true, cond-false, false≢true}
+use Rattle.heap_words.specs.declared.config.Config.{Config}
+use Rattle.heap_words.specs.Words.{Word, Phase, Claim, Top, Tams, Count, Buffer, Grey, Black, Heap, same_word}
+use Rattle.heap_words.proofs.Stores.{same_word_true}
+use Rattle.steps_base.specs.Touch.{Touch, touch, loads, touched}
+use Rattle.mark_bits.specs.Marks.{HasMark}
+use Rattle.shen_graph.specs.declared.name.Name.{Name}
+use Rattle.heap_world.specs.World.{World, Scan, thing, with_recording, with_scanning, IsNoted, IsToScan, IsDone, AreMarks, AreEntries, KeepsSnapshot, NotedIn, Shared}
+use Rattle.heap_world.specs.Rely.{KeepsMarks, Keeps, Rely}
+use Rattle.heap_world.specs.Part.{PartStep}
+use Rattle.heap_world.proofs.Keeping.{load_keeps}
+use Rattle.heap_world.proofs.Traced.{traced_noted, traced_scanned}
+
+-- whether a word is one of marking: what is claimed, a buffer, or bits
+abbrev pub is_marking : Word → Bool
+is_marking Claim = true
+is_marking (Count mutator) = true
+is_marking (Buffer mutator entry) = true
+is_marking (Grey number) = true
+is_marking (Black number) = true
+is_marking _ = false
+
+-- a memory with the words of marking of another one
+abbrev pub with_marking : (Word → ℕ) → (Word → ℕ) → Word → ℕ
+with_marking memory marking word = if is_marking word then marking word else memory word
+
+-- other words stay where a word of marking is written
+other_stays : (memory : Word → ℕ) (t : Touch) (word : Word) → is_marking t.word ≡ true → is_marking word ≡ false → touched memory t word ≡ memory word
+other_stays memory t word is other = ⊎_elim
+    (λ (same : same_word t.word word ≡ true). absurd (false≢true (sym other ∙ ap is_marking (sym (same_word_true t.word word same)) ∙ is)))
+    (λ (differs : same_word t.word word ≡ false). cond-false (same_word t.word word) _ _ differs)
+    (cases_Bool (same_word t.word word))
+
+-- an access to a word of marking changes only words of marking
+pub marking_touched : (memory : Word → ℕ) (t : Touch) → is_marking t.word ≡ true → with_marking memory (touched memory t) ≡ touched memory t
+marking_touched memory t is = fun_ext (λ word. ⊎_elim
+    (λ (of_marking : is_marking word ≡ true). cond-true (is_marking word) _ _ of_marking)
+    (λ (other : is_marking word ≡ false). cond-false (is_marking word) _ _ other ∙ sym (other_stays memory t word is other))
+    (cases_Bool (is_marking word)))
+
+-- with its own words a memory is itself
+pub same_marking : (memory : Word → ℕ) → with_marking memory memory ≡ memory
+same_marking memory = fun_ext (λ word. ⊎_elim
+    (λ (of_marking : is_marking word ≡ true). cond-true (is_marking word) _ _ of_marking)
+    (λ (other : is_marking word ≡ false). cond-false (is_marking word) _ _ other)
+    (cases_Bool (is_marking word)))
+
+-- and so a load changes none
+pub marking_loaded : (memory : Word → ℕ) (at : Word) → with_marking memory memory ≡ touched memory (touch at loads)
+marking_loaded memory at = same_marking memory ∙ load_keeps memory at
+
+module _ (c : Config) (u : World) (seat : ℕ) (marking : Word → ℕ) (recording : ℕ → Option ℕ) (scanning : ℕ → Option Scan) where
+  -- the world after such a step
+  abbrev pub world_after : World
+  world_after = record { memory = with_marking u.memory marking; block = u.block; ghost = with_scanning (with_recording u.ghost recording) scanning; graph = u.graph }
+
+  -- What the change keeps: what is grey and what is noted stays so, each field of the snapshot that a scan has still to come to is such
+  -- a one, or done; marks and entries are objects; and what is another seat's stays as it is.
+  pub record IsMarkingStep : Type 0 where
+    pub greys : (a : ℕ) → HasMark c (λ n. u.memory (Grey n)) a → HasMark c (λ n. marking (Grey n)) a
+    pub noted : (v : ℕ) → NotedIn c u v → IsNoted c (λ n. marking (Grey n)) (λ t. marking (Count t)) (λ t k. marking (Buffer t k)) recording v
+    pub scanned : (a refs nums k : ℕ) (name : Name) → u.ghost.snapshot.block a ≡ Some (thing name refs nums) → k < refs
+        → IsToScan c (λ n. u.memory (Black n)) u.ghost.scanning a k
+        → IsToScan c (λ n. marking (Black n)) scanning a k ⊎ IsDone u.ghost.snapshot (IsNoted c (λ n. marking (Grey n)) (λ t. marking (Count t)) (λ t k. marking (Buffer t k)) recording) a k
+    pub grey_marks : AreMarks c (λ n. marking (Grey n)) u.block
+    pub black_marks : AreMarks c (λ n. marking (Black n)) u.block
+    pub entries : AreEntries c (λ t. marking (Count t)) (λ t k. marking (Buffer t k)) u.block
+    pub counts : (j : ℕ) → j ≢ seat → marking (Count j) ≡ u.memory (Count j)
+    pub buffers : (j k : ℕ) → j ≢ seat → marking (Buffer j k) ≡ u.memory (Buffer j k)
+    pub recorded : (j : ℕ) → j ≢ seat → recording j ≡ u.ghost.recording j
+    pub scans : (j : ℕ) → j ≢ seat → scanning j ≡ u.ghost.scanning j
+
+  module _ (shared : Shared c u) (step : IsMarkingStep) where
+    -- no reference of the snapshot is lost
+    snapshot_after : KeepsSnapshot c (u.memory Phase) (λ n. marking (Grey n)) (λ n. marking (Black n)) (λ t. marking (Count t)) (λ t k. marking (Buffer t k))
+        (λ r. u.memory (Top r)) (λ r. u.memory (Tams r)) (λ a. u.memory (Heap a)) u.block u.ghost.snapshot recording scanning
+    snapshot_after = record {
+      empty = shared.marked.empty;
+      traced = traced_scanned c u.ghost.snapshot (λ a. u.memory (Heap a)) (λ n. u.memory (Black n)) u.ghost.scanning
+          (IsNoted c (λ n. marking (Grey n)) (λ t. marking (Count t)) (λ t k. marking (Buffer t k)) recording) (λ n. marking (Black n)) scanning step.scanned
+          (traced_noted c u.ghost.snapshot (λ a. u.memory (Heap a)) (λ n. u.memory (Black n)) u.ghost.scanning (NotedIn c u)
+          (IsNoted c (λ n. marking (Grey n)) (λ t. marking (Count t)) (λ t k. marking (Buffer t k)) recording) step.noted shared.marked.traced);
+      led = shared.marked.led;
+      old = shared.marked.old;
+      kept = shared.marked.kept;
+      older = shared.marked.older;
+      promises = shared.marked.promises;
+      fillers = shared.marked.fillers;
+      young = shared.marked.young;
+      floors = shared.marked.floors;
+      tams_are = shared.marked.tams_are;
+      greys = λ on. step.grey_marks;
+      blacks = λ on. step.black_marks;
+      entries = λ on. step.entries;
+    }
+
+    -- machines share what they should
+    pub shared_after : Shared c world_after
+    shared_after = record {
+      parsable = shared.parsable;
+      contents = shared.contents;
+      owned = shared.owned;
+      calm = shared.calm;
+      uncopied = shared.uncopied;
+      unwritten = shared.unwritten;
+      marked = snapshot_after;
+    }
+
+    -- what holds of marking holds
+    marks_kept : KeepsMarks c u world_after
+    marks_kept = record { phase = refl; snapshot = refl; markable = λ a is. is; shapes = λ a is. refl; noted = step.noted }
+
+    -- the facts of the seat's machine stand
+    pub keeps_after : Keeps c seat u world_after
+    keeps_after = record {
+      names = λ a name is. is;
+      targets = λ a refs nums name is. is;
+      hands = λ a words is. is;
+      hand_words = λ a words k is below. refl;
+      promises = λ a words is. is;
+      no_promises = λ a words is. is;
+      promise_words = λ a words k is below. refl;
+      root_words = λ i. refl;
+      roots = λ i. refl;
+      count = refl;
+      wait = refl;
+      answer = refl;
+      marks = marks_kept;
+    }
+
+    -- others can rely on what they knew
+    pub others_after : (j : ℕ) → j ≢ seat → Rely c j u world_after
+    others_after j differs = record {
+      names = λ a name is. is;
+      targets = λ a refs nums name is. is;
+      hands = λ a words is. is;
+      no_hands = λ a words is. is;
+      hand_words = λ a words k is below. refl;
+      promises = λ a words is. is;
+      no_promises = λ a words is. is;
+      promise_words = λ a words k is below. refl;
+      current = refl;
+      owners = λ r is. is;
+      tops = λ r is. refl;
+      root_words = λ i. refl;
+      roots = λ i. refl;
+      count = refl;
+      wait = refl;
+      answer = refl;
+      state = refl;
+      cset = refl;
+      asked = λ is. is;
+      marks = record {
+        keeps = marks_kept;
+        recording = step.recorded j differs;
+        scanning = step.scans j differs;
+        entries = step.counts j differs;
+        buffer = λ k. step.buffers j k differs;
+        greys = step.greys;
+      };
+    }
+
+    -- the step owes no more
+    pub step_after : (t : Touch) (facts : World → Type 0) → with_marking u.memory marking ≡ touched u.memory t → facts world_after → PartStep c u seat t facts
+    step_after t facts memory own = record { world = world_after; memory = memory; graph = refl; shared = shared_after; own = own; keeps = keeps_after; others = others_after }

@@ -1,0 +1,7 @@
+pub mod Changes
+pub mod Marks
+pub mod Records
+pub mod Scanned
+pub mod Scans
+pub mod Parts
+pub mod Chained
