@@ -9,10 +9,8 @@ use Rattle.heap_words.specs.Words.{Word, image_start, table_words, view}
 use Rattle.heap_world.specs.Change.{image_view, image_words}
 use Rattle.image_graph.specs.declared.image.Image.{Image}
 use Rattle.image_graph.specs.State.{config_of, words_of, memory_of}
-use Rattle.image_graph.specs.Holds.{HoldsSome}
-use Rattle.image_laws.specs.Full.{full}
-use Rattle.pause_laws.specs.Image.{full_image}
-use Rattle.pause_laws.proofs.Pauses.{is_whole}
+use Rattle.mark_pauses.specs.Collect.{collected, collect_image, CanCollectSome}
+use Rattle.mark_pauses.proofs.Images.{collected_table}
 use Rattle.control.specs.Clear.{IsClear}
 use Rattle.control_steps.specs.declared.spot.ControlSpot.{ControlSpot}
 use Rattle.control_steps.specs.declared.spot.ControlSpot.TheVariants.{LoadWord, StoreWord}
@@ -33,28 +31,28 @@ drop-zeros n xs = ap (λ k. drop k (replicate n 0 ++ xs)) (sym (length-replicate
 
 pub get_or-zeros : (n : ℕ) (xs : List ℕ) (at : ℕ) → at < n → get_or (replicate n 0 ++ xs) at 0 ≡ 0
 get_or-zeros n xs at below =
-    get_or-append (replicate n 0) xs 0 at (omega (arith, length-replicate {A = ℕ} n 0)) ∙ get_or-replicate n at 0 0 below
+    get_or-append (replicate n 0) xs 0 at (omega (arith, below, length-replicate {A = ℕ} n 0)) ∙ get_or-replicate n at 0 0 below
 
-module _ (old new : Image) (clear : IsClear old) (config : config_of new ≡ config_of old) (words : memory_of new ≡ full (config_of old) (memory_of old))
-    (holds : HoldsSome (config_of old) (image_view (config_of old) (image_in old))) where
+module _ (old new : Image) (clear : IsClear old) (config : config_of new ≡ config_of old) (words : memory_of new ≡ collected (config_of old) (memory_of old)) where
   abbrev c : Config
   c = config_of old
 
-  -- all words after a full collection
-  words-full : words_of new ≡ replicate (image_start c) 0 ++ full_image c (image_in old)
-  words-full =
-      is_whole c (image_in old) (words_of new) (length-image_in old) (new.all_words ∙ ap table_words config) holds
-      (ap (λ d. view d (words_of new)) (sym config) ∙ words ∙ ap (full c) (memory-image_in old clear))
+  -- all words after a pause
+  words-collected : words_of new ≡ replicate (image_start c) 0 ++ collect_image c (image_in old)
+  words-collected =
+      collected_table c (image_in old) (words_of new) (new.all_words ∙ ap table_words config)
+      (λ word inside.
+      ap (λ (m : Word → ℕ). m word) (ap (λ d. view d (words_of new)) (sym config) ∙ words ∙ ap (collected c) (memory-image_in old clear)))
 
   -- the image is the collected one
-  pub image-full : image_in new ≡ full_image c (image_in old)
-  image-full =
-      ap (λ d. drop (image_start d) (words_of new)) config ∙ ap (drop (image_start c)) words-full ∙ drop-zeros (image_start c) (full_image c (image_in old))
+  pub image-collected : image_in new ≡ collect_image c (image_in old)
+  image-collected =
+      ap (λ d. drop (image_start d) (words_of new)) config ∙ ap (drop (image_start c)) words-collected ∙ drop-zeros (image_start c) (collect_image c (image_in old))
 
   -- with 0 before it again
-  pub clear-full : IsClear new
-  clear-full at below =
-      ap (λ some. get_or some at 0) words-full ∙ get_or-zeros (image_start c) (full_image c (image_in old)) at (subst (λ d. at < image_start d) config below)
+  pub clear-collected : IsClear new
+  clear-collected at below =
+      ap (λ some. get_or some at 0) words-collected ∙ get_or-zeros (image_start c) (collect_image c (image_in old)) at (subst (λ d. at < image_start d) config below)
 
 -- the last word of a list is put
 pub set-last : (xs : List ℕ) (i y : ℕ) → i + 1 ≡ length xs → set xs i y ≡ take i xs ++ y ∷ []
@@ -68,20 +66,20 @@ module _ (old mid new : Image) (index word : ℕ) (last : index + 1 ≡ image_wo
   pub loaded-last : image_in mid ≡ take index (image_in old) ++ word ∷ []
   loaded-last = put ∙ set-last (image_in old) index word (last ∙ sym (length-image_in old))
 
-  -- they hold a graph
-  pub holds-last : HoldsSome (config_of old) (image_view (config_of old) (take index (image_in old) ++ word ∷ []))
-      → HoldsSome (config_of mid) (image_view (config_of mid) (image_in mid))
-  holds-last holds =
-      let Holds : Config → List ℕ → Type 0 = λ c image. HoldsSome c (image_view c image) in
-      subst (λ c. Holds c (image_in mid)) (sym config) (subst (Holds (config_of old)) (sym loaded-last) holds)
+  -- they can be collected
+  pub can-last : CanCollectSome (config_of old) (image_view (config_of old) (take index (image_in old) ++ word ∷ []))
+      → CanCollectSome (config_of mid) (image_view (config_of mid) (image_in mid))
+  can-last can =
+      let Can : Config → List ℕ → Type 0 = λ c image. CanCollectSome c (image_view c image) in
+      subst (λ c. Can c (image_in mid)) (sym config) (subst (Can (config_of old)) (sym loaded-last) can)
 
-  module _ (config_then : config_of new ≡ config_of mid) (collected : image_in new ≡ full_image (config_of mid) (image_in mid)) where
+  module _ (config_then : config_of new ≡ config_of mid) (collected : image_in new ≡ collect_image (config_of mid) (image_in mid)) where
     -- the words of the new image
-    pub image-last : image_in new ≡ full_image (config_of old) (take index (image_in old) ++ word ∷ [])
-    image-last = collected ∙ ap (λ c. full_image c (image_in mid)) config ∙ ap (full_image (config_of old)) loaded-last
+    pub image-last : image_in new ≡ collect_image (config_of old) (take index (image_in old) ++ word ∷ [])
+    image-last = collected ∙ ap (λ c. collect_image c (image_in mid)) config ∙ ap (collect_image (config_of old)) loaded-last
 
     -- a word of the new image by its name
-    pub word-last : IsClear new → (w : Word) → memory_of new w ≡ image_view (config_of old) (full_image (config_of old) (take index (image_in old) ++ word ∷ [])) w
+    pub word-last : IsClear new → (w : Word) → memory_of new w ≡ image_view (config_of old) (collect_image (config_of old) (take index (image_in old) ++ word ∷ [])) w
     word-last clear w =
         ap (λ memory. memory w) (memory-image_in new clear) ∙ ap (λ c. image_view c (image_in new) w) (config_then ∙ config)
         ∙ ap (λ image. image_view (config_of old) image w) image-last

@@ -2,9 +2,10 @@
 use Rattle.std.proofs.Common.{◌≡◌, ℕ, ◌+◌, ◌-◌, ◌<◌, ◌≤◌, ◌^◌, true, false, ltb, List, [], ◌∷◌, ◌++◌, length, get_or, take, drop, replicate, refl, sym, ap, ◌∙◌, subst, ⊎_elim, arith}
 use Rattle.std.proofs.lemmas.Bool.{cases_Bool, leb-true, lt-ltb, le-ltb, cond-true, cond-false}
 use Rattle.std.proofs.lemmas.List.{get_or-append_right, get_or-drop, length-replicate, take_more}
+use Rattle.std.proofs.Math.Logic.{∥∥₁_map}
 use Rattle.std.proofs.Math.Seq.{take-length}
 use Rattle.heap_words.specs.declared.config.Config.{Config}
-use Rattle.heap_words.specs.Words.{Word, Free, Top, Current, Root, Wait, Answer, IsWord, is_word, is_image, image_start, word_at, view}
+use Rattle.heap_words.specs.Words.{Word, Phase, Cset, Free, Top, Current, Root, Wait, Answer, IsWord, is_word, is_image, image_start, word_at, view}
 use Rattle.heap_words.proofs.Rows.{is_image-word_at}
 use Rattle.heap_words.proofs.Stores.{view_word, view_none, is_word_true}
 use Rattle.heap_world.specs.Change.{image_view, image_words}
@@ -15,9 +16,9 @@ use Rattle.image_graph.proofs.Blank.{IsFirst, IsBlank, blank_holds}
 use Rattle.control_steps.specs.declared.spot.ControlSpot.{ControlSpot}
 use Rattle.control_steps.specs.declared.spot.ControlSpot.TheVariants.{LoadWord, StoreWord}
 use Rattle.control_steps.specs.Rows.{Controlling, control_next}
-use Rattle.pause_laws.specs.Image.{full_image}
+use Rattle.mark_pauses.specs.Collect.{collect_image, CanCollectSome}
 use Rattle.control.specs.Image.{image_in}
-use Rattle.control.specs.Fit.{holds_with, IsFit}
+use Rattle.control.specs.Fit.{fits_with, IsFit}
 
 -- a word of the image reads the same in the image alone
 pub image_view-drop : (c : Config) (words : List ℕ) (w : Word) → is_image w ≡ true → image_view c (drop (image_start c) words) w ≡ view c words w
@@ -55,18 +56,18 @@ module _ (c : Config) (image : List ℕ) (long : length image ≡ image_words c)
   more : k.image ++ got ∷ [] ≡ take (count + 1) image
   more = ap (λ some. some ++ got ∷ []) (is.loaded below) ∙ ap (λ n. take count image ++ n ∷ []) next ∙ sym (take_more image count 0 (omega arith))
 
-  pub fit-loaded : HoldsSome c (image_view c image) → IsFit c k got
-  fit-loaded holds =
-      let Fits : ControlSpot → Type 0 = λ s. holds_with c s k.image got in
-      let Holds : List ℕ → Type 0 = λ some. HoldsSome c (image_view c some) in
+  pub fit-loaded : CanCollectSome c (image_view c image) → IsFit c k got
+  fit-loaded can =
+      let Fits : ControlSpot → Type 0 = λ s. fits_with c s k.image got in
+      let Can : List ℕ → Type 0 = λ some. CanCollectSome c (image_view c some) in
       subst Fits (sym (is.loading below))
       (λ last.
       let all : count + 1 ≡ length image = last ∙ sym long in
-      subst Holds (sym (more ∙ ap (λ n. take n image) all ∙ take-length image)) holds)
+      subst Can (sym (more ∙ ap (λ n. take n image) all ∙ take-length image)) can)
 
-  pub has_loaded-more : HasLoaded c image (control_next full_image c k got) (count + 1)
+  pub has_loaded-more : HasLoaded c image (control_next collect_image c k got) (count + 1)
   has_loaded-more =
-      let Next : ControlSpot → Type 0 = λ s. HasLoaded c image (control_next full_image c (record k { spot = s }) got) (count + 1) in
+      let Next : ControlSpot → Type 0 = λ s. HasLoaded c image (control_next collect_image c (record k { spot = s }) got) (count + 1) in
       subst Next (sym (is.loading below)) (record {
         loading = λ goes. cond-true (ltb (count + 1) (image_words c)) _ _ (lt-ltb _ _ goes);
         loaded = λ goes.
@@ -75,8 +76,34 @@ module _ (c : Config) (image : List ℕ) (long : length image ≡ image_words c)
         stores = λ ends. cond-false (ltb (count + 1) (image_words c)) _ _ (le-ltb _ _ ends);
       })
 
--- an image without an object can be loaded whole
-pub holds-blank : (words : Image) (c : Config) → config_of words ≡ c → IsBlank (config_of words) (memory_of words) → HoldsSome c (image_view c (image_in words))
-holds-blank words c same blank =
-    let Holds : Config → Type 0 = λ d. HoldsSome d (image_view d (image_in words)) in
-    subst Holds same (blank_holds (config_of words) (image_view (config_of words) (image_in words)) (blank-drop (config_of words) (words_of words) blank))
+-- no cycle is in progress
+pub record IsIdle (m : Word → ℕ) : Type 0 where
+  pub phase : m Phase ≡ 0
+  pub cset : m Cset ≡ 0
+
+-- so what holds a graph can be collected
+can-idle : (c : Config) (m : Word → ℕ) → IsIdle m → HoldsSome c m → CanCollectSome c m
+can-idle c m idle holds = ∥∥₁_map
+    (λ some. (
+    some.0,
+    some.1,
+    some.2,
+    some.3,
+    record { holds = some.4; phase_is = omega (arith, idle.phase); uncollected = idle.cset; marking = λ runs. absurd (omega (arith, idle.phase, runs)) },
+    ))
+    holds
+
+-- an image without an object can be loaded whole, and collected
+pub can-blank : (words : Image) (c : Config) → config_of words ≡ c → IsBlank (config_of words) (memory_of words) → IsIdle (memory_of words)
+    → CanCollectSome c (image_view c (image_in words))
+can-blank words c same blank idle =
+    let d = config_of words in
+    let m = image_view d (image_in words) in
+    let Can : Config → Type 0 = λ e. CanCollectSome e (image_view e (image_in words)) in
+    subst Can same
+    (can-idle d m
+    (record {
+      phase = image_view-drop d (words_of words) Phase refl ∙ idle.phase;
+      cset = image_view-drop d (words_of words) Cset refl ∙ idle.cset;
+    })
+    (blank_holds d m (blank-drop d (words_of words) blank)))

@@ -1,6 +1,8 @@
-//! The control of a heap: a machine that makes full collections in pauses, in which no mutator and no helper is in the heap.
+//! The control of a heap: a machine that begins marking and ends it, or collects the whole heap, in pauses, in which no mutator and
+//! no helper is in the heap. While marking runs it scans as the helpers do.
 #![tactic(auto)]
 
+mod collect;
 mod machine;
 mod pause;
 

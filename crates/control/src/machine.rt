@@ -3,20 +3,19 @@ ghost use Rattle.image_graph.specs.State.{config_of};
 ghost use Rattle.control_steps.specs.Ready.{is_ready};
 ghost use Rattle.control.specs.Clear.{IsClear};
 
-use crate::pause::{clear, load, take_word};
+use crate::pause::{LastPause, clear, load, take_word};
 use control_steps::ControlSpot;
 use heap_words::{Access, Config, Place, Took};
 use image_graph::Image;
 use shen_graph::GraphText;
 
 /// The machine that collects a heap. Its steps are one access each; between two of them it does constant work, but for the
-/// step that loads the last word of the image: there it collects, in time linear in the words of the heap. Only `new` is given
-/// memory, with the image.
+/// step that loads the last word of the image: there it does the work of the pause, in time linear in the words of the heap. Only
+/// `new` is given memory, with the image.
 #[derive(Drop)]
 pub struct Control {
     spot: ControlSpot,
-    // The free word at the end of the last pause.
-    seen: u64,
+    last: LastPause,
     // In a pause the words loaded so far, and once all are, the words to be stored. What it is else does not matter.
     image: Image,
     ghost ready: { is_ready (config_of image) spot ≡ true },
@@ -26,29 +25,33 @@ pub struct Control {
 impl Control {
     ghost use Rattle.std.specs.Prelude.{◌<◌, ◌≤◌, ◌↔◌, [], length, false};
     ghost use Rattle.heap_words.specs.Access.{table_index};
-    ghost use Rattle.heap_words.specs.Words.{Free, Cset, table_words, heap_size};
+    ghost use Rattle.heap_words.specs.Words.{Free, Phase, Cset, table_words, heap_size};
     ghost use Rattle.heap_world.specs.Change.{image_view};
     ghost use Rattle.image_graph.specs.State.{memory_of};
     ghost use Rattle.image_graph.specs.Holds.{HoldsSome};
     ghost use Rattle.image_graph.specs.Left.{ShowsTheGraph};
     ghost use Rattle.control_steps.specs.Rows.{is_gone, control_place, control_access, control_next, control_says};
     ghost use Rattle.control_steps.specs.Waits.{WaitsAt};
-    ghost use Rattle.pause_laws.specs.Image.{full_image};
+    ghost use Rattle.mark_pauses.specs.Collect.{collect_image};
     ghost use Rattle.control.specs.Fit.{IsFit};
     ghost use Rattle.control.specs.Image.{image_from, is_storing, IsLoadedFrom};
     ghost use Rattle.control.specs.Seen.{config_in, seen_control};
 
-    /// The control of the image's heap. It has seen the image's free word. Nothing else of the image matters.
+    /// The control of the image's heap. It has seen the image's phase and free word. Nothing else of the image matters.
     pub fn new(image: Image) -> Control
         ensures config { config_in result ≡ config_of image }
-        ensures seen { seen_control result ≡ record { spot = ControlSpot.LookLeft; seen = memory_of image Free; image = [] } }
+        ensures seen { seen_control result ≡ record { spot = ControlSpot.LookLeft; seen = memory_of image Free; phase = memory_of image Phase; image = [] } }
     {
         let mut image = image;
-        let seen = image.word(image.config().free_at());
+        let config = image.config();
+        let last = LastPause {
+            phase: image.word(config.phase_at()),
+            seen: image.word(config.free_at()),
+        };
         clear(&mut image);
         Control {
             spot: ControlSpot::LookLeft,
-            seen,
+            last,
             image,
         }
     }
@@ -89,23 +92,23 @@ impl Control {
         self.spot.access(config, word)
     }
 
-    /// Goes on with the word that its access has found. A pause makes a full collection of the image.
+    /// Goes on with the word that its access has found. A pause begins marking, ends it, or collects the whole heap.
     pub fn took(&mut self, got: u64) -> Took
         requires busy { is_gone (seen_control self.old).spot ≡ false }
         requires fit { IsFit (config_in self.old) (seen_control self.old) got }
         ensures config { config_in self.new ≡ config_in self.old }
-        ensures row { seen_control self.new ≡ control_next full_image (config_in self.old) (seen_control self.old) got }
+        ensures row { seen_control self.new ≡ control_next collect_image (config_in self.old) (seen_control self.old) got }
         ensures says { result ≡ control_says (config_in self.old) (seen_control self.old) got }
         ensures again { (result ≡ Took.Again) ↔ WaitsAt (config_in self.old) (seen_control self.old) got }
     {
         let before = self.spot;
-        let seen = self.seen;
+        let last = self.last;
         if let ControlSpot::LoadWord { index } = before {
-            self.seen = take_word(&mut self.image, index, seen, got);
+            self.last = take_word(&mut self.image, index, last, got);
         }
         let config = self.image.config();
-        self.spot = before.after(config, seen, got);
-        before.says(config, seen, got)
+        self.spot = before.after(config, last.phase, last.seen, got);
+        before.says(config, last.seen, got)
     }
 
     /// Writes the graph that the words of the heap's table hold, as `Image::answer_graph` does: it is the only place in a

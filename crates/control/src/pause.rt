@@ -1,19 +1,18 @@
 //! What a pause does with the image.
 
 ghost use Rattle.std.specs.Prelude.{◌≡◌, ◌+◌, ◌<◌, length, take, slice_set};
-ghost use Rattle.heap_words.specs.Words.{image_start, table_words};
+ghost use Rattle.heap_words.specs.Words.{Phase, image_start, table_words};
 ghost use Rattle.heap_world.specs.Change.{image_view, image_words};
-ghost use Rattle.image_graph.specs.State.{config_of};
-ghost use Rattle.image_graph.specs.Holds.{HoldsSome};
+ghost use Rattle.image_graph.specs.State.{config_of, memory_of};
 ghost use Rattle.control_steps.specs.declared.spot.ControlSpot.TheVariants.{LoadWord};
-ghost use Rattle.control_steps.specs.Rows.{next_spot, next_image, next_seen};
-ghost use Rattle.pause_laws.specs.Image.{full_image};
+ghost use Rattle.control_steps.specs.Rows.{next_spot, next_image, seen_after, next_seen, next_phase};
+ghost use Rattle.mark_pauses.specs.Collect.{collect_image, CanCollectSome};
 ghost use Rattle.control.specs.Clear.{IsClear};
-ghost use Rattle.control.specs.Fit.{holds_with};
+ghost use Rattle.control.specs.Fit.{fits_with};
 ghost use Rattle.control.specs.Image.{image_in, image_from, words_seen};
 
+use crate::collect::collect;
 use control_steps::image_words;
-use full_cycle::full;
 use image_graph::Image;
 
 // Makes the words before the image 0.
@@ -54,32 +53,57 @@ pub(crate) fn load(image: &mut Image, words: &[u64])
     }
 }
 
-// Collects the whole heap.
-fn collect(image: &mut Image)
+// Collects the image.
+fn collect_image(image: &mut Image)
     requires clear { IsClear image.old }
-    requires holds { HoldsSome (config_of image.old) (image_view (config_of image.old) (image_in image.old)) }
+    requires can { CanCollectSome (config_of image.old) (image_view (config_of image.old) (image_in image.old)) }
     ensures config { config_of image.new ≡ config_of image.old }
-    ensures image { image_in image.new ≡ full_image (config_of image.old) (image_in image.old) }
+    ensures image { image_in image.new ≡ collect_image (config_of image.old) (image_in image.old) }
     ensures clear { IsClear image.new }
 {
-    full(image);
+    collect(image);
 }
 
-// Takes a word of the image that was loaded, and with the last one collects. The free word that was seen before becomes that
-// of the new image then.
-pub(crate) fn take_word(image: &mut Image, index: usize, seen: u64, word: u64) -> u64
+/// What stood in the image at the end of the control's last pause.
+#[derive(Clone, Copy)]
+pub(crate) struct LastPause {
+    /// The phase.
+    pub(crate) phase: u64,
+    /// The free word, or that of the last pause before it that ended with phase 0.
+    pub(crate) seen: u64,
+}
+
+// What stands in the image of a pause that ends.
+fn ended_with(image: &Image, before: LastPause) -> LastPause
+    ensures phase { result.phase ≡ memory_of image.now Phase }
+    ensures seen { result.seen ≡ seen_after before.seen (memory_of image.now) }
+{
+    let config = image.config();
+    let phase = image.word(config.phase_at());
+    let seen = if phase == 0 {
+        image.word(config.free_at())
+    } else {
+        before.seen
+    };
+    LastPause { phase, seen }
+}
+
+// Takes a word of the image that was loaded, and with the last one collects. What stood at the end of the last pause becomes
+// what stands in the new image then.
+pub(crate) fn take_word(image: &mut Image, index: usize, last: LastPause, word: u64) -> LastPause
     requires index { index < image_words (config_of image.old) }
     requires clear { IsClear image.old }
-    requires fit { holds_with (config_of image.old) (LoadWord index) (take index (image_in image.old)) word }
+    requires fit { fits_with (config_of image.old) (LoadWord index) (take index (image_in image.old)) word }
     ensures config { config_of image.new ≡ config_of image.old }
-    ensures image { words_seen (next_spot (config_of image.old) seen (LoadWord index) word) (image_in image.new) ≡ next_image full_image (config_of image.old) (LoadWord index) (take index (image_in image.old)) word }
-    ensures seen { result ≡ next_seen full_image (config_of image.old) (LoadWord index) (take index (image_in image.old)) seen word }
+    ensures image { words_seen (next_spot (config_of image.old) last.phase last.seen (LoadWord index) word) (image_in image.new) ≡ next_image collect_image (config_of image.old) (LoadWord index) (take index (image_in image.old)) word }
+    ensures seen { result.seen ≡ next_seen collect_image (config_of image.old) (LoadWord index) (take index (image_in image.old)) last.seen word }
+    ensures phase { result.phase ≡ next_phase collect_image (config_of image.old) (LoadWord index) (take index (image_in image.old)) last.phase word }
     ensures clear { IsClear image.new }
 {
     put_word(image, index, word);
     if index + 1 < image_words(image.config()) {
-        return seen;
+        return last;
     }
-    collect(image);
-    image.word(image.config().free_at())
+    collect_image(image);
+    ended_with(image, last)
 }

@@ -11,7 +11,7 @@ use Rattle.heap_words.specs.declared.config.Config.{Config}
 use Rattle.heap_words.specs.Ranges.{seat_count}
 use Rattle.shen_graph.specs.declared.command.Command.{Command}
 use Rattle.mutator.specs.Rows.{fresh_mutator}
-use Rattle.step_core.specs.Actor.{mutating, fresh_helper, fresh_control, Actor}
+use Rattle.step_core.specs.Actor.{mutating, fresh_control, Actor, fresh_helper}
 use Rattle.step_core.specs.Machines.{is_resting, may_begin, made_of_machine}
 use Rattle.heap_machines.specs.Roles.{is_mutating}
 use Rattle.step_core.specs.Opening.{first_free, opening_machine, opening_actor, opening}

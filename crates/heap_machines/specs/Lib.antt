@@ -3,3 +3,4 @@ pub mod Answer
 pub mod Turn
 pub mod Roles
 pub mod Scripts
+pub mod Pause

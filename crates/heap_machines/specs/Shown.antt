@@ -4,6 +4,7 @@ use Rattle.heap_words.specs.declared.config.Config.{Config}
 use Rattle.shen_graph.specs.declared.order.Order.{Order}
 use Rattle.shen_graph.specs.declared.order.Order.TheVariants.{Nothing}
 use Rattle.mutator.specs.Seen as seen
+use Rattle.helper.specs.Seen as helpers
 use Rattle.control.specs.Seen as controls
 use Rattle.step_core.specs.Actor as actors
 use Rattle.step_core.specs.Machines.{takes_of}
@@ -12,19 +13,23 @@ use Rattle.heap_machines.specs.declared.machine.Machine.TheVariants.{Mutator, He
 
 abbrev pub shown : Machine → actors.Machine
 shown (Mutator m) = actors.mutating (seen.seen m)
-shown (Helper config) = actors.fresh_helper
+shown (Helper h) = actors.helping (helpers.seen_helper h)
 shown (Control k) = actors.controlling (controls.seen_control k)
+
+-- a machine of no heap, which stands where there is none
+abbrev pub no_machine : actors.Machine
+no_machine = actors.fresh_helper 0
 
 -- the order that it was given
 abbrev pub order_of : Machine → Order
 order_of (Mutator m) = seen.order_of m
-order_of (Helper config) = Nothing
+order_of (Helper h) = Nothing
 order_of (Control k) = Nothing
 
 -- the heap that it is of
 abbrev pub heap_of : Machine → Config
 heap_of (Mutator m) = seen.config_of m
-heap_of (Helper config) = config
+heap_of (Helper h) = helpers.config_of h
 heap_of (Control k) = controls.config_in k
 
 -- whether it makes a step: it takes the order that it was given

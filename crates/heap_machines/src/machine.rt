@@ -6,6 +6,7 @@ ghost use Rattle.heap_machines.specs.Turn.{first_place_of};
 
 use control::Control;
 use heap_words::{Access, Config, NoMemory, Place, Took};
+use helper::Helper;
 use image_graph::Image;
 use mutator::Mutator;
 use shen_graph::{Command, GraphText, Order, Reply};
@@ -17,11 +18,8 @@ use step_core::first_free;
 pub enum Machine {
     /// A mutator thread.
     Mutator(Mutator),
-    /// A helper, which has nothing to do in a heap that only collects in pauses.
-    Helper {
-        /// The heap that it is of.
-        config: Config,
-    },
+    /// A helper, which works on the units of a phase beside the mutators.
+    Helper(Helper),
     /// The control, which makes the pauses.
     Control(Control),
 }
@@ -36,7 +34,7 @@ impl Machine {
     ghost use Rattle.control.specs.Image.{image_from};
     ghost use Rattle.shen_graph.specs.Valid.{IsValid};
     ghost use Rattle.shen_graph.specs.declared.command.Command.{Command as Commands};
-    ghost use Rattle.pause_laws.specs.Image.{full_image};
+    ghost use Rattle.heap_machines.specs.Pause.{pause_image};
     ghost use Rattle.step_core.specs.Opening.{opening_machine};
     ghost use Rattle.step_core.specs.Settled.{image_in};
     ghost use Rattle.step_core.specs.Machines.{takes_of, plan_of, place_in, machine_after, answer_of, is_machine_at, reply_in, is_resting, may_begin, made_of_machine, WaitsIn};
@@ -54,7 +52,10 @@ impl Machine {
         if number < config.mutators() {
             Ok(Machine::Mutator(Mutator::new(config, number)))
         } else if number < config.mutators() + config.helpers() {
-            Ok(Machine::Helper { config })
+            Ok(Machine::Helper(Helper::new(
+                config,
+                number - config.mutators(),
+            )))
         } else {
             Ok(Machine::Control(open_control(alloc, config)?))
         }
@@ -67,7 +68,7 @@ impl Machine {
     {
         match self {
             Machine::Mutator(mutator) => mutator.place(),
-            Machine::Helper { .. } => Place::H0,
+            Machine::Helper(helper) => helper.place(),
             Machine::Control(control) => control.place(),
         }
     }
@@ -80,7 +81,7 @@ impl Machine {
         match self {
             Machine::Mutator(mutator) if mutator.takes_commands() => first_place(next).is(place),
             Machine::Mutator(mutator) => !mutator.is_idle() && mutator.place().is(place),
-            Machine::Helper { .. } => false,
+            Machine::Helper(helper) => !helper.is_idle() && helper.place().is(place),
             Machine::Control(control) => !control.is_idle() && control.place().is(place),
         }
     }
@@ -91,7 +92,7 @@ impl Machine {
     {
         match self {
             Machine::Mutator(mutator) => mutator.order(),
-            Machine::Helper { .. } | Machine::Control(_) => Order::Nothing,
+            Machine::Helper(_) | Machine::Control(_) => Order::Nothing,
         }
     }
 
@@ -101,7 +102,7 @@ impl Machine {
     {
         match self {
             Machine::Mutator(mutator) => mutator.is_idle(),
-            Machine::Helper { .. } => true,
+            Machine::Helper(helper) => helper.is_idle(),
             Machine::Control(control) => control.is_idle(),
         }
     }
@@ -112,7 +113,7 @@ impl Machine {
     {
         match self {
             Machine::Mutator(mutator) => mutator.is_resting(),
-            Machine::Helper { .. } | Machine::Control(_) => false,
+            Machine::Helper(_) | Machine::Control(_) => false,
         }
     }
 
@@ -122,7 +123,7 @@ impl Machine {
     {
         match self {
             Machine::Mutator(mutator) => mutator.made(),
-            Machine::Helper { .. } | Machine::Control(_) => 0,
+            Machine::Helper(_) | Machine::Control(_) => 0,
         }
     }
 
@@ -132,7 +133,7 @@ impl Machine {
     {
         match self {
             Machine::Control(control) => control.is_storing(),
-            Machine::Mutator(_) | Machine::Helper { .. } => false,
+            Machine::Mutator(_) | Machine::Helper(_) => false,
         }
     }
 
@@ -144,16 +145,17 @@ impl Machine {
     {
         match self {
             Machine::Mutator(mutator) => mutator.plan(),
-            Machine::Helper { .. } => unreachable!(),
+            Machine::Helper(helper) => helper.plan(),
             Machine::Control(control) => control.plan(),
         }
     }
 
-    /// Goes on with the word that its access has found. A pause of the control is a full collection.
+    /// Goes on with the word that its access has found. A pause of the control begins marking, ends it or collects
+    /// in full.
     pub fn took(&mut self, got: u64) -> Took
         requires busy { has_turn self.old ≡ true }
         requires fit { IsFitFor (heap_of self.old) (order_of self.old) got (shown self.old) }
-        ensures shown { shown self.new ≡ machine_after full_image (heap_of self.old) (order_of self.old) got (shown self.old) }
+        ensures shown { shown self.new ≡ machine_after pause_image (heap_of self.old) (order_of self.old) got (shown self.old) }
         ensures order { order_of self.new ≡ Order.Nothing }
         ensures heap { heap_of self.new ≡ heap_of self.old }
         ensures answer { answer_of (heap_of self.old) (shown self.old) got ≡ Some result }
@@ -165,7 +167,7 @@ impl Machine {
     {
         match self {
             Machine::Mutator(mutator) => mutator.took(got),
-            Machine::Helper { .. } => unreachable!(),
+            Machine::Helper(helper) => helper.took(got),
             Machine::Control(control) => control.took(got),
         }
     }
@@ -182,7 +184,7 @@ impl Machine {
     {
         match self {
             Machine::Mutator(mutator) => mutator.begin(command),
-            Machine::Helper { .. } | Machine::Control(_) => unreachable!(),
+            Machine::Helper(_) | Machine::Control(_) => unreachable!(),
         }
     }
 
@@ -196,7 +198,7 @@ impl Machine {
     {
         match self {
             Machine::Mutator(mutator) => mutator.finish(),
-            Machine::Helper { .. } | Machine::Control(_) => unreachable!(),
+            Machine::Helper(_) | Machine::Control(_) => unreachable!(),
         }
     }
 
@@ -206,7 +208,7 @@ impl Machine {
     {
         match self {
             Machine::Mutator(mutator) => mutator.takes_commands(),
-            Machine::Helper { .. } | Machine::Control(_) => false,
+            Machine::Helper(_) | Machine::Control(_) => false,
         }
     }
 
@@ -246,7 +248,7 @@ impl Machine {
     {
         match self {
             Machine::Mutator(mutator) => mutator.reply(),
-            Machine::Helper { .. } | Machine::Control(_) => unreachable!(),
+            Machine::Helper(_) | Machine::Control(_) => unreachable!(),
         }
     }
 
@@ -268,7 +270,7 @@ impl Machine {
     {
         match self {
             Machine::Control(control) => control.answer_graph(words, text),
-            Machine::Mutator(_) | Machine::Helper { .. } => unreachable!(),
+            Machine::Mutator(_) | Machine::Helper(_) => unreachable!(),
         }
     }
 }

@@ -3,7 +3,7 @@ use Rattle.std.proofs.Common.{◌≡◌, ◌<◌, ℕ, ◌+◌, ◌-◌, [], ◌
 use Rattle.std.proofs.lemmas.Bool.{cases_lt}
 use Rattle.std.proofs.lemmas.List.{append-nil}
 use Rattle.steps_base.specs.Steps.{Stage}
-use Rattle.pause_laws.specs.Image.{full_image}
+use Rattle.heap_machines.specs.Pause.{pause_image}
 use Rattle.step_core.specs.Actor.{Actor}
 use Rattle.step_core.specs.Schedule.{Scripts, Agenda, next, scheduled}
 use Rattle.shen_core.specs.declared.plain.Plain.{Plain}
@@ -55,30 +55,30 @@ ends_by p q jobs later todo rest limit left Unfinished same runs none idle finis
 
 -- as many events as were made are those of the schedule, where there is none then
 pub counts_ended : (p q : Plain) (jobs later : Jobs) (todo rest : Agenda) (limit left : ℕ) → config_of q ≡ config_of p → Runs p jobs todo limit q later rest left → HasNoNext q later rest
-    → (scripts : Scripts) (s : Stage Actor) → Shows p s → Tells (config_of p) scripts jobs s → length (scheduled full_image (config_of p) scripts limit todo s) + left ≡ limit
+    → (scripts : Scripts) (s : Stage Actor) → Shows p s → Tells (config_of p) scripts jobs s → length (scheduled pause_image (config_of p) scripts limit todo s) + left ≡ limit
 counts_ended p q jobs later todo rest limit left same runs none scripts s shows tells =
     let went = runs scripts s shows tells in
-    let empty : scheduled full_image (config_of p) scripts left rest went.stage ≡ [] = scheduled_none (config_of p) scripts went.stage rest left
+    let empty : scheduled pause_image (config_of p) scripts left rest went.stage ≡ [] = scheduled_none (config_of p) scripts went.stage rest left
     (ap (λ c. next c scripts went.stage rest) (sym same) ∙ none scripts went.stage went.shows (subst (λ c. Tells c scripts later went.stage) (sym same) went.tells)) in
-    let all : length (scheduled full_image (config_of p) scripts limit todo s) ≡ length went.goes.done = ap length (went.goes.events ∙ ap (λ es. went.goes.done ++ es) empty ∙ append-nil went.goes.done) in
+    let all : length (scheduled pause_image (config_of p) scripts limit todo s) ≡ length went.goes.done = ap length (went.goes.events ∙ ap (λ es. went.goes.done ++ es) empty ∙ append-nil went.goes.done) in
     let count = went.goes.count in
     omega arith
 
 -- or as many as were allowed
 pub counts_out : (p q : Plain) (jobs later : Jobs) (todo rest : Agenda) (limit left : ℕ) → Runs p jobs todo limit q later rest left → left ≡ 0
-    → (scripts : Scripts) (s : Stage Actor) → Shows p s → Tells (config_of p) scripts jobs s → length (scheduled full_image (config_of p) scripts limit todo s) + left ≡ limit
+    → (scripts : Scripts) (s : Stage Actor) → Shows p s → Tells (config_of p) scripts jobs s → length (scheduled pause_image (config_of p) scripts limit todo s) + left ≡ limit
 unfolding scheduled
 counts_out p q jobs later todo rest limit left runs out scripts s shows tells =
     let went = runs scripts s shows tells in
-    let empty : scheduled full_image (config_of p) scripts left rest went.stage ≡ [] = ap (λ n. scheduled full_image (config_of p) scripts n rest went.stage) out in
-    let all : length (scheduled full_image (config_of p) scripts limit todo s) ≡ length went.goes.done = ap length (went.goes.events ∙ ap (λ es. went.goes.done ++ es) empty ∙ append-nil went.goes.done) in
+    let empty : scheduled pause_image (config_of p) scripts left rest went.stage ≡ [] = ap (λ n. scheduled pause_image (config_of p) scripts n rest went.stage) out in
+    let all : length (scheduled pause_image (config_of p) scripts limit todo s) ≡ length went.goes.done = ap length (went.goes.events ∙ ap (λ es. went.goes.done ++ es) empty ∙ append-nil went.goes.done) in
     let count = went.goes.count in
     omega arith
 
 pub counts_by : (p q : Plain) (jobs later : Jobs) (todo rest : Agenda) (limit left : ℕ) → config_of q ≡ config_of p → Runs p jobs todo limit q later rest left → (0 < left → HasNoNext q later rest)
-    → (scripts : Scripts) (s : Stage Actor) → Shows p s → Tells (config_of p) scripts jobs s → length (scheduled full_image (config_of p) scripts limit todo s) ≡ limit - left
+    → (scripts : Scripts) (s : Stage Actor) → Shows p s → Tells (config_of p) scripts jobs s → length (scheduled pause_image (config_of p) scripts limit todo s) ≡ limit - left
 counts_by p q jobs later todo rest limit left same runs none scripts s shows tells =
-    let count : length (scheduled full_image (config_of p) scripts limit todo s) + left ≡ limit = ⊎_elim
+    let count : length (scheduled pause_image (config_of p) scripts limit todo s) + left ≡ limit = ⊎_elim
     (λ (some : 0 < left). counts_ended p q jobs later todo rest limit left same runs (none some) scripts s shows tells)
     (λ (out : left ≤ 0). counts_out p q jobs later todo rest limit left runs (omega arith) scripts s shows tells)
     (cases_lt 0 left) in

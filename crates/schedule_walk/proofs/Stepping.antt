@@ -6,9 +6,9 @@ use Rattle.std.proofs.lemmas.Option.{same_Some}
 use Rattle.heap_words.specs.Access.{table_index}
 use Rattle.shen_graph.specs.declared.order.Order.TheVariants.{Nothing}
 use Rattle.heap_machines.specs.Answer.{says}
-use Rattle.heap_machines.specs.Shown.{shown}
+use Rattle.heap_machines.specs.Shown.{shown, no_machine}
 use Rattle.heap_machines.specs.declared.stepped.Stepped.{Stepped}
-use Rattle.step_core.specs.Actor.{fresh_helper, Actor}
+use Rattle.step_core.specs.Actor.{Actor}
 use Rattle.step_core.specs.Machines.{plan_of, place_in}
 use Rattle.shen_core.specs.declared.plain.Plain.{Plain}
 use Rattle.shen_core.specs.State.{config_of, words_of, orders_of, machines_of, machine_at, order_at, has_turn, seats_of, found_by, next_machine, IsStep}
@@ -64,4 +64,4 @@ sees_turn p mid q jobs number said seen facts number_is place_is access_is found
     machine : (a : Actor) → slice_get s.machines number ≡ Some a → machine_at mid number ≡ a.machine
     machine a here =
         let found = shown_actor (words_of p) (machines_of p) s number (machine_at p number) shows (machine_within (machines_of p) number facts.within) in
-        ap (λ ms. get_or ms number fresh_helper) facts.mid_machines ∙ sym found.2 ∙ ap (λ x. x.machine) (same_Some _ _ (sym found.1 ∙ here))
+        ap (λ ms. get_or ms number no_machine) facts.mid_machines ∙ sym found.2 ∙ ap (λ x. x.machine) (same_Some _ _ (sym found.1 ∙ here))

@@ -1,7 +1,7 @@
 -- Events one after the other.
 use Rattle.std.proofs.Common.{arith, ◌≡◌, ◌<◌, ℕ, ◌+◌, ◌-◌, Some, None, sym, ◌∙◌, subst}
 use Rattle.steps_base.specs.Steps.{act}
-use Rattle.pause_laws.specs.Image.{full_image}
+use Rattle.heap_machines.specs.Pause.{pause_image}
 use Rattle.step_core.specs.Machines.{kind}
 use Rattle.step_core.specs.Schedule.{Agenda}
 use Rattle.shen_core.specs.declared.plain.Plain.{Plain}
@@ -22,7 +22,7 @@ pub runs_some_next : (p q : Plain) (jobs later : Jobs) (todo rest : Agenda) (see
 runs_some_next p q jobs later todo rest seen left makes some scripts s shows tells =
     let made = makes scripts s shows tells in
     record {
-      stage = act (kind full_image (config_of p)) s made.event;
+      stage = act (kind pause_image (config_of p)) s made.event;
       goes = goes_next (config_of p) scripts s todo rest made.event left some made.is;
       shows = made.shows;
       tells = made.tells;

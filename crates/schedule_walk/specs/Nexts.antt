@@ -4,7 +4,7 @@ use Rattle.heap_words.specs.declared.config.Config.{Config}
 use Rattle.heap_words.specs.declared.schedule.Item.{Item}
 use Rattle.steps_base.specs.Steps.{Stage, Event, act}
 use Rattle.shen_graph.specs.declared.order.Order.{Order}
-use Rattle.pause_laws.specs.Image.{full_image}
+use Rattle.heap_machines.specs.Pause.{pause_image}
 use Rattle.step_core.specs.Actor.{Actor}
 use Rattle.step_core.specs.Machines.{kind}
 use Rattle.step_core.specs.Schedule.{Scripts, turn, waits, waits_then, task_of, moves, move_of, Agenda, next}
@@ -54,8 +54,8 @@ pub record IsDue (p : Plain) (jobs : Jobs) (w : Walk) (number : ℕ) : Type 0 wh
 pub record IsMade (c : Config) (scripts : Scripts) (s : Stage Actor) (todo : Agenda) (q : Plain) (later : Jobs) (rest : Agenda) (seen : Seen) : Type 0 where
   pub event : Event Order
   pub is : next c scripts s todo ≡ Some (record { event = event; agenda = rest })
-  pub shows : Shows q (act (kind full_image c) s event)
-  pub tells : Tells c scripts later (act (kind full_image c) s event)
+  pub shows : Shows q (act (kind pause_image c) s event)
+  pub tells : Tells c scripts later (act (kind pause_image c) s event)
   pub sees : Sees c s event seen
 
 -- there was no next event, and nothing changed

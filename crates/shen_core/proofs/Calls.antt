@@ -1,6 +1,6 @@
 -- In the events of a schedule each mutator calls the commands of its script, one after the other.
 use Rattle.std.proofs.Common.{◌≡◌, ◌≢◌, ◌⊎◌, inl, inr, ℕ, List, length, Option, Some, None, refl, sym, ap, ◌∙◌, arith}
-use Rattle.pause_laws.specs.Image.{full_image}
+use Rattle.heap_machines.specs.Pause.{pause_image}
 use Rattle.std.specs.Prelude.{slice_get, slice_set}
 use Rattle.std.specs.Option.{option_map}
 use Rattle.std.proofs.lemmas.Bool.{cases_eq, lt-ltb}
@@ -30,34 +30,34 @@ own_turn t None e h = absurd cc
 own_turn t (Some x) e h = ap (λ (y : Event Order). Some y.order) (same_Some _ e h)
 
 -- a turn keeps that the calls of a mutator are the first of its script
-turn_keeps : (c : Config) (scripts : Scripts) (t : ℕ) (s : Stage Actor) (k : ℕ) (e : Event Order) → turn scripts s k ≡ Some e → CallsScript scripts s t → CallsScript scripts (act (kind full_image c) s e) t
+turn_keeps : (c : Config) (scripts : Scripts) (t : ℕ) (s : Stage Actor) (k : ℕ) (e : Event Order) → turn scripts s k ≡ Some e → CallsScript scripts s t → CallsScript scripts (act (kind pause_image c) s e) t
 unfolding kind
-turn_keeps c scripts t s k e is before = act_cases (kind full_image c) (λ x. CallsScript scripts x t) s e before (λ r here takes. by_number r here (cases_eq t e.number))
+turn_keeps c scripts t s k e is before = act_cases (kind pause_image c) (λ x. CallsScript scripts x t) s e before (λ r here takes. by_number r here (cases_eq t e.number))
   where
-    other : (r : Actor) → t ≢ e.number → CallsScript scripts (moved (kind full_image c) s e.number r e.order) t
+    other : (r : Actor) → t ≢ e.number → CallsScript scripts (moved (kind pause_image c) s e.number r e.order) t
     other r differs = record { actor = before.actor; here = slice_get-set_other s.machines e.number t _ differs ∙ before.here; role = before.role; calls = before.calls }
 
-    own : (got : ℕ) (machines : List Actor) (words : List ℕ) (r : Actor) → slice_get s.machines e.number ≡ Some r → r ≡ before.actor → machines ≡ slice_set s.machines e.number (took_of full_image c r e.order got r.machine) → t ≡ e.number
+    own : (got : ℕ) (machines : List Actor) (words : List ℕ) (r : Actor) → slice_get s.machines e.number ≡ Some r → r ≡ before.actor → machines ≡ slice_set s.machines e.number (took_of pause_image c r e.order got r.machine) → t ≡ e.number
         → CallsScript scripts (record { words = words; machines = machines }) t
     own got machines words r here same_actor made same =
         let a = before.actor in
         let order : order_for (slice_get (nth_script scripts t) (length a.calls)) a.machine ≡ Some e.order =
         own_turn t (order_for (slice_get (nth_script scripts t) (length a.calls)) a.machine) e (sym (actor_turn scripts s t a before.here) ∙ ap (turn scripts s) (same ∙ turn_number scripts s k e is) ∙ is) in
         record {
-          actor = took_of full_image c a e.order got a.machine;
-          here = ap (slice_get machines) same ∙ ap (λ (ms : List Actor). slice_get ms e.number) made ∙ slice_get-set_same s.machines e.number r (took_of full_image c r e.order got r.machine) here
-              ∙ ap (λ (x : Actor). Some (took_of full_image c x e.order got x.machine)) same_actor;
-          role = role_stays full_image c e.order got a.machine ∙ before.role;
-          calls = script_step full_image c (nth_script scripts t) a e.order got before.calls order;
+          actor = took_of pause_image c a e.order got a.machine;
+          here = ap (slice_get machines) same ∙ ap (λ (ms : List Actor). slice_get ms e.number) made ∙ slice_get-set_same s.machines e.number r (took_of pause_image c r e.order got r.machine) here
+              ∙ ap (λ (x : Actor). Some (took_of pause_image c x e.order got x.machine)) same_actor;
+          role = role_stays pause_image c e.order got a.machine ∙ before.role;
+          calls = script_step pause_image c (nth_script scripts t) a e.order got before.calls order;
         }
 
-    by_number : (r : Actor) → slice_get s.machines e.number ≡ Some r → ((t ≡ e.number) ⊎ (t ≢ e.number)) → CallsScript scripts (moved (kind full_image c) s e.number r e.order) t
+    by_number : (r : Actor) → slice_get s.machines e.number ≡ Some r → ((t ≡ e.number) ⊎ (t ≢ e.number)) → CallsScript scripts (moved (kind pause_image c) s e.number r e.order) t
     by_number r here (inr differs) = other r differs
     by_number r here (inl same) =
-        own _ (moved (kind full_image c) s e.number r e.order).machines (moved (kind full_image c) s e.number r e.order).words r here (same_Some r before.actor (sym here ∙ ap (slice_get s.machines) (sym same) ∙ before.here)) refl same
+        own _ (moved (kind pause_image c) s e.number r e.order).machines (moved (kind pause_image c) s e.number r e.order).words r here (same_Some r before.actor (sym here ∙ ap (slice_get s.machines) (sym same) ∙ before.here)) refl same
 
 -- the events of a schedule keep it for each mutator
-pub all_call : (c : Config) (scripts : Scripts) (n : ℕ) (agenda : Agenda) (s : Stage Actor) → AllCall c scripts s → AllCall c scripts (go (kind full_image c) s (scheduled full_image c scripts n agenda s))
+pub all_call : (c : Config) (scripts : Scripts) (n : ℕ) (agenda : Agenda) (s : Stage Actor) → AllCall c scripts s → AllCall c scripts (go (kind pause_image c) s (scheduled pause_image c scripts n agenda s))
 all_call c scripts n agenda s calls t below = schedule_keeps c scripts (λ x. CallsScript scripts x t) (turn_keeps c scripts t) n agenda s (calls t below)
 
 -- in the opening there are no calls

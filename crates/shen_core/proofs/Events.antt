@@ -1,6 +1,6 @@
 -- A step in memory is an event of each run that leads to it.
 use Rattle.std.proofs.Common.{◌≡◌, ℕ, true, List, Option, Some, None, refl, sym, ap, ◌∙◌, subst}
-use Rattle.pause_laws.specs.Image.{full_image}
+use Rattle.heap_machines.specs.Pause.{pause_image}
 use Rattle.std.specs.Prelude.{slice_get, slice_set, slice_index}
 use Rattle.std.specs.Option.{option_map}
 use Rattle.std.proofs.lemmas.Option.{slice_get-map, same_Some}
@@ -39,32 +39,32 @@ module _ (c : Config) (words : List ℕ) (machines : List Machine) (number : ℕ
 
   -- the machines after it
   abbrev pub stepped_machines : List Machine
-  stepped_machines = slice_set machines number (machine_after full_image c order found machine)
+  stepped_machines = slice_set machines number (machine_after pause_image c order found machine)
 
   -- the event, in a stage that memory shows
-  pub shown_event : (s : Stage Actor) → Shows words machines s → slice_get machines number ≡ Some machine → takes_of machine order ≡ true → (a : Actor) × IsEvent (kind full_image c) s (event number order) a × (a.machine ≡ machine)
+  pub shown_event : (s : Stage Actor) → Shows words machines s → slice_get machines number ≡ Some machine → takes_of machine order ≡ true → (a : Actor) × IsEvent (kind pause_image c) s (event number order) a × (a.machine ≡ machine)
   unfolding kind
   shown_event s shows here takes =
       let found = shown_actor words machines s number machine shows here in
       (found.0, record { here = found.1; takes = ap (λ x. takes_of x order) found.2 ∙ takes }, found.2)
 
   -- memory shows the stage after its step
-  moved_shows : (s : Stage Actor) (command : Command) (calls : List Entry) → Shows words machines s → Shows stepped_words stepped_machines (moved (kind full_image c) s number (record { machine = machine; command = command; calls = calls }) order)
+  moved_shows : (s : Stage Actor) (command : Command) (calls : List Entry) → Shows words machines s → Shows stepped_words stepped_machines (moved (kind pause_image c) s number (record { machine = machine; command = command; calls = calls }) order)
   unfolding kind
   moved_shows s command calls shows = record {
     words_are = ap (accessed (plan_of c order machine)) shows.words_are;
     machines_are = map-set (λ a. a.machine) s.machines number _
-        ∙ ap (λ ms. slice_set ms number (machine_after full_image c order (slice_index s.words (table_index (plan_of c order machine))) machine)) shows.machines_are
-        ∙ ap (λ ws. slice_set machines number (machine_after full_image c order (slice_index ws (table_index (plan_of c order machine))) machine)) shows.words_are;
+        ∙ ap (λ ms. slice_set ms number (machine_after pause_image c order (slice_index s.words (table_index (plan_of c order machine))) machine)) shows.machines_are
+        ∙ ap (λ ws. slice_set machines number (machine_after pause_image c order (slice_index ws (table_index (plan_of c order machine))) machine)) shows.words_are;
   }
 
   -- so it does after its event
-  pub shows_step : (s : Stage Actor) → Shows words machines s → slice_get machines number ≡ Some machine → takes_of machine order ≡ true → Shows stepped_words stepped_machines (act (kind full_image c) s (event number order))
+  pub shows_step : (s : Stage Actor) → Shows words machines s → slice_get machines number ≡ Some machine → takes_of machine order ≡ true → Shows stepped_words stepped_machines (act (kind pause_image c) s (event number order))
   unfolding kind
   shows_step s shows here takes =
       let found = shown_event s shows here takes in
-      subst (λ x. Shows stepped_words stepped_machines x) (sym (act-event (kind full_image c) s (event number order) found.0 found.1))
-      (subst (λ x. Shows stepped_words stepped_machines (moved (kind full_image c) s number (record { machine = x; command = found.0.command; calls = found.0.calls }) order)) (sym found.2)
+      subst (λ x. Shows stepped_words stepped_machines x) (sym (act-event (kind pause_image c) s (event number order) found.0 found.1))
+      (subst (λ x. Shows stepped_words stepped_machines (moved (kind pause_image c) s number (record { machine = x; command = found.0.command; calls = found.0.calls }) order)) (sym found.2)
       (moved_shows s found.0.command found.0.calls shows))
 
   -- the step is one event
@@ -73,6 +73,6 @@ module _ (c : Config) (words : List ℕ) (machines : List Machine) (number : ℕ
     is_event = λ s shows. let found = shown_event s shows here takes in (found.0, found.1);
     acts = λ s shows. shows_step s shows here takes;
     goes_on = λ start events shows.
-        subst (λ x. Shows stepped_words stepped_machines x) (sym (go-step (kind full_image c) start events (event number order)))
-        (shows_step (go (kind full_image c) start events) shows here takes);
+        subst (λ x. Shows stepped_words stepped_machines x) (sym (go-step (kind pause_image c) start events (event number order)))
+        (shows_step (go (kind pause_image c) start events) shows here takes);
   }

@@ -14,7 +14,8 @@ use Rattle.shen_graph.specs.Valid.{IsValid}
 use Rattle.shen_graph.specs.Work as work
 use Rattle.shen_graph.specs.declared.order.Order.TheVariants.{Nothing}
 use Rattle.heap_machines.proofs.Openings.{first_is, first_machines, first_made, first_rests, first_free_to_begin}
-use Rattle.step_core.specs.Actor.{Machine, fresh_helper}
+use Rattle.step_core.specs.Actor.{Machine}
+use Rattle.heap_machines.specs.Shown.{no_machine}
 use Rattle.step_core.specs.Opening.{opening_machine, opening}
 use Rattle.step_core.specs.Schedule.{Scripts, nth_script}
 use Rattle.shen_core.specs.declared.plain.Plain.{Plain}
@@ -29,19 +30,19 @@ progress_first scripts t below few =
     ∙ ap (option_map work.begun) (slice_get-get_or scripts t [] below)
 
 -- a machine is that of the opening
-machine_first : (c : Config) (machines : List Machine) (k : ℕ) → map (λ a. a.machine) (opening c).machines ≡ machines → k < seat_count c.mutators c.helpers → get_or machines k fresh_helper ≡ opening_machine c k
-machine_first c machines k is below = ap (λ ms. get_or ms k fresh_helper) (sym is ∙ first_machines c) ∙ get_or-map-range_with_len (opening_machine c) 0 (seat_count c.mutators c.helpers) k k fresh_helper below (omega arith)
+machine_first : (c : Config) (machines : List Machine) (k : ℕ) → map (λ a. a.machine) (opening c).machines ≡ machines → k < seat_count c.mutators c.helpers → get_or machines k no_machine ≡ opening_machine c k
+machine_first c machines k is below = ap (λ ms. get_or ms k no_machine) (sym is ∙ first_machines c) ∙ get_or-map-range_with_len (opening_machine c) 0 (seat_count c.mutators c.helpers) k k no_machine below (omega arith)
 
 -- it has made no object
-pub made_first : (c : Config) (machines : List Machine) (k : ℕ) → map (λ a. a.machine) (opening c).machines ≡ machines → k < c.mutators → made_of_machine (get_or machines k fresh_helper) ≡ 0
+pub made_first : (c : Config) (machines : List Machine) (k : ℕ) → map (λ a. a.machine) (opening c).machines ≡ machines → k < c.mutators → made_of_machine (get_or machines k no_machine) ≡ 0
 made_first c machines k is below = ap made_of_machine (machine_first c machines k is (omega arith)) ∙ first_made c k
 
 -- a mutator rests
-rests_first : (c : Config) (machines : List Machine) (t : ℕ) → map (λ a. a.machine) (opening c).machines ≡ machines → t < c.mutators → is_resting (get_or machines t fresh_helper) ≡ true
+rests_first : (c : Config) (machines : List Machine) (t : ℕ) → map (λ a. a.machine) (opening c).machines ≡ machines → t < c.mutators → is_resting (get_or machines t no_machine) ≡ true
 rests_first c machines t is below = ap is_resting (machine_first c machines t is (omega arith)) ∙ first_rests c t below
 
 -- and may be given a command
-pub begins_first : (c : Config) (machines : List Machine) (t : ℕ) → map (λ a. a.machine) (opening c).machines ≡ machines → t < c.mutators → may_begin (get_or machines t fresh_helper) ≡ true
+pub begins_first : (c : Config) (machines : List Machine) (t : ℕ) → map (λ a. a.machine) (opening c).machines ≡ machines → t < c.mutators → may_begin (get_or machines t no_machine) ≡ true
 begins_first c machines t is below = ap may_begin (machine_first c machines t is (omega arith)) ∙ first_free_to_begin c t below
 
 -- a heap that was just opened can run scripts of commands that can be given

@@ -17,13 +17,13 @@ use Rattle.steps_base.specs.Steps.{Stage}
 use Rattle.steps_base.proofs.Runs.{go-none}
 use Rattle.shen_graph.specs.Graph.{Graph}
 use Rattle.mutator.specs.Rows.{mutator_after}
-use Rattle.pause_laws.specs.Image.{full_image}
-use Rattle.step_core.specs.Actor.{mutating, fresh_helper, fresh_control, Actor}
+use Rattle.heap_machines.specs.Pause.{pause_image}
+use Rattle.step_core.specs.Actor.{mutating, fresh_control, Actor, fresh_helper}
+use Rattle.heap_machines.specs.Shown.{no_machine, shown}
 use Rattle.step_core.specs.Actor as actors
 use Rattle.step_core.specs.Machines.{kind, HasNumber, IsIdle}
 use Rattle.step_core.specs.Begins.{Begins, IsNew}
 use Rattle.heap_machines.specs.declared.machine.Machine.{Machine}
-use Rattle.heap_machines.specs.Shown.{shown}
 use Rattle.shen_core.specs.declared.plain.Plain.{Plain}
 use Rattle.shen_core.specs.State.{words_of, machines_of, orders_of}
 use Rattle.shen_core.specs.Runs.{Shows, IsShownBySome}
@@ -46,7 +46,7 @@ other_is c counts free number b none is =
     ap (λ x. if x then fresh_helper else fresh_control free) (sym is)
     ∙ ap (λ x. if x then mutating (mutator_after number (slice_index counts number)) else (if nat_lt number (c.mutators + c.helpers) then fresh_helper else fresh_control free)) (sym none)
 
-pub helper_is : (c : Config) (counts : List ℕ) (free number : ℕ) → (number < c.mutators → ⊥) → number < c.mutators + c.helpers → fresh_helper ≡ machine_from c counts free number
+pub helper_is : (c : Config) (counts : List ℕ) (free number : ℕ) → (number < c.mutators → ⊥) → number < c.mutators + c.helpers → no_machine ≡ machine_from c counts free number
 helper_is c counts free number none below = other_is c counts free number true (le-ltb number c.mutators (omega arith)) (lt-ltb number (c.mutators + c.helpers) below)
 
 pub control_is : (c : Config) (counts : List ℕ) (free number : ℕ) → number ≡ c.mutators + c.helpers → fresh_control free ≡ machine_from c counts free number
@@ -112,7 +112,7 @@ pub shown_from : (c : Config) (words counts held : List ℕ) (machines : List ac
     → ∥ IsShownBySome c held machines ∥₁
 shown_from c words counts held machines long shows some = ∥∥₁_map some (λ can. record {
   run = record { start = stage_from c words counts; graph = can.0; begins = begins_from c words counts long can.0 can.1; events = [] };
-  shows = subst (λ s. Shows held machines s) (sym (go-none (kind full_image c) (stage_from c words counts))) shows;
+  shows = subst (λ s. Shows held machines s) (sym (go-none (kind pause_image c) (stage_from c words counts))) shows;
 })
 
 -- what is known of a heap of words and machines
@@ -124,9 +124,9 @@ opened_orders p orders is none = subst (λ os. All (λ order. order ≡ Nothing)
 
 -- the first machine, where there is a mutator: it is one of a thread that has made so many objects
 pub first_from : (c : Config) (words counts : List ℕ) (machines : List actors.Machine) → map (λ a. a.machine) (stage_from c words counts).machines ≡ machines → 0 < c.mutators
-    → slice_index_or machines 0 fresh_helper ≡ mutating (mutator_after 0 (slice_index counts 0))
+    → slice_index_or machines 0 no_machine ≡ mutating (mutator_after 0 (slice_index counts 0))
 first_from c words counts machines is some =
     let made = machine_from c counts (view c words Free) in
-    ap (λ ms. slice_index_or ms 0 fresh_helper) (sym is ∙ stage_machines c words counts)
-    ∙ get_or-map-range_with_len made 0 (seat_count c.mutators c.helpers) 0 0 fresh_helper (omega arith) refl
+    ap (λ ms. slice_index_or ms 0 no_machine) (sym is ∙ stage_machines c words counts)
+    ∙ get_or-map-range_with_len made 0 (seat_count c.mutators c.helpers) 0 0 no_machine (omega arith) refl
     ∙ sym (mutator_is c counts (view c words Free) 0 some)

@@ -1,6 +1,6 @@
 -- How a schedule goes on.
 use Rattle.std.proofs.Common.{◌≡◌, ◌<◌, ℕ, zero, suc, ◌-◌, Bool, true, false, List, [], ◌∷◌, ◌++◌, length, Some, None, refl, sym, ap, ◌∙◌, subst, arith, append_assoc}
-use Rattle.pause_laws.specs.Image.{full_image}
+use Rattle.heap_machines.specs.Pause.{pause_image}
 use Rattle.std.proofs.lemmas.List.{length-append, length-map}
 use Rattle.std.specs.Prelude.{nat_le}
 use Rattle.heap_words.specs.declared.config.Config.{Config}
@@ -25,21 +25,21 @@ use Rattle.heap_machines.specs.declared.stepped.Stepped.TheVariants.{More, Again
 module _ (c : Config) (scripts : Scripts) where
   -- with no event it stays
   pub goes_none : (s : Stage Actor) (todo : Agenda) (left : ℕ) → Goes c scripts s todo left s todo left
-  goes_none s todo left = record { done = []; leads = go-none (kind full_image c) s; events = refl; count = omega arith }
+  goes_none s todo left = record { done = []; leads = go-none (kind pause_image c) s; events = refl; count = omega arith }
 
   -- two parts follow each other
   pub goes_then : (s t u : Stage Actor) (todo rest more : Agenda) (left later last : ℕ) → Goes c scripts s todo left t rest later → Goes c scripts t rest later u more last → Goes c scripts s todo left u more last
   goes_then s t u todo rest more left later last one two = record {
     done = one.done ++ two.done;
-    leads = go-append (kind full_image c) s one.done two.done ∙ ap (λ x. go (kind full_image c) x two.done) one.leads ∙ two.leads;
-    events = one.events ∙ ap (λ es. one.done ++ es) two.events ∙ sym (append_assoc one.done two.done (scheduled full_image c scripts last more u));
+    leads = go-append (kind pause_image c) s one.done two.done ∙ ap (λ x. go (kind pause_image c) x two.done) one.leads ∙ two.leads;
+    events = one.events ∙ ap (λ es. one.done ++ es) two.events ∙ sym (append_assoc one.done two.done (scheduled pause_image c scripts last more u));
     count = (let a = one.count in let b = two.count in let d = length-append one.done two.done in omega arith);
   }
 
   -- where no event is left, it does not matter what is to be done
   pub goes_out : (s : Stage Actor) (todo rest : Agenda) → Goes c scripts s todo 0 s rest 0
   unfolding scheduled
-  goes_out s todo rest = record { done = []; leads = go-none (kind full_image c) s; events = refl; count = omega arith }
+  goes_out s todo rest = record { done = []; leads = go-none (kind pause_image c) s; events = refl; count = omega arith }
 
   -- where the next event is the same, it goes on the same
   pub goes_same : (s : Stage Actor) (todo rest : Agenda) (left : ℕ) → next c scripts s todo ≡ next c scripts s rest → Goes c scripts s todo left s rest left
@@ -47,20 +47,20 @@ module _ (c : Config) (scripts : Scripts) where
   goes_same s todo rest zero same = goes_out s todo rest
   goes_same s todo rest (suc n) same = record {
     done = [];
-    leads = go-none (kind full_image c) s;
-    events = ap (λ x. and_then x (λ y. scheduled full_image c scripts n y.agenda (act (kind full_image c) s y.event))) same;
+    leads = go-none (kind pause_image c) s;
+    events = ap (λ x. and_then x (λ y. scheduled pause_image c scripts n y.agenda (act (kind pause_image c) s y.event))) same;
     count = omega arith;
   }
 
   -- the next event
-  pub goes_next : (s : Stage Actor) (todo rest : Agenda) (e : Event Order) (left : ℕ) → 0 < left → next c scripts s todo ≡ Some (record { event = e; agenda = rest }) → Goes c scripts s todo left (act (kind full_image c) s e) rest (left - 1)
+  pub goes_next : (s : Stage Actor) (todo rest : Agenda) (e : Event Order) (left : ℕ) → 0 < left → next c scripts s todo ≡ Some (record { event = e; agenda = rest }) → Goes c scripts s todo left (act (kind pause_image c) s e) rest (left - 1)
   unfolding scheduled
   goes_next s todo rest e zero some is = absurd (omega arith)
   goes_next s todo rest e (suc n) some is = record {
     done = e ∷ [];
-    leads = go-first (kind full_image c) s e [] ∙ go-none (kind full_image c) (act (kind full_image c) s e);
-    events = ap (λ x. and_then x (λ y. scheduled full_image c scripts n y.agenda (act (kind full_image c) s y.event))) is
-        ∙ ap (λ k. e ∷ scheduled full_image c scripts k rest (act (kind full_image c) s e)) (omega arith);
+    leads = go-first (kind pause_image c) s e [] ∙ go-none (kind pause_image c) (act (kind pause_image c) s e);
+    events = ap (λ x. and_then x (λ y. scheduled pause_image c scripts n y.agenda (act (kind pause_image c) s y.event))) is
+        ∙ ap (λ k. e ∷ scheduled pause_image c scripts k rest (act (kind pause_image c) s e)) (omega arith);
     count = omega arith;
   }
 
@@ -71,7 +71,7 @@ module _ (c : Config) (scripts : Scripts) where
 
   -- an event of a task
   pub goes_task : (s : Stage Actor) (task : Task) (more tasks : List Task) (from : ℕ) (e : Event Order) (left : ℕ) → 0 < left → move_of c scripts s task ≡ Some (record { event = e; tasks = more })
-      → Goes c scripts s (agenda (task ∷ tasks) from) left (act (kind full_image c) s e) (agenda (more ++ tasks) from) (left - 1)
+      → Goes c scripts s (agenda (task ∷ tasks) from) left (act (kind pause_image c) s e) (agenda (more ++ tasks) from) (left - 1)
   goes_task s task more tasks from e left some is = goes_next s (agenda (task ∷ tasks) from) (agenda (more ++ tasks) from) e left some
       (ap (λ m. after_move m tasks from (next_by c scripts s tasks from)) is)
 
@@ -152,7 +152,7 @@ pub task_moves : (p q : Plain) (jobs later : Jobs) (number : ℕ) (result : Step
 task_moves p q jobs later number result task more left turned busy some move tasks from scripts s shows tells =
     let moved = moved_of (config_of p) scripts s number q later result busy (turned scripts s shows tells) in
     record {
-      stage = act (kind full_image (config_of p)) s moved.event;
+      stage = act (kind pause_image (config_of p)) s moved.event;
       goes = goes_task (config_of p) scripts s task more tasks from moved.event left some
           (move scripts s shows tells (ap (waits_then (config_of p) s) moved.is ∙ moved.waits_is) ∙ ap (λ e. moves e more) moved.is);
       shows = moved.shows;

@@ -1,6 +1,6 @@
 -- The words of a `Plain` between calls hold the graph of each run that leads to them.
 use Rattle.std.proofs.Common.{◌≡◌, ℕ, ◌<◌, true, List, take, Option, Some, sym, ap, ◌∙◌, subst, None, refl}
-use Rattle.pause_laws.specs.Image.{full_image}
+use Rattle.heap_machines.specs.Pause.{pause_image}
 use Rattle.std.specs.Prelude.{slice_get, slice_index_or}
 use Rattle.std.specs.Option.{option_map}
 use mathlib.Core.List.{is_set}
@@ -16,7 +16,8 @@ use Rattle.control_steps.specs.declared.spot.ControlSpot.TheVariants.{LoadWord, 
 use Rattle.control.specs.Image.{image_from, IsLoadedFrom}
 use Rattle.heap_machines.specs.Roles.{CanShow}
 use Rattle.heap_machines.proofs.Standing as standing
-use Rattle.step_core.specs.Actor.{Machine, mutating, helping, controlling, fresh_helper, Actor}
+use Rattle.step_core.specs.Actor.{Machine, mutating, helping, controlling, Actor}
+use Rattle.heap_machines.specs.Shown.{no_machine}
 use Rattle.step_core.specs.Begins.{Run, ending, graph_after}
 use Rattle.step_core.specs.Settled.{image_in, image_of, control_number}
 use Rattle.step_core.specs.Machines.{is_resting}
@@ -34,49 +35,49 @@ can_show_is_prop table (mutating m) = hlevel
 can_show_is_prop table (helping h) = hlevel
 can_show_is_prop table (controlling k) = loaded_is_prop table k.spot k.image
 
-module _ (c : Config) (words : List ℕ) (machines : List Machine) (rest : (number : ℕ) → number < c.mutators → is_resting (slice_index_or machines number fresh_helper) ≡ true)
-    (calm : image_in (slice_index_or machines (control_number c) fresh_helper) ≡ None) (run : Run c) (shows : Shows words machines (ending full_image c run)) where
+module _ (c : Config) (words : List ℕ) (machines : List Machine) (rest : (number : ℕ) → number < c.mutators → is_resting (slice_index_or machines number no_machine) ≡ true)
+    (calm : image_in (slice_index_or machines (control_number c) no_machine) ≡ None) (run : Run c) (shows : Shows words machines (ending pause_image c run)) where
   -- the machine of an actor of the stage
-  pub machine_of : (number : ℕ) (a : Actor) → slice_get (ending full_image c run).machines number ≡ Some a → a.machine ≡ slice_index_or machines number fresh_helper
+  pub machine_of : (number : ℕ) (a : Actor) → slice_get (ending pause_image c run).machines number ≡ Some a → a.machine ≡ slice_index_or machines number no_machine
   machine_of number a here =
       let there : slice_get machines number ≡ Some a.machine =
-      ap (λ ms. slice_get ms number) (sym shows.machines_are) ∙ slice_get-map (λ b. b.machine) (ending full_image c run).machines number ∙ ap (option_map (λ b. b.machine)) here in
-      sym (get_or_from_slice_get machines number a.machine fresh_helper there)
+      ap (λ ms. slice_get ms number) (sym shows.machines_are) ∙ slice_get-map (λ b. b.machine) (ending pause_image c run).machines number ∙ ap (option_map (λ b. b.machine)) here in
+      sym (get_or_from_slice_get machines number a.machine no_machine there)
 
   -- the mutators of the stage rest
-  pub at_rest : (t : ℕ) (a : Actor) → t < c.mutators → slice_get (ending full_image c run).machines t ≡ Some a → is_resting a.machine ≡ true
+  pub at_rest : (t : ℕ) (a : Actor) → t < c.mutators → slice_get (ending pause_image c run).machines t ≡ Some a → is_resting a.machine ≡ true
   at_rest t a below here = ap is_resting (machine_of t a here) ∙ rest t below
 
   -- and its control stores no image
-  pub is_calm : image_of (slice_get (ending full_image c run).machines (control_number c)) ≡ None
-  is_calm = by_actor (slice_get (ending full_image c run).machines (control_number c)) refl
+  pub is_calm : image_of (slice_get (ending pause_image c run).machines (control_number c)) ≡ None
+  is_calm = by_actor (slice_get (ending pause_image c run).machines (control_number c)) refl
     where
-      by_actor : (o : Option Actor) → slice_get (ending full_image c run).machines (control_number c) ≡ o → image_of o ≡ None
+      by_actor : (o : Option Actor) → slice_get (ending pause_image c run).machines (control_number c) ≡ o → image_of o ≡ None
       by_actor None here = refl
       by_actor (Some a) here = ap image_in (machine_of (control_number c) a here) ∙ calm
 
   -- the control can work on the words of the image
   pub can_show : (machine : Machine) → slice_get machines (control_number c) ≡ Some machine → CanShow (image_from c words) machine
   can_show machine here =
-      let found = shown_actor words machines (ending full_image c run) (control_number c) machine shows here in
-      subst (λ ws. CanShow (image_from c ws) machine) shows.words_are (subst (CanShow (image_from c (ending full_image c run).words)) found.2 (standing.can_show c run at_rest is_calm found.0 found.1))
+      let found = shown_actor words machines (ending pause_image c run) (control_number c) machine shows here in
+      subst (λ ws. CanShow (image_from c ws) machine) shows.words_are (subst (CanShow (image_from c (ending pause_image c run).words)) found.2 (standing.can_show c run at_rest is_calm found.0 found.1))
 
   -- they hold the graph after the run
-  pub holds : Holds c (image_view c (image_from c words)) (graph_after full_image c run)
-  holds = subst (λ ws. Holds c (image_view c (image_from c ws)) (graph_after full_image c run)) shows.words_are (standing.image_holds c run at_rest is_calm)
+  pub holds : Holds c (image_view c (image_from c words)) (graph_after pause_image c run)
+  holds = subst (λ ws. Holds c (image_view c (image_from c ws)) (graph_after pause_image c run)) shows.words_are (standing.image_holds c run at_rest is_calm)
 
   -- with no region in the collection set
   pub calm_set : image_view c (image_from c words) Cset ≡ 0
   calm_set = subst (λ ws. image_view c (image_from c ws) Cset ≡ 0) shows.words_are (standing.image_calm c run at_rest is_calm)
 
 -- so it is of those that led to the words
-module _ (c : Config) (words : List ℕ) (machines : List Machine) (rest : (number : ℕ) → number < c.mutators → is_resting (slice_index_or machines number fresh_helper) ≡ true)
-    (calm : image_in (slice_index_or machines (control_number c) fresh_helper) ≡ None) (some : ∥ IsShownBySome c words machines ∥₁) where
+module _ (c : Config) (words : List ℕ) (machines : List Machine) (rest : (number : ℕ) → number < c.mutators → is_resting (slice_index_or machines number no_machine) ≡ true)
+    (calm : image_in (slice_index_or machines (control_number c) no_machine) ≡ None) (some : ∥ IsShownBySome c words machines ∥₁) where
   pub some_can_show : (machine : Machine) → slice_get machines (control_number c) ≡ Some machine → CanShow (image_from c words) machine
   some_can_show machine here = ∥∥₁_elim some (can_show_is_prop (image_from c words) machine) (λ s. can_show c words machines rest calm s.run s.shows machine here)
 
   pub some_hold : HoldsSome c (image_view c (image_from c words))
-  some_hold = ∥∥₁_map some (λ s. (graph_after full_image c s.run, holds c words machines rest calm s.run s.shows))
+  some_hold = ∥∥₁_map some (λ s. (graph_after pause_image c s.run, holds c words machines rest calm s.run s.shows))
 
   pub some_calm : image_view c (image_from c words) Cset ≡ 0
   some_calm = let prop : IsProp (image_view c (image_from c words) Cset ≡ 0) = ℕ_set (image_view c (image_from c words) Cset) 0 in ∥∥₁_elim some prop (λ s. calm_set c words machines rest calm s.run s.shows)

@@ -1,6 +1,6 @@
 -- The events of a schedule are turns of its machines. So what each turn keeps, they keep.
 use Rattle.std.proofs.Common.{◌≡◌, ℕ, zero, suc, Bool, true, false, List, [], ◌∷◌, Option, Some, None, refl, sym, ap, ◌∙◌, subst}
-use Rattle.pause_laws.specs.Image.{full_image}
+use Rattle.heap_machines.specs.Pause.{pause_image}
 use Rattle.std.specs.Prelude.{nat_le, if◌then◌else◌}
 use Rattle.std.proofs.lemmas.Option.{same_Some}
 use Rattle.heap_words.specs.declared.config.Config.{Config}
@@ -57,14 +57,14 @@ next_turn c scripts s (t ∷ ts) from x e = by_move (move_of c scripts s t) refl
     by_move (Some m) here others is = subst (λ (z : Next). IsSomeTurn scripts s z.event) (same_Some _ x is) (task_turn c scripts s t m here)
 
 -- what each turn keeps, the events of a schedule keep
-pub schedule_keeps : (c : Config) (scripts : Scripts) (P : Stage Actor → Type 0) → ((s : Stage Actor) (k : ℕ) (e : Event Order) → turn scripts s k ≡ Some e → P s → P (act (kind full_image c) s e))
-    → (n : ℕ) (agenda : Agenda) (s : Stage Actor) → P s → P (go (kind full_image c) s (scheduled full_image c scripts n agenda s))
+pub schedule_keeps : (c : Config) (scripts : Scripts) (P : Stage Actor → Type 0) → ((s : Stage Actor) (k : ℕ) (e : Event Order) → turn scripts s k ≡ Some e → P s → P (act (kind pause_image c) s e))
+    → (n : ℕ) (agenda : Agenda) (s : Stage Actor) → P s → P (go (kind pause_image c) s (scheduled pause_image c scripts n agenda s))
 unfolding scheduled
-schedule_keeps c scripts P keeps zero agenda s p = subst P (sym (go-none (kind full_image c) s)) p
+schedule_keeps c scripts P keeps zero agenda s p = subst P (sym (go-none (kind pause_image c) s)) p
 schedule_keeps c scripts P keeps (suc n) agenda s p = by_next (next c scripts s agenda) refl (schedule_keeps c scripts P keeps n)
   where
-    by_next : (o : Option Next) → next c scripts s agenda ≡ o → ((later : Agenda) (t : Stage Actor) → P t → P (go (kind full_image c) t (scheduled full_image c scripts n later t))) → P (go (kind full_image c) s (and_then o (λ x. scheduled full_image c scripts n x.agenda (act (kind full_image c) s x.event))))
-    by_next None here on = subst P (sym (go-none (kind full_image c) s)) p
+    by_next : (o : Option Next) → next c scripts s agenda ≡ o → ((later : Agenda) (t : Stage Actor) → P t → P (go (kind pause_image c) t (scheduled pause_image c scripts n later t))) → P (go (kind pause_image c) s (and_then o (λ x. scheduled pause_image c scripts n x.agenda (act (kind pause_image c) s x.event))))
+    by_next None here on = subst P (sym (go-none (kind pause_image c) s)) p
     by_next (Some x) here on =
         let is = next_turn c scripts s agenda.tasks agenda.from x here in
-        subst P (sym (go-first (kind full_image c) s x.event _)) (on x.agenda (act (kind full_image c) s x.event) (keeps s is.0 x.event is.1 p))
+        subst P (sym (go-first (kind pause_image c) s x.event _)) (on x.agenda (act (kind pause_image c) s x.event) (keeps s is.0 x.event is.1 p))

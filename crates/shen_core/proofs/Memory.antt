@@ -1,6 +1,6 @@
 -- The step of a machine in memory.
 use Rattle.std.proofs.Common.{◌≡◌, ◌<◌, ℕ, true, List, [], ◌∷◌, ◌++◌, length, get_or, map, All, Some, refl, sym, ap, ◌∙◌, subst}
-use Rattle.pause_laws.specs.Image.{full_image}
+use Rattle.heap_machines.specs.Pause.{pause_image}
 use Rattle.std.specs.Prelude.{slice_get, slice_set, slice_index, slice_index_or}
 use Rattle.std.specs.Option.{option_map}
 use Rattle.std.specs.List.{range_with_len}
@@ -32,7 +32,7 @@ pub record IsMade (config : Config) (words new_words : List ℕ) (machines : Lis
   pub heap : heap_of m ≡ config
   pub takes : has_turn m ≡ true
   pub words_are : new_words ≡ accessed (plan_of (heap_of m) (order_of m) (shown m)) words
-  pub shown_is : shown n ≡ machine_after full_image (heap_of m) (order_of m) (slice_index words (table_index (plan_of (heap_of m) (order_of m) (shown m)))) (shown m)
+  pub shown_is : shown n ≡ machine_after pause_image (heap_of m) (order_of m) (slice_index words (table_index (plan_of (heap_of m) (order_of m) (shown m)))) (shown m)
 
 -- a machine that was read is there
 pub from_read : (machines : List Machine) (number : ℕ) (m : Machine) → number < length machines → m ≡ get_or machines number m → slice_get machines number ≡ Some m
@@ -60,13 +60,13 @@ none_here machines number m none here =
     sym (order_here machines number m here) ∙ none number Nothing (slice_get_within (map order_of machines) number (order_of m) there)
 
 -- the machine of a number, in memory
-pub machine_here : (machines : List Machine) (number : ℕ) (m : Machine) → slice_get machines number ≡ Some m → slice_index_or (map shown machines) number actors.fresh_helper ≡ shown m
-machine_here machines number m here = get_or_from_slice_get (map shown machines) number (shown m) actors.fresh_helper (shown_here machines number m here)
+pub machine_here : (machines : List Machine) (number : ℕ) (m : Machine) → slice_get machines number ≡ Some m → slice_index_or (map shown machines) number no_machine ≡ shown m
+machine_here machines number m here = get_or_from_slice_get (map shown machines) number (shown m) no_machine (shown_here machines number m here)
 
 -- by what the code has read and done
 pub made_from : (config : Config) (words new_words : List ℕ) (machines : List Machine) (number : ℕ) (m n : Machine) (access : Access) (found : ℕ)
     → number < length machines → m ≡ get_or machines number m → All (λ x. heap_of x ≡ config) machines → has_turn m ≡ true → access ≡ plan_of (heap_of m) (order_of m) (shown m)
-    → new_words ≡ accessed access words → found ≡ slice_index words (table_index access) → shown n ≡ machine_after full_image (heap_of m) (order_of m) found (shown m) → IsMade config words new_words machines number m n
+    → new_words ≡ accessed access words → found ≡ slice_index words (table_index access) → shown n ≡ machine_after pause_image (heap_of m) (order_of m) found (shown m) → IsMade config words new_words machines number m n
 made_from config words new_words machines number m n access found below value one_heap takes row words_are found_is shown_is =
     let here = from_read machines number m below value in
     record {
@@ -74,12 +74,12 @@ made_from config words new_words machines number m n access found below value on
       heap = heap_here config machines number m one_heap here;
       takes = takes;
       words_are = words_are ∙ ap (λ x. accessed x words) row;
-      shown_is = shown_is ∙ ap (λ got. machine_after full_image (heap_of m) (order_of m) got (shown m)) (found_is ∙ ap (λ x. slice_index words (table_index x)) row);
+      shown_is = shown_is ∙ ap (λ got. machine_after pause_image (heap_of m) (order_of m) got (shown m)) (found_is ∙ ap (λ x. slice_index words (table_index x)) row);
     }
 
 module _ (config : Config) (words new_words : List ℕ) (machines : List Machine) (number : ℕ) (m n : Machine) (made : IsMade config words new_words machines number m n) where
   -- the machines after its step
-  new_machines_are : map shown (slice_set machines number n) ≡ slice_set (map shown machines) number (machine_after full_image (heap_of m) (order_of m) (slice_index words (table_index (plan_of (heap_of m) (order_of m) (shown m)))) (shown m))
+  new_machines_are : map shown (slice_set machines number n) ≡ slice_set (map shown machines) number (machine_after pause_image (heap_of m) (order_of m) (slice_index words (table_index (plan_of (heap_of m) (order_of m) (shown m)))) (shown m))
   new_machines_are = map-set shown machines number n ∙ ap (λ x. slice_set (map shown machines) number x) made.shown_is
 
   -- the step is one event
@@ -110,7 +110,7 @@ module _ (config : Config) (words new_words : List ℕ) (machines : List Machine
   made_heap same one_heap = All-set (λ y. heap_of y ≡ config) machines number n (same ∙ made.heap) one_heap
 
   -- all that holds of the machines after the step
-  pub made_machines : map shown (slice_set machines number n) ≡ slice_set (map shown machines) number (next_by config words (slice_index_or (map order_of machines) number Nothing) (slice_index_or (map shown machines) number actors.fresh_helper))
+  pub made_machines : map shown (slice_set machines number n) ≡ slice_set (map shown machines) number (next_by config words (slice_index_or (map order_of machines) number Nothing) (slice_index_or (map shown machines) number no_machine))
   made_machines =
       map-set shown machines number n
       ∙ ap (λ x. slice_set (map shown machines) number x)
@@ -137,7 +137,7 @@ pub ordered_none : (machines : List Machine) (number : ℕ) (m n : Machine) → 
 ordered_none machines number m n here same = set_alike order_of machines number m n here same
 
 -- a machine that was put there, and its order
-pub machine_now : (machines : List Machine) (number : ℕ) (m n : Machine) → slice_get machines number ≡ Some m → slice_index_or (map shown (slice_set machines number n)) number actors.fresh_helper ≡ shown n
+pub machine_now : (machines : List Machine) (number : ℕ) (m n : Machine) → slice_get machines number ≡ Some m → slice_index_or (map shown (slice_set machines number n)) number no_machine ≡ shown n
 machine_now machines number m n here = machine_here (slice_set machines number n) number n (slice_get-set_same machines number m n here)
 
 pub order_now : (machines : List Machine) (number : ℕ) (m n : Machine) → slice_get machines number ≡ Some m → slice_index_or (map order_of (slice_set machines number n)) number Nothing ≡ order_of n
@@ -159,7 +159,7 @@ shows_opening c words machines words_are machines_are = record { words_are = sym
 
 -- so no event led to it
 pub shown_by_none : (c : Config) (words : List ℕ) (machines : List actors.Machine) → Shows words machines (opening c) → IsShownBySome c words machines
-shown_by_none c words machines shows = record { run = opening_run c []; shows = subst (λ s. Shows words machines s) (sym (go-none (kind full_image c) (opening c))) shows }
+shown_by_none c words machines shows = record { run = opening_run c []; shows = subst (λ s. Shows words machines s) (sym (go-none (kind pause_image c) (opening c))) shows }
 
 -- there is a machine for each seat
 pub machines_count : (c : Config) (machines : List Machine) → map shown machines ≡ map (opening_machine c) (range_with_len 0 (seat_count c.mutators c.helpers)) → length machines ≡ seat_count c.mutators c.helpers

@@ -1,6 +1,6 @@
 -- After a turn: the machines, the orders and the work.
 use Rattle.std.proofs.Common.{◌≡◌, ◌≢◌, ◌<◌, ⊎_elim, ℕ, Bool, true, false, List, [], ◌∷◌, ◌++◌, length, get_or, map, All, Option, Some, None, refl, sym, ap, ◌∙◌, subst, arith}
-use Rattle.pause_laws.specs.Image.{full_image}
+use Rattle.heap_machines.specs.Pause.{pause_image}
 use Rattle.std.specs.Prelude.{◌+◌, slice_get, slice_set, slice_index, nat_lt, if◌then◌else◌}
 use Rattle.std.proofs.lemmas.List.{length-append, get_or-set_same, get_or-set_other, append-nil, set-set}
 use Rattle.std.proofs.lemmas.List.Elements.{All-set}
@@ -25,7 +25,8 @@ use Rattle.heap_machines.proofs.Turns.{says_some}
 use Rattle.heap_machines.proofs.Replies.{listed, took_replies, done_gives, other_gives, given_after}
 use Rattle.heap_machines.proofs.Names.{HasNames, names_on, names_noted}
 use Rattle.heap_machines.proofs.OnScript.{begins, goes_on_with}
-use Rattle.step_core.specs.Actor.{Machine, fresh_helper, Actor}
+use Rattle.step_core.specs.Actor.{Machine, Actor}
+use Rattle.heap_machines.specs.Shown.{no_machine}
 use Rattle.step_core.specs.Machines.{takes_of, plan_of, answer_of, machine_after, kind, is_again, again_by, is_resting, may_begin, reply_in, made_of_machine, at_hand_of}
 use Rattle.heap_machines.specs.Roles.{is_mutating, given_in}
 use Rattle.step_core.specs.Schedule.{Scripts, waits, waits_of, waits_in}
@@ -45,12 +46,12 @@ orders_after old mid new number order mid_is new_is none =
 
 -- the replies of the machine's actor after its event
 pub acted_replies : (c : Config) (s : Stage Actor) (number : ℕ) (order : Order) (a : Actor) (machine : Machine) → slice_get s.machines number ≡ Some a → a.machine ≡ machine → takes_of machine order ≡ true
-    → (b : Actor) → slice_get (act (kind full_image c) s (event number order)).machines number ≡ Some b → map (λ e. e.reply) b.calls ≡ map (λ e. e.reply) a.calls ++ listed (given_in machine)
+    → (b : Actor) → slice_get (act (kind pause_image c) s (event number order)).machines number ≡ Some b → map (λ e. e.reply) b.calls ≡ map (λ e. e.reply) a.calls ++ listed (given_in machine)
 unfolding kind
 acted_replies c s number order a machine here is takes b there =
     let taken : takes_of a.machine order ≡ true = ap (λ x. takes_of x order) is ∙ takes in
-    let one : IsEvent (kind full_image c) s (event number order) a = record { here = here; takes = taken } in
-    let found = ap (λ x. slice_get x.machines number) (act-event (kind full_image c) s (event number order) a one) ∙ slice_get-set_same s.machines number a _ here in
+    let one : IsEvent (kind pause_image c) s (event number order) a = record { here = here; takes = taken } in
+    let found = ap (λ x. slice_get x.machines number) (act-event (kind pause_image c) s (event number order) a one) ∙ slice_get-set_same s.machines number a _ here in
     let same = same_Some _ b (sym found ∙ there) in
     ap (λ x. map (λ e. e.reply) x.calls) (sym same)
     ∙ took_replies a
@@ -59,35 +60,35 @@ acted_replies c s number order a machine here is takes b there =
 -- the work tells the replies after an event that gives none
 pub tells_on : (c : Config) (words : List ℕ) (machines : List Machine) (jobs : Jobs) (number : ℕ) (machine : Machine) (order : Order) (scripts : Scripts) (s : Stage Actor)
     → Shows words machines s → Tells c scripts jobs s → slice_get machines number ≡ Some machine → takes_of machine order ≡ true → given_in machine ≡ None
-    → Tells c scripts jobs (act (kind full_image c) s (event number order))
+    → Tells c scripts jobs (act (kind pause_image c) s (event number order))
 tells_on c words machines jobs number machine order scripts s shows tells here takes none = record {
   scripts_are = tells.scripts_are;
   replies = λ t b below there. ⊎_elim
       (λ (same : t ≡ number).
       let found = shown_actor words machines s number machine shows here in
-      let there_now : slice_get (act (kind full_image c) s (event number order)).machines number ≡ Some b = ap (λ n. slice_get (act (kind full_image c) s (event number order)).machines n) (sym same) ∙ there in
+      let there_now : slice_get (act (kind pause_image c) s (event number order)).machines number ≡ Some b = ap (λ n. slice_get (act (kind pause_image c) s (event number order)).machines n) (sym same) ∙ there in
       let before : slice_get s.machines t ≡ Some found.0 = ap (slice_get s.machines) same ∙ found.1 in
       tells.replies t found.0 below before
       ∙ sym (acted_replies c s number order found.0 machine found.1 found.2 takes b there_now ∙ ap (λ g. map (λ e. e.reply) found.0.calls ++ listed g) none ∙ append-nil _))
-      (λ (other : t ≡ number → ⊥). tells.replies t b below (sym (machines_other (kind full_image c) s (event number order) t other) ∙ there))
+      (λ (other : t ≡ number → ⊥). tells.replies t b below (sym (machines_other (kind pause_image c) s (event number order) t other) ∙ there))
       (cases_eq t number);
 }
 
 -- and with the reply noted after one that gives it
 pub tells_noted : (c : Config) (words : List ℕ) (machines : List Machine) (jobs : Jobs) (number : ℕ) (machine : Machine) (order : Order) (reply : Reply) (scripts : Scripts) (s : Stage Actor)
     → Shows words machines s → Tells c scripts jobs s → slice_get machines number ≡ Some machine → takes_of machine order ≡ true → given_in machine ≡ Some reply → work.HasScript jobs number
-    → Tells c scripts (work.with_reply jobs number reply) (act (kind full_image c) s (event number order))
+    → Tells c scripts (work.with_reply jobs number reply) (act (kind pause_image c) s (event number order))
 tells_noted c words machines jobs number machine order reply scripts s shows tells here takes gives has = record {
   scripts_are = λ t below. script_kept jobs number reply t has ∙ tells.scripts_are t below;
   replies = λ t b below there. ⊎_elim
       (λ (same : t ≡ number).
       let found = shown_actor words machines s number machine shows here in
-      let there_now : slice_get (act (kind full_image c) s (event number order)).machines number ≡ Some b = ap (λ n. slice_get (act (kind full_image c) s (event number order)).machines n) (sym same) ∙ there in
+      let there_now : slice_get (act (kind pause_image c) s (event number order)).machines number ≡ Some b = ap (λ n. slice_get (act (kind pause_image c) s (event number order)).machines n) (sym same) ∙ there in
       let before : slice_get s.machines t ≡ Some found.0 = ap (slice_get s.machines) same ∙ found.1 in
       ap (work.replies_of (work.with_reply jobs number reply)) same ∙ replies_same jobs number reply has
       ∙ ap (λ rs. rs ++ reply ∷ []) (ap (work.replies_of jobs) (sym same) ∙ tells.replies t found.0 below before)
       ∙ sym (acted_replies c s number order found.0 machine found.1 found.2 takes b there_now ∙ ap (λ g. map (λ e. e.reply) found.0.calls ++ listed g) gives))
-      (λ (other : t ≡ number → ⊥). replies_other jobs number reply t other ∙ tells.replies t b below (sym (machines_other (kind full_image c) s (event number order) t other) ∙ there))
+      (λ (other : t ≡ number → ⊥). replies_other jobs number reply t other ∙ tells.replies t b below (sym (machines_other (kind pause_image c) s (event number order) t other) ∙ there))
       (cases_eq t number);
 }
 
@@ -127,11 +128,11 @@ pub record IsAfter (p q : Plain) (jobs later : Jobs) (number : ℕ) (next : Mach
 module _ (p q : Plain) (jobs later : Jobs) (number : ℕ) (next : Machine) (after : IsAfter p q jobs later number next) where
   -- the machine of the turn is the next one
   at_number : machine_at q number ≡ next
-  at_number = ap (λ ms. get_or ms number fresh_helper) after.machines ∙ get_or-set_same (machines_of p) number next fresh_helper after.within
+  at_number = ap (λ ms. get_or ms number no_machine) after.machines ∙ get_or-set_same (machines_of p) number next no_machine after.within
 
   -- all others stay
   at_other : (t : ℕ) → t ≢ number → machine_at q t ≡ machine_at p t
-  at_other t other = ap (λ ms. get_or ms t fresh_helper) after.machines ∙ get_or-set_other (machines_of p) number t next fresh_helper other
+  at_other t other = ap (λ ms. get_or ms t no_machine) after.machines ∙ get_or-set_other (machines_of p) number t next no_machine other
 
   -- the heap can go on with the work
   pub can_run_after : CanRun p jobs → CanRun q later
@@ -178,7 +179,7 @@ pub record IsStepped (p mid q : Plain) (jobs : Jobs) (number : ℕ) (said : Step
 module _ (p mid q : Plain) (jobs : Jobs) (number : ℕ) (said : Stepped) (facts : IsStepped p mid q jobs number said) where
   -- the order changes nothing of the machine
   same_machine : machine_at mid number ≡ machine_at p number
-  same_machine = ap (λ ms. get_or ms number fresh_helper) facts.mid_machines
+  same_machine = ap (λ ms. get_or ms number no_machine) facts.mid_machines
 
   -- what its access finds
   abbrev got : ℕ
@@ -188,7 +189,7 @@ module _ (p mid q : Plain) (jobs : Jobs) (number : ℕ) (said : Stepped) (facts 
   pub below_now : (r : Reply) → given_in (machine_at mid number) ≡ Some r → number < (config_of p).mutators
   below_now r gives =
       ltb-true number (config_of p).mutators
-      (sym facts.role ∙ ap is_mutating (sym same_machine) ∙ (given_after full_image (config_of mid) (order_at mid number) got (machine_at mid number) r gives).role)
+      (sym facts.role ∙ ap is_mutating (sym same_machine) ∙ (given_after pause_image (config_of mid) (order_at mid number) got (machine_at mid number) r gives).role)
 
   -- the heap can go on with work in which others stay
   after_turn : (later : Jobs) → CanRun p jobs → ((t : ℕ) → work.HasScript jobs t → work.HasScript later t) → ((t : ℕ) → work.script_in later t ≡ work.script_in jobs t) → ((t : ℕ) → t ≢ number → work.replies_of later t ≡ work.replies_of jobs t)
@@ -214,8 +215,8 @@ module _ (p mid q : Plain) (jobs : Jobs) (number : ℕ) (said : Stepped) (facts 
       by_may : (b : Bool) → may_begin (machine_at p number) ≡ b → length (work.replies_of jobs number) < length (work.script_in jobs number)
       by_may false none = before.busy number below (goes_on_with (next_for (config_of p) jobs number) (machine_at p number) (order_at mid number) none facts.next).0
       by_may true may =
-          let begun = begins full_image (config_of mid) (next_for (config_of p) jobs number) (machine_at p number) (order_at mid number) got may facts.next
-          (ap (λ x. is_resting (machine_after full_image (config_of mid) (order_at mid number) got x)) (sym same_machine) ∙ busy) in
+          let begun = begins pause_image (config_of mid) (next_for (config_of p) jobs number) (machine_at p number) (order_at mid number) got may facts.next
+          (ap (λ x. is_resting (machine_after pause_image (config_of mid) (order_at mid number) got x)) (sym same_machine) ∙ busy) in
           slice_get_within (work.script_in jobs number) (length (work.replies_of jobs number)) begun.0 (ap (λ b. if b then work.next_of jobs number else None) (sym (lt-ltb number (config_of p).mutators below)) ∙ begun.1)
 
   -- the work is as it was
@@ -224,7 +225,7 @@ module _ (p mid q : Plain) (jobs : Jobs) (number : ℕ) (said : Stepped) (facts 
       can_run_after p q jobs jobs number (next_machine mid number)
       (after_turn jobs before (λ t h. h) (λ t. refl) (λ t other. refl) (more_now before)
       (λ below.
-      names_on full_image (config_of mid) (order_at mid number) got (machine_at mid number) (length (work.script_in jobs number)) (length (work.replies_of jobs number))
+      names_on pause_image (config_of mid) (order_at mid number) got (machine_at mid number) (length (work.script_in jobs number)) (length (work.replies_of jobs number))
       (subst (λ machine. HasNames machine (length (work.script_in jobs number)) (length (work.replies_of jobs number))) (sym same_machine) (before.made number below)) none)) before
 
   -- the reply is noted
@@ -232,9 +233,9 @@ module _ (p mid q : Plain) (jobs : Jobs) (number : ℕ) (said : Stepped) (facts 
   can_run_noted r gives before =
       let below_it = below_now r gives in
       let has = before.jobs_are number below_it in
-      let step = given_after full_image (config_of mid) (order_at mid number) got (machine_at mid number) r gives in
+      let step = given_after pause_image (config_of mid) (order_at mid number) got (machine_at mid number) r gives in
       let now = subst (λ machine. HasNames machine (length (work.script_in jobs number)) (length (work.replies_of jobs number))) (sym same_machine) (before.made number below_it) in
-      let names = names_noted full_image (config_of mid) (order_at mid number) got (machine_at mid number) (length (work.script_in jobs number)) (length (work.replies_of jobs number)) now r gives in
+      let names = names_noted pause_image (config_of mid) (order_at mid number) got (machine_at mid number) (length (work.script_in jobs number)) (length (work.replies_of jobs number)) now r gives in
       let script : length (work.script_in (work.with_reply jobs number r) number) ≡ length (work.script_in jobs number) = ap length (script_kept jobs number r number has) in
       let replies : length (work.replies_of (work.with_reply jobs number r) number) ≡ length (work.replies_of jobs number) + 1 = ap length (replies_same jobs number r has) ∙ length-append (work.replies_of jobs number) (r ∷ []) in
       can_run_after p q jobs (work.with_reply jobs number r) number (next_machine mid number)
@@ -251,7 +252,7 @@ module _ (p mid q : Plain) (jobs : Jobs) (number : ℕ) (said : Stepped) (facts 
   here_mid = machine_within (machines_of mid) number (subst (λ ms. number < length ms) (sym facts.mid_machines) facts.within)
 
   -- what the step has done, where the work now tells the stage after it
-  pub has_turned : (later : Jobs) → ((scripts : Scripts) (s : Stage Actor) → Shows (words_of mid) (machines_of mid) s → Tells (config_of p) scripts jobs s → Tells (config_of p) scripts later (act (kind full_image (config_of p)) s (event number (order_at mid number)))) → HasTurned p jobs number q later said
+  pub has_turned : (later : Jobs) → ((scripts : Scripts) (s : Stage Actor) → Shows (words_of mid) (machines_of mid) s → Tells (config_of p) scripts jobs s → Tells (config_of p) scripts later (act (kind pause_image (config_of p)) s (event number (order_at mid number)))) → HasTurned p jobs number q later said
   has_turned later tells_later scripts s shows tells =
       let found = says_some (config_of mid) (machine_at mid number) (order_at mid number) got facts.has in
       let said_is : said ≡ stepped_of found.0 = facts.says ∙ ap stepped_by found.1 in
@@ -263,7 +264,7 @@ module _ (p mid q : Plain) (jobs : Jobs) (number : ℕ) (said : Stepped) (facts 
         waits_is = shown_waits (config_of p) (words_of mid) (machines_of mid) number (machine_at mid number) (order_at mid number) s (shows_mid s shows) here_mid
             ∙ ap (λ c. again_by (answer_of c (machine_at mid number) (slice_index (words_of mid) (table_index (plan_of c (order_at mid number) (machine_at mid number)))))) (sym facts.mid_config)
             ∙ ap again_by found.1;
-        shows = subst (λ c. Shows (words_of q) (machines_of q) (act (kind full_image c) s (event number (order_at mid number)))) facts.mid_config (facts.event.acts s (shows_mid s shows));
+        shows = subst (λ c. Shows (words_of q) (machines_of q) (act (kind pause_image c) s (event number (order_at mid number)))) facts.mid_config (facts.event.acts s (shows_mid s shows));
         tells = tells_later scripts s (shows_mid s shows) tells;
       }))
 
@@ -288,14 +289,14 @@ module _ (p mid q : Plain) (jobs : Jobs) (number : ℕ) (said : Stepped) (facts 
   -- the machine after its step
   now_next : machine_at q number ≡ next_machine mid number
   now_next =
-      ap (λ ms. get_or ms number fresh_helper) facts.machines
-      ∙ get_or-set_same (machines_of mid) number (next_machine mid number) fresh_helper (subst (λ ms. number < length ms) (sym facts.mid_machines) facts.within)
+      ap (λ ms. get_or ms number no_machine) facts.machines
+      ∙ get_or-set_same (machines_of mid) number (next_machine mid number) no_machine (subst (λ ms. number < length ms) (sym facts.mid_machines) facts.within)
 
   -- after a step that ends a call memory has a reply
   pub has_reply : said ≡ stepped.Done → reply_in (machine_at q number) ≢ None
   has_reply done none =
       let found = some_given done in
-      let given = given_after full_image (config_of mid) (order_at mid number) got (machine_at mid number) found.0 found.1 in
+      let given = given_after pause_image (config_of mid) (order_at mid number) got (machine_at mid number) found.0 found.1 in
       let both : None ≡ Some found.0 = sym none ∙ ap reply_in now_next ∙ given.replied in
       cc
 
@@ -303,7 +304,7 @@ module _ (p mid q : Plain) (jobs : Jobs) (number : ℕ) (said : Stepped) (facts 
   pub reply_given : (r : Reply) → said ≡ stepped.Done → reply_in (machine_at q number) ≡ Some r → given_in (machine_at mid number) ≡ Some r
   reply_given r done has =
       let found = some_given done in
-      let given = given_after full_image (config_of mid) (order_at mid number) got (machine_at mid number) found.0 found.1 in
+      let given = given_after pause_image (config_of mid) (order_at mid number) got (machine_at mid number) found.0 found.1 in
       found.1 ∙ sym given.replied ∙ ap reply_in (sym now_next) ∙ has
 
   -- the mutator of that reply is one of the work, and has a command that it answers
@@ -311,5 +312,5 @@ module _ (p mid q : Plain) (jobs : Jobs) (number : ℕ) (said : Stepped) (facts 
   can_tell before done =
       let found = some_given done in
       let below = below_now found.0 found.1 in
-      let given = given_after full_image (config_of mid) (order_at mid number) got (machine_at mid number) found.0 found.1 in
+      let given = given_after pause_image (config_of mid) (order_at mid number) got (machine_at mid number) found.0 found.1 in
       (before.jobs_are number below, before.busy number below (ap is_resting (sym same_machine) ∙ given.busy))

@@ -1,6 +1,6 @@
 -- Rounds: the machines take turns by their numbers.
 use Rattle.std.proofs.Common.{◌≡◌, ◌<◌, ◌≤◌, ⊎_elim, ℕ, zero, suc, ◌+◌, ◌-◌, List, [], ◌∷◌, ◌++◌, length, map, Option, Some, None, refl, sym, ap, ◌∙◌, subst, arith, append_assoc, drop, get_or}
-use Rattle.pause_laws.specs.Image.{full_image}
+use Rattle.heap_machines.specs.Pause.{pause_image}
 use Rattle.std.specs.List.{range_with_len}
 use Rattle.std.proofs.lemmas.Bool.{cases_eq}
 use Rattle.std.proofs.lemmas.List.{drop_more, length-append, append-nil}
@@ -98,10 +98,10 @@ idle_round c scripts s idle =
     ∙ ap round_of (none_turn scripts s 0 seats (λ k from below. idle k (omega arith)))
 
 -- where there is no event, the schedule has none
-pub scheduled_none : (c : Config) (scripts : Scripts) (s : Stage Actor) (todo : Agenda) (left : ℕ) → next c scripts s todo ≡ None → scheduled full_image c scripts left todo s ≡ []
+pub scheduled_none : (c : Config) (scripts : Scripts) (s : Stage Actor) (todo : Agenda) (left : ℕ) → next c scripts s todo ≡ None → scheduled pause_image c scripts left todo s ≡ []
 unfolding scheduled
 scheduled_none c scripts s todo zero none = refl
-scheduled_none c scripts s todo (suc n) none = ap (λ x. and_then x (λ y. scheduled full_image c scripts n y.agenda (act (kind full_image c) s y.event))) none
+scheduled_none c scripts s todo (suc n) none = ap (λ x. and_then x (λ y. scheduled pause_image c scripts n y.agenda (act (kind pause_image c) s y.event))) none
 
 -- a turn of the rounds, of a machine that is idle
 pub round_idles : (p q : Plain) (jobs later : Jobs) (k : ℕ) (result : Stepped) (left : ℕ) → k < seat_count (config_of p).mutators (config_of p).helpers → HasTurned p jobs k q later result → result ≡ Idle → Runs p jobs (agenda [] k) left q later (agenda [] (k + 1)) left
@@ -114,7 +114,7 @@ pub round_moves : (p q : Plain) (jobs later : Jobs) (k : ℕ) (result : Stepped)
 round_moves p q jobs later k result left below turned busy some scripts s shows tells =
     let moved = moved_of (config_of p) scripts s k q later result busy (turned scripts s shows tells) in
     record {
-      stage = act (kind full_image (config_of p)) s moved.event;
+      stage = act (kind pause_image (config_of p)) s moved.event;
       goes = goes_next (config_of p) scripts s (agenda [] k) (agenda [] (k + 1)) moved.event left some (round_move (config_of p) scripts s k moved.event below moved.is);
       shows = moved.shows;
       tells = moved.tells;
@@ -130,22 +130,22 @@ round_ends p jobs left scripts s shows tells = record {
 }
 
 -- what a run that has ended says besides of the calls of its mutators
-has_run : (c : Config) (scripts : Scripts) (s : Stage Actor) (todo : Agenda) (limit : ℕ) (q : Plain) (later : Jobs) (result : Ran) → Shows q (go (kind full_image c) s (scheduled full_image c scripts limit todo s)) → Tells c scripts later (go (kind full_image c) s (scheduled full_image c scripts limit todo s))
-    → HasEnded c scripts (go (kind full_image c) s (scheduled full_image c scripts limit todo s)) (length (scheduled full_image c scripts limit todo s)) limit result → HasRun c scripts s todo limit q later result
+has_run : (c : Config) (scripts : Scripts) (s : Stage Actor) (todo : Agenda) (limit : ℕ) (q : Plain) (later : Jobs) (result : Ran) → Shows q (go (kind pause_image c) s (scheduled pause_image c scripts limit todo s)) → Tells c scripts later (go (kind pause_image c) s (scheduled pause_image c scripts limit todo s))
+    → HasEnded c scripts (go (kind pause_image c) s (scheduled pause_image c scripts limit todo s)) (length (scheduled pause_image c scripts limit todo s)) limit result → HasRun c scripts s todo limit q later result
 has_run c scripts s todo limit q later result shows tells ended = record {
   shows = shows;
   tells = tells;
   ended = ended;
   calls = all_call c scripts limit todo s;
   whole = λ finished calls.
-      all_have_called c scripts _ (subst (λ r. HasEnded c scripts (go (kind full_image c) s (scheduled full_image c scripts limit todo s)) (length (scheduled full_image c scripts limit todo s)) limit r) finished ended) (all_call c scripts limit todo s calls);
+      all_have_called c scripts _ (subst (λ r. HasEnded c scripts (go (kind pause_image c) s (scheduled pause_image c scripts limit todo s)) (length (scheduled pause_image c scripts limit todo s)) limit r) finished ended) (all_call c scripts limit todo s calls);
 }
 
 -- the end of a run: all machines are idle
 pub ends_idle : (p : Plain) (jobs : Jobs) (left : ℕ) → AllIdle p jobs → EndsRun p jobs (agenda [] 0) left p jobs Finished
 ends_idle p jobs left idle scripts s shows tells =
     let none = scheduled_none (config_of p) scripts s (agenda [] 0) left (idle_round (config_of p) scripts s (idle scripts s shows tells)) in
-    let same : go (kind full_image (config_of p)) s (scheduled full_image (config_of p) scripts left (agenda [] 0) s) ≡ s = ap (go (kind full_image (config_of p)) s) none ∙ go-none (kind full_image (config_of p)) s in
+    let same : go (kind pause_image (config_of p)) s (scheduled pause_image (config_of p) scripts left (agenda [] 0) s) ≡ s = ap (go (kind pause_image (config_of p)) s) none ∙ go-none (kind pause_image (config_of p)) s in
     has_run (config_of p) scripts s (agenda [] 0) left p jobs Finished
     (subst (λ x. Shows p x) (sym same) shows)
     (subst (λ x. Tells (config_of p) scripts jobs x) (sym same) tells)
@@ -155,8 +155,8 @@ ends_idle p jobs left idle scripts s shows tells =
 pub ends_out : (p : Plain) (jobs : Jobs) (left : ℕ) → left ≡ 0 → SomeBusy p jobs → EndsRun p jobs (agenda [] 0) left p jobs Unfinished
 unfolding scheduled
 ends_out p jobs left out busy scripts s shows tells =
-    let none : scheduled full_image (config_of p) scripts left (agenda [] 0) s ≡ [] = ap (λ n. scheduled full_image (config_of p) scripts n (agenda [] 0) s) out in
-    let same : go (kind full_image (config_of p)) s (scheduled full_image (config_of p) scripts left (agenda [] 0) s) ≡ s = ap (go (kind full_image (config_of p)) s) none ∙ go-none (kind full_image (config_of p)) s in
+    let none : scheduled pause_image (config_of p) scripts left (agenda [] 0) s ≡ [] = ap (λ n. scheduled pause_image (config_of p) scripts n (agenda [] 0) s) out in
+    let same : go (kind pause_image (config_of p)) s (scheduled pause_image (config_of p) scripts left (agenda [] 0) s) ≡ s = ap (go (kind pause_image (config_of p)) s) none ∙ go-none (kind pause_image (config_of p)) s in
     has_run (config_of p) scripts s (agenda [] 0) left p jobs Unfinished
     (subst (λ x. Shows p x) (sym same) shows)
     (subst (λ x. Tells (config_of p) scripts jobs x) (sym same) tells)
@@ -174,13 +174,13 @@ ends_then p q r jobs later last todo rest limit left result same runs ends scrip
     let c = config_of p in
     let end : HasRun c scripts went.stage rest left r last result = subst (λ c. HasRun c scripts went.stage rest left r last result) same
     (ends scripts went.stage went.shows (subst (λ c. Tells c scripts later went.stage) (sym same) went.tells)) in
-    let stages : go (kind full_image c) s (scheduled full_image c scripts limit todo s) ≡ go (kind full_image c) went.stage (scheduled full_image c scripts left rest went.stage) =
-    ap (go (kind full_image c) s) went.goes.events ∙ go-append (kind full_image c) s went.goes.done _ ∙ ap (λ x. go (kind full_image c) x (scheduled full_image c scripts left rest went.stage)) went.goes.leads in
-    let lengths : length (scheduled full_image c scripts limit todo s) ≡ length went.goes.done + length (scheduled full_image c scripts left rest went.stage) = ap length went.goes.events ∙ length-append went.goes.done _ in
+    let stages : go (kind pause_image c) s (scheduled pause_image c scripts limit todo s) ≡ go (kind pause_image c) went.stage (scheduled pause_image c scripts left rest went.stage) =
+    ap (go (kind pause_image c) s) went.goes.events ∙ go-append (kind pause_image c) s went.goes.done _ ∙ ap (λ x. go (kind pause_image c) x (scheduled pause_image c scripts left rest went.stage)) went.goes.leads in
+    let lengths : length (scheduled pause_image c scripts limit todo s) ≡ length went.goes.done + length (scheduled pause_image c scripts left rest went.stage) = ap length went.goes.events ∙ length-append went.goes.done _ in
     has_run c scripts s todo limit r last result
     (subst (λ x. Shows r x) (sym stages) end.shows)
     (subst (λ x. Tells c scripts last x) (sym stages) end.tells)
-    (subst (λ n. HasEnded c scripts (go (kind full_image c) s (scheduled full_image c scripts limit todo s)) n limit result) (sym lengths)
+    (subst (λ n. HasEnded c scripts (go (kind pause_image c) s (scheduled pause_image c scripts limit todo s)) n limit result) (sym lengths)
     (ended_more c scripts _ _ (length went.goes.done) _ left limit result stages went.goes.count end.ended))
 
 -- the idle machines so far, and one more

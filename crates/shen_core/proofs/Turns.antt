@@ -1,7 +1,7 @@
 -- The turn of a machine, in each stage that memory shows.
 use Rattle.std.proofs.Common.{◌≡◌, ◌<◌, ℕ, Bool, true, false, List, length, Option, Some, None, refl, sym, ap, ◌∙◌, subst}
-use Rattle.pause_laws.proofs.Pauses.{full_is_pause}
-use Rattle.pause_laws.specs.Image.{full_image}
+use Rattle.heap_machines.proofs.Pauses.{heap_pauses}
+use Rattle.heap_machines.specs.Pause.{pause_image}
 use Rattle.std.specs.Prelude.{nat_lt, slice_get, slice_index, slice_index_or, IfSome, is_some, if◌then◌else◌}
 use Rattle.heap_words.specs.Access.{table_index}
 use Rattle.std.specs.Option.{option_map}
@@ -18,7 +18,8 @@ use Rattle.shen_graph.specs.Valid.{IsValid}
 use Rattle.shen_graph.specs.declared.order.Order.{Order}
 use Rattle.heap_machines.proofs.Turns.{role_of, order_alike, rest_is_mutating, begins_at_rest, order_of_script}
 use Rattle.heap_machines.proofs.Names.{command_fits}
-use Rattle.step_core.specs.Actor.{Machine, fresh_helper, Actor}
+use Rattle.step_core.specs.Actor.{Machine, Actor}
+use Rattle.heap_machines.specs.Shown.{no_machine}
 use Rattle.step_core.specs.Machines.{takes_of, plan_of, order_by, is_machine_at, is_resting, may_begin, made_of_machine, kind}
 use Rattle.heap_machines.specs.Roles.{is_mutating}
 use Rattle.heap_machines.specs.Turn.{order_for}
@@ -37,24 +38,24 @@ use Rattle.shen_core.proofs.Events.{shown_actor}
 -- the machine of a number is a mutator where the number is one of a mutator
 pub role_shown : (c : Config) (words : List ℕ) (machines : List Machine) (number : ℕ) (machine : Machine) → ∥ IsShownBySome c words machines ∥₁ → slice_get machines number ≡ Some machine → is_mutating machine ≡ nat_lt number c.mutators
 role_shown c words machines number machine some here = ∥∥₁_elim some (hlevel (Bool-set)) (λ shown.
-    let found = shown_actor words machines (ending full_image c shown.run) number machine shown.shows here in
-    ap is_mutating (sym found.2) ∙ role_of c number found.0.machine ((run_sound full_image full_is_pause c shown.run).of_heap.roles number found.0 found.1))
+    let found = shown_actor words machines (ending pause_image c shown.run) number machine shown.shows here in
+    ap is_mutating (sym found.2) ∙ role_of c number found.0.machine ((run_sound pause_image heap_pauses c shown.run).of_heap.roles number found.0 found.1))
 
 -- the word that a machine finds is fit
 pub fit_shown : (c : Config) (words : List ℕ) (machines : List Machine) (number : ℕ) (machine : Machine) (order : Order) → ∥ IsShownBySome c words machines ∥₁ → slice_get machines number ≡ Some machine → takes_of machine order ≡ true
     → IsFitFor c order (slice_index words (table_index (plan_of c order machine))) machine
 unfolding kind
 fit_shown c words machines number machine order some here takes = ∥∥₁_elim some (fit_is_prop c order (slice_index words (table_index (plan_of c order machine))) machine) (λ shown.
-    let found = shown_actor words machines (ending full_image c shown.run) number machine shown.shows here in
-    let finds : Finds (kind full_image c) shown.run.start number found.0 order (slice_index words (table_index (plan_of c order machine))) = record {
-      stage = ending full_image c shown.run;
+    let found = shown_actor words machines (ending pause_image c shown.run) number machine shown.shows here in
+    let finds : Finds (kind pause_image c) shown.run.start number found.0 order (slice_index words (table_index (plan_of c order machine))) = record {
+      stage = ending pause_image c shown.run;
       reached = record { events = shown.run.events; ends = refl };
       here = found.1;
       takes = ap (λ x. takes_of x order) found.2 ∙ takes;
-      found = ap (λ ws. slice_index ws (table_index (plan_of c order machine))) (sym shown.shows.words_are) ∙ ap (λ x. slice_index (ending full_image c shown.run).words (table_index (plan_of c order x))) (sym found.2);
+      found = ap (λ ws. slice_index ws (table_index (plan_of c order machine))) (sym shown.shows.words_are) ∙ ap (λ x. slice_index (ending pause_image c shown.run).words (table_index (plan_of c order x))) (sym found.2);
     } in
     subst (λ x. IsFitFor c order (slice_index words (table_index (plan_of c order machine))) x) found.2
-    (found_fit full_image full_is_pause c shown.run.start shown.run.graph shown.run.begins number found.0 order (slice_index words (table_index (plan_of c order machine))) finds))
+    (found_fit pause_image heap_pauses c shown.run.start shown.run.graph shown.run.begins number found.0 order (slice_index words (table_index (plan_of c order machine))) finds))
 
 -- the turn of an actor, by its machine
 pub actor_turn : (scripts : Scripts) (s : Stage Actor) (number : ℕ) (a : Actor) → slice_get s.machines number ≡ Some a → turn scripts s number ≡ option_map (λ order. event number order) (order_for (slice_get (nth_script scripts number) (length a.calls)) a.machine)
@@ -73,8 +74,8 @@ turn_number scripts s k e is = by_actor (slice_get s.machines k) is
     by_actor (Some a) is = by_order (order_by (nth_script scripts k) a.calls a.machine) is
 
 -- there is a machine at each number
-pub machine_within : (machines : List Machine) (number : ℕ) → number < length machines → slice_get machines number ≡ Some (slice_index_or machines number fresh_helper)
-machine_within machines number below = slice_get-get_or machines number fresh_helper below
+pub machine_within : (machines : List Machine) (number : ℕ) → number < length machines → slice_get machines number ≡ Some (slice_index_or machines number no_machine)
+machine_within machines number below = slice_get-get_or machines number no_machine below
 
 -- so a machine of memory is a mutator by its number
 role_within : (p : Plain) (number : ℕ) → number < length (machines_of p) → is_mutating (machine_at p number) ≡ nat_lt number (config_of p).mutators

@@ -4,7 +4,7 @@ use Rattle.heap_words.specs.declared.config.Config.{Config}
 use Rattle.heap_words.specs.declared.schedule.Item.{Item}
 use Rattle.steps_base.specs.Steps.{Stage, go}
 use Rattle.step_core.specs.Actor.{Actor}
-use Rattle.pause_laws.specs.Image.{full_image}
+use Rattle.heap_machines.specs.Pause.{pause_image}
 use Rattle.step_core.specs.Machines.{kind}
 use Rattle.step_core.specs.Schedule.{Scripts, Agenda, scheduled, agenda_of}
 use Rattle.shen_core.specs.declared.plain.Plain.{Plain}
@@ -22,11 +22,11 @@ HasEnded c scripts s events limit Unfinished = (AreIdle c scripts s → ⊥) × 
 -- Memory shows the stage after the events of the agenda, and the work tells its replies. If each mutator's calls were the
 -- first of its script before, they are so then, and where all machines have become idle they are the whole script.
 pub record HasRun (c : Config) (scripts : Scripts) (s : Stage Actor) (agenda : Agenda) (limit : ℕ) (q : Plain) (later : Jobs) (result : Ran) : Type 0 where
-  pub shows : Shows q (go (kind full_image c) s (scheduled full_image c scripts limit agenda s))
-  pub tells : Tells c scripts later (go (kind full_image c) s (scheduled full_image c scripts limit agenda s))
-  pub ended : HasEnded c scripts (go (kind full_image c) s (scheduled full_image c scripts limit agenda s)) (length (scheduled full_image c scripts limit agenda s)) limit result
-  pub calls : AllCall c scripts s → AllCall c scripts (go (kind full_image c) s (scheduled full_image c scripts limit agenda s))
-  pub whole : result ≡ Finished → AllCall c scripts s → AllHaveCalled c scripts (go (kind full_image c) s (scheduled full_image c scripts limit agenda s))
+  pub shows : Shows q (go (kind pause_image c) s (scheduled pause_image c scripts limit agenda s))
+  pub tells : Tells c scripts later (go (kind pause_image c) s (scheduled pause_image c scripts limit agenda s))
+  pub ended : HasEnded c scripts (go (kind pause_image c) s (scheduled pause_image c scripts limit agenda s)) (length (scheduled pause_image c scripts limit agenda s)) limit result
+  pub calls : AllCall c scripts s → AllCall c scripts (go (kind pause_image c) s (scheduled pause_image c scripts limit agenda s))
+  pub whole : result ≡ Finished → AllCall c scripts s → AllHaveCalled c scripts (go (kind pause_image c) s (scheduled pause_image c scripts limit agenda s))
 
 -- whatever stage memory showed, the agenda was run from there
 abbrev pub EndsRun : Plain → Jobs → Agenda → ℕ → Plain → Jobs → Ran → Type 0

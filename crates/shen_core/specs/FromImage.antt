@@ -3,31 +3,36 @@ use Rattle.std.specs.Prelude.{ℕ, ◌≡◌, ◌+◌, ◌<◌, List, [], map, n
 use Rattle.std.specs.List.{range_with_len}
 use Rattle.heap_words.specs.declared.config.Config.{Config}
 use Rattle.heap_words.specs.Ranges.{seat_count}
-use Rattle.heap_words.specs.Words.{Word, Free, view}
+use Rattle.heap_words.specs.Words.{Word, Phase, Free, view}
 use Rattle.steps_base.specs.Steps.{Stage}
 use Rattle.shen_graph.specs.declared.command.Command.TheVariants.{Gc}
 use Rattle.shen_graph.specs.Graph.{Graph}
 use Rattle.mutator.specs.Rows.{mutator_after}
+use Rattle.control_steps.specs.declared.spot.ControlSpot.TheVariants.{LookLeft}
 use Rattle.heap_world.specs.Asking.{nothing}
 use Rattle.heap_world.specs.Represents.{Represents}
-use Rattle.step_core.specs.Actor.{Machine, mutating, fresh_helper, fresh_control, Actor}
+use Rattle.step_core.specs.Actor.{Machine, mutating, fresh_helper, controlling, Actor}
 use Rattle.step_core.specs.Begins.{IsCalmOutside}
 
--- The machine of a number: the mutators come first, whose threads have made so many objects, then the helpers, then the control,
--- which has seen this free word.
-abbrev pub machine_from : Config → List ℕ → ℕ → ℕ → Machine
-machine_from c counts free number =
-    if nat_lt number c.mutators then mutating (mutator_after number (slice_index counts number))
-    else (if nat_lt number (c.mutators + c.helpers) then fresh_helper else fresh_control free)
+-- a control that knows the phase of these words and has seen their free word
+abbrev pub control_from : (Word → ℕ) → Machine
+control_from memory = controlling (record { spot = LookLeft; seen = memory Free; phase = memory Phase; image = [] })
 
-abbrev pub actor_from : Config → List ℕ → ℕ → ℕ → Actor
-actor_from c counts free number = record { machine = machine_from c counts free number; command = Gc; calls = [] }
+-- The machine of a number in a heap of these words: the mutators come first, whose threads have made so many objects, then the
+-- helpers, then the control.
+abbrev pub machine_from : Config → List ℕ → (Word → ℕ) → ℕ → Machine
+machine_from c counts memory number =
+    if nat_lt number c.mutators then mutating (mutator_after number (slice_index counts number))
+    else (if nat_lt number (c.mutators + c.helpers) then fresh_helper number else control_from memory)
+
+abbrev pub actor_from : Config → List ℕ → (Word → ℕ) → ℕ → Actor
+actor_from c counts memory number = record { machine = machine_from c counts memory number; command = Gc; calls = [] }
 
 -- the stage of these words, before the first event
 unfoldable pub stage_from : Config → List ℕ → List ℕ → Stage Actor
 stage_from c words counts = record {
   words = words;
-  machines = map (actor_from c counts (view c words Free)) (range_with_len 0 (seat_count c.mutators c.helpers));
+  machines = map (actor_from c counts (view c words)) (range_with_len 0 (seat_count c.mutators c.helpers));
 }
 
 -- The words stand for the graph, in which the threads have made so many objects; nobody waits, no pause is wanted, no machine

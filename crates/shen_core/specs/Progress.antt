@@ -11,7 +11,7 @@ use Rattle.shen_graph.specs.Work as work
 use Rattle.shen_graph.specs.declared.order.Order.{Order}
 use Rattle.shen_graph.specs.declared.order.Order.TheVariants.{Nothing}
 use Rattle.step_core.specs.Actor.{Actor}
-use Rattle.pause_laws.specs.Image.{full_image}
+use Rattle.heap_machines.specs.Pause.{pause_image}
 use Rattle.step_core.specs.Settled.{image_in, control_number}
 use Rattle.step_core.specs.Machines.{kind, made_of_machine, at_hand_of, is_resting}
 use Rattle.heap_machines.specs.Turn.{order_for}
@@ -29,8 +29,8 @@ Jobs = List (Option work.Progress)
 -- Events lead from a stage with an agenda and so many events left to another, and the schedule goes on from there.
 pub record Goes (c : Config) (scripts : Scripts) (s : Stage Actor) (agenda : Agenda) (left : ℕ) (t : Stage Actor) (rest : Agenda) (later : ℕ) : Type 0 where
   pub done : List (Event Order)
-  pub leads : go (kind full_image c) s done ≡ t
-  pub events : scheduled full_image c scripts left agenda s ≡ done ++ scheduled full_image c scripts later rest t
+  pub leads : go (kind pause_image c) s done ≡ t
+  pub events : scheduled pause_image c scripts left agenda s ≡ done ++ scheduled pause_image c scripts later rest t
   pub count : length done + later ≡ left
 
 -- the work has these scripts, and its replies are those of the calls that the machines of the stage have ended
@@ -79,8 +79,8 @@ pub record IsMoved (c : Config) (scripts : Scripts) (s : Stage Actor) (number : 
   pub event : Event Order
   pub is : turn scripts s number ≡ Some event
   pub waits_is : waits c s event ≡ waiting
-  pub shows : Shows p (act (kind full_image c) s event)
-  pub tells : Tells c scripts jobs (act (kind full_image c) s event)
+  pub shows : Shows p (act (kind pause_image c) s event)
+  pub tells : Tells c scripts jobs (act (kind pause_image c) s event)
 
 -- what a turn has done, by what the machine said
 abbrev pub Turned : Config → Scripts → Stage Actor → ℕ → Plain → Jobs → Stepped → Type 0

@@ -5,7 +5,7 @@ use Rattle.heap_words.specs.declared.config.Config.{Config}
 use Rattle.steps_base.specs.Steps.{Stage, Event, act, go, IsEvent}
 use Rattle.shen_graph.specs.declared.order.Order.{Order}
 use Rattle.step_core.specs.Actor.{Machine, Actor}
-use Rattle.pause_laws.specs.Image.{full_image}
+use Rattle.heap_machines.specs.Pause.{pause_image}
 use Rattle.step_core.specs.Machines.{plan_of, machine_after, kind}
 use Rattle.step_core.specs.Begins.{Run, ending}
 
@@ -17,7 +17,7 @@ pub record Shows (words : List ℕ) (machines : List Machine) (s : Stage Actor) 
 -- some run leads to these words and machines
 pub record IsShownBySome (c : Config) (words : List ℕ) (machines : List Machine) : Type 0 where
   pub run : Run c
-  pub shows : Shows words machines (ending full_image c run)
+  pub shows : Shows words machines (ending pause_image c run)
 
 abbrev pub event : ℕ → Order → Event Order
 event number order = record { number = number; order = order }
@@ -25,11 +25,11 @@ event number order = record { number = number; order = order }
 -- One event of a machine leads from these words and machines to those: whatever events lead to these, the same and this
 -- one lead to those.
 pub record IsOneEvent (c : Config) (words : List ℕ) (machines : List Machine) (new_words : List ℕ) (new_machines : List Machine) (number : ℕ) (order : Order) : Type 0 where
-  pub is_event : (s : Stage Actor) → Shows words machines s → (a : Actor) × IsEvent (kind full_image c) s (event number order) a
-  pub acts : (s : Stage Actor) → Shows words machines s → Shows new_words new_machines (act (kind full_image c) s (event number order))
-  pub goes_on : (start : Stage Actor) (events : List (Event Order)) → Shows words machines (go (kind full_image c) start events)
-      → Shows new_words new_machines (go (kind full_image c) start (events ++ event number order ∷ []))
+  pub is_event : (s : Stage Actor) → Shows words machines s → (a : Actor) × IsEvent (kind pause_image c) s (event number order) a
+  pub acts : (s : Stage Actor) → Shows words machines s → Shows new_words new_machines (act (kind pause_image c) s (event number order))
+  pub goes_on : (start : Stage Actor) (events : List (Event Order)) → Shows words machines (go (kind pause_image c) start events)
+      → Shows new_words new_machines (go (kind pause_image c) start (events ++ event number order ∷ []))
 
 -- a machine after the step that it makes on these words
 abbrev pub next_by : Config → List ℕ → Order → Machine → Machine
-next_by c words order machine = machine_after full_image c order (slice_index words (table_index (plan_of c order machine))) machine
+next_by c words order machine = machine_after pause_image c order (slice_index words (table_index (plan_of c order machine))) machine

@@ -9,7 +9,7 @@ use Rattle.shen_graph.specs.declared.order.Order.TheVariants.{Nothing}
 use Rattle.step_core.specs.Actor as actors
 use Rattle.step_core.specs.Machines.{takes_of, plan_of}
 use Rattle.shen_core.specs.declared.plain.Plain.{Plain}
-use Rattle.heap_machines.specs.Shown.{shown, order_of}
+use Rattle.heap_machines.specs.Shown.{shown, order_of, no_machine}
 use Rattle.shen_core.specs.Runs as runs
 
 -- its heap
@@ -38,7 +38,7 @@ Shows p s = runs.Shows (words_of p) (machines_of p) s
 
 -- one machine, and the order that it was given
 abbrev pub machine_at : Plain → ℕ → actors.Machine
-machine_at p number = slice_index_or (machines_of p) number actors.fresh_helper
+machine_at p number = slice_index_or (machines_of p) number no_machine
 
 abbrev pub order_at : Plain → ℕ → Order
 order_at p number = slice_index_or (orders_of p) number Nothing

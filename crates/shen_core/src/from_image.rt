@@ -3,7 +3,7 @@
 ghost use Rattle.std.specs.Prelude.{◌≡◌, ℕ, ◌+◌, ◌<◌, length, map, All, IfOk};
 ghost use Rattle.std.specs.List.{range_with_len};
 ghost use Rattle.heap_words.specs.Ranges.{seat_count};
-ghost use Rattle.heap_words.specs.Words.{Free};
+ghost use Rattle.heap_words.specs.Words.{Word};
 ghost use Rattle.shen_graph.specs.declared.order.Order.TheVariants.{Nothing};
 ghost use Rattle.image_graph.specs.State.{config_of, words_of, memory_of};
 ghost use Rattle.heap_machines.specs.Shown.{shown, order_of, heap_of};
@@ -12,6 +12,7 @@ ghost use Rattle.shen_core.specs.FromImage.{machine_from};
 use control::Control;
 use heap_machines::Machine;
 use heap_words::{Config, NoMemory};
+use helper::Helper;
 use image_graph::Image;
 use mutator::Mutator;
 use std::alloc::Global;
@@ -33,26 +34,26 @@ pub(crate) fn words_from(alloc: Global, image: &Image) -> Result<Vec<u64>, NoMem
 fn machine_at(config: Config, counts: &[u32], number: usize) -> Machine
     requires counts { length counts.now ≡ config.mutators }
     requires number { number < config.mutators + config.helpers }
-    ensures shown { (free : ℕ) → shown result ≡ machine_from config counts.now free number }
+    ensures shown { (memory : Word → ℕ) → shown result ≡ machine_from config counts.now memory number }
     ensures heap { heap_of result ≡ config }
     ensures order { order_of result ≡ Nothing }
 {
     if number < config.mutators() {
         Machine::Mutator(Mutator::after(config, number, counts[number]))
     } else {
-        Machine::Helper { config }
+        Machine::Helper(Helper::new(config, number - config.mutators()))
     }
 }
 
 // The machines of the image's heap: each mutator's thread has made so many objects before, and the control has seen the
-// image's free word.
+// image's phase and free word.
 pub(crate) fn machines_from(
     alloc: Global,
     image: Image,
     counts: &[u32],
 ) -> Result<Vec<Machine>, NoMemory>
     requires { length counts.now ≡ (config_of image).mutators }
-    ensures machines { IfOk result (λ machines. map shown machines.items ≡ map (machine_from (config_of image) counts.now (memory_of image Free)) (range_with_len 0 (seat_count (config_of image).mutators (config_of image).helpers))) }
+    ensures machines { IfOk result (λ machines. map shown machines.items ≡ map (machine_from (config_of image) counts.now (memory_of image)) (range_with_len 0 (seat_count (config_of image).mutators (config_of image).helpers))) }
     ensures heap { IfOk result (λ machines. All (λ m. heap_of m ≡ config_of image) machines.items) }
     ensures orders { IfOk result (λ machines. All (λ m. order_of m ≡ Nothing) machines.items) }
 {

@@ -29,7 +29,7 @@ impl Plain {
     ghost use Rattle.std.specs.Prelude.{◌<◌, ◌↔◌, ◌≢◌, true, false, slice_set, slice_index, Some, None, IfOk, IfSome};
     ghost use Rattle.shen_graph.specs.declared.order.Order.TheVariants.{Nothing, Begin, End};
     ghost use Rattle.shen_graph.specs.Valid.{IsValid};
-    ghost use Rattle.pause_laws.specs.Image.{full_image};
+    ghost use Rattle.heap_machines.specs.Pause.{pause_image};
     ghost use Rattle.heap_words.specs.Access.{table_index};
     ghost use Rattle.step_core.specs.Machines.{takes_of, plan_of, is_machine_at, reply_in, place_in, is_resting, may_begin, made_of_machine, WaitsIn};
     ghost use Rattle.step_core.specs.Opening.{opening};
@@ -281,7 +281,7 @@ impl Plain {
         requires rest { AllRest self.old }
         requires room { heap_size (config_of self.old) ≤ text.old.room }
         requires threads { length text.old.roots ≡ (config_of self.old).mutators }
-        ensures shows { (run : Run (config_of self.old)) → Shows self.old (ending full_image (config_of self.old) run) → texts.ShowsGraph text.new (config_of self.old).mutators (graph_after full_image (config_of self.old) run) }
+        ensures shows { (run : Run (config_of self.old)) → Shows self.old (ending pause_image (config_of self.old) run) → texts.ShowsGraph text.new (config_of self.old).mutators (graph_after pause_image (config_of self.old) run) }
 
         // Nothing else changes.
         ensures unchanged { IsUnchanged self.old self.new }

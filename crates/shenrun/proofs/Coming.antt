@@ -13,7 +13,7 @@ use Rattle.shen_graph.specs.History.{Entry, after, of_thread}
 use Rattle.shen_graph.specs.History as history
 use Rattle.shen_graph.specs.Work as work
 use Rattle.heap_graph.specs.Shows as texts
-use Rattle.pause_laws.specs.Image.{full_image}
+use Rattle.heap_machines.specs.Pause.{pause_image}
 use Rattle.shared_steps.specs.Views.{machine_of, whole}
 use Rattle.shared_steps.proofs.Kept.{kept_some}
 use Rattle.shared_steps.proofs.Shown.{machine_of-whole}
@@ -101,15 +101,15 @@ come_rest c scripts jobs end done n a below here =
 -- ---- the history
 
 module _ (c : Config) (scripts : Scripts) (jobs : Jobs) (end : Closed) (done : HasCome c scripts jobs end) where
-  leads : reached full_image c done.reached.events ≡ closed.stage_of end
+  leads : reached pause_image c done.reached.events ≡ closed.stage_of end
   leads = done.reached.ends
 
-  called : AllHaveCalled c scripts (reached full_image c done.reached.events)
+  called : AllHaveCalled c scripts (reached pause_image c done.reached.events)
   called = subst (λ s. AllHaveCalled c scripts s) (sym leads) done.called
 
   -- the history in which the scripts were called, and what it is
   abbrev pub come_past : List Entry
-  come_past = past full_image c done.reached.events
+  come_past = past pause_image c done.reached.events
 
   pub come_whole : length scripts ≡ c.mutators → IsWhole c scripts done.reached.events
   come_whole count = ends.whole c scripts done.reached.events count (subst (λ s. AreIdle c scripts s) (sym leads) done.idle) called
@@ -120,7 +120,7 @@ module _ (c : Config) (scripts : Scripts) (jobs : Jobs) (end : Closed) (done : H
       let did = called t below in
       told t did.actor below did.here ∙ sym (ap history.replies_of (ends.entries_called c scripts done.reached.events t did))
     where
-      told : (m : ℕ) (a : Actor) → m < c.mutators → slice_get (reached full_image c done.reached.events).machines m ≡ Some a → work.replies_of jobs m ≡ history.replies_of a.calls
+      told : (m : ℕ) (a : Actor) → m < c.mutators → slice_get (reached pause_image c done.reached.events).machines m ≡ Some a → work.replies_of jobs m ≡ history.replies_of a.calls
       told = subst (λ (s : Stage Actor). (m : ℕ) (a : Actor) → m < c.mutators → slice_get s.machines m ≡ Some a → work.replies_of jobs m ≡ history.replies_of a.calls) (sym leads) done.replies
 
 -- ---- the answer

@@ -26,11 +26,12 @@ use Rattle.shen_graph.specs.declared.order.Order.TheVariants.{Nothing}
 use Rattle.control_steps.specs.declared.spot.ControlSpot.{ControlSpot}
 use Rattle.control_steps.specs.declared.spot.ControlSpot.TheVariants.{StoreWord}
 use Rattle.control_steps.specs.Rows.{is_gone}
-use Rattle.pause_laws.specs.Image.{full_image}
-use Rattle.pause_laws.proofs.Pauses.{full_is_pause}
+use Rattle.heap_machines.specs.Pause.{pause_image}
+use Rattle.heap_machines.proofs.Pauses.{heap_pauses}
 use Rattle.heap_machines.specs.Scripts.{HasDoneScript}
 use Rattle.heap_machines.proofs.Standing.{entries_at_rest}
-use Rattle.step_core.specs.Actor.{Machine, mutating, helping, controlling, fresh_helper, Actor}
+use Rattle.step_core.specs.Actor.{Machine, mutating, helping, controlling, Actor}
+use Rattle.heap_machines.specs.Shown.{no_machine}
 use Rattle.step_core.specs.Schedule.{Scripts, nth_script, turn_of}
 use Rattle.step_core.specs.Begun.{begun_by, begun}
 use Rattle.step_core.specs.Settled.{control_number, stored_image, image_in}
@@ -56,7 +57,7 @@ use Rattle.shenrun.specs.Running.{HasFinished}
 -- ---- the entries of each thread
 
 -- the entries of a mutator that has called its script are its calls
-pub entries_called : (c : Config) (scripts : Scripts) (events : List (Event Order)) (t : ℕ) → (called : HasCalled scripts (reached full_image c events) t) → of_thread (past full_image c events) (t + 1) ≡ called.actor.calls
+pub entries_called : (c : Config) (scripts : Scripts) (events : List (Event Order)) (t : ℕ) → (called : HasCalled scripts (reached pause_image c events) t) → of_thread (past pause_image c events) (t + 1) ≡ called.actor.calls
 entries_called c scripts events t called = entries_at_rest c (opening_run c events) t called.actor called.here called.called.rest
 
 -- a thread that is none has no entry
@@ -71,8 +72,8 @@ none_of threads (e ∷ h) t all out = rw (other e.thread (All-head (IsSettled th
 -- ---- the whole history
 
 -- what holds of the end
-end_sound : (c : Config) (events : List (Event Order)) → IsSound c (first_graph c) (reached full_image c events) (past full_image c events)
-end_sound c events = every_list full_image full_is_pause c events
+end_sound : (c : Config) (events : List (Event Order)) → IsSound c (first_graph c) (reached pause_image c events) (past pause_image c events)
+end_sound c events = every_list pause_image heap_pauses c events
 
 -- a mutator that has called its script has begun these commands
 begun_script : (script : List Command) (a : Actor) → HasDoneScript script a → begun_by a ≡ script
@@ -88,39 +89,39 @@ begun_scripts c scripts s count seats all_called =
     let called = all_called t below in
     begun_is c s seats t called.actor below called.here ∙ begun_script (get_or scripts t []) called.actor called.called)
 
-pub whole : (c : Config) (scripts : Scripts) (events : List (Event Order)) → length scripts ≡ c.mutators → AreIdle c scripts (reached full_image c events) → AllHaveCalled c scripts (reached full_image c events) → IsWhole c scripts events
+pub whole : (c : Config) (scripts : Scripts) (events : List (Event Order)) → length scripts ≡ c.mutators → AreIdle c scripts (reached pause_image c events) → AllHaveCalled c scripts (reached pause_image c events) → IsWhole c scripts events
 whole c scripts events count idle all_called = record { idle = idle; follows = follows; legal = record { each = each; crowded = crowded } }
   where
-    sound : IsSound c (first_graph c) (reached full_image c events) (past full_image c events)
+    sound : IsSound c (first_graph c) (reached pause_image c events) (past pause_image c events)
     sound = end_sound c events
 
-    each : EachIsLegal (graph_opening (length scripts)) (past full_image c events)
-    each = subst (λ (n : ℕ). EachIsLegal (graph_opening n) (past full_image c events)) (sym count) sound.legal
+    each : EachIsLegal (graph_opening (length scripts)) (past pause_image c events)
+    each = subst (λ (n : ℕ). EachIsLegal (graph_opening n) (past pause_image c events)) (sym count) sound.legal
 
-    crowded : AreCrowded c.regions c.region_words (graph_opening (length scripts)) scripts (past full_image c events)
+    crowded : AreCrowded c.regions c.region_words (graph_opening (length scripts)) scripts (past pause_image c events)
     crowded =
-        subst (λ (n : ℕ). AreCrowded c.regions c.region_words (graph_opening n) scripts (past full_image c events)) (sym count)
-        (subst (λ (begun_then : Scripts). AreCrowded c.regions c.region_words (first_graph c) begun_then (past full_image c events))
-        (begun_scripts c scripts (reached full_image c events) count sound.of_heap.machines all_called) sound.crowded)
+        subst (λ (n : ℕ). AreCrowded c.regions c.region_words (graph_opening n) scripts (past pause_image c events)) (sym count)
+        (subst (λ (begun_then : Scripts). AreCrowded c.regions c.region_words (first_graph c) begun_then (past pause_image c events))
+        (begun_scripts c scripts (reached pause_image c events) count sound.of_heap.machines all_called) sound.crowded)
 
-    follows : (thread : ℕ) → commands_of (of_thread (past full_image c events) thread) ≡ history.script_of scripts thread
-    follows zero = ap commands_of (none_of c.mutators (past full_image c events) 0 sound.entries (inl refl))
+    follows : (thread : ℕ) → commands_of (of_thread (past pause_image c events) thread) ≡ history.script_of scripts thread
+    follows zero = ap commands_of (none_of c.mutators (past pause_image c events) 0 sound.entries (inl refl))
     follows (suc t) = by_thread (cases_lt t c.mutators)
       where
-        by_thread : (t < c.mutators) ⊎ (c.mutators ≤ t) → commands_of (of_thread (past full_image c events) (suc t)) ≡ slice_index_or scripts t []
+        by_thread : (t < c.mutators) ⊎ (c.mutators ≤ t) → commands_of (of_thread (past pause_image c events) (suc t)) ≡ slice_index_or scripts t []
         by_thread (inl below) =
             let called = all_called t below in
             let next : suc t ≡ t + 1 = omega arith in
-            ap (λ (n : ℕ). commands_of (of_thread (past full_image c events) n)) next ∙ ap commands_of (entries_called c scripts (events) t called) ∙ called.called.commands
+            ap (λ (n : ℕ). commands_of (of_thread (past pause_image c events) n)) next ∙ ap commands_of (entries_called c scripts (events) t called) ∙ called.called.commands
         by_thread (inr past_all) =
-            ap commands_of (none_of c.mutators (past full_image c events) (suc t) sound.entries (inr (omega arith))) ∙ sym (get_or_past scripts t [] (omega arith))
+            ap commands_of (none_of c.mutators (past pause_image c events) (suc t) sound.entries (inr (omega arith))) ∙ sym (get_or_past scripts t [] (omega arith))
 
 -- ---- memory in the end
 
 machine_shown : (p : Plain) (s : Stage Actor) (t : ℕ) (a : Actor) → Shows p s → slice_get s.machines t ≡ Some a → machine_at p t ≡ a.machine
 machine_shown p s t a shows here =
-    sym (ap (λ (ms : List Machine). get_or ms t fresh_helper) shows.machines_are)
-    ∙ get_or_from_slice_get (map (λ (b : Actor). b.machine) s.machines) t a.machine fresh_helper (slice_get-map (λ (b : Actor). b.machine) s.machines t ∙ ap (option_map (λ (b : Actor). b.machine)) here)
+    sym (ap (λ (ms : List Machine). get_or ms t no_machine) shows.machines_are)
+    ∙ get_or_from_slice_get (map (λ (b : Actor). b.machine) s.machines) t a.machine no_machine (slice_get-map (λ (b : Actor). b.machine) s.machines t ∙ ap (option_map (λ (b : Actor). b.machine)) here)
 
 -- an end of the control is no time at which it stores
 gone_stores_none : (spot : ControlSpot) (image : List ℕ) → ◌≡◌ {A = Option Order} (if is_gone spot then None else Some Nothing) None → stored_image spot image ≡ None
@@ -147,7 +148,7 @@ none_stored c scripts s p seats idle shows =
     ∙ idle_stores_none (nth_script scripts (control_number c)) a.calls a.machine (nothing_of _ (order_by (nth_script scripts (control_number c)) a.calls a.machine) no_turn)
   where
     other : Actor
-    other = record { machine = fresh_helper; command = Gc; calls = [] }
+    other = record { machine = no_machine; command = Gc; calls = [] }
 
 pub all_rest : (c : Config) (scripts : Scripts) (items : List Item) (limit : ℕ) (jobs : Jobs) (p : Plain) → HasFinished c scripts items limit jobs p → AllRest p
 all_rest c scripts items limit jobs p done = record {

@@ -6,7 +6,7 @@ use Rattle.steps_base.specs.Steps.{Stage, Event}
 use Rattle.shen_graph.specs.History.{Entry, Follows}
 use Rattle.shen_graph.specs.Crowd.{IsLegalHistory}
 use Rattle.shen_graph.specs.declared.order.Order.{Order}
-use Rattle.pause_laws.specs.Image.{full_image}
+use Rattle.heap_machines.specs.Pause.{pause_image}
 use Rattle.step_core.specs.Actor.{Actor}
 use Rattle.step_core.specs.Opening.{opening}
 use Rattle.step_core.specs.Schedule.{Scripts, schedule_events}
@@ -18,22 +18,22 @@ use Rattle.trace_writing.specs.Answer.{IsAnswerText}
 -- the events of a trace, in a heap whose pauses are full collections: those of its schedule and of the rounds after it, from
 -- the opening on, cut after so many
 abbrev pub events_of : Config → Scripts → List Item → ℕ → List (Event Order)
-events_of c scripts items limit = schedule_events full_image c scripts items limit (opening c)
+events_of c scripts items limit = schedule_events pause_image c scripts items limit (opening c)
 
 -- the history of these events, and the words and machines after them
 abbrev pub history_of : Config → Scripts → List Item → ℕ → List Entry
-history_of c scripts items limit = past full_image c (events_of c scripts items limit)
+history_of c scripts items limit = past pause_image c (events_of c scripts items limit)
 
 abbrev pub end_of : Config → Scripts → List Item → ℕ → Stage Actor
-end_of c scripts items limit = reached full_image c (events_of c scripts items limit)
+end_of c scripts items limit = reached pause_image c (events_of c scripts items limit)
 
 -- Events from the opening on, after which all machines are idle: all mutators have ended, and the control has. In their history
 -- each thread's commands are its script, whole and in order; each entry is a legal step from the opening graph; and each
 -- allocation that was refused was crowded out by live objects and the other threads' allocations that were not answered yet.
 pub record IsWhole (c : Config) (scripts : Scripts) (events : List (Event Order)) : Type 0 where
-  pub idle : AreIdle c scripts (reached full_image c events)
-  pub follows : Follows scripts (past full_image c events)
-  pub legal : IsLegalHistory c.regions c.region_words scripts (past full_image c events)
+  pub idle : AreIdle c scripts (reached pause_image c events)
+  pub follows : Follows scripts (past pause_image c events)
+  pub legal : IsLegalHistory c.regions c.region_words scripts (past pause_image c events)
 
 -- The bytes are a trace, its events come to an end, and the text is the answer of their history.
 pub record IsReplayed (bytes : List ℕ) (limit : ℕ) (out : List ℕ) : Type 0 where
@@ -53,7 +53,7 @@ pub record IsRun (bytes : List ℕ) (out : List ℕ) : Type 0 where
   pub reads : Reads bytes config scripts items
   pub events : List (Event Order)
   pub whole : IsWhole config scripts events
-  pub text : IsAnswerText config.mutators (past full_image config events) out
+  pub text : IsAnswerText config.mutators (past pause_image config events) out
 
 -- so many events of a trace leave a machine that is not idle
 pub record IsCut (c : Config) (scripts : Scripts) (items : List Item) (limit : ℕ) : Type 0 where

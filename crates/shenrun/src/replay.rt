@@ -8,7 +8,7 @@ ghost use Rattle.heap_words.specs.declared.schedule.Item.{Item};
 ghost use Rattle.shen_graph.specs.declared.command.Command.{Command};
 ghost use Rattle.shen_graph.specs.Work.{HasScript};
 ghost use Rattle.heap_graph.specs.Shows.{ShowsGraph};
-ghost use Rattle.pause_laws.specs.Image.{full_image};
+ghost use Rattle.heap_machines.specs.Pause.{pause_image};
 ghost use Rattle.step_core.specs.Begins.{Run, ending, graph_after};
 ghost use Rattle.shen_core.specs.State as memory;
 ghost use Rattle.shen_core.specs.State.{config_of};
@@ -79,7 +79,7 @@ fn run(alloc: Global, trace: Trace, steps: u64) -> Result<(Work, Plain), Refusal
 fn graph_of(alloc: Global, config: Config, plain: &mut Plain) -> Result<GraphText, Refusal>
     requires config { config_of plain.old ≡ config }
     requires rest { AllRest plain.old }
-    ensures shows { IfOk result (λ text. (run : Run config) → memory.Shows plain.old (ending full_image config run) → ShowsGraph text config.mutators (graph_after full_image config run)) }
+    ensures shows { IfOk result (λ text. (run : Run config) → memory.Shows plain.old (ending pause_image config run) → ShowsGraph text config.mutators (graph_after pause_image config run)) }
     ensures threads { IfOk result (λ text. length text.roots ≡ config.mutators) }
     ensures fault { IfErr result (λ e. e ≡ Refusal.NoMemory) }
 {

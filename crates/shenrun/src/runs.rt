@@ -5,7 +5,7 @@ ghost use Rattle.steps_base.specs.Steps.{Event, go};
 ghost use Rattle.shen_graph.specs.declared.order.Order.{Order};
 ghost use Rattle.shen_graph.specs.Work.{HasScript};
 ghost use Rattle.heap_graph.specs.Shows.{ShowsGraph};
-ghost use Rattle.pause_laws.specs.Image.{full_image};
+ghost use Rattle.heap_machines.specs.Pause.{pause_image};
 ghost use Rattle.shen_core.specs.Progress.{IsRunnable};
 ghost use Rattle.step_core.specs.Begins.{Run, ending, graph_after};
 ghost use Rattle.text_writer.specs.Sending.{outlet};
@@ -74,7 +74,7 @@ pub fn run_scripts<R: Threads + Wait + Sync, G: Gate>(
 pub fn graph_of(alloc: Global, config: Config, heap: &mut Closed) -> Result<GraphText, NoMemory>
     requires config { config_of heap.old ≡ config }
     requires rest { AllRest heap.old }
-    ensures shows { IfOk result (λ text. (run : Run config) → ending full_image config run ≡ stage_of heap.old → ShowsGraph text config.mutators (graph_after full_image config run)) }
+    ensures shows { IfOk result (λ text. (run : Run config) → ending pause_image config run ≡ stage_of heap.old → ShowsGraph text config.mutators (graph_after pause_image config run)) }
     ensures threads { IfOk result (λ text. length text.roots ≡ config.mutators) }
 {
     let Ok(mut text) = GraphText::open(alloc, config.heap_size(), config.mutators()) else {

@@ -2,7 +2,7 @@
 use Rattle.std.specs.Prelude.{ℕ, ◌≡◌, List, length}
 use Rattle.heap_words.specs.declared.schedule.Item.{Item}
 use Rattle.steps_base.specs.Steps.{Stage}
-use Rattle.pause_laws.specs.Image.{full_image}
+use Rattle.heap_machines.specs.Pause.{pause_image}
 use Rattle.step_core.specs.Actor.{Actor}
 use Rattle.step_core.specs.Schedule.{Scripts, Agenda, agenda_of, scheduled}
 use Rattle.shen_core.specs.declared.plain.Plain.{Plain}
@@ -11,7 +11,7 @@ use Rattle.shen_core.specs.Progress.{Jobs, Tells}
 
 -- whatever stage memory showed, the agenda has so many events from there, cut after a limit
 abbrev pub HasEvents : Plain → Jobs → Agenda → ℕ → ℕ → Type 0
-HasEvents p jobs todo limit events = (scripts : Scripts) (s : Stage Actor) → Shows p s → Tells (config_of p) scripts jobs s → length (scheduled full_image (config_of p) scripts limit todo s) ≡ events
+HasEvents p jobs todo limit events = (scripts : Scripts) (s : Stage Actor) → Shows p s → Tells (config_of p) scripts jobs s → length (scheduled pause_image (config_of p) scripts limit todo s) ≡ events
 
 -- and so a schedule
 abbrev pub CountsEvents : Plain → Jobs → List Item → ℕ → ℕ → Type 0

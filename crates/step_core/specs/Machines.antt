@@ -105,7 +105,7 @@ next_order (Some command) = Begin command
 -- What it does on its turn, by its script and the calls that it has ended: in a call it goes on. It is idle where it has ended.
 abbrev pub order_by : List Command → List Entry → Machine → Option Order
 order_by script calls (mutating m) = if takes_commands m.spot then Some (next_order (slice_get script (length calls))) else (if is_between_calls m.spot then None else Some Nothing)
-order_by script calls (helping h) = None
+order_by script calls (helping h) = if help.is_gone h.spot then None else Some Nothing
 order_by script calls (controlling k) = if is_gone k.spot then None else Some Nothing
 
 -- whether its next access, under what it does on its turn, stands at a place. A machine that is idle stands nowhere

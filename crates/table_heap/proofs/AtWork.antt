@@ -5,7 +5,7 @@ use Rattle.std.proofs.lemmas.Bool.{false≢true}
 use Rattle.std.proofs.lemmas.List.{length-append, length-map, append-nil}
 use Rattle.std.proofs.lemmas.Option.{slice_get_within}
 use Rattle.heap_words.specs.declared.config.Config.{Config}
-use Rattle.pause_laws.specs.Image.{full_image}
+use Rattle.heap_machines.specs.Pause.{pause_image}
 use Rattle.shen_graph.specs.declared.command.Command.{Command}
 use Rattle.shen_graph.specs.declared.command.Reply.{Reply}
 use Rattle.shen_graph.specs.declared.order.Order.{Order}
@@ -70,11 +70,11 @@ module _ (p : Progress) (a : Actor) (at : IsAtWork p a) where
   module _ (c : Config) (order : Order) (got : ℕ) (next : order_for (slice_get p.script (length p.replies)) a.machine ≡ Some order) where
     -- the mutator after its turn
     abbrev then_is : Actor
-    then_is = took_of full_image c a order got a.machine
+    then_is = took_of pause_image c a order got a.machine
 
     -- it is on its script
     on_then : IsOnScript p.script then_is
-    on_then = script_step full_image c p.script a order got at.on (ap (λ n. order_for (slice_get p.script n) a.machine) (sym count) ∙ next)
+    on_then = script_step pause_image c p.script a order got at.on (ap (λ n. order_for (slice_get p.script n) a.machine) (sym count) ∙ next)
 
     -- the replies of its calls
     replies_then : map (λ e. e.reply) then_is.calls ≡ p.replies ++ listed (given_in a.machine)
@@ -86,14 +86,14 @@ module _ (p : Progress) (a : Actor) (at : IsAtWork p a) where
       on = on_then;
       replies = sym (replies_then ∙ ap (λ g. p.replies ++ listed g) none ∙ append-nil p.replies);
       commands = at.commands;
-      made = names_on full_image c order got a.machine (length p.script) (length p.replies) at.made none;
+      made = names_on pause_image c order got a.machine (length p.script) (length p.replies) at.made none;
     }
 
     module _ (reply : Reply) (gives : given_in a.machine ≡ Some reply) where
       -- in its call there are more commands than replies
       pub more : length p.replies < length p.script
       more =
-          let busy = (given_after full_image c order got a.machine reply gives).busy in
+          let busy = (given_after pause_image c order got a.machine reply gives).busy in
           let within = slice_get_within p.script (length a.calls) a.command (at.on.doing busy) in
           omega (arith, within, count)
 
@@ -103,8 +103,8 @@ module _ (p : Progress) (a : Actor) (at : IsAtWork p a) where
         on = on_then;
         replies = sym (replies_then ∙ ap (λ g. p.replies ++ listed g) gives);
         commands = at.commands;
-        made = subst (λ n. HasNames (machine_after full_image c order got a.machine) (length p.script) n) (sym (length-append p.replies (reply ∷ [])))
-            (names_noted full_image c order got a.machine (length p.script) (length p.replies) at.made reply gives);
+        made = subst (λ n. HasNames (machine_after pause_image c order got a.machine) (length p.script) n) (sym (length-append p.replies (reply ∷ [])))
+            (names_noted pause_image c order got a.machine (length p.script) (length p.replies) at.made reply gives);
       }
 
 -- a machine that has no turn whatever follows has none by any command

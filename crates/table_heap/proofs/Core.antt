@@ -13,8 +13,8 @@ use Rattle.heap_machines.specs.declared.machine.Machine.TheVariants as memories
 use Rattle.heap_machines.specs.Shown.{shown, has_turn}
 use Rattle.heap_machines.specs.Roles.{is_mutating}
 use Rattle.step_core.specs.Actor.{Machine, mutating, helping, controlling, Actor}
-use Rattle.pause_laws.specs.Image.{full_image}
-use Rattle.pause_laws.proofs.Pauses.{full_is_pause}
+use Rattle.heap_machines.specs.Pause.{pause_image}
+use Rattle.heap_machines.proofs.Pauses.{heap_pauses}
 use Rattle.step_core.specs.Begins.{Run, first_graph}
 use Rattle.step_core.specs.Fit.{IsFitFor}
 use Rattle.step_core.specs.Machines.{takes_of, plan_of, took_of, kind}
@@ -32,13 +32,13 @@ pub kind_plan : (c : Config) (a : Actor) (order : Order) → (heap_kind c).plan 
 unfolding kind
 kind_plan c a order = refl
 
-pub kind_took : (c : Config) (a : Actor) (order : Order) (got : ℕ) → (heap_kind c).took a order got ≡ took_of full_image c a order got a.machine
+pub kind_took : (c : Config) (a : Actor) (order : Order) (got : ℕ) → (heap_kind c).took a order got ≡ took_of pause_image c a order got a.machine
 unfolding kind
 kind_took c a order got = refl
 
 -- a word that a machine finds after some events is fit
 pub found_fits : (c : Config) (number : ℕ) (a : Actor) (order : Order) (got : ℕ) → Finds (heap_kind c) (heap_opening c) number a order got → IsFitFor c order got a.machine
-found_fits c number a order got finds = found_fit full_image full_is_pause c (opening c) (first_graph c) (opening_begins c) number a order got finds
+found_fits c number a order got finds = found_fit pause_image heap_pauses c (opening c) (first_graph c) (opening_begins c) number a order got finds
 
 -- the words of the opening
 pub first_words : (c : Config) → (heap_opening c).words ≡ opening_words c

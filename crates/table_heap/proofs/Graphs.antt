@@ -7,7 +7,7 @@ use Rattle.heap_words.specs.Words.{heap_in, roots_in}
 use Rattle.shen_graph.specs.declared.name.Name.{Name}
 use Rattle.steps_base.specs.Steps.{Stage, IsReached}
 use Rattle.heap_graph.specs.Shows.{WordsStand, StandForSome}
-use Rattle.pause_laws.specs.Image.{full_image}
+use Rattle.heap_machines.specs.Pause.{pause_image}
 use Rattle.step_core.specs.Actor.{Actor}
 use Rattle.step_core.specs.Begins.{Run, ending, graph_after}
 use Rattle.step_core.specs.Machines.{is_resting}
@@ -17,21 +17,21 @@ use Rattle.table_heap.specs.Core.{heap_kind, heap_opening}
 use Rattle.table_heap.proofs.Core.{run_of}
 
 module _ (c : Config) (s : Stage Actor) (rest : (t : ℕ) (a : Actor) → t < c.mutators → slice_get s.machines t ≡ Some a → is_resting a.machine ≡ true) (calm : image_of (slice_get s.machines (control_number c)) ≡ None) where
-  module _ (run : Run c) (ends : ending full_image c run ≡ s) where
-    pub at_rest : (t : ℕ) (a : Actor) → t < c.mutators → slice_get (ending full_image c run).machines t ≡ Some a → is_resting a.machine ≡ true
+  module _ (run : Run c) (ends : ending pause_image c run ≡ s) where
+    pub at_rest : (t : ℕ) (a : Actor) → t < c.mutators → slice_get (ending pause_image c run).machines t ≡ Some a → is_resting a.machine ≡ true
     at_rest t a below here = rest t a below (ap (λ x. slice_get x.machines t) (sym ends) ∙ here)
 
-    pub is_calm : image_of (slice_get (ending full_image c run).machines (control_number c)) ≡ None
+    pub is_calm : image_of (slice_get (ending pause_image c run).machines (control_number c)) ≡ None
     is_calm = ap (λ x. image_of (slice_get x.machines (control_number c))) ends ∙ calm
 
     -- the names of the objects by their addresses
     abbrev pub names : ℕ → Option Name
     names = standing.names c run at_rest is_calm
 
-    pub words_stand : WordsStand c.region_words (heap_in c s.words) (roots_in c s.words) names (graph_after full_image c run)
-    words_stand = subst (λ x. WordsStand c.region_words (heap_in c x.words) (roots_in c x.words) names (graph_after full_image c run)) ends (standing.words_stand c run at_rest is_calm)
+    pub words_stand : WordsStand c.region_words (heap_in c s.words) (roots_in c s.words) names (graph_after pause_image c run)
+    words_stand = subst (λ x. WordsStand c.region_words (heap_in c x.words) (roots_in c x.words) names (graph_after pause_image c run)) ends (standing.words_stand c run at_rest is_calm)
 
   -- so they do for the graph of those events that led there
   pub some_stand : ∥ IsReached (heap_kind c) (heap_opening c) s ∥₁ → StandForSome c.region_words (heap_in c s.words) (roots_in c s.words)
   some_stand some =
-      ∥∥₁_map some (λ reached. (names (run_of c reached.events) reached.ends, (graph_after full_image c (run_of c reached.events), words_stand (run_of c reached.events) reached.ends)))
+      ∥∥₁_map some (λ reached. (names (run_of c reached.events) reached.ends, (graph_after pause_image c (run_of c reached.events), words_stand (run_of c reached.events) reached.ends)))

@@ -11,10 +11,10 @@ use Rattle.shared_steps.specs.Views.{machine_of, whole, kept_one, dealt_to, is_d
 use Rattle.shared_steps.proofs.Kept.{machine_of-kept, kept_some}
 use Rattle.shared_steps.proofs.Shown.{machine_of-whole, machine_of-picked}
 use Rattle.heap_machines.specs.declared.machine.Machine as memory
-use Rattle.heap_machines.specs.Shown.{shown, has_turn}
+use Rattle.heap_machines.specs.Shown.{shown, has_turn, no_machine}
 use Rattle.heap_machines.specs.Roles.{is_mutating}
 use Rattle.heap_machines.proofs.Openings.{first_actor, first_free_to_begin, first_made}
-use Rattle.step_core.specs.Actor.{Actor, fresh_helper}
+use Rattle.step_core.specs.Actor.{Actor}
 use Rattle.step_core.specs.Machines.{takes_of, may_begin, made_of_machine}
 use Rattle.step_core.specs.Opening.{opening_machine, opening_actor}
 use Rattle.step_core.specs.Settled.{control_number}
@@ -80,8 +80,8 @@ fresh_can_call c h b bundles k number fresh within dealt =
     record {
       of = fresh.of;
       has = ap is_some is;
-      rest = ap (λ o. may_begin (unwrap_or o fresh_helper)) is ∙ first_free_to_begin c number within;
-      made = ap (λ o. made_of_machine (unwrap_or o fresh_helper)) is ∙ first_made c number;
+      rest = ap (λ o. may_begin (unwrap_or o no_machine)) is ∙ first_free_to_begin c number within;
+      made = ap (λ o. made_of_machine (unwrap_or o no_machine)) is ∙ first_made c number;
     }
 
 -- two elements that were taken off a list of two

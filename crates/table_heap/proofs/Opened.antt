@@ -15,11 +15,10 @@ use Rattle.shared_steps.proofs.Dealing.{picked_twice, picked_all}
 use Rattle.shared_steps.proofs.Kept.{kept-whole}
 use Rattle.shared_steps.proofs.Shown.{machine_of-whole, machine_of-picked}
 use Rattle.heap_machines.specs.declared.machine.Machine.{Machine}
-use Rattle.heap_machines.specs.Shown.{shown, order_of, heap_of}
+use Rattle.heap_machines.specs.Shown.{shown, order_of, heap_of, no_machine}
 use Rattle.heap_machines.proofs.Openings.{first_machines, first_role}
 use Rattle.shen_graph.specs.declared.order.Order.{Order}
 use Rattle.shen_graph.specs.declared.order.Order.TheVariants.{Nothing}
-use Rattle.step_core.specs.Actor.{fresh_helper}
 use Rattle.heap_machines.specs.Roles.{is_mutating}
 use Rattle.step_core.specs.Opening.{opening_machine}
 use Rattle.table_heap.specs.Core.{heap_opening, machine_in}
@@ -40,9 +39,9 @@ module _ (c : Config) (machines : List Machine) (first : map shown machines ≡ 
       let within = slice_get_within machines number m here in
       let count : length machines ≡ seat_count c.mutators c.helpers = sym (length-whole machines) ∙ opened_count in
       let shows : shown m ≡ opening_machine c number =
-      sym (get_or_from_slice_get (map shown machines) number (shown m) fresh_helper (slice_get-map shown machines number ∙ ap (option_map shown) here))
-      ∙ ap (λ xs. get_or xs number fresh_helper) first
-      ∙ get_or-map-range_with_len (opening_machine c) 0 (seat_count c.mutators c.helpers) number number fresh_helper (omega (arith, within, count)) (omega arith) in
+      sym (get_or_from_slice_get (map shown machines) number (shown m) no_machine (slice_get-map shown machines number ∙ ap (option_map shown) here))
+      ∙ ap (λ xs. get_or xs number no_machine) first
+      ∙ get_or-map-range_with_len (opening_machine c) 0 (seat_count c.mutators c.helpers) number number no_machine (omega (arith, within, count)) (omega arith) in
       record {
         heap = sym (ap heap_of (get_or_from_slice_get machines number m m here)) ∙ one_heap number m within;
         role = ap is_mutating shows ∙ first_role c number;

@@ -7,10 +7,10 @@ use Rattle.shared_steps.proofs.Kept.{kept_here, kept_some}
 use Rattle.shared_steps.proofs.Numbers.{same_none, same_more}
 use Rattle.shen_graph.specs.Valid.{IsValid}
 use Rattle.shen_graph.specs.Work.{HasScript, next_of}
-use Rattle.step_core.specs.Actor.{Actor, fresh_helper}
+use Rattle.step_core.specs.Actor.{Actor}
+use Rattle.heap_machines.specs.Shown.{no_machine, shown}
 use Rattle.step_core.specs.Machines.{may_begin, made_of_machine}
 use Rattle.heap_machines.specs.Roles.{is_mutating}
-use Rattle.heap_machines.specs.Shown.{shown}
 use Rattle.heap_machines.proofs.Turns.{rest_is_mutating, begins_at_rest}
 use Rattle.table_heap.specs.declared.bundle.Bundle.{Bundle}
 use Rattle.table_heap.specs.Core.{machine_in}
@@ -25,7 +25,7 @@ pub in_memory : (b : Bundle) (number : ℕ) (a : Actor) → machine_of (view_of 
 in_memory b number a here = ap (λ v. machine_of v number) (sym b.kept) ∙ shows_here machine_in (view_of b) number a here
 
 pub at_number : (b : Bundle) (number : ℕ) (a : Actor) → machine_of (view_of b) number ≡ Some a → machine_at b number ≡ a.machine
-at_number b number a here = ap (λ o. unwrap_or o fresh_helper) (in_memory b number a here)
+at_number b number a here = ap (λ o. unwrap_or o no_machine) (in_memory b number a here)
 
 pub has_number : (b : Bundle) (number : ℕ) (a : Actor) → machine_of (view_of b) number ≡ Some a → HasMachine b number
 has_number b number a here = ap is_some (in_memory b number a here)

@@ -16,7 +16,7 @@ use Rattle.heap_machines.specs.Shown.{shown, order_of, heap_of, has_turn}
 use Rattle.heap_machines.proofs.Turns.{role_stays}
 use Rattle.step_core.specs.Actor.{Actor}
 use Rattle.heap_machines.specs.Roles.{is_mutating}
-use Rattle.pause_laws.specs.Image.{full_image}
+use Rattle.heap_machines.specs.Pause.{pause_image}
 use Rattle.step_core.specs.Fit.{IsFitFor}
 use Rattle.step_core.specs.Machines.{takes_of, plan_of, machine_after}
 use Rattle.table_heap.specs.Core.{heap_kind, heap_opening, machine_in}
@@ -51,18 +51,18 @@ module _ {S : Type 0} (c : Config) (items : View Machine) (before : Me S (View A
     pub numbers_stay : SameNumbers before.0 after.0
     numbers_stay = subst (λ (v : View Actor). SameNumbers before.0 v) (sym took.view) (same_step before.0 number took.machine _ took.here)
 
-    module _ (n : Machine) (shown_is : shown n ≡ machine_after full_image (heap_of m) (order_of m) got (shown m)) (heap : heap_of m ≡ c) where
+    module _ (n : Machine) (shown_is : shown n ≡ machine_after pause_image (heap_of m) (order_of m) got (shown m)) (heap : heap_of m ≡ c) where
       -- memory keeps what the view has
       pub kept_after : kept_of machine_in after.0 ≡ kept_of shown (slice_set items number (Some n))
       kept_after =
           kept_step (heap_kind c) (heap_opening c) machine_in number (order_of m) before after got (shown m) (shown n) took seen_here
-          (λ a is. ap machine_in (kind_took c a (order_of m) got) ∙ ap (machine_after full_image c (order_of m) got) is ∙ ap (λ k. machine_after full_image k (order_of m) got (shown m)) (sym heap) ∙ sym shown_is)
+          (λ a is. ap machine_in (kind_took c a (order_of m) got) ∙ ap (machine_after pause_image c (order_of m) got) is ∙ ap (λ k. machine_after pause_image k (order_of m) got (shown m)) (sym heap) ∙ sym shown_is)
           ∙ ap (λ v. slice_set v number (Some (shown n))) kept
           ∙ sym (kept-set shown items number (Some n))
 
       -- its machines are still of the heap
       pub role_after : is_mutating (shown n) ≡ is_mutating (shown m)
-      role_after = ap is_mutating shown_is ∙ role_stays full_image (heap_of m) (order_of m) got (shown m)
+      role_after = ap is_mutating shown_is ∙ role_stays pause_image (heap_of m) (order_of m) got (shown m)
 
 -- the same step, with other names for key and order
 pub took_as : {S : Type 0} (k c : Config) (number : ℕ) (o p : Order) (before : Me S (View Actor)) (got : ℕ) (after : Me S (View Actor)) → k ≡ c → o ≡ p

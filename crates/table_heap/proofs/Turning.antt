@@ -4,7 +4,7 @@ use Rattle.std.specs.Prelude.{slice_get, slice_set, ◌==◌, nat_lt, if◌then�
 use Rattle.std.proofs.lemmas.Bool.{false≢true}
 use Rattle.std.proofs.lemmas.Bool.Decides.{nat_tests}
 use Rattle.std.proofs.lemmas.List.{set-set}
-use Rattle.pause_laws.specs.Image.{full_image}
+use Rattle.heap_machines.specs.Pause.{pause_image}
 use Rattle.shared_steps.specs.Views.{View, machine_of}
 use Rattle.shared_steps.proofs.Shown.{machine_of-set}
 use Rattle.shen_graph.specs.declared.command.Reply.{Reply}
@@ -71,7 +71,7 @@ module _ (old mid new : Bundle) (jobs : Jobs) (number : ℕ) (said : Stepped) (m
   order = order_at mid number
 
   abbrev then_is : Actor
-  then_is = took_of full_image mid.config was order made.step.got was.machine
+  then_is = took_of pause_image mid.config was order made.step.got was.machine
 
   here : machine_of (view_of old) number ≡ Some was
   here = ap (λ v. machine_of v number) (sym made.unmoved.view) ∙ made.step.took.here
@@ -102,7 +102,7 @@ module _ (old mid new : Bundle) (jobs : Jobs) (number : ℕ) (said : Stepped) (m
         ap (λ o. order_for o was.machine) (sym next) ∙ ap (order_for (next_for old.config jobs number)) (sym (at_number old number was here)) ∙ made.turn
 
   role_then : is_mutating then_is.machine ≡ is_mutating was.machine
-  role_then = role_stays full_image mid.config order made.step.got was.machine
+  role_then = role_stays pause_image mid.config order made.step.got was.machine
 
   -- what its step said
   said_is : said ≡ stepped_by (answer_of mid.config was.machine made.step.got)
@@ -129,7 +129,7 @@ module _ (old mid new : Bundle) (jobs : Jobs) (number : ℕ) (said : Stepped) (m
 
   -- a machine that gives a reply is a mutator
   role_given : (r : Reply) → given_in was.machine ≡ Some r → is_mutating was.machine ≡ true
-  role_given r gives = (given_after full_image mid.config order made.step.got was.machine r gives).role
+  role_given r gives = (given_after pause_image mid.config order made.step.got was.machine r gives).role
 
   -- it has a script, and the reply can be noted
   pub can_tell : said ≡ stepped.Done → HasScript jobs number × (length (replies_of jobs number) < length (script_in jobs number))
@@ -147,7 +147,7 @@ module _ (old mid new : Bundle) (jobs : Jobs) (number : ℕ) (said : Stepped) (m
   pub reply_given : (r : Reply) → said ≡ stepped.Done → reply_in (machine_at new number) ≡ Some r → given_in was.machine ≡ Some r
   reply_given r done at_hand =
       let given = some_given done in
-      let replied = (given_after full_image mid.config order made.step.got was.machine given.0 given.1).replied in
+      let replied = (given_after pause_image mid.config order made.step.got was.machine given.0 given.1).replied in
       given.1 ∙ sym replied ∙ ap reply_in (sym (at_number new number then_is there)) ∙ at_hand
 
   module _ (r : Reply) (done : said ≡ stepped.Done) (at_hand : reply_in (machine_at new number) ≡ Some r) where

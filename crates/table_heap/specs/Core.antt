@@ -4,13 +4,14 @@ use Rattle.heap_words.specs.declared.config.Config.{Config}
 use Rattle.shen_graph.specs.declared.command.Command.TheVariants.{Gc}
 use Rattle.shen_graph.specs.declared.order.Order.{Order}
 use Rattle.steps_base.specs.Steps.{MachineKind, Stage}
-use Rattle.pause_laws.specs.Image.{full_image}
-use Rattle.step_core.specs.Actor.{Machine, Actor, fresh_helper}
+use Rattle.heap_machines.specs.Pause.{pause_image}
+use Rattle.step_core.specs.Actor.{Machine, Actor}
+use Rattle.heap_machines.specs.Shown.{no_machine}
 use Rattle.step_core.specs.Machines.{kind}
 use Rattle.step_core.specs.Opening.{opening}
 
 abbrev pub heap_kind : Config → MachineKind Actor Order
-heap_kind c = kind full_image c
+heap_kind c = kind pause_image c
 
 -- the words and machines with which a heap begins
 abbrev pub heap_opening : Config → Stage Actor
@@ -22,4 +23,4 @@ machine_in a = a.machine
 
 -- an actor of no heap
 abbrev pub nobody : Actor
-nobody = record { machine = fresh_helper; command = Gc; calls = [] }
+nobody = record { machine = no_machine; command = Gc; calls = [] }

@@ -8,8 +8,8 @@ use Rattle.shen_graph.specs.declared.order.Order.{Order}
 use Rattle.shen_graph.specs.declared.order.Order.TheVariants.{Nothing}
 use Rattle.heap_machines.specs.Answer.{says}
 use Rattle.heap_machines.specs.declared.stepped.Stepped.{Stepped}
-use Rattle.heap_machines.specs.Shown.{shown, order_of}
-use Rattle.step_core.specs.Actor.{Machine, Actor, fresh_helper}
+use Rattle.heap_machines.specs.Shown.{shown, order_of, no_machine}
+use Rattle.step_core.specs.Actor.{Machine, Actor}
 use Rattle.step_core.specs.Machines.{takes_of}
 use Rattle.table_heap.specs.declared.heap.Heap.{Heap}
 use Rattle.table_heap.specs.declared.bundle.Bundle.{Bundle}
@@ -45,7 +45,7 @@ HasMachine b number = is_some (machine_of (machines_of b) number) ≡ true
 
 -- that machine, and its order
 abbrev pub machine_at : Bundle → ℕ → Machine
-machine_at b number = unwrap_or (machine_of (machines_of b) number) fresh_helper
+machine_at b number = unwrap_or (machine_of (machines_of b) number) no_machine
 
 abbrev pub order_at : Bundle → ℕ → Order
 order_at b number = unwrap_or (machine_of (orders_of b) number) Nothing

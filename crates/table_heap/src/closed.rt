@@ -89,7 +89,7 @@ impl Heap {
 
 impl Closed {
     ghost use Rattle.std.specs.Prelude.{◌<◌, slice_index};
-    ghost use Rattle.pause_laws.specs.Image.{full_image};
+    ghost use Rattle.heap_machines.specs.Pause.{pause_image};
     ghost use Rattle.step_core.specs.Begins.{Run, ending, graph_after};
     ghost use Rattle.heap_graph.specs.Shows.{ShowsGraph};
     ghost use Rattle.table_heap.specs.Closed.{config_of, words_of, stage_of, AllRest, IsUnchanged};
@@ -110,7 +110,7 @@ impl Closed {
         requires rest { AllRest self.old }
         requires room { heap_size (config_of self.old) ≤ text.old.room }
         requires threads { length text.old.roots ≡ (config_of self.old).mutators }
-        ensures shows { (run : Run (config_of self.old)) → ending full_image (config_of self.old) run ≡ stage_of self.old → ShowsGraph text.new (config_of self.old).mutators (graph_after full_image (config_of self.old) run) }
+        ensures shows { (run : Run (config_of self.old)) → ending pause_image (config_of self.old) run ≡ stage_of self.old → ShowsGraph text.new (config_of self.old).mutators (graph_after pause_image (config_of self.old) run) }
 
         // Nothing else changes.
         ensures unchanged { IsUnchanged self.old self.new }

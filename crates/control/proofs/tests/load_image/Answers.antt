@@ -6,12 +6,12 @@ use Rattle.heap_world.specs.Change.{image_words}
 use Rattle.image_graph.specs.declared.image.Image.{Image}
 use Rattle.image_graph.specs.State.{config_of, words_of}
 use Rattle.control_steps.specs.Rows.{Controlling, control_next}
-use Rattle.pause_laws.specs.Image.{full_image}
+use Rattle.mark_pauses.specs.Collect.{collect_image}
 use Rattle.control.specs.Image.{image_in, words_seen}
 use Rattle.control.specs.Fit.{IsFit}
 use Rattle.control.specs.Seen.{config_in, seen_control}
 use Rattle.control.proofs.Images.{length-image_in}
-use Rattle.control.proofs.Loading.{HasLoaded, fit-loaded, has_loaded-more, holds-blank}
+use Rattle.control.proofs.Loading.{HasLoaded, fit-loaded, has_loaded-more, can-blank}
 use Rattle.control.proofs.tests.load_image.Goals as goal
 
 -- the image has as many words as the control's
@@ -40,15 +40,15 @@ took-requires-clause-fit c =
     let got = next c.args.words.now c.image_start.result c.loop-index.index c.word.result (c.image_start.ensures.value ∙ ap image_start c.config-config.ensures) c.word.ensures.value in
     subst (λ e. IsFit e (seen_control c.loop-index.control) c.word.result) (sym c.loop-index.invariant.config)
     (fit-loaded d (image_in c.args.words.now) (long c.args.words.now d c.requires.same) (seen_control c.loop-index.control) c.loop-index.index c.word.result
-    c.loop-index.invariant.loaded (omega (arith, words)) got (holds-blank c.args.words.now d c.requires.same c.requires.blank))
+    c.loop-index.invariant.loaded (omega (arith, words)) got (can-blank c.args.words.now d c.requires.same c.requires.blank c.requires.idle))
 
 pub loop-index-preserved : goal.loop-index-preserved
 loop-index-preserved c =
     let d : Config = config_in c.args.control.now in
     let words : c.image_words-index-end.result ≡ image_words d = c.image_words-index-end.ensures ∙ ap image_words (c.config-config.ensures ∙ c.requires.same) in
     let got = next c.args.words.now c.image_start.result c.loop-index.index c.word.result (c.image_start.ensures.value ∙ ap image_start c.config-config.ensures) c.word.ensures.value in
-    let row : seen_control c.took.new.self ≡ control_next full_image d (seen_control c.loop-index.control) c.word.result =
-    c.took.ensures.row ∙ ap (λ e. control_next full_image e (seen_control c.loop-index.control) c.word.result) c.loop-index.invariant.config in
+    let row : seen_control c.took.new.self ≡ control_next collect_image d (seen_control c.loop-index.control) c.word.result =
+    c.took.ensures.row ∙ ap (λ e. control_next collect_image e (seen_control c.loop-index.control) c.word.result) c.loop-index.invariant.config in
     record {
       config = c.took.ensures.config ∙ c.loop-index.invariant.config;
       loaded = subst (λ (k : Controlling). HasLoaded d (image_in c.args.words.now) k (c.loop-index.index + 1)) (sym row)

@@ -2,10 +2,10 @@ use Rattle.std.proofs.Common.{subst}
 use Rattle.control_steps.specs.declared.spot.ControlSpot.{ControlSpot}
 use Rattle.image_graph.specs.State.{config_of}
 use Rattle.control.specs.Image.{image_in, words_seen}
-use Rattle.control.specs.Fit.{holds_with}
+use Rattle.control.specs.Fit.{fits_with}
 use Rattle.control.proofs.machine.Control.took.Goals as goal
 
 pub take_word-self-requires-clause-fit : goal.take_word-self-requires-clause-fit
 take_word-self-requires-clause-fit c =
-    let Fits : ControlSpot → Type 0 = λ s. holds_with (config_of c.args.self.now.image) s (words_seen s (image_in c.args.self.now.image)) c.args.got in
+    let Fits : ControlSpot → Type 0 = λ s. fits_with (config_of c.args.self.now.image) s (words_seen s (image_in c.args.self.now.image)) c.args.got in
     subst Fits c.in-LoadWord.is c.requires.fit

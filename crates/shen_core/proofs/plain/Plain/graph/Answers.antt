@@ -8,7 +8,7 @@ use Rattle.heap_world.specs.Change.{image_view}
 use Rattle.image_graph.specs.Holds.{HoldsSome}
 use Rattle.image_graph.specs.Left.{ShowsTheGraph}
 use Rattle.control.specs.Image.{image_from}
-use Rattle.pause_laws.specs.Image.{full_image}
+use Rattle.heap_machines.specs.Pause.{pause_image}
 use Rattle.step_core.specs.Begins.{graph_after}
 use Rattle.heap_machines.specs.Shown.{shown}
 use Rattle.shen_core.specs.Runs.{IsShownBySome}
@@ -78,7 +78,7 @@ returns-clause-shows c run shown_by =
     let p = c.args.self.now in
     let m = c.index_mut.result.now in
     let here = from_read p.machines.items (c.seats-control.result - 1) m (omega (arith, p.all_machines, c.seats-control.ensures)) c.index_mut.ensures.value in
-    let graph = graph_after full_image p.config run in
+    let graph = graph_after pause_image p.config run in
     let held = holds p.config p.words.items (map shown p.machines.items) c.requires.rest.mutators c.requires.rest.control run shown_by in
     let shows = subst (λ ws. ShowsTheGraph p.config (image_view p.config (image_from p.config ws)) c.answer_graph.new.text) c.deref.ensures.value
     (subst (λ (e : Config). ShowsTheGraph e (image_view e (image_from e c.deref.result.now)) c.answer_graph.new.text) (heap_here p.config p.machines.items (c.seats-control.result - 1) m p.one_heap here)

@@ -3,10 +3,9 @@ use Rattle.std.specs.Prelude.{slice_set}
 use Rattle.std.proofs.lemmas.List.{length-set}
 use Rattle.shared_steps.specs.Views.{kept_of}
 use Rattle.shared_steps.proofs.Kept.{kept-set}
-use Rattle.heap_machines.specs.Shown.{shown, order_of}
+use Rattle.heap_machines.specs.Shown.{shown, order_of, no_machine}
 use Rattle.std.specs.Option.{option_copied_mut}
 use Rattle.shen_graph.specs.declared.order.Order.TheVariants.{Begin}
-use Rattle.step_core.specs.Actor.{fresh_helper}
 use Rattle.heap_machines.specs.Roles.{is_mutating}
 use Rattle.step_core.specs.Machines.{takes_of, may_begin, made_of_machine}
 use Rattle.table_heap.proofs.Places.{within, read_here, never_none, shows_as, put_same}
@@ -27,7 +26,7 @@ begin-requires-clause-rest c =
     let m = c.in-Some.machine.now in
     let inside = within shown b.machines.items c.args.number c.requires.here in
     let here = read_here shown b.machines.items c.args.number c.index_mut.result.now m inside c.index_mut.ensures.value (sym c.as_mut.ensures.value ∙ ap option_copied_mut c.in-Some.is) in
-    ap may_begin (sym (shows_as shown b.machines.items c.args.number m fresh_helper here)) ∙ c.requires.rest
+    ap may_begin (sym (shows_as shown b.machines.items c.args.number m no_machine here)) ∙ c.requires.rest
 
 pub begin-requires-clause-made : goal.begin-requires-clause-made
 begin-requires-clause-made c =
@@ -35,7 +34,7 @@ begin-requires-clause-made c =
     let m = c.in-Some.machine.now in
     let inside = within shown b.machines.items c.args.number c.requires.here in
     let here = read_here shown b.machines.items c.args.number c.index_mut.result.now m inside c.index_mut.ensures.value (sym c.as_mut.ensures.value ∙ ap option_copied_mut c.in-Some.is) in
-    subst (λ x. made_of_machine x < 4294967295) (shows_as shown b.machines.items c.args.number m fresh_helper here) c.requires.made
+    subst (λ x. made_of_machine x < 4294967295) (shows_as shown b.machines.items c.args.number m no_machine here) c.requires.made
 
 pub invariant_of-self : goal.invariant_of-self
 invariant_of-self c =
@@ -61,4 +60,4 @@ returns-clause-takes c =
     let m = c.in-Some.machine.now in
     let inside = within shown b.machines.items c.args.number c.requires.here in
     let here = read_here shown b.machines.items c.args.number c.index_mut.result.now m inside c.index_mut.ensures.value (sym c.as_mut.ensures.value ∙ ap option_copied_mut c.in-Some.is) in
-    ap (λ x. takes_of x (Begin c.args.command)) (shows_as shown b.machines.items c.args.number m fresh_helper here) ∙ c.begin.ensures.takes
+    ap (λ x. takes_of x (Begin c.args.command)) (shows_as shown b.machines.items c.args.number m no_machine here) ∙ c.begin.ensures.takes

@@ -7,10 +7,9 @@ use Rattle.shared_steps.proofs.Kept.{kept-set}
 use Rattle.shared_steps.proofs.Numbers.{same_none}
 use Rattle.shen_graph.specs.Valid.{IsValid}
 use Rattle.shen_graph.specs.declared.order.Order.TheVariants.{Nothing}
-use Rattle.step_core.specs.Actor.{fresh_helper}
+use Rattle.heap_machines.specs.Shown.{no_machine, shown, order_of}
 use Rattle.step_core.specs.Machines.{takes_of, may_begin, made_of_machine}
 use Rattle.heap_machines.specs.Roles.{is_mutating}
-use Rattle.heap_machines.specs.Shown.{shown, order_of}
 use Rattle.heap_machines.specs.Turn.{order_for}
 use Rattle.table_heap.specs.State.{machine_at}
 use Rattle.table_heap.specs.Running.{next_for}
@@ -41,7 +40,7 @@ order_next-requires-clause-next c = λ may.
     let m = c.in-Some.machine.now in
     let inside = within shown b.machines.items c.args.number c.requires.here in
     let here = read_here shown b.machines.items c.args.number c.index_mut.result.now m inside c.index_mut.ensures.value (sym c.as_mut.ensures.value ∙ ap option_copied_mut c.in-Some.is) in
-    let at = shows_as shown b.machines.items c.args.number m fresh_helper here in
+    let at = shows_as shown b.machines.items c.args.number m no_machine here in
     subst (λ next. IfSome next (λ command. IsValid command × (made_of_machine (shown m) < 4294967295))) (sym c.next_command-next.ensures)
     (subst (λ machine. IfSome (next_for b.config c.args.work.now c.args.number) (λ command. IsValid command × (made_of_machine machine < 4294967295))) at
     (command_fits b c.args.work.now c.args.number c.requires.work c.requires.here (ap may_begin at ∙ may)))
@@ -67,7 +66,7 @@ returns-clause-turn c =
     let inside = within shown b.machines.items c.args.number c.requires.here in
     let here = read_here shown b.machines.items c.args.number c.index_mut.result.now m inside c.index_mut.ensures.value (sym c.as_mut.ensures.value ∙ ap option_copied_mut c.in-Some.is) in
     let n = c.order_next.new.self in
-    let at = shows_as shown b.machines.items c.args.number m fresh_helper here in
+    let at = shows_as shown b.machines.items c.args.number m no_machine here in
     let given = shows_as order_of (slice_set b.machines.items c.args.number (Some n)) c.args.number n Nothing (put_there order_of b.machines.items c.args.number m n here) in
     ap (λ o. order_for o (machine_at b c.args.number)) (sym c.next_command-next.ensures) ∙ ap (order_for c.next_command-next.result) at
     ∙ c.order_next.ensures.turn ∙ ap (λ o. if c.order_next.result then Some o else None) (sym given)
@@ -81,7 +80,7 @@ returns-clause-has c =
     let n = c.order_next.new.self in
     let items = slice_set b.machines.items c.args.number (Some n) in
     let there = put_there shown b.machines.items c.args.number m n here in
-    let at = shows_as shown items c.args.number n fresh_helper there in
+    let at = shows_as shown items c.args.number n no_machine there in
     let given = shows_as order_of items c.args.number n Nothing there in
     ap (λ machine. takes_of machine (unwrap_or (machine_of (kept_of order_of items) c.args.number) Nothing)) at ∙ ap (takes_of (shown n)) given ∙ ap (λ machine. takes_of machine (order_of n)) c.order_next.ensures.shown ∙ c.order_next.ensures.takes
 

@@ -1,6 +1,5 @@
 use Rattle.std.proofs.Common.{◌≢◌, None, ap, ◌∙◌, subst, arith}
-use Rattle.heap_machines.specs.Shown.{shown}
-use Rattle.step_core.specs.Actor.{fresh_helper}
+use Rattle.heap_machines.specs.Shown.{shown, no_machine}
 use Rattle.step_core.specs.Machines.{reply_in}
 use Rattle.table_heap.proofs.Places.{within, read_here, never_none, shows_as}
 use Rattle.table_heap.proofs.bundle.Bundle.reply.Goals as goal
@@ -17,7 +16,7 @@ reply-requires c =
     let m = c.in-Some.machine in
     let inside = within shown b.machines.items c.args.number c.requires.here in
     let here = read_here shown b.machines.items c.args.number c.index.result.now m inside c.index.ensures c.in-Some.is in
-    subst (λ x. reply_in x ≢ None) (shows_as shown b.machines.items c.args.number m fresh_helper here) c.requires.ended
+    subst (λ x. reply_in x ≢ None) (shows_as shown b.machines.items c.args.number m no_machine here) c.requires.ended
 
 pub returns : goal.returns
 returns c =
@@ -25,4 +24,4 @@ returns c =
     let m = c.in-Some.machine in
     let inside = within shown b.machines.items c.args.number c.requires.here in
     let here = read_here shown b.machines.items c.args.number c.index.result.now m inside c.index.ensures c.in-Some.is in
-    ap reply_in (shows_as shown b.machines.items c.args.number m fresh_helper here) ∙ c.reply.ensures
+    ap reply_in (shows_as shown b.machines.items c.args.number m no_machine here) ∙ c.reply.ensures

@@ -10,8 +10,7 @@ use Rattle.shared_steps.specs.Views.{kept_of}
 use Rattle.shared_steps.proofs.Kept.{kept-set}
 use Rattle.shared_steps.proofs.Numbers.{same_none}
 use Rattle.heap_machines.specs.Answer.{stepped_of, stepped_by, says}
-use Rattle.heap_machines.specs.Shown.{shown, order_of, heap_of}
-use Rattle.step_core.specs.Actor.{fresh_helper}
+use Rattle.heap_machines.specs.Shown.{shown, order_of, heap_of, no_machine}
 use Rattle.step_core.specs.Machines.{takes_of, place_in, reply_in}
 use Rattle.table_heap.specs.State as State
 use Rattle.table_heap.specs.State.{order_at}
@@ -49,7 +48,7 @@ returns-then-is_idle-clause-idle c =
     let m = c.in-Some.machine.now in
     let inside = within shown b.machines.items c.args.number c.requires.here in
     let here = read_here shown b.machines.items c.args.number c.index_mut.result.now m inside c.index_mut.ensures.value (sym c.as_mut.ensures.value ∙ ap option_copied_mut c.in-Some.is) in
-    let at = shows_as shown b.machines.items c.args.number m fresh_helper here in
+    let at = shows_as shown b.machines.items c.args.number m no_machine here in
     let given = shows_as order_of b.machines.items c.args.number m Nothing here in (
       (λ is. ap (λ x. takes_of x (order_at b c.args.number)) at ∙ ap (takes_of (shown m)) given ∙ c.is_idle.ensures ∙ ap not c.if-is_idle.true),
       (λ none. refl),
@@ -61,7 +60,7 @@ returns-then-is_idle-clause-event c = λ turn.
     let m = c.in-Some.machine.now in
     let inside = within shown b.machines.items c.args.number c.requires.here in
     let here = read_here shown b.machines.items c.args.number c.index_mut.result.now m inside c.index_mut.ensures.value (sym c.as_mut.ensures.value ∙ ap option_copied_mut c.in-Some.is) in
-    let at = shows_as shown b.machines.items c.args.number m fresh_helper here in
+    let at = shows_as shown b.machines.items c.args.number m no_machine here in
     let given = shows_as order_of b.machines.items c.args.number m Nothing here in
     absurd (false≢true (sym (ap (λ x. takes_of x (order_at b c.args.number)) at ∙ ap (takes_of (shown m)) given ∙ c.is_idle.ensures ∙ ap not c.if-is_idle.true) ∙ turn))
 
@@ -85,7 +84,7 @@ returns-then-is_idle-clause-done c =
     let m = c.in-Some.machine.now in
     let inside = within shown b.machines.items c.args.number c.requires.here in
     let here = read_here shown b.machines.items c.args.number c.index_mut.result.now m inside c.index_mut.ensures.value (sym c.as_mut.ensures.value ∙ ap option_copied_mut c.in-Some.is) in
-    let at = shows_as shown b.machines.items c.args.number m fresh_helper here in
+    let at = shows_as shown b.machines.items c.args.number m no_machine here in
     let given = shows_as order_of b.machines.items c.args.number m Nothing here in (
       (λ is. absurd cc),
       (λ both. absurd (false≢true (sym (ap (λ x. takes_of x (order_at b c.args.number)) at ∙ ap (takes_of (shown m)) given ∙ c.is_idle.ensures ∙ ap not c.if-is_idle.true) ∙ both.0))),
@@ -153,7 +152,7 @@ returns-clause-event c = λ _.
     let here = read_here shown b.machines.items c.args.number c.index_mut.result.now m inside c.index_mut.ensures.value (sym c.as_mut.ensures.value ∙ ap option_copied_mut c.in-Some.is) in
     let heap = (b.of_heap c.args.number m here).heap in
     let key = c.args.heap.now.key ∙ sym c.requires.heap.config in
-    let at = shows_as shown b.machines.items c.args.number m fresh_helper here in
+    let at = shows_as shown b.machines.items c.args.number m no_machine here in
     let given = shows_as order_of b.machines.items c.args.number m Nothing here in
     let n = c.took.new.self in
     record {
@@ -181,7 +180,7 @@ returns-clause-idle c =
     let inside = within shown b.machines.items c.args.number c.requires.here in
     let here = read_here shown b.machines.items c.args.number c.index_mut.result.now m inside c.index_mut.ensures.value (sym c.as_mut.ensures.value ∙ ap option_copied_mut c.in-Some.is) in
     let turn = c.is_idle.ensures ∙ ap not c.if-is_idle.false in
-    let at = shows_as shown b.machines.items c.args.number m fresh_helper here in
+    let at = shows_as shown b.machines.items c.args.number m no_machine here in
     let given = shows_as order_of b.machines.items c.args.number m Nothing here in
     let has : State.has_turn b c.args.number ≡ true = ap (λ x. takes_of x (order_at b c.args.number)) at ∙ ap (takes_of (shown m)) given ∙ turn in
     ((λ is. absurd (never_idle c.took.result (sym c.of.ensures ∙ is))), (λ none. absurd (false≢true (sym none ∙ has))))
@@ -193,7 +192,7 @@ returns-clause-unchanged c = λ none.
     let inside = within shown b.machines.items c.args.number c.requires.here in
     let here = read_here shown b.machines.items c.args.number c.index_mut.result.now m inside c.index_mut.ensures.value (sym c.as_mut.ensures.value ∙ ap option_copied_mut c.in-Some.is) in
     let turn = c.is_idle.ensures ∙ ap not c.if-is_idle.false in
-    let at = shows_as shown b.machines.items c.args.number m fresh_helper here in
+    let at = shows_as shown b.machines.items c.args.number m no_machine here in
     let given = shows_as order_of b.machines.items c.args.number m Nothing here in
     let has : State.has_turn b c.args.number ≡ true = ap (λ x. takes_of x (order_at b c.args.number)) at ∙ ap (takes_of (shown m)) given ∙ turn in
     absurd (false≢true (sym none ∙ has))
@@ -205,7 +204,7 @@ returns-clause-done c =
     let inside = within shown b.machines.items c.args.number c.requires.here in
     let here = read_here shown b.machines.items c.args.number c.index_mut.result.now m inside c.index_mut.ensures.value (sym c.as_mut.ensures.value ∙ ap option_copied_mut c.in-Some.is) in
     let turn = c.is_idle.ensures ∙ ap not c.if-is_idle.false in
-    let at = shows_as shown b.machines.items c.args.number m fresh_helper here in
+    let at = shows_as shown b.machines.items c.args.number m no_machine here in
     let given = shows_as order_of b.machines.items c.args.number m Nothing here in
     let has : State.has_turn b c.args.number ≡ true = ap (λ x. takes_of x (order_at b c.args.number)) at ∙ ap (takes_of (shown m)) given ∙ turn in (
       (λ is. (has, (ap (place_in (State.order_at b c.args.number)) at ∙ ap (λ o. place_in o (shown m)) given) ∙ c.took.ensures.done.0 (done_only c.took.result (sym c.of.ensures ∙ is)))),
@@ -220,4 +219,4 @@ returns-clause-replied c = λ is none.
     let here = read_here shown b.machines.items c.args.number c.index_mut.result.now m inside c.index_mut.ensures.value (sym c.as_mut.ensures.value ∙ ap option_copied_mut c.in-Some.is) in
     let n = c.took.new.self in
     c.took.ensures.replied (done_only c.took.result (sym c.of.ensures ∙ is))
-    (sym (ap reply_in (shows_as shown (slice_set b.machines.items c.args.number (Some n)) c.args.number n fresh_helper (put_there shown b.machines.items c.args.number m n here))) ∙ none)
+    (sym (ap reply_in (shows_as shown (slice_set b.machines.items c.args.number (Some n)) c.args.number n no_machine (put_there shown b.machines.items c.args.number m n here))) ∙ none)
