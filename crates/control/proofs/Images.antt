@@ -78,11 +78,9 @@ module _ (old mid new : Image) (index word : ℕ) (last : index + 1 ≡ image_wo
     pub image-last : image_in new ≡ collect_image (config_of old) (take index (image_in old) ++ word ∷ [])
     image-last = collected ∙ ap (λ c. collect_image c (image_in mid)) config ∙ ap (collect_image (config_of old)) loaded-last
 
-    -- a word of the new image by its name
-    pub word-last : IsClear new → (w : Word) → memory_of new w ≡ image_view (config_of old) (collect_image (config_of old) (take index (image_in old) ++ word ∷ [])) w
-    word-last clear w =
-        ap (λ memory. memory w) (memory-image_in new clear) ∙ ap (λ c. image_view c (image_in new) w) (config_then ∙ config)
-        ∙ ap (λ image. image_view (config_of old) image w) image-last
+    -- and by their names
+    pub memory-last : IsClear new → memory_of new ≡ image_view (config_of old) (collect_image (config_of old) (take index (image_in old) ++ word ∷ []))
+    memory-last clear = memory-image_in new clear ∙ ap (λ c. image_view c (image_in new)) (config_then ∙ config) ∙ ap (image_view (config_of old)) image-last
 
 -- an image into which all words of a table were put
 pub image-loaded : (c : Config) (i : Image) (table : List ℕ) → config_of i ≡ c → length table ≡ table_words c

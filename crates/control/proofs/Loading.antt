@@ -83,15 +83,13 @@ pub record IsIdle (m : Word → ℕ) : Type 0 where
 
 -- so what holds a graph can be collected
 can-idle : (c : Config) (m : Word → ℕ) → IsIdle m → HoldsSome c m → CanCollectSome c m
-can-idle c m idle holds = ∥∥₁_map
-    (λ some. (
-    some.0,
-    some.1,
-    some.2,
-    some.3,
-    record { holds = some.4; phase_is = omega (arith, idle.phase); uncollected = idle.cset; marking = λ runs. absurd (omega (arith, idle.phase, runs)) },
-    ))
-    holds
+can-idle c m idle holds = ∥∥₁_map holds (λ some. (
+  some.0,
+  some.1.0,
+  some.1.1,
+  some.1.2,
+  record { holds = some.1.3; phase_is = omega (arith, idle.phase); uncollected = idle.cset; marking = λ runs. absurd (omega (arith, idle.phase, runs)) },
+))
 
 -- an image without an object can be loaded whole, and collected
 pub can-blank : (words : Image) (c : Config) → config_of words ≡ c → IsBlank (config_of words) (memory_of words) → IsIdle (memory_of words)

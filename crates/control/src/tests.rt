@@ -1,7 +1,8 @@
 ghost use Rattle.std.specs.Prelude.{◌≡◌, ◌≤◌, [], IfOk};
 ghost use Rattle.image_graph.proofs.Blank.{IsBlank};
 ghost use Rattle.image_graph.specs.State.{config_of, memory_of};
-ghost use Rattle.control_steps.specs.declared.spot.ControlSpot.TheVariants.{LoadWord, StoreWord, Go};
+ghost use Rattle.control.proofs.Loading.{IsIdle};
+ghost use Rattle.control_steps.specs.declared.spot.ControlSpot.TheVariants.{LookLeft, LoadWord, StoreWord, Go};
 ghost use Rattle.control.specs.Image.{image_in};
 ghost use Rattle.control.specs.Seen.{config_in, seen_control};
 
@@ -16,6 +17,7 @@ use std::test::Fail;
 fn opened(alloc: Global, config: Config) -> Result<Image, Fail>
     ensures config { IfOk result (λ image. config_of image ≡ config) }
     ensures blank { IfOk result (λ image. IsBlank config (memory_of image)) }
+    ensures idle { IfOk result (λ image. IsIdle (memory_of image)) }
 {
     Ok(Image::open(alloc, config)?)
 }
@@ -25,8 +27,10 @@ fn ask(words: &mut Image, refs: u64, nums: u64)
     requires refs { refs ≤ 16 }
     requires nums { nums ≤ 16 }
     requires blank { IsBlank (config_of words.old) (memory_of words.old) }
+    requires idle { IsIdle (memory_of words.old) }
     ensures config { config_of words.new ≡ config_of words.old }
     ensures blank { IsBlank (config_of words.new) (memory_of words.new) }
+    ensures idle { IsIdle (memory_of words.new) }
 {
     let config = words.config();
     words.set_word(config.wait_at(0), request_word(1, shape_of(refs, nums)));
@@ -35,8 +39,10 @@ fn ask(words: &mut Image, refs: u64, nums: u64)
 // And says that it waits.
 fn ask_pause(words: &mut Image)
     requires blank { IsBlank (config_of words.old) (memory_of words.old) }
+    requires idle { IsIdle (memory_of words.old) }
     ensures config { config_of words.new ≡ config_of words.old }
     ensures blank { IsBlank (config_of words.new) (memory_of words.new) }
+    ensures idle { IsIdle (memory_of words.new) }
 {
     let config = words.config();
     words.set_word(config.ask_at(), 2);
@@ -46,6 +52,7 @@ fn ask_pause(words: &mut Image)
 fn load_image(control: &mut Control, words: &Image)
     requires same { config_of words.now ≡ config_in control.old }
     requires blank { IsBlank (config_of words.now) (memory_of words.now) }
+    requires idle { IsIdle (memory_of words.now) }
     requires spot { (seen_control control.old).spot ≡ LoadWord 0 }
     ensures config { config_in control.new ≡ config_in control.old }
     ensures spot { (seen_control control.new).spot ≡ StoreWord 0 }
@@ -107,5 +114,44 @@ fn makes_a_pause(rt: HostRuntime) -> Result<(), Fail> {
     assert_eq!(rt; control.plan(), Access::Store { at: 0, value: 0 });
     assert_eq!(rt; control.took(1), Took::More);
     assert_eq!(rt; control.place(), Place::I0);
+    Ok(())
+}
+
+// The control of a heap in which objects are marked.
+fn marking(alloc: Global, config: Config) -> Result<Control, Fail>
+    ensures config { IfOk result (λ control. config_in control ≡ config) }
+    ensures spot { IfOk result (λ control. (seen_control control).spot ≡ LookLeft) }
+    ensures phase { IfOk result (λ control. (seen_control control).phase ≡ 1) }
+{
+    let mut image = Image::open(alloc, config)?;
+    image.set_word(config.phase_at(), 1);
+    Ok(Control::new(image))
+}
+
+// While objects are marked it scans a unit, looks what is asked for, and once no unit is left it makes a pause. There are 8 units,
+// and the claim word is word 8.
+#[test]
+fn scans_while_objects_are_marked(rt: HostRuntime) -> Result<(), Fail> {
+    let config = Config::new(4, 64, 1, 0, 0)?;
+    let mut control = marking(rt.alloc(), config)?;
+    assert_eq!(rt; control.took(1), Took::More);
+    assert_eq!(rt; control.plan(), Access::Load { at: 9 });
+    assert_eq!(rt; control.took(1), Took::More);
+    assert_eq!(rt; control.place(), Place::MC);
+    assert_eq!(rt; control.plan(), Access::Load { at: 8 });
+    assert_eq!(rt; control.took(6), Took::More);
+    assert_eq!(rt; control.place(), Place::KX);
+    assert_eq!(rt; control.took(7), Took::Again);
+    assert_eq!(rt; control.took(7), Took::More);
+    assert_eq!(rt; control.took(7), Took::More);
+    assert_eq!(rt; control.place(), Place::MG);
+    assert_eq!(rt; control.took(0), Took::More);
+    assert_eq!(rt; control.took(0), Took::More);
+    assert_eq!(rt; control.place(), Place::I0);
+    assert_eq!(rt; control.took(1), Took::More);
+    assert_eq!(rt; control.took(0), Took::More);
+    assert_eq!(rt; control.took(8), Took::More);
+    assert_eq!(rt; control.place(), Place::P1);
+    assert_eq!(rt; control.plan(), Access::Store { at: 0, value: 1 });
     Ok(())
 }

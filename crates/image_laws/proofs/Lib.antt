@@ -16,3 +16,4 @@ pub mod Serving
 pub mod Crowded
 pub mod Still
 pub mod Turned
+pub mod Turns

@@ -9,7 +9,7 @@ use Rattle.image_laws.specs.Promised.{Promises}
 use Rattle.image_graph.specs.Holds.{HoldsBy}
 use Rattle.mark_laws.specs.Facts.{IsMarking, IsMarkedThrough}
 use Rattle.mark_laws.specs.Final.{IsDead, freed_block, freed_owner}
-use Rattle.mark_laws.specs.Laws.{BeginsMarking}
+use Rattle.mark_laws.specs.Laws.{BeginsMarking, AreClosed}
 
 -- the words hold some graph while marking runs
 abbrev pub MarksSome : Config → (Word → ℕ) → Type 0
@@ -19,12 +19,16 @@ MarksSome c memory = ∥ ((g : Graph) × (block : Plot) × (owner : ℕ → Opti
 abbrev pub BeginsToMark : Config → (before after : Word → ℕ) → Type 0
 BeginsToMark c before after = (block : Plot) (owner : ℕ → Option ℕ) (p : Promises) (g : Graph) → HoldsBy c before block owner p g → BeginsMarking c after block owner p g
 
--- .. and all that can be reached is marked
+-- exactly what tracing comes to has become grey and black
+abbrev pub MarksTheTraced : Config → (before after : Word → ℕ) → Type 0
+MarksTheTraced c before after = (block : Plot) (owner : ℕ → Option ℕ) (p : Promises) (g : Graph) → HoldsBy c before block owner p g → IsMarking c before block → AreClosed c before after
+
+-- whatever graph the words held while marking ran, they hold it afterwards in the same way, and all that can be reached is kept
 abbrev pub MarksThrough : Config → (before after : Word → ℕ) → Type 0
 MarksThrough c before after = (block : Plot) (owner : ℕ → Option ℕ) (p : Promises) (g : Graph) → HoldsBy c before block owner p g → IsMarking c before block
     → HoldsBy c after block owner p g × IsMarkedThrough c after block
 
--- .. without the pieces of the regions that were freed
+-- they hold it without the pieces of the regions that were freed, and all that can be reached is kept
 abbrev pub EndsMarking : Config → (out : ℕ → Bool) → (before after : Word → ℕ) → Type 0
 EndsMarking c out before after = (block : Plot) (owner : ℕ → Option ℕ) (p : Promises) (g : Graph) → HoldsBy c before block owner p g → IsMarking c before block
     → HoldsBy c after (freed_block c out block) (freed_owner out owner) p g × IsMarkedThrough c after (freed_block c out block)

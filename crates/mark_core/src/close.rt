@@ -3,8 +3,7 @@
 ghost use Rattle.std.specs.Prelude.{◌≡◌};
 ghost use Rattle.image_graph.specs.State.{config_of, memory_of};
 ghost use Rattle.mark_laws.specs.Close.{closed};
-ghost use Rattle.mark_laws.specs.Laws.{AreClosed};
-ghost use Rattle.mark_core.specs.Result.{MarksSome, MarksThrough};
+ghost use Rattle.mark_core.specs.Result.{MarksSome, MarksTheTraced, MarksThrough};
 
 use crate::clear::empty_buffers;
 use crate::colour::mark_found;
@@ -19,7 +18,7 @@ pub fn close_marks(image: &mut Image)
     requires { MarksSome (config_of image.old) (memory_of image.old) }
     ensures config { config_of image.new ≡ config_of image.old }
     ensures words { memory_of image.new ≡ closed (config_of image.old) (memory_of image.old) }
-    ensures traced { AreClosed (config_of image.old) (memory_of image.old) (memory_of image.new) }
+    ensures traced { MarksTheTraced (config_of image.old) (memory_of image.old) (memory_of image.new) }
     ensures through { MarksThrough (config_of image.old) (memory_of image.old) (memory_of image.new) }
 {
     find_traced(image);

@@ -42,7 +42,7 @@ module _ (c : Config) (m : Word → ℕ) (block : Plot) (owner : ℕ → Option 
   pub closed_holds : HoldsBy c n block owner p g
   closed_holds = holds_alike m n alike c block owner p g holds
 
-  followed : (a : ℕ) → IsTraced c m a → IsFollowed c m block a
+  pub followed : (a : ℕ) → IsTraced c m a → IsFollowed c m block a
   followed _ (close.from_grey a is) = from_grey a is
   followed _ (close.from_buffer t i below few some) = from_entry (m (Buffer t i)) (t, i, below, few, refl)
   followed _ (close.from_field a i traced plain few some) = from_field a i (followed a traced) few some

@@ -13,7 +13,7 @@ use Rattle.mark_pauses.specs.Collect.{collected, collect_image}
 use Rattle.mark_pauses.specs.Laws.{TableIsCollected}
 
 -- of two numbers that are the same
-of_two : (b : Bool) (x y n : ℕ) → x ≡ n → y ≡ n → (if b then x else y) ≡ n
+pub of_two : (b : Bool) (x y n : ℕ) → x ≡ n → y ≡ n → (if b then x else y) ≡ n
 of_two true x y n one other = one
 of_two false x y n one other = other
 

@@ -1,3 +1,9 @@
 pub mod Images
 pub mod Chains
 pub mod Standing
+pub mod Asked
+pub mod Pruned
+pub mod Beginning
+pub mod Ending
+pub mod Outside
+pub mod Pauses

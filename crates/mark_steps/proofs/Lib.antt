@@ -4,3 +4,4 @@ pub mod Records
 pub mod Scanned
 pub mod Scans
 pub mod Parts
+pub mod Chained

@@ -1,3 +1,4 @@
 pub mod Recording
 pub mod Scanning
 pub mod Laws
+pub mod Chains

@@ -3,6 +3,7 @@
 #![tactic(auto)]
 
 ghost use Rattle.mark_steps.specs.Laws.{RecordingSteps, ScanningSteps};
+ghost use Rattle.mark_steps.specs.Chains.{MarkingComes};
 
 /// A law: each step of a mutator that records an address keeps what all machines share and what the others rely on, and
 /// the address is noted from the first step on.
@@ -13,4 +14,10 @@ pub fn recording_steps()
 /// A law: each step of a machine that scans a unit of marking keeps what all machines share and what the others rely on.
 pub fn scanning_steps()
     ensures { ScanningSteps }
+{}
+
+/// A law: while objects are marked, whoever scans and records, each object is marked, or was allocated since, or marking comes to it
+/// by a chain of objects that are not marked yet.
+pub fn marking_comes()
+    ensures { MarkingComes }
 {}

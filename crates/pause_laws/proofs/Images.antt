@@ -86,7 +86,7 @@ module _ (c : Config) (image : List ℕ) (zero_outside : IsZeroOutside c (full c
       (cases_Bool (is_word c word)))
 
 -- where an image holds a graph, words out of the table stay 0
-holds_outside : (c : Config) (words : List ℕ) (g : Graph) → Holds c (view c words) g → IsZeroOutside c (full c (view c words))
+pub holds_outside : (c : Config) (words : List ℕ) (g : Graph) → Holds c (view c words) g → IsZeroOutside c (full c (view c words))
 holds_outside c words g holds =
     let block = holds.0 in
     let p = holds.2 in

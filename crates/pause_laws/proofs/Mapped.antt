@@ -13,7 +13,7 @@ pub mapped_at : (f : Block → Block) (block : Plot) (a : ℕ) (x : Block) → b
 mapped_at f block a x is = ap (option_map f) is
 
 -- the piece that there was
-from_option : (f : Block → Block) (o : Option Block) (b : Block) → option_map f o ≡ Some b → (x : Block) × (o ≡ Some x) × (f x ≡ b)
+pub from_option : (f : Block → Block) (o : Option Block) (b : Block) → option_map f o ≡ Some b → (x : Block) × (o ≡ Some x) × (f x ≡ b)
 from_option f None b is = absurd (none-some b is)
 from_option f (Some x) b is = (x, refl, same_Some (f x) b is)
 

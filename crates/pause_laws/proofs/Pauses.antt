@@ -14,7 +14,7 @@ use Rattle.pause_laws.proofs.Answered.{is_answer, represents_again}
 use Rattle.pause_laws.proofs.Crowds.{is_crowded}
 use Rattle.pause_laws.proofs.Images.{image_length, image_is_full, table_is_full}
 
-paused : (c : Config) (m : Word → ℕ) (g : Graph) (asking : ℕ → Asking) → Represents c m g asking → IsPaused c m (full c m) g asking
+pub paused : (c : Config) (m : Word → ℕ) (g : Graph) (asking : ℕ → Asking) → Represents c m g asking → IsPaused c m (full c m) g asking
 paused c m g asking r = record {
   asked_then = asked_then c m g asking r;
   stands = represents_again c m g asking r;

@@ -1,5 +1,5 @@
 -- The steps that load a field, a number or a name.
-use Rattle.std.proofs.Common.{◌≡◌, ℕ, ◌+◌, ⊎_elim, true, false, Option, Some, refl, sym, ap, ◌∙◌, arith}
+use Rattle.std.proofs.Common.{◌≡◌, ℕ, ◌+◌, ◌<◌, ⊎_elim, true, false, Option, Some, refl, sym, ap, ◌∙◌, arith}
 use Rattle.std.specs.Prelude.{◌==◌, ◌&&◌}
 use Rattle.std.proofs.lemmas.Bool.{and_from, cases_Bool, cond-true, cond-false, eqb-true}
 use Rattle.std.proofs.lemmas.Bool.Decides.{nat_tests}
@@ -14,14 +14,22 @@ use Rattle.shen_graph.specs.Step.{shown, answers, outcome}
 use Rattle.mutator.specs.declared.spot.Spot.{Spot}
 use Rattle.mutator.specs.declared.spot.Spot.TheVariants.{OnField, OnNumber, Showing}
 use Rattle.mutator.specs.declared.fields.FieldSpot.TheVariants as fields
+use Rattle.mutator.specs.declared.overwrites.Overwritten.TheVariants as overwritten
 use Rattle.mutator.specs.declared.numbers.NumberSpot.TheVariants as numbers
 use Rattle.mutator.specs.declared.shows.ShowSpot.TheVariants as show
 use Rattle.mutator.specs.declared.spot.Kept.{Kept}
 use Rattle.mutator.specs.Commands.{dst_of, index_of}
 use Rattle.mutator.specs.Rows.{Mutating, name_in}
 use Rattle.mutator.specs.Told.{name_the_same}
-use Rattle.heap_world.specs.World.{World}
-use Rattle.step_core.specs.Stepped.{Row}
+use Rattle.mutator.specs.Fit.{is_ready}
+use Rattle.shen_graph.specs.declared.order.Order.TheVariants.{Nothing}
+use Rattle.satb_barrier.specs.declared.spot.RememberSpot.TheVariants.{LoadCount}
+use Rattle.mark_steps.specs.Laws.{with_in_hand}
+use Rattle.heap_world.specs.World.{World, Points, Shared}
+use Rattle.heap_world.proofs.Keeping.{load_keeps}
+use Rattle.step_core.specs.Stepped.{HasObject, Mine, Stepped, Row}
+use Rattle.step_core.proofs.Stable.{set_stays}
+use Rattle.step_core.proofs.Overwriting.{record_ready, Overwrites, overwrites_of}
 use Rattle.step_core.proofs.Spots.{mutator_at}
 use Rattle.step_core.proofs.Ready.{leaving, ready_of, number_small}
 use Rattle.heap_world.proofs.Pointing.{points_small}
@@ -29,6 +37,14 @@ use Rattle.step_core.proofs.Naming.{same_words, names_agree, name_there, name_re
 use Rattle.step_core.proofs.Loading.{looks, replies, replies_root}
 use Rattle.heap_world.proofs.RootChanges.{roots_then}
 use Rattle.step_core.proofs.InHand.{shown_not_full, field_mine}
+
+-- the store of a reference into the command's field can be made
+pub store_ready : (c : Config) (w : World) (seat made : ℕ) (kept : Kept) (object value obj val : ℕ) → Shared c w → (of : HasObject w seat obj object) → index_of kept.command < of.refs
+    → Points w.block value (w.graph.root (seat + 1) val) → is_ready c seat made kept (OnField object (fields.Store value)) ≡ true
+store_ready c w seat made kept object value obj val shared of below stands =
+    let field : ℕ = index_of kept.command in
+    ready_of _ _ (word_in c w shared seat obj object (object + 3 + field) (3 + field) of (omega (arith, below)) (omega arith))
+    (number_small value (points_small c _ w.block shared.parsable.plotted value _ stands))
 
 module _ (c : Config) (u : World) (seat made : ℕ) (kept : Kept) (command : Command) (fixed : Option Reply) where
   abbrev at_spot : Spot → Mutating
@@ -55,9 +71,47 @@ module _ (c : Config) (u : World) (seat made : ℕ) (kept : Kept) (command : Com
       (ap (λ k. outcome u.graph (seat + 1) k) get.is ∙ rw here.1 refl)
       shared
       (field_mine c (record { memory = u.memory; block = u.block; ghost = u.ghost; graph = with_root u.graph (seat + 1) dst here.0 }) seat made kept command got here.0
-      shared mine.seated get.small
+      shared mine.seated mine.marking get.small
       (roots_then u.block (λ i. u.memory (Root seat i)) u.graph.root (seat + 1) dst got here.0 mine.roots here.2)
       mine.hands here.2)
+
+  -- The load of the reference that a Set is about to overwrite: the mutator takes it in hand where that is to be recorded.
+  load_old : (object value : ℕ) → Shared c u → Mine c u (at_spot (OnField object (fields.LoadOld value))) command fixed → Overwrites c u seat kept.phase object field (u.memory (Heap (object + 3 + field)))
+      → Stepped c u (at_spot (OnField object (fields.LoadOld value))) command Nothing fixed
+  load_old object value shared mine (Overwrites.takes records held covered) = let got : ℕ = u.memory (Heap (object + 3 + field)) in record {
+    world = with_in_hand u seat got;
+    memory = load_keeps u.memory (Heap (object + 3 + field));
+    graph = refl;
+    legal = tt;
+    settles = λ r e. cc;
+    shared = held.shared;
+    mine = rw records (record {
+      seated = mine.seated;
+      ready = record_ready c (with_in_hand u seat got) seat made kept LoadCount got (overwritten.Set object value) refl held.shared held.own;
+      marking = record { records = held.own.recording; scans = held.own.scanning; phase_is = mine.marking.phase_is };
+      roots = mine.roots;
+      hands = mine.hands;
+      facts = (held.own, (mine.facts.0, set_stays c u (with_in_hand u seat got) seat held.keeps command object field value mine.facts.1, covered));
+    });
+    others = held.others;
+  }
+  load_old object value shared mine (Overwrites.leaves other covered) =
+      let set = mine.facts.1 in
+      looks c u (at_spot (OnField object (fields.LoadOld value))) (Heap (object + 3 + field)) command fixed refl refl refl shared
+      (rw other (record {
+        seated = mine.seated;
+        ready = store_ready c u seat made kept object value set.obj set.val shared set.of set.below set.value_is.stands;
+        marking = mine.marking;
+        roots = mine.roots;
+        hands = mine.hands;
+        facts = (mine.facts.0, set, covered);
+      }))
+
+  pub at_load_old : (object value : ℕ) → Row c u (at_spot (OnField object (fields.LoadOld value))) command fixed
+  at_load_old object value shared mine =
+      let set = mine.facts.1 in
+      let here = field_in c u shared seat set.obj object field set.of set.below in
+      load_old object value shared mine (overwrites_of c u seat kept.phase object field here.0 mine.seated.below shared mine.marking mine.hands here.2)
 
   -- the load of a field that is to change only from an expected reference settles No where it has another
   pub at_load_expected : (object expect value : ℕ) → Row c u (at_spot (OnField object (fields.LoadExpected expect value))) command fixed
@@ -75,6 +129,7 @@ module _ (c : Config) (u : World) (seat made : ℕ) (kept : Kept) (command : Com
         seated = mine.seated;
         ready = ready_of _ (is_number got && is_number value) (word_in c u shared seat cas.obj object (object + 3 + field) (3 + field) cas.of (omega arith) (omega arith))
             (and_from _ _ (number_small got (points_small c _ u.block shared.parsable.plotted got here.0 here.2)) (number_small value (points_small c _ u.block shared.parsable.plotted value _ cas.value_is.stands)));
+        marking = mine.marking;
         roots = mine.roots;
         hands = mine.hands;
         facts = (mine.facts.0, cas, eqb-true _ _ same);
@@ -83,7 +138,7 @@ module _ (c : Config) (u : World) (seat made : ℕ) (kept : Kept) (command : Com
       replies c u (at_spot (OnField object (fields.LoadExpected expect value))) (Heap (object + 3 + field)) command fixed reply.No refl (cond-false _ _ _ (agree ∙ differs)) refl mine.facts.0 refl
       (ap (λ k. outcome u.graph (seat + 1) k) cas.is ∙ rw here.1 (cond-false _ _ _ (sym words ∙ differs)))
       shared
-      (rw differs (leaving c _ seat made kept command reply.No mine.seated mine.roots mine.hands)))
+      (rw differs (leaving c _ seat made kept command reply.No mine.seated (mine.marking.records, mine.marking.scans) mine.roots mine.hands)))
       (cases_Bool (got == expect))
 
   -- the load of a number settles it
@@ -96,7 +151,7 @@ module _ (c : Config) (u : World) (seat made : ℕ) (kept : Kept) (command : Com
       replies c u (at_spot (OnNumber object refs numbers.Load)) (Heap (object + 3 + refs + index)) command fixed (reply.Number got) refl refl refl mine.facts.0 refl
       (ap (λ k. outcome u.graph (seat + 1) k) rd.is ∙ rw here (ap (λ n. answers (reply.Number (u.memory (Heap (object + 3 + n + index)))) u.graph) (sym rd.refs_are)))
       shared
-      (leaving c _ seat made kept command (reply.Number got) mine.seated mine.roots mine.hands)
+      (leaving c _ seat made kept command (reply.Number got) mine.seated (mine.marking.records, mine.marking.scans) mine.roots mine.hands)
 
   -- the load of a name: it is the one that was settled
   pub at_load_name : (value : ℕ) → Row c u (at_spot (Showing value show.LoadName)) command fixed
@@ -110,6 +165,7 @@ module _ (c : Config) (u : World) (seat made : ℕ) (kept : Kept) (command : Com
       (record {
         seated = mine.seated;
         ready = ready_of _ _ (grind (arith, nat_tests)) (number_small value (points_small c _ u.block shared.parsable.plotted value (Some found.name) found.is));
+        marking = mine.marking;
         roots = mine.roots;
         hands = mine.hands;
         facts = (found.settled ∙ ap (λ n. Some (reply.Ref n)) (sym read), found.small);

@@ -1,10 +1,10 @@
 -- The steps that make a new object in room in hand.
-use Rattle.std.proofs.Common.{◌≡◌, ◌≢◌, ℕ, ◌+◌, ◌<◌, Bool, true, false, Option, Some, ⊎_elim, refl, sym, ap, ◌∙◌, subst, arith}
+use Rattle.std.proofs.Common.{◌≡◌, ◌≢◌, ℕ, ◌+◌, ◌<◌, Bool, true, false, Option, Some, inr, ⊎_elim, refl, sym, ap, ◌∙◌, subst, arith}
 use Rattle.std.specs.Prelude.{◌==◌, nat_lt, if◌then◌else◌}
 use Rattle.std.proofs.lemmas.Bool.{cases_eq, cond-true, cond-false, eq-eqb, ne_eqb, ltb-true, ltb-false}
 use Rattle.heap_words.specs.declared.config.Config.{Config}
 use Rattle.heap_words.specs.Encoding.{fresh_word}
-use Rattle.heap_words.specs.Words.{Top, Heap}
+use Rattle.heap_words.specs.Words.{Phase, Top, Tams, Count, Buffer, Grey, Black, Heap}
 use Rattle.shen_graph.specs.declared.command.Command.{Command}
 use Rattle.shen_graph.specs.declared.command.Reply.{Reply}
 use Rattle.mutator.specs.declared.spot.Spot.{Spot}
@@ -13,13 +13,16 @@ use Rattle.mutator.specs.declared.makes.MakeSpot.TheVariants as make
 use Rattle.mutator.specs.declared.spot.Kept.{Kept}
 use Rattle.mutator.specs.Commands.{dst_of, refs_of, nums_of}
 use Rattle.mutator.specs.Rows.{Mutating}
-use Rattle.heap_world.specs.World.{World, Block, thing, hand, promised, words_of, Shared}
+use Rattle.heap_world.specs.World.{World, Block, thing, hand, promised, filler, words_of, IsMarkable, Shared}
 use Rattle.step_core.specs.Stepped.{IsFilling, Mine, Row}
 use Rattle.heap_world.specs.Rely.{Rely}
 use Rattle.step_core.proofs.Spots.{mutator_at, accessed}
 use Rattle.step_core.proofs.Ready.{leaving, word_ready, fresh_ready}
 use Rattle.step_core.proofs.FreshRoot.{usable_made, HasNew, made_world, made_reply, hand_before, promise_before, roots_made, count_made, legal_made, graph_made, shared_made, others_made}
 use Rattle.heap_world.proofs.Apart.{far}
+use Rattle.heap_world.proofs.Marked.{rely_marks, marked_elsewhere}
+use Rattle.heap_world.proofs.Unwritten.{unwritten_stays}
+use Rattle.std.proofs.lemmas.Option.{same_Some}
 use Rattle.heap_world.proofs.Pieces.{object_reads}
 
 module _ (c : Config) (u : World) (seat made : ℕ) (kept : Kept) (command : Command) (fixed : Option Reply) where
@@ -50,6 +53,10 @@ module _ (c : Config) (u : World) (seat made : ℕ) (kept : Kept) (command : Com
         (ne_eqb (address + done) (a + k)
         (λ e. far c (λ r. u.memory (Top r)) u.block shared.parsable.plotted a address k done b (hand seat (3 + refs + nums)) is mine.facts.1.room other below mine.facts.2 (sym e)))
 
+    -- a piece that is not the room stands elsewhere
+    not_room : (a : ℕ) (b : Block) → u.block a ≡ Some b → (hand seat (3 + refs + nums) ≡ b → ⊥) → a ≢ address
+    not_room a b is differs same = differs (same_Some (hand seat (3 + refs + nums)) b (sym mine.facts.1.room ∙ ap u.block (sym same) ∙ is))
+
     -- machines share what they shared
     shared_stored : Shared c stored_world
     shared_stored = record {
@@ -58,7 +65,7 @@ module _ (c : Config) (u : World) (seat made : ℕ) (kept : Kept) (command : Com
         objects = record {
           each = λ a more_refs more_nums n is.
               let o = shared.contents.objects.each a more_refs more_nums n is in
-              let other : a ≢ address = λ same. (let clash : Some (thing n more_refs more_nums) ≡ Some (hand seat (3 + refs + nums)) = sym is ∙ ap u.block same ∙ mine.facts.1.room in cc) in
+              let other : a ≢ address = not_room a (thing n more_refs more_nums) is (λ differ. cc) in
               let kept = λ (k : ℕ) (below : k < 3 + more_refs + more_nums). else_stays a k (thing n more_refs more_nums) is other below in
               (o.0, o.1, object_reads (λ b. u.memory (Heap b)) (λ b. stored_world.memory (Heap b)) u.block u.block a more_refs more_nums n o.0 kept (λ b m e. e) o.2);
           once = shared.contents.objects.once;
@@ -67,8 +74,24 @@ module _ (c : Config) (u : World) (seat made : ℕ) (kept : Kept) (command : Com
       };
       owned = shared.owned;
       calm = shared.calm;
-      uncollected = shared.uncollected;
-      unfilled = shared.unfilled;
+      uncopied = shared.uncopied;
+      unwritten = unwritten_stays (λ a. u.memory (Heap a)) (λ a. stored_world.memory (Heap a)) u.block u.block
+          (λ a seat_then words is. (is, λ k below. else_stays a k (promised seat_then words) is (not_room a (promised seat_then words) is (λ differ. cc)) below))
+          (λ a words is. (
+            is,
+            let header : a + 0 ≡ a = omega arith in
+                ap (λ b. stored_world.memory (Heap b)) (sym header)
+                ∙ else_stays a 0 (filler words) is (not_room a (filler words) is (λ differ. cc)) (let long = shared.parsable.fillers a words is in omega (arith, long))
+                ∙ ap (λ b. u.memory (Heap b)) header,
+          ))
+          shared.unwritten;
+      marked = marked_elsewhere c (u.memory Phase) (λ n. u.memory (Grey n)) (λ n. u.memory (Black n)) (λ t. u.memory (Count t)) (λ t k. u.memory (Buffer t k)) (λ r. u.memory (Top r)) (λ r. u.memory (Tams r))
+          (λ a. u.memory (Heap a)) u.block u.ghost.snapshot u.ghost.recording u.ghost.scanning shared.marked (λ a. stored_world.memory (Heap a))
+          (λ a more_refs more_nums k n is below.
+          let there : a + (3 + k) ≡ a + 3 + k = omega arith in
+          ap (λ b. stored_world.memory (Heap b)) (sym there)
+          ∙ else_stays a (3 + k) (thing n more_refs more_nums) is (not_room a (thing n more_refs more_nums) is (λ differ. cc)) (omega (arith, below))
+          ∙ ap (λ b. u.memory (Heap b)) there);
     }
 
     -- one word more of the new object stands in the room
@@ -92,6 +115,7 @@ module _ (c : Config) (u : World) (seat made : ℕ) (kept : Kept) (command : Com
     mine_stored true more = record {
       seated = mine.seated;
       ready = word_ready c seat made kept command fixed mine.facts.0 (λ r. u.memory (Top r)) u.block shared.parsable.plotted address mine.facts.1.room mine.seated.below (done + 1) (ltb-true _ _ more);
+      marking = mine.marking;
       roots = mine.roots;
       hands = mine.hands;
       facts = (mine.facts.0, filling, ltb-true _ _ more);
@@ -99,6 +123,7 @@ module _ (c : Config) (u : World) (seat made : ℕ) (kept : Kept) (command : Com
     mine_stored false all = record {
       seated = mine.seated;
       ready = fresh_ready c seat made kept command fixed mine.facts.0 (λ r. u.memory (Top r)) u.block shared.parsable.plotted address mine.facts.1.room mine.seated.below;
+      marking = mine.marking;
       roots = mine.roots;
       hands = mine.hands;
       facts = (
@@ -107,20 +132,26 @@ module _ (c : Config) (u : World) (seat made : ℕ) (kept : Kept) (command : Com
       );
     }
 
+    -- the shapes of objects stay
+    shape_stays : (a : ℕ) → IsMarkable u.block a → stored_world.memory (Heap (a + 1)) ≡ u.memory (Heap (a + 1))
+    shape_stays a (IsMarkable.object n more_refs more_nums is) = else_stays a 1 (thing n more_refs more_nums) is (not_room a (thing n more_refs more_nums) is (λ differ. cc)) (omega arith)
+    shape_stays a (IsMarkable.to_come other words is) =
+        else_stays a 1 (promised other words) is (not_room a (promised other words) is (λ differ. cc)) (let long = shared.parsable.promises a other words is in omega (arith, long))
+
     -- others can rely on what they knew
-    others_stored : (j : ℕ) → j ≢ seat → Rely j u stored_world
+    others_stored : (j : ℕ) → j ≢ seat → Rely c j u stored_world
     others_stored j differs = record {
       names = λ a n is. is;
       targets = λ a more_refs more_nums n has. record { piece = has.piece };
       hands = λ a words is. is;
       no_hands = λ a words is. is;
       hand_words = λ a words k is below.
-          let other : a ≢ address = λ same. (let clash : Some (hand j words) ≡ Some (hand seat (3 + refs + nums)) = sym is ∙ ap u.block same ∙ mine.facts.1.room in let seats : j ≡ seat = cc in differs seats) in
+          let other : a ≢ address = not_room a (hand j words) is (λ same. (let seats : j ≡ seat = cc in differs seats)) in
           else_stays a k (hand j words) is other below;
       promises = λ a words is. is;
       no_promises = λ a words is. is;
       promise_words = λ a words k is below.
-          let other : a ≢ address = λ same. (let clash : Some (promised j words) ≡ Some (hand seat (3 + refs + nums)) = sym is ∙ ap u.block same ∙ mine.facts.1.room in cc) in
+          let other : a ≢ address = not_room a (promised j words) is (λ differ. cc) in
           else_stays a k (promised j words) is other below;
       current = refl;
       owners = λ r is. is;
@@ -131,8 +162,9 @@ module _ (c : Config) (u : World) (seat made : ℕ) (kept : Kept) (command : Com
       wait = refl;
       answer = refl;
       state = refl;
-      phase = refl;
       cset = refl;
+      asked = λ is. is;
+      marks = rely_marks c u stored_world j refl (λ n. refl) (λ t. refl) (λ t k. refl) refl (λ t. refl) refl (λ a is. is) shape_stays;
     }
 
   -- the step that stores a word of a new object
@@ -160,6 +192,7 @@ module _ (c : Config) (u : World) (seat made : ℕ) (kept : Kept) (command : Com
       unnamed = refl;
       long = refl;
       own = record { no_hand = λ j words differs same. (let seats : j ≡ seat = cc in differs seats); no_promise = λ j words differs same. cc };
+      known = λ on. inr (shared.marked.young on address seat (3 + refs + nums) mine.facts.1.room);
       stored = mine.facts.1.stored;
       shared = shared;
     }
@@ -169,6 +202,7 @@ module _ (c : Config) (u : World) (seat made : ℕ) (kept : Kept) (command : Com
     mine_made =
         leaving c (made_world has) seat (made + 1) kept command (made_reply has)
         (record { below = mine.seated.below; counted = count_made has; usable = usable_made has mine.seated.usable; unasked = λ calm. let was = mine.seated.unasked calm in (was.0, was.1, λ a words is. was.2 a words (promise_before has a seat words is).1) })
+        (mine.marking.records, mine.marking.scans)
         (roots_made has mine.roots)
         (λ a words is. let old = hand_before has a seat words is in old.0 (mine.hands a words old.1).0)
 

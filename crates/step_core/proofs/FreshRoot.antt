@@ -1,11 +1,11 @@
 -- A new object is stored into a root: room in hand, or an object that was promised, becomes an object of the graph, and its name
 -- is settled.
-use Rattle.std.proofs.Common.{◌≡◌, ◌≢◌, ℕ, ◌+◌, ◌<◌, inr, Option, Some, None, refl, sym, ap, ◌∙◌, subst, arith}
+use Rattle.std.proofs.Common.{◌≡◌, ◌≢◌, ℕ, ◌+◌, ◌<◌, ◌⊎◌, inr, true, Option, Some, None, refl, sym, ap, ◌∙◌, subst, arith}
 use Rattle.std.specs.Prelude.{◌==◌, ◌&&◌}
 use Rattle.std.proofs.lemmas.Bool.{cond-false, ne_eqb, and_left}
 use Rattle.heap_words.specs.declared.config.Config.{Config}
 use Rattle.heap_words.specs.Encoding.{fresh_word}
-use Rattle.heap_words.specs.Words.{Free, Root, Top, Heap, Current}
+use Rattle.heap_words.specs.Words.{Free, Phase, Root, Top, Tams, Heap, Current, Count, Buffer, Grey, Black}
 use Rattle.steps_base.specs.Touch.{touch, stores, touched}
 use Rattle.shen_graph.specs.declared.name.Name.{Name}
 use Rattle.shen_graph.specs.declared.command.Command.{Command}
@@ -15,11 +15,12 @@ use Rattle.shen_graph.specs.Graph.{Object, blank, fresh, with_root, with_fresh}
 use Rattle.shen_graph.specs.Step.{outcome}
 use Rattle.mutator.specs.Commands.{dst_of, refs_of, nums_of}
 use Rattle.mutator.specs.WaitRows.{next_name}
-use Rattle.heap_world.specs.World.{World, Block, thing, hand, promised, words_of, name_at, Points, Target, IsUsable, IsThing, IsGiven, Shared}
+use Rattle.heap_world.specs.World.{World, Block, thing, hand, promised, words_of, name_at, Points, Target, IsUsable, IsThing, IsGiven, IsYoung, Shared}
 use Rattle.heap_world.specs.Rely.{Rely}
 use Rattle.heap_world.proofs.Updates.{updated, updated_there}
 use Rattle.heap_world.proofs.Keeping.{points_stay, usable_stays}
-use Rattle.heap_world.proofs.NewObject.{new_object, stays, names_stay, things_stay, old_hand, old_promise, parsable_again, objects_again, owned_again, unfilled_again, given_again, with_count, count_own}
+use Rattle.heap_world.proofs.Marked.{rely_marks}
+use Rattle.heap_world.proofs.NewObject.{new_object, stays, names_stay, things_stay, old_hand, old_promise, parsable_again, objects_again, owned_again, unwritten_again, markable_again, marking_again, given_again, with_count, count_own}
 use Rattle.step_core.specs.Stepped.{IsMaking, LegalBy, graph_by}
 use Rattle.step_core.proofs.Settling.{legal_answer, graph_answer}
 use Rattle.heap_world.proofs.RootChanges.{roots_written, usable_written}
@@ -40,6 +41,7 @@ pub record HasNew (c : Config) (u : World) (seat made : ℕ) (command k : Comman
   pub unnamed : name_at (Some piece) ≡ None
   pub long : words_of piece ≡ 3 + refs_of k + nums_of k
   pub own : IsOwn seat piece
+  pub known : u.memory Phase ≡ 1 → (u.ghost.snapshot.starts address ≡ true) ⊎ IsYoung c u.ghost.snapshot.top address
   pub stored : (i : ℕ) → i < 3 + refs_of k + nums_of k → u.memory (Heap (address + i)) ≡ fresh_word seat made (refs_of k) (nums_of k) i
   pub shared : Shared c u
 
@@ -111,8 +113,10 @@ module _ {c : Config} {u : World} {seat made : ℕ} {command k : Command} {fixed
     };
     owned = owned_again c top u.block address refs nums name has.piece has.unnamed has.long has.here (u.memory Free) (λ s. u.memory (Current s)) u.ghost.owner has.shared.owned;
     calm = has.shared.calm;
-    uncollected = has.shared.uncollected;
-    unfilled = unfilled_again c top u.block address refs nums name has.piece has.unnamed has.long has.here has.shared.unfilled;
+    uncopied = has.shared.uncopied;
+    unwritten = unwritten_again c top u.block address refs nums name has.piece has.unnamed has.long has.here (λ a. u.memory (Heap a)) has.shared.unwritten;
+    marked = marking_again c top u.block address refs nums name has.piece has.unnamed has.long has.here (u.memory Phase) (λ n. u.memory (Grey n)) (λ n. u.memory (Black n)) (λ t. u.memory (Count t)) (λ t i. u.memory (Buffer t i))
+        (λ r. u.memory (Tams r)) (λ a. u.memory (Heap a)) u.ghost.snapshot u.ghost.recording u.ghost.scanning has.known has.shared.marked;
   }
 
   -- room in hand was in hand before, elsewhere
@@ -155,7 +159,7 @@ module _ {c : Config} {u : World} {seat made : ℕ} {command k : Command} {fixed
   graph_made = sym (graph_answer u.graph seat command made_reply refl ∙ ap (λ x. (outcome u.graph (seat + 1) x).graph) has.making.is)
 
   -- others can rely on what they knew
-  pub others_made : (j : ℕ) → j ≢ seat → Rely j u made_world
+  pub others_made : (j : ℕ) → j ≢ seat → Rely c j u made_world
   others_made j differs = record {
     names = names;
     targets = targets;
@@ -174,6 +178,7 @@ module _ {c : Config} {u : World} {seat made : ℕ} {command k : Command} {fixed
     wait = refl;
     answer = refl;
     state = refl;
-    phase = refl;
     cset = refl;
+    asked = λ is. is;
+    marks = rely_marks c u made_world j refl (λ n. refl) (λ t. refl) (λ t i. refl) refl (λ t. refl) refl (markable_again c top u.block address refs nums name has.piece has.unnamed has.long has.here) (λ a is. refl);
   }

@@ -13,7 +13,7 @@ use Rattle.shen_graph.specs.History.{is_full}
 use Rattle.mutator.specs.Rows.{after_field}
 use Rattle.mutator.specs.Commands.{dst_of}
 use Rattle.heap_world.specs.World.{World, hand, thing, Points, Shared}
-use Rattle.step_core.specs.Stepped.{IsSeatedIn, Mine}
+use Rattle.step_core.specs.Stepped.{IsSeatedIn, HasMarkingBy, Mine}
 use Rattle.step_core.proofs.Spots.{mutator_at}
 use Rattle.heap_world.proofs.Pointing.{named_thing, piece_word, points_small, null_if_0, named_if_not_0}
 use Rattle.step_core.proofs.Ready.{ready_of, number_small}
@@ -26,18 +26,19 @@ shown_not_full (Some n) = refl
 
 -- With the reference of a field in hand for a root, and settled, a call goes on: it stores null, or loads the name first.
 pub field_mine : (c : Config) (w : World) (seat made : ℕ) (kept : Kept) (command : Command) (got : ℕ) (v : Reference)
-    → Shared c w → IsSeatedIn c w seat made false → dst_of kept.command < 16
+    → Shared c w → IsSeatedIn c w seat made false → HasMarkingBy w seat None kept.phase true → dst_of kept.command < 16
     → ((i : ℕ) → i < 16 → Points w.block (if i == dst_of kept.command then got else w.memory (Root seat i)) (w.graph.root (seat + 1) i))
     → ((a words : ℕ) → w.block a ≡ Some (hand seat words) → ⊥)
     → Points w.block got v
     → Mine c w (mutator_at seat made kept (after_field got)) command (Some (shown v))
-field_mine c w seat made kept command got v shared seated small roots hands is = ⊎_elim
+field_mine c w seat made kept command got v shared seated marking small roots hands is = ⊎_elim
     (λ (none : (got == 0) ≡ true).
     let below = seated.below in
     let zero_got : got ≡ 0 = eqb-true _ _ none in
     rw none (record {
       seated = seated;
       ready = ready_of (is_word c (Root seat (dst_of kept.command))) (is_number got) (grind (arith, nat_tests)) (number_small got (points_small c _ w.block shared.parsable.plotted got v is));
+      marking = marking;
       roots = roots;
       hands = hands;
       facts = (ap (λ r. Some (shown r)) (null_if_0 c _ w.block shared.parsable.plotted got v is zero_got), small);
@@ -48,6 +49,7 @@ field_mine c w seat made kept command got v shared seated small roots hands is =
     rw some (record {
       seated = seated;
       ready = ready_of _ true (piece_word c _ w.block shared.parsable.plotted got 2 (thing named.0 piece.0 piece.1) piece.2 (omega arith)) refl;
+      marking = marking;
       roots = roots;
       hands = hands;
       facts = record { name = named.0; settled = ap (λ r. Some (shown r)) named.1; is = named.2; small = small };

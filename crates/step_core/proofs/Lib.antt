@@ -1,5 +1,7 @@
 pub mod Spots
 pub mod Settling
+pub mod Marking
+pub mod Overwriting
 pub mod Naming
 pub mod Loading
 pub mod InHand
@@ -9,6 +11,7 @@ pub mod Loads
 pub mod Fields
 pub mod RootStores
 pub mod Stores
+pub mod Recording
 pub mod Ready
 pub mod Entering
 pub mod Waiting

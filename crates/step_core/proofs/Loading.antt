@@ -15,6 +15,7 @@ use Rattle.mutator.specs.Told.{told_of}
 use Rattle.heap_world.specs.World.{World, Shared}
 use Rattle.step_core.specs.Stepped.{Mine, Stepped}
 use Rattle.heap_world.proofs.Keeping.{load_keeps, rely_same}
+use Rattle.step_core.proofs.Marking.{marks_in}
 use Rattle.step_core.proofs.Settling.{legal_answer, graph_answer}
 
 -- a step that loads a word and settles nothing
@@ -29,7 +30,7 @@ looks c u m at command fixed loaded told given shared mine = record {
   settles = λ r e. absurd (cc);
   shared = shared;
   mine = rw (loaded, told, given) mine;
-  others = λ j d. rely_same j u;
+  others = λ j d. rely_same c j u;
 }
 
 -- a step that loads a word and settles a reply which leaves the graph as it is
@@ -45,7 +46,7 @@ replies c u m at command fixed r loaded told given unsettled other is shared min
   settles = λ q e. (unsettled, given);
   shared = shared;
   mine = rw (loaded, told) mine;
-  others = λ j d. rely_same j u;
+  others = λ j d. rely_same c j u;
 }
 
 -- a step that loads a word and settles a reply which makes a root of the mutator another
@@ -63,5 +64,5 @@ replies_root c u m at command fixed r dst v loaded told given unsettled other is
   settles = λ q e. (unsettled, given);
   shared = shared;
   mine = rw (loaded, told) mine;
-  others = λ j d. search (arith, nat_tests);
+  others = λ j d. let marks = marks_in c u u.memory (with_root u.graph (m.seat + 1) dst v) j refl (λ n. refl) (λ t. refl) (λ t k. refl) (λ a. refl) in search (arith, nat_tests, marks);
 }

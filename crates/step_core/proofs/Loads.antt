@@ -1,10 +1,10 @@
 -- The steps by which a call loads its command's roots and the shape of its object.
 use Rattle.std.proofs.Common.{◌≡◌, ℕ, zero, suc, ◌+◌, ◌<◌, inl, inr, ⊎_elim, Bool, true, false, length, Option, Some, None, refl, sym, ap, ◌∙◌, subst, arith}
 use Rattle.std.specs.Prelude.{◌==◌}
-use Rattle.std.proofs.lemmas.Bool.{and_parts, cases_Bool, cond-true, cond-false, eq-eqb, eqb-true, ltb-true}
+use Rattle.std.proofs.lemmas.Bool.{and_parts, cases_Bool, cond-true, cond-false, eq-eqb, eqb-true, eqb-false, ltb-true}
 use Rattle.std.proofs.lemmas.Bool.Decides.{nat_tests}
 use Rattle.heap_words.specs.declared.config.Config.{Config}
-use Rattle.heap_words.specs.Words.{Cset, Root, Heap}
+use Rattle.heap_words.specs.Words.{Cset, Root, Heap, is_word}
 use Rattle.steps_base.specs.Fits.{is_number}
 use Rattle.heap_words.specs.Encoding.{refs_in, nums_in}
 use Rattle.shen_graph.specs.declared.command.Command.{Command}
@@ -14,17 +14,18 @@ use Rattle.shen_graph.specs.declared.command.Reply.TheVariants as reply
 use Rattle.shen_graph.specs.Step.{yes_or_no, answers, outcome}
 use Rattle.shen_graph.specs.History.{is_full}
 use Rattle.mutator.specs.declared.spot.Spot.{Spot}
-use Rattle.mutator.specs.declared.spot.Spot.TheVariants.{LoadSet, Loading, Leave}
+use Rattle.mutator.specs.declared.spot.Spot.TheVariants.{LoadSet, Loading, OnField, Leave}
 use Rattle.mutator.specs.declared.loads.LoadSpot.TheVariants as load
 use Rattle.mutator.specs.declared.spot.Kept.{Kept}
 use Rattle.shen_graph.specs.declared.order.Order.TheVariants.{Nothing}
 use Rattle.mutator.specs.Orders.{is_next}
 use Rattle.mutator.specs.Commands.{roots_of, root_of, is_on_object, lacks_object, has_part}
-use Rattle.mutator.specs.Rows.{Mutating, first_spot, after_first, with_part}
+use Rattle.mutator.specs.Rows.{Mutating, first_spot, after_first, first_of_set, with_part}
 use Rattle.mutator.specs.Told.{name_the_same}
 use Rattle.heap_world.specs.World.{World, hand, name_at, Points, Shared}
-use Rattle.step_core.specs.Stepped.{IsRootWord, HasRoot, HasObject, HasFirst, HasRoots, IsBegun, IsSeatedIn, Mine, Stepped, Row}
+use Rattle.step_core.specs.Stepped.{IsRootWord, HasRoot, HasObject, HasFirst, HasRoots, IsBegun, IsSet, IsSeatedIn, HasMarkingBy, Mine, Stepped, Row}
 use Rattle.step_core.proofs.Spots.{mutator_at}
+use Rattle.step_core.proofs.Marking.{covered_unmarked}
 use Rattle.step_core.proofs.Ready.{leaving, ready_of, number_small}
 use Rattle.heap_world.proofs.Pointing.{named_if_not_0, null_if_0, points_small}
 use Rattle.step_core.proofs.Naming.{same_words, names_agree, word_in, shape_in, bad_on_null, bad_on_shape}
@@ -66,8 +67,9 @@ object_of c u seat k object shared on first =
     is.usable
 
 -- a call of a command has begun: what a mutator counts on that has no root in hand
-record IsUnderWay (c : Config) (u : World) (seat made : ℕ) (command : Command) (fixed : Option Reply) (k : Command) : Type 0 where
+record IsUnderWay (c : Config) (u : World) (seat made phase : ℕ) (command : Command) (fixed : Option Reply) (k : Command) : Type 0 where
   seated : IsSeatedIn c u seat made false
+  marking : HasMarkingBy u seat None phase true
   roots : (i : ℕ) → i < 16 → Points u.block (u.memory (Root seat i)) (u.graph.root (seat + 1) i)
   hands : (a words : ℕ) → u.block a ≡ Some (hand seat words) → ⊥
   facts : IsBegun made command fixed k
@@ -95,14 +97,14 @@ module _ (c : Config) (u : World) (seat made : ℕ) (kept : Kept) (command : Com
 
   -- a call of a command has begun, and no root is in hand
   abbrev HasBegun : Command → Type 0
-  HasBegun k = IsUnderWay c u seat made command fixed k
+  HasBegun k = IsUnderWay c u seat made kept.phase command fixed k
 
   -- it can go on with the command's first root
   root_mine : (k : Command) (now : ℕ) → 0 < length (roots_of k) → HasBegun k → HasSpot k now fixed (Loading load.First)
   root_mine k now some mine =
       let below = mine.seated.below in
       let small = root_small made k 0 mine.facts.next some in
-      record { seated = mine.seated; ready = grind (arith, nat_tests); roots = mine.roots; hands = mine.hands; facts = (mine.facts, some) }
+      record { seated = mine.seated; ready = grind (arith, nat_tests); marking = mine.marking; roots = mine.roots; hands = mine.hands; facts = (mine.facts, some) }
 
   -- where it goes on after the collection set
   set_mine : (k : Command) (now : ℕ) → HasBegun k → HasSpot k now fixed (first_spot k)
@@ -112,6 +114,7 @@ module _ (c : Config) (u : World) (seat made : ℕ) (kept : Kept) (command : Com
       record {
         seated = mine.seated;
         ready = grind (arith, nat_tests);
+        marking = mine.marking;
         roots = mine.roots;
         hands = mine.hands;
         facts = (
@@ -133,11 +136,12 @@ module _ (c : Config) (u : World) (seat made : ℕ) (kept : Kept) (command : Com
       record {
         seated = mine.seated;
         ready = grind (arith, nat_tests);
+        marking = mine.marking;
         roots = mine.roots;
         hands = mine.hands;
         facts = (mine.facts.unsettled, small, inr (record { is = mine.facts.is; value_is = refl }));
       }
-  set_mine Gc now mine = record { seated = mine.seated; ready = refl; roots = mine.roots; hands = mine.hands; facts = (mine.facts.unsettled, mine.facts.is) }
+  set_mine Gc now mine = record { seated = mine.seated; ready = refl; marking = mine.marking; roots = mine.roots; hands = mine.hands; facts = (mine.facts.unsettled, mine.facts.is) }
   set_mine (Get dst src field) now mine = root_mine (Get dst src field) now (omega arith) mine
   set_mine (Set obj field val) now mine = root_mine (Set obj field val) now (omega arith) mine
   set_mine (Cas obj field expect val) now mine = root_mine (Cas obj field expect val) now (omega arith) mine
@@ -149,7 +153,7 @@ module _ (c : Config) (u : World) (seat made : ℕ) (kept : Kept) (command : Com
 
   -- it leaves with the reply that is settled
   leave_mine : (k : Command) (r : Reply) → HasBegun k → HasSpot k kept.cset (Some r) (Leave r)
-  leave_mine k r mine = leaving c _ seat made (keeping k kept.cset) command r mine.seated mine.roots mine.hands
+  leave_mine k r mine = leaving c _ seat made (keeping k kept.cset) command r mine.seated (mine.marking.records, mine.marking.scans) mine.roots mine.hands
 
   -- it can go on with the shape of the command's object
   shape_mine : (k : Command) (object second third : ℕ) → Shared c u → HasBegun k → is_on_object k ≡ true → HasRoots u seat k object second third → HasSpot k kept.cset fixed (Loading (load.Shape object second third))
@@ -158,6 +162,7 @@ module _ (c : Config) (u : World) (seat made : ℕ) (kept : Kept) (command : Com
       record {
         seated = mine.seated;
         ready = ready_of _ true (word_in c u shared seat (root_of k 0) object (object + 1) 1 of (omega arith) refl) refl;
+        marking = mine.marking;
         roots = mine.roots;
         hands = mine.hands;
         facts = (mine.facts, on, has);
@@ -174,14 +179,14 @@ module _ (c : Config) (u : World) (seat made : ℕ) (kept : Kept) (command : Com
   second_mine k first mine more has =
       let below = mine.seated.below in
       let small = root_small made k 1 mine.facts.next more in
-      record { seated = mine.seated; ready = grind (arith, nat_tests); roots = mine.roots; hands = mine.hands; facts = (mine.facts, more, has) }
+      record { seated = mine.seated; ready = grind (arith, nat_tests); marking = mine.marking; roots = mine.roots; hands = mine.hands; facts = (mine.facts, more, has) }
 
   -- it can go on with the third root
   third_mine : (k : Command) (first second : ℕ) → HasBegun k → 2 < length (roots_of k) → HasFirst u seat k first → HasRoot u seat k 1 second → HasSpot k kept.cset fixed (Loading (load.Third first second))
   third_mine k first second mine more has has_second =
       let below = mine.seated.below in
       let small = root_small made k 2 mine.facts.next more in
-      record { seated = mine.seated; ready = grind (arith, nat_tests); roots = mine.roots; hands = mine.hands; facts = (mine.facts, more, has, has_second) }
+      record { seated = mine.seated; ready = grind (arith, nat_tests); marking = mine.marking; roots = mine.roots; hands = mine.hands; facts = (mine.facts, more, has, has_second) }
 
   -- where it goes on after the first root
   first_mine : (k : Command) (first : ℕ) → Shared c u → HasBegun k → HasFirst u seat k first → HasSpot k kept.cset fixed (after_first k first)
@@ -203,6 +208,7 @@ module _ (c : Config) (u : World) (seat made : ℕ) (kept : Kept) (command : Com
       record {
         seated = mine.seated;
         ready = ready_of _ _ (grind (arith, nat_tests)) (number_small first (points_small c _ u.block shared.parsable.plotted first _ value_is.stands));
+        marking = mine.marking;
         roots = mine.roots;
         hands = mine.hands;
         facts = (mine.facts.unsettled, small, inl (record { src = src; is = mine.facts.is; value_is = value_is }));
@@ -212,7 +218,7 @@ module _ (c : Config) (u : World) (seat made : ℕ) (kept : Kept) (command : Com
   -- the load of the collection set
   pub at_load_set : Row c u (at_spot LoadSet) command fixed
   at_load_set shared mine =
-      let begun : HasBegun kept.command = record { seated = mine.seated; roots = mine.roots; hands = mine.hands; facts = mine.facts } in
+      let begun : HasBegun kept.command = record { seated = mine.seated; marking = mine.marking; roots = mine.roots; hands = mine.hands; facts = mine.facts } in
       looks c u (at_spot LoadSet) Cset command fixed refl refl refl shared (set_mine kept.command (u.memory Cset) begun)
 
   -- the first root of a command is null, and there is no object
@@ -239,7 +245,7 @@ module _ (c : Config) (u : World) (seat made : ℕ) (kept : Kept) (command : Com
   pub at_load_root : Row c u (at_spot (Loading load.First)) command fixed
   at_load_root shared mine =
       let k : Command = kept.command in
-      let base : HasBegun k = record { seated = mine.seated; roots = mine.roots; hands = mine.hands; facts = mine.facts.0 } in
+      let base : HasBegun k = record { seated = mine.seated; marking = mine.marking; roots = mine.roots; hands = mine.hands; facts = mine.facts.0 } in
       ⊎_elim (root_lacks k shared base mine.facts.1) (root_goes k shared base mine.facts.1) (cases_Bool (lacks_object k (u.memory (Root seat (root_of k 0)))))
 
   -- where it goes on after the second root; for a Same it is settled here whether the roots are the same
@@ -268,7 +274,7 @@ module _ (c : Config) (u : World) (seat made : ℕ) (kept : Kept) (command : Com
   -- the load of the second root
   pub at_load_second : (first : ℕ) → Row c u (at_spot (Loading (load.Second first))) command fixed
   at_load_second first shared mine =
-      second_step kept.command first shared (record { seated = mine.seated; roots = mine.roots; hands = mine.hands; facts = mine.facts.0 }) mine.facts.1 mine.facts.2
+      second_step kept.command first shared (record { seated = mine.seated; marking = mine.marking; roots = mine.roots; hands = mine.hands; facts = mine.facts.0 }) mine.facts.1 mine.facts.2
 
   -- where it goes on after the third root: only a Cas has one
   third_step : (k : Command) (first second : ℕ) → Shared c u → HasBegun k → 2 < length (roots_of k) → HasFirst u seat k first → HasRoot u seat k 1 second → Stepped c u (at_call k (Loading (load.Third first second))) command Nothing fixed
@@ -280,36 +286,56 @@ module _ (c : Config) (u : World) (seat made : ℕ) (kept : Kept) (command : Com
   -- the load of the third root
   pub at_load_third : (first second : ℕ) → Row c u (at_spot (Loading (load.Third first second))) command fixed
   at_load_third first second shared mine =
-      third_step kept.command first second shared (record { seated = mine.seated; roots = mine.roots; hands = mine.hands; facts = mine.facts.0 }) mine.facts.1 mine.facts.2 mine.facts.3
+      third_step kept.command first second shared (record { seated = mine.seated; marking = mine.marking; roots = mine.roots; hands = mine.hands; facts = mine.facts.0 }) mine.facts.1 mine.facts.2 mine.facts.3
+
+  -- A Set goes on with its field: while objects are marked it looks first what it will overwrite.
+  set_part : (obj field val object value : ℕ) → Shared c u → HasBegun (Set obj field val) → IsSet u seat command object field value
+      → HasSpot (Set obj field val) kept.cset fixed (OnField object (first_of_set kept.phase value))
+  set_part obj field val object value shared mine is = ⊎_elim
+      (λ (marks : (kept.phase == 1) ≡ true). rw marks (record {
+        seated = mine.seated;
+        ready = ready_of _ true there refl;
+        marking = mine.marking;
+        roots = mine.roots;
+        hands = mine.hands;
+        facts = (mine.facts.unsettled, is);
+      }))
+      (λ (off : (kept.phase == 1) ≡ false). rw off (record {
+        seated = mine.seated;
+        ready = ready_of _ _ there (number_small value (points_small c _ u.block shared.parsable.plotted value _ is.value_is.stands));
+        marking = mine.marking;
+        roots = mine.roots;
+        hands = mine.hands;
+        facts = (mine.facts.unsettled, is, covered_unmarked c u object field shared (λ on. eqb-false _ _ off (mine.marking.phase_is refl ∙ on)));
+      }))
+      (cases_Bool (kept.phase == 1))
+    where
+      there : is_word c (Heap (object + 3 + field)) ≡ true
+      there = word_in c u shared seat is.obj object (object + 3 + field) (3 + field) is.of (let below = is.below in omega (arith, below)) (omega arith)
 
   -- where it goes on with a part of the object that there is
   part_mine : (k : Command) (object second third shape : ℕ) → Shared c u → HasBegun k → HasRoots u seat k object second third → (of : HasObject u seat (root_of k 0) object)
-      → refs_in shape ≡ of.refs → nums_in shape ≡ of.nums → is_on_object k ≡ true → has_part k shape ≡ true → HasSpot k kept.cset fixed (with_part k object second third shape)
+      → refs_in shape ≡ of.refs → nums_in shape ≡ of.nums → is_on_object k ≡ true → has_part k shape ≡ true → HasSpot k kept.cset fixed (with_part kept.phase k object second third shape)
   part_mine (Get dst src field) object second third shape shared mine has of refs nums on part =
       let next = mine.facts.next in
       let below : field < of.refs = let lt = ltb-true _ _ part in omega arith in
       record {
         seated = mine.seated;
         ready = ready_of _ true (word_in c u shared seat src object (object + 3 + field) (3 + field) of (omega arith) (omega arith)) refl;
+        marking = mine.marking;
         roots = mine.roots;
         hands = mine.hands;
         facts = (mine.facts.unsettled, record { src = src; is = mine.facts.is; small = grind (arith, nat_tests); of = of; below = below });
       }
   part_mine (Set obj field val) object second third shape shared mine has of refs nums on part =
       let below : field < of.refs = let lt = ltb-true _ _ part in omega arith in
-      let value_is : IsRootWord u seat val second = has.second_is (omega arith) in
-      record {
-        seated = mine.seated;
-        ready = ready_of _ _ (word_in c u shared seat obj object (object + 3 + field) (3 + field) of (omega arith) (omega arith)) (number_small second (points_small c _ u.block shared.parsable.plotted second _ value_is.stands));
-        roots = mine.roots;
-        hands = mine.hands;
-        facts = (mine.facts.unsettled, record { obj = obj; val = val; is = mine.facts.is; of = of; below = below; value_is = value_is });
-      }
+      set_part obj field val object second shared mine (record { obj = obj; val = val; is = mine.facts.is; of = of; below = below; value_is = has.second_is (omega arith) })
   part_mine (Cas obj field expect val) object second third shape shared mine has of refs nums on part =
       let below : field < of.refs = let lt = ltb-true _ _ part in omega arith in
       record {
         seated = mine.seated;
         ready = ready_of _ true (word_in c u shared seat obj object (object + 3 + field) (3 + field) of (omega arith) (omega arith)) refl;
+        marking = mine.marking;
         roots = mine.roots;
         hands = mine.hands;
         facts = (
@@ -324,6 +350,7 @@ module _ (c : Config) (u : World) (seat made : ℕ) (kept : Kept) (command : Com
       record {
         seated = mine.seated;
         ready = ready_of _ _ (word_in c u shared seat obj object (object + 3 + field) (3 + field) of (omega arith) (omega arith)) (number_small second (points_small c _ u.block shared.parsable.plotted second _ value_is.stands));
+        marking = mine.marking;
         roots = mine.roots;
         hands = mine.hands;
         facts = (mine.facts.unsettled, record { obj = obj; val = val; is = mine.facts.is; small = grind (arith, nat_tests); of = of; below = below; value_is = value_is });
@@ -333,6 +360,7 @@ module _ (c : Config) (u : World) (seat made : ℕ) (kept : Kept) (command : Com
       record {
         seated = mine.seated;
         ready = ready_of _ true (word_in c u shared seat obj object (object + 3 + refs_in shape + index) (3 + refs_in shape + index) of (omega arith) (omega arith)) refl;
+        marking = mine.marking;
         roots = mine.roots;
         hands = mine.hands;
         facts = (mine.facts.unsettled, record { obj = obj; is = mine.facts.is; of = of; refs_are = refs; below = below });
@@ -344,6 +372,7 @@ module _ (c : Config) (u : World) (seat made : ℕ) (kept : Kept) (command : Com
       record {
         seated = mine.seated;
         ready = ready_of _ _ (word_in c u shared seat obj object (object + 3 + refs_in shape + index) (3 + refs_in shape + index) of (omega arith) (omega arith)) small;
+        marking = mine.marking;
         roots = mine.roots;
         hands = mine.hands;
         facts = (mine.facts.unsettled, record { obj = obj; is = mine.facts.is; of = of; refs_are = refs; below = below });
@@ -354,7 +383,7 @@ module _ (c : Config) (u : World) (seat made : ℕ) (kept : Kept) (command : Com
   pub at_load_shape : (object second third : ℕ) → Row c u (at_spot (Loading (load.Shape object second third))) command fixed
   at_load_shape object second third shared mine =
       let k : Command = kept.command in
-      let base : HasBegun k = record { seated = mine.seated; roots = mine.roots; hands = mine.hands; facts = mine.facts.0 } in
+      let base : HasBegun k = record { seated = mine.seated; marking = mine.marking; roots = mine.roots; hands = mine.hands; facts = mine.facts.0 } in
       let of : HasObject u seat (root_of k 0) object = object_of c u seat k object shared mine.facts.1 mine.facts.2.first_is in
       let sizes = shape_in c u shared seat (root_of k 0) object of in
       ⊎_elim

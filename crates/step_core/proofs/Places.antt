@@ -8,7 +8,7 @@ use Rattle.std.proofs.Common.{◌≡◌, ℕ, false, Option, Some, refl, sym, ap
 use Rattle.shen_graph.specs.declared.order.Order.{Order}
 use Rattle.mutator.specs.declared.spot.Kept.{Kept}
 use Rattle.mutator.specs.declared.spot.Spot.{Spot}
-use Rattle.mutator.specs.declared.spot.Spot.TheVariants.{Rest, Ended, Entering, LoadPhase, LoadSet, Loading, OnField, OnNumber, Showing, StoreRoot, Making, AskCycle, Waiting, Leave, Gone}
+use Rattle.mutator.specs.declared.spot.Spot.TheVariants.{Rest, Ended, Entering, LoadPhase, LoadSet, Loading, OnField, Recording, OnNumber, Showing, StoreRoot, Making, AskCycle, Waiting, Leave, Gone}
 use Rattle.mutator.specs.declared.loads.LoadSpot.{LoadSpot}
 use Rattle.mutator.specs.declared.loads.LoadSpot.TheVariants as load
 use Rattle.mutator.specs.declared.fields.FieldSpot.{FieldSpot}
@@ -29,9 +29,10 @@ use Rattle.step_core.proofs.Calls.{at_rest, at_ended, at_ask, at_leave}
 use Rattle.step_core.proofs.Entering.{at_enter, at_load_phase}
 use Rattle.step_core.proofs.Waiting.{each_wait}
 use Rattle.step_core.proofs.Loads.{at_load_set, at_load_root, at_load_second, at_load_third, at_load_shape}
-use Rattle.step_core.proofs.Fields.{at_load_field, at_load_expected, at_load_number, at_load_name}
+use Rattle.step_core.proofs.Fields.{at_load_field, at_load_old, at_load_expected, at_load_number, at_load_name}
 use Rattle.step_core.proofs.RootStores.{at_store_loaded, at_store_root}
 use Rattle.step_core.proofs.Stores.{at_store_field, at_swap_field, at_exchange_field, at_store_number}
+use Rattle.step_core.proofs.Recording.{at_record}
 use Rattle.step_core.proofs.Takes.{at_taking}
 use Rattle.step_core.proofs.Fresh.{at_store_word, at_store_fresh}
 use Rattle.step_core.proofs.Spots.{mutator_at}
@@ -47,6 +48,7 @@ module _ (c : Config) (u : World) (seat made : ℕ) (kept : Kept) (command : Com
   each_field : (object : ℕ) (at : FieldSpot) → Row c u (mutator_at seat made kept (OnField object at)) command fixed
   each_field object fields.Load = at_load_field c u seat made kept command fixed object
   each_field object (fields.LoadExpected expect value) = at_load_expected c u seat made kept command fixed object expect value
+  each_field object (fields.LoadOld value) = at_load_old c u seat made kept command fixed object value
   each_field object (fields.Store value) = at_store_field c u seat made kept command fixed object value
   each_field object (fields.Swap value) = at_swap_field c u seat made kept command fixed object value
   each_field object (fields.Exchange found expect value) = at_exchange_field c u seat made kept command fixed object found expect value
@@ -78,6 +80,7 @@ module _ (c : Config) (u : World) (seat made : ℕ) (kept : Kept) (command : Com
   each_call LoadSet told busy = at_load_set c u seat made kept command fixed
   each_call (Loading at) told busy = each_load at
   each_call (OnField object at) told busy = each_field object at
+  each_call (Recording at address next) told busy = at_record c u seat made kept command fixed at address next
   each_call (OnNumber object refs at) told busy = each_number object refs at
   each_call (Showing value at) told busy = each_show value at
   each_call (StoreRoot value) told busy = at_store_root c u seat made kept command fixed value

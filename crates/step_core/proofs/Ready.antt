@@ -1,5 +1,5 @@
 -- Accesses that can be made.
-use Rattle.std.proofs.Common.{◌≡◌, ℕ, ◌+◌, ◌<◌, ◌≤◌, Bool, true, false, Option, Some, refl, arith}
+use Rattle.std.proofs.Common.{◌≡◌, ℕ, ◌+◌, ◌<◌, ◌≤◌, Bool, true, false, Option, Some, None, refl, arith}
 use Rattle.std.specs.Prelude.{◌&&◌, ◌^◌, nat_lt}
 use Rattle.std.proofs.lemmas.Bool.{and_from, lt-ltb, le-leb}
 use Rattle.std.proofs.lemmas.Bool.Decides.{nat_tests}
@@ -52,10 +52,17 @@ leave_ready : (c : Config) (seat made : ℕ) (kept : Kept) (reply : Reply) → s
 leave_ready c seat made kept reply below = grind (arith, nat_tests)
 
 -- with its reply settled, a mutator has only to leave
-pub leaving : (c : Config) (w : World) (seat made : ℕ) (kept : Kept) (command : Command) (r : Reply) → IsSeatedIn c w seat made false
+pub leaving : (c : Config) (w : World) (seat made : ℕ) (kept : Kept) (command : Command) (r : Reply) → IsSeatedIn c w seat made false → (w.ghost.recording seat ≡ None) × (w.ghost.scanning seat ≡ None)
     → ((i : ℕ) → i < 16 → Points w.block (w.memory (Root seat i)) (w.graph.root (seat + 1) i)) → ((a words : ℕ) → w.block a ≡ Some (hand seat words) → ⊥)
     → Mine c w (mutator_at seat made kept (Leave r)) command (Some r)
-leaving c w seat made kept command r seated roots hands = record { seated = seated; ready = leave_ready c seat made kept r seated.below; roots = roots; hands = hands; facts = refl }
+leaving c w seat made kept command r seated idle roots hands = record {
+  seated = seated;
+  ready = leave_ready c seat made kept r seated.below;
+  marking = record { records = idle.0; scans = idle.1; phase_is = λ no. absurd (cc (no)) };
+  roots = roots;
+  hands = hands;
+  facts = refl;
+}
 
 -- the words of a new object are words of 64 bits
 fresh_small : (seat made refs nums k : ℕ) → seat < 8 → made < 4294967295 → refs ≤ 16 → nums ≤ 16 → fresh_word seat made refs nums k < 2 ^ 64

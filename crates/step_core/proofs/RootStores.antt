@@ -22,6 +22,7 @@ use Rattle.heap_world.specs.World.{World, Points, IsUsable, Shared}
 use Rattle.step_core.specs.Stepped.{IsSeatedIn, Mine, Stepped, Row}
 use Rattle.heap_world.proofs.Keeping.{usable_now}
 use Rattle.step_core.proofs.Spots.{mutator_at, accessed}
+use Rattle.step_core.proofs.Marking.{marks_in}
 use Rattle.step_core.proofs.Settling.{legal_answer, graph_answer}
 use Rattle.step_core.proofs.Ready.{leaving}
 use Rattle.heap_world.proofs.RootChanges.{root_written, roots_written, usable_written}
@@ -65,8 +66,9 @@ module _ (c : Config) (u : World) (seat made : ℕ) (kept : Kept) (command : Com
             rw mine.facts.0
             (leaving c _ seat made kept command r
             (seated_written c u (accessed c u (at_spot (Showing value (show.StoreRoot r)))) seat made dst value refl refl refl (usable_now u.block value _ stands) mine.seated)
+            (mine.marking.records, mine.marking.scans)
             (λ i below. subst (λ word. Points u.block word (u.graph.root (seat + 1) i)) (root_written u.memory seat dst value i) (mine.roots i below)) mine.hands);
-        others = λ j d. search (arith, nat_tests);
+        others = λ j d. let marks = marks_in c u (accessed c u (at_spot (Showing value (show.StoreRoot r)))).memory (accessed c u (at_spot (Showing value (show.StoreRoot r)))).graph j refl (λ n. refl) (λ t. refl) (λ t k. refl) (λ a. refl) in search (arith, nat_tests, marks);
       }
 
   -- the world in which a root is a word, and in the graph a reference
@@ -85,8 +87,8 @@ module _ (c : Config) (u : World) (seat made : ℕ) (kept : Kept) (command : Com
     legal = legal_answer u.graph seat command reply.Ok refl (ap (λ o. o.reply) is);
     settles = λ r e. (mine.facts.0, refl);
     shared = shared;
-    mine = leaving c _ seat made kept command reply.Ok (seated_written c u (rooted_world value v) seat made dst value refl refl refl new mine.seated) (roots_written u.block u.memory u.graph.root seat dst value v mine.roots stands) mine.hands;
-    others = λ j d. search (arith, nat_tests);
+    mine = leaving c _ seat made kept command reply.Ok (seated_written c u (rooted_world value v) seat made dst value refl refl refl new mine.seated) (mine.marking.records, mine.marking.scans) (roots_written u.block u.memory u.graph.root seat dst value v mine.roots stands) mine.hands;
+    others = λ j d. let marks = marks_in c u (rooted_world value v).memory (rooted_world value v).graph j refl (λ n. refl) (λ t. refl) (λ t k. refl) (λ a. refl) in search (arith, nat_tests, marks);
   }
 
   -- the store of a reference into a root settles Ok

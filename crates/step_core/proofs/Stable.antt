@@ -1,18 +1,22 @@
 -- What a mutator knows stays true while another machine makes a step.
 use Rattle.std.proofs.Common.{◌≡◌, ℕ, ◌+◌, inl, inr, ⊎_elim, Bool, Option, refl, ◌∙◌, arith, sym, subst}
+use Rattle.std.specs.Int.{bit_at}
 use Rattle.heap_words.specs.declared.config.Config.{Config}
+use Rattle.heap_words.specs.Words.{Ask}
 use Rattle.shen_graph.specs.declared.command.Command.{Command}
 use Rattle.shen_graph.specs.declared.command.Reply.{Reply}
 use Rattle.alloc_buffers.specs.declared.spot.TakeSpot.{TakeSpot}
 use Rattle.mutator.specs.declared.spot.Kept.{Kept}
 use Rattle.mutator.specs.declared.spot.Spot.{Spot}
-use Rattle.mutator.specs.declared.spot.Spot.TheVariants.{Rest, Ended, Entering, LoadPhase, LoadSet, Loading, OnField, OnNumber, Showing, StoreRoot, Making, AskCycle, Waiting, Leave, Gone}
+use Rattle.mutator.specs.declared.spot.Spot.TheVariants.{Rest, Ended, Entering, LoadPhase, LoadSet, Loading, OnField, Recording, OnNumber, Showing, StoreRoot, Making, AskCycle, Waiting, Leave, Gone}
 use Rattle.mutator.specs.declared.spot.Entered.{Entered}
 use Rattle.mutator.specs.declared.spot.Entered.TheVariants.{Call, Waited}
 use Rattle.mutator.specs.declared.loads.LoadSpot.{LoadSpot}
 use Rattle.mutator.specs.declared.loads.LoadSpot.TheVariants as load
 use Rattle.mutator.specs.declared.fields.FieldSpot.{FieldSpot}
 use Rattle.mutator.specs.declared.fields.FieldSpot.TheVariants as fields
+use Rattle.mutator.specs.declared.overwrites.Overwritten.{Overwritten}
+use Rattle.mutator.specs.declared.overwrites.Overwritten.TheVariants as overwrites
 use Rattle.mutator.specs.declared.numbers.NumberSpot.{NumberSpot}
 use Rattle.mutator.specs.declared.numbers.NumberSpot.TheVariants as numbers
 use Rattle.mutator.specs.declared.shows.ShowSpot.{ShowSpot}
@@ -25,16 +29,20 @@ use Rattle.mutator.specs.Orders.{is_waiting}
 use Rattle.mutator.specs.Commands.{root_of, dst_of, index_of, number_of, refs_of, nums_of}
 use Rattle.mutator.specs.Rows.{Mutating, words_of}
 use Rattle.heap_world.specs.World.{World, Points, IsUsable, Shared}
-use Rattle.step_core.specs.Stepped.{IsRootWord, HasRoot, HasObject, HasFirst, IsGet, IsSet, IsCas, IsXchg, IsRd, IsWr, IsFound, IsCopy, IsFilling, IsAsking, IsPolling, IsAnswered, LoadFacts, FieldFacts, NumberFacts, ShowFacts, MakeFacts, EnterFacts, WaitFacts, SpotFacts, IsSeatedIn, Mine}
-use Rattle.step_core.specs.Own.{root_now}
+use Rattle.step_core.specs.Stepped.{IsRootWord, HasRoot, HasObject, HasFirst, IsGet, IsSet, IsCas, IsXchg, IsRd, IsWr, IsFound, IsCopy, IsFilling, IsAsking, IsHeard, IsPolling, IsAnswered, LoadFacts, FieldFacts, RecordFacts, NumberFacts, ShowFacts, MakeFacts, EnterFacts, WaitFacts, SpotFacts, IsSeatedIn, recording_of, has_phase, Mine}
+use Rattle.step_core.specs.Own.{root_now, root_recording}
 use Rattle.heap_world.specs.Asking as asking
-use Rattle.heap_world.specs.Asking.{Asking, HasNoPromise, IsRequest, IsPromise, IsAsked}
+use Rattle.heap_world.specs.Asking.{Asking, HasNoPromise, IsAsked}
 use Rattle.heap_world.specs.Rely.{Keeps, Rely}
 use Rattle.alloc_buffers.specs.Facts.{TakeFacts}
 use Rattle.alloc_buffers.proofs.TakeStays.{take_stays}
+use Rattle.satb_barrier.specs.declared.spot.RememberSpot.{RememberSpot}
+use Rattle.mark_steps.specs.Recording.{CanRecord}
+use Rattle.mark_steps.proofs.Parts.{recording_steps}
+use Rattle.step_core.proofs.Marking.{covered_stays, marking_relied}
 use Rattle.heap_world.proofs.Keeping.{points_stay, usable_stays, keeps_of}
 
-module _ (c : Config) (u w : World) (seat : ℕ) (keeps : Keeps seat u w) where
+module _ (c : Config) (u w : World) (seat : ℕ) (keeps : Keeps c seat u w) where
   -- so it does for a root
   pub root_stays : (word index : ℕ) → Points u.block word (u.graph.root (seat + 1) index) → Points w.block word (w.graph.root (seat + 1) index)
   root_stays word index is = rw (keeps.roots index) (points_stay u.block w.block keeps.names word _ is)
@@ -74,7 +82,7 @@ module _ (c : Config) (u w : World) (seat : ℕ) (keeps : Keeps seat u w) where
   get_stays command object field dst is = record { src = is.src; is = is.is; small = is.small; of = object_stays is.src object is.of; below = is.below }
 
   -- what a Set counts on stays
-  set_stays : (command : Command) (object field value : ℕ) → IsSet u seat command object field value → IsSet w seat command object field value
+  pub set_stays : (command : Command) (object field value : ℕ) → IsSet u seat command object field value → IsSet w seat command object field value
   set_stays command object field value is = record {
     obj = is.obj;
     val = is.val;
@@ -85,7 +93,7 @@ module _ (c : Config) (u w : World) (seat : ℕ) (keeps : Keeps seat u w) where
   }
 
   -- what a Cas counts on stays
-  cas_stays : (command : Command) (object field expect value : ℕ) → IsCas u seat command object field expect value → IsCas w seat command object field expect value
+  pub cas_stays : (command : Command) (object field expect value : ℕ) → IsCas u seat command object field expect value → IsCas w seat command object field expect value
   cas_stays command object field expect value is = record {
     obj = is.obj;
     expected = is.expected;
@@ -98,7 +106,7 @@ module _ (c : Config) (u w : World) (seat : ℕ) (keeps : Keeps seat u w) where
   }
 
   -- what an Xchg counts on stays
-  xchg_stays : (command : Command) (object field value dst : ℕ) → IsXchg u seat command object field value dst → IsXchg w seat command object field value dst
+  pub xchg_stays : (command : Command) (object field value dst : ℕ) → IsXchg u seat command object field value dst → IsXchg w seat command object field value dst
   xchg_stays command object field value dst is = record {
     obj = is.obj;
     val = is.val;
@@ -160,10 +168,15 @@ module _ (c : Config) (u w : World) (seat : ℕ) (keeps : Keeps seat u w) where
   pub asking_stays : (made : ℕ) (k command : Command) (fixed : Option Reply) (what : Asking) → IsAsking u seat made k command fixed what → IsAsking w seat made k command fixed what
   asking_stays made k command fixed what is = (is.0, asked_stays what is.1)
 
+  -- with the bit that a mutator waits, where that stays
+  pub heard_stays : (bit_at (u.memory Ask) 1 ≡ 1 → bit_at (w.memory Ask) 1 ≡ 1) → (made : ℕ) (k command : Command) (fixed : Option Reply) → IsHeard u seat made k command fixed → IsHeard w seat made k command fixed
+  heard_stays bit made k command fixed is = (asking_stays made k command fixed (asking.asks (refs_of k) (nums_of k)) is.0, bit is.1)
+
   -- and what is known while it polls, and once it is answered
-  pub polling_stays : (made : ℕ) (k command : Command) (fixed : Option Reply) → IsPolling u seat made k command fixed → IsPolling w seat made k command fixed
-  polling_stays made k command fixed is = ⊎_elim
-      (λ waits. inl (asking_stays made k command fixed (asking.asks (refs_of k) (nums_of k)) waits))
+  pub polling_stays : (bit_at (u.memory Ask) 1 ≡ 1 → bit_at (w.memory Ask) 1 ≡ 1) → (made : ℕ) (k command : Command) (fixed : Option Reply) → IsPolling u seat made k command fixed
+      → IsPolling w seat made k command fixed
+  polling_stays bit made k command fixed is = ⊎_elim
+      (λ waits. inl (heard_stays bit made k command fixed waits))
       (λ rest. inr (⊎_elim
       (λ given. inl (asking_stays made k command fixed (asking.given (refs_of k) (nums_of k)) given))
       (λ no. inr (no.0, asked_stays asking.refused no.1))
@@ -187,12 +200,18 @@ module _ (c : Config) (u w : World) (seat : ℕ) (keeps : Keeps seat u w) where
     record { first_is = first_stays k object facts.2.first_is; second_is = loaded_stays k 1 second facts.2.second_is; third_is = loaded_stays k 2 third facts.2.third_is },
   )
 
-  field_stays : (k command : Command) (fixed : Option Reply) (object : ℕ) (at : FieldSpot) → FieldFacts u seat k command fixed object at → FieldFacts w seat k command fixed object at
+  pub field_stays : (k command : Command) (fixed : Option Reply) (object : ℕ) (at : FieldSpot) → FieldFacts c u seat k command fixed object at → FieldFacts c w seat k command fixed object at
   field_stays k command fixed object fields.Load facts = (facts.0, get_stays command object (index_of k) (dst_of k) facts.1)
   field_stays k command fixed object (fields.LoadExpected expect value) facts = (facts.0, cas_stays command object (index_of k) expect value facts.1)
-  field_stays k command fixed object (fields.Store value) facts = (facts.0, set_stays command object (index_of k) value facts.1)
+  field_stays k command fixed object (fields.LoadOld value) facts = (facts.0, set_stays command object (index_of k) value facts.1)
+  field_stays k command fixed object (fields.Store value) facts = (facts.0, set_stays command object (index_of k) value facts.1, covered_stays c u w object (index_of k) keeps.marks facts.2)
   field_stays k command fixed object (fields.Swap value) facts = (facts.0, xchg_stays command object (index_of k) value (dst_of k) facts.1)
   field_stays k command fixed object (fields.Exchange found expect value) facts = (facts.0, cas_stays command object (index_of k) expect value facts.1, facts.2)
+
+  pub record_stays : (k command : Command) (fixed : Option Reply) (address : ℕ) (next : Overwritten) → RecordFacts c u seat k command fixed address next → RecordFacts c w seat k command fixed address next
+  record_stays k command fixed address (overwrites.Set object value) facts = field_stays k command fixed object (fields.Store value) facts
+  record_stays k command fixed address overwrites.Xchg facts = found_stays fixed address (dst_of k) facts
+  record_stays k command fixed address overwrites.Cas facts = facts
 
   number_stays : (k command : Command) (fixed : Option Reply) (object refs : ℕ) (at : NumberSpot) → NumberFacts u seat k command fixed object refs at → NumberFacts w seat k command fixed object refs at
   number_stays k command fixed object refs numbers.Load facts = (facts.0, rd_stays command object refs (index_of k) facts.1)
@@ -212,33 +231,35 @@ module _ (c : Config) (u w : World) (seat : ℕ) (keeps : Keeps seat u w) where
   enter_stays made k command fixed Call facts = facts
   enter_stays made k command fixed Waited facts = answered_stays made k command fixed facts
 
-  pub wait_stays : (made : ℕ) (k command : Command) (fixed : Option Reply) (at : WaitSpot) → WaitFacts u seat made k command fixed at → WaitFacts w seat made k command fixed at
-  wait_stays made k command fixed wait.StoreRequest facts = asking_stays made k command fixed asking.nothing facts
-  wait_stays made k command fixed wait.AskRoom facts = asking_stays made k command fixed (asking.asks (refs_of k) (nums_of k)) facts
-  wait_stays made k command fixed wait.StepOut facts = asking_stays made k command fixed (asking.asks (refs_of k) (nums_of k)) facts
-  wait_stays made k command fixed wait.Poll facts = polling_stays made k command fixed facts
-  wait_stays made k command fixed wait.LoadAnswer facts = answered_stays made k command fixed facts
-  wait_stays made k command fixed (wait.StoreRoot address) facts = (asking_stays made k command fixed (asking.given (refs_of k) (nums_of k)) facts.0, keeps.answer ∙ facts.1)
-  wait_stays made k command fixed (wait.ClearAnswer reply) facts = (facts.0, keeps.wait ∙ facts.1, unpromised_stays facts.2)
+  pub wait_stays : (bit_at (u.memory Ask) 1 ≡ 1 → bit_at (w.memory Ask) 1 ≡ 1) → (made : ℕ) (k command : Command) (fixed : Option Reply) (at : WaitSpot) → WaitFacts u seat made k command fixed at → WaitFacts w seat made k command fixed at
+  wait_stays bit made k command fixed wait.StoreRequest facts = asking_stays made k command fixed asking.nothing facts
+  wait_stays bit made k command fixed wait.AskRoom facts = asking_stays made k command fixed (asking.asks (refs_of k) (nums_of k)) facts
+  wait_stays bit made k command fixed wait.StepOut facts = heard_stays bit made k command fixed facts
+  wait_stays bit made k command fixed wait.Poll facts = polling_stays bit made k command fixed facts
+  wait_stays bit made k command fixed wait.LoadAnswer facts = answered_stays made k command fixed facts
+  wait_stays bit made k command fixed (wait.StoreRoot address) facts = (asking_stays made k command fixed (asking.given (refs_of k) (nums_of k)) facts.0, keeps.answer ∙ facts.1)
+  wait_stays bit made k command fixed (wait.ClearAnswer reply) facts = (facts.0, keeps.wait ∙ facts.1, unpromised_stays facts.2)
 
-  -- and at its spot, if that of a taking does
-  facts_stay : (made : ℕ) (kept : Kept) (command : Command) (fixed : Option Reply) → ((words : ℕ) (take : TakeSpot) → TakeFacts c u seat words take → TakeFacts c w seat words take) → (spot : Spot)
+  -- and at its spot, if that of a taking does, that of a recording, and the bit that a mutator waits
+  facts_stay : (made : ℕ) (kept : Kept) (command : Command) (fixed : Option Reply) → ((words : ℕ) (take : TakeSpot) → TakeFacts c u seat words take → TakeFacts c w seat words take)
+      → ((address : ℕ) (at : RememberSpot) → CanRecord c u seat address at → CanRecord c w seat address at) → (bit_at (u.memory Ask) 1 ≡ 1 → bit_at (w.memory Ask) 1 ≡ 1) → (spot : Spot)
       → SpotFacts c u seat made kept command fixed spot → SpotFacts c w seat made kept command fixed spot
-  facts_stay made kept command fixed taking Rest facts = facts
-  facts_stay made kept command fixed taking (Ended reply) facts = facts
-  facts_stay made kept command fixed taking (Entering at next) facts = enter_stays made kept.command command fixed next facts
-  facts_stay made kept command fixed taking LoadPhase facts = facts
-  facts_stay made kept command fixed taking LoadSet facts = facts
-  facts_stay made kept command fixed taking (Loading at) facts = load_stays made kept.command command fixed at facts
-  facts_stay made kept command fixed taking (OnField object at) facts = field_stays kept.command command fixed object at facts
-  facts_stay made kept command fixed taking (OnNumber object refs at) facts = number_stays kept.command command fixed object refs at facts
-  facts_stay made kept command fixed taking (Showing value at) facts = show_stays kept.command fixed value at facts
-  facts_stay made kept command fixed taking (StoreRoot value) facts = (facts.0, facts.1, ⊎_elim (λ is. inl (copy_stays command (dst_of kept.command) value is)) (λ is. inr is) facts.2)
-  facts_stay made kept command fixed taking (Making at) facts = make_stays made kept.command command fixed taking at facts
-  facts_stay made kept command fixed taking AskCycle facts = facts
-  facts_stay made kept command fixed taking (Waiting at) facts = wait_stays made kept.command command fixed at facts
-  facts_stay made kept command fixed taking (Leave reply) facts = facts
-  facts_stay made kept command fixed taking Gone facts = facts
+  facts_stay made kept command fixed taking recording bit Rest facts = facts
+  facts_stay made kept command fixed taking recording bit (Ended reply) facts = facts
+  facts_stay made kept command fixed taking recording bit (Entering at next) facts = enter_stays made kept.command command fixed next facts
+  facts_stay made kept command fixed taking recording bit LoadPhase facts = facts
+  facts_stay made kept command fixed taking recording bit LoadSet facts = facts
+  facts_stay made kept command fixed taking recording bit (Loading at) facts = load_stays made kept.command command fixed at facts
+  facts_stay made kept command fixed taking recording bit (OnField object at) facts = field_stays kept.command command fixed object at facts
+  facts_stay made kept command fixed taking recording bit (Recording at address next) facts = (recording address at facts.0, record_stays kept.command command fixed address next facts.1)
+  facts_stay made kept command fixed taking recording bit (OnNumber object refs at) facts = number_stays kept.command command fixed object refs at facts
+  facts_stay made kept command fixed taking recording bit (Showing value at) facts = show_stays kept.command fixed value at facts
+  facts_stay made kept command fixed taking recording bit (StoreRoot value) facts = (facts.0, facts.1, ⊎_elim (λ is. inl (copy_stays command (dst_of kept.command) value is)) (λ is. inr is) facts.2)
+  facts_stay made kept command fixed taking recording bit (Making at) facts = make_stays made kept.command command fixed taking at facts
+  facts_stay made kept command fixed taking recording bit AskCycle facts = facts
+  facts_stay made kept command fixed taking recording bit (Waiting at) facts = wait_stays bit made kept.command command fixed at facts
+  facts_stay made kept command fixed taking recording bit (Leave reply) facts = facts
+  facts_stay made kept command fixed taking recording bit Gone facts = facts
 
   -- what a mutator knows of its seat stays
   pub seated_stays : (made : ℕ) (waiting : Bool) → IsSeatedIn c u seat made waiting → IsSeatedIn c w seat made waiting
@@ -250,16 +271,23 @@ module _ (c : Config) (u w : World) (seat : ℕ) (keeps : Keeps seat u w) where
   }
 
   -- a root that counts stays
-  now_stays : (kept : Kept) (spot : Spot) (index : ℕ) → root_now w seat kept spot index ≡ root_now u seat kept spot index
+  recording_stays : (dst value : ℕ) (next : Overwritten) (index : ℕ) → root_recording w seat dst value next index ≡ root_recording u seat dst value next index
+  recording_stays dst value overwrites.Xchg index = rw (keeps.root_words index) refl
+  recording_stays dst value _ index = keeps.root_words index
+
+  pub now_stays : (kept : Kept) (spot : Spot) (index : ℕ) → root_now w seat kept spot index ≡ root_now u seat kept spot index
   now_stays kept (Showing value at) index = rw (keeps.root_words index) refl
+  now_stays kept (Recording at address next) index = recording_stays (dst_of kept.command) address next index
   now_stays kept _ index = keeps.root_words index
 
 -- all that it knows stays
-pub mine_stays : (c : Config) (u w : World) (m : Mutating) (command : Command) (fixed : Option Reply) → Shared c u → Rely m.seat u w → Mine c u m command fixed → Mine c w m command fixed
-mine_stays c u w m command fixed shared rely mine = let keeps : Keeps m.seat u w = keeps_of m.seat u w rely in record {
+pub mine_stays : (c : Config) (u w : World) (m : Mutating) (command : Command) (fixed : Option Reply) → Shared c u → Rely c m.seat u w → Mine c u m command fixed → Mine c w m command fixed
+mine_stays c u w m command fixed shared rely mine = let keeps : Keeps c m.seat u w = keeps_of c m.seat u w rely in record {
   seated = seated_stays c u w m.seat keeps m.made (is_waiting m.spot) mine.seated;
   ready = mine.ready;
+  marking = marking_relied c u w m.seat (recording_of m.spot) m.kept.phase (has_phase m.spot) rely.marks mine.marking;
   roots = λ i below. rw (now_stays c u w m.seat keeps m.kept m.spot i) (root_stays c u w m.seat keeps _ i (mine.roots i below));
   hands = λ a words is. mine.hands a words (rely.no_hands a words is);
-  facts = facts_stay c u w m.seat keeps m.made m.kept command fixed (take_stays c u w m.seat rely (λ r is. shared.owned.currents.own m.seat r is)) m.spot mine.facts;
+  facts = facts_stay c u w m.seat keeps m.made m.kept command fixed (take_stays c u w m.seat rely (λ r is. shared.owned.currents.own m.seat r is))
+      (λ address at can. recording_steps.stays c u w m.seat address at rely can) rely.asked m.spot mine.facts;
 }

@@ -1,10 +1,10 @@
 -- The steps that store into an object.
 use Rattle.std.proofs.Common.{◌≡◌, ◌≢◌, ℕ, ◌+◌, ◌<◌, ◌≤◌, true, false, Option, Some, None, ⊎_elim, refl, sym, ap, ◌∙◌, subst, arith}
 use Rattle.std.specs.Prelude.{◌==◌, ◌&&◌, slice_set}
-use Rattle.std.proofs.lemmas.Bool.{cases_Bool, cond-false}
+use Rattle.std.proofs.lemmas.Bool.{cases_Bool, cond-false, eqb-true}
 use Rattle.std.proofs.lemmas.Bool.Decides.{nat_tests}
 use Rattle.heap_words.specs.declared.config.Config.{Config}
-use Rattle.heap_words.specs.Words.{Root, Heap, write}
+use Rattle.heap_words.specs.Words.{Top, Root, Heap, write}
 use Rattle.steps_base.specs.Touch.{touched}
 use Rattle.shen_graph.specs.declared.name.Name.{Name}
 use Rattle.shen_graph.specs.declared.command.Command.{Command}
@@ -17,20 +17,26 @@ use Rattle.shen_graph.specs.History.{is_full}
 use Rattle.mutator.specs.declared.spot.Spot.{Spot}
 use Rattle.mutator.specs.declared.spot.Spot.TheVariants.{OnField, OnNumber}
 use Rattle.mutator.specs.declared.fields.FieldSpot.TheVariants as fields
+use Rattle.mutator.specs.declared.overwrites.Overwritten.TheVariants as overwrites
 use Rattle.mutator.specs.declared.numbers.NumberSpot.TheVariants as numbers
+use Rattle.satb_barrier.specs.declared.spot.RememberSpot.TheVariants.{LoadCount}
+use Rattle.mark_steps.specs.Laws.{with_in_hand}
 use Rattle.mutator.specs.declared.spot.Kept.{Kept}
 use Rattle.shen_graph.specs.declared.order.Order.TheVariants.{Nothing}
 use Rattle.mutator.specs.Commands.{dst_of, index_of, number_of}
-use Rattle.mutator.specs.Rows.{Mutating, touch_of, next_of, given_at}
+use Rattle.mutator.specs.Rows.{Mutating, touch_of, next_of, given_at, overwritten}
 use Rattle.mutator.specs.Told.{told_of}
-use Rattle.heap_world.specs.World.{World, Points, Target, IsThing, Shared}
-use Rattle.step_core.specs.Stepped.{HasObject, Mine, Stepped, Row}
+use Rattle.heap_world.specs.World.{World, Points, Target, IsThing, IsCovered, Shared}
+use Rattle.step_core.specs.Stepped.{HasObject, IsCas, IsXchg, Mine, Stepped, Row}
 use Rattle.heap_world.proofs.Updates.{updated}
 use Rattle.step_core.proofs.Ready.{leaving}
 use Rattle.step_core.proofs.Naming.{object_in, field_in, number_in, same_words, shown_is}
 use Rattle.heap_world.proofs.Objects.{field_stored, number_stored, stored, changed, shared_stored, rely_stored}
 use Rattle.step_core.proofs.Settling.{legal_answer, graph_answer}
 use Rattle.step_core.proofs.Spots.{mutator_at}
+use Rattle.heap_world.proofs.Pointing.{named_if_not_0}
+use Rattle.step_core.proofs.Stable.{cas_stays, xchg_stays}
+use Rattle.step_core.proofs.Overwriting.{record_ready, recorded_some, Overwrites, overwrites_of, stepped_in_hand, can_stored}
 use Rattle.step_core.proofs.InHand.{shown_not_full, field_mine}
 use Rattle.heap_world.proofs.RootChanges.{roots_then}
 use Rattle.heap_world.proofs.Keeping.{load_keeps, rely_same}
@@ -71,25 +77,25 @@ module _ (g : Graph) (t obj : ℕ) (name : Name) (o : Object) (root_is : g.root 
 module _ (c : Config) (u : World) (m : Mutating) (object refs nums at value : ℕ) (name : Name) (o : Object) (root : ℕ → ℕ → Reference) (command : Command) (fixed : Option Reply) (r : Reply) where
   -- the step is as it should be
   store_settles : touched u.memory (touch_of c m Nothing) ≡ write u.memory (Heap at) value → told_of u.memory m ≡ Some r → given_at m.spot ≡ None → fixed ≡ None → is_full r ≡ false
-      → Shared c u → Target u.block object refs nums name → object ≤ at → at < object + (3 + refs + nums)
+      → Shared c u → Target u.block object refs nums name → object + 3 ≤ at → at < object + (3 + refs + nums) → ((i : ℕ) → i < refs → at ≡ object + 3 + i → IsCovered c u object i)
       → IsThing (updated (λ a. u.memory (Heap a)) at value) u.block object refs nums name o
       → outcome u.graph (m.seat + 1) command ≡ answers r (changed u.graph name o root)
       → ((seat i : ℕ) → seat ≢ m.seat → root (seat + 1) i ≡ u.graph.root (seat + 1) i)
       → Mine c (stored u at value (changed u.graph name o root)) (next_of c m Nothing (u.memory (touch_of c m Nothing).word)) command (Some r)
       → Stepped c u m command Nothing fixed
-  store_settles memory told given unsettled other shared target from_start to_end is answered roots mine = record {
+  store_settles memory told given unsettled other shared target behind to_end covered is answered roots mine = record {
     world = stored u at value (changed u.graph name o root);
     memory = sym memory;
     graph = rw told (sym (graph_answer u.graph m.seat command r other ∙ ap (λ x. x.graph) answered));
     legal = rw told (legal_answer u.graph m.seat command r other (ap (λ x. x.reply) answered));
     settles = λ q e. (unsettled, given);
-    shared = shared_stored c u object refs nums at value name o root shared target from_start to_end is;
+    shared = shared_stored c u object refs nums at value name o root shared target (omega (arith, behind)) to_end covered is;
     mine = rw told mine;
-    others = λ j d. rely_stored c u object refs nums at value name o root shared target from_start to_end j (λ i. roots j i d);
+    others = λ j d. rely_stored c u object refs nums at value name o root shared target behind to_end j (λ i. roots j i d);
   }
 
 -- A step that makes a reference field of an object in hand that of a root of the mutator.
-module _ (c : Config) (u : World) (m : Mutating) (object field value obj val : ℕ) (shared : Shared c u) (of : HasObject u m.seat obj object) (below : field < of.refs) (value_is : Points u.block value (u.graph.root (m.seat + 1) val)) (root : ℕ → ℕ → Reference) where
+module _ (c : Config) (u : World) (m : Mutating) (object field value obj val : ℕ) (shared : Shared c u) (of : HasObject u m.seat obj object) (below : field < of.refs) (value_is : Points u.block value (u.graph.root (m.seat + 1) val)) (covered : IsCovered c u object field) (root : ℕ → ℕ → Reference) where
   -- the object after the store
   abbrev object_then : Object
   object_then = with_reference (object_in c u shared m.seat obj object of).0 field (u.graph.root (m.seat + 1) val)
@@ -102,9 +108,13 @@ module _ (c : Config) (u : World) (m : Mutating) (object field value obj val : �
   object_stands : IsThing (updated (λ a. u.memory (Heap a)) (object + 3 + field) value) u.block object of.refs of.nums of.name object_then
   object_stands = field_stored (λ a. u.memory (Heap a)) u.block object of.refs of.nums of.name _ (object_in c u shared m.seat obj object of).2 field value (u.graph.root (m.seat + 1) val) below value_is
 
+  -- marking needs the field no more, which is the only one that is stored
+  covered_then : (i : ℕ) → i < of.refs → object + 3 + field ≡ object + 3 + i → IsCovered c u object i
+  covered_then i small same = subst (λ (k : ℕ). IsCovered c u object k) (omega (arith, same)) covered
+
   -- machines share what they should
   shared_then : Shared c world_then
-  shared_then = shared_stored c u object of.refs of.nums (object + 3 + field) value of.name object_then root shared of.target (omega arith) (omega arith) object_stands
+  shared_then = shared_stored c u object of.refs of.nums (object + 3 + field) value of.name object_then root shared of.target (omega arith) (omega arith) covered_then object_stands
 
   -- the step is as it should be
   field_settles : (command : Command) (fixed : Option Reply) (r : Reply)
@@ -114,7 +124,7 @@ module _ (c : Config) (u : World) (m : Mutating) (object field value obj val : �
       → Mine c world_then (next_of c m Nothing (u.memory (touch_of c m Nothing).word)) command (Some r)
       → Stepped c u m command Nothing fixed
   field_settles command fixed r memory told given unsettled other answered roots mine =
-      store_settles c u m object of.refs of.nums (object + 3 + field) value of.name object_then root command fixed r memory told given unsettled other shared of.target (omega arith) (omega arith) object_stands answered roots mine
+      store_settles c u m object of.refs of.nums (object + 3 + field) value of.name object_then root command fixed r memory told given unsettled other shared of.target (omega arith) (omega arith) covered_then object_stands answered roots mine
 
 module _ (c : Config) (u : World) (seat made : ℕ) (kept : Kept) (command : Command) (fixed : Option Reply) where
   abbrev at_spot : Spot → Mutating
@@ -139,39 +149,102 @@ module _ (c : Config) (u : World) (seat made : ℕ) (kept : Kept) (command : Com
       let o = object_in c u shared seat is.obj object is.of in
       let v = field_in c u shared seat is.obj object field is.of is.below in
       let answered = set_outcome u.graph (seat + 1) is.obj is.of.name o.0 is.of.root_is o.1 field is.val v.0 v.1 in
-      field_settles c u (at_spot (OnField object (fields.Store value))) object field value is.obj is.val shared is.of is.below is.value_is.stands u.graph.root command fixed reply.Ok
+      field_settles c u (at_spot (OnField object (fields.Store value))) object field value is.obj is.val shared is.of is.below is.value_is.stands mine.facts.2 u.graph.root command fixed reply.Ok
       refl refl refl mine.facts.0 refl (ap (λ k. outcome u.graph (seat + 1) k) is.is ∙ answered) (λ j i d. refl)
-      (leaving c _ seat made kept command reply.Ok mine.seated mine.roots mine.hands)
+      (leaving c _ seat made kept command reply.Ok mine.seated (mine.marking.records, mine.marking.scans) mine.roots mine.hands)
 
-  -- the swap of a field settles the reference that it had
+  -- The swap of a field settles the reference that it had. In a world in which marking needs the field no more:
+  swap_settles : (w : World) (object value : ℕ) → (shared : Shared c w) → fixed ≡ None → (is : IsXchg w seat command object field value dst) → (covered : IsCovered c w object field)
+      → ((v : Reference) → Points w.block (w.memory (Heap (object + 3 + field))) v → let root : ℕ → ℕ → Reference = (with_root w.graph (seat + 1) dst v).root in
+      Shared c (world_then c w (at_spot (OnField object (fields.Swap value))) object field value is.obj is.val shared is.of is.below is.value_is.stands covered root)
+      → Mine c (world_then c w (at_spot (OnField object (fields.Swap value))) object field value is.obj is.val shared is.of is.below is.value_is.stands covered root)
+      (at_spot (overwritten kept.phase (w.memory (Heap (object + 3 + field))) overwrites.Xchg)) command (Some (shown v)))
+      → Stepped c w (at_spot (OnField object (fields.Swap value))) command Nothing fixed
+  swap_settles w object value shared unsettled is covered mine =
+      let o = object_in c w shared seat is.obj object is.of in
+      let v = field_in c w shared seat is.obj object field is.of is.below in
+      let root = (with_root w.graph (seat + 1) dst v.0).root in
+      let got = w.memory (Heap (object + 3 + field)) in
+      let answered = xchg_outcome w.graph (seat + 1) is.obj is.of.name o.0 is.of.root_is o.1 dst field is.val v.0 v.1 in
+      field_settles c w (at_spot (OnField object (fields.Swap value))) object field value is.obj is.val shared is.of is.below is.value_is.stands covered root command fixed (shown v.0)
+      refl (ap (λ x. Some x) (shown_is c w shared got v.0 v.2)) refl unsettled (shown_not_full v.0) (ap (λ k. outcome w.graph (seat + 1) k) is.is ∙ answered)
+      (λ j i d. cond-false ((j + 1 == seat + 1) && (i == dst)) v.0 (w.graph.root (j + 1) i) (grind (arith, nat_tests)))
+      (mine v.0 v.2 (shared_then c w (at_spot (OnField object (fields.Swap value))) object field value is.obj is.val shared is.of is.below is.value_is.stands covered root))
+
+  -- with the reference in hand, where it is to be recorded
+  swap_field : (object value : ℕ) → Shared c u → Mine c u (at_spot (OnField object (fields.Swap value))) command fixed → Overwrites c u seat kept.phase object field (u.memory (Heap (object + 3 + field)))
+      → Stepped c u (at_spot (OnField object (fields.Swap value))) command Nothing fixed
+  swap_field object value shared mine (Overwrites.leaves other covered) =
+      let got : ℕ = u.memory (Heap (object + 3 + field)) in
+      swap_settles u object value shared mine.facts.0 mine.facts.1 covered
+      (λ v stands shared_now. rw other
+      (field_mine c _ seat made kept command got v shared_now mine.seated mine.marking mine.facts.1.small (roots_then u.block (λ i. u.memory (Root seat i)) u.graph.root (seat + 1) dst got v mine.roots stands) mine.hands stands))
+  swap_field object value shared mine (Overwrites.takes records held covered) =
+      let got : ℕ = u.memory (Heap (object + 3 + field)) in
+      stepped_in_hand c u (at_spot (OnField object (fields.Swap value))) got command fixed held
+      (swap_settles (with_in_hand u seat got) object value held.shared mine.facts.0 (xchg_stays c u (with_in_hand u seat got) seat held.keeps command object field value dst mine.facts.1) covered
+      (λ v stands shared_now.
+      let named = named_if_not_0 c (λ r. u.memory (Top r)) u.block shared.parsable.plotted got v stands (recorded_some kept.phase got records).1 in
+      let can = can_stored c (with_in_hand u seat got) seat got (object + 3 + field) value _ held.own in
+      rw records (record {
+        seated = mine.seated;
+        ready = record_ready c _ seat made kept LoadCount got overwrites.Xchg refl shared_now can;
+        marking = record { records = held.own.recording; scans = held.own.scanning; phase_is = mine.marking.phase_is };
+        roots = roots_then u.block (λ i. u.memory (Root seat i)) u.graph.root (seat + 1) dst got v mine.roots stands;
+        hands = mine.hands;
+        facts = (can, record { name = named.0; settled = ap (λ r. Some (shown r)) named.1; is = named.2; small = mine.facts.1.small });
+      })))
+
   pub at_swap_field : (object value : ℕ) → Row c u (at_spot (OnField object (fields.Swap value))) command fixed
   at_swap_field object value shared mine =
       let is = mine.facts.1 in
-      let o = object_in c u shared seat is.obj object is.of in
       let v = field_in c u shared seat is.obj object field is.of is.below in
-      let root = (with_root u.graph (seat + 1) dst v.0).root in
-      let got = u.memory (Heap (object + 3 + field)) in
-      let answered = xchg_outcome u.graph (seat + 1) is.obj is.of.name o.0 is.of.root_is o.1 dst field is.val v.0 v.1 in
-      field_settles c u (at_spot (OnField object (fields.Swap value))) object field value is.obj is.val shared is.of is.below is.value_is.stands root command fixed (shown v.0)
-      refl (ap (λ x. Some x) (shown_is c u shared got v.0 v.2)) refl mine.facts.0 (shown_not_full v.0) (ap (λ k. outcome u.graph (seat + 1) k) is.is ∙ answered)
-      (λ j i d. cond-false ((j + 1 == seat + 1) && (i == dst)) v.0 (u.graph.root (j + 1) i) (grind (arith, nat_tests)))
-      (field_mine c _ seat made kept command got v.0
-      (shared_then c u (at_spot (OnField object (fields.Swap value))) object field value is.obj is.val shared is.of is.below is.value_is.stands root)
-      mine.seated is.small (roots_then u.block (λ i. u.memory (Root seat i)) u.graph.root (seat + 1) dst got v.0 mine.roots v.2) mine.hands v.2)
+      swap_field object value shared mine (overwrites_of c u seat kept.phase object field v.0 mine.seated.below shared mine.marking mine.hands v.2)
 
-  -- the field has the word that was found in it: it changes
+  -- The field has the word that was found in it: it changes. In a world in which marking needs the field no more:
+  exchange_settles : (w : World) (object found expect value : ℕ) → (w.memory (Heap (object + 3 + field)) == found) ≡ true → (shared : Shared c w) → fixed ≡ None
+      → (is : IsCas w seat command object field expect value) → found ≡ expect → (covered : IsCovered c w object field)
+      → (Shared c (world_then c w (at_spot (OnField object (fields.Exchange found expect value))) object field value is.obj is.val shared is.of is.below is.value_is.stands covered w.graph.root)
+      → Mine c (world_then c w (at_spot (OnField object (fields.Exchange found expect value))) object field value is.obj is.val shared is.of is.below is.value_is.stands covered w.graph.root)
+      (at_spot (overwritten kept.phase found overwrites.Cas)) command (Some reply.Yes))
+      → Stepped c w (at_spot (OnField object (fields.Exchange found expect value))) command Nothing fixed
+  exchange_settles w object found expect value same shared unsettled is as_expected covered mine =
+      let o = object_in c w shared seat is.obj object is.of in
+      let v = field_in c w shared seat is.obj object field is.of is.below in
+      let got = w.memory (Heap (object + 3 + field)) in
+      let expected : (got == expect) ≡ true = ap (λ x. got == x) (sym as_expected) ∙ same in
+      let references : same_reference v.0 (w.graph.root (seat + 1) is.expected) ≡ true = sym (same_words c w shared got expect v.0 _ v.2 is.expect_is.stands) ∙ expected in
+      let answered = cas_outcome w.graph (seat + 1) is.obj is.of.name o.0 is.of.root_is o.1 field is.expected is.val v.0 v.1 references in
+      field_settles c w (at_spot (OnField object (fields.Exchange found expect value))) object field value is.obj is.val shared is.of is.below is.value_is.stands covered w.graph.root command fixed reply.Yes
+      (rw same refl) (rw same refl) refl unsettled refl (ap (λ k. outcome w.graph (seat + 1) k) is.is ∙ answered) (λ j i d. refl)
+      (rw same (mine (shared_then c w (at_spot (OnField object (fields.Exchange found expect value))) object field value is.obj is.val shared is.of is.below is.value_is.stands covered w.graph.root)))
+
+  -- with the reference in hand, where it is to be recorded
+  exchange_field : (object found expect value : ℕ) → (u.memory (Heap (object + 3 + field)) == found) ≡ true → Shared c u → Mine c u (at_spot (OnField object (fields.Exchange found expect value))) command fixed
+      → Overwrites c u seat kept.phase object field found → Stepped c u (at_spot (OnField object (fields.Exchange found expect value))) command Nothing fixed
+  exchange_field object found expect value same shared mine (Overwrites.leaves other covered) =
+      exchange_settles u object found expect value same shared mine.facts.0 mine.facts.1 mine.facts.2 covered
+      (λ shared_now. rw other (leaving c _ seat made kept command reply.Yes mine.seated (mine.marking.records, mine.marking.scans) mine.roots mine.hands))
+  exchange_field object found expect value same shared mine (Overwrites.takes records held covered) =
+      stepped_in_hand c u (at_spot (OnField object (fields.Exchange found expect value))) found command fixed held
+      (exchange_settles (with_in_hand u seat found) object found expect value same held.shared mine.facts.0 (cas_stays c u (with_in_hand u seat found) seat held.keeps command object field expect value mine.facts.1) mine.facts.2 covered
+      (λ shared_now.
+      let can = can_stored c (with_in_hand u seat found) seat found (object + 3 + field) value _ held.own in
+      rw records (record {
+        seated = mine.seated;
+        ready = record_ready c _ seat made kept LoadCount found overwrites.Cas refl shared_now can;
+        marking = record { records = held.own.recording; scans = held.own.scanning; phase_is = mine.marking.phase_is };
+        roots = mine.roots;
+        hands = mine.hands;
+        facts = (can, refl);
+      })))
+
   exchange_done : (object found expect value : ℕ) → (u.memory (Heap (object + 3 + field)) == found) ≡ true → Row c u (at_spot (OnField object (fields.Exchange found expect value))) command fixed
   exchange_done object found expect value same shared mine =
       let is = mine.facts.1 in
-      let o = object_in c u shared seat is.obj object is.of in
       let v = field_in c u shared seat is.obj object field is.of is.below in
-      let got = u.memory (Heap (object + 3 + field)) in
-      let expected : (got == expect) ≡ true = ap (λ x. got == x) (sym mine.facts.2) ∙ same in
-      let references : same_reference v.0 (u.graph.root (seat + 1) is.expected) ≡ true = sym (same_words c u shared got expect v.0 _ v.2 is.expect_is.stands) ∙ expected in
-      let answered = cas_outcome u.graph (seat + 1) is.obj is.of.name o.0 is.of.root_is o.1 field is.expected is.val v.0 v.1 references in
-      field_settles c u (at_spot (OnField object (fields.Exchange found expect value))) object field value is.obj is.val shared is.of is.below is.value_is.stands u.graph.root command fixed reply.Yes
-      (rw same refl) (rw same refl) refl mine.facts.0 refl (ap (λ k. outcome u.graph (seat + 1) k) is.is ∙ answered) (λ j i d. refl)
-      (rw same (leaving c _ seat made kept command reply.Yes mine.seated mine.roots mine.hands))
+      exchange_field object found expect value same shared mine
+      (subst (λ x. Overwrites c u seat kept.phase object field x) (eqb-true _ _ same) (overwrites_of c u seat kept.phase object field v.0 mine.seated.below shared mine.marking mine.hands v.2))
 
   -- it has another: nothing changes, and the field is loaded again
   exchange_again : (object found expect value : ℕ) → (u.memory (Heap (object + 3 + field)) == found) ≡ false → Row c u (at_spot (OnField object (fields.Exchange found expect value))) command fixed
@@ -185,11 +258,12 @@ module _ (c : Config) (u : World) (seat made : ℕ) (kept : Kept) (command : Com
     mine = rw other (record {
       seated = mine.seated;
       ready = let ready = mine.ready in grind (arith, nat_tests);
+      marking = mine.marking;
       roots = mine.roots;
       hands = mine.hands;
       facts = (mine.facts.0, mine.facts.1);
     });
-    others = λ j d. rely_same j u;
+    others = λ j d. rely_same c j u;
   }
 
   -- the exchange of a field settles Yes where it has the word that was found
@@ -210,7 +284,7 @@ module _ (c : Config) (u : World) (seat made : ℕ) (kept : Kept) (command : Com
       let stands = number_stored (λ a. u.memory (Heap a)) u.block object is.of.refs is.of.nums is.of.name o.0 o.2 index value is.below in
       let answered = wr_outcome u.graph (seat + 1) is.obj is.of.name o.0 is.of.root_is o.1 index value _ (number_in c u shared seat is.obj object index is.of is.below) in
       store_settles c u (at_spot (OnNumber object refs numbers.Store)) object is.of.refs is.of.nums at value is.of.name (with_value o.0 index value) u.graph.root command fixed reply.Ok
-      refl refl refl mine.facts.0 refl shared is.of.target (omega arith) (omega (arith, is.below, is.refs_are))
+      refl refl refl mine.facts.0 refl shared is.of.target (omega arith) (omega (arith, is.below, is.refs_are)) (λ i small same. absurd (let refs_are = is.refs_are in omega (arith, small, same, refs_are)))
       (subst (λ (x : ℕ). IsThing (updated (λ a. u.memory (Heap a)) (object + 3 + x + index) value) u.block object is.of.refs is.of.nums is.of.name (with_value o.0 index value)) (sym is.refs_are) stands)
       (ap (λ k. outcome u.graph (seat + 1) k) is.is ∙ answered) (λ j i d. refl)
-      (leaving c _ seat made kept command reply.Ok mine.seated mine.roots mine.hands)
+      (leaving c _ seat made kept command reply.Ok mine.seated (mine.marking.records, mine.marking.scans) mine.roots mine.hands)

@@ -1,5 +1,5 @@
 -- The steps of a mutator that takes room for an object: what taking room owes is what its place owes.
-use Rattle.std.proofs.Common.{◌≡◌, ℕ, ◌+◌, true, false, Option, Some, refl, arith}
+use Rattle.std.proofs.Common.{◌≡◌, ℕ, ◌+◌, Bool, true, false, Option, Some, None, refl, sym, ◌∙◌, arith}
 use Rattle.std.specs.Prelude.{◌&&◌}
 use Rattle.std.proofs.lemmas.Bool.{and_from, and_parts, false≢true}
 use Rattle.heap_words.specs.declared.config.Config.{Config}
@@ -26,7 +26,7 @@ use Rattle.shen_graph.specs.declared.order.Order.TheVariants.{Nothing}
 use Rattle.mutator.specs.Commands.{refs_of, nums_of}
 use Rattle.mutator.specs.Rows.{Mutating, after_take}
 use Rattle.mutator.specs.Fit.{is_next_object, is_going}
-use Rattle.step_core.specs.Stepped.{Mine, Row, Stepped}
+use Rattle.step_core.specs.Stepped.{HasMarkingBy, Mine, Row, Stepped}
 use Rattle.step_core.proofs.Stable.{root_stays, asked_stays, seated_stays}
 use Rattle.step_core.proofs.Spots.{mutator_at}
 use Rattle.step_core.proofs.Ready.{seated_waiting, taking_ready, word_ready, request_ready}
@@ -72,14 +72,21 @@ module _ (c : Config) (u : World) (seat made : ℕ) (kept : Kept) (command : Com
       ready = and_from _ _ ready_parts.0 ready_parts.2;
       facts = mine.facts.1;
       hands = λ a more is. absurd (mine.hands a more is);
+      records_none = mine.marking.records;
+      scans_none = mine.marking.scans;
     }
 
+    -- what it counts on of marking at another spot
+    marking_at : (next : TakeSpot) (w : World) (knows : Bool) → Keeps c seat u w → CanTake c w seat words next → HasMarkingBy w seat None kept.phase knows
+    marking_at next w knows keeps can = record { records = can.records_none; scans = can.scans_none; phase_is = λ on. mine.marking.phase_is refl ∙ sym keeps.marks.phase }
+
     -- what it counts on at another spot of the taking
-    mine_at : (next : TakeSpot) (w : World) → is_going next ≡ true → Keeps seat u w → CanTake c w seat words next → ((a more : ℕ) → w.block a ≡ Some (hand seat more) → ⊥)
+    mine_at : (next : TakeSpot) (w : World) → is_going next ≡ true → Keeps c seat u w → CanTake c w seat words next → ((a more : ℕ) → w.block a ≡ Some (hand seat more) → ⊥)
         → Mine c w (at_spot (Making (make.Taking next))) command fixed
     mine_at next w going keeps can none = record {
       seated = seated_stays c u w seat keeps made false mine.seated;
       ready = (let both = and_parts _ _ can.ready in taking_ready c seat made kept command fixed mine.facts.0 next both.0 going both.1);
+      marking = marking_at next w true keeps can;
       roots = λ i below. rw (keeps.root_words i) (root_stays c u w seat keeps _ i (mine.roots i below));
       hands = none;
       facts = (mine.facts.0, can.facts);
@@ -87,10 +94,11 @@ module _ (c : Config) (u : World) (seat made : ℕ) (kept : Kept) (command : Com
 
     -- what it counts on after a step of the taking: with room in hand it goes on with the object's words, and without room it asks
     -- for the object
-    mine_then : (next : TakeSpot) (w : World) → Shared c w → Keeps seat u w → CanTake c w seat words next → Mine c w (at_spot (after_take next)) command fixed
+    mine_then : (next : TakeSpot) (w : World) → Shared c w → Keeps c seat u w → CanTake c w seat words next → Mine c w (at_spot (after_take next)) command fixed
     mine_then (Ended NoRoom) w shared keeps can = record {
       seated = seated_waiting c w seat made false (seated_stays c u w seat keeps made false mine.seated);
       ready = request_ready c seat made kept command fixed mine.facts.0 mine.seated.below;
+      marking = marking_at (Ended NoRoom) w false keeps can;
       roots = λ i below. rw (keeps.root_words i) (root_stays c u w seat keeps _ i (mine.roots i below));
       hands = can.hands;
       facts = (mine.facts.0, asked_stays c u w seat keeps nothing (mine.seated.unasked refl));
@@ -98,6 +106,7 @@ module _ (c : Config) (u : World) (seat made : ℕ) (kept : Kept) (command : Com
     mine_then (Ended (At address)) w shared keeps can = record {
       seated = seated_stays c u w seat keeps made false mine.seated;
       ready = word_ready c seat made kept command fixed mine.facts.0 (λ r. w.memory (Top r)) w.block shared.parsable.plotted address can.facts mine.seated.below 0 (omega arith);
+      marking = marking_at (Ended (At address)) w true keeps can;
       roots = λ i below. rw (keeps.root_words i) (root_stays c u w seat keeps _ i (mine.roots i below));
       hands = can.hands;
       facts = (mine.facts.0, record { room = can.facts; within = omega arith; stored = λ k below. absurd (omega arith) }, omega arith);

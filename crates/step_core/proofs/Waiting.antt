@@ -1,11 +1,12 @@
 -- The steps of a call that waits for an object which a pause makes.
 use Rattle.std.proofs.Common.{◌≡◌, ℕ, ◌+◌, ◌⊎◌, inl, inr, ⊎_elim, Bool, true, false, Option, Some, refl, sym, ap, ◌∙◌, subst, arith}
-use Rattle.std.specs.Prelude.{◌==◌, if◌then◌else◌}
+use Rattle.std.specs.Prelude.{◌==◌, bit_or, if◌then◌else◌}
+use Rattle.std.specs.Int.{bit_at}
 use Rattle.std.proofs.lemmas.Bool.{cond-true, eq-eqb, eqb-true, eqb-false, lt-ltb}
 use Rattle.std.proofs.lemmas.Bool.Decides.{nat_tests}
 use Rattle.heap_words.specs.declared.config.Config.{Config}
 use Rattle.heap_words.specs.Encoding.{shape_word, fresh_word, request_code}
-use Rattle.heap_words.specs.Words.{Top, Answer}
+use Rattle.heap_words.specs.Words.{Top, Answer, Ask}
 use Rattle.shen_graph.specs.declared.command.Command.{Command}
 use Rattle.shen_graph.specs.declared.command.Reply.{Reply}
 use Rattle.shen_graph.specs.declared.command.Reply.TheVariants as reply
@@ -19,11 +20,12 @@ use Rattle.mutator.specs.Commands.{refs_of, nums_of}
 use Rattle.mutator.specs.Rows.{Mutating}
 use Rattle.heap_world.specs.World.{World, Shared, promised}
 use Rattle.heap_world.specs.Asking as asking
-use Rattle.heap_world.specs.Asking.{IsPromise, IsAsked}
-use Rattle.heap_world.specs.Rely.{Keeps}
+use Rattle.heap_world.specs.Asking.{IsPromise}
+use Rattle.heap_world.specs.Rely.{Keeps, RelyMarks}
 use Rattle.step_core.specs.Stepped.{IsAnswered, Mine, Row}
 use Rattle.step_core.proofs.Spots.{mutator_at, accessed}
-use Rattle.step_core.proofs.Stable.{asking_stays}
+use Rattle.step_core.proofs.Marking.{marks_in, now_waits}
+use Rattle.step_core.proofs.Stable.{asking_stays, heard_stays}
 use Rattle.step_core.proofs.Loading.{looks}
 use Rattle.step_core.proofs.Entering.{state_keeps}
 use Rattle.step_core.proofs.Ready.{ready_of, state_word, leaving, given_ready}
@@ -53,6 +55,7 @@ module _ (c : Config) (u : World) (seat made : ℕ) (kept : Kept) (command : Com
     mine = record {
       seated = record { below = mine.seated.below; counted = mine.seated.counted; usable = mine.seated.usable; unasked = λ no. absurd (cc (no)) };
       ready = refl;
+      marking = mine.marking;
       roots = mine.roots;
       hands = mine.hands;
       facts = (
@@ -69,12 +72,15 @@ module _ (c : Config) (u : World) (seat made : ℕ) (kept : Kept) (command : Com
         ),
       );
     };
-    others = λ j d. search (arith, nat_tests);
+    others = λ j d. let marks = marks_in c u (accessed c u (at_spot wait.StoreRequest)).memory u.graph j refl (λ n. refl) (λ t. refl) (λ t k. refl) (λ a. refl) in search (arith, nat_tests, marks);
   }
 
   -- the word by which it asks for a pause is no word that its facts speak of
-  ask_keeps : Keeps seat u (accessed c u (at_spot wait.AskRoom))
-  ask_keeps = search (arith, nat_tests)
+  ask_marks : (j : ℕ) → RelyMarks c j u (accessed c u (at_spot wait.AskRoom))
+  ask_marks j = marks_in c u (accessed c u (at_spot wait.AskRoom)).memory u.graph j refl (λ n. refl) (λ t. refl) (λ t k. refl) (λ a. refl)
+
+  ask_keeps : Keeps c seat u (accessed c u (at_spot wait.AskRoom))
+  ask_keeps = let marks = ask_marks seat in let kept_marks = marks.keeps in search (arith, nat_tests, kept_marks)
 
   -- the step that asks for a pause
   pub at_ask_room : Row c u (at_spot wait.AskRoom) command fixed
@@ -88,11 +94,12 @@ module _ (c : Config) (u : World) (seat made : ℕ) (kept : Kept) (command : Com
     mine = record {
       seated = mine.seated;
       ready = ready_of _ true (state_word c seat mine.seated.below) refl;
+      marking = mine.marking;
       roots = mine.roots;
       hands = mine.hands;
-      facts = asking_stays c u (accessed c u (at_spot wait.AskRoom)) seat ask_keeps made kept.command command fixed (asking.asks refs nums) mine.facts;
+      facts = (asking_stays c u (accessed c u (at_spot wait.AskRoom)) seat ask_keeps made kept.command command fixed (asking.asks refs nums) mine.facts, now_waits (u.memory Ask));
     };
-    others = λ j d. search (arith, nat_tests);
+    others = λ j d. let marks = ask_marks j in let waits : bit_at (u.memory Ask) 1 ≡ 1 → bit_at (bit_or (u.memory Ask) 2) 1 ≡ 1 = λ is. now_waits (u.memory Ask) in search (arith, nat_tests, marks, waits);
   }
 
   -- the step by which it leaves the heap, to wait
@@ -107,11 +114,12 @@ module _ (c : Config) (u : World) (seat made : ℕ) (kept : Kept) (command : Com
     mine = record {
       seated = mine.seated;
       ready = ready_of _ true (lt-ltb _ _ mine.seated.below) refl;
+      marking = mine.marking;
       roots = mine.roots;
       hands = mine.hands;
-      facts = inl (asking_stays c u (accessed c u (at_spot wait.StepOut)) seat (state_keeps u seat seat 0) made kept.command command fixed (asking.asks refs nums) mine.facts);
+      facts = inl (heard_stays c u (accessed c u (at_spot wait.StepOut)) seat (state_keeps c u seat seat 0) (λ is. is) made kept.command command fixed mine.facts);
     };
-    others = λ j d. search (arith, nat_tests);
+    others = λ j d. let marks = marks_in c u (accessed c u (at_spot wait.StepOut)).memory u.graph j refl (λ n. refl) (λ t. refl) (λ t k. refl) (λ a. refl) in search (arith, nat_tests, marks);
   }
 
   -- What it finds where it polls: its word as it counts, or 0, where the control has not stored the word yet. It goes on with an
@@ -124,7 +132,7 @@ module _ (c : Config) (u : World) (seat made : ℕ) (kept : Kept) (command : Com
       answered some =
           let is : got ≡ u.memory (Answer seat) = ⊎_elim (λ (none : got ≡ 0). absurd (eqb-false _ _ some none)) (λ is. is) found in
           ⊎_elim
-          (λ waits. absurd (eqb-false _ _ some (is ∙ waits.1.1)))
+          (λ waits. absurd (eqb-false _ _ some (is ∙ waits.0.1.1)))
           (λ rest. ⊎_elim
           (λ given. inl given)
           (λ no. inr (record { dst = no.0.dst; refs = no.0.refs; nums = no.0.nums; is = no.0.is; settled = told (is ∙ no.1.1) }, no.1))
@@ -136,6 +144,7 @@ module _ (c : Config) (u : World) (seat made : ℕ) (kept : Kept) (command : Com
       by_answer false some = record {
         seated = mine.seated;
         ready = ready_of _ true (state_word c seat mine.seated.below) refl;
+        marking = mine.marking;
         roots = mine.roots;
         hands = mine.hands;
         facts = answered some;
@@ -153,6 +162,7 @@ module _ (c : Config) (u : World) (seat made : ℕ) (kept : Kept) (command : Com
       by_full true full = record {
         seated = mine.seated;
         ready = ready_of _ true (lt-ltb _ _ mine.seated.below) refl;
+        marking = mine.marking;
         roots = mine.roots;
         hands = mine.hands;
         facts = ⊎_elim
@@ -164,6 +174,7 @@ module _ (c : Config) (u : World) (seat made : ℕ) (kept : Kept) (command : Com
           (λ given. record {
             seated = mine.seated;
             ready = given_ready c seat made kept command fixed given.0 (λ r. u.memory (Top r)) u.block (u.memory (Answer seat)) shared.parsable.plotted given.1.2.here mine.seated.below;
+            marking = mine.marking;
             roots = mine.roots;
             hands = mine.hands;
             facts = (given, refl);
@@ -187,6 +198,7 @@ module _ (c : Config) (u : World) (seat made : ℕ) (kept : Kept) (command : Com
       unnamed = refl;
       long = refl;
       own = record { no_hand = λ j words differs same. cc; no_promise = λ j words differs same. (let seats : j ≡ seat = cc in differs seats) };
+      known = λ on. inl (shared.marked.promises on address seat (3 + refs + nums) promise.here);
       stored = λ i below. promise.words i below ∙ ap (λ n. fresh_word seat n refs nums i) mine.seated.counted;
       shared = shared;
     }
@@ -196,6 +208,7 @@ module _ (c : Config) (u : World) (seat made : ℕ) (kept : Kept) (command : Com
     mine_made = record {
       seated = record { below = mine.seated.below; counted = count_made has; usable = usable_made has mine.seated.usable; unasked = λ no. absurd (cc (no)) };
       ready = ready_of _ true (lt-ltb _ _ mine.seated.below) refl;
+      marking = mine.marking;
       roots = roots_made has mine.roots;
       hands = λ a words is. mine.hands a words (hand_before has a seat words is).1;
       facts = (refl, mine.facts.0.1.0, λ a words is. let old = promise_before has a seat words is in old.0 (promise.only a words old.1));
@@ -226,8 +239,8 @@ module _ (c : Config) (u : World) (seat made : ℕ) (kept : Kept) (command : Com
     mine = rw mine.facts.0
         (leaving c (accessed c u (at_spot (wait.ClearAnswer r))) seat made kept command r
         (record { below = mine.seated.below; counted = mine.seated.counted; usable = mine.seated.usable; unasked = λ calm. (mine.facts.1, cond-true (seat == seat) _ _ (eq-eqb seat seat refl), mine.facts.2) })
-        mine.roots mine.hands);
-    others = λ j d. search (arith, nat_tests);
+        (mine.marking.records, mine.marking.scans) mine.roots mine.hands);
+    others = λ j d. let marks = marks_in c u (accessed c u (at_spot (wait.ClearAnswer r))).memory u.graph j refl (λ n. refl) (λ t. refl) (λ t k. refl) (λ a. refl) in search (arith, nat_tests, marks);
   }
 
   -- by the spot, but for the polling

@@ -308,15 +308,19 @@ has_phase (Making at) = true
 has_phase AskCycle = true
 has_phase _ = false
 
--- Of marking a mutator counts on this: what it is about to record is what its spot says, it scans nothing, and the phase that its
--- call has loaded is the phase.
-pub record HasMarking (phase : ℕ) (recording : Option ℕ) (scanning : Option Scan) (kept : Kept) (spot : Spot) : Type 0 where
-  pub records : recording ≡ recording_of spot
+-- Of marking a mutator counts on this: what it is about to record is what its spot says, it scans nothing, and where its call has
+-- loaded the phase, that is the phase.
+pub record HasMarking (phase : ℕ) (recording : Option ℕ) (scanning : Option Scan) (in_hand : Option ℕ) (loaded : ℕ) (knows : Bool) : Type 0 where
+  pub records : recording ≡ in_hand
   pub scans : scanning ≡ None
-  pub phase_is : has_phase spot ≡ true → kept.phase ≡ phase
+  pub phase_is : knows ≡ true → loaded ≡ phase
+
+-- that of a seat in a world, by what its spot has in hand, the phase that its call keeps, and whether it has loaded it
+abbrev pub HasMarkingBy : World → ℕ → Option ℕ → ℕ → Bool → Type 0
+HasMarkingBy w seat in_hand loaded knows = HasMarking (w.memory Phase) (w.ghost.recording seat) (w.ghost.scanning seat) in_hand loaded knows
 
 abbrev pub HasMarkingIn : World → ℕ → Kept → Spot → Type 0
-HasMarkingIn w seat kept spot = HasMarking (w.memory Phase) (w.ghost.recording seat) (w.ghost.scanning seat) kept spot
+HasMarkingIn w seat kept spot = HasMarkingBy w seat (recording_of spot) kept.phase (has_phase spot)
 
 -- what a mutator counts on
 pub record Mine (c : Config) (w : World) (m : Mutating) (command : Command) (fixed : Option Reply) : Type 0 where

@@ -1,6 +1,6 @@
 use Rattle.std.proofs.Common.{◌<◌, ◌^◌, sym, subst}
 use Rattle.std.proofs.lemmas.Nat.{pow_pos}
-use Rattle.heap_words.specs.Words.{Free, Top, Current, Root, Wait, Answer}
+use Rattle.heap_words.specs.Words.{Phase, Cset, Free, Top, Current, Root, Wait, Answer}
 use Rattle.control.proofs.tests.opened.Goals as goal
 
 pub returns-clause-blank : goal.returns-clause-blank
@@ -14,3 +14,9 @@ returns-clause-blank c =
       free = subst (λ n. n < 2 ^ c.args.config.regions) (sym (zero Free)) (pow_pos c.args.config.regions);
       waits = λ t some. absurd (some (zero (Wait t)));
     }
+
+pub returns-clause-idle : goal.returns-clause-idle
+returns-clause-idle c = record {
+  phase = c.in_ok-open.ensures.words Phase;
+  cset = c.in_ok-open.ensures.words Cset;
+}

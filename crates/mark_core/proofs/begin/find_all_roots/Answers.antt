@@ -1,0 +1,24 @@
+use Rattle.std.proofs.Common.{ℕ, map, ap, ◌∙◌}
+use Rattle.std.specs.List.{range_with_len}
+use Rattle.heap_words.specs.Words.{Word, Root}
+use Rattle.heap_graph.specs.Walk.{with_addresses}
+use Rattle.image_graph.specs.State.{memory_of, found_of}
+use Rattle.mark_core.proofs.State.{memory_same, both}
+use Rattle.mark_core.proofs.Listed.{roots_more}
+use Rattle.mark_core.proofs.begin.find_all_roots.Goals as goal
+
+pub loop-mutator-preserved : goal.loop-mutator-preserved
+loop-mutator-preserved c =
+    let t = c.loop-mutator.mutator in
+    let old = c.args.image.now in
+    let now = c.loop-mutator.image in
+    let same = c.loop-mutator.invariant.unchanged in
+    let m : Word → ℕ = memory_of old in
+    record {
+      unchanged = both old now c.find_roots.new.image same c.find_roots.ensures.unchanged;
+      found = c.find_roots.ensures.found;
+      noted = c.find_roots.ensures.noted
+          ∙ ap (λ (k : Word → ℕ). with_addresses (found_of now) (map (λ i. k (Root t i)) (range_with_len 0 16))) (memory_same old now same)
+          ∙ ap (λ xs. with_addresses xs (map (λ i. m (Root t i)) (range_with_len 0 16))) c.loop-mutator.invariant.noted
+          ∙ roots_more m t (found_of old);
+    }

@@ -1,0 +1,12 @@
+use Rattle.std.proofs.Common.{◌≡◌, ◌+◌, map}
+use Rattle.image_laws.specs.Full.{roots_below}
+use Rattle.heap_graph.specs.Walk.{with_addresses}
+use Rattle.image_graph.specs.State.{config_of, memory_of, found_of, AreFound, IsUnchanged}
+use Rattle.mark_core.proofs.begin.find_all_roots.Given as goal
+
+abbrev pub invariant-loop-mutator : goal.invariant-loop-mutator
+invariant-loop-mutator l = record {
+  unchanged : IsUnchanged l.fn.image l.image;
+  found : AreFound l.image;
+  noted : found_of l.image ≡ with_addresses (found_of l.fn.image) (roots_below (memory_of l.fn.image) l.mutator);
+}

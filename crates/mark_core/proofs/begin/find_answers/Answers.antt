@@ -1,0 +1,31 @@
+use Rattle.std.proofs.Common.{◌≡◌, ◌<◌, ◌≤◌, ℕ, ⊎_elim, ap, ◌∙◌, arith}
+use Rattle.std.proofs.lemmas.Bool.{cases_lt}
+use Rattle.heap_words.specs.Words.{Word, Answer}
+use Rattle.heap_graph.specs.Walk.{with_address}
+use Rattle.image_graph.specs.State.{memory_of, found_of}
+use Rattle.mark_core.proofs.State.{memory_same, both}
+use Rattle.mark_core.proofs.Listed.{answer_more, answer_none}
+use Rattle.mark_core.proofs.begin.find_answers.Goals as goal
+
+pub loop-mutator-preserved : goal.loop-mutator-preserved
+loop-mutator-preserved c =
+    let t = c.loop-mutator.mutator in
+    let old = c.args.image.now in
+    let now = c.loop-mutator.image in
+    let after = c.find_answer.new.image in
+    let same = c.loop-mutator.invariant.unchanged in
+    let m : Word → ℕ = memory_of old in
+    let answer : memory_of now (Answer t) ≡ m (Answer t) = ap (λ k. k (Answer t)) (memory_same old now same) in
+    record {
+      unchanged = both old now after same c.find_answer.ensures.unchanged;
+      found = c.find_answer.ensures.found;
+      noted = ⊎_elim
+          (λ (some : 1 < m (Answer t)).
+          c.find_answer.ensures.noted (omega (arith, some, answer))
+          ∙ ap (with_address (found_of now)) answer
+          ∙ ap (λ xs. with_address xs (m (Answer t))) c.loop-mutator.invariant.noted
+          ∙ answer_more m t (found_of old) some)
+          (λ (none : m (Answer t) ≤ 1).
+          c.find_answer.ensures.none (omega (arith, none, answer)) ∙ c.loop-mutator.invariant.noted ∙ answer_none m t (found_of old) none)
+          (cases_lt 1 (m (Answer t)));
+    }

@@ -1,0 +1,48 @@
+use Rattle.std.proofs.Common.{◌≡◌, ℕ, sym, ap, ◌∙◌, subst}
+use Rattle.heap_words.specs.declared.config.Config.{Config}
+use Rattle.heap_words.specs.Words.{Word, bit_words}
+use Rattle.heap_graph.specs.Walk.{has}
+use Rattle.image_graph.specs.State.{config_of, words_of, memory_of, found_of}
+use Rattle.image_graph.specs.Holds.{HoldsBy}
+use Rattle.mark_laws.specs.Close.{traced_in}
+use Rattle.mark_laws.specs.Facts.{IsMarkedThrough}
+use Rattle.mark_laws.specs.Laws.{AreClosed}
+use Rattle.mark_laws.proofs.Closed.{are_closed, closed_holds, closed_through}
+use Rattle.mark_core.specs.Steps.{marked, emptied}
+use Rattle.mark_core.proofs.State.{memory_same}
+use Rattle.mark_core.proofs.Closing.{can_trace_some, closed_is}
+use Rattle.mark_core.proofs.close.close_marks.Goals as goal
+
+pub find_traced-requires : goal.find_traced-requires
+find_traced-requires c = can_trace_some (config_of c.args.image.now) (memory_of c.args.image.now) c.requires
+
+pub returns-clause-words : goal.returns-clause-words
+returns-clause-words c =
+    let old = c.args.image.now in
+    let g = config_of old in
+    let m : Word → ℕ = memory_of old in
+    let one = c.find_traced.new.image in
+    let two = c.mark_found.new.image in
+    let same = c.find_traced.ensures.unchanged in
+    let to_two : memory_of two ≡ marked g (has (traced_in g m)) (bit_words g) m =
+    c.mark_found.ensures.words
+    ∙ ap (λ (k : Config). marked k (has (found_of one)) (bit_words k) (memory_of one)) same.config
+    ∙ ap (λ n. marked g (has (found_of one)) (bit_words g) n) (memory_same old one same)
+    ∙ ap (λ xs. marked g (has xs) (bit_words g) m) c.find_traced.ensures.traced in
+    c.empty_buffers.ensures.words
+    ∙ ap (λ (k : Config). emptied k.mutators (memory_of two)) (c.mark_found.ensures.config ∙ same.config)
+    ∙ ap (emptied g.mutators) to_two
+    ∙ closed_is g (words_of old) (can_trace_some g m c.requires)
+
+pub returns-clause-traced : goal.returns-clause-traced
+returns-clause-traced c = λ block owner p graph holds marking.
+    let g = config_of c.args.image.now in
+    let m : Word → ℕ = memory_of c.args.image.now in
+    subst (λ n. AreClosed g m n) (sym (returns-clause-words c)) (are_closed g m block owner p graph holds marking)
+
+pub returns-clause-through : goal.returns-clause-through
+returns-clause-through c = λ block owner p graph holds marking.
+    let g = config_of c.args.image.now in
+    let m : Word → ℕ = memory_of c.args.image.now in
+    subst (λ n. HoldsBy g n block owner p graph × IsMarkedThrough g n block) (sym (returns-clause-words c))
+    (closed_holds g m block owner p graph holds marking, closed_through g m block owner p graph holds marking)

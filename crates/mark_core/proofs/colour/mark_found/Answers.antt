@@ -1,0 +1,69 @@
+use Rattle.std.proofs.Common.{◌≡◌, ◌<◌, ℕ, refl, sym, ap, ◌∙◌, subst, arith}
+use Rattle.std.specs.Int.RustNames.{bit_or}
+use Rattle.heap_words.specs.declared.config.Config.{Config}
+use Rattle.heap_words.specs.Words.{Word, Grey, Black, IsWord, word_at, write, bit_words}
+use Rattle.heap_graph.specs.Walk.{has}
+use Rattle.image_graph.specs.State.{config_of, memory_of, found_of}
+use Rattle.image_graph.proofs.Steps.{stored}
+use Rattle.mark_laws.specs.Marks.{mark_bits}
+use Rattle.mark_core.specs.Steps.{marked}
+use Rattle.mark_core.proofs.State.{still_found}
+use Rattle.mark_core.proofs.Steps.{not_yet, marked_none, marked_next}
+use Rattle.mark_core.proofs.colour.mark_found.Goals as goal
+
+pub loop-word-init : goal.loop-word-init
+loop-word-init c = record {
+  config = refl;
+  same = refl;
+  found = c.requires;
+  words = marked_none (config_of c.args.image.now) (has (found_of c.args.image.now)) (memory_of c.args.image.now);
+}
+
+pub loop-word-preserved : goal.loop-word-preserved
+loop-word-preserved c =
+    let old = c.args.image.now in
+    let g = config_of old in
+    let m : Word → ℕ = memory_of old in
+    let set = has (found_of old) in
+    let n = c.loop-word.word in
+    let now = c.loop-word.image in
+    let one = c.set_word.new.self in
+    let two = c.set_word-in-loop-word.new.self in
+    let is = c.loop-word.invariant in
+    let same : c.config-config.result ≡ g = c.config-config.ensures in
+    let below : n < bit_words g = omega (arith, c.loop-word-test.true, c.mark_words-word-end.ensures.value, ap bit_words same) in
+    let inside : n < bit_words (config_of now) = omega (arith, below, ap bit_words is.config) in
+    let bits : c.found_bits-bits.result ≡ mark_bits g set n =
+    c.found_bits-bits.ensures ∙ ap (λ (k : Config). mark_bits k (has (found_of now)) n) is.config ∙ ap (λ xs. mark_bits g (has xs) n) is.same in
+    let grey : c.word.result ≡ m (Grey n) =
+    c.word.ensures.named (Grey n) inside (ap (λ (k : Config). word_at k (Grey n)) (is.config ∙ sym same) ∙ sym c.grey_at.ensures)
+    ∙ ap (λ k. k (Grey n)) is.words ∙ not_yet (bit_or (m (Grey n)) (mark_bits g set n)) (m (Grey n)) n in
+    let black : c.word-in-loop-word.result ≡ m (Black n) =
+    c.word-in-loop-word.ensures.named (Black n) inside (ap (λ (k : Config). word_at k (Black n)) (is.config ∙ sym same) ∙ sym c.black_at.ensures)
+    ∙ ap (λ k. k (Black n)) is.words ∙ not_yet (bit_or (m (Black n)) (mark_bits g set n)) (m (Black n)) n in
+    let grey_bits : bit_or c.word.result c.found_bits-bits.result ≡ bit_or (m (Grey n)) (mark_bits g set n) = ap (λ x. bit_or x c.found_bits-bits.result) grey ∙ ap (bit_or (m (Grey n))) bits in
+    let black_bits : bit_or c.word-in-loop-word.result c.found_bits-bits.result ≡ bit_or (m (Black n)) (mark_bits g set n) =
+    ap (λ x. bit_or x c.found_bits-bits.result) black ∙ ap (bit_or (m (Black n))) bits in
+    let to_one = stored (config_of now) g (memory_of now) (memory_of one) (Grey n) c.grey_at-in-loop-word.result (bit_or c.word.result c.found_bits-bits.result)
+    is.config below (c.grey_at-in-loop-word.ensures ∙ ap (λ (k : Config). word_at k (Grey n)) same) c.set_word.ensures.named in
+    let to_two = stored (config_of one) g (memory_of one) (memory_of two) (Black n) c.black_at-in-loop-word.result (bit_or c.word-in-loop-word.result c.found_bits-bits.result)
+    (c.set_word.ensures.config ∙ is.config) below (c.black_at-in-loop-word.ensures ∙ ap (λ (k : Config). word_at k (Black n)) same) c.set_word-in-loop-word.ensures.named in
+    record {
+      config = c.set_word-in-loop-word.ensures.config ∙ c.set_word.ensures.config ∙ is.config;
+      same = c.set_word-in-loop-word.ensures.found ∙ c.set_word.ensures.found ∙ is.same;
+      found = still_found one two c.set_word-in-loop-word.ensures.config c.set_word-in-loop-word.ensures.marks c.set_word-in-loop-word.ensures.found
+          (still_found now one c.set_word.ensures.config c.set_word.ensures.marks c.set_word.ensures.found is.found);
+      words = to_two
+          ∙ ap (λ k. write k (Black n) (bit_or c.word-in-loop-word.result c.found_bits-bits.result))
+          (to_one ∙ ap (λ k. write k (Grey n) (bit_or c.word.result c.found_bits-bits.result)) is.words ∙ ap (write (marked g set n m) (Grey n)) grey_bits)
+          ∙ ap (write (write (marked g set n m) (Grey n) (bit_or (m (Grey n)) (mark_bits g set n))) (Black n)) black_bits
+          ∙ marked_next g set n m;
+    }
+
+pub returns-clause-words : goal.returns-clause-words
+returns-clause-words c =
+    let old = c.args.image.now in
+    let g = config_of old in
+    let all : c.loop-word.word ≡ bit_words g =
+    omega (arith, c.loop-word-test.false, c.loop-word.auto.word-end, c.mark_words-word-end.ensures.value, ap bit_words c.config-config.ensures) in
+    c.loop-word.invariant.words ∙ ap (λ n. marked g (has (found_of old)) n (memory_of old)) all

@@ -1,0 +1,12 @@
+use Rattle.std.proofs.Common.{◌≡◌, ◌+◌, map}
+use Rattle.mark_laws.specs.Close.{entries_below}
+use Rattle.heap_graph.specs.Walk.{with_addresses}
+use Rattle.image_graph.specs.State.{config_of, memory_of, found_of, AreFound, IsUnchanged}
+use Rattle.mark_core.proofs.trace.find_all_entries.Given as goal
+
+abbrev pub invariant-loop-mutator : goal.invariant-loop-mutator
+invariant-loop-mutator l = record {
+  unchanged : IsUnchanged l.fn.image l.image;
+  found : AreFound l.image;
+  noted : found_of l.image ≡ with_addresses (found_of l.fn.image) (entries_below (memory_of l.fn.image) l.mutator);
+}

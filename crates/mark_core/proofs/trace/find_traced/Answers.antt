@@ -1,0 +1,99 @@
+use Rattle.std.proofs.Common.{◌≡◌, ◌<◌, ℕ, [], slice_get, Some, None, sym, ap, ◌∙◌, arith}
+use Rattle.std.proofs.lemmas.Option.{slice_get_within}
+use Rattle.heap_words.specs.declared.config.Config.{Config}
+use Rattle.heap_words.specs.Words.{Word, heap_size}
+use Rattle.heap_graph.specs.Walk.{with_addresses}
+use Rattle.heap_graph.proofs.Marks as marks
+use Rattle.image_laws.proofs.Found.{has_at}
+use Rattle.image_laws.proofs.Turns.{noted_both, no_turn, next_turn, last_turn, is_none, none_left}
+use Rattle.image_graph.specs.State.{config_of, memory_of, found_of, marks_of}
+use Rattle.mark_laws.specs.Close.{IsTraced, greys_below, entries_below, starts_in, open_fields, traced_by}
+use Rattle.mark_laws.proofs.Traced.{listed_traced}
+use Rattle.mark_core.specs.Trace.{CanTrace}
+use Rattle.mark_core.proofs.State.{memory_same, carried, both}
+use Rattle.mark_core.proofs.trace.find_traced.Goals as goal
+
+pub find_all_entries-requires-clause-can : goal.find_all_entries-requires-clause-can
+find_all_entries-requires-clause-can c =
+    let old = c.args.image.now in
+    carried CanTrace old c.find_greys.new.image (both old c.forget_found.new.self c.find_greys.new.image c.forget_found.ensures.unchanged c.find_greys.ensures.unchanged) c.requires
+
+pub loop-address-init : goal.loop-address-init
+loop-address-init c =
+    let old = c.args.image.now in
+    let g = config_of old in
+    let m : Word → ℕ = memory_of old in
+    let one = c.forget_found.new.self in
+    let two = c.find_greys.new.image in
+    let three = c.find_all_entries.new.image in
+    let to_one = c.forget_found.ensures.unchanged in
+    let to_two = both old one two to_one c.find_greys.ensures.unchanged in
+    let greys : found_of two ≡ with_addresses [] (greys_below g m (heap_size g)) =
+    c.find_greys.ensures.noted
+    ∙ ap (λ (k : Word → ℕ). with_addresses (found_of one) (greys_below (config_of one) k (heap_size (config_of one)))) (memory_same old one to_one)
+    ∙ ap (λ (k : Config). with_addresses (found_of one) (greys_below k m (heap_size k))) to_one.config
+    ∙ ap (λ xs. with_addresses xs (greys_below g m (heap_size g))) c.forget_found.ensures.none in
+    record {
+      unchanged = both old two three to_two c.find_all_entries.ensures.unchanged;
+      found = c.find_all_entries.ensures.found;
+      turns = c.find_all_entries.ensures.noted
+          ∙ ap (λ (k : Word → ℕ). with_addresses (found_of two) (entries_below k (config_of two).mutators)) (memory_same old two to_two)
+          ∙ ap (λ (k : Config). with_addresses (found_of two) (entries_below m k.mutators)) to_two.config
+          ∙ ap (λ xs. with_addresses xs (entries_below m g.mutators)) greys
+          ∙ noted_both [] (greys_below g m (heap_size g)) (entries_below m g.mutators)
+          ∙ no_turn (open_fields g m) (starts_in g m);
+      few = omega arith;
+    }
+
+pub trace_one-requires-clause-can : goal.trace_one-requires-clause-can
+trace_one-requires-clause-can c = carried CanTrace c.args.image.now c.loop-address.image c.loop-address.invariant.unchanged c.requires
+
+pub trace_one-requires-clause-traced : goal.trace_one-requires-clause-traced
+trace_one-requires-clause-traced c =
+    let old = c.args.image.now in
+    let a = c.in-Some.address in
+    let n = c.loop-address.turn in
+    let at : slice_get (traced_by (config_of old) (memory_of old) n) n ≡ Some a =
+    sym (ap (λ xs. slice_get xs n) c.loop-address.invariant.turns) ∙ sym c.in-Some.ensures in
+    carried (λ k m. IsTraced k m a) old c.loop-address.image c.loop-address.invariant.unchanged
+    (listed_traced (config_of old) (memory_of old) n a (has_at (traced_by (config_of old) (memory_of old) n) n a at))
+
+pub loop-address-smaller : goal.loop-address-smaller
+loop-address-smaller c =
+    let now = c.loop-address.image in
+    let within = slice_get_within (found_of now) c.loop-address.turn c.in-Some.address (sym c.in-Some.ensures) in
+    let few = marks.few (config_of now).region_words (marks_of now) (found_of now) c.loop-address.invariant.found in
+    omega (arith, within, few, now.all_marks, ap heap_size c.loop-address.invariant.unchanged.config)
+
+pub loop-address-preserved : goal.loop-address-preserved
+loop-address-preserved c =
+    let old = c.args.image.now in
+    let g = config_of old in
+    let now = c.loop-address.image in
+    let a = c.in-Some.address in
+    let n = c.loop-address.turn in
+    let m : Word → ℕ = memory_of old in
+    let same = c.loop-address.invariant.unchanged in
+    let at : slice_get (traced_by g m n) n ≡ Some a = sym (ap (λ xs. slice_get xs n) c.loop-address.invariant.turns) ∙ sym c.in-Some.ensures in
+    let within = slice_get_within (found_of now) n a (sym c.in-Some.ensures) in
+    let few = marks.few (config_of now).region_words (marks_of now) (found_of now) c.loop-address.invariant.found in
+    record {
+      unchanged = both old now c.trace_one.new.image same c.trace_one.ensures.unchanged;
+      found = c.trace_one.ensures.found;
+      turns = c.trace_one.ensures.noted
+          ∙ ap (λ (k : Word → ℕ). with_addresses (found_of now) (open_fields (config_of now) k a)) (memory_same old now same)
+          ∙ ap (λ (k : Config). with_addresses (found_of now) (open_fields k m a)) same.config
+          ∙ ap (λ xs. with_addresses xs (open_fields g m a)) c.loop-address.invariant.turns
+          ∙ next_turn (open_fields g m) (starts_in g m) n a at;
+      few = omega (arith, within, few, now.all_marks, ap heap_size same.config);
+    }
+
+pub returns-clause-traced : goal.returns-clause-traced
+returns-clause-traced c =
+    let old = c.args.image.now in
+    let g = config_of old in
+    let m : Word → ℕ = memory_of old in
+    let n = c.loop-address.turn in
+    let turns = c.loop-address.invariant.turns in
+    let none : slice_get (found_of c.loop-address.image) n ≡ None = sym c.found_at.ensures ∙ is_none c.found_at.result c.in_default.not-Some in
+    turns ∙ last_turn (open_fields g m) (starts_in g m) n (heap_size g) (none_left (traced_by g m n) n (ap (λ xs. slice_get xs n) (sym turns) ∙ none)) c.loop-address.invariant.few
