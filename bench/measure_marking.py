@@ -47,7 +47,7 @@ BARRIER = (2_000, 42_000)
 FIELDS = ["set 1 0 1", "get 2 1 0", "cas 1 0 2 1", "xchg 3 1 0 1"]
 CYCLES = 12
 PAUSE_BETWEEN_LOOKS = 0.00005
-LARGEST = 1 << 30
+LARGEST = 1 << 26
 
 
 def stop(why):
@@ -156,6 +156,8 @@ def watched(trace, threads, helpers, *words):
         while table.start and child.poll() is None:
             now = table.look()
             at = time.monotonic()
+            if now is None or now[0] > 1 or now[1] > 1:
+                break
             if before is not None:
                 shares[before] = shares.get(before, 0) + at - since
             if before == (1, 1) and now == (0, 1):
