@@ -17,7 +17,8 @@ processors.
    counts, times the least of five runs; each number is that of the longer trace less that of the shorter one, for each command more.
 3. How fast objects are scanned under `run`, by the control and 0 to 3 helpers, each in a thread of its own, beside one thread that
    stores to no field. What is counted are the words of the objects that are black where the control asks for the pause that ends
-   marking; the time is that from the end of the pause that began it. The pauses do not count, nor what the last one marks.
+   marking; the time is that from the end of the pause that began it. The pauses do not count, nor what the last one marks, nor
+   markings that began before the tree was whole.
 
 How time goes under `run`, and what is black, is looked up in the words of the heap as they stand in the program's memory, by
 /proc/PID/mem, some thousand times a second: the pause word, the phase, and at the end of marking the words of black bits. So a time
@@ -136,18 +137,24 @@ class Table:
         held = os.pread(self.memory, 8 * (self.phase_at + 1), self.start)
         return (held[0], held[8 * self.phase_at]) if held else None
 
+    def used(self):
+        """How many words of the regions are in use."""
+        held = os.pread(self.memory, 8 * REGIONS, self.start + 8 * (self.phase_at + 6))
+        return sum(int.from_bytes(held[at : at + 8], "little") for at in range(0, len(held), 8))
+
     def black(self):
         """How many objects are black."""
         held = os.pread(self.memory, 8 * self.mark_words, self.start + 8 * (self.grey_at + self.mark_words))
         return int.from_bytes(held, "little").bit_count()
 
 
-def watched(trace, threads, helpers, *words):
+def watched(trace, threads, helpers, words=0):
     """Runs a trace and looks at its words meanwhile: how long each state of pause word and phase held, and for each marking that was
-    seen from its beginning to its end how long it took and how many objects were black then. None where that cannot be seen."""
+    seen from its beginning to its end, and began with so many words in use at least, how long it took and how many objects were black
+    then. Both are empty where that cannot be seen."""
     shares, markings, table = {}, [], None
     with open(trace, "rb") as source:
-        child = subprocess.Popen((SHENRUN, "run", *words), stdin=source, stdout=subprocess.DEVNULL)
+        child = subprocess.Popen((SHENRUN, "run"), stdin=source, stdout=subprocess.DEVNULL)
     try:
         table = Table(child.pid, threads, helpers)
         while child.poll() is None and not table.find():
@@ -161,7 +168,7 @@ def watched(trace, threads, helpers, *words):
             if before is not None:
                 shares[before] = shares.get(before, 0) + at - since
             if before == (1, 1) and now == (0, 1):
-                begun = at
+                begun = at if table.used() >= words else None
             if before == (0, 1) and now == (1, 1) and begun is not None:
                 markings.append((at - begun, table.black()))
             before, since = now, at
@@ -252,7 +259,7 @@ def measure_scanning(commands):
     for helpers in range(4):
         script = built + ["gc" if at % EVERY == 0 else "same 0 1" for at in range(commands)]
         with written(text_of(1, helpers, [script])) as trace:
-            _, markings = watched(trace.name, 1, helpers)
+            _, markings = watched(trace.name, 1, helpers, words)
         if not markings:
             print(f"  {helpers} helpers: no marking was seen from its beginning to its end")
             continue
