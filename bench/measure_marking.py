@@ -48,7 +48,7 @@ BARRIER = (2_000, 42_000)
 FIELDS = ["set 1 0 1", "get 2 1 0", "cas 1 0 2 1", "xchg 3 1 0 1"]
 CYCLES = 12
 PAUSE_BETWEEN_LOOKS = 0.00005
-LARGEST = 1 << 26
+LARGEST = 1 << 30
 
 
 def stop(why):
