@@ -34,11 +34,11 @@ use Rattle.step_core.specs.Machines.{is_resting, HasNumber}
 use Rattle.step_core.specs.Settled.{settled, settled_by, mixed, stored_image, image_in, image_of, control_number}
 use Rattle.step_core.specs.Sound.{world_of, is_clearing, IsSound}
 use Rattle.step_core.specs.Begins.{Run, ending, history_in, graph_after}
-use Rattle.pause_laws.specs.Image.{full_image}
+use Rattle.heap_machines.specs.Pause.{pause_image}
 use Rattle.pause_laws.proofs.Dead.{plain}
 use Rattle.pause_laws.proofs.Promises.{promises_of}
 use Rattle.pause_laws.proofs.Holding.{holds_by}
-use Rattle.pause_laws.proofs.Pauses.{full_is_pause}
+use Rattle.heap_machines.proofs.Pauses.{heap_pauses}
 use Rattle.step_core.proofs.Asked.{asked_same}
 use Rattle.step_core.proofs.Facts.{IsAim}
 use Rattle.step_core.proofs.Images.{mixed_whole}
@@ -58,10 +58,10 @@ root_between_calls w seat index kept Gone rest = refl
 root_between_calls w seat index kept _ rest = absurd cc
 
 -- its entries are its calls
-pub entries_at_rest : (c : Config) (run : Run c) (t : ℕ) (a : Actor) → slice_get (ending full_image c run).machines t ≡ Some a → is_resting a.machine ≡ true → of_thread (history_in full_image c run) (t + 1) ≡ a.calls
+pub entries_at_rest : (c : Config) (run : Run c) (t : ℕ) (a : Actor) → slice_get (ending pause_image c run).machines t ≡ Some a → is_resting a.machine ≡ true → of_thread (history_in pause_image c run) (t + 1) ≡ a.calls
 entries_at_rest c run t a here rest =
     let parts = rest_parts a.machine rest in
-    let thread = (run_sound full_image full_is_pause c run).threads t a parts.0 (record { here = here; is = parts.1 }) in
+    let thread = (run_sound pause_image heap_pauses c run).threads t a parts.0 (record { here = here; is = parts.1 }) in
     thread.entries_are ∙ ap (λ (o : Option Reply). a.calls ++ entries_of t a.command o) (thread.between_calls parts.2) ∙ append-nil a.calls
 
 -- it is not about to clear an answer
@@ -78,46 +78,46 @@ none_at_rest kept (Ended reply) a words rest is = is
 none_at_rest kept Gone a words rest is = is
 none_at_rest kept _ a words rest is = absurd cc
 
-module _ (c : Config) (run : Run c) (rest : (t : ℕ) (a : Actor) → t < c.mutators → slice_get (ending full_image c run).machines t ≡ Some a → is_resting a.machine ≡ true)
-    (calm : image_of (slice_get (ending full_image c run).machines (control_number c)) ≡ None) where
+module _ (c : Config) (run : Run c) (rest : (t : ℕ) (a : Actor) → t < c.mutators → slice_get (ending pause_image c run).machines t ≡ Some a → is_resting a.machine ≡ true)
+    (calm : image_of (slice_get (ending pause_image c run).machines (control_number c)) ≡ None) where
   -- what holds of the stage
-  abbrev sound : IsSound c run.graph (ending full_image c run) (history_in full_image c run)
-  sound = run_sound full_image full_is_pause c run
+  abbrev sound : IsSound c run.graph (ending pause_image c run) (history_in pause_image c run)
+  sound = run_sound pause_image heap_pauses c run
 
   -- the graph
   abbrev graph : Graph
-  graph = graph_after full_image c run
+  graph = graph_after pause_image c run
 
   -- the names of the objects by their addresses
   abbrev pub names : ℕ → Option Name
   names a = name_at (sound.stands.block a)
 
   -- the words of the table count
-  table_counts : settled c (ending full_image c run) ≡ view c (ending full_image c run).words
-  table_counts = ap (settled_by c (ending full_image c run).words) calm
+  table_counts : settled c (ending pause_image c run) ≡ view c (ending pause_image c run).words
+  table_counts = ap (settled_by c (ending pause_image c run).words) calm
 
   -- the words of the roots of a mutator stand for its thread's
-  own_roots : (t i : ℕ) → t < c.mutators → i < 16 → Points sound.stands.block (settled c (ending full_image c run) (Root t i)) (graph.root (t + 1) i)
+  own_roots : (t i : ℕ) → t < c.mutators → i < 16 → Points sound.stands.block (settled c (ending pause_image c run) (Root t i)) (graph.root (t + 1) i)
   own_roots t i below small =
       let some = sound.of_heap.mutators t below in
       let m = some.mutator in
       let seat : m.seat ≡ t = (sound.of_heap.numbers t some.actor m some.here).0 in
       let at_rest : is_between_calls m.spot ≡ true = subst (λ machine. is_resting machine ≡ true) some.here.is (rest t some.actor below some.here.here) in
-      let w : World = world_of c (ending full_image c run) sound.stands.block sound.stands.ghost graph in
-      subst (λ k. Points sound.stands.block (settled c (ending full_image c run) (Root k i)) (graph.root (k + 1) i)) seat
+      let w : World = world_of c (ending pause_image c run) sound.stands.block sound.stands.ghost graph in
+      subst (λ k. Points sound.stands.block (settled c (ending pause_image c run) (Root k i)) (graph.root (k + 1) i)) seat
       (subst (λ word. Points sound.stands.block word (graph.root (m.seat + 1) i)) (root_between_calls w m.seat i m.kept m.spot at_rest)
       ((sound.stands.mutators t some.actor m some.here).roots i small))
 
   -- the words stand for the graph after the run
-  pub words_stand : WordsStand c.region_words (heap_in c (ending full_image c run).words) (roots_in c (ending full_image c run).words) names graph
-  words_stand = table_stands c (ending full_image c run).words sound.stands.block sound.stands.ghost graph sound.of_heap.words
+  pub words_stand : WordsStand c.region_words (heap_in c (ending pause_image c run).words) (roots_in c (ending pause_image c run).words) names graph
+  words_stand = table_stands c (ending pause_image c run).words sound.stands.block sound.stands.ghost graph sound.of_heap.words
       (subst (λ (memory : Word → ℕ). Shared c (record { memory = memory; block = sound.stands.block; ghost = sound.stands.ghost; graph = graph })) table_counts sound.stands.shared)
       (λ t i below small. subst (λ (memory : Word → ℕ). Points sound.stands.block (memory (Root t i)) (graph.root (t + 1) i)) table_counts (own_roots t i below small))
       sound.no_more
 
   -- A mutator that rests has asked for something, or for nothing.
   abbrev HasAskedFor : ℕ → Asking → Type 0
-  HasAskedFor t x = IsAsked (view c (ending full_image c run).words) sound.stands.block graph.count t x
+  HasAskedFor t x = IsAsked (view c (ending pause_image c run).words) sound.stands.block graph.count t x
 
   asked_one : (t : ℕ) → t < c.mutators → (x : Asking) × HasAskedFor t x
   asked_one t below =
@@ -128,7 +128,7 @@ module _ (c : Config) (run : Run c) (rest : (t : ℕ) (a : Actor) → t < c.muta
       let asked = sound.stands.asked t some.actor m some.here (not_clearing m.spot at_rest) in (
         asked.asking,
         subst (λ (memory : Word → ℕ). IsAsked memory sound.stands.block graph.count t asked.asking) table_counts
-            (subst (λ k. IsAsked (settled c (ending full_image c run)) sound.stands.block graph.count k asked.asking) seat asked.is),
+            (subst (λ k. IsAsked (settled c (ending pause_image c run)) sound.stands.block graph.count k asked.asking) seat asked.is),
       )
 
   asking_by : (t : ℕ) → (t < c.mutators) ⊎ (c.mutators ≤ t) → Asking
@@ -156,10 +156,10 @@ module _ (c : Config) (run : Run c) (rest : (t : ℕ) (a : Actor) → t < c.muta
 
   -- the words of the image, as the table has them
   abbrev image : List ℕ
-  image = image_from c (ending full_image c run).words
+  image = image_from c (ending pause_image c run).words
 
-  whole : view c (ending full_image c run).words ≡ mixed c (ending full_image c run).words image
-  whole = sym (mixed_whole c (ending full_image c run).words image (λ i below. get_or-drop (image_start c) (ending full_image c run).words i 0))
+  whole : view c (ending pause_image c run).words ≡ mixed c (ending pause_image c run).words image
+  whole = sym (mixed_whole c (ending pause_image c run).words image (λ i below. get_or-drop (image_start c) (ending pause_image c run).words i 0))
 
   -- they represent the graph
   represents : Represents c (image_view c image) graph asking
@@ -169,7 +169,7 @@ module _ (c : Config) (run : Run c) (rest : (t : ℕ) (a : Actor) → t < c.muta
     shared = subst (λ (memory : Word → ℕ). Shared c (record { memory = memory; block = sound.stands.block; ghost = sound.stands.ghost; graph = graph })) (table_counts ∙ whole) sound.stands.shared;
     roots = λ t i below small. subst (λ (memory : Word → ℕ). Points sound.stands.block (memory (Root t i)) (graph.root (t + 1) i)) (table_counts ∙ whole) (own_roots t i below small);
     none = no_hands;
-    asked = λ t below. asked_same (mixed c (ending full_image c run).words image) (image_view c image) sound.stands.block graph.count t (asking t) refl refl (λ a. refl)
+    asked = λ t below. asked_same (mixed c (ending pause_image c run).words image) (image_view c image) sound.stands.block graph.count t (asking t) refl refl (λ a. refl)
         (subst (λ memory. IsAsked memory sound.stands.block graph.count t (asking t)) whole (asked_by t (cases_lt t c.mutators) below));
     promised_to = sound.stands.promised_to;
     no_more = sound.no_more;
@@ -183,24 +183,24 @@ module _ (c : Config) (run : Run c) (rest : (t : ℕ) (a : Actor) → t < c.muta
   image_calm = represents.shared.calm.cset_is
 
   -- what the control has loaded are words of the image
-  loaded_by : (spot : ControlSpot) (some : List ℕ) → stored_image spot some ≡ None → is_ready c spot ≡ true → IsAim c (ending full_image c run).words spot some → IsLoadedFrom image spot some
+  loaded_by : (spot : ControlSpot) (some : List ℕ) → stored_image spot some ≡ None → is_ready c spot ≡ true → IsAim c (ending pause_image c run).words spot some → IsLoadedFrom image spot some
   loaded_by (LoadWord index) some stored ready aims =
       let less : index < image_words c = ltb-true index (image_words c) ready in
-      let long : length image ≡ image_words c = omega (arith, length-drop (image_start c) (ending full_image c run).words, sound.of_heap.words) in
+      let long : length image ≡ image_words c = omega (arith, length-drop (image_start c) (ending pause_image c run).words, sound.of_heap.words) in
       let taken : length (take index image) ≡ index = omega (arith, length-take index image, long, less) in
       same_number_lists some (take index image) (aims.0 ∙ sym taken) (λ i below.
       let inside : i < index = omega (arith, below, aims.0) in
-      aims.1 i inside ∙ sym (get_or-take index image i 0 inside ∙ get_or-drop (image_start c) (ending full_image c run).words i 0))
+      aims.1 i inside ∙ sym (get_or-take index image i 0 inside ∙ get_or-drop (image_start c) (ending pause_image c run).words i 0))
   loaded_by (StoreWord index) some stored ready aims = absurd cc
   loaded_by _ some stored ready aims = tt
 
   -- the control can work on them
-  pub can_show : (a : Actor) → slice_get (ending full_image c run).machines (control_number c) ≡ Some a → CanShow image a.machine
+  pub can_show : (a : Actor) → slice_get (ending pause_image c run).machines (control_number c) ≡ Some a → CanShow image a.machine
   can_show a here = by_machine a.machine refl
     where
       by_machine : (machine : Machine) → a.machine ≡ machine → CanShow image machine
       by_machine (mutating m) is = absurd (let number = subst (HasNumber c (control_number c)) is (sound.of_heap.roles (control_number c) a here) in omega (arith, number.1))
       by_machine (helping h) is = absurd (let number = subst (HasNumber c (control_number c)) is (sound.of_heap.roles (control_number c) a here) in omega (arith, number.1))
       by_machine (controlling k) is =
-          let aims = run_aims full_image full_is_pause c run.start run.graph run.begins run.events (control_number c) a k here is in
+          let aims = run_aims pause_image heap_pauses c run.start run.graph run.begins run.events (control_number c) a k here is in
           loaded_by k.spot k.image (ap image_in (sym is) ∙ ap image_of (sym here) ∙ calm) aims.0 aims.1

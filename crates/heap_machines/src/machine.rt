@@ -52,10 +52,7 @@ impl Machine {
         if number < config.mutators() {
             Ok(Machine::Mutator(Mutator::new(config, number)))
         } else if number < config.mutators() + config.helpers() {
-            Ok(Machine::Helper(Helper::new(
-                config,
-                number - config.mutators(),
-            )))
+            Ok(Machine::Helper(Helper::new(config, number - config.mutators())))
         } else {
             Ok(Machine::Control(open_control(alloc, config)?))
         }

@@ -1,21 +1,19 @@
 -- The beginning of marking makes the words that it says.
-use Rattle.std.proofs.Common.{◌≡◌, ◌≢◌, ℕ, ◌+◌, ◌-◌, ◌*◌, ◌<◌, ◌≤◌, nat_lt, nat_le, cond, Bool, true, false, Option, List, [], ⊎_elim, inl, inr, refl, sym, ap, ◌∙◌, subst, arith}
-use Rattle.std.proofs.lemmas.Bool.{cond_both, cases_Bool, cases_lt, false≢true, false_from_ne_true}
+use Rattle.std.proofs.Common.{◌≡◌, ◌≢◌, ℕ, ◌+◌, ◌*◌, ◌<◌, ◌≤◌, nat_lt, cond, Bool, true, false, Option, List, [], ⊎_elim, refl, sym, ◌∙◌, arith}
+use Rattle.std.proofs.lemmas.Bool.{cases_lt, false≢true, false_from_ne_true}
 use Rattle.std.proofs.lemmas.Bool.Decides.{nat_tests}
 use Rattle.std.proofs.Math.Path.{fun_ext}
 use Rattle.std.proofs.Math.Logic.{∥∥₁_elim}
 use Rattle.std.proofs.Math.Bridge.{le_prop}
 use Rattle.heap_words.specs.declared.config.Config.{Config}
-use Rattle.heap_words.specs.Words.{Word, Phase, Claim, Ask, Top, Tams, Root, Count, Answer, Grey, Black, Heap, IsWord, bit_words, heap_size, view, write}
+use Rattle.heap_words.specs.Words.{Word, Phase, Claim, Ask, Top, Tams, Root, Count, Answer, Grey, Black, bit_words, view, write}
 use Rattle.heap_words.proofs.Stores.{view_none}
-use Rattle.shen_graph.specs.declared.name.Name.{Name}
 use Rattle.shen_graph.specs.Graph.{Graph}
 use Rattle.heap_graph.specs.Walk.{has, with_addresses}
 use Rattle.heap_graph.proofs.Marks as found
 use Rattle.heap_world.specs.World.{Plot, thing}
 use Rattle.heap_world.proofs.Pointing.{piece_inside, named_thing}
 use Rattle.image_laws.specs.Held.{IsAmong}
-use Rattle.image_laws.specs.Plot.{heap_end}
 use Rattle.image_laws.specs.Full.{root_words}
 use Rattle.image_laws.specs.Promised.{Promises}
 use Rattle.image_laws.proofs.Roots.{root_among, answer_among}

@@ -1,5 +1,5 @@
 -- The closing of the marks makes the words that it says.
-use Rattle.std.proofs.Common.{◌≡◌, ℕ, ◌+◌, ◌-◌, ◌*◌, ◌<◌, ◌≤◌, Bool, List, Option, refl, sym, ap, ◌∙◌, arith}
+use Rattle.std.proofs.Common.{◌≡◌, ℕ, ◌+◌, ◌*◌, ◌≤◌, Bool, List, Option, refl, sym, ap, ◌∙◌, arith}
 use Rattle.std.specs.Int.RustNames.{bit_or}
 use Rattle.std.proofs.lemmas.Bool.{false_from_ne_true}
 use Rattle.std.proofs.Math.Path.{fun_ext}
@@ -12,7 +12,6 @@ use Rattle.heap_words.proofs.Stores.{view_none}
 use Rattle.shen_graph.specs.Graph.{Graph}
 use Rattle.heap_graph.specs.Walk.{has}
 use Rattle.heap_world.specs.World.{Plot}
-use Rattle.image_laws.specs.Plot.{heap_end}
 use Rattle.image_laws.specs.Promised.{Promises}
 use Rattle.image_laws.proofs.Reached.{refs_read}
 use Rattle.image_graph.specs.Holds.{HoldsBy}

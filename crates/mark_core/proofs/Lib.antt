@@ -5,3 +5,6 @@ pub mod Listed
 pub mod Beginning
 pub mod Tracing
 pub mod Closing
+pub mod Freeing
+pub mod Ending
+pub mod Some

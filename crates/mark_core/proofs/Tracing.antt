@@ -1,9 +1,8 @@
 -- What tracing comes to lies in the heap.
-use Rattle.std.proofs.Common.{◌≡◌, ◌≢◌, ℕ, ◌+◌, ◌<◌, ◌≤◌, false, sym, ap, subst, arith}
+use Rattle.std.proofs.Common.{◌≡◌, ℕ, ◌+◌, ◌<◌, false, arith}
 use Rattle.heap_words.specs.declared.config.Config.{Config}
 use Rattle.heap_words.specs.Words.{Word, Count, Buffer, Heap, IsWord}
 use Rattle.heap_words.specs.Encoding.{refs_in}
-use Rattle.image_laws.specs.Plot.{heap_end}
 use Rattle.mark_laws.specs.Marks.{is_black}
 use Rattle.mark_laws.specs.Close.{IsTraced, from_buffer, from_field}
 use Rattle.mark_core.specs.Trace.{IsNullOrInside, CanTrace}

@@ -1,5 +1,5 @@
 -- When marking runs over an image, and what its pauses do to the graph that the image holds.
-use Rattle.std.specs.Prelude.{ℕ, ◌≡◌, ◌<◌, ◌↔◌, ◌⊎◌, Bool, Option}
+use Rattle.std.specs.Prelude.{ℕ, ◌<◌, ◌↔◌, ◌⊎◌, Bool, Option}
 use Rattle.heap_words.specs.declared.config.Config.{Config}
 use Rattle.heap_words.specs.Words.{Word, Free}
 use Rattle.regions.specs.Sets.{IsIn}

@@ -1,5 +1,5 @@
 -- What the steps of the pauses of marking make of the words of an image.
-use Rattle.std.specs.Prelude.{ℕ, ◌+◌, ◌*◌, ◌%◌, ◌^◌, ◌==◌, ◌&&◌, if◌then◌else◌, Bool, nat_lt}
+use Rattle.std.specs.Prelude.{ℕ, ◌*◌, ◌%◌, ◌^◌, ◌==◌, ◌&&◌, if◌then◌else◌, Bool, nat_lt}
 use Rattle.std.specs.Int.RustNames.{bit_or}
 use Rattle.heap_words.specs.declared.config.Config.{Config}
 use Rattle.heap_words.specs.Words.{Word, Free, Top, Tams, Limit, Count, Grey, Black}
@@ -38,7 +38,7 @@ freed_below out regions memory word = memory word
 -- one region is freed
 abbrev pub freed_one : ℕ → (Word → ℕ) → Word → ℕ
 freed_one region memory Free = bit_or (memory Free) (1 * 2 ^ region % 2 ^ 64)
-freed_one region memory (Top r) = if r == region then 0 else memory (Top r)
-freed_one region memory (Tams r) = if r == region then 0 else memory (Tams r)
-freed_one region memory (Limit r) = if r == region then 0 else memory (Limit r)
+freed_one region memory (Top r) = if region == r then 0 else memory (Top r)
+freed_one region memory (Tams r) = if region == r then 0 else memory (Tams r)
+freed_one region memory (Limit r) = if region == r then 0 else memory (Limit r)
 freed_one region memory word = memory word

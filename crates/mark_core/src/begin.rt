@@ -10,7 +10,7 @@ ghost use Rattle.image_graph.specs.Holds.{HoldsSome};
 ghost use Rattle.mark_laws.specs.Init.{init_marked};
 ghost use Rattle.mark_core.specs.Steps.{noted};
 ghost use Rattle.mark_core.specs.Trace.{HasRootsInside};
-ghost use Rattle.mark_core.specs.Result.{BeginsToMark};
+ghost use Rattle.mark_core.specs.Result.{BeginsToMark, MarksSome};
 
 use crate::clear::empty_buffers;
 use crate::colour::grey_found;
@@ -111,6 +111,7 @@ pub fn init_mark(image: &mut Image)
     ensures config { config_of image.new ≡ config_of image.old }
     ensures words { memory_of image.new ≡ init_marked (config_of image.old) (memory_of image.old) }
     ensures begins { BeginsToMark (config_of image.old) (memory_of image.old) (memory_of image.new) }
+    ensures marks { MarksSome (config_of image.old) (memory_of image.new) }
 {
     find_named(image);
     grey_found(image);

@@ -2,6 +2,7 @@
 
 ghost use Rattle.std.specs.Prelude.{◌≡◌};
 ghost use Rattle.image_graph.specs.State.{config_of, memory_of};
+ghost use Rattle.image_graph.specs.Holds.{HoldsSome};
 ghost use Rattle.mark_laws.specs.Close.{closed};
 ghost use Rattle.mark_core.specs.Result.{MarksSome, MarksTheTraced, MarksThrough};
 
@@ -20,6 +21,7 @@ pub fn close_marks(image: &mut Image)
     ensures words { memory_of image.new ≡ closed (config_of image.old) (memory_of image.old) }
     ensures traced { MarksTheTraced (config_of image.old) (memory_of image.old) (memory_of image.new) }
     ensures through { MarksThrough (config_of image.old) (memory_of image.old) (memory_of image.new) }
+    ensures holds { HoldsSome (config_of image.old) (memory_of image.new) }
 {
     find_traced(image);
     mark_found(image);

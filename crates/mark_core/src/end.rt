@@ -2,6 +2,7 @@
 
 ghost use Rattle.std.specs.Prelude.{◌≡◌};
 ghost use Rattle.image_graph.specs.State.{config_of, memory_of};
+ghost use Rattle.image_graph.specs.Holds.{HoldsSome};
 ghost use Rattle.mark_laws.specs.Close.{closed};
 ghost use Rattle.mark_laws.specs.Final.{dead_in, final_marked};
 ghost use Rattle.mark_core.specs.Result.{MarksSome, EndsMarking, FreesTheDead};
@@ -20,6 +21,7 @@ pub fn final_mark(image: &mut Image)
     ensures words { memory_of image.new ≡ final_marked (config_of image.old) (memory_of image.old) }
     ensures freed { FreesTheDead (config_of image.old) (memory_of image.old) (closed (config_of image.old) (memory_of image.old)) (memory_of image.new) }
     ensures ends { EndsMarking (config_of image.old) (dead_in (config_of image.old) (memory_of image.old)) (memory_of image.old) (memory_of image.new) }
+    ensures holds { HoldsSome (config_of image.old) (memory_of image.new) }
 {
     close_marks(image);
     free_dead(image);

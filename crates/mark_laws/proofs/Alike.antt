@@ -27,6 +27,23 @@ pub record AreAlike (m n : Word → ℕ) : Type 0 where
   pub free : n Free ≡ m Free
   pub cset : n Cset ≡ m Cset
 
+-- the words that hold objects, where roots and answers are the same
+module _ (m n : Word → ℕ) (root : (t i : ℕ) → n (Root t i) ≡ m (Root t i)) (answer : (t : ℕ) → n (Answer t) ≡ m (Answer t)) where
+  roots_same : (t : ℕ) → roots_below n t ≡ roots_below m t
+  roots_same zero = refl
+  roots_same (suc t) =
+      ap (λ xs. xs ++ map (λ i. n (Root t i)) (range_with_len 0 16)) (roots_same t)
+      ∙ ap (λ (f : ℕ → ℕ). roots_below m t ++ map f (range_with_len 0 16)) (fun_ext (root t))
+
+  answers_same : (t : ℕ) → answers_below n t ≡ answers_below m t
+  answers_same zero = refl
+  answers_same (suc t) =
+      ap (λ xs. xs ++ cond (nat_le (n (Answer t)) 1) [] (n (Answer t) ∷ [])) (answers_same t)
+      ∙ ap (λ k. answers_below m t ++ cond (nat_le k 1) [] (k ∷ [])) (answer t)
+
+  pub same_root_words : (c : Config) → root_words c n ≡ root_words c m
+  same_root_words c = ap (λ xs. xs ++ answers_below n c.mutators) (roots_same c.mutators) ∙ ap (λ ys. roots_below m c.mutators ++ ys) (answers_same c.mutators)
+
 module _ (m n : Word → ℕ) (alike : AreAlike m n) where
   heap_is : ◌≡◌ {A = ℕ → ℕ} (λ a. n (Heap a)) (λ a. m (Heap a))
   heap_is = fun_ext alike.heap
@@ -40,20 +57,8 @@ module _ (m n : Word → ℕ) (alike : AreAlike m n) where
   pub now_is : now_in n ≡ now_in m
   now_is = fun_ext now_same
 
-  pub roots_same : (t : ℕ) → roots_below n t ≡ roots_below m t
-  roots_same zero = refl
-  roots_same (suc t) =
-      ap (λ xs. xs ++ map (λ i. n (Root t i)) (range_with_len 0 16)) (roots_same t)
-      ∙ ap (λ (f : ℕ → ℕ). roots_below m t ++ map f (range_with_len 0 16)) (fun_ext (alike.root t))
-
-  pub answers_same : (t : ℕ) → answers_below n t ≡ answers_below m t
-  answers_same zero = refl
-  answers_same (suc t) =
-      ap (λ xs. xs ++ cond (nat_le (n (Answer t)) 1) [] (n (Answer t) ∷ [])) (answers_same t)
-      ∙ ap (λ k. answers_below m t ++ cond (nat_le k 1) [] (k ∷ [])) (alike.answer t)
-
   pub root_words_same : (c : Config) → root_words c n ≡ root_words c m
-  root_words_same c = ap (λ xs. xs ++ answers_below n c.mutators) (roots_same c.mutators) ∙ ap (λ ys. roots_below m c.mutators ++ ys) (answers_same c.mutators)
+  root_words_same = same_root_words m n alike.root alike.answer
 
   module _ (c : Config) (block : Plot) (owner : ℕ → Option ℕ) (p : Promises) (g : Graph) (holds : HoldsBy c m block owner p g) where
     objects_again : HoldsGraph c (λ r. n (Top r)) (λ a. n (Heap a)) block (now_in n) (IsAmong (root_words c n)) (with_promised g p)

@@ -1,7 +1,7 @@
 -- The test of a dead region says what it is to be dead.
-use Rattle.std.proofs.Common.{◌≡◌, ℕ, ◌+◌, ◌-◌, ◌<◌, ◌≤◌, ◌==◌, ◌&&◌, ◌↔◌, not, Bool, true, false, sym, ap, ◌∙◌, arith}
+use Rattle.std.proofs.Common.{◌≡◌, ℕ, ◌+◌, ◌-◌, ◌==◌, ◌&&◌, ◌↔◌, not, Bool, true, false, sym, ap, ◌∙◌, arith}
 use Rattle.std.specs.Int.{bit_at}
-use Rattle.std.proofs.lemmas.Bool.{and_parts, and_from, eqb-true, eq-eqb, not-true, not-false, not_from_false, false_from_ne_true, true≢false}
+use Rattle.std.proofs.lemmas.Bool.{and_parts, and_from, eqb-true, eq-eqb, not-true, not_from_false, false_from_ne_true, true≢false}
 use Rattle.heap_words.specs.declared.config.Config.{Config}
 use Rattle.heap_words.specs.Words.{Word, Free, Top, Tams, Current}
 use Rattle.heap_words.specs.Ranges.{seat_count}
@@ -9,7 +9,7 @@ use Rattle.regions.specs.Place.{base_of, IsOf}
 use Rattle.image_graph.specs.State.{IsSomeSeats}
 use Rattle.mark_laws.specs.Marks.{is_black}
 use Rattle.mark_laws.specs.Final.{is_current, has_black, is_dead, IsDead}
-use Rattle.mark_laws.proofs.Ranges.{any_at, any_none, any_is}
+use Rattle.mark_laws.proofs.Ranges.{any_at, any_is}
 
 module _ (c : Config) (m : Word → ℕ) (r : ℕ) where
   pub current_is : is_current c m r ≡ true → IsSomeSeats c m r
@@ -69,3 +69,10 @@ module _ (c : Config) (m : Word → ℕ) (r : ℕ) where
 
   pub dead_is_dead : (is_dead c m r ≡ true) ↔ IsDead c m r
   dead_is_dead = (is_so, is_told)
+
+  -- where all else of a dead region holds, the marks decide
+  pub marks_decide : bit_at (m Free) r ≡ 0 → is_current c m r ≡ false → m (Top r) ≡ m (Tams r) → is_dead c m r ≡ not (has_black c m r)
+  marks_decide free seat top =
+      ap (λ b. b && unseated && filled && bare) (eq-eqb (bit_at (m Free) r) 0 free)
+      ∙ ap (λ b. not b && filled && bare) seat
+      ∙ ap (λ b. b && bare) (eq-eqb (m (Top r)) (m (Tams r)) top)

@@ -6,3 +6,5 @@ pub mod Traced
 pub mod Ranges
 pub mod Closed
 pub mod Dead
+pub mod Freed
+pub mod Ended

@@ -2,7 +2,7 @@
 //! and no code.
 #![tactic(auto)]
 
-ghost use Rattle.mark_laws.specs.Laws.{InitMarks, ClosingTraces, ClosingKeeps, DeadIsDead};
+ghost use Rattle.mark_laws.specs.Laws.{InitMarks, ClosingTraces, ClosingKeeps, DeadIsDead, EndKeeps};
 
 /// A law: the beginning of marking keeps the graph, and what holds while marking runs holds after it.
 pub fn init_marks()
@@ -24,4 +24,10 @@ pub fn closing_keeps()
 /// without a mark; and it tells each such region.
 pub fn dead_is_dead()
     ensures { DeadIsDead }
+{}
+
+/// A law: once the dead regions are freed too, the words stand for the same graph without the pieces of these regions, each
+/// object that can be reached is kept, and each field of a kept object is null or names a kept object.
+pub fn end_keeps()
+    ensures { EndKeeps }
 {}

@@ -19,14 +19,15 @@ use Rattle.image_laws.specs.Full.{full}
 use Rattle.image_graph.specs.declared.image.Image.{Image}
 use Rattle.image_graph.specs.Holds.{HoldsSome}
 use Rattle.image_graph.specs.State as images
-use Rattle.pause_laws.specs.Image.{full_image}
+use Rattle.heap_machines.specs.Pause.{pause_image}
 use Rattle.pause_laws.proofs.Dead.{plain}
 use Rattle.pause_laws.proofs.Promises.{promises_of}
 use Rattle.pause_laws.proofs.Holding.{waits_for, holds_by}
 use Rattle.pause_laws.proofs.Answered.{represents_again}
-use Rattle.pause_laws.proofs.Pauses.{full_is_pause}
+use Rattle.heap_machines.proofs.Pauses.{heap_pauses}
 use Rattle.steps_base.specs.Steps.{Stage}
-use Rattle.step_core.specs.Actor.{Machine, fresh_helper, Actor}
+use Rattle.step_core.specs.Actor.{Machine, Actor}
+use Rattle.heap_machines.specs.Shown.{no_machine}
 use Rattle.step_core.specs.Begins.{Run, ending, history_in, graph_after, IsCalmOutside}
 use Rattle.step_core.specs.Machines.{is_resting, made_of_machine}
 use Rattle.step_core.specs.Own.{root_now, IsInHand, HasItsOwn}
@@ -92,18 +93,18 @@ idle_of w m command rest own asked = record {
 -- the words represent a graph of which the machines have made so many objects
 pub record Rests (c : Config) (words : List ℕ) (machines : List Machine) (g : Graph) : Type 0 where
   pub stands : Represents c (view c words) g (λ t. nothing)
-  pub counts : (t : ℕ) → t < c.mutators → g.count (t + 1) ≡ made_of_machine (slice_index_or machines t fresh_helper)
+  pub counts : (t : ℕ) → t < c.mutators → g.count (t + 1) ≡ made_of_machine (slice_index_or machines t no_machine)
 
-module _ (c : Config) (words : List ℕ) (machines : List Machine) (rest : (number : ℕ) → number < c.mutators → is_resting (slice_index_or machines number fresh_helper) ≡ true)
-    (calm : image_in (slice_index_or machines (control_number c) fresh_helper) ≡ None) (run : Run c) (shows : Shows words machines (ending full_image c run)) where
+module _ (c : Config) (words : List ℕ) (machines : List Machine) (rest : (number : ℕ) → number < c.mutators → is_resting (slice_index_or machines number no_machine) ≡ true)
+    (calm : image_in (slice_index_or machines (control_number c) no_machine) ≡ None) (run : Run c) (shows : Shows words machines (ending pause_image c run)) where
   abbrev stage : Stage Actor
-  stage = ending full_image c run
+  stage = ending pause_image c run
 
-  abbrev sound : IsSound c run.graph stage (history_in full_image c run)
-  sound = run_sound full_image full_is_pause c run
+  abbrev sound : IsSound c run.graph stage (history_in pause_image c run)
+  sound = run_sound pause_image heap_pauses c run
 
   abbrev graph : Graph
-  graph = graph_after full_image c run
+  graph = graph_after pause_image c run
 
   abbrev world : World
   world = world_of c stage sound.stands.block sound.stands.ghost graph
@@ -113,14 +114,14 @@ module _ (c : Config) (words : List ℕ) (machines : List Machine) (rest : (numb
   table_counts = ap (settled_by c stage.words) (is_calm c words machines rest calm run shows) ∙ ap (view c) shows.words_are
 
   -- each mutator is between two calls
-  idle : (t : ℕ) → t < c.mutators → IsIdle world t (made_of_machine (slice_index_or machines t fresh_helper))
+  idle : (t : ℕ) → t < c.mutators → IsIdle world t (made_of_machine (slice_index_or machines t no_machine))
   idle t below =
       let some = sound.of_heap.mutators t below in
       let m = some.mutator in
       let a = some.actor in
       let seat : m.seat ≡ t = (sound.of_heap.numbers t a m some.here).0 in
       let resting : is_between_calls m.spot ≡ true = subst (λ machine. is_resting machine ≡ true) some.here.is (at_rest c words machines rest calm run shows t a below some.here.here) in
-      let made : m.made ≡ made_of_machine (slice_index_or machines t fresh_helper) =
+      let made : m.made ≡ made_of_machine (slice_index_or machines t no_machine) =
       ap made_of_machine (sym some.here.is) ∙ ap made_of_machine (machine_of c words machines rest calm run shows t a some.here.here) in
       subst (λ k. IsIdle world t k) made
       (subst (λ k. IsIdle world k m.made) seat
@@ -148,9 +149,9 @@ module _ (c : Config) (words : List ℕ) (machines : List Machine) (rest : (numb
 
 -- and so they do the graph of some run
 pub some_rests : (c : Config) (words : List ℕ) (machines : List Machine)
-    → ((number : ℕ) → number < c.mutators → is_resting (slice_index_or machines number fresh_helper) ≡ true) → image_in (slice_index_or machines (control_number c) fresh_helper) ≡ None
+    → ((number : ℕ) → number < c.mutators → is_resting (slice_index_or machines number no_machine) ≡ true) → image_in (slice_index_or machines (control_number c) no_machine) ≡ None
     → NobodyAsks c (view c words) → ∥ IsShownBySome c words machines ∥₁ → ∥ ((g : Graph) × Rests c words machines g) ∥₁
-some_rests c words machines rest calm none some = ∥∥₁_map some (λ shown. (graph_after full_image c shown.run, rests c words machines rest calm shown.run shown.shows none))
+some_rests c words machines rest calm none some = ∥∥₁_map some (λ shown. (graph_after pause_image c shown.run, rests c words machines rest calm shown.run shown.shows none))
 
 -- such words hold a graph
 pub rests_hold : (c : Config) (words : List ℕ) (machines : List Machine) → ∥ ((g : Graph) × Rests c words machines g) ∥₁ → HoldsSome c (view c words)
@@ -181,7 +182,7 @@ represents_then c m left ended g r = record {
 
 -- after a full collection, and once threads are counted again, a heap may begin from them
 pub rests_begin : (c : Config) (words : List ℕ) (machines : List Machine) (left ended : ℕ) (counts : List ℕ) → ∥ ((g : Graph) × Rests c words machines g) ∥₁
-    → IsCalmOutside c (write (write (full c (view c words)) Left left) End ended) → ((t : ℕ) → t < c.mutators → made_of_machine (slice_index_or machines t fresh_helper) ≡ slice_index counts t)
+    → IsCalmOutside c (write (write (full c (view c words)) Left left) End ended) → ((t : ℕ) → t < c.mutators → made_of_machine (slice_index_or machines t no_machine) ≡ slice_index counts t)
     → ∥ ((g : Graph) × CanBegin c (write (write (full c (view c words)) Left left) End ended) counts g) ∥₁
 rests_begin c words machines left ended counts some outside made = ∥∥₁_map some (λ r. (
   r.0,
@@ -217,10 +218,10 @@ image_rests p i config words one rest none =
 -- and after a full collection, where it is counted again, is out, and no pause is wanted
 pub one_begins : (c : Config) (words : List ℕ) (machines : List Machine) (memory : Word → ℕ) → ∥ ((g : Graph) × Rests c words machines g) ∥₁ → c.mutators ≡ 1 → c.helpers ≡ 0
     → memory ≡ write (write (full c (view c words)) Left 1) End 0 → (memory Pause ≡ 0) × (memory (State 0) ≡ 0)
-    → ∥ ((g : Graph) × CanBegin c memory (made_of_machine (slice_index_or machines 0 fresh_helper) ∷ []) g) ∥₁
+    → ∥ ((g : Graph) × CanBegin c memory (made_of_machine (slice_index_or machines 0 no_machine) ∷ []) g) ∥₁
 one_begins c words machines memory some one helpers is calm =
-    subst (λ (m : Word → ℕ). ∥ ((g : Graph) × CanBegin c m (made_of_machine (slice_index_or machines 0 fresh_helper) ∷ []) g) ∥₁) (sym is)
-    (rests_begin c words machines 1 0 (made_of_machine (slice_index_or machines 0 fresh_helper) ∷ []) some outside made)
+    subst (λ (m : Word → ℕ). ∥ ((g : Graph) × CanBegin c m (made_of_machine (slice_index_or machines 0 no_machine) ∷ []) g) ∥₁) (sym is)
+    (rests_begin c words machines 1 0 (made_of_machine (slice_index_or machines 0 no_machine) ∷ []) some outside made)
   where
     outside : IsCalmOutside c (write (write (full c (view c words)) Left 1) End 0)
     outside = record {
@@ -230,6 +231,6 @@ one_begins c words machines memory some one helpers is calm =
       left = sym one;
     }
 
-    made : (t : ℕ) → t < c.mutators → made_of_machine (slice_index_or machines t fresh_helper) ≡ slice_index (made_of_machine (slice_index_or machines 0 fresh_helper) ∷ []) t
+    made : (t : ℕ) → t < c.mutators → made_of_machine (slice_index_or machines t no_machine) ≡ slice_index (made_of_machine (slice_index_or machines 0 no_machine) ∷ []) t
     made t below =
-        subst (λ k. made_of_machine (slice_index_or machines k fresh_helper) ≡ slice_index (made_of_machine (slice_index_or machines 0 fresh_helper) ∷ []) k) (the_first t (omega (arith, below, one))) refl
+        subst (λ k. made_of_machine (slice_index_or machines k no_machine) ≡ slice_index (made_of_machine (slice_index_or machines 0 no_machine) ∷ []) k) (the_first t (omega (arith, below, one))) refl

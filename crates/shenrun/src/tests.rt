@@ -186,10 +186,10 @@ const SCHEDULED: &[Row] = &[
         trace: "shen 1\nheap 8 64 0\nthreads 2 0\n1 new 1 0 0\n1 cas 0 0 2 1\n2 new 1 0 0\n2 set 0 0 1\n! 3:5 2=2\n",
         answer: "1 1.1\n1 no\n2 2.1\n2 ok\ngraph\nobject 0.1 2.1 - - - - - - - - - - - - - - - /\nobject 1.1 /\nobject 2.1 /\nroots 1 0.1 1.1 - - - - - - - - - - - - - -\nroots 2 0.1 2.1 - - - - - - - - - - - - - -\n",
     },
-    // Helpers have nothing to do.
+    // A helper goes round, and has nothing to do.
     Row {
         words: REPLAY,
-        trace: "shen 1\nheap 8 64 0\nthreads 2 1\n1 new 1 0 0\n1 cas 0 0 2 1\n2 new 1 0 0\n2 set 0 0 1\n! 3:100 4:7 3@MC 2=2\n",
+        trace: "shen 1\nheap 8 64 0\nthreads 2 1\n1 new 1 0 0\n1 cas 0 0 2 1\n2 new 1 0 0\n2 set 0 0 1\n! 3:100 4:7 3@LV 2=2\n",
         answer: "1 1.1\n1 no\n2 2.1\n2 ok\ngraph\nobject 0.1 2.1 - - - - - - - - - - - - - - - /\nobject 1.1 /\nobject 2.1 /\nroots 1 0.1 1.1 - - - - - - - - - - - - - -\nroots 2 0.1 2.1 - - - - - - - - - - - - - -\n",
     },
     // A place that never comes.
@@ -300,10 +300,10 @@ const SCHEDULED: &[Row] = &[
         trace: "shen 1\nheap 8 64 0\nthreads 2 0\n1 new 1 0 0\n1 xchg 2 0 0 1\n2 new 1 0 0\n2 xchg 2 0 0 1\n! 2=2 1=1 1@NM 2:9\n",
         answer: "1 1.1\n1 2.1\n2 2.1\n2 -\ngraph\nobject 0.1 1.1 - - - - - - - - - - - - - - - /\nobject 1.1 /\nobject 2.1 /\nroots 1 0.1 1.1 2.1 - - - - - - - - - - - - -\nroots 2 0.1 2.1 - - - - - - - - - - - - - -\n",
     },
-    // Three helpers are idle, and the control is named.
+    // Three helpers go round, and the control is named.
     Row {
         words: REPLAY,
-        trace: "shen 1\nheap 8 64 0\nthreads 1 3\n1 copy 3 0\n1 same 0 3\n1 drop 0\n1 same 0 3\n1 same 0 4\n! 5:1 4:2 3@KX 2@MC 1:1 1@RL 1=2 1:1 2:9\n",
+        trace: "shen 1\nheap 8 64 0\nthreads 1 3\n1 copy 3 0\n1 same 0 3\n1 drop 0\n1 same 0 3\n1 same 0 4\n! 5:1 4:2 3@PH 2@LV 1:1 1@RL 1=2 1:1 2:9\n",
         answer: "1 ok\n1 yes\n1 ok\n1 no\n1 yes\ngraph\nobject 0.1 - - - - - - - - - - - - - - - - /\nroots 1 - - - 0.1 - - - - - - - - - - - -\n",
     },
     // All 37 steps are made: the last one is that of the control, which ends after the thread.
@@ -382,11 +382,11 @@ const PAUSED: &[Row] = &[
         trace: "shen 1\nheap 4 64 2\nthreads 1 0\n1 new 1 16 16\n1 new 1 16 16\n",
         answer: "1 1.1\n1 1.2\ngraph\nobject 0.1 - - - - - - - - - - - - - - - - /\nobject 1.2 - - - - - - - - - - - - - - - - / 0 0 0 0 0 0 0 0 0 0 0 0 0 0 0 0\nroots 1 0.1 1.2 - - - - - - - - - - - - - -\n",
     },
-    // A pause that was asked for moves an object. Its number and its field go with it.
+    // A pause in which a thread waits moves an object. Its number and its field go with it.
     Row {
         words: REPLAY,
-        trace: "shen 1\nheap 4 64 0\nthreads 1 0\n1 new 2 16 16\n1 new 1 1 1\n1 wr 1 0 5\n1 set 1 0 0\n1 drop 2\n1 gc\n1 rd 1 0\n1 get 3 1 0\n! 1=6 2@P3 2@I0\n",
-        answer: "1 1.1\n1 1.2\n1 ok\n1 ok\n1 ok\n1 ok\n1 5\n1 0.1\ngraph\nobject 0.1 - - - - - - - - - - - - - - - - /\nobject 1.2 0.1 / 5\nroots 1 0.1 1.2 - 0.1 - - - - - - - - - - - -\n",
+        trace: "shen 1\nheap 4 64 0\nthreads 1 0\n1 new 2 16 16\n1 new 1 1 1\n1 wr 1 0 5\n1 set 1 0 0\n1 drop 2\n1 new 2 16 16\n1 new 3 16 16\n1 new 4 16 16\n1 rd 1 0\n1 get 5 1 0\n",
+        answer: "1 1.1\n1 1.2\n1 ok\n1 ok\n1 ok\n1 1.3\n1 1.4\n1 1.5\n1 5\n1 0.1\ngraph\nobject 0.1 - - - - - - - - - - - - - - - - /\nobject 1.2 0.1 / 5\nobject 1.3 - - - - - - - - - - - - - - - - / 0 0 0 0 0 0 0 0 0 0 0 0 0 0 0 0\nobject 1.4 - - - - - - - - - - - - - - - - / 0 0 0 0 0 0 0 0 0 0 0 0 0 0 0 0\nobject 1.5 - - - - - - - - - - - - - - - - / 0 0 0 0 0 0 0 0 0 0 0 0 0 0 0 0\nroots 1 0.1 1.2 1.3 1.4 1.5 0.1 - - - - - - - - - -\n",
     },
     // Objects of 35 words fit once into a region, beside the hub too: four, and the fifth is answered full.
     Row {
@@ -411,6 +411,28 @@ const PAUSED: &[Row] = &[
         words: REPLAY,
         trace: "shen 1\nheap 4 64 0\nthreads 2 0\n1 new 1 16 0\n1 new 2 16 0\n1 new 3 16 0\n1 new 4 16 0\n1 new 5 16 0\n1 new 6 16 0\n1 new 7 16 0\n1 new 8 16 0\n1 new 9 16 0\n1 new 10 16 0\n1 new 11 16 0\n2 new 1 16 0\n! 1=10 1@WP 2@WP\n",
         answer: "1 1.1\n1 1.2\n1 1.3\n1 1.4\n1 1.5\n1 1.6\n1 1.7\n1 1.8\n1 1.9\n1 1.10\n1 1.11\n2 full\ngraph\nobject 0.1 - - - - - - - - - - - - - - - - /\nobject 1.1 - - - - - - - - - - - - - - - - /\nobject 1.2 - - - - - - - - - - - - - - - - /\nobject 1.3 - - - - - - - - - - - - - - - - /\nobject 1.4 - - - - - - - - - - - - - - - - /\nobject 1.5 - - - - - - - - - - - - - - - - /\nobject 1.6 - - - - - - - - - - - - - - - - /\nobject 1.7 - - - - - - - - - - - - - - - - /\nobject 1.8 - - - - - - - - - - - - - - - - /\nobject 1.9 - - - - - - - - - - - - - - - - /\nobject 1.10 - - - - - - - - - - - - - - - - /\nobject 1.11 - - - - - - - - - - - - - - - - /\nroots 1 0.1 1.1 1.2 1.3 1.4 1.5 1.6 1.7 1.8 1.9 1.10 1.11 - - - -\nroots 2 0.1 - - - - - - - - - - - - - - -\n",
+    },
+];
+
+/// Traces of heaps whose objects are marked while threads change them.
+const MARKED: &[Row] = &[
+    // An exchange while objects are marked: the object is loaded once more, and marked in this cycle and not in the next.
+    Row {
+        words: REPLAY,
+        trace: "shen 1\nheap 4 64 0\nthreads 1 0\n1 new 1 0 0\n1 set 0 0 1\n1 drop 1\n1 gc\n1 xchg 1 0 0 2\n1 drop 1\n1 gc\n! 1=4 2@MC 1=6 2@P3 2@I0 1=7 2@MC 2@P3 2@I0\n",
+        answer: "1 1.1\n1 ok\n1 ok\n1 ok\n1 1.1\n1 ok\n1 ok\ngraph\nobject 0.1 - - - - - - - - - - - - - - - - /\nroots 1 0.1 - - - - - - - - - - - - - - -\n",
+    },
+    // Two stores to one field while objects are marked.
+    Row {
+        words: REPLAY,
+        trace: "shen 1\nheap 4 64 0\nthreads 2 0\n1 new 1 0 0\n1 set 0 0 1\n1 drop 1\n1 gc\n1 set 0 0 2\n2 set 0 0 1\n! 1=4 3@MC 1@FS 2@FS 1=5 2=1 3@P3\n",
+        answer: "1 1.1\n1 ok\n1 ok\n1 ok\n1 ok\n2 ok\ngraph\nobject 0.1 - - - - - - - - - - - - - - - - /\nroots 1 0.1 - - - - - - - - - - - - - - -\nroots 2 0.1 - - - - - - - - - - - - - - -\n",
+    },
+    // A helper has claimed a unit when the thread overwrites a field. The object that was there is recorded, and lives in a root.
+    Row {
+        words: REPLAY,
+        trace: "shen 1\nheap 4 64 0\nthreads 1 1\n1 new 1 1 0\n1 set 0 0 1\n1 new 2 0 0\n1 set 1 0 2\n1 drop 2\n1 gc\n1 get 2 1 0\n1 set 1 0 0\n! 1=6 3@PS 3@I0 2@KX 1@RS 2@LV 2:1 1=7 1@BN 2@LV 2:1 1=8 3@P3\n",
+        answer: "1 1.1\n1 ok\n1 1.2\n1 ok\n1 ok\n1 ok\n1 1.2\n1 ok\ngraph\nobject 0.1 1.1 - - - - - - - - - - - - - - - /\nobject 1.1 0.1 /\nobject 1.2 /\nroots 1 0.1 1.1 1.2 - - - - - - - - - - - - -\n",
     },
 ];
 
@@ -635,6 +657,11 @@ fn schedules_are_followed(rt: HostRuntime) -> Result<(), Fail> {
 #[test]
 fn pauses_collect(rt: HostRuntime) -> Result<(), Fail> {
     answers(&rt, rt.alloc(), PAUSED)
+}
+
+#[test]
+fn marking_runs_beside(rt: HostRuntime) -> Result<(), Fail> {
+    answers(&rt, rt.alloc(), MARKED)
 }
 
 #[test]

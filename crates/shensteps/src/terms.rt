@@ -58,6 +58,24 @@ pub fn put_regions(row: &mut Row, config: Config, set: u64) {
     row.put(b"}");
 }
 
+// Puts the objects that are marked in a word of marks, whose bit 0 is that of the first address.
+fn put_marks(row: &mut Row, plain: &Plain, first: u64, marks: u64) {
+    row.put(b"{");
+    let mut is_first = true;
+    let mut left = marks;
+    for bit in 0..64u64 {
+        if left % 2 == 1 {
+            if !is_first {
+                row.put(b" ");
+            }
+            put_reference(row, plain, first.saturating_add(bit));
+            is_first = false;
+        }
+        left /= 2;
+    }
+    row.put(b"}");
+}
+
 // Puts what is asked for.
 fn put_ask(row: &mut Row, word: u64) {
     row.put(match word % 4 {
@@ -118,6 +136,7 @@ pub fn put_value(row: &mut Row, plain: &Plain, kind: Kind, word: u64) {
                 count: count_of(word),
             },
         ),
+        Kind::Marks { first } => put_marks(row, plain, first, word),
     }
 }
 
@@ -230,7 +249,7 @@ pub fn put_word_at(row: &mut Row, plain: &Plain, at: usize, within: Within) -> K
         }
         (name, _) => {
             put_word(row, config, name);
-            kind_of(name)
+            kind_of(config, name)
         }
     }
 }

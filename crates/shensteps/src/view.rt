@@ -1,6 +1,6 @@
 ghost use Rattle.std.specs.Prelude.{◌≤◌};
 
-use heap_words::{WordName, count_of, refs_of, thread_of, words_of};
+use heap_words::{Config, WordName, count_of, refs_of, thread_of, words_of};
 use shen_core::Plain;
 use shen_graph::Name;
 
@@ -136,6 +136,11 @@ pub enum Kind {
     Shape,
     /// As a name.
     Name,
+    /// As marks: a bit for each address, from this one on.
+    Marks {
+        /// The address of bit 0.
+        first: u64,
+    },
 }
 
 /// How a word of an object is to be read.
@@ -149,8 +154,14 @@ pub fn kind_of_part(part: Part) -> Kind {
     }
 }
 
+// The address of bit 0 in a word of marks, counted from 0.
+fn first_marked(config: Config, word: usize) -> u64 {
+    let before = (word as u64).saturating_mul(64);
+    (config.region_words() as u64).saturating_add(before)
+}
+
 /// How a word outside the heap is to be read.
-pub fn kind_of(name: WordName) -> Kind {
+pub fn kind_of(config: Config, name: WordName) -> Kind {
     match name {
         WordName::State { .. } => Kind::State,
         WordName::Cset | WordName::Free => Kind::Regions,
@@ -159,6 +170,9 @@ pub fn kind_of(name: WordName) -> Kind {
         WordName::Root { .. } | WordName::Buffer { .. } => Kind::Reference,
         WordName::Wait { .. } => Kind::Request,
         WordName::Answer { .. } => Kind::Answer,
+        WordName::Grey { word } | WordName::Black { word } => Kind::Marks {
+            first: first_marked(config, word),
+        },
         _ => Kind::Number,
     }
 }

@@ -1,13 +1,11 @@
 -- What the step of a mutator owes as an event: what its place owes is turned into that, while a pause writes its image back and
 -- while none does.
 use Rattle.std.proofs.Common.{◌≡◌, ◌≢◌, ℕ, ◌+◌, ◌<◌, ◌⊎◌, inl, inr, ⊎_elim, true, false, List, ◌++◌, length, Option, Some, None, refl, sym, ap, ◌∙◌, subst, arith}
-use Rattle.std.specs.Prelude.{nat_le, slice_get, if◌then◌else◌}
+use Rattle.std.specs.Prelude.{slice_get}
 use Rattle.std.proofs.lemmas.List.{append-nil}
-use Rattle.std.proofs.lemmas.Bool.{cases_Bool, cases_eq, cond-false, false≢true}
+use Rattle.std.proofs.lemmas.Bool.{cases_eq}
 use Rattle.heap_words.specs.declared.config.Config.{Config}
-use Rattle.heap_words.specs.Encoding.{object_words}
-use Rattle.heap_words.specs.Words.{Word, Answer, Heap, is_word, is_image, same_word, view, table_words}
-use Rattle.heap_words.proofs.Stores.{same_word_true}
+use Rattle.heap_words.specs.Words.{Answer, is_word, is_image, view, table_words}
 use Rattle.steps_base.specs.Touch.{Touch, touched}
 use Rattle.shen_graph.specs.declared.command.Command.{Command}
 use Rattle.shen_graph.specs.declared.command.Reply.{Reply}
@@ -27,7 +25,6 @@ use Rattle.mutator.proofs.Orders.{in_call}
 use Rattle.mutator.specs.Told.{told_of as settled_by_step}
 use Rattle.heap_world.specs.World.{Ghost, World, Plot, Shared}
 use Rattle.heap_world.specs.Change.{Change}
-use Rattle.heap_world.specs.Rely.{Rely}
 use Rattle.control_steps.specs.Rows.{Controlling}
 use Rattle.step_core.specs.Actor.{mutating, controlling, Actor, entries_of, command_by}
 use Rattle.step_core.specs.Machines.{took_of}
@@ -35,10 +32,11 @@ use Rattle.step_core.specs.Settled.{settled_by}
 use Rattle.step_core.specs.Standing.{standing_at}
 use Rattle.step_core.specs.Stepped.{SpotFacts, Stepped, fixed_by, graph_by}
 use Rattle.step_core.proofs.Entries.{graph_settled, legal_settled, entries_settled, command_valid, own_more, other_more}
-use Rattle.step_core.proofs.Facts.{IsSeen, IsShort, IsThread, IsAim, IsMachine, PromisedToMutators, Owes, words_promised}
-use Rattle.step_core.proofs.Images.{words_after, view-placed}
+use Rattle.step_core.proofs.Facts.{IsSeen, IsShort, IsThread, IsAim, IsMachine, PromisedToMutators, Owes}
+use Rattle.step_core.proofs.Images.{words_after}
 use Rattle.step_core.proofs.Outside.{outside_told, outside_given, refused_quiet, answer_before}
-use Rattle.step_core.proofs.Roles.{CountsTheSame, machine_stays, short_stays, seen_stays}
+use Rattle.step_core.proofs.Answers.{whole_before, whole_then, raw_stays, now_stays, counts_same, other_raw, other_counts}
+use Rattle.step_core.proofs.Roles.{machine_stays, short_stays, seen_stays}
 
 -- under an order no reply is settled, and it does not wait
 orders_unsettled : (c : Config) (w : World) (seat : ℕ) (kept : Kept) (command : Command) (fixed : Option Reply) (spot : Spot) (made : ℕ) (order : Order) → (order ≡ Nothing → ⊥) → takes_at spot made order ≡ true
@@ -85,19 +83,6 @@ next_seat c m (Begin k) got (Ended r) = refl
 next_seat c m End got (Ended r) = refl
 next_seat c m order got _ = refl
 
--- an access of a word outside the image leaves the words of the image
-pub touched_image : (memory : Word → ℕ) (t : Touch) (v : Word) → is_image t.word ≡ false → is_image v ≡ true → touched memory t v ≡ memory v
-touched_image memory t v outside in_image = cond-false (same_word t.word v) _ _ (⊎_elim
-    (λ (same : same_word t.word v ≡ true). absurd (false≢true (sym outside ∙ ap is_image (same_word_true t.word v same) ∙ in_image)))
-    (λ (no : same_word t.word v ≡ false). no)
-    (cases_Bool (same_word t.word v)))
-
--- and so what is promised
-pub touched_promises : (memory : Word → ℕ) (t : Touch) (v : ℕ) → is_image t.word ≡ false → words_promised (touched memory t) v ≡ words_promised memory v
-touched_promises memory t v outside =
-    ap (λ n. if nat_le n 1 then 0 else object_words (touched memory t (Heap (n + 1)))) (touched_image memory t (Answer v) outside refl)
-    ∙ ap (λ n. if nat_le (memory (Answer v)) 1 then 0 else object_words n) (touched_image memory t (Heap (memory (Answer v) + 1)) outside refl)
-
 -- The adapter. While an image counts, the mutator is outside, and its access is of no word of the image.
 module _ (change : Change) (c : Config) (words : List ℕ) (o : Option (List ℕ)) (block : Plot) (ghost : Ghost) (g : Graph) (past : List Entry) (number : ℕ) (machines : List Actor) (order : Order) (m : Mutating)
     (command : Command) (calls : List Entry) (long : length words ≡ table_words c) (is : is_word c (touch_of c m order).word ≡ true)
@@ -134,26 +119,11 @@ module _ (change : Change) (c : Config) (words : List ℕ) (o : Option (List ℕ
     fixed_then = fixed_by thread.fixed the_told (given_at m.spot)
 
     -- while an image counts, nothing changes by which crowding is measured
-    counts_same : (image : List ℕ) → o ≡ Some image → CountsTheSame u step.world
-    counts_same image is_held = record {
-      graph = step.graph ∙ ap (λ r. graph_by g m.seat (command_by order command) r) (outside_told u.memory m.seat m.made m.kept m.spot (held image is_held).0);
-      promised = λ v. ap (λ memory. words_promised memory v) step.memory ∙ touched_promises u.memory t v (held image is_held).1;
-    }
+    same_graph : (image : List ℕ) → o ≡ Some image → step.world.graph ≡ g
+    same_graph image is_held = step.graph ∙ ap (λ r. graph_by g m.seat (command_by order command) r) (outside_told u.memory m.seat m.made m.kept m.spot (held image is_held).0)
 
-    -- where no image counts, the table counts then
-    whole_then : o ≡ None → (k : ℕ) → view c words_then (Answer k) ≡ step.world.memory (Answer k)
-    whole_then none k =
-        ap (λ memory. memory (Answer k)) (view-placed c words t is long ∙ ap (λ x. touched (settled_by c words x) t) (sym none) ∙ sym step.memory)
-
-    whole_before : o ≡ None → (k : ℕ) → view c words (Answer k) ≡ u.memory (Answer k)
-    whole_before none k = ap (λ x. settled_by c words x (Answer k)) (sym none)
-
-    -- while one counts, the table's answers stay
-    raw_stays : (image : List ℕ) → o ≡ Some image → (k : ℕ) → view c words_then (Answer k) ≡ view c words (Answer k)
-    raw_stays image is_held k = ap (λ memory. memory (Answer k)) (view-placed c words t is long) ∙ touched_image (view c words) t (Answer k) (held image is_held).1 refl
-
-    now_stays : (image : List ℕ) → o ≡ Some image → (k : ℕ) → step.world.memory (Answer k) ≡ u.memory (Answer k)
-    now_stays image is_held k = ap (λ memory. memory (Answer k)) step.memory ∙ touched_image u.memory t (Answer k) (held image is_held).1 refl
+    left_image : (image : List ℕ) → o ≡ Some image → is_image t.word ≡ false
+    left_image image is_held = (held image is_held).1
 
     -- and its own reply stays as it is
     fixed_stays : (image : List ℕ) → o ≡ Some image → fixed_then ≡ thread.fixed
@@ -170,33 +140,33 @@ module _ (change : Change) (c : Config) (words : List ℕ) (o : Option (List ℕ
         let quiet = refused_quiet c u m.seat m.made m.kept command thread.fixed m.spot before thread.mine in
         let settled_full : thread.fixed ≡ Some Full = ⊎_elim
         (λ (both : (view c words (Answer number) ≡ 1) × (thread.fixed ≡ Some Full)). both.1)
-        (λ (none_yet : (view c words (Answer number) ≡ 0) × (thread.fixed ≡ None)). absurd (let whole = whole_before none number in let raw = none_yet.0 in omega (arith, whole, raw, before_here)))
+        (λ (none_yet : (view c words (Answer number) ≡ 0) × (thread.fixed ≡ None)). absurd (let whole = whole_before c words o t u step.world refl step.memory long is none number in let raw = none_yet.0 in omega (arith, whole, raw, before_here)))
         (thread.seen.full before_here) in
         ap (λ r. fixed_by thread.fixed r (given_at m.spot)) quiet.0 ∙ ap (λ r. fixed_by thread.fixed None r) quiet.1 ∙ settled_full
 
     -- its answer
     own_seen : (x : Option (List ℕ)) → o ≡ x → IsSeen (view c words_then (Answer number)) (step.world.memory (Answer number)) fixed_then
     own_seen None none = record {
-      null = λ now. whole_then none number ∙ now;
-      full = λ now. inl (whole_then none number ∙ now, full_open none now);
-      given = λ more is_1. (let same = whole_then none number in omega (arith, same, more, is_1));
+      null = λ now. whole_then c words o t u step.world refl step.memory long is none number ∙ now;
+      full = λ now. inl (whole_then c words o t u step.world refl step.memory long is none number ∙ now, full_open none now);
+      given = λ more is_1. (let same = whole_then c words o t u step.world refl step.memory long is none number in omega (arith, same, more, is_1));
     }
     own_seen (Some image) is_held =
         subst (λ f. IsSeen (view c words_then (Answer number)) (step.world.memory (Answer number)) f) (sym (fixed_stays image is_held))
-        (seen_stays _ _ _ _ thread.fixed (raw_stays image is_held number) (now_stays image is_held number) thread.seen)
+        (seen_stays _ _ _ _ thread.fixed (raw_stays c words o t u step.world refl step.memory long is (left_image image is_held) number) (now_stays c words o t u step.world refl step.memory long is (left_image image is_held) number) thread.seen)
 
     -- crowding
     own_short : (x : Option (List ℕ)) → o ≡ x → step.world.memory (Answer number) ≡ 1 → fixed_then ≡ None → IsShort c step.world.memory step.world.graph number (words_asked (Some the_new.command))
     own_short None none now unsettled = absurd (let it = sym unsettled ∙ full_open none now in cc)
     own_short (Some image) is_held now unsettled =
-        let before : u.memory (Answer number) ≡ 1 = sym (now_stays image is_held number) ∙ now in
+        let before : u.memory (Answer number) ≡ 1 = sym (now_stays c words o t u step.world refl step.memory long is (left_image image is_held) number) ∙ now in
         let same_command : command_by order command ≡ command = ⊎_elim
         (λ (rests : (thread.fixed ≡ None) × (is_waiting m.spot ≡ false)).
         absurd (let answer = (thread.mine.seated.unasked rests.1).1 in let here = ap (λ j. u.memory (Answer j)) thread.number_is in omega (arith, answer, here, before)))
         (λ (same : command_by order command ≡ command). same)
         (command_stays c u m.seat m.kept command thread.fixed m.spot m.made order takes thread.mine.facts) in
         subst (λ k. IsShort c step.world.memory step.world.graph number (words_asked (Some k))) (sym same_command)
-        (short_stays c u step.world number (words_asked (Some command)) (counts_same image is_held) (thread.short before (sym (fixed_stays image is_held) ∙ unsettled)))
+        (short_stays c u step.world number (words_asked (Some command)) (counts_same c words o t u step.world refl step.memory long is (same_graph image is_held) (left_image image is_held)) (thread.short before (sym (fixed_stays image is_held) ∙ unsettled)))
 
     -- its own machine
     own_machine : IsMachine c words_then step.world (of_thread (past ++ the_entries) (number + 1)) number the_new the_new.machine
@@ -217,15 +187,6 @@ module _ (change : Change) (c : Config) (words : List ℕ) (o : Option (List ℕ
           step.settles
           (⊎_elim (λ rests. inl rests.0) (λ same. inr same) (command_stays c u m.seat m.kept command thread.fixed m.spot m.made order takes thread.mine.facts)));
     }
-
-    -- another machine
-    other_raw : (x : Option (List ℕ)) → o ≡ x → (k : ℕ) → Rely k u step.world → view c words_then (Answer k) ≡ view c words (Answer k)
-    other_raw None none k rely = whole_then none k ∙ rely.answer ∙ sym (whole_before none k)
-    other_raw (Some image) is_held k rely = raw_stays image is_held k
-
-    other_counts : (x : Option (List ℕ)) → o ≡ x → (k : ℕ) → (view c words (Answer k) ≡ u.memory (Answer k)) ⊎ CountsTheSame u step.world
-    other_counts None none k = inl (whole_before none k)
-    other_counts (Some image) is_held k = inr (counts_same image is_held)
 
     -- what the control has read or written of the image stays while one counts; while none does, it is in no pause
     module _ (aims : (k : ℕ) (b : Actor) → k ≢ number → slice_get machines k ≡ Some b → (control : Controlling) → b.machine ≡ controlling control → IsAim c words control.spot control.image → IsAim c words_then control.spot control.image) where
@@ -248,8 +209,8 @@ module _ (change : Change) (c : Config) (words : List ℕ) (o : Option (List ℕ
             machine_stays c words words_then u step.world (of_thread past (k + 1)) (of_thread (past ++ the_entries) (k + 1)) k b b.machine shared
             (record {
               rely = step.others k other;
-              answer = other_raw o refl k (step.others k other);
-              counts = other_counts o refl k;
+              answer = other_raw c words o t u step.world refl step.memory long is left_image o refl k (step.others k other);
+              counts = other_counts c words o t u step.world refl step.memory long is left_image same_graph o refl k;
               aims = λ control same. aims k b differs there control same;
             })
             (other_more past m.seat (command_by order command) the_told k other) known;

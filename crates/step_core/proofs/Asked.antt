@@ -45,7 +45,7 @@ asking_given now k is = cond-false (now == 0) _ _ (ne_eqb now 0 (λ e. omega (ar
 -- a mutator that looks for its answer has asked so
 pub polling_asked : (w : World) (seat made : ℕ) (k command : Command) (fixed : Option Reply) → IsPolling w seat made k command fixed
     → IsAsked w.memory w.block w.graph.count seat (asking_by (w.memory (Answer seat)) k)
-polling_asked w seat made k command fixed (inl waits) = subst (λ x. IsAsked w.memory w.block w.graph.count seat x) (sym (asking_asks _ k waits.1.1)) waits.1
+polling_asked w seat made k command fixed (inl waits) = subst (λ x. IsAsked w.memory w.block w.graph.count seat x) (sym (asking_asks _ k waits.0.1.1)) waits.0.1
 polling_asked w seat made k command fixed (inr (inl has)) = subst (λ x. IsAsked w.memory w.block w.graph.count seat x) (sym (asking_given _ k has.1.1)) has.1
 polling_asked w seat made k command fixed (inr (inr is)) = subst (λ x. IsAsked w.memory w.block w.graph.count seat x) (sym (asking_refused _ k is.1.1)) is.1
 

@@ -3,11 +3,12 @@ use Rattle.std.proofs.Common.{◌≡◌, ◌≢◌, ℕ, ◌+◌, ◌<◌, Bool,
 use Rattle.std.specs.Prelude.{nat_lt, slice_get, slice_set, slice_index, if◌then◌else◌}
 use Rattle.std.proofs.lemmas.List.{length-set, set-get_or, length-append}
 use Rattle.std.proofs.lemmas.Option.{same_Some, slice_get_within}
-use Rattle.std.proofs.lemmas.Bool.{ltb-true, ltb-false}
+use Rattle.std.proofs.lemmas.Bool.{and_parts, ltb-true, ltb-false}
 use Rattle.heap_words.specs.declared.config.Config.{Config}
 use Rattle.heap_words.specs.Access.{table_index}
 use Rattle.heap_words.specs.Ranges.{seat_count}
-use Rattle.heap_words.specs.Words.{Free, image_start}
+use Rattle.heap_words.specs.Words.{Phase, image_start, view}
+use Rattle.heap_words.proofs.Stores.{is_word_from}
 use Rattle.steps_base.specs.Steps.{Stage, accessed, moved}
 use Rattle.steps_base.proofs.Places.{slice_get-set_same}
 use Rattle.shen_graph.specs.declared.command.Command.{Command}
@@ -17,11 +18,16 @@ use Rattle.shen_graph.specs.History.{Entry, after, of_thread}
 use Rattle.handshake.specs.declared.stop_spot.StopSpot.TheVariants as stop
 use Rattle.handshake.specs.Standing.{is_within, is_pausing}
 use Rattle.handshake.proofs.Still.{pause_empty}
-use Rattle.heap_world.specs.World.{World, hand, Shared}
+use Rattle.heap_world.specs.World.{World, Shared}
+use Rattle.scan_steps.specs.declared.spot.ScanSpot.{ScanSpot}
+use Rattle.scan_steps.specs.Rows as scans
+use Rattle.scan_steps.specs.Seen as scan
+use Rattle.mark_steps.proofs.Scans.{scan_inside}
+use Rattle.mark_steps.proofs.Parts.{scanning_steps}
 use Rattle.heap_world.specs.Change.{Change, IsPause, image_view, image_words}
 use Rattle.control_steps.specs.declared.spot.ControlSpot.{ControlSpot}
-use Rattle.control_steps.specs.declared.spot.ControlSpot.TheVariants.{LookLeft, StoreEnd, LookAsked, LookFree, Stopping, LoadWord, StoreWord, Go, Gone}
-use Rattle.control_steps.specs.Rows.{Controlling, control_access, is_gone}
+use Rattle.control_steps.specs.declared.spot.ControlSpot.TheVariants.{LookLeft, StoreEnd, LookAsked, LookFree, Scanning, Stopping, LoadWord, StoreWord, Go, Gone}
+use Rattle.control_steps.specs.Rows.{Controlling, control_access, seen_after, is_gone}
 use Rattle.control_steps.specs.Ready.{is_ready}
 use Rattle.step_core.specs.Actor.{controlling, Actor}
 use Rattle.step_core.specs.Machines.{took_of, kind, told_storing}
@@ -30,7 +36,8 @@ use Rattle.step_core.specs.Sound.{world_of}
 use Rattle.step_core.specs.Fit.{StandsForSome}
 use Rattle.step_core.specs.Standing.{standing_of}
 use Rattle.step_core.proofs.Facts.{IsControl, IsMachine, Follows, Owes, AreRead}
-use Rattle.step_core.proofs.Images.{image_grows}
+use Rattle.step_core.proofs.Images.{words_after, found-placed, image_grows}
+use Rattle.step_core.proofs.Helpers.{is_off}
 use Rattle.step_core.proofs.Owing.{follows_owes}
 use Rattle.step_core.proofs.Paused.{asking, image_stands, paused_owes}
 use Rattle.step_core.proofs.Pauses as pauses
@@ -81,12 +88,13 @@ module _ (change : Change) (law : IsPause change) (c : Config) (g : Graph) (s : 
       (subst (λ n. Owes c s.words words_after_access (world_held (stored_image k.spot k.image)) past n s.machines (settled_by c words_after_access (image_in control_after.machine)) settles control_after) (sym facts.number_is) owes)))
       here (length-set s.words _ _ ∙ follows.words)
 
-  -- what holds of all machines, in that world
+  -- what holds of the control, in that world
+  control_held : IsControl c s.words (world_held (stored_image k.spot k.image)) (control_number c) k
+  control_held = subst (λ n. IsControl c s.words (world_held (stored_image k.spot k.image)) n k) facts.number_is (subst (λ w. IsControl c s.words w number k) world_is facts)
+
+  -- and of all machines
   shared_held : Shared c (world_held (stored_image k.spot k.image))
   shared_held = subst (λ w. Shared c w) world_is follows.shared
-
-  hands_held : (a more : ℕ) → follows.block a ≡ Some (hand (control_number c) more) → ⊥
-  hands_held a more is = facts.hands a more (subst (λ n. follows.block a ≡ Some (hand n more)) (sym facts.number_is) is)
 
   known_held : (j : ℕ) (b : Actor) → slice_get s.machines j ≡ Some b → IsMachine c s.words (world_held (stored_image k.spot k.image)) (of_thread past (j + 1)) j b b.machine
   known_held j b there = subst (λ w. IsMachine c s.words w (of_thread past (j + 1)) j b b.machine) world_is (follows.machines j b there)
@@ -99,10 +107,10 @@ module _ (change : Change) (law : IsPause change) (c : Config) (g : Graph) (s : 
       pause_empty c (λ a. standing_of a.machine) s shaken (ap (λ a. is_pausing (standing_of a.machine)) (sym same) ∙ pausing) j b (omega (arith, less, other)) there
 
 -- by its spot
-module _ (change : Change) (law : IsPause change) (c : Config) (g : Graph) (s : Stage Actor) (past : List Entry) (number seen : ℕ) (image : List ℕ) (command : Command) (calls : List Entry)
+module _ (change : Change) (law : IsPause change) (c : Config) (g : Graph) (s : Stage Actor) (past : List Entry) (number seen phase : ℕ) (image : List ℕ) (command : Command) (calls : List Entry)
     (follows : Follows c g s past) (shaken : IsKept c s) where
   abbrev control_at : ControlSpot → Controlling
-  control_at spot = record { spot = spot; seen = seen; image = image }
+  control_at spot = record { spot = spot; seen = seen; phase = phase; image = image }
 
   abbrev Here : ControlSpot → Type 0
   Here spot = slice_get s.machines number ≡ Some (record { machine = controlling (control_at spot); command = command; calls = calls })
@@ -120,7 +128,7 @@ module _ (change : Change) (law : IsPause change) (c : Config) (g : Graph) (s : 
 
   -- a spot outside the image
   quiet : (spot : ControlSpot) (here : Here spot) → stored_image spot image ≡ None → told_storing c s spot image ≡ []
-      → ((shared : Shared c (pauses.open_world c s.words follows.block follows.ghost (after g past))) (hands : (a more : ℕ) → follows.block a ≡ Some (hand (control_number c) more) → ⊥) → is_ready c spot ≡ true
+      → (Shared c (pauses.open_world c s.words follows.block follows.ghost (after g past)) → IsControl c s.words (pauses.open_world c s.words follows.block follows.ghost (after g past)) (control_number c) (control_at spot)
       → Owes c s.words (accessed (control_access c (control_at spot)) s.words) (pauses.open_world c s.words follows.block follows.ghost (after g past)) past (control_number c) s.machines
       (settled_by c (accessed (control_access c (control_at spot)) s.words) (image_in (control_after change law c g s past number (control_at spot) command calls follows shaken here).machine)) []
       (control_after change law c g s past number (control_at spot) command calls follows shaken here))
@@ -134,7 +142,8 @@ module _ (change : Change) (law : IsPause change) (c : Config) (g : Graph) (s : 
       (subst (λ w. Owes c s.words (accessed (control_access c k) s.words) w past (control_number c) s.machines
       (settled_by c (accessed (control_access c k) s.words) (image_in (control_after change law c g s past number k command calls follows shaken here).machine)) []
       (control_after change law c g s past number k command calls follows shaken here)) (sym world_open)
-      (owes (subst (λ w. Shared c w) world_open (shared_held change law c g s past number k command calls follows shaken here)) (hands_held change law c g s past number k command calls follows shaken here) (ready_at spot here))))
+      (owes (subst (λ w. Shared c w) world_open (shared_held change law c g s past number k command calls follows shaken here))
+      (subst (λ w. IsControl c s.words w (control_number c) k) world_open (control_held change law c g s past number k command calls follows shaken here)))))
 
   -- the world while no image counts
   abbrev open_now : World
@@ -143,6 +152,10 @@ module _ (change : Change) (law : IsPause change) (c : Config) (g : Graph) (s : 
   -- the word of the image that is loaded
   abbrev loaded : ℕ → ℕ
   loaded index = slice_index s.words (image_start c + index)
+
+  -- while it loads the image it scans nothing
+  idle_at : (index : ℕ) → Here (LoadWord index) → follows.ghost.scanning (control_number c) ≡ None
+  idle_at index here = (control_held change law c g s past number (control_at (LoadWord index)) command calls follows shaken here).facts
 
   -- The last word of the image is loaded: the image stands for the graph.
   pub whole_stands : (index : ℕ) → Here (LoadWord index) → index + 1 ≡ image_words c → StandsForSome c (image ++ loaded index ∷ [])
@@ -155,7 +168,7 @@ module _ (change : Change) (law : IsPause change) (c : Config) (g : Graph) (s : 
         image_stands c s.words follows.block follows.ghost (after g past) past s.machines (image ++ loaded index ∷ []) read follows.seats
             (shared_held change law c g s past number (control_at (LoadWord index)) command calls follows shaken here) follows.promised_to follows.no_more
             (known_held change law c g s past number (control_at (LoadWord index)) command calls follows shaken here)
-            (all_outside change law c g s past number (control_at (LoadWord index)) command calls follows shaken here refl),
+            (all_outside change law c g s past number (control_at (LoadWord index)) command calls follows shaken here refl) (idle_at index here),
       ) ∣₁
 
   -- the control after it loaded a word: it loads the next one, or it was the last one
@@ -163,7 +176,8 @@ module _ (change : Change) (law : IsPause change) (c : Config) (g : Graph) (s : 
   after_word index more = record {
     machine = controlling (record {
       spot = if more then LoadWord (index + 1) else StoreWord 0;
-      seen = if more then seen else image_view c (change c (image ++ loaded index ∷ [])) Free;
+      seen = if more then seen else seen_after seen (image_view c (change c (image ++ loaded index ∷ [])));
+      phase = if more then phase else image_view c (change c (image ++ loaded index ∷ [])) Phase;
       image = if more then image ++ loaded index ∷ [] else change c (image ++ loaded index ∷ []);
     });
     command = command;
@@ -171,32 +185,37 @@ module _ (change : Change) (law : IsPause change) (c : Config) (g : Graph) (s : 
   }
 
   -- what it owes then
-  loaded_owes : (index : ℕ) → Here (LoadWord index) → Shared c open_now → ((a more : ℕ) → follows.block a ≡ Some (hand (control_number c) more) → ⊥) → (more : Bool) → nat_lt (index + 1) (image_words c) ≡ more
-      → (length image ≡ index) × AreRead c s.words image index
+  loaded_owes : (index : ℕ) → Here (LoadWord index) → Shared c open_now → IsControl c s.words open_now (control_number c) (control_at (LoadWord index)) → (more : Bool) → nat_lt (index + 1) (image_words c) ≡ more
       → Owes c s.words s.words open_now past (control_number c) s.machines (settled_by c s.words (image_in (after_word index more).machine)) [] (after_word index more)
-  loaded_owes index here shared hands true more known =
+  loaded_owes index here shared known true more =
       read_owes c s.words follows.block follows.ghost (after g past) past s.machines command calls
-      (record { spot = LoadWord (index + 1); seen = seen; image = image ++ loaded index ∷ [] }) shared follows.promised_to hands more
-      (length-snoc image (loaded index) ∙ ap (λ n. n + 1) known.0, image_grows c s.words image index known.0 known.1) refl
-  loaded_owes index here shared hands false all known =
+      (record { spot = LoadWord (index + 1); seen = seen; phase = phase; image = image ++ loaded index ∷ [] }) shared follows.promised_to
+      (record {
+        number_is = refl;
+        hands = known.hands;
+        ready = more;
+        phase_is = known.phase_is;
+        facts = known.facts;
+        aims = (length-snoc image (loaded index) ∙ ap (λ n. n + 1) known.aims.0, image_grows c s.words image index known.aims.0 known.aims.1);
+      }) refl
+  loaded_owes index here shared known false all =
       let less : index + 1 ≡ image_words c = (let last = ltb-false _ _ all in let ready = ltb-true _ _ (ready_at (LoadWord index) here) in omega (arith, last, ready)) in
       paused_owes c s.words follows.block follows.ghost (after g past) past s.machines (image ++ loaded index ∷ [])
-      (λ i below. image_grows c s.words image index known.0 known.1 i (omega (arith, below, less))) follows.seats change law
-      (length-snoc image (loaded index) ∙ ap (λ n. n + 1) known.0 ∙ less) shared follows.promised_to follows.no_more
+      (λ i below. image_grows c s.words image index known.aims.0 known.aims.1 i (omega (arith, below, less))) follows.seats change law
+      (length-snoc image (loaded index) ∙ ap (λ n. n + 1) known.aims.0 ∙ less) shared follows.promised_to follows.no_more
       (known_held change law c g s past number (control_at (LoadWord index)) command calls follows shaken here)
-      (all_outside change law c g s past number (control_at (LoadWord index)) command calls follows shaken here refl)
-      (image_view c (change c (image ++ loaded index ∷ [])) Free) command calls
+      (all_outside change law c g s past number (control_at (LoadWord index)) command calls follows shaken here refl) (idle_at index here)
+      (seen_after seen (image_view c (change c (image ++ loaded index ∷ [])))) command calls
 
   -- a word of the image that is loaded
   load_word : (index : ℕ) → Here (LoadWord index) → ControlGoal (LoadWord index)
   load_word index here =
-      let known = facts change law c g s past number (control_at (LoadWord index)) command calls follows shaken here in
       let same_words : accessed (control_access c (control_at (LoadWord index))) s.words ≡ s.words = set-get_or s.words (image_start c + index) 0 in
-      quiet (LoadWord index) here refl refl (λ shared hands ready.
+      quiet (LoadWord index) here refl refl (λ shared known.
       subst (λ ws. Owes c s.words ws open_now past (control_number c) s.machines
       (settled_by c ws (image_in (control_after change law c g s past number (control_at (LoadWord index)) command calls follows shaken here).machine)) []
       (control_after change law c g s past number (control_at (LoadWord index)) command calls follows shaken here)) (sym same_words)
-      (loaded_owes index here shared hands (nat_lt (index + 1) (image_words c)) refl known.aims))
+      (loaded_owes index here shared known (nat_lt (index + 1) (image_words c)) refl))
 
   -- a word of the new image that is stored
   store_word : (index : ℕ) → Here (StoreWord index) → ControlGoal (StoreWord index)
@@ -204,27 +223,48 @@ module _ (change : Change) (law : IsPause change) (c : Config) (g : Graph) (s : 
       let k = control_at (StoreWord index) in
       let known = facts change law c g s past number k command calls follows shaken here in
       from_owes change law c g s past number k command calls follows shaken here (told_storing c s (StoreWord index) image)
-      (stored_owes change c s.words follows.block follows.ghost (after g past) past s.machines image index seen command calls known.ready follows.words known.aims.0 known.aims.1 follows.seats
-      (shared_held change law c g s past number k command calls follows shaken here) follows.promised_to (hands_held change law c g s past number k command calls follows shaken here)
+      (stored_owes change c s.words follows.block follows.ghost (after g past) past s.machines image index seen phase command calls known.ready follows.words known.aims.0 known.aims.1 follows.seats
+      (shared_held change law c g s past number k command calls follows shaken here) follows.promised_to (control_held change law c g s past number k command calls follows shaken here)
       (known_held change law c g s past number k command calls follows shaken here))
+
+  -- a word that it finds while it scans is fit
+  pub scan_fit : (at : ScanSpot) → Here (Scanning at) → scan.IsFit c at (got (Scanning at))
+  scan_fit at here =
+      let known = control_held change law c g s past number (control_at (Scanning at)) command calls follows shaken here in
+      let ready = and_parts _ _ known.ready in
+      let found : got (Scanning at) ≡ view c s.words (scans.touch_at c at).word = found-placed c s.words (scans.touch_at c at) (is_word_from c _ (scan_inside c at ready.0)) in
+      subst (λ n. scan.IsFit c at n) (sym found)
+      (scanning_steps.fits c open_now (control_number c) at (is_off (scans.is_ended at) ready.1) (shared_held change law c g s past number (control_at (Scanning at)) command calls follows shaken here) known.facts)
+
+  -- a step of a scan
+  scan_word : (at : ScanSpot) → Here (Scanning at) → ControlGoal (Scanning at)
+  scan_word at here = quiet (Scanning at) here refl refl (λ shared known.
+      let ready = and_parts _ _ known.ready in
+      let found : got (Scanning at) ≡ view c s.words (scans.touch_at c at).word = found-placed c s.words (scans.touch_at c at) (is_word_from c _ (scan_inside c at ready.0)) in
+      subst
+      (λ n. Owes c s.words (words_after c s.words (scans.touch_at c at)) open_now past (control_number c) s.machines
+      (settled_by c (words_after c s.words (scans.touch_at c at)) (image_in (took_of change c (record { machine = controlling (control_at (Scanning at)); command = command; calls = calls }) Nothing n (controlling (control_at (Scanning at)))).machine)) []
+      (took_of change c (record { machine = controlling (control_at (Scanning at)); command = command; calls = calls }) Nothing n (controlling (control_at (Scanning at))))) (sym found)
+      (pauses.scan_unit c s.words follows.block follows.ghost (after g past) past s.machines command calls change seen phase image follows.words shared follows.promised_to at (is_off (scans.is_ended at) ready.1) known))
 
   -- wherever it stands
   pub by_spot : (spot : ControlSpot) → is_gone spot ≡ false → Here spot → ControlGoal spot
-  by_spot LookLeft going here = quiet LookLeft here refl refl (λ shared hands ready.
-      pauses.look_left c s.words follows.block follows.ghost (after g past) past s.machines command calls change seen (got LookLeft) image follows.words shared follows.promised_to hands ready)
-  by_spot StoreEnd going here = quiet StoreEnd here refl refl (λ shared hands ready.
-      pauses.store_end c s.words follows.block follows.ghost (after g past) past s.machines command calls change seen (got StoreEnd) image follows.words shared follows.promised_to hands ready)
-  by_spot LookAsked going here = quiet LookAsked here refl refl (λ shared hands ready.
-      pauses.look_asked c s.words follows.block follows.ghost (after g past) past s.machines command calls change seen (got LookAsked) image follows.words shared follows.promised_to hands ready)
-  by_spot LookFree going here = quiet LookFree here refl refl (λ shared hands ready.
-      pauses.look_free c s.words follows.block follows.ghost (after g past) past s.machines command calls change seen (got LookFree) image follows.words shared follows.promised_to hands ready)
-  by_spot (Stopping stop.Raise) going here = quiet (Stopping stop.Raise) here refl refl (λ shared hands ready.
-      pauses.raise_pause c s.words follows.block follows.ghost (after g past) past s.machines command calls change seen (got (Stopping stop.Raise)) image follows.words shared follows.promised_to hands ready)
-  by_spot (Stopping (stop.Check seat)) going here = quiet (Stopping (stop.Check seat)) here refl refl (λ shared hands ready.
-      pauses.check_seat c s.words follows.block follows.ghost (after g past) past s.machines command calls change seen (got (Stopping (stop.Check seat))) image follows.words shared follows.promised_to hands seat ready)
+  by_spot LookLeft going here = quiet LookLeft here refl refl (λ shared known.
+      pauses.look_left c s.words follows.block follows.ghost (after g past) past s.machines command calls change seen phase image follows.words shared follows.promised_to (got LookLeft) known)
+  by_spot StoreEnd going here = quiet StoreEnd here refl refl (λ shared known.
+      pauses.store_end c s.words follows.block follows.ghost (after g past) past s.machines command calls change seen phase image follows.words shared follows.promised_to (got StoreEnd) known)
+  by_spot LookAsked going here = quiet LookAsked here refl refl (λ shared known.
+      pauses.look_asked c s.words follows.block follows.ghost (after g past) past s.machines command calls change seen phase image follows.words shared follows.promised_to (got LookAsked) known)
+  by_spot LookFree going here = quiet LookFree here refl refl (λ shared known.
+      pauses.look_free c s.words follows.block follows.ghost (after g past) past s.machines command calls change seen phase image follows.words shared follows.promised_to (got LookFree) known)
+  by_spot (Scanning at) going here = scan_word at here
+  by_spot (Stopping stop.Raise) going here = quiet (Stopping stop.Raise) here refl refl (λ shared known.
+      pauses.raise_pause c s.words follows.block follows.ghost (after g past) past s.machines command calls change seen phase image follows.words shared follows.promised_to (got (Stopping stop.Raise)) known)
+  by_spot (Stopping (stop.Check seat)) going here = quiet (Stopping (stop.Check seat)) here refl refl (λ shared known.
+      pauses.check_seat c s.words follows.block follows.ghost (after g past) past s.machines command calls change seen phase image follows.words shared follows.promised_to seat (got (Stopping (stop.Check seat))) known)
   by_spot (Stopping stop.Stopped) going here = absurd (let ready = ready_at (Stopping stop.Stopped) here in cc (ready))
   by_spot (LoadWord index) going here = load_word index here
   by_spot (StoreWord index) going here = store_word index here
-  by_spot Go going here = quiet Go here refl refl (λ shared hands ready.
-      pauses.let_go c s.words follows.block follows.ghost (after g past) past s.machines command calls change seen (got Go) image follows.words shared follows.promised_to hands ready)
+  by_spot Go going here = quiet Go here refl refl (λ shared known.
+      pauses.let_go c s.words follows.block follows.ghost (after g past) past s.machines command calls change seen phase image follows.words shared follows.promised_to (got Go) known)
   by_spot Gone going here = absurd (cc (going))

@@ -3,22 +3,28 @@ use Rattle.std.proofs.Common.{◌≡◌, ℕ, ◌+◌, Bool, true, false, refl, 
 use Rattle.std.specs.Prelude.{nat_eq, nat_lt, if◌then◌else◌}
 use Rattle.std.proofs.lemmas.Bool.{and_parts}
 use Rattle.heap_words.specs.declared.config.Config.{Config}
-use Rattle.heap_words.specs.Words.{Left, End, Ask, Free}
+use Rattle.heap_words.specs.declared.access.Unit.TheVariants.{Worked, NoneLeft}
+use Rattle.heap_words.specs.Words.{Left, End, Ask, Free, IsWord, is_image}
 use Rattle.steps_base.specs.Fits.{touch_fits}
-use Rattle.steps_base.specs.Touch.{touch, loads, stores}
+use Rattle.steps_base.specs.Touch.{touch, loads, stores, placed}
 use Rattle.handshake.specs.declared.stop_spot.StopSpot.{StopSpot}
 use Rattle.handshake.specs.declared.stop_spot.StopSpot.TheVariants as stop
 use Rattle.handshake.specs.Rows.{stop_touch, stop_next, is_stopped}
 use Rattle.handshake.specs.Standing.{Standing, is_free, is_pausing, stop_standing}
 use Rattle.handshake.specs.Obeys.{Obeys}
 use Rattle.handshake.specs.Left.{Counts}
-use Rattle.handshake.proofs.Parts.{placed_elsewhere, image_elsewhere, image_not_left, stop_obeys, go_obeys, obeys_same}
+use Rattle.scan_steps.specs.declared.spot.ScanSpot.{ScanSpot}
+use Rattle.scan_steps.specs.declared.spot.ScanSpot.TheVariants as scan
+use Rattle.scan_steps.specs.Rows as scans
+use Rattle.mark_steps.proofs.Scans.{scan_inside}
+use Rattle.handshake.proofs.Parts.{placed_elsewhere, placed_above, image_elsewhere, image_not_left, stop_obeys, go_obeys, obeys_same}
 use Rattle.heap_world.specs.Change.{image_words}
 use Rattle.control_steps.specs.declared.spot.ControlSpot.{ControlSpot}
-use Rattle.control_steps.specs.declared.spot.ControlSpot.TheVariants.{LookLeft, StoreEnd, LookAsked, LookFree, Stopping, LoadWord, StoreWord, Go, Gone}
-use Rattle.control_steps.specs.Rows.{access_with, next_spot, stopping, begins_pause, wants_pause}
+use Rattle.control_steps.specs.declared.spot.ControlSpot.TheVariants.{LookLeft, StoreEnd, LookAsked, LookFree, Scanning, Stopping, LoadWord, StoreWord, Go, Gone}
+use Rattle.control_steps.specs.Rows.{access_with, next_spot, stopping, after_scan, begins_pause, unasked, wants_pause}
 use Rattle.control_steps.specs.Ready.{is_ready}
 use Rattle.step_core.specs.Standing.{control_standing}
+use Rattle.step_core.proofs.Helpers.{is_off}
 
 -- a choice of two spots at which it stands so
 either : (f : Standing → Bool) (b : Bool) (x y : ControlSpot) → f (control_standing x) ≡ true → f (control_standing y) ≡ true → f (control_standing (if b then x else y)) ≡ true
@@ -30,23 +36,39 @@ stopping_standing stop.Raise = refl
 stopping_standing (stop.Check seat) = refl
 stopping_standing stop.Stopped = refl
 
-going_stop : (at : StopSpot) → (if is_stopped at then false else true) ≡ true → is_stopped at ≡ false
-going_stop stop.Stopped is = cc
-going_stop _ is = refl
+-- where it scans, or has scanned a unit, no pause is wanted yet, and its access is of a word of the image
+scan_free : (at : ScanSpot) → is_free (control_standing (after_scan at)) ≡ true
+scan_free (scan.Ended Worked) = refl
+scan_free (scan.Ended NoneLeft) = refl
+scan_free _ = refl
 
-pub control_obeys : (c : Config) (seat seen value : ℕ) (spot : ControlSpot) → is_ready c spot ≡ true
-    → Obeys c seat (control_standing spot) (access_with c spot value) (λ got. control_standing (next_spot c seen spot got))
-control_obeys c seat seen value LookLeft ready = record { elsewhere = placed_elsewhere c (touch Left loads) tt refl; goes_on = λ got. either is_free (nat_eq got 0) StoreEnd LookAsked refl refl }
-control_obeys c seat seen value StoreEnd ready = record { elsewhere = placed_elsewhere c (touch End (stores 1)) tt refl; goes_on = λ got. refl }
-control_obeys c seat seen value LookAsked ready = record { elsewhere = placed_elsewhere c (touch Ask loads) tt refl; goes_on = λ got. either is_free (begins_pause got) (Stopping stop.Raise) LookFree refl refl }
-control_obeys c seat seen value LookFree ready = record { elsewhere = placed_elsewhere c (touch Free loads) tt refl; goes_on = λ got. either is_free (wants_pause c seen got) (Stopping stop.Raise) LookLeft refl refl }
-control_obeys c seat seen value (Stopping at) ready =
+pub scan_image : (c : Config) (at : ScanSpot) → is_image (scans.touch_at c at).word ≡ true
+scan_image c scan.LoadClaim = refl
+scan_image c (scan.ClaimUnit unit) = refl
+scan_image c (scan.LoadGrey word) = refl
+scan_image c (scan.LoadBlack word grey) = refl
+scan_image c (scan.SetBlack address) = refl
+scan_image c (scan.LoadShape address) = refl
+scan_image c (scan.LoadField address field refs) = refl
+scan_image c (scan.SetGrey address field refs found) = refl
+scan_image c (scan.Ended unit) = refl
+
+pub control_obeys : (c : Config) (seat phase seen value : ℕ) (spot : ControlSpot) → is_ready c spot ≡ true
+    → Obeys c seat (control_standing spot) (access_with c spot value) (λ got. control_standing (next_spot c phase seen spot got))
+control_obeys c seat phase seen value LookLeft ready = record { elsewhere = placed_elsewhere c (touch Left loads) tt refl; goes_on = λ got. either is_free (nat_eq got 0) StoreEnd LookAsked refl refl }
+control_obeys c seat phase seen value StoreEnd ready = record { elsewhere = placed_elsewhere c (touch End (stores 1)) tt refl; goes_on = λ got. refl }
+control_obeys c seat phase seen value LookAsked ready = record { elsewhere = placed_elsewhere c (touch Ask loads) tt refl; goes_on = λ got. either is_free (begins_pause phase got) (Stopping stop.Raise) (unasked phase) refl (either is_free (nat_eq phase 0) LookFree (Scanning scan.LoadClaim) refl refl) }
+control_obeys c seat phase seen value LookFree ready = record { elsewhere = placed_elsewhere c (touch Free loads) tt refl; goes_on = λ got. either is_free (wants_pause c seen got) (Stopping stop.Raise) LookLeft refl refl }
+control_obeys c seat phase seen value (Scanning at) ready =
+    let word : IsWord c (scans.touch_at c at).word = scan_inside c at (and_parts _ _ ready).0 in
+    record { elsewhere = image_elsewhere c (placed c (scans.touch_at c at)) (placed_above c (scans.touch_at c at) word (scan_image c at)); goes_on = λ got. scan_free (scans.next_at c at got) }
+control_obeys c seat phase seen value (Stopping at) ready =
     obeys_same c seat (stop_standing at) _ (λ got. stop_standing (stop_next c at got)) _ (λ got. stopping_standing (stop_next c at got))
-    (stop_obeys c seat at (going_stop at (and_parts (touch_fits c (stop_touch at)) (if is_stopped at then false else true) ready).1))
-control_obeys c seat seen value (LoadWord index) ready = record { elsewhere = image_elsewhere c _ (omega arith); goes_on = λ got. either is_pausing (nat_lt (index + 1) (image_words c)) (LoadWord (index + 1)) (StoreWord 0) refl refl }
-control_obeys c seat seen value (StoreWord index) ready = record { elsewhere = image_elsewhere c _ (omega arith); goes_on = λ got. either is_pausing (nat_lt (index + 1) (image_words c)) (StoreWord (index + 1)) Go refl refl }
-control_obeys c seat seen value Go ready = go_obeys c seat
-control_obeys c seat seen value Gone ready = record { elsewhere = placed_elsewhere c (touch Left loads) tt refl; goes_on = λ got. refl }
+    (stop_obeys c seat at (is_off (is_stopped at) (and_parts (touch_fits c (stop_touch at)) (if is_stopped at then false else true) ready).1))
+control_obeys c seat phase seen value (LoadWord index) ready = record { elsewhere = image_elsewhere c _ (omega arith); goes_on = λ got. either is_pausing (nat_lt (index + 1) (image_words c)) (LoadWord (index + 1)) (StoreWord 0) refl refl }
+control_obeys c seat phase seen value (StoreWord index) ready = record { elsewhere = image_elsewhere c _ (omega arith); goes_on = λ got. either is_pausing (nat_lt (index + 1) (image_words c)) (StoreWord (index + 1)) Go refl refl }
+control_obeys c seat phase seen value Go ready = go_obeys c seat
+control_obeys c seat phase seen value Gone ready = record { elsewhere = placed_elsewhere c (touch Left loads) tt refl; goes_on = λ got. refl }
 
 -- its steps leave the count of the mutators as it is
 stop_counts : (c : Config) (value : ℕ) (at : StopSpot) → Counts c false (access_with c (Stopping at) value) (λ got. false)
@@ -54,9 +76,12 @@ stop_counts c value stop.Raise = inr (record { not_written = inr (λ e. omega (a
 stop_counts c value (stop.Check seat) = inr (record { not_written = inl refl; same = λ got. refl })
 stop_counts c value stop.Stopped = inr (record { not_written = inl refl; same = λ got. refl })
 
-pub control_counts : (c : Config) (value : ℕ) (spot : ControlSpot) → Counts c false (access_with c spot value) (λ got. false)
-control_counts c value StoreEnd = inr (record { not_written = inr (λ e. omega (arith, e)); same = λ got. refl })
-control_counts c value (Stopping at) = stop_counts c value at
-control_counts c value (StoreWord index) = inr (record { not_written = inr (image_not_left c (access_with c (StoreWord index) value) (omega arith)); same = λ got. refl })
-control_counts c value Go = inr (record { not_written = inr (λ e. omega (arith, e)); same = λ got. refl })
-control_counts c value _ = inr (record { not_written = inl refl; same = λ got. refl })
+pub control_counts : (c : Config) (value : ℕ) (spot : ControlSpot) → is_ready c spot ≡ true → Counts c false (access_with c spot value) (λ got. false)
+control_counts c value StoreEnd ready = inr (record { not_written = inr (λ e. omega (arith, e)); same = λ got. refl })
+control_counts c value (Scanning at) ready =
+    let word : IsWord c (scans.touch_at c at).word = scan_inside c at (and_parts _ _ ready).0 in
+    inr (record { not_written = inr (image_not_left c (placed c (scans.touch_at c at)) (placed_above c (scans.touch_at c at) word (scan_image c at))); same = λ got. refl })
+control_counts c value (Stopping at) ready = stop_counts c value at
+control_counts c value (StoreWord index) ready = inr (record { not_written = inr (image_not_left c (access_with c (StoreWord index) value) (omega arith)); same = λ got. refl })
+control_counts c value Go ready = inr (record { not_written = inr (λ e. omega (arith, e)); same = λ got. refl })
+control_counts c value _ ready = inr (record { not_written = inl refl; same = λ got. refl })

@@ -1,11 +1,12 @@
 -- The word of the end: only the control writes it, when it ends.
 use Rattle.std.proofs.Common.{◌≡◌, ◌≢◌, ℕ, ◌+◌, ◌⊎◌, Bool, true, false, List, [], ◌∷◌, ◌++◌, Some, inl, inr, refl, sym, ap, ◌∙◌, arith}
 use Rattle.std.specs.Prelude.{◌==◌, nat_lt, slice_get, if◌then◌else◌}
-use Rattle.std.proofs.lemmas.Bool.{true≢false}
+use Rattle.std.proofs.lemmas.Bool.{true≢false, and_parts}
 use Rattle.heap_words.specs.declared.config.Config.{Config}
 use Rattle.heap_words.specs.declared.access.Access.{Access}
 use Rattle.heap_words.specs.Access.{table_index}
-use Rattle.heap_words.specs.Words.{End, IsWord, word_at, view}
+use Rattle.heap_words.specs.declared.access.Unit.TheVariants.{Worked, NoneLeft}
+use Rattle.heap_words.specs.Words.{End, Phase, IsWord, word_at, view}
 use Rattle.steps_base.specs.Touch.{placed}
 use Rattle.steps_base.specs.Steps.{Stage, Event, act, go}
 use Rattle.shen_graph.specs.Graph.{Graph}
@@ -22,9 +23,13 @@ use Rattle.handshake.specs.Obeys.{is_load}
 use Rattle.handshake.specs.Ending.{KeepsEnd, EventKeepsEnd, EachKeepsEnd, IsEndWord}
 use Rattle.handshake.proofs.Parts.{placed_above}
 use Rattle.handshake.proofs.Ending.{known_run}
+use Rattle.scan_steps.specs.declared.spot.ScanSpot.{ScanSpot}
+use Rattle.scan_steps.specs.declared.spot.ScanSpot.TheVariants as scan
+use Rattle.scan_steps.specs.Rows as scans
+use Rattle.mark_steps.proofs.Scans.{scan_inside}
 use Rattle.mutator.specs.declared.spot.Entered.{Entered}
 use Rattle.mutator.specs.declared.spot.Spot.{Spot}
-use Rattle.mutator.specs.declared.spot.Spot.TheVariants.{Rest, Ended, Entering, LoadPhase, LoadSet, Loading, OnField, OnNumber, Showing, StoreRoot, Making, AskCycle, Waiting, Leave, Gone}
+use Rattle.mutator.specs.declared.spot.Spot.TheVariants.{Rest, Ended, Entering, LoadPhase, LoadSet, Loading, OnField, Recording, OnNumber, Showing, StoreRoot, Making, AskCycle, Waiting, Leave, Gone}
 use Rattle.mutator.specs.declared.waits.WaitSpot.{WaitSpot}
 use Rattle.mutator.specs.declared.waits.WaitSpot.TheVariants as wait
 use Rattle.mutator.specs.Orders.{takes_at}
@@ -32,13 +37,16 @@ use Rattle.mutator.specs.Rows.{Mutating, touch_at, first_touch}
 use Rattle.mutator.specs.Fit.{numbers_fit}
 use Rattle.control_steps.specs.declared.spot.ControlSpot.{ControlSpot}
 use Rattle.control_steps.specs.declared.spot.ControlSpot.TheVariants as control
-use Rattle.control_steps.specs.Rows.{is_gone, access_with, word_stored, next_spot, stopping, begins_pause, wants_pause}
+use Rattle.control_steps.specs.Rows.{is_gone, access_with, word_stored, next_spot, stopping, after_scan, begins_pause, unasked, wants_pause}
+use Rattle.control_steps.specs.Ready.{is_ready}
 use Rattle.step_core.specs.Actor.{Machine, mutating, helping, controlling, Actor}
 use Rattle.step_core.specs.Machines.{takes_of, plan_of, machine_after, IsIdle, kind}
 use Rattle.step_core.specs.Begins.{Begins}
 use Rattle.step_core.specs.History.{told}
 use Rattle.step_core.specs.Ending.{has_ended_of, has_ended}
 use Rattle.step_core.proofs.MutatorObeys.{StaysIn, stays_in, waits_in, given_order, given_ended, ready_fits, ready_word}
+use Rattle.step_core.proofs.ControlObeys.{scan_image}
+use Rattle.step_core.proofs.HelperObeys.{help_not_end}
 use Rattle.step_core.proofs.MachinesObey.{CanGo}
 use Rattle.step_core.proofs.Induction.{Goes, can_go, goes_event}
 use Rattle.step_core.proofs.Beginning.{goes_begins}
@@ -84,6 +92,7 @@ module _ (c : Config) (m : Mutating) (given : Order) where
   not_end LoadSet takes going word = of_image LoadSet (stays_in c m given LoadSet going refl) word
   not_end (Loading at) takes going word = of_image (Loading at) (stays_in c m given (Loading at) going refl) word
   not_end (OnField object at) takes going word = of_image (OnField object at) (stays_in c m given (OnField object at) going refl) word
+  not_end (Recording at address next) takes going word = of_image (Recording at address next) (stays_in c m given (Recording at address next) going refl) word
   not_end (OnNumber object refs at) takes going word = of_image (OnNumber object refs at) (stays_in c m given (OnNumber object refs at) going refl) word
   not_end (Showing value at) takes going word = of_image (Showing value at) (stays_in c m given (Showing value at) going refl) word
   not_end (StoreRoot value) takes going word = of_image (StoreRoot value) (stays_in c m given (StoreRoot value) going refl) word
@@ -100,30 +109,38 @@ stopping_goes stop.Raise = refl
 stopping_goes (stop.Check seat) = refl
 stopping_goes stop.Stopped = refl
 
-module _ (c : Config) (seen value : ℕ) where
+scan_goes : (at : ScanSpot) → is_gone (after_scan at) ≡ false
+scan_goes (scan.Ended Worked) = refl
+scan_goes (scan.Ended NoneLeft) = refl
+scan_goes _ = refl
+
+module _ (c : Config) (phase seen value : ℕ) where
   stop_not : (at : StopSpot) → (is_load (access_with c (control.Stopping at) value) ≡ true) ⊎ (table_index (access_with c (control.Stopping at) value) ≢ word_at c End)
   stop_not stop.Raise = inr (λ e. omega (arith, e))
   stop_not _ = inl refl
 
   -- a step of the control writes the word where it ends, and only there
-  control_keeps_end : (spot : ControlSpot) → KeepsEnd c (is_gone spot) (access_with c spot value) (λ got. is_gone (next_spot c seen spot got))
-  control_keeps_end control.LookLeft = inr (record { not_written = inl refl; same = λ got. neither (got == 0) control.StoreEnd control.LookAsked refl refl })
-  control_keeps_end control.StoreEnd = inl (record { access_is = refl; has_ended = λ got. refl })
-  control_keeps_end control.LookAsked = inr (record { not_written = inl refl; same = λ got. neither (begins_pause got) (control.Stopping stop.Raise) control.LookFree refl refl })
-  control_keeps_end control.LookFree = inr (record { not_written = inl refl; same = λ got. neither (wants_pause c seen got) (control.Stopping stop.Raise) control.LookLeft refl refl })
-  control_keeps_end (control.Stopping at) = inr (record { not_written = stop_not at; same = λ got. stopping_goes (stop_next c at got) })
-  control_keeps_end (control.LoadWord index) = inr (record { not_written = inl refl; same = λ got. neither (nat_lt (index + 1) (image_words c)) (control.LoadWord (index + 1)) (control.StoreWord 0) refl refl })
-  control_keeps_end (control.StoreWord index) =
+  control_keeps_end : (spot : ControlSpot) → is_ready c spot ≡ true → KeepsEnd c (is_gone spot) (access_with c spot value) (λ got. is_gone (next_spot c phase seen spot got))
+  control_keeps_end control.LookLeft ready = inr (record { not_written = inl refl; same = λ got. neither (got == 0) control.StoreEnd control.LookAsked refl refl })
+  control_keeps_end control.StoreEnd ready = inl (record { access_is = refl; has_ended = λ got. refl })
+  control_keeps_end control.LookAsked ready = inr (record { not_written = inl refl; same = λ got. neither (begins_pause phase got) (control.Stopping stop.Raise) (unasked phase) refl (neither (phase == 0) control.LookFree (control.Scanning scan.LoadClaim) refl refl) })
+  control_keeps_end control.LookFree ready = inr (record { not_written = inl refl; same = λ got. neither (wants_pause c seen got) (control.Stopping stop.Raise) control.LookLeft refl refl })
+  control_keeps_end (control.Scanning at) ready =
+      let above = placed_above c (scans.touch_at c at) (scan_inside c at (and_parts _ _ ready).0) (scan_image c at) in
+      inr (record { not_written = inr (λ e. omega (arith, e, above)); same = λ got. scan_goes (scans.next_at c at got) })
+  control_keeps_end (control.Stopping at) ready = inr (record { not_written = stop_not at; same = λ got. stopping_goes (stop_next c at got) })
+  control_keeps_end (control.LoadWord index) ready = inr (record { not_written = inl refl; same = λ got. neither (nat_lt (index + 1) (image_words c)) (control.LoadWord (index + 1)) (control.StoreWord 0) refl refl })
+  control_keeps_end (control.StoreWord index) ready =
       inr (record { not_written = inr (λ e. omega (arith, e)); same = λ got. neither (nat_lt (index + 1) (image_words c)) (control.StoreWord (index + 1)) control.Go refl refl })
-  control_keeps_end control.Go = inr (record { not_written = inr (λ e. omega (arith, e)); same = λ got. refl })
-  control_keeps_end control.Gone = inr (record { not_written = inl refl; same = λ got. refl })
+  control_keeps_end control.Go ready = inr (record { not_written = inr (λ e. omega (arith, e)); same = λ got. refl })
+  control_keeps_end control.Gone ready = inr (record { not_written = inl refl; same = λ got. refl })
 
 -- so does a step of any machine
 machine_keeps_end : (change : Change) (c : Config) (given : Order) (machine : Machine) → takes_of machine given ≡ true → CanGo c machine
     → KeepsEnd c (has_ended_of machine) (plan_of c given machine) (λ got. has_ended_of (machine_after change c given got machine))
 machine_keeps_end change c given (mutating m) takes can = inr (record { not_written = not_end c m given m.spot takes (ready_fits c m can) (ready_word c m can); same = λ got. refl })
-machine_keeps_end change c given (helping h) takes can = absurd (cc (takes))
-machine_keeps_end change c given (controlling k) takes can = control_keeps_end c k.seen (word_stored k.spot k.image) k.spot
+machine_keeps_end change c given (helping h) takes can = inr (record { not_written = help_not_end c h.seat h.spot (and_parts _ _ can).1; same = λ got. refl })
+machine_keeps_end change c given (controlling k) takes can = control_keeps_end c k.phase k.seen (word_stored k.spot k.image) k.spot can
 
 event_keeps_end : (change : Change) (c : Config) (s : Stage Actor) (e : Event Order) → ((a : Actor) → slice_get s.machines e.number ≡ Some a → CanGo c a.machine)
     → EventKeepsEnd c (kind change c) has_ended s e
@@ -140,10 +157,10 @@ each_keeps_end change law c g s past (e ∷ es) goes = (
 )
 
 -- who is idle has not ended
-idle_goes : (g : Graph) (number : ℕ) (machine : Machine) → IsIdle g number machine → has_ended_of machine ≡ false
-idle_goes g number (mutating m) idle = refl
-idle_goes g number (helping h) idle = refl
-idle_goes g number (controlling k) idle = ap is_gone idle.0
+idle_goes : (phase : ℕ) (g : Graph) (number : ℕ) (machine : Machine) → IsIdle phase g number machine → has_ended_of machine ≡ false
+idle_goes phase g number (mutating m) idle = refl
+idle_goes phase g number (helping h) idle = refl
+idle_goes phase g number (controlling k) idle = ap is_gone idle.0
 
 -- The word of the end is 1 where the control has ended and 0 where it has not, in each stage that events lead to from one in which it is 0.
 pub run_ends : (change : Change) → IsPause change → (c : Config) (s : Stage Actor) (g : Graph) → Begins c s g → view c s.words End ≡ 0 → (events : List (Event Order))
@@ -152,7 +169,7 @@ run_ends change law c s g begins zero events =
     known_run c (kind change c) has_ended s events
     (record {
       words = begins.words;
-      one = λ k a there has. absurd (true≢false (sym has ∙ idle_goes g k a.machine (begins.machines k a there).idle));
+      one = λ k a there has. absurd (true≢false (sym has ∙ idle_goes (view c s.words Phase) g k a.machine (begins.machines k a there).idle));
       none = λ no. zero;
     })
     (each_keeps_end change law c g s [] events (goes_begins c s g begins))

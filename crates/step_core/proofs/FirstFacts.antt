@@ -15,7 +15,7 @@ use Rattle.std.specs.Prelude.{List}
 use Rattle.steps_base.specs.Steps.{Event}
 use Rattle.shen_graph.specs.declared.order.Order.{Order}
 use Rattle.regions.specs.Place.{base_of}
-use Rattle.heap_words.specs.Words.{Word, same_word, Pause, State, Top, Root, Heap, Phase, Cset, Free, Evac, Current, Wait, Answer}
+use Rattle.heap_words.specs.Words.{Word, same_word, Pause, State, Top, Tams, Root, Heap, Phase, Cset, Free, Evac, Current, Count, Buffer, Wait, Answer, Grey, Black, view}
 use Rattle.shen_graph.specs.declared.name.Name.{Name}
 use Rattle.shen_graph.specs.declared.command.Command.TheVariants.{Gc}
 use Rattle.shen_graph.specs.Graph.{Object, hub, same_name, blank}
@@ -29,7 +29,8 @@ use Rattle.step_core.specs.Begins.{IsNew, IsCalmOutside, Begins, Run, first_grap
 use Rattle.step_core.proofs.Roots.{no_more_opening}
 use Rattle.shen_graph.proofs.PlainLemmas.{same_name-true}
 use Rattle.heap_world.proofs.NewObject.{all_alike}
-use Rattle.heap_world.proofs.Keeping.{none_collects}
+use Rattle.heap_world.proofs.Keeping.{none_copies}
+use Rattle.heap_world.proofs.Unmarked.{none_marked}
 use Rattle.step_core.proofs.OpeningStands.{rooted_memory, first_memory, view-opening, length-opening}
 
 -- the hub alone
@@ -188,6 +189,10 @@ first_free_word c = record {
   nobodys = λ r within bit. refl;
 }
 
+-- the phase is 0
+first_phase : (c : Config) → first_memory c Phase ≡ 0
+first_phase c = rooted_else c Phase (λ k. refl) c.mutators
+
 -- nothing is promised
 none_promised : (c : Config) (a seat words : ℕ) → first_block c a ≡ Some (promised seat words) → ⊥
 none_promised c a seat words is = let no = (block_only c a (promised seat words) is).1 in cc
@@ -215,9 +220,11 @@ first_shared c = record {
     };
     rooms = λ a seat words is. absurd (let no = (block_only c a (hand seat words) is).1 in cc);
   };
-  calm = record { phase_is = rooted_else c Phase (λ k. refl) c.mutators; cset_is = rooted_else c Cset (λ k. refl) c.mutators; evac_is = rooted_else c Evac (λ k. refl) c.mutators };
-  uncollected = none_collects;
-  unfilled = λ a words is. (let no = (block_only c a (filler words) is).1 in cc);
+  calm = record { phase_is = (let none = first_phase c in omega (arith, none)); cset_is = rooted_else c Cset (λ k. refl) c.mutators; evac_is = rooted_else c Evac (λ k. refl) c.mutators };
+  uncopied = none_copies;
+  unwritten = record { blanks = λ a seat words is. absurd (none_promised c a seat words is); headers = λ a words is. absurd (let no = (block_only c a (filler words) is).1 in cc) };
+  marked = none_marked c (first_memory c Phase) (λ n. first_memory c (Grey n)) (λ n. first_memory c (Black n)) (λ t. first_memory c (Count t)) (λ t k. first_memory c (Buffer t k)) (λ r. first_memory c (Top r))
+      (λ r. first_memory c (Tams r)) (λ a. first_memory c (Heap a)) (first_block c) (λ seat. None) (λ seat. None) (first_phase c);
 }
 
 -- the words of the roots stand for the graph's
@@ -246,7 +253,9 @@ first_stands c = record {
   roots = λ t i below small. first_roots c t i below;
   none = λ a seat words is. (let no = (block_only c a (hand seat words) is).1 in cc);
   asked = λ t below. (rooted_else c (Wait t) (λ k. refl) c.mutators, rooted_else c (Answer t) (λ k. refl) c.mutators, λ a words is. none_promised c a t words is);
+  heard = λ t refs nums below is. absurd (cc (is));
   promised_to = λ a seat words is. absurd (none_promised c a seat words is);
+  unmarking = record { records_none = λ t below. refl; scans_none = λ seat below. refl };
   no_more = no_more_opening c.mutators;
 }
 
@@ -259,14 +268,14 @@ first_outside c = record {
 }
 
 -- each machine of the opening is idle
-first_new : (c : Config) (k : ℕ) → k < seat_count c.mutators c.helpers → IsNew c (first_graph c) k (opening_actor c k)
+first_new : (c : Config) (k : ℕ) → k < seat_count c.mutators c.helpers → IsNew c 0 (first_graph c) k (opening_actor c k)
 first_new c k within = by_test (nat_lt k c.mutators) (nat_lt k (c.mutators + c.helpers)) refl refl
   where
     by_test : (b d : Bool) → nat_lt k c.mutators ≡ b → nat_lt k (c.mutators + c.helpers) ≡ d
-        → IsNew c (first_graph c) k (record { machine = if b then mutating (fresh_mutator k) else (if d then fresh_helper else fresh_control (first_free c.regions)); command = Gc; calls = [] })
+        → IsNew c 0 (first_graph c) k (record { machine = if b then mutating (fresh_mutator k) else (if d then fresh_helper k else fresh_control (first_free c.regions)); command = Gc; calls = [] })
     by_test true d is more = record { number_is = (refl, ltb-true _ _ is); idle = (refl, refl); calls = refl; valid = refl }
-    by_test false true is more = record { number_is = (ltb-false _ _ is, ltb-true _ _ more); idle = tt; calls = refl; valid = refl }
-    by_test false false is more = record { number_is = (let past = ltb-false _ _ more in omega (arith, past, within)); idle = (refl, refl); calls = refl; valid = refl }
+    by_test false true is more = record { number_is = (refl, ltb-false _ _ is, ltb-true _ _ more); idle = refl; calls = refl; valid = refl }
+    by_test false false is more = record { number_is = (let past = ltb-false _ _ more in omega (arith, past, within)); idle = (refl, refl, refl); calls = refl; valid = refl }
 
 -- the opening begins its graph
 pub opening_begins : (c : Config) → Begins c (opening c) (first_graph c)
@@ -283,7 +292,8 @@ opening_begins c = record {
       let is : opening_actor c k ≡ a =
       sym (get_or-map-range_with_len (opening_actor c) 0 (seat_count c.mutators c.helpers) k k a below (omega arith))
       ∙ get_or_from_slice_get (opening c).machines k a a there in
-      subst (λ b. IsNew c (first_graph c) k b) is (first_new c k below);
+      subst (λ b. IsNew c (view c (opening c).words Phase) (first_graph c) k b) is
+      (subst (λ phase. IsNew c phase (first_graph c) k (opening_actor c k)) (sym (ap (λ m. m Phase) (view-opening c) ∙ first_phase c)) (first_new c k below));
 }
 
 -- a run from the opening

@@ -19,7 +19,7 @@ use Rattle.handshake.specs.declared.enter_spot.EnterSpot.TheVariants.{Inside}
 use Rattle.handshake.specs.Rows.{enter_next}
 use Rattle.handshake.specs.Standing.{inside}
 use Rattle.mutator.specs.declared.spot.Spot.{Spot}
-use Rattle.mutator.specs.declared.spot.Spot.TheVariants.{Rest, Ended, Entering, LoadPhase, LoadSet, Loading, OnField, OnNumber, Showing, StoreRoot, Making, AskCycle, Waiting, Leave, Gone}
+use Rattle.mutator.specs.declared.spot.Spot.TheVariants.{Rest, Ended, Entering, LoadPhase, LoadSet, Loading, OnField, Recording, OnNumber, Showing, StoreRoot, Making, AskCycle, Waiting, Leave, Gone}
 use Rattle.mutator.specs.declared.spot.Entered.{Entered}
 use Rattle.mutator.specs.declared.spot.Entered.TheVariants.{Call, Waited}
 use Rattle.mutator.specs.declared.waits.WaitSpot.{WaitSpot}
@@ -110,13 +110,14 @@ module _ (c : Config) (m : Mutating) (order : Order) (got : ℕ) (command : Comm
   grows_at LoadSet takes = call_grows LoadSet refl takes (stays_in_call LoadSet refl)
   grows_at (Loading at) takes = call_grows (Loading at) refl takes (stays_in_call (Loading at) refl)
   grows_at (OnField object at) takes = call_grows (OnField object at) refl takes (stays_in_call (OnField object at) refl)
+  grows_at (Recording at address next) takes = call_grows (Recording at address next) refl takes (stays_in_call (Recording at address next) refl)
   grows_at (OnNumber object refs at) takes = call_grows (OnNumber object refs at) refl takes (stays_in_call (OnNumber object refs at) refl)
   grows_at (Showing value at) takes = call_grows (Showing value at) refl takes (stays_in_call (Showing value at) refl)
   grows_at (StoreRoot value) takes = call_grows (StoreRoot value) refl takes (stays_in_call (StoreRoot value) refl)
   grows_at (Making at) takes = call_grows (Making at) refl takes (stays_in_call (Making at) refl)
   grows_at AskCycle takes = call_grows AskCycle refl takes (stays_in_call AskCycle refl)
 
--- an order that the control takes is none
+-- an order that a helper or the control takes is none
 control_grows : (order : Order) (b : Bool) (command : Command) (calls : List Entry) → (is_nothing order && b) ≡ true → Extends (commands_of calls ++ command ∷ []) (commands_of (calls ++ []) ++ command_by order command ∷ [])
 control_grows Nothing b command calls takes = extends_same _ _ (ap (λ es. commands_of es ++ command ∷ []) (sym (append-nil calls)))
 control_grows (Begin k) b command calls takes = absurd (cc (takes))
@@ -126,7 +127,7 @@ control_grows End b command calls takes = absurd (cc (takes))
 machine_grows : (change : Change) (c : Config) (order : Order) (got : ℕ) (command : Command) (calls : List Entry) (machine : Machine) → takes_of machine order ≡ true
     → Extends (begun_by (record { machine = machine; command = command; calls = calls })) (begun_by (took_of change c (record { machine = machine; command = command; calls = calls }) order got machine))
 machine_grows change c order got command calls (mutating m) takes = grows_at c m order got command calls m.spot takes
-machine_grows change c order got command calls (helping h) takes = absurd (cc (takes))
+machine_grows change c order got command calls (helping h) takes = control_grows order _ command calls takes
 machine_grows change c order got command calls (controlling k) takes = control_grows order _ command calls takes
 
 -- The scripts of a stage, by the numbers of its mutators.

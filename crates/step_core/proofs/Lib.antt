@@ -23,6 +23,11 @@ pub mod Facts
 pub mod Ordered
 pub mod Within
 pub mod Images
+pub mod Alike
+pub mod Helpers
+pub mod Answers
+pub mod Quiet
+pub mod HelperSteps
 pub mod Outside
 pub mod Asked
 pub mod Refusing
@@ -38,9 +43,12 @@ pub mod Paused
 pub mod Adapter
 pub mod MutatorObeys
 pub mod ControlObeys
+pub mod HelperObeys
 pub mod MachinesObey
 pub mod Held
+pub mod Aims
 pub mod MutatorEvents
+pub mod HelperEvents
 pub mod ControlEvents
 pub mod Induction
 pub mod HandshakeBegins

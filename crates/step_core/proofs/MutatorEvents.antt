@@ -2,7 +2,6 @@
 use Rattle.std.proofs.Common.{◌≡◌, ◌≢◌, ℕ, ◌+◌, ◌<◌, ⊎_elim, true, false, List, [], ◌++◌, Option, Some, None, refl, sym, ap, ◌∙◌, subst, arith}
 use Rattle.std.specs.Prelude.{◌==◌, slice_get, slice_set, slice_index, if◌then◌else◌}
 use Rattle.std.proofs.lemmas.List.{length-set}
-use Rattle.std.proofs.lemmas.Option.{same_Some}
 use Rattle.std.proofs.lemmas.Bool.{lt-ltb, false≢true}
 use Rattle.heap_words.specs.declared.config.Config.{Config}
 use Rattle.shen_graph.specs.declared.command.Reply.TheVariants.{Full}
@@ -16,8 +15,7 @@ use Rattle.shen_graph.specs.declared.order.Order.TheVariants.{Nothing}
 use Rattle.shen_graph.specs.Graph.{Graph}
 use Rattle.shen_graph.specs.History.{Entry, after, of_thread}
 use Rattle.handshake.specs.declared.enter_spot.EnterSpot.TheVariants.{Raise}
-use Rattle.handshake.specs.Standing.{is_within, is_pausing}
-use Rattle.handshake.proofs.Still.{pause_empty}
+use Rattle.handshake.specs.Standing.{is_within}
 use Rattle.mutator.specs.declared.spot.Kept.{Kept}
 use Rattle.mutator.specs.declared.spot.Spot.{Spot}
 use Rattle.mutator.specs.declared.spot.Spot.TheVariants.{Entering, Waiting}
@@ -29,15 +27,14 @@ use Rattle.mutator.specs.Told.{told_of as settled_by_step}
 use Rattle.mutator.proofs.Orders.{in_call}
 use Rattle.heap_world.specs.World.{World, Shared}
 use Rattle.heap_world.specs.Change.{Change}
-use Rattle.control_steps.specs.declared.spot.ControlSpot.{ControlSpot}
-use Rattle.control_steps.specs.declared.spot.ControlSpot.TheVariants.{LoadWord, StoreWord}
 use Rattle.control_steps.specs.Rows.{Controlling}
 use Rattle.step_core.specs.Actor.{mutating, controlling, Actor, entries_of, command_by}
-use Rattle.step_core.specs.Machines.{took_of, kind, HasNumber}
+use Rattle.step_core.specs.Machines.{took_of, kind}
 use Rattle.step_core.specs.Settled.{mixed, settled, settled_by, control_number}
 use Rattle.step_core.specs.Sound.{world_of}
-use Rattle.step_core.specs.Standing.{standing_at, control_standing, standing_of}
+use Rattle.step_core.specs.Standing.{standing_at}
 use Rattle.step_core.proofs.Adapter.{owes_stepped}
+use Rattle.step_core.proofs.Aims.{aims_stay}
 use Rattle.step_core.proofs.Facts.{IsThread, IsAim, Follows, Owes}
 use Rattle.step_core.proofs.Images.{words_after, words_loaded, found-placed, settled_touched, settled_found, image_kept}
 use Rattle.step_core.proofs.Outside.{outside_touch}
@@ -45,7 +42,6 @@ use Rattle.step_core.proofs.Owing.{follows_owes}
 use Rattle.step_core.proofs.Places.{each_step}
 use Rattle.step_core.proofs.Polling.{polls_owes}
 use Rattle.step_core.proofs.Ordered.{order_word}
-use Rattle.step_core.proofs.Roles.{number_of}
 use Rattle.step_core.proofs.Spots.{mutator_at}
 use Rattle.step_core.proofs.Held.{IsKept, held_image, outside_held, other_holds}
 
@@ -91,21 +87,9 @@ module _ (change : Change) (c : Config) (g : Graph) (s : Stage Actor) (past : Li
       (outside_touch c m.seat m.made m.kept order m.spot out takes)
 
   -- so what the control knows of them stays
-  aims_stay : (k : ℕ) (b : Actor) → k ≢ number → slice_get s.machines k ≡ Some b → (control : Controlling) → b.machine ≡ controlling control
+  aims_then : (k : ℕ) (b : Actor) → k ≢ number → slice_get s.machines k ≡ Some b → (control : Controlling) → b.machine ≡ controlling control
       → IsAim c s.words control.spot control.image → IsAim c words_then control.spot control.image
-  aims_stay k b differs there control is aim = by_spot control.spot pausing_out aim
-    where
-      pausing_out : is_pausing (standing_of (controlling control)) ≡ true → is_within (standing_at m.spot) ≡ false
-      pausing_out pausing =
-          let number_is : k ≡ control_number c = subst (λ machine. HasNumber c k machine) is (number_of c s.words u (of_thread past (k + 1)) k b b.machine (follows.machines k b there)) in
-          let same : b ≡ shaken.control = same_Some b shaken.control (sym there ∙ ap (slice_get s.machines) number_is ∙ shaken.there) in
-          pause_empty c (λ a. standing_of a.machine) s shaken (ap (λ a. is_pausing (standing_of a.machine)) (sym same) ∙ ap (λ machine. is_pausing (standing_of machine)) is ∙ pausing)
-          number before (let less = below in omega (arith, less)) here
-
-      by_spot : (spot : ControlSpot) → (is_pausing (control_standing spot) ≡ true → is_within (standing_at m.spot) ≡ false) → IsAim c s.words spot control.image → IsAim c words_then spot control.image
-      by_spot (LoadWord index) out known = (known.0, λ i less. known.1 i less ∙ sym (image_words_stay (out refl) i))
-      by_spot (StoreWord index) out known = (known.0, λ i less. known.1 i less ∙ sym (image_words_stay (out refl) i))
-      by_spot _ out known = tt
+  aims_then k b differs there = aims_stay c g s past follows shaken number before here (let less = below in omega (arith, less)) words_then image_words_stay k b there
 
   abbrev new_then : ℕ → Actor
   new_then got = took_of change c before order got (mutating m)
@@ -132,7 +116,7 @@ module _ (change : Change) (c : Config) (g : Graph) (s : Stage Actor) (past : Li
       let step = each_step c u m command order thread.fixed (told_now no_image) follows.shared thread.mine takes in
       let owes : Owes c s.words words_then u past number s.machines (touched u.memory (touch_of c m order)) entries (new_then (u.memory (touch_of c m order).word)) =
       owes_stepped change c s.words (held_image c s) follows.block follows.ghost (after g past) past number s.machines order m command calls follows.words word (λ image held. (outside_now image held, no_image image held))
-      follows.promised_to follows.shared thread step takes aims_stay in
+      follows.promised_to follows.shared thread step takes aims_then in
       let found : slice_index s.words at ≡ u.memory (touch_of c m order).word = settled_found c s.words (touch_of c m order) (held_image c s) word no_image in
       let memory_then : settled c (record { words = words_then; machines = slice_set s.machines number (new_then (slice_index s.words at)) }) ≡ touched u.memory (touch_of c m order) =
       ap (settled_by c words_then) (other_holds c s number (new_then (slice_index s.words at)) not_control) ∙ settled_touched c s.words (touch_of c m order) (held_image c s) word follows.words no_image in

@@ -1,6 +1,6 @@
 -- A mutator obeys the handshake, and counts itself off where it ends.
 use Rattle.std.proofs.Common.{◌≡◌, ℕ, Bool, true, false, refl, sym, ◌∙◌, arith, inl, inr}
-use Rattle.std.specs.Prelude.{nat_eq, nat_lt, length, if◌then◌else◌}
+use Rattle.std.specs.Prelude.{nat_eq, if◌then◌else◌}
 use Rattle.heap_words.specs.declared.config.Config.{Config}
 use Rattle.heap_words.specs.Words.{IsWord, is_word, is_image}
 use Rattle.heap_words.proofs.Stores.{is_word_true}
@@ -9,15 +9,12 @@ use Rattle.steps_base.specs.Fits.{touch_fits, form_fits}
 use Rattle.steps_base.specs.Touch.{placed}
 use Rattle.shen_graph.specs.declared.order.Order.{Order}
 use Rattle.shen_graph.specs.declared.order.Order.TheVariants.{Nothing, Begin, End}
-use Rattle.shen_graph.specs.declared.command.Command.{Command}
-use Rattle.shen_graph.specs.declared.command.Command.TheVariants.{New, Get, Set, Cas, Xchg, Rd, Wr, Copy, Drop, Same, Gc}
 use Rattle.shen_graph.specs.declared.command.Reply.{Reply}
-use Rattle.shen_graph.specs.declared.command.Reply.TheVariants.{Full}
 use Rattle.heap_words.specs.Words.{Left}
 use Rattle.steps_base.specs.Touch.{touch, subtracts}
-use Rattle.alloc_buffers.specs.declared.spot.TakeSpot.{TakeSpot}
 use Rattle.alloc_buffers.specs.declared.spot.TakeSpot.TheVariants as take_spot
-use Rattle.alloc_buffers.specs.declared.spot.Taken.TheVariants.{At, NoRoom}
+use Rattle.satb_barrier.specs.declared.spot.RememberSpot.{RememberSpot}
+use Rattle.satb_barrier.specs.declared.spot.RememberSpot.TheVariants.{LoadCount, LoadEntry, MarkEntry, ClearCount, StoreEntry, StoreCount, Recorded}
 use Rattle.handshake.specs.declared.enter_spot.EnterSpot.{EnterSpot}
 use Rattle.handshake.specs.declared.enter_spot.EnterSpot.TheVariants.{Raise, Look, Lower, Await, Inside}
 use Rattle.handshake.specs.Rows.{enter_next, is_entered}
@@ -29,11 +26,12 @@ use Rattle.mutator.specs.declared.spot.Kept.{Kept}
 use Rattle.mutator.specs.declared.spot.Entered.{Entered}
 use Rattle.mutator.specs.declared.spot.Entered.TheVariants.{Call, Waited}
 use Rattle.mutator.specs.declared.spot.Spot.{Spot}
-use Rattle.mutator.specs.declared.spot.Spot.TheVariants.{Rest, Ended, Entering, LoadPhase, LoadSet, Loading, OnField, OnNumber, Showing, StoreRoot, Making, AskCycle, Waiting, Leave, Gone}
+use Rattle.mutator.specs.declared.spot.Spot.TheVariants.{Rest, Ended, Entering, LoadPhase, LoadSet, Loading, OnField, Recording, OnNumber, Showing, StoreRoot, Making, AskCycle, Waiting, Leave, Gone}
 use Rattle.mutator.specs.declared.loads.LoadSpot.{LoadSpot}
 use Rattle.mutator.specs.declared.loads.LoadSpot.TheVariants as load
 use Rattle.mutator.specs.declared.fields.FieldSpot.{FieldSpot}
 use Rattle.mutator.specs.declared.fields.FieldSpot.TheVariants as fields
+use Rattle.mutator.specs.declared.overwrites.Overwritten.{Overwritten}
 use Rattle.mutator.specs.declared.numbers.NumberSpot.{NumberSpot}
 use Rattle.mutator.specs.declared.numbers.NumberSpot.TheVariants as number
 use Rattle.mutator.specs.declared.shows.ShowSpot.{ShowSpot}
@@ -45,9 +43,9 @@ use Rattle.mutator.specs.declared.waits.WaitSpot.TheVariants as wait
 use Rattle.mutator.specs.Orders.{takes_at}
 use Rattle.mutator.specs.Fit.{is_outside, numbers_fit, IsReady}
 use Rattle.step_core.specs.Standing.{wait_standing, standing_at}
-use Rattle.mutator.specs.Commands.{roots_of, lacks_object, has_part}
+use Rattle.step_core.proofs.Within.{goes_on_in}
 use Rattle.mutator.specs.WaitRows.{after_enter}
-use Rattle.mutator.specs.Rows.{Mutating, first_touch, begun, touch_at, touch_of, next_of, first_spot, after_roots, with_part, on_number, after_take, load_next, field_next, number_next, show_next, make_next, take_next}
+use Rattle.mutator.specs.Rows.{Mutating, first_touch, begun, touch_at, touch_of, next_of}
 
 -- whether a mutator has not ended
 abbrev pub has_not_ended : Spot → Bool
@@ -57,10 +55,6 @@ has_not_ended _ = true
 -- whether a spot is in the heap
 abbrev in_heap : Spot → Bool
 in_heap spot = is_within (standing_at spot)
-
-either : (b : Bool) (x y : Spot) → in_heap x ≡ true → in_heap y ≡ true → in_heap (if b then x else y) ≡ true
-either true x y is_x is_y = is_x
-either false x y is_x is_y = is_y
 
 -- who is in the heap has not ended
 in_heap_left : (spot : Spot) → in_heap spot ≡ true → has_not_ended spot ≡ true
@@ -77,60 +71,6 @@ enter_same Call Inside = refl
 enter_same Waited Inside = refl
 enter_same next _ = refl
 
-first_in : (command : Command) → in_heap (first_spot command) ≡ true
-first_in (New dst refs nums) = refl
-first_in (Drop dst) = refl
-first_in Gc = refl
-first_in _ = refl
-
-roots_in : (command : Command) (first second third : ℕ) → in_heap (after_roots command first second third) ≡ true
-roots_in (Copy dst src) first second third = refl
-roots_in (Same a b) first second third = refl
-roots_in _ first second third = refl
-
-number_in : (command : Command) (object shape : ℕ) → in_heap (on_number command object shape) ≡ true
-number_in (Rd obj index) object shape = refl
-number_in (Wr obj index value) object shape = refl
-number_in _ object shape = refl
-
-part_in : (command : Command) (object second third shape : ℕ) → in_heap (with_part command object second third shape) ≡ true
-part_in (Get dst src field) object second third shape = refl
-part_in (Set obj field val) object second third shape = refl
-part_in (Cas obj field expect val) object second third shape = refl
-part_in (Xchg dst obj field val) object second third shape = refl
-part_in command object second third shape = number_in command object shape
-
-load_in : (command : Command) (at : LoadSpot) (got : ℕ) → in_heap (load_next command at got) ≡ true
-load_in command load.First got = either (lacks_object command got) (Leave _) _ refl (either (nat_lt 1 (length (roots_of command))) (Loading (load.Second got)) _ refl (roots_in command got 0 0))
-load_in command (load.Second first) got = either (nat_lt 2 (length (roots_of command))) (Loading (load.Third first got)) _ refl (roots_in command first got 0)
-load_in command (load.Third first second) got = roots_in command first second got
-load_in command (load.Shape object second third) got = either (has_part command got) _ (Leave _) (part_in command object second third got) refl
-
-field_in : (object : ℕ) (at : FieldSpot) (got : ℕ) → in_heap (field_next object at got) ≡ true
-field_in object fields.Load got = refl
-field_in object (fields.LoadExpected expect value) got = either (nat_eq got expect) (OnField object (fields.Exchange got expect value)) (Leave _) refl refl
-field_in object (fields.Store value) got = refl
-field_in object (fields.Swap value) got = refl
-field_in object (fields.Exchange found expect value) got = either (nat_eq got found) (Leave _) (OnField object (fields.LoadExpected expect value)) refl refl
-
-take_in : (take : TakeSpot) → in_heap (after_take take) ≡ true
-take_in (take_spot.Ended (At address)) = refl
-take_in (take_spot.Ended NoRoom) = refl
-take_in _ = refl
-
-show_in : (value : ℕ) (at : ShowSpot) (got : ℕ) → in_heap (show_next value at got) ≡ true
-show_in value show.LoadName got = refl
-show_in value (show.StoreRoot reply) got = refl
-
-number_spot_in : (at : NumberSpot) (got : ℕ) → in_heap (number_next at got) ≡ true
-number_spot_in number.Load got = refl
-number_spot_in number.Store got = refl
-
-make_in : (c : Config) (seat made : ℕ) (command : Command) (at : MakeSpot) (got : ℕ) → in_heap (make_next c seat made command at got) ≡ true
-make_in c seat made command (make.Taking take) got = take_in (take_next c command take got)
-make_in c seat made command (make.StoreWord address done) got = refl
-make_in c seat made command (make.StoreRoot address) got = refl
-
 -- the words that parts access are of the image
 load_image : (c : Config) (seat made : ℕ) (kept : Kept) (order : Order) (at : LoadSpot) → is_image (touch_at c seat made kept order (Loading at)).word ≡ true
 load_image c seat made kept order load.First = refl
@@ -141,9 +81,19 @@ load_image c seat made kept order (load.Shape object second third) = refl
 field_image : (c : Config) (seat made object : ℕ) (kept : Kept) (order : Order) (at : FieldSpot) → is_image (touch_at c seat made kept order (OnField object at)).word ≡ true
 field_image c seat made object kept order fields.Load = refl
 field_image c seat made object kept order (fields.LoadExpected expect value) = refl
+field_image c seat made object kept order (fields.LoadOld value) = refl
 field_image c seat made object kept order (fields.Store value) = refl
 field_image c seat made object kept order (fields.Swap value) = refl
 field_image c seat made object kept order (fields.Exchange found expect value) = refl
+
+record_image : (c : Config) (seat made address : ℕ) (kept : Kept) (order : Order) (at : RememberSpot) (next : Overwritten) → is_image (touch_at c seat made kept order (Recording at address next)).word ≡ true
+record_image c seat made address kept order LoadCount next = refl
+record_image c seat made address kept order (LoadEntry entry) next = refl
+record_image c seat made address kept order (MarkEntry entry found) next = refl
+record_image c seat made address kept order ClearCount next = refl
+record_image c seat made address kept order (StoreEntry entry) next = refl
+record_image c seat made address kept order (StoreCount entry) next = refl
+record_image c seat made address kept order Recorded next = refl
 
 number_image : (c : Config) (seat made object refs : ℕ) (kept : Kept) (order : Order) (at : NumberSpot) → is_image (touch_at c seat made kept order (OnNumber object refs at)).word ≡ true
 number_image c seat made object refs kept order number.Load = refl
@@ -191,14 +141,10 @@ module _ (c : Config) (m : Mutating) (order : Order) where
     pub image : is_image (touch_at c m.seat m.made m.kept order spot).word ≡ true
     pub next : (got : ℕ) → in_heap (next_of c (record m { spot = spot }) order got).spot ≡ true
 
-  answered : (got : ℕ) (b : Bool) → in_heap (Waiting (if b then wait.ClearAnswer Full else wait.StoreRoot got)) ≡ true
-  answered got true = refl
-  answered got false = refl
-
   pub waits_in : (at : WaitSpot) → wait_standing at ≡ inside → StaysIn (Waiting at)
   waits_in wait.StepOut is = absurd (cc (is))
   waits_in wait.Poll is = absurd (cc (is))
-  waits_in wait.LoadAnswer is = record { image = refl; next = λ got. answered got (nat_eq got 1) }
+  waits_in wait.LoadAnswer is = record { image = refl; next = λ got. goes_on_in c m order got (Waiting wait.LoadAnswer) is }
   waits_in wait.StoreRequest is = record { image = refl; next = λ got. refl }
   waits_in wait.AskRoom is = record { image = refl; next = λ got. refl }
   waits_in (wait.StoreRoot address) is = record { image = refl; next = λ got. refl }
@@ -212,15 +158,16 @@ module _ (c : Config) (m : Mutating) (order : Order) where
   not_inside Await on is = cc
 
   pub stays_in : (spot : Spot) → numbers_fit c m.made m.kept spot ≡ true → standing_at spot ≡ inside → StaysIn spot
-  stays_in LoadPhase on is = record { image = refl; next = λ got. refl }
-  stays_in LoadSet on is = record { image = refl; next = λ got. first_in m.kept.command }
-  stays_in (Loading at) on is = record { image = load_image c m.seat m.made m.kept order at; next = λ got. load_in m.kept.command at got }
-  stays_in (OnField object at) on is = record { image = field_image c m.seat m.made object m.kept order at; next = λ got. field_in object at got }
-  stays_in (OnNumber object refs at) on is = record { image = number_image c m.seat m.made object refs m.kept order at; next = λ got. number_spot_in at got }
-  stays_in (Showing value at) on is = record { image = show_image c m.seat m.made value m.kept order at; next = λ got. show_in value at got }
-  stays_in (StoreRoot value) on is = record { image = refl; next = λ got. refl }
-  stays_in (Making at) on is = record { image = make_image c m.seat m.made m.kept order at; next = λ got. make_in c m.seat m.made m.kept.command at got }
-  stays_in AskCycle on is = record { image = refl; next = λ got. refl }
+  stays_in LoadPhase on is = record { image = refl; next = λ got. goes_on_in c m order got LoadPhase is }
+  stays_in LoadSet on is = record { image = refl; next = λ got. goes_on_in c m order got LoadSet is }
+  stays_in (Loading at) on is = record { image = load_image c m.seat m.made m.kept order at; next = λ got. goes_on_in c m order got (Loading at) is }
+  stays_in (OnField object at) on is = record { image = field_image c m.seat m.made object m.kept order at; next = λ got. goes_on_in c m order got (OnField object at) is }
+  stays_in (Recording at address next) on is = record { image = record_image c m.seat m.made address m.kept order at next; next = λ got. goes_on_in c m order got (Recording at address next) is }
+  stays_in (OnNumber object refs at) on is = record { image = number_image c m.seat m.made object refs m.kept order at; next = λ got. goes_on_in c m order got (OnNumber object refs at) is }
+  stays_in (Showing value at) on is = record { image = show_image c m.seat m.made value m.kept order at; next = λ got. goes_on_in c m order got (Showing value at) is }
+  stays_in (StoreRoot value) on is = record { image = refl; next = λ got. goes_on_in c m order got (StoreRoot value) is }
+  stays_in (Making at) on is = record { image = make_image c m.seat m.made m.kept order at; next = λ got. goes_on_in c m order got (Making at) is }
+  stays_in AskCycle on is = record { image = refl; next = λ got. goes_on_in c m order got AskCycle is }
   stays_in (Waiting at) on is = waits_in at is
   stays_in (Entering at next) on is = absurd (not_inside at on is)
   stays_in Rest on is = absurd (cc (is))
@@ -269,6 +216,7 @@ module _ (c : Config) (m : Mutating) (order : Order) where
   spot_obeys LoadSet takes going word = on LoadSet (stays_in LoadSet going refl) word
   spot_obeys (Loading at) takes going word = on (Loading at) (stays_in (Loading at) going refl) word
   spot_obeys (OnField object at) takes going word = on (OnField object at) (stays_in (OnField object at) going refl) word
+  spot_obeys (Recording at address next) takes going word = on (Recording at address next) (stays_in (Recording at address next) going refl) word
   spot_obeys (OnNumber object refs at) takes going word = on (OnNumber object refs at) (stays_in (OnNumber object refs at) going refl) word
   spot_obeys (Showing value at) takes going word = on (Showing value at) (stays_in (Showing value at) going refl) word
   spot_obeys (StoreRoot value) takes going word = on (StoreRoot value) (stays_in (StoreRoot value) going refl) word
@@ -317,6 +265,7 @@ module _ (c : Config) (m : Mutating) (order : Order) where
   spot_counts LoadSet takes going word = counts_in LoadSet (stays_in LoadSet going refl) refl word
   spot_counts (Loading at) takes going word = counts_in (Loading at) (stays_in (Loading at) going refl) refl word
   spot_counts (OnField object at) takes going word = counts_in (OnField object at) (stays_in (OnField object at) going refl) refl word
+  spot_counts (Recording at address next) takes going word = counts_in (Recording at address next) (stays_in (Recording at address next) going refl) refl word
   spot_counts (OnNumber object refs at) takes going word = counts_in (OnNumber object refs at) (stays_in (OnNumber object refs at) going refl) refl word
   spot_counts (Showing value at) takes going word = counts_in (Showing value at) (stays_in (Showing value at) going refl) refl word
   spot_counts (StoreRoot value) takes going word = counts_in (StoreRoot value) (stays_in (StoreRoot value) going refl) refl word

@@ -61,6 +61,7 @@ load_not_full memory seat command (load.Shape object second third) = if_else (ha
 field_not_full : (memory : Word → ℕ) (object : ℕ) (command : Command) (at : FieldSpot) → field_told memory object command at ≢ Some Full
 field_not_full memory object command fields.Load = λ e. shown_not_full memory (memory (Heap (object + 3 + index_of command))) (some_same _ Full e)
 field_not_full memory object command (fields.LoadExpected expect value) = if_else (name_the_same memory (memory (Heap (object + 3 + index_of command))) expect) No (λ h. absurd cc)
+field_not_full memory object command (fields.LoadOld value) = λ e. absurd cc
 field_not_full memory object command (fields.Store value) = λ e. absurd cc
 field_not_full memory object command (fields.Swap value) = λ e. shown_not_full memory (memory (Heap (object + 3 + index_of command))) (some_same _ Full e)
 field_not_full memory object command (fields.Exchange found expect value) = if_then (memory (Heap (object + 3 + index_of command)) == found) Yes (λ h. absurd cc)

@@ -10,7 +10,7 @@ use Rattle.handshake.specs.declared.enter_spot.EnterSpot.TheVariants as enter
 use Rattle.handshake.specs.Standing.{is_within}
 use Rattle.mutator.specs.declared.spot.Kept.{Kept}
 use Rattle.mutator.specs.declared.spot.Spot.{Spot}
-use Rattle.mutator.specs.declared.spot.Spot.TheVariants.{Rest, Ended, Entering, Loading, OnField, OnNumber, Showing, Making, Waiting, Gone}
+use Rattle.mutator.specs.declared.spot.Spot.TheVariants.{Rest, Ended, Entering, Loading, OnField, Recording, OnNumber, Showing, Making, Waiting, Gone}
 use Rattle.mutator.specs.declared.loads.LoadSpot.TheVariants as load
 use Rattle.mutator.specs.declared.fields.FieldSpot.TheVariants as fields
 use Rattle.mutator.specs.declared.numbers.NumberSpot.TheVariants as numbers
@@ -18,6 +18,7 @@ use Rattle.mutator.specs.declared.shows.ShowSpot.TheVariants as show
 use Rattle.mutator.specs.declared.makes.MakeSpot.TheVariants as make
 use Rattle.alloc_buffers.specs.declared.spot.TakeSpot.TheVariants as take
 use Rattle.mutator.specs.declared.waits.WaitSpot.TheVariants as wait
+use Rattle.satb_barrier.specs.declared.spot.RememberSpot.TheVariants as remember
 use Rattle.mutator.specs.Orders.{takes_at}
 use Rattle.mutator.specs.Rows.{touch_at, given_at}
 use Rattle.steps_base.specs.Touch.{touched}
@@ -101,9 +102,17 @@ answer_before c memory seat made kept order (Loading (load.Third first second)) 
 answer_before c memory seat made kept order (Loading (load.Shape object second third)) now = now
 answer_before c memory seat made kept order (OnField object fields.Load) now = now
 answer_before c memory seat made kept order (OnField object (fields.LoadExpected expect value)) now = now
+answer_before c memory seat made kept order (OnField object (fields.LoadOld value)) now = now
 answer_before c memory seat made kept order (OnField object (fields.Store value)) now = now
 answer_before c memory seat made kept order (OnField object (fields.Swap value)) now = now
 answer_before c memory seat made kept order (OnField object (fields.Exchange found expect value)) now = now
+answer_before c memory seat made kept order (Recording remember.LoadCount address next) now = now
+answer_before c memory seat made kept order (Recording (remember.LoadEntry entry) address next) now = now
+answer_before c memory seat made kept order (Recording (remember.MarkEntry entry found) address next) now = now
+answer_before c memory seat made kept order (Recording remember.ClearCount address next) now = now
+answer_before c memory seat made kept order (Recording (remember.StoreEntry entry) address next) now = now
+answer_before c memory seat made kept order (Recording (remember.StoreCount entry) address next) now = now
+answer_before c memory seat made kept order (Recording remember.Recorded address next) now = now
 answer_before c memory seat made kept order (OnNumber object refs numbers.Load) now = now
 answer_before c memory seat made kept order (OnNumber object refs numbers.Store) now = now
 answer_before c memory seat made kept order (Showing value show.LoadName) now = now

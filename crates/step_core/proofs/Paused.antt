@@ -1,13 +1,14 @@
 -- The step by which the control has read the last word of an image: the new image counts from here on, all at once, and each machine
 -- is where it should be in it.
-use Rattle.std.proofs.Common.{◌≡◌, ◌≢◌, ℕ, ◌+◌, ◌<◌, ◌≤◌, inl, inr, ⊎_elim, true, false, List, [], ◌++◌, length, Option, Some, refl, sym, ap, ◌∙◌, subst, arith}
+use Rattle.std.proofs.Common.{◌≡◌, ◌≢◌, ℕ, ◌+◌, ◌<◌, ◌≤◌, inl, inr, ⊎_elim, true, false, List, [], ◌++◌, length, Option, Some, None, refl, sym, ap, ◌∙◌, subst, arith}
 use Rattle.std.specs.Prelude.{◌*◌, ◌-◌, ◌==◌, sum_by, slice_get, if◌then◌else◌}
 use Rattle.std.proofs.lemmas.Bool.{false≢true, lt-ltb}
 use Rattle.std.proofs.lemmas.List.{append-nil}
 use Rattle.std.proofs.lemmas.List.Elements.{All-nil}
 use Rattle.heap_words.specs.declared.config.Config.{Config}
 use Rattle.heap_words.specs.Ranges.{seat_count}
-use Rattle.heap_words.specs.Words.{Root, Answer, view}
+use Rattle.std.specs.Int.{bit_at}
+use Rattle.heap_words.specs.Words.{Phase, Ask, Root, Answer, view}
 use Rattle.packing.specs.Tops.{sum_below}
 use Rattle.packing.proofs.Sums.{sum_same}
 use Rattle.shen_graph.specs.declared.command.Command.{Command}
@@ -30,20 +31,22 @@ use Rattle.heap_world.proofs.Keeping.{usable_now}
 use Rattle.heap_world.specs.World.{Ghost, World, Plot, hand, Points, Shared}
 use Rattle.heap_world.specs.Asking.{Asking, nothing, asks, refused, given, IsAsked}
 use Rattle.heap_world.specs.Change.{Change, Answers, IsPause, IsPaused, image_view, image_words, words_given}
-use Rattle.heap_world.specs.Represents.{Represents}
+use Rattle.heap_world.specs.Represents.{NobodyMarks, Represents}
 use Rattle.heap_world.specs.Roots.{HasNoMore}
 use Rattle.control_steps.specs.declared.spot.ControlSpot.TheVariants.{StoreWord}
 use Rattle.step_core.specs.Actor.{Machine, mutating, helping, controlling, Actor}
 use Rattle.step_core.specs.Settled.{mixed, settled_by, control_number}
 use Rattle.step_core.specs.Own.{root_now, IsInHand}
 use Rattle.step_core.specs.Standing.{standing_at, standing_of}
-use Rattle.step_core.specs.Stepped.{IsMaking, IsPolling, IsAnswered, SpotFacts, Mine}
+use Rattle.step_core.specs.Stepped.{recording_of, has_phase, HasMarkingBy, IsMaking, IsPolling, IsAnswered, SpotFacts, Mine}
 use Rattle.step_core.specs.Threads.{IsSettled}
 use Rattle.step_core.proofs.Facts.{IsSeen, IsShort, AreRead, IsThread, IsMachine, PromisedToMutators, Owes, words_promised}
 use Rattle.step_core.proofs.Asked.{asking_by, asking_asks, asking_refused, asking_given, asking_at, asking_in, asking_of, asked_same, polling_asked, answered_asked, nothing_then, refused_then, given_then, asks_then, promised_given}
 use Rattle.step_core.proofs.Images.{mixed_whole}
+use Rattle.step_core.proofs.Helpers.{scans_none_outside, help_outside}
 use Rattle.step_core.proofs.Pauses.{open_world}
-use Rattle.step_core.proofs.Roles.{full_settled, machine_there, mutator_there}
+use Rattle.step_core.proofs.Replies.{answered_polls}
+use Rattle.step_core.proofs.Roles.{full_settled, machine_there, mutator_there, unmarking_by}
 use Rattle.step_core.proofs.Spots.{mutator_at}
 
 -- an image has words
@@ -68,6 +71,30 @@ none_outside kept (Waiting at) a words out is = is
 none_outside kept Gone a words out is = is
 none_outside kept _ a words out is = cc
 
+-- it is about to record nothing
+records_outside : (spot : Spot) → is_within (standing_at spot) ≡ false → recording_of spot ≡ None
+records_outside Rest out = refl
+records_outside (Ended reply) out = refl
+records_outside (Entering at then_on) out = refl
+records_outside (Waiting at) out = refl
+records_outside Gone out = refl
+records_outside _ out = absurd (cc (out))
+
+-- and its call has not loaded the phase, or knows it no more
+phase_outside : (spot : Spot) → is_within (standing_at spot) ≡ false → has_phase spot ≡ false
+phase_outside Rest out = refl
+phase_outside (Ended reply) out = refl
+phase_outside (Entering at then_on) out = refl
+phase_outside (Waiting at) out = refl
+phase_outside Gone out = refl
+phase_outside _ out = absurd (cc (out))
+
+-- so where nobody marks, what it counts on of marking holds
+marking_outside : (c : Config) (w : World) (seat loaded : ℕ) (spot : Spot) → is_within (standing_at spot) ≡ false → NobodyMarks c w.ghost → seat < c.mutators → HasMarkingBy w seat (recording_of spot) loaded (has_phase spot)
+marking_outside c w seat loaded spot out unmarking below =
+    subst (λ in_hand. HasMarkingBy w seat in_hand loaded (has_phase spot)) (sym (records_outside spot out))
+    (subst (λ knows. HasMarkingBy w seat None loaded knows) (sym (phase_outside spot out)) (unmarking_by c w seat loaded unmarking below))
+
 -- what it has asked for stands in the words
 asked_outside : (c : Config) (w : World) (seat made : ℕ) (kept : Kept) (spot : Spot) (command : Command) (fixed : Option Reply) → is_within (standing_at spot) ≡ false
     → Mine c w (mutator_at seat made kept spot) command fixed → IsAsked w.memory w.block w.graph.count seat (asking_at spot (w.memory (Answer seat)) kept.command)
@@ -85,10 +112,24 @@ asked_outside c w seat made kept (Waiting (wait.StoreRoot address)) command fixe
 asked_outside c w seat made kept (Waiting (wait.ClearAnswer reply)) command fixed out mine = cc
 asked_outside c w seat made kept _ command fixed out mine = cc
 
--- The mutators in a new image: it stands for the same graph, and answers who asks.
+-- who asks has said so: the word of what is asked has its bit
+heard_polling : (w : World) (seat made refs nums : ℕ) (k command : Command) (fixed : Option Reply) → IsPolling w seat made k command fixed → asking_by (w.memory (Answer seat)) k ≡ asks refs nums → bit_at (w.memory Ask) 1 ≡ 1
+heard_polling w seat made refs nums k command fixed (inl waits) is = waits.1
+heard_polling w seat made refs nums k command fixed (inr (inl has)) is = absurd (let other = sym (asking_given _ k has.1.1) ∙ is in cc (other))
+heard_polling w seat made refs nums k command fixed (inr (inr refused_so)) is = absurd (let other = sym (asking_refused _ k refused_so.1.1) ∙ is in cc (other))
+
+heard_outside : (c : Config) (w : World) (seat made refs nums : ℕ) (kept : Kept) (spot : Spot) (command : Command) (fixed : Option Reply) → is_within (standing_at spot) ≡ false
+    → Mine c w (mutator_at seat made kept spot) command fixed → asking_at spot (w.memory (Answer seat)) kept.command ≡ asks refs nums → bit_at (w.memory Ask) 1 ≡ 1
+heard_outside c w seat made refs nums kept (Entering at Waited) command fixed out mine is =
+    heard_polling w seat made refs nums kept.command command fixed (answered_polls w seat made kept.command command fixed mine.facts) is
+heard_outside c w seat made refs nums kept (Waiting wait.Poll) command fixed out mine is = heard_polling w seat made refs nums kept.command command fixed mine.facts is
+heard_outside c w seat made refs nums kept (Waiting at) command fixed out mine is = absurd (cc (out))
+heard_outside c w seat made refs nums kept _ command fixed out mine is = absurd (cc (is))
+
+-- The mutators in a new image: it stands for the same graph, nobody marks in it, and it answers who asks.
 module _ (c : Config) (words : List ℕ) (u w : World) (t made : ℕ) (kept : Kept) (b : Actor) (x : Asking)
     (asked : IsAsked w.memory w.block w.graph.count t x) (graph : w.graph ≡ u.graph)
-    (roots : (i : ℕ) → i < 16 → Points w.block (w.memory (Root t i)) (w.graph.root (t + 1) i)) (none : (a more : ℕ) → w.block a ≡ Some (hand t more) → ⊥) where
+    (roots : (i : ℕ) → i < 16 → Points w.block (w.memory (Root t i)) (w.graph.root (t + 1) i)) (none : (a more : ℕ) → w.block a ≡ Some (hand t more) → ⊥) (unmarking : NobodyMarks c w.ghost) where
   -- what it counts on then, where it is outside
   mine_outside : (spot : Spot) (fixed : Option Reply) → is_within (standing_at spot) ≡ false → Mine c u (mutator_at t made kept spot) b.command fixed
       → (is_waiting spot ≡ false → IsAsked w.memory w.block w.graph.count t nothing) → SpotFacts c w t made kept b.command fixed spot → Mine c w (mutator_at t made kept spot) b.command fixed
@@ -100,6 +141,7 @@ module _ (c : Config) (words : List ℕ) (u w : World) (t made : ℕ) (kept : Ke
       unasked = unasked;
     };
     ready = mine.ready;
+    marking = marking_outside c w t kept.phase spot out unmarking mine.seated.below;
     roots = λ i small. subst (λ word. Points w.block word (w.graph.root (t + 1) i)) (sym (root_outside w t kept spot i out)) (roots i small);
     hands = λ a more is. absurd (none a more is);
     facts = facts;
@@ -180,10 +222,10 @@ module _ (c : Config) (words : List ℕ) (u w : World) (t made : ℕ) (kept : Ke
     -- where it polls
     poll_then : IsCrowdedOut (asking_by (u.memory (Answer t)) kept.command) → Answers (asking_by (u.memory (Answer t)) kept.command) x → (old : Thread u (Waiting wait.Poll)) → IsPolling u t made kept.command b.command old.fixed → Thread w (Waiting wait.Poll)
     poll_then short answers old (inl waits) = ⊎_elim
-        (λ (none_left : IsAsked w.memory w.block w.graph.count t refused × (x ≡ refused)). refused_first short waits.1.1 none_left.0 none_left.1 old waits.0)
+        (λ (none_left : IsAsked w.memory w.block w.graph.count t refused × (x ≡ refused)). refused_first short waits.0.1.1 none_left.0 none_left.1 old waits.0.0)
         (λ (has : IsAsked w.memory w.block w.graph.count t (given (refs_of kept.command) (nums_of kept.command))).
-        given_now (Waiting wait.Poll) refl refl (λ e. (let before = waits.1.1 in omega (arith, sym whole ∙ e, before))) has.1 old (inr (inl (waits.0, has))))
-        (asks_then w.memory w.block w.graph.count t (refs_of kept.command) (nums_of kept.command) x (subst (λ y. Answers y x) (asking_asks _ kept.command waits.1.1) answers) asked)
+        given_now (Waiting wait.Poll) refl refl (λ e. (let before = waits.0.1.1 in omega (arith, sym whole ∙ e, before))) has.1 old (inr (inl (waits.0.0, has))))
+        (asks_then w.memory w.block w.graph.count t (refs_of kept.command) (nums_of kept.command) x (subst (λ y. Answers y x) (asking_asks _ kept.command waits.0.1.1) answers) asked)
     poll_then short answers old (inr (inl has)) =
         let still = given_then w.memory w.block w.graph.count t (refs_of kept.command) (nums_of kept.command) x (subst (λ y. Answers y x) (asking_given _ kept.command has.1.1) answers) asked in
         given_now (Waiting wait.Poll) refl refl (λ e. (let before = has.1.1 in omega (arith, sym whole ∙ e, before))) still.1 old (inr (inl (has.0, still)))
@@ -235,6 +277,14 @@ module _ (c : Config) (words : List ℕ) (block : Plot) (ghost : Ghost) (g : Gra
   abbrev pub AllOutside : Type 0
   AllOutside = (k : ℕ) (b : Actor) → slice_get machines k ≡ Some b → k ≢ control_number c → is_within (standing_of b.machine) ≡ false
 
+  -- a mutator is not
+  mutator_out : AllOutside → (t : ℕ) (b : Actor) (m : Mutating) → t < c.mutators → slice_get machines t ≡ Some b → b.machine ≡ mutating m → is_within (standing_at m.spot) ≡ false
+  mutator_out outside t b m below there is = ap (λ machine. is_within (standing_of machine)) (sym is) ∙ outside t b there (λ e. omega (arith, below, e))
+
+  -- and has asked for what its spot says
+  mutator_asks : (t : ℕ) (b : Actor) (m : Mutating) → slice_get machines t ≡ Some b → b.machine ≡ mutating m → asking t ≡ asking_at m.spot (view c words (Answer t)) m.kept.command
+  mutator_asks t b m there is = ap (λ o. asking_of o (view c words (Answer t))) there ∙ ap (λ machine. asking_in machine (view c words (Answer t))) is
+
   -- nobody has room in hand
   none_of : (k : ℕ) (b : Actor) (machine : Machine) → (k ≢ control_number c → is_within (standing_of machine) ≡ false) → IsMachine c words before (of_thread past (k + 1)) k b machine
       → (a more : ℕ) → block a ≡ Some (hand k more) → ⊥
@@ -255,15 +305,43 @@ module _ (c : Config) (words : List ℕ) (block : Plot) (ghost : Ghost) (g : Gra
       let there = mutator_there c words before past machines seats known t below in
       let m = there.1 in
       let thread = there.4 in
-      let out : is_within (standing_at m.spot) ≡ false = ap (λ machine. is_within (standing_of machine)) (sym there.3) ∙ outside t there.0 there.2 (λ e. omega (arith, below, e)) in
-      let is : asking t ≡ asking_at m.spot (view c words (Answer t)) m.kept.command = ap (λ o. asking_of o (view c words (Answer t))) there.2 ∙ ap (λ machine. asking_in machine (view c words (Answer t))) there.3 in
-      subst (λ y. IsAsked (view c words) block g.count t y) (sym is)
+      let out = mutator_out outside t there.0 m below there.2 there.3 in
+      subst (λ y. IsAsked (view c words) block g.count t y) (sym (mutator_asks t there.0 m there.2 there.3))
       (subst (λ j. IsAsked (view c words) block g.count j (asking_at m.spot (view c words (Answer j)) m.kept.command)) thread.number_is
       (asked_outside c before m.seat m.made m.kept m.spot there.0.command thread.fixed out thread.mine))
 
+  -- and who asks has said so
+  heard_there : AllKnown → AllOutside → (t refs nums : ℕ) → t < c.mutators → asking t ≡ asks refs nums → bit_at (view c words Ask) 1 ≡ 1
+  heard_there known outside t refs nums below is =
+      let there = mutator_there c words before past machines seats known t below in
+      let m = there.1 in
+      let thread = there.4 in
+      let out = mutator_out outside t there.0 m below there.2 there.3 in
+      let asks_so : asking_at m.spot (view c words (Answer m.seat)) m.kept.command ≡ asks refs nums =
+      ap (λ j. asking_at m.spot (view c words (Answer j)) m.kept.command) thread.number_is ∙ sym (mutator_asks t there.0 m there.2 there.3) ∙ is in
+      heard_outside c before m.seat m.made refs nums m.kept m.spot there.0.command thread.fixed out thread.mine asks_so
+
+  -- nobody marks, where the control does not
+  scans_none_of : ghost.scanning (control_number c) ≡ None → (k : ℕ) (b : Actor) (machine : Machine) → (k ≢ control_number c → is_within (standing_of machine) ≡ false)
+      → IsMachine c words before (of_thread past (k + 1)) k b machine → ghost.scanning k ≡ None
+  scans_none_of still k b (mutating m) outside is = subst (λ j. ghost.scanning j ≡ None) is.number_is is.mine.marking.scans
+  scans_none_of still k b (helping h) outside is = scans_none_outside c before k h.phase h.spot (outside (λ e. (let below = is.below in omega (arith, below, e)))) is.facts
+  scans_none_of still k b (controlling h) outside is = subst (λ j. ghost.scanning j ≡ None) (sym is.number_is) still
+
+  nobody_marks : AllKnown → AllOutside → ghost.scanning (control_number c) ≡ None → NobodyMarks c ghost
+  nobody_marks known outside still = record {
+    records_none = λ t below.
+        let there = mutator_there c words before past machines seats known t below in
+        let thread = there.4 in
+        subst (λ j. ghost.recording j ≡ None) thread.number_is (thread.mine.marking.records ∙ records_outside there.1.spot (mutator_out outside t there.0 there.1 below there.2 there.3));
+    scans_none = λ seat below.
+        let there = machine_there c words before past machines seats seat below in
+        scans_none_of still seat there.0 there.0.machine (outside seat there.0 there.1) (known seat there.0 there.1);
+  }
+
   -- The image that was read stands for the graph.
-  pub image_stands : Shared c before → PromisedToMutators c block → HasNoMore c.mutators g → AllKnown → AllOutside → Represents c (image_view c image) g asking
-  image_stands shared promised_to no_more known outside =
+  pub image_stands : Shared c before → PromisedToMutators c block → HasNoMore c.mutators g → AllKnown → AllOutside → ghost.scanning (control_number c) ≡ None → Represents c (image_view c image) g asking
+  image_stands shared promised_to no_more known outside still =
       let whole : view c words ≡ mixed c words image = sym (mixed_whole c words image read) in
       record {
         block = block;
@@ -273,21 +351,23 @@ module _ (c : Config) (words : List ℕ) (block : Plot) (ghost : Ghost) (g : Gra
             let there = mutator_there c words before past machines seats known t below in
             let m = there.1 in
             let thread = there.4 in
-            let out : is_within (standing_at m.spot) ≡ false = ap (λ machine. is_within (standing_of machine)) (sym there.3) ∙ outside t there.0 there.2 (λ e. omega (arith, below, e)) in
+            let out = mutator_out outside t there.0 m below there.2 there.3 in
             subst (λ memory. Points block (memory (Root t i)) (g.root (t + 1) i)) whole
             (subst (λ j. Points block (view c words (Root j i)) (g.root (j + 1) i)) thread.number_is
             (subst (λ word. Points block word (g.root (m.seat + 1) i)) (root_outside before m.seat m.kept m.spot i out) (thread.mine.roots i small)));
         none = no_hands shared known outside;
         asked = λ t below. asked_same (mixed c words image) (image_view c image) block g.count t (asking t) refl refl (λ a. refl) (subst (λ memory. IsAsked memory block g.count t (asking t)) whole (asked_there known outside t below));
+        heard = λ t refs nums below is. subst (λ memory. bit_at (memory Ask) 1 ≡ 1) whole (heard_there known outside t refs nums below is);
         promised_to = promised_to;
+        unmarking = nobody_marks known outside still;
         no_more = no_more;
       }
 
   -- The new image counts: what the step owes.
   module _ (change : Change) (law : IsPause change) (long : length image ≡ image_words c) (shared : Shared c before) (promised_to : PromisedToMutators c block) (no_more : HasNoMore c.mutators g)
-      (known : AllKnown) (outside : AllOutside) where
+      (known : AllKnown) (outside : AllOutside) (still : ghost.scanning (control_number c) ≡ None) where
     paused : IsPaused c (image_view c image) (image_view c (change c image)) g asking
-    paused = law.pauses c image g asking long (image_stands shared promised_to no_more known outside)
+    paused = law.pauses c image g asking long (image_stands shared promised_to no_more known outside still)
 
     -- the world then
     abbrev then_world : World
@@ -314,9 +394,9 @@ module _ (c : Config) (words : List ℕ) (block : Plot) (ghost : Ghost) (g : Gra
         → IsThread c words before (of_thread past (k + 1)) k b m → IsThread c words then_world (of_thread past (k + 1)) k b m
     mutator_then k b m there is out thread =
         let below : k < c.mutators = subst (λ j. j < c.mutators) thread.number_is thread.mine.seated.below in
-        let asks_so : asking k ≡ asking_at m.spot (view c words (Answer k)) m.kept.command = ap (λ o. asking_of o (view c words (Answer k))) there ∙ ap (λ machine. asking_in machine (view c words (Answer k))) is in
+        let asks_so = mutator_asks k b m there is in
         subst (λ j. IsThread c words then_world (of_thread past (k + 1)) k b (mutator_at j m.made m.kept m.spot)) (sym thread.number_is)
-        (thread_then c words before then_world k m.made m.kept b (paused.asked_then k) (asked_in_it k below) refl (λ i small. paused.stands.roots k i below small) (λ a more. paused.stands.none a k more)
+        (thread_then c words before then_world k m.made m.kept b (paused.asked_then k) (asked_in_it k below) refl (λ i small. paused.stands.roots k i below small) (λ a more. paused.stands.none a k more) paused.stands.unmarking
         (of_thread past (k + 1)) refl m.spot out (λ refs nums asks_by. crowded_then k below refs nums (asks_so ∙ asks_by))
         (subst (λ y. Answers y (paused.asked_then k)) asks_so (paused.answers k below))
         (subst (λ j. IsThread c words before (of_thread past (k + 1)) k b (mutator_at j m.made m.kept m.spot)) thread.number_is thread))
@@ -325,12 +405,19 @@ module _ (c : Config) (words : List ℕ) (block : Plot) (ghost : Ghost) (g : Gra
     machine_then : (k : ℕ) (b : Actor) (machine : Machine) → slice_get machines k ≡ Some b → b.machine ≡ machine → k ≢ control_number c → is_within (standing_of machine) ≡ false
         → IsMachine c words before (of_thread past (k + 1)) k b machine → IsMachine c words then_world (of_thread past (k + 1)) k b machine
     machine_then k b (mutating m) there is other out thread = mutator_then k b m there is out thread
-    machine_then k b (helping h) there is other out thread = record { least = thread.least; below = thread.below; hands = λ a more. paused.stands.none a k more }
+    machine_then k b (helping h) there is other out thread = record {
+      number_is = thread.number_is;
+      ready = thread.ready;
+      facts = help_outside c then_world k h.phase h.spot out (paused.stands.unmarking.scans_none k (let below = thread.below in omega (arith, below)));
+      least = thread.least;
+      below = thread.below;
+      hands = λ a more. paused.stands.none a k more;
+    }
     machine_then k b (controlling h) there is other out thread = absurd (other thread.number_is)
 
     -- what the control owes
     pub paused_owes : (seen : ℕ) (command : Command) (calls : List Entry) → Owes c words words before past (control_number c) machines (settled_by c words (Some (change c image))) []
-        (record { machine = controlling (record { spot = StoreWord 0; seen = seen; image = change c image }); command = command; calls = calls ++ [] })
+        (record { machine = controlling (record { spot = StoreWord 0; seen = seen; phase = image_view c (change c image) Phase; image = change c image }); command = command; calls = calls ++ [] })
     paused_owes seen command calls = record {
       world = then_world;
       memory_is = refl;
@@ -343,6 +430,8 @@ module _ (c : Config) (words : List ℕ) (block : Plot) (ghost : Ghost) (g : Gra
         number_is = refl;
         hands = λ a more. paused.stands.none a (control_number c) more;
         ready = lt-ltb _ _ (some_words c);
+        phase_is = refl;
+        facts = paused.stands.unmarking.scans_none (control_number c) (omega arith);
         aims = (law.long c image long, λ i below. absurd (omega (arith, below)));
       };
       others = λ k b other there is.

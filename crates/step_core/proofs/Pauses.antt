@@ -1,33 +1,38 @@
--- The steps of the control outside the words of an image: it looks, stops the other machines, and lets them go.
-use Rattle.std.proofs.Common.{◌≡◌, ◌≢◌, ℕ, ◌+◌, inl, Bool, true, false, List, [], ◌++◌, length, Some, None, refl, sym, ap, ◌∙◌, arith}
+-- The steps of the control outside the words of an image: it looks, scans, stops the other machines, and lets them go.
+use Rattle.std.proofs.Common.{◌≡◌, ◌≢◌, ℕ, ◌+◌, Bool, true, false, List, [], ◌++◌, length, None, refl, sym, ap, ◌∙◌, subst, arith}
 use Rattle.std.specs.Prelude.{◌==◌, if◌then◌else◌}
-use Rattle.std.proofs.lemmas.Bool.{and_parts}
-use Rattle.std.proofs.lemmas.List.{append-nil}
-use Rattle.std.proofs.lemmas.List.Elements.{All-nil}
-use Rattle.std.proofs.lemmas.Bool.Decides.{nat_tests}
+use Rattle.std.proofs.lemmas.Bool.{and_parts, eqb-false}
 use Rattle.heap_words.specs.declared.config.Config.{Config}
-use Rattle.heap_words.specs.Words.{Answer, is_word, view, table_words}
-use Rattle.steps_base.specs.Touch.{Touch, touched}
+use Rattle.heap_words.specs.declared.access.Unit.TheVariants.{Worked, NoneLeft}
+use Rattle.heap_words.specs.Words.{Word, Pause, Left, End, Ask, Free, State, is_word, view, write, table_words}
+use Rattle.heap_words.proofs.Stores.{is_word_from}
+use Rattle.steps_base.specs.Touch.{Touch, touch, loads, stores}
 use Rattle.shen_graph.specs.declared.command.Command.{Command}
 use Rattle.shen_graph.specs.Graph.{Graph}
 use Rattle.shen_graph.specs.History.{Entry, of_thread}
 use Rattle.handshake.specs.declared.stop_spot.StopSpot.{StopSpot}
 use Rattle.handshake.specs.declared.stop_spot.StopSpot.TheVariants as stop
 use Rattle.handshake.specs.Rows.{stop_next}
-use Rattle.heap_world.specs.World.{Ghost, World, Plot, hand, Shared}
+use Rattle.scan_steps.specs.declared.spot.ScanSpot.{ScanSpot}
+use Rattle.scan_steps.specs.declared.spot.ScanSpot.TheVariants as scan
+use Rattle.scan_steps.specs.Rows as scans
+use Rattle.mark_steps.specs.Scanning.{CanScan}
+use Rattle.mark_steps.proofs.Parts.{scanning_steps}
+use Rattle.heap_world.specs.World.{Ghost, World, Plot, Shared}
 use Rattle.heap_world.specs.Change.{Change}
-use Rattle.heap_world.specs.Rely.{Rely}
+use Rattle.heap_world.specs.Part.{PartStep}
 use Rattle.control_steps.specs.declared.spot.ControlSpot.{ControlSpot}
-use Rattle.control_steps.specs.declared.spot.ControlSpot.TheVariants.{LookLeft, StoreEnd, LookAsked, LookFree, Stopping, Go}
-use Rattle.control_steps.specs.Rows.{Controlling, control_touch, control_next, stopping, begins_pause, wants_pause}
-use Rattle.control_steps.specs.Ready.{is_ready}
+use Rattle.control_steps.specs.declared.spot.ControlSpot.TheVariants.{LookLeft, StoreEnd, LookAsked, LookFree, Scanning, Stopping, Go}
+use Rattle.control_steps.specs.Rows.{Controlling, control_touch, control_next, stopping, after_scan, begins_pause, unasked, wants_pause}
 use Rattle.control_steps.proofs.Ready.{stays_ready}
 use Rattle.step_core.specs.Actor.{Machine, mutating, helping, controlling, Actor}
 use Rattle.step_core.specs.Settled.{stored_image, settled_by, control_number}
-use Rattle.step_core.specs.Threads.{IsSettled}
-use Rattle.step_core.proofs.Facts.{IsAim, IsMachine, PromisedToMutators, Owes}
+use Rattle.step_core.proofs.Facts.{ControlFacts, IsAim, IsControl, IsMachine, PromisedToMutators, Owes}
 use Rattle.step_core.proofs.Images.{words_after, view-placed}
-use Rattle.step_core.proofs.Roles.{machine_stays}
+use Rattle.step_core.proofs.Alike.{is_of_handshake, load_step, store_step}
+use Rattle.step_core.proofs.Marking.{world_with}
+use Rattle.step_core.proofs.Helpers.{phase_one}
+use Rattle.step_core.proofs.Quiet.{quiet_owes}
 
 -- another machine is no control
 pub no_other_control : (c : Config) (words : List ℕ) (u : World) (entries : List Entry) (k : ℕ) (b : Actor) (machine : Machine) → k ≢ control_number c → IsMachine c words u entries k b machine
@@ -44,34 +49,17 @@ module _ (c : Config) (words : List ℕ) (block : Plot) (ghost : Ghost) (g : Gra
   abbrev u : World
   u = open_world c words block ghost g
 
-  -- the world after an access
-  abbrev world_with : Touch → World
-  world_with t = record { memory = touched (view c words) t; block = block; ghost = ghost; graph = g }
+  -- the control after its step
+  abbrev actor_at : Controlling → Actor
+  actor_at next = record { machine = controlling next; command = command; calls = calls ++ [] }
 
-  -- An access of a word that no other machine speaks of, after which the table still counts.
-  pub quiet_owes : (t : Touch) (next : Controlling) → length words ≡ table_words c → is_word c t.word ≡ true → Shared c u → Shared c (world_with t) → PromisedToMutators c block
-      → ((j : ℕ) → Rely j u (world_with t)) → ((a more : ℕ) → block a ≡ Some (hand (control_number c) more) → ⊥) → is_ready c next.spot ≡ true → IsAim c (words_after c words t) next.spot next.image → stored_image next.spot next.image ≡ None
-      → Owes c words (words_after c words t) u past (control_number c) machines (settled_by c (words_after c words t) (stored_image next.spot next.image)) []
-      (record { machine = controlling next; command = command; calls = calls ++ [] })
-  quiet_owes t next long is before shared promised_to rely hands ready aims none = record {
-    world = world_with t;
-    memory_is = rw none (sym (view-placed c words t is long));
-    graph_is = refl;
-    legal = tt;
-    entries = All-nil (IsSettled c.mutators);
-    shared = shared;
-    promised_to = promised_to;
-    own = record { number_is = refl; hands = hands; ready = ready; aims = aims };
-    others = λ k b differs there known.
-        machine_stays c words (words_after c words t) u (world_with t) (of_thread past (k + 1)) (of_thread (past ++ []) (k + 1)) k b b.machine before
-        (record {
-          rely = rely k;
-          answer = ap (λ memory. memory (Answer k)) (view-placed c words t is long) ∙ (rely k).answer;
-          counts = inl refl;
-          aims = λ control same. absurd (no_other_control c words u (of_thread past (k + 1)) k b b.machine differs known control same);
-        })
-        (ap (λ es. of_thread es (k + 1)) (append-nil past)) known;
-  }
+  -- where it should be after an access
+  abbrev Stands : Touch → Controlling → World → Type 0
+  Stands t next w = IsControl c (words_after c words t) w (control_number c) next
+
+  -- what its step owes after an access, where no image counts then
+  abbrev OwesAt : Touch → Controlling → Type 0
+  OwesAt t next = Owes c words (words_after c words t) u past (control_number c) machines (settled_by c (words_after c words t) (stored_image next.spot next.image)) [] (actor_at next)
 
   -- one of two spots at which no image counts, and of which nothing is to be known
   plain_spot : (b : Bool) (x y : ControlSpot) (image : List ℕ) → stored_image x image ≡ None → stored_image y image ≡ None → stored_image (if b then x else y) image ≡ None
@@ -81,6 +69,11 @@ module _ (c : Config) (words : List ℕ) (block : Plot) (ghost : Ghost) (g : Gra
   plain_aim : (b : Bool) (x y : ControlSpot) (ws image : List ℕ) → IsAim c ws x image → IsAim c ws y image → IsAim c ws (if b then x else y) image
   plain_aim true x y ws image one other = one
   plain_aim false x y ws image one other = other
+
+  -- what it counts on at one of two spots
+  plain_facts : (w : World) (b : Bool) (x y : ControlSpot) → ControlFacts c w (control_number c) x → (b ≡ false → ControlFacts c w (control_number c) y) → ControlFacts c w (control_number c) (if b then x else y)
+  plain_facts w true x y one other = one
+  plain_facts w false x y one other = other refl
 
   -- once all others are stopped it loads the first word
   stopping_spot : (at : StopSpot) → stored_image (stopping at) [] ≡ None
@@ -93,52 +86,159 @@ module _ (c : Config) (words : List ℕ) (block : Plot) (ghost : Ghost) (g : Gra
   stopping_aim (stop.Check seat) ws = tt
   stopping_aim stop.Stopped ws = (refl, λ i below. absurd (omega (arith, below)))
 
-  -- What the control owes that stands at a spot outside the image, and finds a word.
-  module _ (change : Change) (seen got : ℕ) (image : List ℕ) (long : length words ≡ table_words c) (shared : Shared c u) (promised_to : PromisedToMutators c block)
-      (hands : (a more : ℕ) → block a ≡ Some (hand (control_number c) more) → ⊥) where
-    abbrev then_at : ControlSpot → Controlling
-    then_at spot = control_next change c (record { spot = spot; seen = seen; image = image }) got
+  stopping_facts : (w : World) (at : StopSpot) → w.ghost.scanning (control_number c) ≡ None → ControlFacts c w (control_number c) (stopping at)
+  stopping_facts w stop.Raise none = none
+  stopping_facts w (stop.Check seat) none = none
+  stopping_facts w stop.Stopped none = none
 
-    abbrev pub Quiet : ControlSpot → Type 0
-    Quiet spot = is_ready c spot ≡ true → Owes c words (words_after c words (control_touch spot)) u past (control_number c) machines
-        (settled_by c (words_after c words (control_touch spot)) (stored_image (then_at spot).spot (then_at spot).image)) []
-        (record { machine = controlling (then_at spot); command = command; calls = calls ++ [] })
+  -- where it scans, or has scanned a unit
+  scan_spot : (at : ScanSpot) → stored_image (after_scan at) [] ≡ None
+  scan_spot (scan.Ended Worked) = refl
+  scan_spot (scan.Ended NoneLeft) = refl
+  scan_spot _ = refl
+
+  scan_aim : (at : ScanSpot) (ws : List ℕ) → IsAim c ws (after_scan at) []
+  scan_aim (scan.Ended Worked) ws = tt
+  scan_aim (scan.Ended NoneLeft) ws = tt
+  scan_aim _ ws = tt
+
+  scan_facts : (w : World) (at : ScanSpot) → CanScan c w (control_number c) at → ControlFacts c w (control_number c) (after_scan at)
+  scan_facts w (scan.Ended Worked) can = can.scanning
+  scan_facts w (scan.Ended NoneLeft) can = can.scanning
+  scan_facts w _ can = can
+
+  -- What it owes that stands at a spot outside the image, and finds a word.
+  module _ (change : Change) (seen phase : ℕ) (image : List ℕ) (long : length words ≡ table_words c) (shared : Shared c u) (promised_to : PromisedToMutators c block) where
+    abbrev at_spot : ControlSpot → Controlling
+    at_spot spot = record { spot = spot; seen = seen; phase = phase; image = image }
+
+    abbrev then_at : ControlSpot → ℕ → Controlling
+    then_at spot got = control_next change c (at_spot spot) got
+
+    abbrev pub Quiet : ControlSpot → ℕ → Type 0
+    Quiet spot got = IsControl c words u (control_number c) (at_spot spot) → OwesAt (control_touch c spot) (then_at spot got)
+
+    -- a step after which the table still counts
+    step_owes : (t : Touch) (next : Controlling) → is_word c t.word ≡ true → PartStep c u (control_number c) t (Stands t next) → stored_image next.spot next.image ≡ None → OwesAt t next
+    step_owes t next is step none =
+        subst (λ memory. Owes c words (words_after c words t) u past (control_number c) machines memory [] (actor_at next)) (sym (ap (settled_by c (words_after c words t)) none ∙ view-placed c words t is long))
+        (quiet_owes c words None block ghost g past (control_number c) machines t long is (λ other held. absurd (cc (held))) (actor_at next) shared promised_to step
+        (λ k b differs there known control same. absurd (no_other_control c words u (of_thread past (k + 1)) k b b.machine differs known control same)))
+
+    -- it loads a word
+    loads_word : (word : Word) (next : Controlling) → is_word c word ≡ true → Stands (touch word loads) next u → stored_image next.spot next.image ≡ None → OwesAt (touch word loads) next
+    loads_word word next is stands none = step_owes (touch word loads) next is (load_step c u (control_number c) word (Stands (touch word loads) next) shared stands) none
+
+    -- it stores into one of the handshake
+    stores_word : (word : Word) (value : ℕ) (next : Controlling) → is_word c word ≡ true → is_of_handshake word ≡ true → ((k : ℕ) → k ≢ control_number c → write u.memory word value (State k) ≡ u.memory (State k))
+        → Shared c (world_with u (write u.memory word value) u.graph) → Stands (touch word (stores value)) next (world_with u (write u.memory word value) u.graph) → stored_image next.spot next.image ≡ None
+        → OwesAt (touch word (stores value)) next
+    stores_word word value next is other states after stands none =
+        step_owes (touch word (stores value)) next is (store_step c u (control_number c) word value (Stands (touch word (stores value)) next) other states after stands) none
 
     -- it looks how many mutators have not ended
-    pub look_left : Quiet LookLeft
-    look_left ready =
-        quiet_owes (control_touch LookLeft) (then_at LookLeft) long refl shared shared promised_to (λ j. search (arith, nat_tests)) hands (stays_ready c seen LookLeft got ready)
-        (plain_aim (got == 0) StoreEnd LookAsked _ [] tt tt) (plain_spot (got == 0) StoreEnd LookAsked [] refl refl)
+    pub look_left : (got : ℕ) → Quiet LookLeft got
+    look_left got known =
+        loads_word Left (then_at LookLeft got) refl
+        (record {
+          number_is = refl;
+          hands = known.hands;
+          ready = stays_ready c phase seen LookLeft got known.ready tt;
+          phase_is = known.phase_is;
+          facts = plain_facts u (got == 0) StoreEnd LookAsked known.facts (λ no. known.facts);
+          aims = plain_aim (got == 0) StoreEnd LookAsked _ [] tt tt;
+        })
+        (plain_spot (got == 0) StoreEnd LookAsked [] refl refl)
 
     -- it stores that it has ended
-    pub store_end : Quiet StoreEnd
-    store_end ready =
-        quiet_owes (control_touch StoreEnd) (then_at StoreEnd) long refl shared shared promised_to (λ j. search (arith, nat_tests)) hands (stays_ready c seen StoreEnd got ready) tt refl
+    pub store_end : (got : ℕ) → Quiet StoreEnd got
+    store_end got known =
+        stores_word End 1 (then_at StoreEnd got) refl refl (λ k differs. refl) shared
+        (record { number_is = refl; hands = known.hands; ready = stays_ready c phase seen StoreEnd got known.ready tt; phase_is = known.phase_is; facts = known.facts; aims = tt }) refl
+
+    -- while objects are marked it claims a unit
+    claims : IsControl c words u (control_number c) (at_spot LookAsked) → (phase == 0) ≡ false → CanScan c u (control_number c) scan.LoadClaim
+    claims known some =
+        let calm = shared.calm.phase_is in
+        let other = eqb-false _ _ some in
+        let same = known.phase_is in
+        scanning_steps.begins c u (control_number c) (omega arith) (phase_one _ calm (λ none. other (same ∙ none))) known.facts known.hands
 
     -- it looks what is asked for
-    pub look_asked : Quiet LookAsked
-    look_asked ready =
-        quiet_owes (control_touch LookAsked) (then_at LookAsked) long refl shared shared promised_to (λ j. search (arith, nat_tests)) hands (stays_ready c seen LookAsked got ready)
-        (plain_aim (begins_pause got) (Stopping stop.Raise) LookFree _ [] tt tt) (plain_spot (begins_pause got) (Stopping stop.Raise) LookFree [] refl refl)
+    pub look_asked : (got : ℕ) → Quiet LookAsked got
+    look_asked got known =
+        loads_word Ask (then_at LookAsked got) refl
+        (record {
+          number_is = refl;
+          hands = known.hands;
+          ready = stays_ready c phase seen LookAsked got known.ready tt;
+          phase_is = known.phase_is;
+          facts = plain_facts u (begins_pause phase got) (Stopping stop.Raise) (unasked phase) known.facts
+              (λ no. plain_facts u (phase == 0) LookFree (Scanning scan.LoadClaim) known.facts (λ some. claims known some));
+          aims = plain_aim (begins_pause phase got) (Stopping stop.Raise) (unasked phase) _ [] tt (plain_aim (phase == 0) LookFree (Scanning scan.LoadClaim) _ [] tt tt);
+        })
+        (plain_spot (begins_pause phase got) (Stopping stop.Raise) (unasked phase) [] refl (plain_spot (phase == 0) LookFree (Scanning scan.LoadClaim) [] refl refl))
 
     -- it looks how many regions are free
-    pub look_free : Quiet LookFree
-    look_free ready =
-        quiet_owes (control_touch LookFree) (then_at LookFree) long refl shared shared promised_to (λ j. search (arith, nat_tests)) hands (stays_ready c seen LookFree got ready)
-        (plain_aim (wants_pause c seen got) (Stopping stop.Raise) LookLeft _ [] tt tt) (plain_spot (wants_pause c seen got) (Stopping stop.Raise) LookLeft [] refl refl)
+    pub look_free : (got : ℕ) → Quiet LookFree got
+    look_free got known =
+        loads_word Free (then_at LookFree got) refl
+        (record {
+          number_is = refl;
+          hands = known.hands;
+          ready = stays_ready c phase seen LookFree got known.ready tt;
+          phase_is = known.phase_is;
+          facts = plain_facts u (wants_pause c seen got) (Stopping stop.Raise) LookLeft known.facts (λ no. known.facts);
+          aims = plain_aim (wants_pause c seen got) (Stopping stop.Raise) LookLeft _ [] tt tt;
+        })
+        (plain_spot (wants_pause c seen got) (Stopping stop.Raise) LookLeft [] refl refl)
+
+    -- it scans
+    pub scan_unit : (at : ScanSpot) → scans.is_ended at ≡ false → Quiet (Scanning at) (view c words (scans.touch_at c at).word)
+    scan_unit at going known =
+        let got : ℕ = view c words (scans.touch_at c at).word in
+        let step = scanning_steps.each c u (control_number c) at going shared known.facts in
+        step_owes (scans.touch_at c at) (then_at (Scanning at) got) (is_word_from c _ (scanning_steps.inside c u (control_number c) at known.facts))
+        (record {
+          world = step.world;
+          memory = step.memory;
+          graph = step.graph;
+          shared = step.shared;
+          own = record {
+            number_is = refl;
+            hands = step.own.hands;
+            ready = stays_ready c phase seen (Scanning at) got known.ready (scanning_steps.fits c u (control_number c) at going shared known.facts);
+            phase_is = known.phase_is ∙ sym step.keeps.marks.phase;
+            facts = scan_facts step.world (scans.next_at c at got) step.own;
+            aims = scan_aim (scans.next_at c at got) _;
+          };
+          keeps = step.keeps;
+          others = step.others;
+        })
+        (scan_spot (scans.next_at c at got))
 
     -- it wants a pause
-    pub raise_pause : Quiet (Stopping stop.Raise)
-    raise_pause ready =
-        quiet_owes (control_touch (Stopping stop.Raise)) (then_at (Stopping stop.Raise)) long refl shared shared promised_to (λ j. search (arith, nat_tests)) hands
-        (stays_ready c seen (Stopping stop.Raise) got ready) tt refl
+    pub raise_pause : (got : ℕ) → Quiet (Stopping stop.Raise) got
+    raise_pause got known =
+        stores_word Pause 1 (then_at (Stopping stop.Raise) got) refl refl (λ k differs. refl) shared
+        (record { number_is = refl; hands = known.hands; ready = stays_ready c phase seen (Stopping stop.Raise) got known.ready tt; phase_is = known.phase_is; facts = known.facts; aims = tt }) refl
 
     -- it looks whether a seat is out
-    pub check_seat : (seat : ℕ) → Quiet (Stopping (stop.Check seat))
-    check_seat seat ready =
-        quiet_owes (control_touch (Stopping (stop.Check seat))) (then_at (Stopping (stop.Check seat))) long (and_parts _ _ (and_parts _ _ ready).0).0 shared shared promised_to (λ j. search (arith, nat_tests)) hands
-        (stays_ready c seen (Stopping (stop.Check seat)) got ready) (stopping_aim (stop_next c (stop.Check seat) got) _) (stopping_spot (stop_next c (stop.Check seat) got))
+    pub check_seat : (seat got : ℕ) → Quiet (Stopping (stop.Check seat)) got
+    check_seat seat got known =
+        loads_word (State seat) (then_at (Stopping (stop.Check seat)) got) (and_parts _ _ (and_parts _ _ known.ready).0).0
+        (record {
+          number_is = refl;
+          hands = known.hands;
+          ready = stays_ready c phase seen (Stopping (stop.Check seat)) got known.ready tt;
+          phase_is = known.phase_is;
+          facts = stopping_facts u (stop_next c (stop.Check seat) got) known.facts;
+          aims = stopping_aim (stop_next c (stop.Check seat) got) _;
+        })
+        (stopping_spot (stop_next c (stop.Check seat) got))
 
     -- it lets the others go
-    pub let_go : Quiet Go
-    let_go ready = quiet_owes (control_touch Go) (then_at Go) long refl shared shared promised_to (λ j. search (arith, nat_tests)) hands (stays_ready c seen Go got ready) tt refl
+    pub let_go : (got : ℕ) → Quiet Go got
+    let_go got known =
+        stores_word Pause 0 (then_at Go got) refl refl (λ k differs. refl) shared
+        (record { number_is = refl; hands = known.hands; ready = stays_ready c phase seen Go got known.ready tt; phase_is = known.phase_is; facts = known.facts; aims = tt }) refl

@@ -35,7 +35,7 @@ raise_ready c seat made kept below = grind (arith, nat_tests)
 
 -- an answer in the table is the one that it has been waiting for
 answered_by : (w : World) (seat made raw : ℕ) (k command : Command) (fixed : Option Reply) → raw ≢ 0 → IsSeen raw (w.memory (Answer seat)) fixed → IsPolling w seat made k command fixed → IsAnswered w seat made k command fixed
-answered_by w seat made raw k command fixed some seen (inl waits) = absurd (some (seen.null waits.1.1))
+answered_by w seat made raw k command fixed some seen (inl waits) = absurd (some (seen.null waits.0.1.1))
 answered_by w seat made raw k command fixed some seen (inr (inl has)) = inl has
 answered_by w seat made raw k command fixed some seen (inr (inr is)) = inr (
   record {
@@ -85,6 +85,7 @@ module _ (c : Config) (words image : List ℕ) (block : Plot) (ghost : Ghost) (g
     mine = record {
       seated = record { below = thread.mine.seated.below; counted = thread.mine.seated.counted; usable = thread.mine.seated.usable; unasked = λ e. absurd (cc (e)) };
       ready = raise_ready c seat made kept thread.mine.seated.below;
+      marking = thread.mine.marking;
       roots = thread.mine.roots;
       hands = thread.mine.hands;
       facts = answered_by u seat made raw kept.command command thread.fixed (eqb-false _ _ some) thread.seen thread.mine.facts;
@@ -107,5 +108,5 @@ module _ (c : Config) (words image : List ℕ) (block : Plot) (ghost : Ghost) (g
     own = own_polls thread (raw == 0) refl;
     others = λ k b differs there known.
         machine_stays c words words u u (of_thread past (k + 1)) (of_thread (past ++ []) (k + 1)) k b b.machine shared
-        (record { rely = rely_same k u; answer = refl; counts = inr (record { graph = refl; promised = λ v. refl }); aims = λ control same is. is }) (same_entries k) known;
+        (record { rely = rely_same c k u; answer = refl; counts = inr (record { graph = refl; promised = λ v. refl }); aims = λ control same is. is }) (same_entries k) known;
   }

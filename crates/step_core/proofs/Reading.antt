@@ -1,29 +1,27 @@
 -- The step by which the control has loaded a word of the image, and not the last one.
-use Rattle.std.proofs.Common.{◌≡◌, ℕ, ◌+◌, inl, true, List, [], ◌++◌, Some, None, refl, sym, ap}
+use Rattle.std.proofs.Common.{◌≡◌, ℕ, ◌+◌, inl, List, [], ◌++◌, None, refl, sym, ap}
 use Rattle.std.proofs.lemmas.List.{append-nil}
 use Rattle.std.proofs.lemmas.List.Elements.{All-nil}
 use Rattle.heap_words.specs.declared.config.Config.{Config}
 use Rattle.shen_graph.specs.declared.command.Command.{Command}
 use Rattle.shen_graph.specs.Graph.{Graph}
 use Rattle.shen_graph.specs.History.{Entry, of_thread}
-use Rattle.heap_world.specs.World.{Ghost, Plot, hand, Shared}
+use Rattle.heap_world.specs.World.{Ghost, Plot, Shared}
 use Rattle.heap_world.proofs.Keeping.{rely_same}
 use Rattle.control_steps.specs.Rows.{Controlling}
-use Rattle.control_steps.specs.Ready.{is_ready}
 use Rattle.step_core.specs.Actor.{controlling, Actor}
 use Rattle.step_core.specs.Settled.{stored_image, settled_by, control_number}
 use Rattle.step_core.specs.Threads.{IsSettled}
-use Rattle.step_core.proofs.Facts.{IsAim, PromisedToMutators, Owes}
+use Rattle.step_core.proofs.Facts.{IsControl, PromisedToMutators, Owes}
 use Rattle.step_core.proofs.Pauses.{open_world, no_other_control}
 use Rattle.step_core.proofs.Roles.{machine_stays}
 
 -- nothing changes but what the control has read
 pub read_owes : (c : Config) (words : List ℕ) (block : Plot) (ghost : Ghost) (g : Graph) (past : List Entry) (machines : List Actor) (command : Command) (calls : List Entry) (next : Controlling)
-    → Shared c (open_world c words block ghost g) → PromisedToMutators c block → ((a more : ℕ) → block a ≡ Some (hand (control_number c) more) → ⊥) → is_ready c next.spot ≡ true → IsAim c words next.spot next.image
-    → stored_image next.spot next.image ≡ None
+    → Shared c (open_world c words block ghost g) → PromisedToMutators c block → IsControl c words (open_world c words block ghost g) (control_number c) next → stored_image next.spot next.image ≡ None
     → Owes c words words (open_world c words block ghost g) past (control_number c) machines (settled_by c words (stored_image next.spot next.image)) []
     (record { machine = controlling next; command = command; calls = calls ++ [] })
-read_owes c words block ghost g past machines command calls next shared promised_to hands ready aims none = record {
+read_owes c words block ghost g past machines command calls next shared promised_to stands none = record {
   world = open_world c words block ghost g;
   memory_is = ap (settled_by c words) (sym none);
   graph_is = refl;
@@ -31,11 +29,11 @@ read_owes c words block ghost g past machines command calls next shared promised
   entries = All-nil (IsSettled c.mutators);
   shared = shared;
   promised_to = promised_to;
-  own = record { number_is = refl; hands = hands; ready = ready; aims = aims };
+  own = stands;
   others = λ k b differs there known.
       machine_stays c words words (open_world c words block ghost g) (open_world c words block ghost g) (of_thread past (k + 1)) (of_thread (past ++ []) (k + 1)) k b b.machine shared
       (record {
-        rely = rely_same k (open_world c words block ghost g);
+        rely = rely_same c k (open_world c words block ghost g);
         answer = refl;
         counts = inl refl;
         aims = λ control same. absurd (no_other_control c words (open_world c words block ghost g) (of_thread past (k + 1)) k b b.machine differs known control same);

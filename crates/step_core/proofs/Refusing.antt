@@ -24,12 +24,12 @@ module _ (c : Config) (w : World) (seat made : ℕ) (kept : Kept) (command : Com
   polls (Waiting wait.Poll) mine = by_facts mine.facts
     where
       by_facts : SpotFacts c w seat made kept command None (Waiting wait.Poll) → (Waiting wait.Poll ≡ Waiting wait.Poll) × IsRefused command None × IsAsked w.memory w.block w.graph.count seat refused
-      by_facts (inl waits) = absurd (let none = waits.1.1 in omega (arith, full, none))
+      by_facts (inl waits) = absurd (let none = waits.0.1.1 in omega (arith, full, none))
       by_facts (inr (inl has)) = absurd (let more = has.1.1 in omega (arith, full, more))
       by_facts (inr (inr is)) = (refl, is.0, is.1)
   polls (Waiting wait.StoreRequest) mine = absurd (let none = mine.facts.1.1 in omega (arith, full, none))
   polls (Waiting wait.AskRoom) mine = absurd (let none = mine.facts.1.1 in omega (arith, full, none))
-  polls (Waiting wait.StepOut) mine = absurd (let none = mine.facts.1.1 in omega (arith, full, none))
+  polls (Waiting wait.StepOut) mine = absurd (let none = mine.facts.0.1.1 in omega (arith, full, none))
   polls (Waiting wait.LoadAnswer) mine = absurd (by_facts mine.facts)
     where
       by_facts : SpotFacts c w seat made kept command None (Waiting wait.LoadAnswer) → ⊥
@@ -56,6 +56,7 @@ module _ (c : Config) (w : World) (seat made : ℕ) (kept : Kept) (command : Com
       record {
         seated = mine.seated;
         ready = mine.ready;
+        marking = mine.marking;
         roots = mine.roots;
         hands = mine.hands;
         facts = subst (λ s. SpotFacts c w seat made kept command (Some Full) s) (sym is.0)

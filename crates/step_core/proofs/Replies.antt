@@ -9,11 +9,12 @@ use Rattle.shen_graph.specs.declared.command.Reply.{Reply}
 use Rattle.shen_graph.specs.declared.command.Reply.TheVariants.{Full}
 use Rattle.mutator.specs.declared.spot.Kept.{Kept}
 use Rattle.mutator.specs.declared.spot.Spot.{Spot}
-use Rattle.mutator.specs.declared.spot.Spot.TheVariants.{Rest, Ended, Entering, LoadPhase, LoadSet, Loading, OnField, OnNumber, Showing, StoreRoot, Making, AskCycle, Waiting, Leave, Gone}
+use Rattle.mutator.specs.declared.spot.Spot.TheVariants.{Rest, Ended, Entering, LoadPhase, LoadSet, Loading, OnField, Recording, OnNumber, Showing, StoreRoot, Making, AskCycle, Waiting, Leave, Gone}
 use Rattle.mutator.specs.declared.spot.Entered.TheVariants.{Call, Waited}
 use Rattle.mutator.specs.declared.makes.MakeSpot.TheVariants as make
 use Rattle.mutator.specs.declared.loads.LoadSpot.TheVariants as load
 use Rattle.mutator.specs.declared.fields.FieldSpot.TheVariants as fields
+use Rattle.mutator.specs.declared.overwrites.Overwritten.TheVariants as overwrites
 use Rattle.mutator.specs.declared.numbers.NumberSpot.TheVariants as numbers
 use Rattle.mutator.specs.declared.shows.ShowSpot.TheVariants as show
 use Rattle.mutator.specs.declared.waits.WaitSpot.TheVariants as wait
@@ -39,7 +40,7 @@ answered_polls w seat made k command fixed (inr full) =
 -- Of who waits for an answer: the reply is settled where the table says that the heap is full.
 module _ (w : World) (seat made : ℕ) (k command : Command) (fixed : Option Reply) (raw : ℕ) (seen : IsSeen raw (w.memory (Answer seat)) fixed) where
   full_or_none : IsPolling w seat made k command fixed → ((raw ≡ 1) × (fixed ≡ Some Full)) ⊎ ((raw ≢ 1) × (fixed ≡ None))
-  full_or_none (inl asks) = inr (λ one. (let null = seen.null asks.1.1 in omega (arith, null, one)), asks.0.unsettled)
+  full_or_none (inl asks) = inr (λ one. (let null = seen.null asks.0.1.1 in omega (arith, null, one)), asks.0.0.unsettled)
   full_or_none (inr (inl has)) = inr (seen.given has.1.1, has.0.unsettled)
   full_or_none (inr (inr is)) = ⊎_elim
       (λ (both : (raw ≡ 1) × (fixed ≡ Some Full)). inl both)
@@ -74,9 +75,13 @@ module _ (c : Config) (w : World) (seat made : ℕ) (kept : Kept) (command : Com
   unsettled_before (Loading (load.Shape object second third)) before facts = facts.0.unsettled
   unsettled_before (OnField object fields.Load) before facts = facts.0
   unsettled_before (OnField object (fields.LoadExpected expect value)) before facts = facts.0
+  unsettled_before (OnField object (fields.LoadOld value)) before facts = facts.0
   unsettled_before (OnField object (fields.Store value)) before facts = facts.0
   unsettled_before (OnField object (fields.Swap value)) before facts = facts.0
   unsettled_before (OnField object (fields.Exchange found expect value)) before facts = facts.0
+  unsettled_before (Recording at address (overwrites.Set object value)) before facts = facts.1.0
+  unsettled_before (Recording at address overwrites.Xchg) before facts = absurd (cc (before))
+  unsettled_before (Recording at address overwrites.Cas) before facts = absurd (cc (before))
   unsettled_before (OnNumber object refs numbers.Load) before facts = facts.0
   unsettled_before (OnNumber object refs numbers.Store) before facts = facts.0
   unsettled_before (StoreRoot value) before facts = facts.0
@@ -86,7 +91,7 @@ module _ (c : Config) (w : World) (seat made : ℕ) (kept : Kept) (command : Com
   unsettled_before AskCycle before facts = facts.0
   unsettled_before (Waiting wait.StoreRequest) before facts = facts.0.unsettled
   unsettled_before (Waiting wait.AskRoom) before facts = facts.0.unsettled
-  unsettled_before (Waiting wait.StepOut) before facts = facts.0.unsettled
+  unsettled_before (Waiting wait.StepOut) before facts = facts.0.0.unsettled
   unsettled_before (Waiting wait.Poll) before facts = waits_unsettled w seat made kept.command command fixed raw seen before facts
   unsettled_before (Waiting wait.LoadAnswer) before facts = waits_unsettled w seat made kept.command command fixed raw seen before (answered_polls w seat made kept.command command fixed facts)
   unsettled_before (Waiting (wait.StoreRoot address)) before facts = facts.0.0.unsettled
@@ -98,6 +103,9 @@ module _ (c : Config) (w : World) (seat made : ℕ) (kept : Kept) (command : Com
   pub settled_after : (spot : Spot) → has_settled raw spot ≡ true → SpotFacts c w seat made kept command fixed spot → fixed ≢ None
   settled_after (Showing value show.LoadName) behind facts = λ none. absurd (let it = facts.settled in cc)
   settled_after (Showing value (show.StoreRoot reply)) behind facts = λ none. absurd (let it = facts.0 in cc)
+  settled_after (Recording at address (overwrites.Set object value)) behind facts = absurd (cc (behind))
+  settled_after (Recording at address overwrites.Xchg) behind facts = λ none. absurd (let it = facts.1.settled in cc)
+  settled_after (Recording at address overwrites.Cas) behind facts = λ none. absurd (let it = facts.1 in cc)
   settled_after (Leave reply) behind facts = λ none. absurd cc
   settled_after (Entering at Waited) behind facts = waits_settled w seat made kept.command command fixed raw seen behind (answered_polls w seat made kept.command command fixed facts)
   settled_after (Entering at Call) behind facts = absurd (cc (behind))

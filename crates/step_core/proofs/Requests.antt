@@ -5,7 +5,7 @@ use Rattle.shen_graph.specs.declared.command.Command.{Command}
 use Rattle.shen_graph.specs.declared.command.Reply.{Reply}
 use Rattle.mutator.specs.declared.spot.Kept.{Kept}
 use Rattle.mutator.specs.declared.spot.Spot.{Spot}
-use Rattle.mutator.specs.declared.spot.Spot.TheVariants.{Rest, Ended, Entering, LoadPhase, LoadSet, Loading, OnField, OnNumber, Showing, StoreRoot, Making, AskCycle, Waiting, Leave, Gone}
+use Rattle.mutator.specs.declared.spot.Spot.TheVariants.{Rest, Ended, Entering, LoadPhase, LoadSet, Loading, OnField, Recording, OnNumber, Showing, StoreRoot, Making, AskCycle, Waiting, Leave, Gone}
 use Rattle.mutator.specs.declared.spot.Entered.TheVariants.{Call, Waited}
 use Rattle.mutator.specs.declared.waits.WaitSpot.TheVariants as wait
 use Rattle.mutator.specs.Commands.{dst_of, refs_of, nums_of}
@@ -38,14 +38,14 @@ module _ (c : Config) (w : World) (seat made : ℕ) (kept : Kept) (command : Com
   was_given spot facts = record { asking = given (refs_of kept.command) (nums_of kept.command); is = facts.1; of_command = of_making facts.0 }
 
   polls_for : (spot : Spot) → IsPolling w seat made kept.command command fixed → Asked spot
-  polls_for spot (inl waits) = asks_for spot waits
+  polls_for spot (inl waits) = asks_for spot waits.0
   polls_for spot (inr (inl has)) = was_given spot has
   polls_for spot (inr (inr is)) = record { asking = refused; is = is.1; of_command = tt }
 
   pub has_asked : (spot : Spot) → is_clearing spot ≡ false → Mine c w (mutator_at seat made kept spot) command fixed → Asked spot
   has_asked (Waiting wait.StoreRequest) going mine = record { asking = nothing; is = mine.facts.1; of_command = tt }
   has_asked (Waiting wait.AskRoom) going mine = asks_for (Waiting wait.AskRoom) mine.facts
-  has_asked (Waiting wait.StepOut) going mine = asks_for (Waiting wait.StepOut) mine.facts
+  has_asked (Waiting wait.StepOut) going mine = asks_for (Waiting wait.StepOut) mine.facts.0
   has_asked (Waiting wait.Poll) going mine = polls_for (Waiting wait.Poll) mine.facts
   has_asked (Waiting wait.LoadAnswer) going mine = polls_for (Waiting wait.LoadAnswer) (answered_polls w seat made kept.command command fixed mine.facts)
   has_asked (Waiting (wait.StoreRoot address)) going mine = was_given (Waiting (wait.StoreRoot address)) mine.facts.0
@@ -58,6 +58,7 @@ module _ (c : Config) (w : World) (seat made : ℕ) (kept : Kept) (command : Com
   has_asked LoadSet going mine = not_asked LoadSet refl mine
   has_asked (Loading at) going mine = not_asked (Loading at) refl mine
   has_asked (OnField object at) going mine = not_asked (OnField object at) refl mine
+  has_asked (Recording at address next) going mine = not_asked (Recording at address next) refl mine
   has_asked (OnNumber object refs at) going mine = not_asked (OnNumber object refs at) refl mine
   has_asked (Showing value at) going mine = not_asked (Showing value at) refl mine
   has_asked (StoreRoot value) going mine = not_asked (StoreRoot value) refl mine

@@ -1,11 +1,12 @@
 -- What holds of machines, by their roles: each lemma has one clause a role.
-use Rattle.std.proofs.Common.{◌≡◌, ℕ, ◌+◌, ◌<◌, ◌⊎◌, ⊎_elim, true, List, [], Option, Some, None, refl, sym, ap, ◌∙◌, subst, arith}
+use Rattle.std.proofs.Common.{◌≡◌, ℕ, ◌+◌, ◌<◌, ◌⊎◌, ⊎_elim, true, false, List, [], Option, Some, None, refl, sym, ap, ◌∙◌, subst, arith}
 use Rattle.std.specs.Prelude.{◌==◌, get_or, length, slice_get, if◌then◌else◌}
+use Rattle.std.proofs.lemmas.Bool.{and_from, lt-ltb}
 use Rattle.std.proofs.lemmas.Option.{slice_get-get_or}
 use Rattle.std.proofs.Math.Path.{fun_ext}
 use Rattle.std.proofs.lemmas.List.{append-nil}
 use Rattle.heap_words.specs.declared.config.Config.{Config}
-use Rattle.heap_words.specs.Words.{Root, Answer, view}
+use Rattle.heap_words.specs.Words.{Phase, Root, Answer, view}
 use Rattle.heap_words.specs.Ranges.{seat_count}
 use Rattle.shen_graph.specs.declared.command.Command.{Command}
 use Rattle.shen_graph.specs.declared.command.Command.TheVariants.{Gc}
@@ -22,13 +23,16 @@ use Rattle.mutator.specs.Rows.{Mutating}
 use Rattle.heap_world.specs.World.{World, hand, Points, Shared}
 use Rattle.heap_world.proofs.Keeping.{usable_now}
 use Rattle.heap_world.specs.Asking.{IsAsked, nothing}
+use Rattle.heap_world.specs.Represents.{NobodyMarks}
 use Rattle.heap_world.specs.Rely.{Rely}
+use Rattle.helper.specs.Ready.{spot_fits}
 use Rattle.control_steps.specs.Rows.{Controlling}
 use Rattle.control_steps.specs.Ready.{is_ready}
 use Rattle.step_core.specs.Actor.{Machine, mutating, helping, controlling, Actor, fresh_helper}
 use Rattle.step_core.specs.Machines.{HasNumber, IsIdle}
-use Rattle.step_core.specs.Stepped.{Mine}
-use Rattle.step_core.proofs.Facts.{IsSeen, IsShort, IsThread, IsAim, IsMachine, words_promised}
+use Rattle.step_core.specs.Stepped.{HasMarkingBy, Mine}
+use Rattle.step_core.proofs.Facts.{IsSeen, IsShort, IsThread, HelpFacts, ControlFacts, IsAim, IsMachine, words_promised}
+use Rattle.step_core.proofs.Helpers.{help_stays, control_stays}
 use Rattle.step_core.proofs.Spots.{mutator_at}
 use Rattle.step_core.proofs.Ready.{rest_ready}
 use Rattle.step_core.proofs.Stable.{mine_stays}
@@ -48,7 +52,7 @@ short_stays c u w thread words same short =
 -- What holds of a machine stays while another leads to a world that it can rely on. Its answer in the table stays, and either
 -- that is the one that counts, or nothing changes by which crowding is measured; and what the control has read or written stays so.
 pub record StaysWith (c : Config) (words words_then : List ℕ) (u w : World) (k : ℕ) (machine : Machine) : Type 0 where
-  pub rely : Rely k u w
+  pub rely : Rely c k u w
   pub answer : view c words_then (Answer k) ≡ view c words (Answer k)
   pub counts : (view c words (Answer k) ≡ u.memory (Answer k)) ⊎ CountsTheSame u w
   pub aims : (control : Controlling) → machine ≡ controlling control → IsAim c words control.spot control.image → IsAim c words_then control.spot control.image
@@ -70,7 +74,7 @@ machine_stays c words words_then u w entries more k b (mutating n) shared stays 
   fixed = is.fixed;
   number_is = is.number_is;
   valid = is.valid;
-  mine = mine_stays c u w n b.command is.fixed shared (subst (λ j. Rely j u w) (sym is.number_is) stays.rely) is.mine;
+  mine = mine_stays c u w n b.command is.fixed shared (subst (λ j. Rely c j u w) (sym is.number_is) stays.rely) is.mine;
   seen = seen_stays _ _ _ _ is.fixed stays.answer stays.rely.answer is.seen;
   short = λ full unsettled. ⊎_elim
       (λ (whole : view c words (Answer k) ≡ u.memory (Answer k)). absurd (full_settled _ _ is.fixed is.seen whole (sym stays.rely.answer ∙ full) unsettled))
@@ -79,45 +83,81 @@ machine_stays c words words_then u w entries more k b (mutating n) shared stays 
   entries_are = same ∙ is.entries_are;
 }
 machine_stays c words words_then u w entries more k b (helping h) shared stays same is =
-    record { least = is.least; below = is.below; hands = λ a more is_hand. is.hands a more (stays.rely.no_hands a more is_hand) }
+    record {
+      number_is = is.number_is;
+      ready = is.ready;
+      facts = help_stays c u w k h.phase h.spot stays.rely is.facts;
+      least = is.least;
+      below = is.below;
+      hands = λ a more is_hand. is.hands a more (stays.rely.no_hands a more is_hand);
+    }
 machine_stays c words words_then u w entries more k b (controlling h) shared stays same is =
-    record { number_is = is.number_is; hands = λ a more is_hand. is.hands a more (stays.rely.no_hands a more is_hand); ready = is.ready; aims = stays.aims h refl is.aims }
+    record {
+      number_is = is.number_is;
+      hands = λ a more is_hand. is.hands a more (stays.rely.no_hands a more is_hand);
+      ready = is.ready;
+      phase_is = is.phase_is ∙ sym stays.rely.marks.keeps.phase;
+      facts = control_stays c u w k h.spot stays.rely is.facts;
+      aims = stays.aims h refl is.aims;
+    }
 
 -- a machine has a number of its role
 pub number_of : (c : Config) (words : List ℕ) (w : World) (entries : List Entry) (k : ℕ) (b : Actor) (machine : Machine) → IsMachine c words w entries k b machine → HasNumber c k machine
 number_of c words w entries k b (mutating n) is = (is.number_is, subst (λ j. j < c.mutators) is.number_is is.mine.seated.below)
-number_of c words w entries k b (helping h) is = (is.least, is.below)
+number_of c words w entries k b (helping h) is = (is.number_is, is.least, is.below)
 number_of c words w entries k b (controlling h) is = is.number_is
 
 -- that of a mutator's number is a mutator
 pub mutator_of : (c : Config) (k : ℕ) (machine : Machine) → HasNumber c k machine → k < c.mutators → (m : Mutating) × (machine ≡ mutating m)
 mutator_of c k (mutating m) number below = (m, refl)
-mutator_of c k (helping h) number below = absurd (omega (arith, number.0, below))
+mutator_of c k (helping h) number below = absurd (omega (arith, number.1, below))
 mutator_of c k (controlling h) number below = absurd (omega (arith, number, below))
 
 -- what a mutator counts on that takes commands
 rest_mine : (c : Config) (w : World) (seat made : ℕ) (kept : Kept) (command : Command) (spot : Spot) → takes_commands spot ≡ true → seat < c.mutators → w.graph.count (seat + 1) ≡ made
     → ((i : ℕ) → i < 16 → Points w.block (w.memory (Root seat i)) (w.graph.root (seat + 1) i)) → ((a words : ℕ) → w.block a ≡ Some (hand seat words) → ⊥)
-    → IsAsked w.memory w.block w.graph.count seat nothing → Mine c w (mutator_at seat made kept spot) command None
-rest_mine c w seat made kept command Rest rest below counted roots none asked =
-    record { seated = record { below = below; counted = counted; usable = λ i small. usable_now w.block _ _ (roots i small); unasked = λ no. asked }; ready = rest_ready c seat made kept Rest rest below; roots = roots; hands = none; facts = refl }
-rest_mine c w seat made kept command (Ended r) rest below counted roots none asked =
-    record { seated = record { below = below; counted = counted; usable = λ i small. usable_now w.block _ _ (roots i small); unasked = λ no. asked }; ready = rest_ready c seat made kept (Ended r) rest below; roots = roots; hands = none; facts = refl }
-rest_mine c w seat made kept command _ rest below counted roots none asked = absurd cc
+    → IsAsked w.memory w.block w.graph.count seat nothing → HasMarkingBy w seat None kept.phase false → Mine c w (mutator_at seat made kept spot) command None
+rest_mine c w seat made kept command Rest rest below counted roots none asked marking = record {
+  seated = record { below = below; counted = counted; usable = λ i small. usable_now w.block _ _ (roots i small); unasked = λ no. asked };
+  ready = rest_ready c seat made kept Rest rest below;
+  marking = marking;
+  roots = roots;
+  hands = none;
+  facts = refl;
+}
+rest_mine c w seat made kept command (Ended r) rest below counted roots none asked marking = record {
+  seated = record { below = below; counted = counted; usable = λ i small. usable_now w.block _ _ (roots i small); unasked = λ no. asked };
+  ready = rest_ready c seat made kept (Ended r) rest below;
+  marking = marking;
+  roots = roots;
+  hands = none;
+  facts = refl;
+}
+rest_mine c w seat made kept command _ rest below counted roots none asked marking = absurd cc
 
--- an idle machine that has ended no call, in a world in which nobody has room in hand and nobody waits
-pub machine_begins : (c : Config) (words : List ℕ) (w : World) (k : ℕ) (b : Actor) (machine : Machine) → view c words ≡ w.memory → HasNumber c k machine → IsIdle w.graph k machine → b.calls ≡ []
-    → is_valid b.command ≡ true → ((t i : ℕ) → t < c.mutators → i < 16 → Points w.block (w.memory (Root t i)) (w.graph.root (t + 1) i)) → ((a seat words : ℕ) → w.block a ≡ Some (hand seat words) → ⊥)
-    → ((t : ℕ) → t < c.mutators → IsAsked w.memory w.block w.graph.count t nothing) → IsMachine c words w [] k b machine
-machine_begins c words w k b (mutating m) whole number idle calls valid roots none asked =
+-- A world in which nobody has room in hand, waits or marks.
+pub record IsAtRest (c : Config) (w : World) : Type 0 where
+  pub roots : (t i : ℕ) → t < c.mutators → i < 16 → Points w.block (w.memory (Root t i)) (w.graph.root (t + 1) i)
+  pub none : (a seat words : ℕ) → w.block a ≡ Some (hand seat words) → ⊥
+  pub asked : (t : ℕ) → t < c.mutators → IsAsked w.memory w.block w.graph.count t nothing
+  pub unmarking : NobodyMarks c w.ghost
+
+-- in it a mutator counts on this of marking, while its call has not loaded the phase
+pub unmarking_by : (c : Config) (w : World) (seat loaded : ℕ) → NobodyMarks c w.ghost → seat < c.mutators → HasMarkingBy w seat None loaded false
+unmarking_by c w seat loaded unmarking below = record { records = unmarking.records_none seat below; scans = unmarking.scans_none seat (omega (arith, below)); phase_is = λ no. absurd (cc (no)) }
+
+-- an idle machine that has ended no call, in such a world
+pub machine_begins : (c : Config) (words : List ℕ) (w : World) (k : ℕ) (b : Actor) (machine : Machine) → view c words ≡ w.memory → HasNumber c k machine → IsIdle (w.memory Phase) w.graph k machine → b.calls ≡ []
+    → is_valid b.command ≡ true → IsAtRest c w → IsMachine c words w [] k b machine
+machine_begins c words w k b (mutating m) whole number idle calls valid rests =
     let below : m.seat < c.mutators = subst (λ j. j < c.mutators) (sym number.0) number.1 in
-    let unasked = asked k number.1 in
+    let unasked = rests.asked k number.1 in
     record {
       fixed = None;
       number_is = number.0;
       valid = valid;
       mine = rest_mine c w m.seat m.made m.kept b.command m.spot idle.1 below (subst (λ j. w.graph.count (j + 1) ≡ m.made) (sym number.0) idle.0)
-          (λ i small. roots m.seat i below small) (λ a words is. none a m.seat words is) (asked m.seat below);
+          (λ i small. rests.roots m.seat i below small) (λ a words is. rests.none a m.seat words is) (rests.asked m.seat below) (unmarking_by c w m.seat m.kept.phase rests.unmarking below);
       seen = record {
         null = λ now. ap (λ memory. memory (Answer k)) whole ∙ now;
         full = λ now. absurd (let answer = unasked.1 in omega (arith, now, answer));
@@ -126,15 +166,28 @@ machine_begins c words w k b (mutating m) whole number idle calls valid roots no
       short = λ now unsettled. absurd (let answer = unasked.1 in omega (arith, now, answer));
       entries_are = sym (append-nil b.calls ∙ calls);
     }
-machine_begins c words w k b (helping h) whole number idle calls valid roots none asked = record { least = number.0; below = number.1; hands = λ a more is. none a k more is }
-machine_begins c words w k b (controlling h) whole number idle calls valid roots none asked =
-    record { number_is = number; hands = λ a more is. none a k more is; ready = subst (λ spot. is_ready c spot ≡ true) (sym idle.0) refl; aims = subst (λ spot. IsAim c words spot h.image) (sym idle.0) tt }
+machine_begins c words w k b (helping h) whole number idle calls valid rests = record {
+  number_is = number.0;
+  ready = and_from _ _ (lt-ltb _ _ (subst (λ j. j < c.mutators + c.helpers) (sym number.0) number.2)) (subst (λ spot. spot_fits c spot ≡ true) (sym idle) refl);
+  facts = subst (λ spot. HelpFacts c w k h.phase spot) (sym idle) (rests.unmarking.scans_none k (let below = number.2 in omega (arith, below)));
+  least = number.1;
+  below = number.2;
+  hands = λ a more is. rests.none a k more is;
+}
+machine_begins c words w k b (controlling h) whole number idle calls valid rests = record {
+  number_is = number;
+  hands = λ a more is. rests.none a k more is;
+  ready = subst (λ spot. is_ready c spot ≡ true) (sym idle.0) refl;
+  phase_is = idle.2;
+  facts = subst (λ spot. ControlFacts c w k spot) (sym idle.0) (rests.unmarking.scans_none k (omega (arith, number)));
+  aims = subst (λ spot. IsAim c words spot h.image) (sym idle.0) tt;
+}
 
 -- The machines of a stage, by their numbers.
 module _ (c : Config) (words : List ℕ) (w : World) (past : List Entry) (machines : List Actor) (seats : length machines ≡ seat_count c.mutators c.helpers) where
   -- there is one of each number
   pub machine_there : (k : ℕ) → k < seat_count c.mutators c.helpers → (b : Actor) × (slice_get machines k ≡ Some b)
-  machine_there k below = (get_or machines k (record { machine = fresh_helper; command = Gc; calls = [] }), slice_get-get_or machines k _ (omega (arith, below, seats)))
+  machine_there k below = (get_or machines k (record { machine = fresh_helper 0; command = Gc; calls = [] }), slice_get-get_or machines k _ (omega (arith, below, seats)))
 
   -- and the first of them are mutators
   pub mutator_there : ((k : ℕ) (b : Actor) → slice_get machines k ≡ Some b → IsMachine c words w (of_thread past (k + 1)) k b b.machine) → (t : ℕ) → t < c.mutators

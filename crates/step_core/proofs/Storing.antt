@@ -18,7 +18,7 @@ use Rattle.shen_graph.specs.declared.command.Reply.TheVariants.{Full}
 use Rattle.shen_graph.specs.Graph.{Graph}
 use Rattle.shen_graph.specs.History.{Entry, of_thread}
 use Rattle.mutator.specs.Rows.{Mutating}
-use Rattle.heap_world.specs.World.{Ghost, World, Plot, hand, Shared}
+use Rattle.heap_world.specs.World.{Ghost, World, Plot, Shared}
 use Rattle.heap_world.specs.Change.{Change, image_words}
 use Rattle.heap_world.proofs.Keeping.{rely_same}
 use Rattle.control_steps.specs.declared.spot.ControlSpot.TheVariants.{StoreWord, Go}
@@ -31,13 +31,13 @@ use Rattle.step_core.specs.Settled.{mixed, stored_image, settled_by, control_num
 use Rattle.step_core.specs.Stepped.{Mine}
 use Rattle.step_core.specs.Threads.{IsSettled}
 use Rattle.step_core.proofs.Entries.{entries_settled, own_more, other_more}
-use Rattle.step_core.proofs.Facts.{IsThread, IsAim, IsMachine, AreRead, PromisedToMutators, Owes}
+use Rattle.step_core.proofs.Facts.{IsThread, IsAim, ControlFacts, IsControl, IsMachine, AreRead, PromisedToMutators, Owes}
 use Rattle.step_core.proofs.Images.{image_reads, mixed_whole, mixed_stored}
 use Rattle.step_core.proofs.Pauses.{no_other_control}
 use Rattle.step_core.proofs.Refusing.{refused_new, refused_mine}
 use Rattle.step_core.proofs.Roles.{machine_stays, mutator_there}
 
-module _ (change : Change) (c : Config) (words : List ℕ) (block : Plot) (ghost : Ghost) (g : Graph) (past : List Entry) (machines : List Actor) (image : List ℕ) (index seen : ℕ) (command : Command) (calls : List Entry)
+module _ (change : Change) (c : Config) (words : List ℕ) (block : Plot) (ghost : Ghost) (g : Graph) (past : List Entry) (machines : List Actor) (image : List ℕ) (index seen phase : ℕ) (command : Command) (calls : List Entry)
     (ready : is_ready c (StoreWord index) ≡ true) (long : length words ≡ table_words c) (image_long : length image ≡ image_words c) (read : AreRead c words image index)
     (seats : length machines ≡ seat_count c.mutators c.helpers) where
   -- where the word stands, what was there, and what is stored
@@ -58,9 +58,12 @@ module _ (change : Change) (c : Config) (words : List ℕ) (block : Plot) (ghost
   abbrev u : World
   u = record { memory = mixed c words image; block = block; ghost = ghost; graph = g }
 
-  -- the control then
+  -- the control, and the control then
+  abbrev pub storing : Controlling
+  storing = record { spot = StoreWord index; seen = seen; phase = phase; image = image }
+
   abbrev control_then : Controlling
-  control_then = control_next change c (record { spot = StoreWord index; seen = seen; image = image }) raw
+  control_then = control_next change c storing raw
 
   abbrev new : Actor
   new = record { machine = controlling control_then; command = command; calls = calls ++ [] }
@@ -130,7 +133,7 @@ module _ (change : Change) (c : Config) (words : List ℕ) (block : Plot) (ghost
   other_then settles k b other entries answer shared is =
       machine_stays c words words_then u u (of_thread past (k + 1)) (of_thread (past ++ settles) (k + 1)) k b b.machine shared
       (record {
-        rely = rely_same k u;
+        rely = rely_same c k u;
         answer = answer;
         counts = inr (record { graph = refl; promised = λ t. refl });
         aims = λ control same. absurd (no_other_control c words u (of_thread past (k + 1)) k b b.machine other is control same);
@@ -138,9 +141,24 @@ module _ (change : Change) (c : Config) (words : List ℕ) (block : Plot) (ghost
       entries is
 
   -- what all stores owe
-  module _ (shared : Shared c u) (promised_to : PromisedToMutators c block) (hands : (a more : ℕ) → block a ≡ Some (hand (control_number c) more) → ⊥) where
+  module _ (shared : Shared c u) (promised_to : PromisedToMutators c block) (stands : IsControl c words u (control_number c) storing) where
     abbrev Stored : List Entry → Type 0
     Stored settles = Owes c words words_then u past (control_number c) machines (settled_by c words_then (stored_image control_then.spot control_then.image)) settles new
+
+    -- the control stores the next word, or has stored all
+    facts_then : (b : Bool) → ControlFacts c u (control_number c) (if b then StoreWord (index + 1) else Go)
+    facts_then true = stands.facts
+    facts_then false = stands.facts
+
+    own_then : IsControl c words_then u (control_number c) control_then
+    own_then = record {
+      number_is = refl;
+      hands = stands.hands;
+      ready = stays_ready c phase seen (StoreWord index) raw ready tt;
+      phase_is = stands.phase_is;
+      facts = facts_then (nat_lt (index + 1) (image_words c));
+      aims = aims_then (nat_lt (index + 1) (image_words c));
+    }
 
     -- a store that settles nothing
     quiet_store : ((k : ℕ) (b : Actor) → k ≢ control_number c → slice_get machines k ≡ Some b → IsMachine c words u (of_thread past (k + 1)) k b b.machine
@@ -153,7 +171,7 @@ module _ (change : Change) (c : Config) (words : List ℕ) (block : Plot) (ghost
       entries = All-nil (IsSettled c.mutators);
       shared = shared;
       promised_to = promised_to;
-      own = record { number_is = refl; hands = hands; ready = stays_ready c seen (StoreWord index) raw ready; aims = aims_then (nat_lt (index + 1) (image_words c)) };
+      own = own_then;
       others = others;
     }
 
@@ -248,7 +266,7 @@ module _ (change : Change) (c : Config) (words : List ℕ) (block : Plot) (ghost
             entries = entries_settled c.mutators t b.command (Some Full) within thread.valid;
             shared = shared;
             promised_to = promised_to;
-            own = record { number_is = refl; hands = hands; ready = stays_ready c seen (StoreWord index) raw ready; aims = aims_then (nat_lt (index + 1) (image_words c)) };
+            own = own_then;
             others = λ k d other there_k known_k. ⊎_elim
                 (λ (same : k ≡ t).
                 let one_actor : d ≡ b = same_Some d b (sym there_k ∙ ap (slice_get machines) same ∙ there) in

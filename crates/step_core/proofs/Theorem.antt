@@ -1,6 +1,6 @@
 -- The theorem over every list of events.
-use Rattle.std.proofs.Common.{◌≡◌, ◌≢◌, ℕ, ◌+◌, ◌<◌, true, false, List, [], ◌++◌, Some, refl, sym, ap, ◌∙◌, subst, arith}
-use Rattle.std.specs.Prelude.{slice_get, slice_index}
+use Rattle.std.proofs.Common.{◌≡◌, ◌≢◌, ℕ, ◌+◌, ◌<◌, Bool, true, false, List, [], ◌++◌, Some, refl, sym, ap, ◌∙◌, subst, arith}
+use Rattle.std.specs.Prelude.{◌&&◌, slice_get, slice_index}
 use Rattle.std.proofs.lemmas.Option.{same_Some}
 use Rattle.heap_words.specs.declared.config.Config.{Config}
 use Rattle.heap_words.specs.Access.{table_index}
@@ -15,6 +15,7 @@ use Rattle.steps_base.proofs.Runs.{reached_has}
 use Rattle.steps_base.proofs.Touches.{table_index-access_at}
 use Rattle.shen_graph.specs.declared.order.Order.{Order}
 use Rattle.shen_graph.specs.declared.order.Order.TheVariants.{Nothing, Begin, End}
+use Rattle.shen_graph.specs.Order.{is_nothing}
 use Rattle.shen_graph.specs.Graph.{Graph}
 use Rattle.shen_graph.specs.Crowd.{AreCrowded}
 use Rattle.shen_graph.specs.History.{Entry, after, of_thread}
@@ -33,8 +34,10 @@ use Rattle.alloc_buffers.specs.Facts.{HasLess}
 use Rattle.heap_world.specs.World.{World, hand}
 use Rattle.heap_world.specs.Change.{Change, IsPause}
 use Rattle.control_steps.specs.declared.spot.ControlSpot.{ControlSpot}
-use Rattle.control_steps.specs.declared.spot.ControlSpot.TheVariants.{LoadWord}
-use Rattle.control_steps.specs.Ready.{is_ready}
+use Rattle.control_steps.specs.declared.spot.ControlSpot.TheVariants.{Scanning, LoadWord}
+use Rattle.control_steps.specs.Ready.{is_ready, ScanGoesOn}
+use Rattle.helper.specs.Rows.{Helping, help_touch}
+use Rattle.helper.specs.Ready as help
 use Rattle.control_steps.specs.Rows.{Controlling, control_access, word_stored}
 use Rattle.control_steps.proofs.Ready.{accesses_inside}
 use Rattle.step_core.specs.Actor.{Machine, mutating, helping, controlling, Actor}
@@ -43,7 +46,7 @@ use Rattle.step_core.specs.Begun.{begun}
 use Rattle.step_core.specs.Fit.{IsFitFor, IsWhole}
 use Rattle.step_core.specs.History.{told, history}
 use Rattle.step_core.specs.Machines.{takes_of, plan_of, took_of, machine_after, kind}
-use Rattle.step_core.specs.Pausing.{IsInPause, IsEmpty}
+use Rattle.step_core.specs.Pausing.{IsInPause, IsHelper, IsEmpty}
 use Rattle.step_core.specs.Settled.{settled, control_number}
 use Rattle.step_core.specs.Sound.{world_of, IsMutator, IsOfHeap, FindsFit, IsSound}
 use Rattle.step_core.specs.Stepped.{SpotFacts}
@@ -53,13 +56,14 @@ use Rattle.step_core.proofs.Crowding.{run_crowded}
 use Rattle.step_core.proofs.Facts.{IsSeen, IsThread, IsAim, IsMachine}
 use Rattle.step_core.proofs.FirstFacts.{opening_run}
 use Rattle.step_core.proofs.Images.{found-placed}
-use Rattle.step_core.proofs.ControlEvents.{whole_stands}
+use Rattle.step_core.proofs.ControlEvents.{whole_stands, scan_fit}
+use Rattle.step_core.proofs.Helpers.{help_leaves_image, help_word}
 use Rattle.step_core.proofs.Induction.{Goes, goes_event, goes_run}
 use Rattle.step_core.proofs.MachinesObey.{standing, is_left}
 use Rattle.step_core.proofs.MutatorObeys.{has_not_ended}
 use Rattle.step_core.proofs.Ordered.{order_word}
 use Rattle.step_core.proofs.Outside.{outside_touch}
-use Rattle.step_core.specs.Standing.{standing_at, standing_of}
+use Rattle.step_core.specs.Standing.{standing_at, help_standing, standing_of}
 use Rattle.step_core.proofs.Replies.{unsettled_at_rest, unsettled_before, settled_after}
 use Rattle.step_core.proofs.Requests.{has_asked}
 use Rattle.step_core.proofs.Roles.{number_of, mutator_of, machine_there}
@@ -81,6 +85,12 @@ ends_at : (c : Config) (seat made : ℕ) (kept : Kept) (spot : Spot) → takes_a
 ends_at c seat made kept Rest takes = refl
 ends_at c seat made kept (Ended reply) takes = refl
 ends_at c seat made kept _ takes = absurd (cc (takes))
+
+-- a helper takes no order
+unordered : (order : Order) (b : Bool) → (is_nothing order && b) ≡ true → (true && b) ≡ true
+unordered Nothing b takes = takes
+unordered (Begin command) b takes = absurd (cc (takes))
+unordered End b takes = absurd (cc (takes))
 
 -- What a stage says in which all goes as it should.
 module _ (change : Change) (law : IsPause change) (c : Config) (g : Graph) (s : Stage Actor) (h : List Entry) (goes : Goes c g s h) where
@@ -131,13 +141,29 @@ module _ (change : Change) (law : IsPause change) (c : Config) (g : Graph) (s : 
           (subst (λ got. got ≢ 0) (sym (found-placed c s.words (touch Left (subtracts 1)) refl))
           (left_some c is_left s number a goes.counted here (ap (λ machine. is_left (record { machine = machine; command = a.command; calls = a.calls })) is ∙ ends_left m.spot m.made takes_it)))
 
-  -- so is one that the control finds
-  fit_control : (number : ℕ) (seen : ℕ) (image : List ℕ) (a : Actor) (spot : ControlSpot) → slice_get s.machines number ≡ Some a → a.machine ≡ controlling (record { spot = spot; seen = seen; image = image })
-      → IsWhole c spot image (slice_index s.words (table_index (control_access c (record { spot = spot; seen = seen; image = image }))))
-  fit_control number seen image a (LoadWord index) here is =
-      λ last. whole_stands change law c g s h number seen image a.command a.calls goes.follows goes.shaken index
+  -- so is one that a helper finds
+  fit_helper : (number : ℕ) (a : Actor) (m : Helping) → slice_get s.machines number ≡ Some a → a.machine ≡ helping m → takes_of (helping m) Nothing ≡ true
+      → help.IsFit c m (slice_index s.words (table_index (placed c (help_touch c m))))
+  fit_helper number a m here is takes =
+      let next = machine_next number a Nothing here (ap (λ machine. takes_of machine Nothing) is ∙ takes) in
+      (subst (λ machine. IsMachine c next.1 next.0 next.2 number (took_of change c a Nothing (slice_index s.words (table_index (plan_of c Nothing a.machine))) a.machine)
+      (machine_after change c Nothing (slice_index s.words (table_index (plan_of c Nothing machine))) machine)) is next.3).ready
+
+  -- and one that the control finds
+  fit_control : (number seen phase : ℕ) (image : List ℕ) (a : Actor) (spot : ControlSpot) → slice_get s.machines number ≡ Some a → a.machine ≡ controlling (record { spot = spot; seen = seen; phase = phase; image = image })
+      → IsWhole c spot image (slice_index s.words (table_index (control_access c (record { spot = spot; seen = seen; phase = phase; image = image }))))
+  fit_control number seen phase image a (LoadWord index) here is =
+      λ last. whole_stands change law c g s h number seen phase image a.command a.calls goes.follows goes.shaken index
       (here ∙ ap (λ machine. Some (record { machine = machine; command = a.command; calls = a.calls })) is) last
-  fit_control number seen image a _ here is = tt
+  fit_control number seen phase image a _ here is = tt
+
+  -- also while it scans
+  fit_scan : (number seen phase : ℕ) (image : List ℕ) (a : Actor) (spot : ControlSpot) → slice_get s.machines number ≡ Some a → a.machine ≡ controlling (record { spot = spot; seen = seen; phase = phase; image = image })
+      → ScanGoesOn c spot (slice_index s.words (table_index (control_access c (record { spot = spot; seen = seen; phase = phase; image = image }))))
+  fit_scan number seen phase image a (Scanning at) here is =
+      scan_fit change law c g s h number seen phase image a.command a.calls goes.follows goes.shaken at
+      (here ∙ ap (λ machine. Some (record { machine = machine; command = a.command; calls = a.calls })) is)
+  fit_scan number seen phase image a _ here is = tt
 
   -- a machine finds a fit word
   finds_fit : (number : ℕ) (a : Actor) → slice_get s.machines number ≡ Some a → FindsFit c s a
@@ -156,10 +182,16 @@ module _ (change : Change) (law : IsPause change) (c : Config) (g : Graph) (s : 
                 subst (λ machine. IsFitFor c order (slice_index s.words (table_index (plan_of c order machine))) machine) (sym is)
                 (fit_mutator number a m order here is (ap (λ machine. takes_of machine order) (sym is) ∙ takes));
           }
-      by_machine (helping h) is = record {
-        inside = λ order takes. absurd (let no_order = ap (λ machine. takes_of machine order) (sym is) ∙ takes in cc (no_order));
-        fit = λ order takes. absurd (let no_order = ap (λ machine. takes_of machine order) (sym is) ∙ takes in cc (no_order));
-      }
+      by_machine (helping m) is =
+          let facts = subst (λ machine. IsMachine c s.words the_world (of_thread h (number + 1)) number a machine) is (known number a here) in
+          record {
+            inside = λ order takes.
+                subst (λ machine. table_index (plan_of c order machine) < table_words c) (sym is)
+                (subst (λ k. k < table_words c) (sym (table_index-access_at (word_at c (help_touch c m).word) (help_touch c m).form)) (word_inside c (help_touch c m).word (help_word c the_world number m facts)));
+            fit = λ order takes.
+                subst (λ machine. IsFitFor c order (slice_index s.words (table_index (plan_of c order machine))) machine) (sym is)
+                (fit_helper number a m here is (unordered order _ (ap (λ machine. takes_of machine order) (sym is) ∙ takes)));
+          }
       by_machine (controlling k) is =
           let facts = subst (λ machine. IsMachine c s.words the_world (of_thread h (number + 1)) number a machine) is (known number a here) in
           record {
@@ -167,7 +199,7 @@ module _ (change : Change) (law : IsPause change) (c : Config) (g : Graph) (s : 
                 subst (λ machine. table_index (plan_of c order machine) < table_words c) (sym is) (accesses_inside c k.spot (word_stored k.spot k.image) facts.ready);
             fit = λ order takes.
                 subst (λ machine. IsFitFor c order (slice_index s.words (table_index (plan_of c order machine))) machine) (sym is)
-                (fit_control number k.seen k.image a k.spot here is);
+                (fit_control number k.seen k.phase k.image a k.spot here is, fit_scan number k.seen k.phase k.image a k.spot here is);
           }
 
   -- of its machines
@@ -232,10 +264,12 @@ module _ (change : Change) (law : IsPause change) (c : Config) (g : Graph) (s : 
       let facts = subst (λ machine. IsMachine c s.words the_world (of_thread h (number + 1)) number a machine) is (known number a here) in
       (facts.ready, facts.aims)
 
--- In a pause no mutator is in the heap, and each leaves the image alone.
+-- In a pause no mutator and no helper is in the heap, and each leaves the image alone.
 pause_is_empty : (change : Change) → IsPause change → (c : Config) (g : Graph) (s : Stage Actor) (h : List Entry) → Goes c g s h → IsInPause c s → IsEmpty c s
 pause_is_empty change law c g s h goes pause = record {
   nobody = out;
+  no_helper = help_out;
+  no_access = λ number a m here. help_leaves_image c m.seat m.spot (help_out number a m here);
   only_polls = λ number a m order here takes. outside_touch c m.seat m.made m.kept order m.spot (out number a m here) takes;
 }
   where
@@ -250,6 +284,11 @@ pause_is_empty change law c g s h goes pause = record {
         let below : number < control_number c = (let less = subst (λ k. k < c.mutators) thread.number_is thread.mine.seated.below in omega (arith, less)) in
         ap (λ machine. is_within (standing_of machine)) (sym here.is) ∙ pause_empty c standing s goes.shaken pausing number a below here.here
 
+    help_out : (number : ℕ) (a : Actor) (m : Helping) → IsHelper s number a m → is_within (help_standing m.spot) ≡ false
+    help_out number a m here =
+        let facts = subst (λ machine. IsMachine c s.words (world_of c s goes.follows.block goes.follows.ghost (after g h)) (of_thread h (number + 1)) number a machine) here.is (goes.follows.machines number a here.here) in
+        ap (λ machine. is_within (standing_of machine)) (sym here.is) ∙ pause_empty c standing s goes.shaken pausing number a facts.below here.here
+
 module _ (change : Change) (law : IsPause change) (c : Config) (s : Stage Actor) (g : Graph) (begins : Begins c s g) where
   -- in each stage that events lead to all goes as it should
   goes_all : (events : List (Event Order)) → Goes c g (go (kind change c) s events) (history change c s events)
@@ -259,7 +298,7 @@ module _ (change : Change) (law : IsPause change) (c : Config) (s : Stage Actor)
   pub every_run : (events : List (Event Order)) → IsSound c g (go (kind change c) s events) (history change c s events)
   every_run events = sound change law c g (go (kind change c) s events) (history change c s events) (goes_all events) (run_crowded change law c s g begins events)
 
-  -- in a pause no mutator is in the heap
+  -- in a pause no mutator and no helper is in the heap
   pub run_pauses : (events : List (Event Order)) → IsInPause c (go (kind change c) s events) → IsEmpty c (go (kind change c) s events)
   run_pauses events = pause_is_empty change law c g (go (kind change c) s events) (history change c s events) (goes_all events)
 

@@ -1,4 +1,4 @@
--- Where a mutator goes on that is in the heap: it stays in the heap until it leaves, and accesses no word of the handshake.
+-- Where a mutator goes on that is in the heap: it stays in the heap until it leaves.
 use Rattle.std.proofs.Common.{◌≡◌, ℕ, Bool, true, false, refl}
 use Rattle.std.specs.Prelude.{◌==◌, nat_lt, length, if◌then◌else◌}
 use Rattle.heap_words.specs.declared.config.Config.{Config}
@@ -9,24 +9,26 @@ use Rattle.shen_graph.specs.declared.order.Order.{Order}
 use Rattle.alloc_buffers.specs.declared.spot.TakeSpot.{TakeSpot}
 use Rattle.alloc_buffers.specs.declared.spot.TakeSpot.TheVariants as take
 use Rattle.alloc_buffers.specs.declared.spot.Taken.TheVariants.{At, NoRoom}
-use Rattle.handshake.specs.declared.enter_spot.EnterSpot.{EnterSpot}
 use Rattle.handshake.specs.declared.enter_spot.EnterSpot.TheVariants as enter
 use Rattle.handshake.specs.Standing.{inside, is_within}
-use Rattle.handshake.proofs.Parts.{is_other}
-use Rattle.mutator.specs.declared.spot.Kept.{Kept}
+use Rattle.satb_barrier.specs.declared.spot.RememberSpot.{RememberSpot}
+use Rattle.satb_barrier.specs.declared.spot.RememberSpot.TheVariants.{LoadCount, Recorded}
+use Rattle.satb_barrier.specs.Rows as satb
 use Rattle.mutator.specs.declared.spot.Spot.{Spot}
-use Rattle.mutator.specs.declared.spot.Spot.TheVariants.{Entering, LoadPhase, LoadSet, Loading, OnField, OnNumber, Showing, StoreRoot, Making, AskCycle, Waiting, Leave}
+use Rattle.mutator.specs.declared.spot.Spot.TheVariants.{Entering, LoadPhase, LoadSet, Loading, OnField, Recording, OnNumber, Showing, StoreRoot, Making, AskCycle, Waiting, Leave}
 use Rattle.mutator.specs.declared.spot.Entered.{Entered}
 use Rattle.mutator.specs.declared.spot.Entered.TheVariants.{Call, Waited}
 use Rattle.mutator.specs.declared.loads.LoadSpot.TheVariants as load
 use Rattle.mutator.specs.declared.fields.FieldSpot.TheVariants as fields
+use Rattle.mutator.specs.declared.overwrites.Overwritten.{Overwritten}
+use Rattle.mutator.specs.declared.overwrites.Overwritten.TheVariants as overwrites
 use Rattle.mutator.specs.declared.numbers.NumberSpot.TheVariants as numbers
 use Rattle.mutator.specs.declared.shows.ShowSpot.TheVariants as show
 use Rattle.mutator.specs.declared.makes.MakeSpot.TheVariants as make
 use Rattle.mutator.specs.declared.waits.WaitSpot.{WaitSpot}
 use Rattle.mutator.specs.declared.waits.WaitSpot.TheVariants as wait
 use Rattle.mutator.specs.Commands.{roots_of, lacks_object, has_part}
-use Rattle.mutator.specs.Rows.{Mutating, touch_at, first_spot, after_roots, after_first, with_part, after_take, take_next, next_at}
+use Rattle.mutator.specs.Rows.{Mutating, first_spot, after_roots, after_first, with_part, is_to_record, overwritten, after_recording, after_remember, after_take, take_next, next_at}
 use Rattle.mutator.specs.WaitRows.{after_enter}
 use Rattle.step_core.specs.Standing.{standing_at, wait_standing}
 
@@ -55,14 +57,27 @@ roots_in_heap (Copy dst src) first second third = refl
 roots_in_heap (Same a b) first second third = refl
 roots_in_heap _ first second third = refl
 
-part_in : (k : Command) (object second third shape : ℕ) → IsIn (with_part k object second third shape)
-part_in (Get dst src field) object second third shape = refl
-part_in (Set obj field val) object second third shape = refl
-part_in (Cas obj field expect val) object second third shape = refl
-part_in (Xchg dst obj field val) object second third shape = refl
-part_in (Rd obj index) object second third shape = refl
-part_in (Wr obj index value) object second third shape = refl
-part_in _ object second third shape = refl
+part_in : (phase : ℕ) (k : Command) (object second third shape : ℕ) → IsIn (with_part phase k object second third shape)
+part_in phase (Get dst src field) object second third shape = refl
+part_in phase (Set obj field val) object second third shape = refl
+part_in phase (Cas obj field expect val) object second third shape = refl
+part_in phase (Xchg dst obj field val) object second third shape = refl
+part_in phase (Rd obj index) object second third shape = refl
+part_in phase (Wr obj index value) object second third shape = refl
+part_in phase _ object second third shape = refl
+
+-- also with a reference that it overwrites, and records while objects are marked
+recorded_in : (found : ℕ) (next : Overwritten) → IsIn (after_recording found next)
+recorded_in found (overwrites.Set object value) = refl
+recorded_in found overwrites.Xchg = refl
+recorded_in found overwrites.Cas = refl
+
+overwritten_in : (phase found : ℕ) (next : Overwritten) → IsIn (overwritten phase found next)
+overwritten_in phase found next = either_in (is_to_record phase found) (Recording LoadCount found next) (after_recording found next) refl (recorded_in found next)
+
+remember_in : (address : ℕ) (next : Overwritten) (at : RememberSpot) → IsIn (after_remember address next at)
+remember_in address next Recorded = recorded_in address next
+remember_in address next _ = refl
 
 take_in : (at : TakeSpot) → IsIn (after_take at)
 take_in (take.Ended (At address)) = refl
@@ -80,12 +95,15 @@ goes_on_in c m order got (Loading (load.Second first)) is =
     either_in (nat_lt 2 (length (roots_of m.kept.command))) (Loading (load.Third first got)) (after_roots m.kept.command first got 0) refl (roots_in_heap m.kept.command first got 0)
 goes_on_in c m order got (Loading (load.Third first second)) is = roots_in_heap m.kept.command first second got
 goes_on_in c m order got (Loading (load.Shape object second third)) is =
-    either_in (has_part m.kept.command got) (with_part m.kept.command object second third got) (Leave reply.Bad) (part_in m.kept.command object second third got) refl
+    either_in (has_part m.kept.command got) (with_part m.kept.phase m.kept.command object second third got) (Leave reply.Bad) (part_in m.kept.phase m.kept.command object second third got) refl
 goes_on_in c m order got (OnField object fields.Load) is = refl
 goes_on_in c m order got (OnField object (fields.LoadExpected expect value)) is = either_in (got == expect) (OnField object (fields.Exchange got expect value)) (Leave reply.No) refl refl
+goes_on_in c m order got (OnField object (fields.LoadOld value)) is = overwritten_in m.kept.phase got (overwrites.Set object value)
 goes_on_in c m order got (OnField object (fields.Store value)) is = refl
-goes_on_in c m order got (OnField object (fields.Swap value)) is = refl
-goes_on_in c m order got (OnField object (fields.Exchange found expect value)) is = either_in (got == found) (Leave reply.Yes) (OnField object (fields.LoadExpected expect value)) refl refl
+goes_on_in c m order got (OnField object (fields.Swap value)) is = overwritten_in m.kept.phase got overwrites.Xchg
+goes_on_in c m order got (OnField object (fields.Exchange found expect value)) is =
+    either_in (got == found) (overwritten m.kept.phase found overwrites.Cas) (OnField object (fields.LoadExpected expect value)) (overwritten_in m.kept.phase found overwrites.Cas) refl
+goes_on_in c m order got (Recording at address next) is = remember_in address next (satb.next_at at got)
 goes_on_in c m order got (OnNumber object refs numbers.Load) is = refl
 goes_on_in c m order got (OnNumber object refs numbers.Store) is = refl
 goes_on_in c m order got (Showing value show.LoadName) is = refl
@@ -112,41 +130,3 @@ goes_on_in c m order got (Entering enter.Inside next) is = goes_in next
     goes_in Call = refl
     goes_in Waited = refl
 goes_on_in c m order got _ is = cc
-
--- its access is of a word that is not of the handshake
-pub other_word : (c : Config) (seat made : ℕ) (kept : Kept) (order : Order) (spot : Spot) → standing_at spot ≡ inside → (((at : EnterSpot) (next : Entered) → spot ≡ Entering at next → ⊥)) → is_other (touch_at c seat made kept order spot).word ≡ true
-other_word c seat made kept order LoadPhase is apart = refl
-other_word c seat made kept order LoadSet is apart = refl
-other_word c seat made kept order (Loading load.First) is apart = refl
-other_word c seat made kept order (Loading (load.Second first)) is apart = refl
-other_word c seat made kept order (Loading (load.Third first second)) is apart = refl
-other_word c seat made kept order (Loading (load.Shape object second third)) is apart = refl
-other_word c seat made kept order (OnField object fields.Load) is apart = refl
-other_word c seat made kept order (OnField object (fields.LoadExpected expect value)) is apart = refl
-other_word c seat made kept order (OnField object (fields.Store value)) is apart = refl
-other_word c seat made kept order (OnField object (fields.Swap value)) is apart = refl
-other_word c seat made kept order (OnField object (fields.Exchange found expect value)) is apart = refl
-other_word c seat made kept order (OnNumber object refs numbers.Load) is apart = refl
-other_word c seat made kept order (OnNumber object refs numbers.Store) is apart = refl
-other_word c seat made kept order (Showing value show.LoadName) is apart = refl
-other_word c seat made kept order (Showing value (show.StoreRoot r)) is apart = refl
-other_word c seat made kept order (StoreRoot value) is apart = refl
-other_word c seat made kept order (Making (make.Taking take.LoadCurrent)) is apart = refl
-other_word c seat made kept order (Making (make.Taking (take.LoadTop region))) is apart = refl
-other_word c seat made kept order (Making (make.Taking take.LoadFree)) is apart = refl
-other_word c seat made kept order (Making (make.Taking (take.TakeRegion region))) is apart = refl
-other_word c seat made kept order (Making (make.Taking (take.StoreCurrent region))) is apart = refl
-other_word c seat made kept order (Making (make.Taking (take.StoreTop region top))) is apart = refl
-other_word c seat made kept order (Making (make.Taking (take.Ended taken))) is apart = refl
-other_word c seat made kept order (Making (make.StoreWord address done)) is apart = refl
-other_word c seat made kept order (Making (make.StoreRoot address)) is apart = refl
-other_word c seat made kept order AskCycle is apart = refl
-other_word c seat made kept order (Waiting wait.StoreRequest) is apart = refl
-other_word c seat made kept order (Waiting wait.AskRoom) is apart = refl
-other_word c seat made kept order (Waiting wait.StepOut) is apart = cc
-other_word c seat made kept order (Waiting wait.Poll) is apart = cc
-other_word c seat made kept order (Waiting wait.LoadAnswer) is apart = refl
-other_word c seat made kept order (Waiting (wait.StoreRoot address)) is apart = refl
-other_word c seat made kept order (Waiting (wait.ClearAnswer r)) is apart = refl
-other_word c seat made kept order (Entering at next) is apart = absurd (apart at next refl)
-other_word c seat made kept order _ is apart = cc

@@ -1,7 +1,7 @@
-use Rattle.std.proofs.Common.{◌≡◌, ◌+◌, map}
+use Rattle.std.proofs.Common.{◌≡◌}
 use Rattle.image_laws.specs.Full.{answers_below}
 use Rattle.heap_graph.specs.Walk.{with_addresses}
-use Rattle.image_graph.specs.State.{config_of, memory_of, found_of, AreFound, IsUnchanged}
+use Rattle.image_graph.specs.State.{memory_of, found_of, AreFound, IsUnchanged}
 use Rattle.mark_core.proofs.begin.find_answers.Given as goal
 
 abbrev pub invariant-loop-mutator : goal.invariant-loop-mutator

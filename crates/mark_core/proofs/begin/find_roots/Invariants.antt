@@ -1,8 +1,8 @@
-use Rattle.std.proofs.Common.{◌≡◌, ◌+◌, map}
+use Rattle.std.proofs.Common.{◌≡◌, map}
 use Rattle.std.specs.List.{range_with_len}
 use Rattle.heap_words.specs.Words.{Root}
 use Rattle.heap_graph.specs.Walk.{with_addresses}
-use Rattle.image_graph.specs.State.{config_of, memory_of, found_of, AreFound, IsUnchanged}
+use Rattle.image_graph.specs.State.{memory_of, found_of, AreFound, IsUnchanged}
 use Rattle.mark_core.proofs.begin.find_roots.Given as goal
 
 abbrev pub invariant-loop-index : goal.invariant-loop-index

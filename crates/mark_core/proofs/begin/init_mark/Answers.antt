@@ -10,6 +10,7 @@ use Rattle.mark_laws.proofs.Begun.{init_marks}
 use Rattle.mark_core.specs.Steps.{greyed, noted, emptied}
 use Rattle.mark_core.proofs.State.{memory_same}
 use Rattle.mark_core.proofs.Beginning.{roots_inside_some, all_inside, begun}
+use Rattle.mark_core.proofs.Some.{marks_after}
 use Rattle.mark_core.proofs.begin.init_mark.Goals as goal
 
 pub find_named-requires : goal.find_named-requires
@@ -53,3 +54,6 @@ pub returns-clause-begins : goal.returns-clause-begins
 returns-clause-begins c = λ block owner p graph holds.
     subst (λ n. BeginsMarking (config_of c.args.image.now) n block owner p graph) (sym (returns-clause-words c))
     (init_marks (config_of c.args.image.now) (memory_of c.args.image.now) block owner p graph holds c.requires.calm)
+
+pub returns-clause-marks : goal.returns-clause-marks
+returns-clause-marks c = marks_after (config_of c.args.image.now) (memory_of c.args.image.now) (memory_of c.set_word-3.new.self) (returns-clause-begins c) c.requires.holds

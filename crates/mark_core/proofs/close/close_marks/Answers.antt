@@ -11,6 +11,7 @@ use Rattle.mark_laws.proofs.Closed.{are_closed, closed_holds, closed_through}
 use Rattle.mark_core.specs.Steps.{marked, emptied}
 use Rattle.mark_core.proofs.State.{memory_same}
 use Rattle.mark_core.proofs.Closing.{can_trace_some, closed_is}
+use Rattle.mark_core.proofs.Some.{holds_closed}
 use Rattle.mark_core.proofs.close.close_marks.Goals as goal
 
 pub find_traced-requires : goal.find_traced-requires
@@ -46,3 +47,7 @@ returns-clause-through c = λ block owner p graph holds marking.
     let m : Word → ℕ = memory_of c.args.image.now in
     subst (λ n. HoldsBy g n block owner p graph × IsMarkedThrough g n block) (sym (returns-clause-words c))
     (closed_holds g m block owner p graph holds marking, closed_through g m block owner p graph holds marking)
+
+pub returns-clause-holds : goal.returns-clause-holds
+returns-clause-holds c =
+    holds_closed (config_of c.args.image.now) (memory_of c.args.image.now) (memory_of c.empty_buffers.new.image) (returns-clause-through c) c.requires

@@ -1,4 +1,4 @@
-use Rattle.std.proofs.Common.{◌≡◌, ◌≤◌, ◌+◌, ◌*◌, arith}
+use Rattle.std.proofs.Common.{◌≤◌, ◌+◌, ◌*◌, arith}
 use Rattle.heap_graph.specs.Walk.{has}
 use Rattle.image_graph.specs.State.{found_of}
 use Rattle.mark_core.proofs.Colours.{bits_more, bits_begin, bits_fit}

@@ -1,7 +1,7 @@
-use Rattle.std.proofs.Common.{◌≡◌, ◌<◌, ℕ, refl, sym, ap, ◌∙◌, subst, arith}
+use Rattle.std.proofs.Common.{◌≡◌, ◌<◌, ℕ, refl, sym, ap, ◌∙◌, arith}
 use Rattle.std.specs.Int.RustNames.{bit_or}
 use Rattle.heap_words.specs.declared.config.Config.{Config}
-use Rattle.heap_words.specs.Words.{Word, Grey, Black, IsWord, word_at, write, bit_words}
+use Rattle.heap_words.specs.Words.{Word, Grey, Black, word_at, write, bit_words}
 use Rattle.heap_graph.specs.Walk.{has}
 use Rattle.image_graph.specs.State.{config_of, memory_of, found_of}
 use Rattle.image_graph.proofs.Steps.{stored}

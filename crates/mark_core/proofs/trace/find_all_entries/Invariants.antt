@@ -1,7 +1,7 @@
-use Rattle.std.proofs.Common.{◌≡◌, ◌+◌, map}
+use Rattle.std.proofs.Common.{◌≡◌}
 use Rattle.mark_laws.specs.Close.{entries_below}
 use Rattle.heap_graph.specs.Walk.{with_addresses}
-use Rattle.image_graph.specs.State.{config_of, memory_of, found_of, AreFound, IsUnchanged}
+use Rattle.image_graph.specs.State.{memory_of, found_of, AreFound, IsUnchanged}
 use Rattle.mark_core.proofs.trace.find_all_entries.Given as goal
 
 abbrev pub invariant-loop-mutator : goal.invariant-loop-mutator

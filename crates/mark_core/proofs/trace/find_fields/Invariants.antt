@@ -2,7 +2,7 @@ use Rattle.std.proofs.Common.{◌≡◌, ◌+◌, map}
 use Rattle.std.specs.List.{range_with_len}
 use Rattle.heap_words.specs.Words.{Heap}
 use Rattle.heap_graph.specs.Walk.{with_addresses}
-use Rattle.image_graph.specs.State.{config_of, memory_of, found_of, AreFound, IsUnchanged}
+use Rattle.image_graph.specs.State.{memory_of, found_of, AreFound, IsUnchanged}
 use Rattle.mark_core.proofs.trace.find_fields.Given as goal
 
 abbrev pub invariant-loop-index : goal.invariant-loop-index

@@ -1,12 +1,12 @@
-use Rattle.std.proofs.Common.{◌≡◌, ◌<◌, ◌+◌, ◌*◌, ℕ, true, false, ⊎_elim, sym, ap, ◌∙◌, subst, arith}
+use Rattle.std.proofs.Common.{◌≡◌, ◌+◌, ℕ, true, false, ⊎_elim, ap, ◌∙◌, arith}
 use Rattle.std.proofs.lemmas.Bool.{cases_Bool}
 use Rattle.heap_words.specs.declared.config.Config.{Config}
-use Rattle.heap_words.specs.Words.{Word, Heap, IsWord, heap_size}
+use Rattle.heap_words.specs.Words.{Word, heap_size}
 use Rattle.heap_graph.specs.Walk.{with_address, with_addresses}
 use Rattle.image_graph.specs.State.{config_of, memory_of, found_of}
 use Rattle.mark_laws.specs.Marks.{is_grey}
 use Rattle.mark_laws.specs.Close.{greys_below}
-use Rattle.mark_core.proofs.State.{memory_same, carried, both}
+use Rattle.mark_core.proofs.State.{memory_same, both}
 use Rattle.mark_core.proofs.Listed.{grey_more, grey_none}
 use Rattle.mark_core.proofs.trace.find_greys.Goals as goal
 

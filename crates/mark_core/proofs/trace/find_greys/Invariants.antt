@@ -1,4 +1,4 @@
-use Rattle.std.proofs.Common.{◌≡◌, ◌+◌, map}
+use Rattle.std.proofs.Common.{◌≡◌}
 use Rattle.mark_laws.specs.Close.{greys_below}
 use Rattle.heap_graph.specs.Walk.{with_addresses}
 use Rattle.image_graph.specs.State.{config_of, memory_of, found_of, AreFound, IsUnchanged}

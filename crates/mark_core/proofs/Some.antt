@@ -1,0 +1,18 @@
+-- What is known of the words after a pause, whatever graph they held before.
+use Rattle.std.proofs.Common.{ℕ, Bool}
+use Rattle.std.proofs.Math.Logic.{∥∥₁_map}
+use Rattle.heap_words.specs.declared.config.Config.{Config}
+use Rattle.heap_words.specs.Words.{Word}
+use Rattle.image_graph.specs.Holds.{HoldsSome}
+use Rattle.mark_laws.specs.Final.{freed_block, freed_owner}
+use Rattle.mark_core.specs.Result.{MarksSome, BeginsToMark, MarksThrough, EndsMarking}
+
+module _ (c : Config) (before after : Word → ℕ) where
+  pub marks_after : BeginsToMark c before after → HoldsSome c before → MarksSome c after
+  marks_after begins holds = ∥∥₁_map holds (λ h. (let is = begins h.1.0 h.1.1 h.1.2 h.0 h.1.3 in (h.0, h.1.0, h.1.1, h.1.2, is.holds, is.marking)))
+
+  pub holds_closed : MarksThrough c before after → MarksSome c before → HoldsSome c after
+  holds_closed through marks = ∥∥₁_map marks (λ h. (h.0, (h.1, h.2, h.3, (through h.1 h.2 h.3 h.0 h.4 h.5).0)))
+
+  pub holds_ended : (out : ℕ → Bool) → EndsMarking c out before after → MarksSome c before → HoldsSome c after
+  holds_ended out ends marks = ∥∥₁_map marks (λ h. (h.0, (freed_block c out h.1, freed_owner out h.2, h.3, (ends h.1 h.2 h.3 h.0 h.4 h.5).0)))

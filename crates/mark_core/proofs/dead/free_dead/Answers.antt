@@ -1,0 +1,39 @@
+use Rattle.std.proofs.Common.{◌≡◌, ◌<◌, ℕ, Bool, true, false, refl, ap, ◌∙◌, ⊎_elim, arith}
+use Rattle.std.proofs.lemmas.Bool.{cases_Bool}
+use Rattle.heap_words.specs.declared.config.Config.{Config}
+use Rattle.heap_words.specs.Words.{Word}
+use Rattle.image_graph.specs.State.{config_of, memory_of}
+use Rattle.mark_laws.specs.Final.{is_dead}
+use Rattle.mark_core.specs.Steps.{freed_one, freed_below}
+use Rattle.mark_core.proofs.Freeing.{freed_none, freed_next, left_next, dead_still}
+use Rattle.mark_core.proofs.dead.free_dead.Goals as goal
+
+pub loop-region-init : goal.loop-region-init
+loop-region-init c = record { config = refl; words = freed_none (is_dead (config_of c.args.image.now) (memory_of c.args.image.now)) (memory_of c.args.image.now) }
+
+pub loop-region-preserved : goal.loop-region-preserved
+loop-region-preserved c =
+    let old = c.args.image.now in
+    let g = config_of old in
+    let m : Word → ℕ = memory_of old in
+    let out : ℕ → Bool = is_dead g m in
+    let r = c.loop-region.region in
+    let now = c.loop-region.image in
+    let is = c.loop-region.invariant in
+    let few : r < 64 = omega (arith, c.loop-region-test.true, c.regions-region-end.ensures, ap (λ (k : Config). k.regions) c.config-config.ensures, g.in_range.most_regions) in
+    let still : is_dead (config_of now) (memory_of now) r ≡ out r =
+    ap (λ (k : Config). is_dead k (memory_of now) r) is.config ∙ ap (λ n. is_dead g n r) is.words ∙ dead_still out g r m in
+    record {
+      config = c.free_if_dead.ensures.config ∙ is.config;
+      words = ⊎_elim
+          (λ (yes : out r ≡ true). c.free_if_dead.ensures.freed (still ∙ yes) ∙ ap (freed_one r) is.words ∙ freed_next out r m few yes)
+          (λ (no : out r ≡ false). c.free_if_dead.ensures.left (still ∙ no) ∙ is.words ∙ left_next out r m no)
+          (cases_Bool (out r));
+    }
+
+pub returns-clause-words : goal.returns-clause-words
+returns-clause-words c =
+    let old = c.args.image.now in
+    let all : c.loop-region.region ≡ (config_of old).regions =
+    omega (arith, c.loop-region-test.false, c.loop-region.auto.region-end, c.regions-region-end.ensures, ap (λ (k : Config). k.regions) c.config-config.ensures) in
+    c.loop-region.invariant.words ∙ ap (λ n. freed_below (is_dead (config_of old) (memory_of old)) n (memory_of old)) all

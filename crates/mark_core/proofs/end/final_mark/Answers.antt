@@ -1,0 +1,48 @@
+use Rattle.std.proofs.Common.{◌≡◌, ℕ, true, inl, inr, ⊎_elim, sym, ap, subst}
+use Rattle.heap_words.specs.Words.{Word, Free}
+use Rattle.regions.specs.Sets.{IsIn}
+use Rattle.image_graph.specs.State.{config_of, words_of, memory_of}
+use Rattle.image_graph.specs.Holds.{HoldsBy}
+use Rattle.mark_laws.specs.Close.{closed}
+use Rattle.mark_laws.specs.Facts.{IsMarkedThrough}
+use Rattle.mark_laws.specs.Final.{IsDead, dead_in, freed_block, freed_owner}
+use Rattle.mark_laws.proofs.Dead.{dead_is_dead}
+use Rattle.mark_laws.proofs.Freed.{free_was, free_is}
+use Rattle.mark_laws.proofs.Ended.{ended_holds, ended_through}
+use Rattle.mark_core.proofs.Ending.{no_more_seats, final_words}
+use Rattle.mark_core.proofs.Some.{holds_ended}
+use Rattle.mark_core.proofs.end.final_mark.Goals as goal
+
+pub returns-clause-words : goal.returns-clause-words
+returns-clause-words c =
+    final_words c.args.image.now c.close_marks.new.image c.free_dead.new.image c.close_marks.ensures.config c.close_marks.ensures.words c.free_dead.ensures.words
+
+pub returns-clause-freed : goal.returns-clause-freed
+returns-clause-freed c = λ r below.
+    let g = config_of c.args.image.now in
+    let m : Word → ℕ = memory_of c.args.image.now in
+    let words = ap (λ n. n Free) (returns-clause-words c) in (
+      (λ is. ⊎_elim
+          (λ (was : IsIn (m Free) r). inl was)
+          (λ (dead : dead_in g m r ≡ true). inr ((dead_is_dead g (closed g m) r).0 dead))
+          (free_was g (dead_in g m) (closed g m) r below (subst (λ set. IsIn set r) words is))),
+      (λ is. subst (λ set. IsIn set r) (sym words)
+          (free_is g (dead_in g m) (closed g m) r below (⊎_elim
+          (λ (was : IsIn (m Free) r). inl was)
+          (λ (dead : IsDead g (closed g m) r). inr ((dead_is_dead g (closed g m) r).1 dead))
+          is))),
+    )
+
+pub returns-clause-ends : goal.returns-clause-ends
+returns-clause-ends c = λ block owner p graph holds marking.
+    let g = config_of c.args.image.now in
+    let m : Word → ℕ = memory_of c.args.image.now in
+    let out = dead_in g m in
+    let seats = no_more_seats g (words_of c.args.image.now) in
+    subst (λ n. HoldsBy g n (freed_block g out block) (freed_owner out owner) p graph × IsMarkedThrough g n (freed_block g out block)) (sym (returns-clause-words c))
+    (ended_holds g m block owner p graph holds marking seats, ended_through g m block owner p graph holds marking seats)
+
+pub returns-clause-holds : goal.returns-clause-holds
+returns-clause-holds c =
+    holds_ended (config_of c.args.image.now) (memory_of c.args.image.now) (memory_of c.free_dead.new.image)
+    (dead_in (config_of c.args.image.now) (memory_of c.args.image.now)) (returns-clause-ends c) c.requires
