@@ -7,12 +7,11 @@ COMMANDS is how many commands each of the two threads of the first table makes, 
 mean something only beside each other, from one run, and those of several threads only where no other program wants the
 processors.
 
-1. Commands under `run` while objects are marked all the time, beside the same commands while nobody asks for it. Two threads set, load,
-   compare-exchange and exchange a field of an object of their own, on a heap whose regions are mostly full of what one of them
-   has built first: a tree of objects that all live. In the second run every 500th command is a `gc`, so that marking begins again as
-   soon as it has ended; in the first it is a `same` in its place, and marking begins once at most, when few regions are left. A
-   control and one helper have a thread each. A time is the least of three runs, less the least of runs that read the same bytes and
-   are refused at the last line. The shares are those of one further run.
+1. Commands under `run` while objects are marked all the time, beside the same commands while nobody marks. Two threads set, load,
+   compare-exchange and exchange a field of an object of their own, on a heap of which one of them has filled less than half first,
+   with a tree of objects that all live. In the second run every 500th command is a `gc`, so that marking begins again as soon as it
+   has ended; in the first it is a `same` in its place. A control and one helper have a thread each. A time is the least of three
+   runs, less the least of runs that read the same bytes and are refused at the last line. The shares are those of one further run.
 2. What the store barrier costs a command, by `replay`: so many of one command in phase 0 and so many in phase 1, by the same
    commands with the `gc` behind them or before them. Steps are those that `shensteps` counts, times the least of three runs; each
    number is that of a longer trace less that of a shorter one, for each command more.
@@ -73,8 +72,8 @@ def tree():
         for node in range(16):
             lines += [f"get 4 0 {box}", f"get 5 4 {node}"]
             for leaf in range(16):
-                lines += ["new 6 0 8", f"set 5 {leaf} 6"]
-                objects, words = objects + 1, words + 11
+                lines += ["new 6 0 3", f"set 5 {leaf} 6"]
+                objects, words = objects + 1, words + 6
     return lines + ["drop 4", "drop 5", "drop 6"], objects, words
 
 
