@@ -8,13 +8,13 @@ mean something only beside each other, from one run, and those of several thread
 processors.
 
 1. Commands under `run` while objects are marked all the time, beside the same commands while nobody marks. Two threads set, load,
-   compare-exchange and exchange a field of an object of their own, on a heap whose regions are mostly full of what one of them
-   has built first: a tree of objects that all live. In the first run every 500th command is a `gc`, so that marking begins again as soon
-   as it has ended; in the second it is a `same` in its place. A control and one helper have a thread each. A time is the least of
-   three runs, less the least of runs that read the same bytes and are refused at the last line.
-2. What the store barrier costs a command, by `replay`: so many of one command in phase 0 and so many in phase 1, by the same trace
-   under another schedule, which has the pause that begins marking before them or after them. Steps are those that `shensteps`
-   counts, times the least of five runs; each number is that of the longer trace less that of the shorter one, for each command more.
+   compare-exchange and exchange a field of an object of their own, on a heap of which one of them has filled less than half first,
+   with a tree of objects that all live. In the second run every 500th command is a `gc`, so that marking begins again as soon as it
+   has ended; in the first it is a `same` in its place. A control and one helper have a thread each. A time is the least of three
+   runs, less the least of runs that read the same bytes and are refused at the last line. The shares are those of one further run.
+2. What the store barrier costs a command, by `replay`: so many of one command in phase 0 and so many in phase 1, by the same
+   commands with the `gc` behind them or before them. Steps are those that `shensteps` counts, times the least of three runs; each
+   number is that of a longer trace less that of a shorter one, for each command more.
 3. How fast objects are scanned under `run`, by the control and 0 to 3 helpers, each in a thread of its own, beside one thread that
    stores to no field. What is counted are the words of the objects that are black where the control asks for the pause that ends
    marking; the time is that from the end of the pause that began it. The pauses do not count, nor what the last one marks, nor
@@ -44,9 +44,9 @@ REGIONS, WORDS = 64, 1024
 SMALL = (8, 64)
 COMMANDS = 400_000
 EVERY = 500
+ROUNDS = 3
 BARRIER = (2_000, 42_000)
 FIELDS = ["set 1 0 1", "get 2 1 0", "cas 1 0 2 1", "xchg 3 1 0 1"]
-CYCLES = 12
 PAUSE_BETWEEN_LOOKS = 0.00005
 LARGEST = 1 << 30
 
@@ -72,8 +72,8 @@ def tree():
         for node in range(16):
             lines += [f"get 4 0 {box}", f"get 5 4 {node}"]
             for leaf in range(16):
-                lines += ["new 6 0 8", f"set 5 {leaf} 6"]
-                objects, words = objects + 1, words + 11
+                lines += ["new 6 0 3", f"set 5 {leaf} 6"]
+                objects, words = objects + 1, words + 6
     return lines + ["drop 4", "drop 5", "drop 6"], objects, words
 
 
@@ -185,9 +185,9 @@ def watched(trace, threads, helpers, words=0):
 
 
 def seconds(trace, wanted, *words):
-    """The least time of three runs."""
+    """The least time of so many runs."""
     times = []
-    for _ in range(3):
+    for _ in range(ROUNDS):
         with open(trace, "rb") as source:
             start = time.monotonic()
             status = subprocess.run((SHENRUN, *words), stdin=source, stdout=subprocess.DEVNULL).returncode
@@ -207,7 +207,8 @@ def worker(count, asking, built):
 
 def measure_commands(commands):
     built, _, _ = tree()
-    print(f"two threads, {commands} commands each; control and a helper in threads of their own")
+    print(f"two threads under run, {commands} commands each, a control and a helper")
+    print(f"{'':>16}{'million a second':>18}{'in phase 1':>12}{'in pauses':>11}{'markings seen':>15}")
     rates = {}
     for asking in (False, True):
         text = text_of(2, 1, [worker(commands, asking, built), worker(commands, asking, [])])
@@ -217,11 +218,9 @@ def measure_commands(commands):
         rates[asking] = 2 * commands / took
         whole = sum(shares.values()) or 1
         marking, paused = shares.get((0, 1), 0) / whole, (shares.get((1, 0), 0) + shares.get((1, 1), 0)) / whole
-        print(
-            f"  {'marking' if asking else 'nobody marks':12} {rates[asking] / 1e6:6.3f} million commands a second;"
-            f" {100 * marking:3.0f} % of the time in phase 1 outside pauses, {100 * paused:3.0f} % in pauses, {len(markings)} markings seen"
-        )
-    print(f"  with marking {rates[True] / rates[False]:.2f} of the commands a second without")
+        name = "marking" if asking else "nobody marks"
+        print(f"{name:>16}{rates[asking] / 1e6:>18.3f}{100 * marking:>10.0f} %{100 * paused:>9.0f} %{len(markings):>15}")
+    print(f"{'ratio':>16}{rates[True] / rates[False]:>18.2f}")
 
 
 def steps_of(trace):
@@ -241,34 +240,34 @@ def barrier_trace(command, count, phase):
 
 def measure_barrier():
     few, many = BARRIER
-    print(f"steps and time of a command, by replay, and what it takes in phase 1 beside phase 0")
+    print("one command more under replay, whose field holds an object")
+    print(f"{'':>16}{'steps':>8}{'in phase 1':>12}{'ratio':>8}{'ns':>8}{'in phase 1':>12}{'ratio':>8}")
     for name, command in (("set", "set 1 0 2"), ("cas", "cas 1 0 2 2"), ("xchg", "xchg 2 1 0 2")):
         found = []
         for phase in (0, 1):
             with written(barrier_trace(command, few, phase)) as short, written(barrier_trace(command, many, phase)) as long:
-                steps = (steps_of(long.name) - steps_of(short.name)) / (many - few)
-                least = [min(seconds(it.name, 0, "replay") for _ in range(2)) for it in (short, long)]
-                found.append((steps, 1e9 * (least[1] - least[0]) / (many - few)))
-        (calm, quick), (marking, slow) = found
-        print(f"  {name:5}{calm:6.2f} steps {quick:5.0f} ns in phase 0, {marking:6.2f} steps {slow:5.0f} ns in phase 1: {marking / calm:.2f} of the steps, {slow / quick:.2f} of the time")
+                steps = steps_of(long.name) - steps_of(short.name)
+                took = seconds(long.name, 0, "replay") - seconds(short.name, 0, "replay")
+            found += [steps / (many - few), 1e9 * took / (many - few)]
+        calm, quick, marking, slow = found
+        print(f"{name:>16}{calm:>8.2f}{marking:>12.3f}{marking / calm:>8.2f}{quick:>8.0f}{slow:>12.0f}{slow / quick:>8.2f}")
 
 
 def measure_scanning(commands):
     built, objects, words = tree()
-    print(f"scanning {objects} objects of {words} words in all, with {os.cpu_count()} processors; a thread of commands runs beside it")
+    print(f"scanning {objects} objects of {words} words under run, on {os.cpu_count()} processors, a thread of commands beside it")
+    print(f"{'':>16}{'markings':>10}{'ms, the middle':>16}{'objects black':>15}{'million words a second':>24}")
     for helpers in range(4):
         script = built + ["gc" if at % EVERY == 0 else "same 0 1" for at in range(commands)]
         with written(text_of(1, helpers, [script])) as trace:
             _, markings = watched(trace.name, 1, helpers, words)
+        name = f"{helpers} helper{'s' if helpers != 1 else ''}"
         if not markings:
-            print(f"  {helpers} helpers: no marking was seen from its beginning to its end")
+            print(f"{name:>16}{0:>10}")
             continue
         took = sorted(it for it, _ in markings)[len(markings) // 2]
         black = sum(it for _, it in markings) / len(markings) / objects
-        print(
-            f"  {helpers} helpers: {1000 * took:6.2f} ms (the middle one of {len(markings)} markings), {100 * black:5.1f} % of the objects black,"
-            f" {black * words / took / 1e6:5.2f} million words a second"
-        )
+        print(f"{name:>16}{len(markings):>10}{1000 * took:>16.2f}{100 * black:>13.1f} %{black * words / took / 1e6:>24.2f}")
 
 
 def main():
