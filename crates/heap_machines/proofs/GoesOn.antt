@@ -13,13 +13,18 @@ use Rattle.alloc_buffers.specs.declared.spot.TakeSpot.{TakeSpot}
 use Rattle.alloc_buffers.specs.declared.spot.TakeSpot.TheVariants as take_spot
 use Rattle.alloc_buffers.specs.declared.spot.Taken.TheVariants.{At, NoRoom}
 use Rattle.mutator.specs.declared.spot.Spot.{Spot}
-use Rattle.mutator.specs.declared.spot.Spot.TheVariants.{Rest, Ended, Entering, LoadPhase, LoadSet, Loading, OnField, OnNumber, Showing, StoreRoot, Making, AskCycle, Waiting, Leave, Gone}
+use Rattle.satb_barrier.specs.declared.spot.RememberSpot.{RememberSpot}
+use Rattle.satb_barrier.specs.declared.spot.RememberSpot.TheVariants.{LoadCount, Recorded}
+use Rattle.satb_barrier.specs.Rows as satb
+use Rattle.mutator.specs.declared.spot.Spot.TheVariants.{Rest, Ended, Entering, LoadPhase, LoadSet, Loading, OnField, Recording, OnNumber, Showing, StoreRoot, Making, AskCycle, Waiting, Leave, Gone}
 use Rattle.mutator.specs.declared.spot.Entered.{Entered}
 use Rattle.mutator.specs.declared.spot.Entered.TheVariants.{Call, Waited}
 use Rattle.mutator.specs.declared.loads.LoadSpot.{LoadSpot}
 use Rattle.mutator.specs.declared.loads.LoadSpot.TheVariants as load
 use Rattle.mutator.specs.declared.fields.FieldSpot.{FieldSpot}
 use Rattle.mutator.specs.declared.fields.FieldSpot.TheVariants as fields
+use Rattle.mutator.specs.declared.overwrites.Overwritten.{Overwritten}
+use Rattle.mutator.specs.declared.overwrites.Overwritten.TheVariants as overwrites
 use Rattle.mutator.specs.declared.numbers.NumberSpot.{NumberSpot}
 use Rattle.mutator.specs.declared.numbers.NumberSpot.TheVariants as number
 use Rattle.mutator.specs.declared.shows.ShowSpot.{ShowSpot}
@@ -31,7 +36,7 @@ use Rattle.mutator.specs.declared.waits.WaitSpot.TheVariants as wait
 use Rattle.mutator.specs.Commands.{roots_of, lacks_object, has_part}
 use Rattle.mutator.specs.Orders.{is_between_calls}
 use Rattle.mutator.specs.WaitRows.{after_enter, wait_next}
-use Rattle.mutator.specs.Rows.{Mutating, given_at, next_at, first_spot, after_roots, after_first, after_second, after_root, on_number, with_part, after_shape, after_take, take_next, load_next, field_next, number_next, show_next, make_next}
+use Rattle.mutator.specs.Rows.{Mutating, given_at, next_at, first_spot, after_roots, after_first, after_second, after_root, on_number, with_part, after_shape, after_take, is_to_record, after_recording, overwritten, after_remember, take_next, load_next, field_next, number_next, show_next, make_next}
 
 -- a call is in progress
 abbrev InCall : Spot → Type 0
@@ -72,31 +77,45 @@ in_number (Rd obj index) object shape = refl
 in_number (Wr obj index value) object shape = refl
 in_number _ object shape = refl
 
-in_part : (command : Command) (object second third shape : ℕ) → InCall (with_part command object second third shape)
-in_part (Get dst src field) object second third shape = refl
-in_part (Set obj field val) object second third shape = refl
-in_part (Cas obj field expect val) object second third shape = refl
-in_part (Xchg dst obj field val) object second third shape = refl
-in_part command object second third shape = in_number command object shape
+in_part : (phase : ℕ) (command : Command) (object second third shape : ℕ) → InCall (with_part phase command object second third shape)
+in_part phase (Get dst src field) object second third shape = refl
+in_part phase (Set obj field val) object second third shape = refl
+in_part phase (Cas obj field expect val) object second third shape = refl
+in_part phase (Xchg dst obj field val) object second third shape = refl
+in_part phase command object second third shape = in_number command object shape
 
-in_shape : (command : Command) (object second third shape : ℕ) → InCall (after_shape command object second third shape)
-in_shape command object second third shape = either (has_part command shape) (with_part command object second third shape) (Leave reply.Bad) (in_part command object second third shape) refl
+in_shape : (phase : ℕ) (command : Command) (object second third shape : ℕ) → InCall (after_shape phase command object second third shape)
+in_shape phase command object second third shape = either (has_part command shape) (with_part phase command object second third shape) (Leave reply.Bad) (in_part phase command object second third shape) refl
 
 in_take : (take : TakeSpot) → InCall (after_take take)
 in_take (take_spot.Ended (At address)) = refl
 in_take (take_spot.Ended NoRoom) = refl
 in_take _ = refl
 
-in_load : (command : Command) (at : LoadSpot) (got : ℕ) → InCall (load_next command at got)
-in_load command load.First got = in_root command got
-in_load command (load.Second first) got = in_second command first got
-in_load command (load.Third first second) got = in_roots command first second got
-in_load command (load.Shape object second third) got = in_shape command object second third got
+in_load : (phase : ℕ) (command : Command) (at : LoadSpot) (got : ℕ) → InCall (load_next phase command at got)
+in_load phase command load.First got = in_root command got
+in_load phase command (load.Second first) got = in_second command first got
+in_load phase command (load.Third first second) got = in_roots command first second got
+in_load phase command (load.Shape object second third) got = in_shape phase command object second third got
 
-in_field : (object : ℕ) (at : FieldSpot) (got : ℕ) → InCall (field_next object at got)
-in_field object (fields.LoadExpected expect value) got = either (got == expect) (OnField object (fields.Exchange got expect value)) (Leave reply.No) refl refl
-in_field object (fields.Exchange found expect value) got = either (got == found) (Leave reply.Yes) (OnField object (fields.LoadExpected expect value)) refl refl
-in_field object _ got = refl
+in_recording : (found : ℕ) (next : Overwritten) → InCall (after_recording found next)
+in_recording found (overwrites.Set object value) = refl
+in_recording found overwrites.Xchg = refl
+in_recording found overwrites.Cas = refl
+
+in_overwritten : (phase found : ℕ) (next : Overwritten) → InCall (overwritten phase found next)
+in_overwritten phase found next = either (is_to_record phase found) (Recording LoadCount found next) (after_recording found next) refl (in_recording found next)
+
+in_remember : (address : ℕ) (next : Overwritten) (at : RememberSpot) → InCall (after_remember address next at)
+in_remember address next Recorded = in_recording address next
+in_remember address next _ = refl
+
+in_field : (phase object : ℕ) (at : FieldSpot) (got : ℕ) → InCall (field_next phase object at got)
+in_field phase object (fields.LoadExpected expect value) got = either (got == expect) (OnField object (fields.Exchange got expect value)) (Leave reply.No) refl refl
+in_field phase object (fields.LoadOld value) got = in_overwritten phase got (overwrites.Set object value)
+in_field phase object (fields.Swap value) got = in_overwritten phase got overwrites.Xchg
+in_field phase object (fields.Exchange found expect value) got = either (got == found) (overwritten phase found overwrites.Cas) (OnField object (fields.LoadExpected expect value)) (in_overwritten phase found overwrites.Cas) refl
+in_field phase object _ got = refl
 
 in_numbers : (at : NumberSpot) (got : ℕ) → InCall (number_next at got)
 in_numbers number.Load got = refl
@@ -123,8 +142,9 @@ call_goes_on c m got Gone busy none = absurd (cc (busy))
 call_goes_on c m got (Entering at next) busy none = in_enter next (enter_next at got)
 call_goes_on c m got LoadPhase busy none = refl
 call_goes_on c m got LoadSet busy none = in_first_spot m.kept.command
-call_goes_on c m got (Loading at) busy none = in_load m.kept.command at got
-call_goes_on c m got (OnField object at) busy none = in_field object at got
+call_goes_on c m got (Loading at) busy none = in_load m.kept.phase m.kept.command at got
+call_goes_on c m got (OnField object at) busy none = in_field m.kept.phase object at got
+call_goes_on c m got (Recording at address next) busy none = in_remember address next (satb.next_at at got)
 call_goes_on c m got (OnNumber object refs at) busy none = in_numbers at got
 call_goes_on c m got (Showing value at) busy none = in_show value at got
 call_goes_on c m got (StoreRoot value) busy none = refl

@@ -5,4 +5,5 @@ pub mod Names
 pub mod OnScript
 pub mod Openings
 pub mod Standing
+pub mod Pauses
 pub mod Fit

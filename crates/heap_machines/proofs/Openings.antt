@@ -54,24 +54,24 @@ first_machines c = map-map (λ a. a.machine) (opening_actor c) (range_with_len 0
 pub first_role : (c : Config) (k : ℕ) → is_mutating (opening_machine c k) ≡ nat_lt k c.mutators
 first_role c k = by_test (nat_lt k c.mutators) (nat_lt k (c.mutators + c.helpers))
   where
-    by_test : (a b : Bool) → is_mutating (if a then mutating (fresh_mutator k) else (if b then fresh_helper else fresh_control (first_free c.regions))) ≡ a
+    by_test : (a b : Bool) → is_mutating (if a then mutating (fresh_mutator k) else (if b then fresh_helper k else fresh_control (first_free c.regions))) ≡ a
     by_test true b = refl
     by_test false true = refl
     by_test false false = refl
 
 -- a mutator rests
 pub first_rests : (c : Config) (k : ℕ) → k < c.mutators → is_resting (opening_machine c k) ≡ true
-first_rests c k below = ap (λ b. is_resting (if b then mutating (fresh_mutator k) else (if nat_lt k (c.mutators + c.helpers) then fresh_helper else fresh_control (first_free c.regions)))) (lt-ltb k c.mutators below)
+first_rests c k below = ap (λ b. is_resting (if b then mutating (fresh_mutator k) else (if nat_lt k (c.mutators + c.helpers) then fresh_helper k else fresh_control (first_free c.regions)))) (lt-ltb k c.mutators below)
 
 -- and may be given a command
 pub first_free_to_begin : (c : Config) (k : ℕ) → k < c.mutators → may_begin (opening_machine c k) ≡ true
-first_free_to_begin c k below = ap (λ b. may_begin (if b then mutating (fresh_mutator k) else (if nat_lt k (c.mutators + c.helpers) then fresh_helper else fresh_control (first_free c.regions)))) (lt-ltb k c.mutators below)
+first_free_to_begin c k below = ap (λ b. may_begin (if b then mutating (fresh_mutator k) else (if nat_lt k (c.mutators + c.helpers) then fresh_helper k else fresh_control (first_free c.regions)))) (lt-ltb k c.mutators below)
 
 -- no machine has made an object
 pub first_made : (c : Config) (k : ℕ) → made_of_machine (opening_machine c k) ≡ 0
 first_made c k = by_test (nat_lt k c.mutators) (nat_lt k (c.mutators + c.helpers))
   where
-    by_test : (a b : Bool) → made_of_machine (if a then mutating (fresh_mutator k) else (if b then fresh_helper else fresh_control (first_free c.regions))) ≡ 0
+    by_test : (a b : Bool) → made_of_machine (if a then mutating (fresh_mutator k) else (if b then fresh_helper k else fresh_control (first_free c.regions))) ≡ 0
     by_test true b = refl
     by_test false true = refl
     by_test false false = refl

@@ -7,7 +7,13 @@ use Rattle.heap_words.specs.declared.access.Took.{Took}
 use Rattle.heap_words.specs.declared.access.Took.TheVariants.{More, Again, Done}
 use Rattle.handshake.specs.declared.stop_spot.StopSpot.TheVariants as stop
 use Rattle.control_steps.specs.declared.spot.ControlSpot.{ControlSpot}
-use Rattle.control_steps.specs.declared.spot.ControlSpot.TheVariants.{LookFree, Stopping}
+use Rattle.handshake.specs.declared.enter_spot.EnterSpot.TheVariants.{Await}
+use Rattle.scan_steps.specs.declared.spot.ScanSpot.TheVariants as scan
+use Rattle.scan_steps.specs.Rows.{has_unit}
+use Rattle.helper.specs.declared.spot.HelpSpot.{HelpSpot}
+use Rattle.helper.specs.declared.spot.HelpSpot.TheVariants as help
+use Rattle.helper.specs.Rows as helpers
+use Rattle.control_steps.specs.declared.spot.ControlSpot.TheVariants.{LookFree, Scanning, Stopping}
 use Rattle.control_steps.specs.Rows.{says_at, wants_pause}
 use Rattle.shen_graph.specs.declared.command.Command.{Command}
 use Rattle.shen_graph.specs.declared.command.Reply.{Reply}
@@ -15,15 +21,20 @@ use Rattle.shen_graph.specs.declared.order.Order.{Order}
 use Rattle.shen_graph.specs.declared.order.Order.TheVariants.{Nothing, Begin, End}
 use Rattle.shen_graph.specs.History.{Entry}
 use Rattle.mutator.specs.declared.spot.Spot.{Spot}
-use Rattle.mutator.specs.declared.spot.Spot.TheVariants.{Rest, Ended, Making, Waiting, Leave}
+use Rattle.mutator.specs.declared.spot.Spot.TheVariants.{Rest, Ended, Recording, Making, Waiting, Leave}
+use Rattle.satb_barrier.specs.declared.spot.RememberSpot.{RememberSpot}
+use Rattle.satb_barrier.specs.declared.spot.RememberSpot.TheVariants.{Recorded}
+use Rattle.satb_barrier.specs.Rows as satb
+use Rattle.mutator.specs.declared.overwrites.Overwritten.{Overwritten}
+use Rattle.mutator.specs.declared.overwrites.Overwritten.TheVariants as overwrites
 use Rattle.mutator.specs.declared.waits.WaitSpot.TheVariants as wait
 use Rattle.mutator.specs.declared.makes.MakeSpot.TheVariants as make
 use Rattle.mutator.specs.Orders.{is_between_calls, takes_commands}
-use Rattle.mutator.specs.Rows.{Mutating, begun, given_at, answer_at, reply_at, next_at}
+use Rattle.mutator.specs.Rows.{Mutating, begun, given_at, answer_at, reply_at, next_at, after_remember}
 use Rattle.mutator.proofs.Done as ends
 use Rattle.step_core.specs.Actor.{Machine, mutating, helping, controlling, Actor, entries_of}
 use Rattle.heap_world.specs.Change.{Change}
-use Rattle.step_core.specs.Machines.{machine_after, answer_of, ended_by, reply_in, is_resting, may_begin, made_of_machine, at_hand, at_hand_of}
+use Rattle.step_core.specs.Machines.{machine_after, answer_of, ended_by, reply_in, is_resting, may_begin, made_of_machine, recorded_at_hand, at_hand, at_hand_of}
 use Rattle.heap_machines.specs.Roles.{given_in, is_mutating}
 use Rattle.heap_machines.proofs.GoesOn.{call_goes_on}
 
@@ -32,9 +43,21 @@ not_done : (b : Bool) (one other : Took) → (one ≡ Done → ⊥) → (other �
 not_done true one other first second is = first is
 not_done false one other first second is = second is
 
--- the control ends no call
+-- a helper ends no call
+pub helps_on : (c : Config) (spot : HelpSpot) (got : ℕ) → helpers.says_at c spot got ≡ Done → ⊥
+helps_on c (help.Entering Await) got is = not_done (got == 0) More Again (λ e. cc) (λ e. cc) is
+helps_on c (help.Entering at) got is = cc
+helps_on c help.LoadPhase got is = not_done (got == 0) Again More (λ e. cc) (λ e. cc) is
+helps_on c (help.Scanning scan.LoadClaim) got is = not_done (has_unit c got) More Again (λ e. cc) (λ e. cc) is
+helps_on c (help.Scanning (scan.ClaimUnit unit)) got is = not_done (got == unit) More Again (λ e. cc) (λ e. cc) is
+helps_on c (help.Scanning at) got is = cc
+helps_on c _ got is = cc
+
+-- nor does the control
 pub goes_on : (c : Config) (seen : ℕ) (spot : ControlSpot) (got : ℕ) → says_at c seen spot got ≡ Done → ⊥
 goes_on c seen LookFree got is = not_done (wants_pause c seen got) More Again (λ e. cc) (λ e. cc) is
+goes_on c seen (Scanning (scan.ClaimUnit unit)) got is = not_done (got == unit) More Again (λ e. cc) (λ e. cc) is
+goes_on c seen (Scanning at) got is = cc
 goes_on c seen (Stopping (stop.Check seat)) got is = not_done (got == 0) More Again (λ e. cc) (λ e. cc) is
 goes_on c seen (Stopping at) got is = cc
 goes_on c seen _ got is = cc
@@ -42,7 +65,7 @@ goes_on c seen _ got is = cc
 -- a step that ends a call gives a reply
 pub done_gives : (c : Config) (machine : Machine) (got : ℕ) → answer_of c machine got ≡ Some Done → (r : Reply) × (given_in machine ≡ Some r)
 done_gives c (mutating m) got done = ends.done_gives c m.kept m.spot got (let said = done in cc)
-done_gives c (helping h) got done = absurd cc
+done_gives c (helping h) got done = absurd (helps_on c h.spot got (let said = done in cc))
 done_gives c (controlling k) got done = absurd (goes_on c k.seen k.spot got (let said = done in cc))
 
 -- no other step does
@@ -109,6 +132,7 @@ rest_at_hand (mutating m) rest = by_spot m.spot rest
     by_spot : (spot : Spot) → is_between_calls spot ≡ true → at_hand spot ≡ 0
     by_spot (Leave q) is = absurd cc
     by_spot (Waiting at) is = absurd cc
+    by_spot (Recording at address next) is = absurd cc
     by_spot _ is = refl
 rest_at_hand (helping h) rest = refl
 rest_at_hand (controlling k) rest = refl
@@ -119,6 +143,13 @@ begun_made Nothing m = refl
 begun_made (Begin command) m = refl
 begun_made End m = refl
 
+-- who records what its Cas has overwritten has the reply at hand until it leaves
+stays_at_hand : (address : ℕ) (next : Overwritten) (at : RememberSpot) → recorded_at_hand next ≤ at_hand (after_remember address next at)
+stays_at_hand address (overwrites.Set object value) Recorded = omega arith
+stays_at_hand address overwrites.Xchg Recorded = omega arith
+stays_at_hand address overwrites.Cas Recorded = omega arith
+stays_at_hand address next _ = omega arith
+
 -- A machine that gives no reply makes at most one object in a step, and then a reply is at hand that was not before.
 pub none_after : (change : Change) (c : Config) (order : Order) (got : ℕ) (machine : Machine) → given_in machine ≡ None
     → made_of_machine (machine_after change c order got machine) + at_hand_of machine ≤ made_of_machine machine + at_hand_of (machine_after change c order got machine)
@@ -127,6 +158,7 @@ none_after change c order got (mutating m) none = by_spot m.spot none
     by_spot : (spot : Spot) → given_at spot ≡ None → (next_at c m order got spot).made + at_hand spot ≤ m.made + at_hand (next_at c m order got spot).spot
     by_spot Rest none = omega (arith, begun_made order m)
     by_spot (Ended reply) none = omega (arith, begun_made order m)
+    by_spot (Recording at address next) none = omega (arith, stays_at_hand address next (satb.next_at at got))
     by_spot (Making (make.StoreRoot address)) none = omega arith
     by_spot (Making at) none = omega arith
     by_spot (Waiting (wait.StoreRoot address)) none = omega arith

@@ -1,6 +1,6 @@
 -- Whether machines have a turn, by their roles.
-use Rattle.std.proofs.Common.{◌≡◌, ℕ, Bool, true, false, not, ◌&&◌, nat_lt, Option, Some, None, refl, ap, arith}
-use Rattle.std.specs.Prelude.{if◌then◌else◌, slice_get, length, List}
+use Rattle.std.proofs.Common.{◌≡◌, ℕ, Bool, true, false, not, ◌&&◌, nat_lt, Option, Some, None, refl, ap, ◌∙◌, arith}
+use Rattle.std.specs.Prelude.{if◌then◌else◌, is_some, slice_get, length, List}
 use Rattle.std.proofs.lemmas.Bool.Decides.{nat_tests}
 use Rattle.heap_words.specs.declared.config.Config.{Config}
 use Rattle.heap_words.specs.declared.access.Took.{Took}
@@ -16,6 +16,7 @@ use Rattle.heap_words.specs.Place.{same_place}
 use Rattle.mutator.specs.Rows.{Mutating, answer_at, place_at}
 use Rattle.mutator.specs.Orders.{is_between_calls, takes_commands, takes_at, is_pending}
 use Rattle.heap_world.specs.Change.{Change}
+use Rattle.helper.specs.Rows as help
 use Rattle.control_steps.specs.Rows.{control_says, is_gone}
 use Rattle.step_core.specs.Actor.{Machine, mutating, helping, controlling}
 use Rattle.step_core.specs.Machines.{takes_of, answer_of, machine_after, order_by, next_order, is_machine_at, is_resting, may_begin, HasNumber}
@@ -78,6 +79,11 @@ begins_at_rest (mutating m) may = by_spot m.spot may
 begins_at_rest (helping h) may = absurd cc
 begins_at_rest (controlling k) may = absurd cc
 
+-- who is told nothing goes on, unless it has ended
+turn_by_gone : (b : Bool) → ◌≡◌ {A = Option Order} (if b then None else Some Nothing) (if (if b then false else true) then Some Nothing else None)
+turn_by_gone true = refl
+turn_by_gone false = refl
+
 -- A machine without an order: where it may be given a command its turn is the next command's, or the end, and else it goes on
 -- if it has a turn.
 pub turn_in_call : (machine : Machine) (next : Option Command) → may_begin machine ≡ false → order_for next machine ≡ (if takes_of machine Nothing then Some Nothing else None)
@@ -88,12 +94,16 @@ turn_in_call (mutating m) next busy = by_spot m.spot busy
     by_spot Rest busy = absurd cc
     by_spot (Ended reply) busy = absurd cc
     by_spot _ busy = refl
-turn_in_call (helping h) next busy = refl
-turn_in_call (controlling k) next busy = by_gone (is_gone k.spot)
+turn_in_call (helping h) next busy = turn_by_gone (help.is_gone h.spot)
+turn_in_call (controlling k) next busy = turn_by_gone (is_gone k.spot)
+
+-- whether it has a turn then
+pub turn_is_some : (machine : Machine) (next : Option Command) (b : Bool) → may_begin machine ≡ false → takes_of machine Nothing ≡ b → is_some (order_for next machine) ≡ b
+turn_is_some machine next b busy takes = ap is_some (turn_in_call machine next busy) ∙ by_takes (takes_of machine Nothing) ∙ takes
   where
-    by_gone : (b : Bool) → ◌≡◌ {A = Option Order} (if b then None else Some Nothing) (if (if b then false else true) then Some Nothing else None)
-    by_gone true = refl
-    by_gone false = refl
+    by_takes : (x : Bool) → is_some (if◌then◌else◌ {A = Option Order} x (Some Nothing) None) ≡ x
+    by_takes true = refl
+    by_takes false = refl
 
 pub turn_at_rest : (machine : Machine) (next : Option Command) → may_begin machine ≡ true → order_for next machine ≡ Some (next_order next)
 turn_at_rest (mutating m) next rest = rw rest refl
@@ -115,7 +125,7 @@ rest_takes (controlling k) rest = absurd cc
 -- a machine that makes a step says something
 pub says_some : (c : Config) (machine : Machine) (order : Order) (got : ℕ) → takes_of machine order ≡ true → (said : Took) × (answer_of c machine got ≡ Some said)
 says_some c (mutating m) order got takes = (answer_at c m.kept m.spot got, refl)
-says_some c (helping h) order got takes = absurd cc
+says_some c (helping h) order got takes = (help.help_says c h got, refl)
 says_some c (controlling k) order got takes = (control_says c k got, refl)
 
 -- a mutator in a call goes on with it

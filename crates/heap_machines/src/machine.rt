@@ -40,7 +40,7 @@ impl Machine {
     ghost use Rattle.step_core.specs.Machines.{takes_of, plan_of, place_in, machine_after, answer_of, is_machine_at, reply_in, is_resting, may_begin, made_of_machine, WaitsIn};
     ghost use Rattle.step_core.specs.Fit.{IsFitFor};
     ghost use Rattle.heap_machines.specs.Shown.{shown, order_of, heap_of, has_turn};
-    ghost use Rattle.heap_machines.specs.Roles.{CanShow};
+    ghost use Rattle.heap_machines.specs.Roles.{is_mutating, CanShow};
     ghost use Rattle.heap_machines.specs.Turn.{order_for};
 
     /// The machine of a number, as a heap begins with it. The error is that memory for the control's image was refused.
@@ -158,7 +158,7 @@ impl Machine {
         ensures answer { answer_of (heap_of self.old) (shown self.old) got ≡ Some result }
 
         // A call ends exactly where its mutator leaves the heap, and its reply is at hand then.
-        ensures done { (result ≡ Took.Done) ↔ (place_in (order_of self.old) (shown self.old) ≡ Place.LV) }
+        ensures done { (result ≡ Took.Done) ↔ ((is_mutating (shown self.old) ≡ true) × (place_in (order_of self.old) (shown self.old) ≡ Place.LV)) }
         ensures replied { result ≡ Took.Done → reply_in (shown self.new) ≢ None }
         ensures again { (result ≡ Took.Again) ↔ WaitsIn (heap_of self.old) (shown self.old) got }
     {

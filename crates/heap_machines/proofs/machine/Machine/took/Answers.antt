@@ -9,5 +9,5 @@ use Rattle.heap_machines.proofs.machine.Machine.took.Goals as goal
 pub took-requires-in-Control-clause-fit : goal.took-requires-in-Control-clause-fit
 took-requires-in-Control-clause-fit c =
     let k = seen_control c.in-Control.control in
-    fit_for_control (config_in c.in-Control.control) k.spot k.image c.args.got
-    (subst (λ (m : Machine). IsFitFor (heap_of m) (order_of m) c.args.got (shown m)) c.in-Control.is c.requires.fit)
+    let fit = subst (λ (m : Machine). IsFitFor (heap_of m) (order_of m) c.args.got (shown m)) c.in-Control.is c.requires.fit in
+    fit_for_control (config_in c.in-Control.control) k.spot k.image c.args.got fit.0 fit.1

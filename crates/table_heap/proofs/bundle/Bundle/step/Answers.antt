@@ -11,6 +11,7 @@ use Rattle.shared_steps.proofs.Kept.{kept-set}
 use Rattle.shared_steps.proofs.Numbers.{same_none}
 use Rattle.heap_machines.specs.Answer.{stepped_of, stepped_by, says}
 use Rattle.heap_machines.specs.Shown.{shown, order_of, heap_of, no_machine}
+use Rattle.heap_machines.specs.Roles.{is_mutating}
 use Rattle.step_core.specs.Machines.{takes_of, place_in, reply_in}
 use Rattle.table_heap.specs.State as State
 use Rattle.table_heap.specs.State.{order_at}
@@ -206,9 +207,12 @@ returns-clause-done c =
     let turn = c.is_idle.ensures ∙ ap not c.if-is_idle.false in
     let at = shows_as shown b.machines.items c.args.number m no_machine here in
     let given = shows_as order_of b.machines.items c.args.number m Nothing here in
-    let has : State.has_turn b c.args.number ≡ true = ap (λ x. takes_of x (order_at b c.args.number)) at ∙ ap (takes_of (shown m)) given ∙ turn in (
-      (λ is. (has, (ap (place_in (State.order_at b c.args.number)) at ∙ ap (λ o. place_in o (shown m)) given) ∙ c.took.ensures.done.0 (done_only c.took.result (sym c.of.ensures ∙ is)))),
-      (λ both. c.of.ensures ∙ ap stepped_of (c.took.ensures.done.1 (sym (ap (place_in (State.order_at b c.args.number)) at ∙ ap (λ o. place_in o (shown m)) given) ∙ both.1))),
+    let has : State.has_turn b c.args.number ≡ true = ap (λ x. takes_of x (order_at b c.args.number)) at ∙ ap (takes_of (shown m)) given ∙ turn in
+    let place = ap (place_in (State.order_at b c.args.number)) at ∙ ap (λ o. place_in o (shown m)) given in (
+      (λ is.
+      let did = c.took.ensures.done.0 (done_only c.took.result (sym c.of.ensures ∙ is)) in
+      (has, ap is_mutating at ∙ did.0, place ∙ did.1)),
+      (λ all. c.of.ensures ∙ ap stepped_of (c.took.ensures.done.1 (ap is_mutating (sym at) ∙ all.1, sym place ∙ all.2))),
     )
 
 pub returns-clause-replied : goal.returns-clause-replied

@@ -1,0 +1,18 @@
+use Rattle.std.proofs.Common.{ℕ, ◌≡◌, [], sym, ap, ◌∙◌}
+use Rattle.heap_words.specs.declared.config.Config.{Config}
+use Rattle.heap_words.specs.Words.{Word, Free, Phase, word_at}
+use Rattle.image_graph.specs.State.{memory_of}
+use Rattle.control_steps.specs.declared.spot.ControlSpot.TheVariants.{LookLeft}
+use Rattle.step_core.specs.Opening.{first_free}
+use Rattle.step_core.specs.Actor.{controlling}
+use Rattle.heap_machines.proofs.machine.open_control.Goals as goal
+
+pub returns-clause-shown : goal.returns-clause-shown
+returns-clause-shown c =
+    let named = c.set_word.ensures.named Free tt (ap (λ (k : Config). word_at k Free) c.in_ok-image.ensures.config ∙ sym c.free_at.ensures) in
+    let free : memory_of c.set_word.new.self Free ≡ first_free c.args.config.regions =
+    ap (λ (m : Word → ℕ). m Free) named ∙ c.first_free.ensures ∙ ap first_free c.regions.ensures in
+    let phase : memory_of c.set_word.new.self Phase ≡ 0 = ap (λ (m : Word → ℕ). m Phase) named ∙ c.in_ok-image.ensures.words Phase in
+    ap controlling c.new.ensures.seen
+    ∙ ap (λ (n : ℕ). controlling (record { spot = LookLeft; seen = n; phase = memory_of c.set_word.new.self Phase; image = [] })) free
+    ∙ ap (λ (n : ℕ). controlling (record { spot = LookLeft; seen = first_free c.args.config.regions; phase = n; image = [] })) phase
