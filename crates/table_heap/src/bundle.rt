@@ -34,6 +34,7 @@ impl Bundle {
     ghost use Rattle.shared_steps.specs.Views.{machine_of, merged, dealt_to, left_over, is_dealt_to};
     ghost use Rattle.shen_graph.specs.Valid.{IsValid};
     ghost use Rattle.step_core.specs.Machines.{takes_of, reply_in, place_in, may_begin, made_of_machine};
+    ghost use Rattle.heap_machines.specs.Roles.{is_mutating};
     ghost use Rattle.table_heap.specs.State.{heap_of, view_of, machines_of, orders_of, IsOf, HasMachine, machine_at, order_at, has_turn, IsSameBundle, IsUnmoved, IsUnchanged, IsStep};
 
     /// Gives the machines of one bundle, of so many, to a bundle of their own: those whose numbers have the remainder `bundle`.
@@ -116,7 +117,7 @@ impl Bundle {
         ensures same { IsSameBundle self.old self.new }
 
         // A call ends exactly where its mutator leaves the heap, and its reply is at hand then.
-        ensures done { (result ≡ Stepped.Done) ↔ ((has_turn self.old number ≡ true) × (place_in (order_at self.old number) (machine_at self.old number) ≡ places.LV)) }
+        ensures done { (result ≡ Stepped.Done) ↔ ((has_turn self.old number ≡ true) × (is_mutating (machine_at self.old number) ≡ true) × (place_in (order_at self.old number) (machine_at self.old number) ≡ places.LV)) }
         ensures replied { result ≡ Stepped.Done → reply_in (machine_at self.new number) ≢ None }
     {
         let Some(machine) = self.machines[number].as_mut() else {
