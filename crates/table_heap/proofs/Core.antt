@@ -66,5 +66,5 @@ idle_is_calm (Some a) idle = machine_is_calm a.machine (idle a refl)
 -- a machine that is no mutator and has no turn takes no order
 pub no_turn : (m : memory.Machine) → is_mutating (shown m) ≡ false → has_turn m ≡ false → takes_of (shown m) Nothing ≡ false
 no_turn (memories.Mutator m) other none = absurd cc
-no_turn (memories.Helper config) other none = refl
+no_turn (memories.Helper h) other none = none
 no_turn (memories.Control k) other none = none
