@@ -139,7 +139,7 @@ module _ (c : Config) (u : World) (a refs nums at value : ℕ) (name : Name) (o 
       (λ (same : at ≡ b + 3 + k).
       let there = shared.marked.kept b more_refs more_nums n is in
       let same_piece : b ≡ a = one_piece c (λ r. u.memory (Top r)) u.block shared.parsable.plotted b a (b + 3 + k) (thing n more_refs more_nums) (thing name refs nums) there target.piece
-          (omega arith) (omega (arith, below)) (omega (arith, same, from_start)) (omega (arith, same, to_end)) in
+      (omega arith) (omega (arith, below)) (omega (arith, same, from_start)) (omega (arith, same, to_end)) in
       let both : Some (thing n more_refs more_nums) ≡ Some (thing name refs nums) = sym there ∙ ap u.block same_piece ∙ target.piece in
       let refs_are : more_refs ≡ refs = cc in
       inr (subst (λ x. IsDone u.ghost.snapshot (NotedIn c u) x k) (sym same_piece)
@@ -165,11 +165,13 @@ module _ (c : Config) (u : World) (a refs nums at value : ℕ) (name : Name) (o 
     uncopied = shared.uncopied;
     unwritten = unwritten_stays (λ b. u.memory (Heap b)) (updated (λ b. u.memory (Heap b)) at value) u.block u.block
         (λ b seat words is_promised. (is_promised, λ k below. else_stays from_start to_end b k (promised seat words) is_promised (λ differ. cc) below))
-        (λ b words is_filler. (is_filler,
-        let header : b + 0 ≡ b = omega arith in
-        ap (updated (λ b. u.memory (Heap b)) at value) (sym header)
-        ∙ else_stays from_start to_end b 0 (filler words) is_filler (λ differ. cc) (let long = shared.parsable.fillers b words is_filler in omega (arith, long))
-        ∙ ap (λ b. u.memory (Heap b)) header))
+        (λ b words is_filler. (
+          is_filler,
+          let header : b + 0 ≡ b = omega arith in
+              ap (updated (λ b. u.memory (Heap b)) at value) (sym header)
+              ∙ else_stays from_start to_end b 0 (filler words) is_filler (λ differ. cc) (let long = shared.parsable.fillers b words is_filler in omega (arith, long))
+              ∙ ap (λ b. u.memory (Heap b)) header,
+        ))
         shared.unwritten;
     marked = marked_stored c (u.memory Phase) (λ n. u.memory (Grey n)) (λ n. u.memory (Black n)) (λ t. u.memory (Count t)) (λ t k. u.memory (Buffer t k)) (λ r. u.memory (Top r)) (λ r. u.memory (Tams r))
         (λ b. u.memory (Heap b)) u.block u.ghost.snapshot u.ghost.recording u.ghost.scanning shared.marked (updated (λ b. u.memory (Heap b)) at value) (field_stays from_start to_end covered);

@@ -29,8 +29,8 @@ whole_at : (c : Config) (spot : ControlSpot) (index got : ℕ) (image : List ℕ
 whole_at c spot index got image at last on whole =
     let prop : IsProp (∥ AreMarkedThrough c (closed c (image_view c (image ++ got ∷ []))) ∥₁) = hlevel in
     ∥∥₁_elim (subst (λ (x : ControlSpot). IsWhole c x image got) at whole last) prop (λ h.
-        let marked = reachable_are_marked c (image_view c (image ++ got ∷ [])) h.0 h.1 h.2 on in
-        ∣ record { block = marked.0; owner = marked.1; promises = marked.2; graph = h.0; holds = marked.3; marked = marked.4 } ∣₁)
+    let marked = reachable_are_marked c (image_view c (image ++ got ∷ [])) h.0 h.1 h.2 on in
+    ∣ record { block = marked.0; owner = marked.1; promises = marked.2; graph = h.0; holds = marked.3; marked = marked.4 } ∣₁)
 
 pub reachable_are_marked_in_runs : ReachableAreMarkedInRuns
 reachable_are_marked_in_runs c s g begins number index got a k finds is at last on =
