@@ -4,7 +4,7 @@
 usage: measure_churn.py [SEED COUNT]
 
 The two numbers are 7 and 20000 where they are not given. It prints the seconds of the whole process, the median of five, and the
-commands a second; the steps and the collections of the same scripts under `replay`, in rounds, since of threads nobody counts
+commands a second; the steps and the pauses of the same scripts under `replay`, in rounds, since of threads nobody counts
 them (how they are found, measure_pauses.py says); then, where there is a JDK with Shenandoah, the same of bench/Churn.java, also of its threads alone,
 since most of that process is the start of the machine. Both have to write the same eight lines. Times mean something only
 beside each other, from one run.
@@ -53,20 +53,17 @@ def script(seed, count, thread):
         yield from (f"get 3 1 {k}", "rd 3 0", f"cas 1 {k} 3 3", f"xchg 4 1 {k} 3")
 
 
-def steps_with(seed, count, helpers):
-    """The steps that the scripts take under `replay` with so many helpers."""
+def count_steps(numbers, commands):
+    """Prints what the scripts take under `replay`, with the two helpers of a churn."""
+    seed, count = map(int, numbers)
     with tempfile.NamedTemporaryFile("w", suffix=".trace") as trace:
-        trace.write(f"shen 1\nheap 16 256 2\nthreads 3 {helpers}\n")
+        trace.write("shen 1\nheap 16 256 2\nthreads 3 2\n")
         for thread in (1, 2, 3):
             trace.writelines(f"{thread} {command}\n" for command in script(seed, count, thread))
         trace.flush()
-        return measure_pauses.steps_of(trace.name)
-
-
-def count_steps(numbers, commands):
-    found = [steps_with(*map(int, numbers), helpers) for helpers in range(4)]
-    cycles = measure_pauses.pauses_told(found)
-    print(f"the same scripts under replay: {found[2]} steps, {found[2] / commands:.1f} a command, and {cycles} collections")
+        steps, pauses = measure_pauses.told_of(trace.name, 6)
+    kinds = ", ".join(f"{number} {what}" for what, number in sorted(pauses.items()))
+    print(f"the same scripts under replay: {steps} steps, {steps / commands:.1f} a command, and {sum(pauses.values())} pauses ({kinds})")
 
 
 def has_shenandoah():

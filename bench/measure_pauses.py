@@ -5,23 +5,22 @@ usage: measure_pauses.py [COMMANDS]
 
 First a churn of three threads whose heap of 16 regions of 256 words must be collected all the time (collect_trace.py, with so
 many commands, 20000 if left out), beside the same commands on a heap that is never collected: steps, pauses, and commands
-and steps a second. Then pauses alone, on half-full heaps of several sizes: the steps and the time of one pause, and the time
+and steps a second. Then full collections alone, on half-full heaps of several sizes: the steps and the time of one pause, and the time
 for each word of the heap. It is the same for all sizes where a pause is linear. Times are the least of five runs, without
 those of reading the trace, and mean something only beside each other, from one run.
 
-The program prints no steps. All counts here are exact, and found so:
+All counts here are exact, and found so:
 
-- The steps of a trace are the fewest with which it is answered.
+- The steps of a trace are the events that `shensteps` counts, and its pauses are told by the control's events in the listing: one
+  begins marking where a cycle was asked for or few regions are free, ends it where no unit was left, and is a full collection where
+  an allocation waits.
 - A pause loads each word of the image once (place PL) and stores each once (PS). How many words the image has, follows from
   the sizes alone.
-- How many pauses the churn has, is told by helpers, which have nothing to do. One helper more is a word more of the image,
-  and a seat more at which the control looks before it begins: three steps more of the control in each pause, while each of
-  the three threads looks once more whether the pause has ended for each of these steps. So each pause is twelve steps longer,
-  and all else is as it was. The script takes one, two and three helpers, and stops where they do not tell the same number.
-- Pauses alone are made on purpose, by a schedule, one for each `gc`, and a trace with more of them has so many steps more. Beside
-  PL and PS these are eleven: six of the `gc`, and five of the control, which looks twice, wants the pause, looks whether the one
-  thread is out, and lets it go. The script stops where there are more or fewer.
+- Full collections alone are made on purpose, on a heap that has all its regions in reserve: there each `new` waits for one, and a trace
+  with more of them has so many steps more. Beside PL and PS these are 21: sixteen of the `new`, and five of the control, which looks
+  twice, wants the pause, looks whether the one thread is out, and lets it go. The script stops where there are more or fewer.
 """
+import collections
 import os
 import subprocess
 import sys
@@ -30,14 +29,20 @@ import time
 
 HERE = os.path.dirname(os.path.abspath(__file__))
 TOP = os.path.dirname(HERE)
-PLACES = [os.path.join(TOP, "crates", "shenrun", "out", "shenrun"), os.path.join(TOP, "out", "shenrun")]
-PROGRAM = next((it for it in PLACES if os.access(it, os.X_OK)), None)
-MOST_STEPS = 100_000_000
+
+
+def program(name):
+    """The proved program of this name, if there is one."""
+    places = [os.path.join(TOP, "crates", name, "out", name), os.path.join(TOP, "out", name)]
+    return next((it for it in places if os.access(it, os.X_OK)), None)
+
+
+PROGRAM, LISTER = program("shenrun"), program("shensteps")
 CHURN = (16, 256)
 ROOMY = (64, 1024)
 SIZES = ((16, 256), (32, 256), (16, 512), (32, 512))
 FEW, MANY = 20, 220
-BESIDE = 11
+BESIDE = 21
 
 
 def stop(why):
@@ -60,18 +65,28 @@ def run(trace, *words):
         return time.monotonic() - start, status
 
 
-def steps_of(trace):
-    """The steps that a trace takes: the fewest with which it is answered."""
-    low, high = 0, MOST_STEPS
-    if run(trace)[1] != 0:
+def told_of(trace, control):
+    """The steps that a trace takes, and its pauses by what they do, for the number of its control."""
+    counts, before, line = collections.Counter(), b"", b""
+    with open(trace, "rb") as source:
+        words = (LISTER, "--only", str(control), "--steps", "4000000000")
+        with subprocess.Popen(words, stdin=source, stdout=subprocess.PIPE) as child:
+            for line in child.stdout:
+                place = line[18:20]
+                if place == b"P1":
+                    counts[kind_of(before)] += 1
+                elif place in (b"I1", b"I2", b"MC"):
+                    before = line
+    if not line.startswith(b"all machines are idle after "):
         stop("a trace is not answered")
-    while high - low > 1:
-        middle = (low + high) // 2
-        if run(trace, "--steps", str(middle))[1] == 0:
-            high = middle
-        else:
-            low = middle
-    return high
+    return int(line.split()[-2]), counts
+
+
+def kind_of(line):
+    """What a pause does, by the control's look before it."""
+    if line[18:20] == b"MC":
+        return "end marking"
+    return "collect in full" if b"room" in line[62:] else "begin marking"
 
 
 def seconds_of(trace):
@@ -90,13 +105,14 @@ def churn(commands, regions, size, helpers, file):
 
 
 def pauses(count, regions, size, file):
-    """Writes a trace that fills half of a heap with a list of objects of 16 words, and then makes so many pauses."""
+    """Writes a trace that fills half of a heap with a list of objects of 16 words, and then makes so many pauses, in each of which a
+    small object is made in the place of the one before."""
     objects = regions * size // 32
-    lines = ["shen 1", f"heap {regions} {size} 0", "threads 1 0"]
+    lines = ["shen 1", f"heap {regions} {size} {regions - 1}", "threads 1 0"]
     for _ in range(objects):
         lines += ["1 new 1 1 12", "1 set 1 0 2", "1 copy 2 1"]
-    lines += ["1 gc"] * count
-    items = [f"1={3 * objects}"] + [f"1={3 * objects + i} 2@P3 2@I0" for i in range(1, count + 1)]
+    lines += ["1 new 3 0 0"] * count
+    items = [f"1={3 * objects}"] + [f"1@WP 2@P3 2@I0 1={3 * objects + i}" for i in range(1, count + 1)]
     lines += [f"! {item}" for item in items]
     file.write("\n".join(lines) + "\n")
     file.flush()
@@ -106,39 +122,29 @@ def fresh():
     return tempfile.NamedTemporaryFile("w", suffix=".trace")
 
 
-def pauses_told(found):
-    """The pauses of three threads, by the steps that they take with no helper, one, two and three."""
-    counts = {(more - found[0]) / (12 * helpers) for helpers, more in enumerate(found) if helpers}
-    if len(counts) != 1 or not next(iter(counts)).is_integer():
-        stop(f"the helpers do not tell the same number of pauses: {found}")
-    return int(counts.pop())
-
-
 def measure_churn(commands):
     regions, size = CHURN
-    found = []
-    for helpers in range(4):
-        with fresh() as file:
-            made = churn(commands, regions, size, helpers, file)
-            found.append(steps_of(file.name))
-            if helpers == 0:
-                seconds = seconds_of(file.name)
-    count = pauses_told(found)
+    with fresh() as file:
+        made = churn(commands, regions, size, 0, file)
+        steps, counts = told_of(file.name, 4)
+        seconds = seconds_of(file.name)
+    count = sum(counts.values())
     copied = 2 * count * image_words(regions, size, 3, 0)
     with fresh() as file:
         churn(commands, *ROOMY, 0, file)
-        roomy_steps, roomy_seconds = steps_of(file.name), seconds_of(file.name)
+        roomy_steps, roomy_seconds = told_of(file.name, 4)[0], seconds_of(file.name)
     print(f"{made} commands of three threads")
-    for what, steps, took in ((f"{regions} regions of {size}", found[0], seconds), ("never collected", roomy_steps, roomy_seconds)):
-        print(f"{what:>20}: {steps} steps, {steps / took / 1e6:.1f} million a second, {made / took / 1e6:.2f} million commands a second")
-    print(f"{count} pauses, one for {made / count:.0f} commands; PL and PS are {copied} steps, {100 * copied / found[0]:.1f} % of all")
+    for what, all_steps, took in ((f"{regions} regions of {size}", steps, seconds), ("never collected", roomy_steps, roomy_seconds)):
+        print(f"{what:>20}: {all_steps} steps, {all_steps / took / 1e6:.1f} million a second, {made / took / 1e6:.2f} million commands a second")
+    kinds = ", ".join(f"{number} {what}" for what, number in sorted(counts.items()))
+    print(f"{count} pauses ({kinds}), one for {made / count:.0f} commands; PL and PS are {copied} steps, {100 * copied / steps:.1f} % of all")
 
 
 def measure_size(regions, size):
     with fresh() as few, fresh() as many:
         pauses(FEW, regions, size, few)
         pauses(MANY, regions, size, many)
-        steps = steps_of(many.name) - steps_of(few.name)
+        steps = told_of(many.name, 2)[0] - told_of(few.name, 2)[0]
         took = (seconds_of(many.name) - seconds_of(few.name)) / (MANY - FEW)
     image = image_words(regions, size, 1, 0)
     words = regions * size
@@ -150,7 +156,7 @@ def measure_size(regions, size):
 def main():
     if len(sys.argv) > 2 or not all(word.isdecimal() for word in sys.argv[1:]):
         stop("it wants no word, or a number of commands")
-    if not PROGRAM:
+    if not PROGRAM or not LISTER:
         stop("there is no proved program yet: rt ci makes it")
     measure_churn(int(sys.argv[1]) if len(sys.argv) == 2 else 20000)
     print("one pause of a half-full heap")

@@ -39,18 +39,18 @@ def race(rand):
 
 
 def trace(seed):
-    """A trace of two or three threads on a small heap, with a schedule whose items all end: every third with large objects, for
-    which there is not always room, and every third with exchanges that meet."""
+    """A trace of two or three threads and up to two helpers on a small heap, with a schedule whose items all end: every third with
+    large objects, for which there is not always room, and every third with exchanges that meet."""
     rand = random.Random(seed)
-    threads, commands = rand.randint(2, 3), rand.randint(3, 16)
+    threads, helpers, commands = rand.randint(2, 3), rand.randint(0, 2), rand.randint(3, 16)
     shapes = [(16, 16)] if seed % 3 == 0 else [(0, 1), (1, 0), (2, 2), (16, 16)]
-    lines = ["shen 1", f"heap {rand.randint(4, 5)} 64 {rand.randint(0, 3)}", f"threads {threads} 0"]
+    lines = ["shen 1", f"heap {rand.randint(4, 5)} 64 {rand.randint(0, 3)}", f"threads {threads} {helpers}"]
     for _ in range(commands):
         for thread in range(1, threads + 1):
             lines.append(f"{thread} {race(rand) if seed % 3 == 1 else command(rand, shapes)}")
     most = rand.choice([2, 12, 30])
-    items = [f"{rand.randint(1, threads)}:{rand.randint(1, most)}" for _ in range(rand.randint(1, 200))]
-    items += [f"{threads + 1}:{rand.choice([1, 2, 3, 30, 300])}" for _ in range(rand.randint(1, 40))]
+    items = [f"{rand.randint(1, threads + helpers)}:{rand.randint(1, most)}" for _ in range(rand.randint(1, 200))]
+    items += [f"{threads + helpers + 1}:{rand.choice([1, 2, 3, 30, 300])}" for _ in range(rand.randint(1, 40))]
     rand.shuffle(items)
     return "\n".join([*lines, "! " + " ".join(items)]) + "\n"
 

@@ -15,8 +15,10 @@ PLACES = [os.path.join(TOP, "crates", "shenrun", "out", "shenrun"), os.path.join
 PROGRAM = next((it for it in PLACES if os.access(it, os.X_OK)), None)
 
 # For each row of the table: the commands before the one that it is of, and that command; the heap, where it is not one of eight
-# regions without a reserve. PAUSE among the commands before stands for the pause that a `gc` has asked for.
+# regions without a reserve. PAUSE among the commands before stands for the pause that a `gc` has asked for; objects are marked then.
 PAUSE = "pause"
+MARKING = ["set 0 0 0", "gc", PAUSE]
+FULL = [*MARKING, *["set 0 0 0"] * 8]
 RUNS = {
     ("`new`", "the thread has no current region yet"): ([], "new 1 1 2"),
     ("`new`", "its current region has room"): (["new 1 0 0"], "new 2 2 1"),
@@ -29,16 +31,23 @@ RUNS = {
         "4 64 0",
     ),
     ("`new`", "the answer is `full`; its current region has too little room"): (
-        ["new 1 16 16", "new 2 16 16", "gc", PAUSE, "new 3 16 16", "new 4 16 16"],
+        [f"new {root} 16 16" for root in (1, 1, 1, 2, 3, 4)],
         "new 5 16 16",
         "4 64 0",
     ),
     ("`get`", "the field has an object"): (["set 0 0 0"], "get 1 0 0"),
     ("`get`", "the field is null"): ([], "get 1 0 0"),
     ("`set`", ""): ([], "set 0 0 1"),
+    ("`set`", "objects are marked; the field is null"): (MARKING, "set 0 1 0"),
+    ("`set`", "objects are marked; the field has an object"): (MARKING, "set 0 0 1"),
+    ("`set`", "objects are marked; the field has an object, and the buffer is full"): (FULL, "set 0 0 1"),
     ("`cas`", "`yes`"): ([], "cas 0 0 1 0"),
+    ("`cas`", "`yes`; objects are marked, and the field had an object"): (MARKING, "cas 0 0 0 1"),
+    ("`cas`", "`yes`; objects are marked, the field had an object, and the buffer is full"): (FULL, "cas 0 0 0 1"),
     ("`cas`", "`no`"): ([], "cas 0 0 0 0"),
     ("`xchg`", "the field has an object"): (["set 0 0 0"], "xchg 1 0 0 0"),
+    ("`xchg`", "objects are marked; the field has an object"): (MARKING, "xchg 1 0 0 1"),
+    ("`xchg`", "objects are marked; the field has an object, and the buffer is full"): (FULL, "xchg 1 0 0 1"),
     ("`xchg`", "the field is null"): ([], "xchg 1 0 0 0"),
     ("`rd`", ""): (["new 1 0 1"], "rd 1 0"),
     ("`wr`", ""): (["new 1 0 1"], "wr 1 0 7"),
@@ -86,9 +95,10 @@ def stands_at(before, command, heap, codes, number):
 
 
 def stops_before_store(before, command, heap, steps):
-    """Whether these steps are exactly those of the command: then the next seven leave a `set` before its store, and a second
-    thread finds nothing stored."""
-    answer = answer_to(heap, [*before, command, "set 0 15 0"], "get 1 0 15", [*replies(before), *steps, "1:7", "2=1"])
+    """Whether these steps are exactly those of the command: then the next seven, or eight while objects are marked, leave a `set`
+    before its store, and a second thread finds nothing stored."""
+    more = "1:8" if PAUSE in before else "1:7"
+    answer = answer_to(heap, [*before, command, "set 0 15 0"], "get 1 0 15", [*replies(before), *steps, more, "2=1"])
     return b"\n2 -\n" in answer
 
 
@@ -119,7 +129,7 @@ def main():
         before, line, heap = (*RUNS[command, where], "8 64 0")[:3]
         numbers = line.split()[2:]
         words = 3 + sum(map(int, numbers)) if line.startswith("new") else 0
-        codes = places.replace(", IW for each word,", " IW" * words).split()
+        codes = places.replace(", IW for each word,", " IW" * words).replace(", BL GO for each entry,", " BL GO" * 8).split()
         wanted = sum(int(it) if it.isdigit() else int(numbers[it == "nums"]) for it in re.findall(r"\w+", steps))
         if len(codes) != wanted:
             print(f"{line}: {len(codes)} places, and {wanted} steps")

@@ -1,5 +1,5 @@
 -- Images of which only the words of the image matter.
-use Rattle.std.proofs.Common.{◌≡◌, ℕ, ◌+◌, ◌<◌, List, [], ◌∷◌, ◌++◌, length, get_or, take, drop, set, replicate, refl, sym, ap, ◌∙◌, subst, arith, length-drop, length-set}
+use Rattle.std.proofs.Common.{◌≡◌, ℕ, ◌+◌, ◌<◌, List, [], ◌∷◌, ◌++◌, length, get_or, take, drop, set, replicate, sym, ap, ◌∙◌, subst, arith, length-drop, length-set}
 use Rattle.std.proofs.lemmas.Grind.{same_number_lists}
 use Rattle.std.proofs.lemmas.List.{take_more_set, get_or-replicate, get_or-drop, length-replicate}
 use Rattle.std.proofs.Math.ListN.{get_or-append}
@@ -12,9 +12,7 @@ use Rattle.image_graph.specs.State.{config_of, words_of, memory_of}
 use Rattle.mark_pauses.specs.Collect.{collected, collect_image, CanCollectSome}
 use Rattle.mark_pauses.proofs.Images.{collected_table}
 use Rattle.control.specs.Clear.{IsClear}
-use Rattle.control_steps.specs.declared.spot.ControlSpot.{ControlSpot}
-use Rattle.control_steps.specs.declared.spot.ControlSpot.TheVariants.{LoadWord, StoreWord}
-use Rattle.control.specs.Image.{image_in, image_from, words_seen, IsLoadedFrom}
+use Rattle.control.specs.Image.{image_in, image_from}
 use Rattle.control.proofs.Clearing.{view-clear}
 
 -- all its words are those of the image, and 0 before them
@@ -95,9 +93,3 @@ image-loaded c i table config long same =
 -- by name they are the words of the table's image
 pub memory-loaded : (c : Config) (i : Image) (table : List ℕ) → IsClear i → config_of i ≡ c → image_in i ≡ image_from c table → memory_of i ≡ image_view c (image_from c table)
 memory-loaded c i table clear config is = memory-image_in i clear ∙ ap (λ d. image_view d (image_in i)) config ∙ ap (image_view c) is
-
--- what events see of a control stays, where it has loaded words of that table
-pub seen-loaded : (table : List ℕ) (spot : ControlSpot) (old new : List ℕ) → new ≡ table → IsLoadedFrom table spot (words_seen spot old) → words_seen spot new ≡ words_seen spot old
-seen-loaded table (LoadWord index) old new is loaded = ap (take index) is ∙ sym loaded
-seen-loaded table (StoreWord index) old new is loaded = absurd loaded
-seen-loaded table _ old new is loaded = refl

@@ -76,32 +76,23 @@ module _ (c : Config) (image : List ℕ) (long : length image ≡ image_words c)
         stores = λ ends. cond-false (ltb (count + 1) (image_words c)) _ _ (le-ltb _ _ ends);
       })
 
--- no cycle is in progress
-pub record IsIdle (m : Word → ℕ) : Type 0 where
-  pub phase : m Phase ≡ 0
-  pub cset : m Cset ≡ 0
-
--- so what holds a graph can be collected
-can-idle : (c : Config) (m : Word → ℕ) → IsIdle m → HoldsSome c m → CanCollectSome c m
-can-idle c m idle holds = ∥∥₁_map holds (λ some. (
+-- in phase 0 what holds a graph can be collected
+can-idle : (c : Config) (m : Word → ℕ) → m Phase ≡ 0 → m Cset ≡ 0 → HoldsSome c m → CanCollectSome c m
+can-idle c m phase cset holds = ∥∥₁_map holds (λ some. (
   some.0,
   some.1.0,
   some.1.1,
   some.1.2,
-  record { holds = some.1.3; phase_is = omega (arith, idle.phase); uncollected = idle.cset; marking = λ runs. absurd (omega (arith, idle.phase, runs)) },
+  record { holds = some.1.3; phase_is = omega (arith, phase); uncollected = cset; marking = λ runs. absurd (omega (arith, phase, runs)) },
 ))
 
 -- an image without an object can be loaded whole, and collected
-pub can-blank : (words : Image) (c : Config) → config_of words ≡ c → IsBlank (config_of words) (memory_of words) → IsIdle (memory_of words)
+pub can-blank : (words : Image) (c : Config) → config_of words ≡ c → IsBlank (config_of words) (memory_of words) → memory_of words Phase ≡ 0 → memory_of words Cset ≡ 0
     → CanCollectSome c (image_view c (image_in words))
-can-blank words c same blank idle =
+can-blank words c same blank phase cset =
     let d = config_of words in
     let m = image_view d (image_in words) in
     let Can : Config → Type 0 = λ e. CanCollectSome e (image_view e (image_in words)) in
     subst Can same
-    (can-idle d m
-    (record {
-      phase = image_view-drop d (words_of words) Phase refl ∙ idle.phase;
-      cset = image_view-drop d (words_of words) Cset refl ∙ idle.cset;
-    })
+    (can-idle d m (image_view-drop d (words_of words) Phase refl ∙ phase) (image_view-drop d (words_of words) Cset refl ∙ cset)
     (blank_holds d m (blank-drop d (words_of words) blank)))

@@ -1,7 +1,7 @@
 ghost use Rattle.std.specs.Prelude.{◌≡◌, ◌≤◌, [], IfOk};
 ghost use Rattle.image_graph.proofs.Blank.{IsBlank};
 ghost use Rattle.image_graph.specs.State.{config_of, memory_of};
-ghost use Rattle.control.proofs.Loading.{IsIdle};
+ghost use Rattle.heap_words.specs.Words.{Phase, Cset};
 ghost use Rattle.control_steps.specs.declared.spot.ControlSpot.TheVariants.{LookLeft, LoadWord, StoreWord, Go};
 ghost use Rattle.control.specs.Image.{image_in};
 ghost use Rattle.control.specs.Seen.{config_in, seen_control};
@@ -17,7 +17,8 @@ use std::test::Fail;
 fn opened(alloc: Global, config: Config) -> Result<Image, Fail>
     ensures config { IfOk result (λ image. config_of image ≡ config) }
     ensures blank { IfOk result (λ image. IsBlank config (memory_of image)) }
-    ensures idle { IfOk result (λ image. IsIdle (memory_of image)) }
+    ensures phase { IfOk result (λ image. memory_of image Phase ≡ 0) }
+    ensures cset { IfOk result (λ image. memory_of image Cset ≡ 0) }
 {
     Ok(Image::open(alloc, config)?)
 }
@@ -27,10 +28,12 @@ fn ask(words: &mut Image, refs: u64, nums: u64)
     requires refs { refs ≤ 16 }
     requires nums { nums ≤ 16 }
     requires blank { IsBlank (config_of words.old) (memory_of words.old) }
-    requires idle { IsIdle (memory_of words.old) }
+    requires phase { memory_of words.old Phase ≡ 0 }
+    requires cset { memory_of words.old Cset ≡ 0 }
     ensures config { config_of words.new ≡ config_of words.old }
     ensures blank { IsBlank (config_of words.new) (memory_of words.new) }
-    ensures idle { IsIdle (memory_of words.new) }
+    ensures phase { memory_of words.new Phase ≡ 0 }
+    ensures cset { memory_of words.new Cset ≡ 0 }
 {
     let config = words.config();
     words.set_word(config.wait_at(0), request_word(1, shape_of(refs, nums)));
@@ -39,10 +42,12 @@ fn ask(words: &mut Image, refs: u64, nums: u64)
 // And says that it waits.
 fn ask_pause(words: &mut Image)
     requires blank { IsBlank (config_of words.old) (memory_of words.old) }
-    requires idle { IsIdle (memory_of words.old) }
+    requires phase { memory_of words.old Phase ≡ 0 }
+    requires cset { memory_of words.old Cset ≡ 0 }
     ensures config { config_of words.new ≡ config_of words.old }
     ensures blank { IsBlank (config_of words.new) (memory_of words.new) }
-    ensures idle { IsIdle (memory_of words.new) }
+    ensures phase { memory_of words.new Phase ≡ 0 }
+    ensures cset { memory_of words.new Cset ≡ 0 }
 {
     let config = words.config();
     words.set_word(config.ask_at(), 2);
@@ -52,7 +57,8 @@ fn ask_pause(words: &mut Image)
 fn load_image(control: &mut Control, words: &Image)
     requires same { config_of words.now ≡ config_in control.old }
     requires blank { IsBlank (config_of words.now) (memory_of words.now) }
-    requires idle { IsIdle (memory_of words.now) }
+    requires phase { memory_of words.now Phase ≡ 0 }
+    requires cset { memory_of words.now Cset ≡ 0 }
     requires spot { (seen_control control.old).spot ≡ LoadWord 0 }
     ensures config { config_in control.new ≡ config_in control.old }
     ensures spot { (seen_control control.new).spot ≡ StoreWord 0 }

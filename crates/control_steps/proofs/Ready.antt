@@ -41,7 +41,7 @@ checks_on c false x y one other = other refl
 scans_on : (c : Config) (at : ScanSpot) → scans.is_ready c at ≡ true → is_ready c (after_scan at) ≡ true
 scans_on c (scan.Ended Worked) ready = refl
 scans_on c (scan.Ended NoneLeft) ready = refl
-scans_on c at ready = search (arith, and_parts)
+scans_on c at ready = search arith
 
 pub stays_ready : StaysReady
 stays_ready c phase seen LookLeft got ready goes = of_two c (got == 0) StoreEnd LookAsked (λ e. refl) (λ e. refl)

@@ -11,7 +11,7 @@ use Rattle.image_laws.specs.Full.{now_in, held_in, kept_in, copies_of}
 use Rattle.image_graph.specs.declared.image.Image.{Image}
 use Rattle.image_graph.specs.State.{memory_of, found_of, IsUnchanged}
 use Rattle.full_cycle.specs.Collect.{copy_in, CanCollect, LeadsToHeld}
-use Rattle.full_cycle.proofs.State.{memory_same}
+use Rattle.image_graph.proofs.Same.{memory_same}
 use Rattle.full_cycle.proofs.Listed.{noted_more}
 
 pub kept_is : (c : Config) (m : Word → ℕ) (a : ℕ) → 0 < kept_in c m a → kept_in c m a ≡ object_words (m (Heap (a + 1)))

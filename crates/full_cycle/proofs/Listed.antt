@@ -1,5 +1,5 @@
 -- What is noted of rows of words.
-use Rattle.std.proofs.Common.{◌≡◌, ℕ, ◌+◌, ◌-◌, ◌<◌, ◌≤◌, cond, nat_le, zero, suc, List, [], ◌∷◌, ◌++◌, length, slice_get, map, Option, Some, None, refl, sym, ap, ◌∙◌, arith}
+use Rattle.std.proofs.Common.{◌≡◌, ℕ, ◌+◌, ◌<◌, ◌≤◌, cond, nat_le, suc, List, [], ◌∷◌, ◌++◌, length, slice_get, map, Some, refl, sym, ap, ◌∙◌, arith}
 use Rattle.std.specs.List.{range_with_len}
 use Rattle.std.proofs.lemmas.Bool.{cond-true, cond-false, le-leb, lt-leb}
 use Rattle.std.proofs.lemmas.List.{map-append}
@@ -8,13 +8,10 @@ use Rattle.heap_words.specs.declared.config.Config.{Config}
 use Rattle.heap_words.specs.Words.{Word, Root, Answer, heap_size}
 use Rattle.heap_graph.specs.Walk.{with_address, with_addresses}
 use Rattle.heap_graph.proofs.Marks.{with_addresses-push}
-use Rattle.image_laws.specs.Held.{with_fields, found_in}
-use Rattle.image_laws.specs.Full.{copies_of, roots_below, answers_below, field_words, held_in}
+use Rattle.image_laws.specs.Full.{copies_of, roots_below, answers_below, root_words, field_words, held_in}
+use Rattle.image_laws.proofs.Turns.{noted_both}
+use Rattle.image_laws.proofs.Turns as turns
 use Rattle.full_cycle.specs.Collect.{copy_in, found_by}
-
-pub noted_both : (order xs ys : List ℕ) → with_addresses (with_addresses order xs) ys ≡ with_addresses order (xs ++ ys)
-noted_both order [] ys = refl
-noted_both order (x ∷ xs) ys = noted_both (with_address order x) xs ys
 
 -- one word more of a row
 pub noted_more : (m : Word → ℕ) (f : ℕ → ℕ) (i : ℕ) (order : List ℕ)
@@ -60,17 +57,6 @@ answer_none m t order none =
 
 -- Turns.
 
--- what is nothing
-pub is_none : (o : Option ℕ) → ((x : ℕ) → o ≡ Some x → ⊥) → o ≡ None
-is_none None never = refl
-is_none (Some x) never = absurd (never x refl)
-
--- past the end of a list there is nothing
-pub none_left : (xs : List ℕ) (n : ℕ) → slice_get xs n ≡ None → length xs ≤ n
-none_left [] n none = omega arith
-none_left (x ∷ xs) zero none = absurd (cc)
-none_left (x ∷ xs) (suc n) none = omega (arith, none_left xs n none)
-
 module _ (c : Config) (m : Word → ℕ) where
   abbrev found : ℕ → List ℕ
   found = found_by c m
@@ -79,35 +65,13 @@ module _ (c : Config) (m : Word → ℕ) where
   fields a = copies_of m (field_words m a)
 
   pub no_turn : with_addresses (with_addresses [] (copies_of m (roots_below m c.mutators))) (copies_of m (answers_below m c.mutators)) ≡ found 0
-  unfolding found_in
   no_turn =
       noted_both [] (copies_of m (roots_below m c.mutators)) (copies_of m (answers_below m c.mutators))
       ∙ ap (with_addresses []) (sym (map-append (copy_in m) (roots_below m c.mutators) (answers_below m c.mutators)))
-
-  turn : (n : ℕ) → found (suc n) ≡ with_fields fields (found n) (slice_get (found n) n)
-  unfolding found_in
-  turn n = refl
+      ∙ turns.no_turn fields (copies_of m (root_words c m))
 
   pub next_turn : (n a : ℕ) → slice_get (found n) n ≡ Some a → with_addresses (found n) (fields a) ≡ found (n + 1)
-  next_turn n a at =
-      let next : suc n ≡ n + 1 = omega arith in
-      sym (turn n ∙ ap (with_fields fields (found n)) at) ∙ ap found next
-
-  -- where no turn is left, further turns find nothing
-  stays : (n k : ℕ) → length (found n) ≤ n → found (k + n) ≡ found n
-  stays n zero short = let here : zero + n ≡ n = omega arith in ap found here
-  stays n (suc k) short =
-      let next : suc k + n ≡ suc (k + n) = omega arith in
-      let before : found (k + n) ≡ found n = stays n k short in
-      let none : slice_get (found (k + n)) (k + n) ≡ None = ap (λ xs. slice_get xs (k + n)) before ∙ get_none (found n) (k + n) (omega (arith, short)) in
-      ap found next ∙ turn (k + n) ∙ ap (with_fields fields (found (k + n))) none ∙ before
-    where
-      get_none : (xs : List ℕ) (j : ℕ) → length xs ≤ j → slice_get xs j ≡ None
-      get_none [] j past = refl
-      get_none (x ∷ xs) zero past = absurd (omega (arith, past))
-      get_none (x ∷ xs) (suc j) past = get_none xs j (omega (arith, past))
+  next_turn = turns.next_turn fields (copies_of m (root_words c m))
 
   pub last_turn : (n : ℕ) → length (found n) ≤ n → n ≤ heap_size c → found n ≡ held_in c m
-  last_turn n short few =
-      let all : (heap_size c - n) + n ≡ heap_size c = omega (arith, few) in
-      sym (stays n (heap_size c - n) short) ∙ ap found all
+  last_turn n short few = turns.last_turn fields (copies_of m (root_words c m)) n (heap_size c) short few

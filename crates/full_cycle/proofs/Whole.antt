@@ -16,7 +16,7 @@ use Rattle.image_graph.specs.State.{config_of, words_of, memory_of, places_of, I
 use Rattle.image_graph.specs.Make.{AreWithin}
 use Rattle.full_cycle.specs.Collect.{CanCollect, LeadsToHeld}
 use Rattle.full_cycle.specs.Steps.{moved_in, IsRenewedAs, renewed_by, roots_renewed, calm}
-use Rattle.full_cycle.proofs.State.{memory_same, carried}
+use Rattle.image_graph.proofs.Same.{memory_same, carried}
 
 -- the objects were found in one image, and packed in the next
 module _ (old one two : Image) (can : CanCollect (config_of old) (memory_of old)) (same : IsUnchanged old one) (config : config_of two ≡ config_of one)

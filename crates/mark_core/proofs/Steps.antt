@@ -20,13 +20,6 @@ not_yet x y k = grind (arith, nat_tests)
 
 -- buffers
 
-emptied_none_at : (m : Word → ℕ) (w : Word) → m w ≡ emptied 0 m w
-emptied_none_at m (Count t) = none_yet 0 (m (Count t)) t
-emptied_none_at m _ = refl
-
-pub emptied_none : (m : Word → ℕ) → m ≡ emptied 0 m
-emptied_none m = fun_ext (λ w. emptied_none_at m w)
-
 emptied_next_at : (t : ℕ) (m : Word → ℕ) (w : Word) → write (emptied t m) (Count t) 0 w ≡ emptied (t + 1) m w
 emptied_next_at t m (Count u) = one_more (λ x. m (Count x)) (λ x. 0) t u
 emptied_next_at t m _ = refl
@@ -35,13 +28,6 @@ pub emptied_next : (t : ℕ) (m : Word → ℕ) → write (emptied t m) (Count t
 emptied_next t m = fun_ext (λ w. emptied_next_at t m w)
 
 -- tops
-
-noted_none_at : (m : Word → ℕ) (w : Word) → m w ≡ noted 0 m w
-noted_none_at m (Tams r) = none_yet (m (Top r)) (m (Tams r)) r
-noted_none_at m _ = refl
-
-pub noted_none : (m : Word → ℕ) → m ≡ noted 0 m
-noted_none m = fun_ext (λ w. noted_none_at m w)
 
 noted_next_at : (r : ℕ) (m : Word → ℕ) (w : Word) → write (noted r m) (Tams r) (m (Top r)) w ≡ noted (r + 1) m w
 noted_next_at r m (Tams q) = one_more (λ x. m (Tams x)) (λ x. m (Top x)) r q

@@ -13,3 +13,6 @@ mod trace;
 pub use begin::init_mark;
 pub use close::close_marks;
 pub use end::final_mark;
+
+#[cfg(test)]
+mod tests;

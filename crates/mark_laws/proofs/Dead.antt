@@ -60,7 +60,7 @@ module _ (c : Config) (m : Word → ℕ) (r : ℕ) where
   is_told is =
       let no_seat : is_current c m r ≡ false = false_from_ne_true (is_current c m r) (λ seat. is.nobodys (current_is seat)) in
       let no_mark : has_black c m r ≡ false = false_from_ne_true (has_black c m r)
-          (λ black. let at = black_in black in true≢false (sym at.2 ∙ is.unmarked at.0 at.1)) in
+      (λ black. let at = black_in black in true≢false (sym at.2 ∙ is.unmarked at.0 at.1)) in
       and_from (used && unseated && filled) bare
       (and_from (used && unseated) filled
       (and_from used unseated (eq-eqb (bit_at (m Free) r) 0 is.in_use) (not_from_false (is_current c m r) no_seat))

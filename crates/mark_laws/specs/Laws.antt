@@ -51,4 +51,4 @@ abbrev pub EndKeeps : Type 0
 EndKeeps = (c : Config) (memory : Word → ℕ) (block : Plot) (owner : ℕ → Option ℕ) (p : Promises) (g : Graph) → HoldsBy c memory block owner p g → IsMarking c memory block
     → HasNoMoreSeats c memory
     → HoldsBy c (final_marked c memory) (freed_block c (dead_in c memory) block) (freed_owner (dead_in c memory) owner) p g
-      × IsMarkedThrough c (final_marked c memory) (freed_block c (dead_in c memory) block)
+    × IsMarkedThrough c (final_marked c memory) (freed_block c (dead_in c memory) block)

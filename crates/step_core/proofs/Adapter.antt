@@ -1,13 +1,11 @@
 -- What the step of a mutator owes as an event: what its place owes is turned into that, while a pause writes its image back and
 -- while none does.
 use Rattle.std.proofs.Common.{◌≡◌, ◌≢◌, ℕ, ◌+◌, ◌<◌, ◌⊎◌, inl, inr, ⊎_elim, true, false, List, ◌++◌, length, Option, Some, None, refl, sym, ap, ◌∙◌, subst, arith}
-use Rattle.std.specs.Prelude.{nat_le, slice_get, if◌then◌else◌}
+use Rattle.std.specs.Prelude.{slice_get}
 use Rattle.std.proofs.lemmas.List.{append-nil}
-use Rattle.std.proofs.lemmas.Bool.{cases_Bool, cases_eq, cond-false, false≢true}
+use Rattle.std.proofs.lemmas.Bool.{cases_eq}
 use Rattle.heap_words.specs.declared.config.Config.{Config}
-use Rattle.heap_words.specs.Encoding.{object_words}
-use Rattle.heap_words.specs.Words.{Word, Answer, Heap, is_word, is_image, same_word, view, table_words}
-use Rattle.heap_words.proofs.Stores.{same_word_true}
+use Rattle.heap_words.specs.Words.{Answer, is_word, is_image, view, table_words}
 use Rattle.steps_base.specs.Touch.{Touch, touched}
 use Rattle.shen_graph.specs.declared.command.Command.{Command}
 use Rattle.shen_graph.specs.declared.command.Reply.{Reply}
@@ -27,7 +25,6 @@ use Rattle.mutator.proofs.Orders.{in_call}
 use Rattle.mutator.specs.Told.{told_of as settled_by_step}
 use Rattle.heap_world.specs.World.{Ghost, World, Plot, Shared}
 use Rattle.heap_world.specs.Change.{Change}
-use Rattle.heap_world.specs.Rely.{Rely}
 use Rattle.control_steps.specs.Rows.{Controlling}
 use Rattle.step_core.specs.Actor.{mutating, controlling, Actor, entries_of, command_by}
 use Rattle.step_core.specs.Machines.{took_of}
@@ -35,8 +32,8 @@ use Rattle.step_core.specs.Settled.{settled_by}
 use Rattle.step_core.specs.Standing.{standing_at}
 use Rattle.step_core.specs.Stepped.{SpotFacts, Stepped, fixed_by, graph_by}
 use Rattle.step_core.proofs.Entries.{graph_settled, legal_settled, entries_settled, command_valid, own_more, other_more}
-use Rattle.step_core.proofs.Facts.{IsSeen, IsShort, IsThread, IsAim, IsMachine, PromisedToMutators, Owes, words_promised}
-use Rattle.step_core.proofs.Images.{words_after, view-placed}
+use Rattle.step_core.proofs.Facts.{IsSeen, IsShort, IsThread, IsAim, IsMachine, PromisedToMutators, Owes}
+use Rattle.step_core.proofs.Images.{words_after}
 use Rattle.step_core.proofs.Outside.{outside_told, outside_given, refused_quiet, answer_before}
 use Rattle.step_core.proofs.Answers.{whole_before, whole_then, raw_stays, now_stays, counts_same, other_raw, other_counts}
 use Rattle.step_core.proofs.Roles.{machine_stays, short_stays, seen_stays}

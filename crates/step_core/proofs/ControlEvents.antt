@@ -37,7 +37,7 @@ use Rattle.step_core.specs.Fit.{StandsForSome}
 use Rattle.step_core.specs.Standing.{standing_of}
 use Rattle.step_core.proofs.Facts.{IsControl, IsMachine, Follows, Owes, AreRead}
 use Rattle.step_core.proofs.Images.{words_after, found-placed, image_grows}
-use Rattle.step_core.proofs.MachinesObey.{not_gone}
+use Rattle.step_core.proofs.Helpers.{is_off}
 use Rattle.step_core.proofs.Owing.{follows_owes}
 use Rattle.step_core.proofs.Paused.{asking, image_stands, paused_owes}
 use Rattle.step_core.proofs.Pauses as pauses
@@ -234,7 +234,7 @@ module _ (change : Change) (law : IsPause change) (c : Config) (g : Graph) (s : 
       let ready = and_parts _ _ known.ready in
       let found : got (Scanning at) ≡ view c s.words (scans.touch_at c at).word = found-placed c s.words (scans.touch_at c at) (is_word_from c _ (scan_inside c at ready.0)) in
       subst (λ n. scan.IsFit c at n) (sym found)
-      (scanning_steps.fits c open_now (control_number c) at (not_gone (scans.is_ended at) ready.1) (shared_held change law c g s past number (control_at (Scanning at)) command calls follows shaken here) known.facts)
+      (scanning_steps.fits c open_now (control_number c) at (is_off (scans.is_ended at) ready.1) (shared_held change law c g s past number (control_at (Scanning at)) command calls follows shaken here) known.facts)
 
   -- a step of a scan
   scan_word : (at : ScanSpot) → Here (Scanning at) → ControlGoal (Scanning at)
@@ -245,7 +245,7 @@ module _ (change : Change) (law : IsPause change) (c : Config) (g : Graph) (s : 
       (λ n. Owes c s.words (words_after c s.words (scans.touch_at c at)) open_now past (control_number c) s.machines
       (settled_by c (words_after c s.words (scans.touch_at c at)) (image_in (took_of change c (record { machine = controlling (control_at (Scanning at)); command = command; calls = calls }) Nothing n (controlling (control_at (Scanning at)))).machine)) []
       (took_of change c (record { machine = controlling (control_at (Scanning at)); command = command; calls = calls }) Nothing n (controlling (control_at (Scanning at))))) (sym found)
-      (pauses.scan_unit c s.words follows.block follows.ghost (after g past) past s.machines command calls change seen phase image follows.words shared follows.promised_to at (not_gone (scans.is_ended at) ready.1) known))
+      (pauses.scan_unit c s.words follows.block follows.ghost (after g past) past s.machines command calls change seen phase image follows.words shared follows.promised_to at (is_off (scans.is_ended at) ready.1) known))
 
   -- wherever it stands
   pub by_spot : (spot : ControlSpot) → is_gone spot ≡ false → Here spot → ControlGoal spot

@@ -24,6 +24,7 @@ use Rattle.control_steps.specs.declared.spot.ControlSpot.TheVariants.{LookLeft, 
 use Rattle.control_steps.specs.Rows.{access_with, next_spot, stopping, after_scan, begins_pause, unasked, wants_pause}
 use Rattle.control_steps.specs.Ready.{is_ready}
 use Rattle.step_core.specs.Standing.{control_standing}
+use Rattle.step_core.proofs.Helpers.{is_off}
 
 -- a choice of two spots at which it stands so
 either : (f : Standing → Bool) (b : Bool) (x y : ControlSpot) → f (control_standing x) ≡ true → f (control_standing y) ≡ true → f (control_standing (if b then x else y)) ≡ true
@@ -34,10 +35,6 @@ stopping_standing : (at : StopSpot) → control_standing (stopping at) ≡ stop_
 stopping_standing stop.Raise = refl
 stopping_standing (stop.Check seat) = refl
 stopping_standing stop.Stopped = refl
-
-going_stop : (at : StopSpot) → (if is_stopped at then false else true) ≡ true → is_stopped at ≡ false
-going_stop stop.Stopped is = cc
-going_stop _ is = refl
 
 -- where it scans, or has scanned a unit, no pause is wanted yet, and its access is of a word of the image
 scan_free : (at : ScanSpot) → is_free (control_standing (after_scan at)) ≡ true
@@ -67,7 +64,7 @@ control_obeys c seat phase seen value (Scanning at) ready =
     record { elsewhere = image_elsewhere c (placed c (scans.touch_at c at)) (placed_above c (scans.touch_at c at) word (scan_image c at)); goes_on = λ got. scan_free (scans.next_at c at got) }
 control_obeys c seat phase seen value (Stopping at) ready =
     obeys_same c seat (stop_standing at) _ (λ got. stop_standing (stop_next c at got)) _ (λ got. stopping_standing (stop_next c at got))
-    (stop_obeys c seat at (going_stop at (and_parts (touch_fits c (stop_touch at)) (if is_stopped at then false else true) ready).1))
+    (stop_obeys c seat at (is_off (is_stopped at) (and_parts (touch_fits c (stop_touch at)) (if is_stopped at then false else true) ready).1))
 control_obeys c seat phase seen value (LoadWord index) ready = record { elsewhere = image_elsewhere c _ (omega arith); goes_on = λ got. either is_pausing (nat_lt (index + 1) (image_words c)) (LoadWord (index + 1)) (StoreWord 0) refl refl }
 control_obeys c seat phase seen value (StoreWord index) ready = record { elsewhere = image_elsewhere c _ (omega arith); goes_on = λ got. either is_pausing (nat_lt (index + 1) (image_words c)) (StoreWord (index + 1)) Go refl refl }
 control_obeys c seat phase seen value Go ready = go_obeys c seat

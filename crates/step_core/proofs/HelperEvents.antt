@@ -1,5 +1,5 @@
 -- An event of a helper leads from a stage that follows its history to one that does.
-use Rattle.std.proofs.Common.{◌≡◌, ◌≢◌, ℕ, ◌+◌, ◌<◌, true, false, List, [], ◌++◌, Option, Some, sym, ap, ◌∙◌, subst, arith}
+use Rattle.std.proofs.Common.{◌≡◌, ◌≢◌, ℕ, ◌+◌, ◌<◌, true, false, List, [], ◌++◌, Some, sym, ap, ◌∙◌, subst, arith}
 use Rattle.std.specs.Prelude.{slice_get, slice_set, slice_index}
 use Rattle.std.proofs.lemmas.List.{length-set}
 use Rattle.heap_words.specs.declared.config.Config.{Config}
@@ -16,14 +16,13 @@ use Rattle.handshake.specs.Standing.{is_within}
 use Rattle.helper.specs.Rows.{Helping, is_gone, help_touch}
 use Rattle.heap_world.specs.World.{World}
 use Rattle.heap_world.specs.Change.{Change}
-use Rattle.control_steps.specs.Rows.{Controlling}
-use Rattle.step_core.specs.Actor.{helping, controlling, Actor}
+use Rattle.step_core.specs.Actor.{helping, Actor}
 use Rattle.step_core.specs.Machines.{took_of, kind}
 use Rattle.step_core.specs.Settled.{settled, settled_by, control_number}
 use Rattle.step_core.specs.Sound.{world_of}
 use Rattle.step_core.specs.Standing.{help_standing}
 use Rattle.step_core.proofs.Aims.{aims_stay}
-use Rattle.step_core.proofs.Facts.{IsHelper, IsAim, Follows, Owes}
+use Rattle.step_core.proofs.Facts.{IsHelper, Follows, Owes}
 use Rattle.step_core.proofs.Held.{IsKept, held_image, outside_held, other_holds}
 use Rattle.step_core.proofs.Helpers.{help_leaves_image, help_word}
 use Rattle.step_core.proofs.HelperSteps.{help_step}

@@ -1,10 +1,10 @@
 -- A helper obeys the handshake, and leaves the count of the mutators and the word of the end as they are.
-use Rattle.std.proofs.Common.{◌≡◌, ◌≢◌, ℕ, ◌+◌, ◌≤◌, ◌⊎◌, Bool, true, false, refl, arith, inl, inr}
+use Rattle.std.proofs.Common.{◌≡◌, ◌≢◌, ℕ, ◌≤◌, ◌⊎◌, Bool, true, false, refl, arith, inl, inr}
 use Rattle.std.specs.Prelude.{nat_eq, if◌then◌else◌}
 use Rattle.std.proofs.lemmas.Bool.{and_parts}
 use Rattle.heap_words.specs.declared.config.Config.{Config}
 use Rattle.heap_words.specs.Access.{table_index}
-use Rattle.heap_words.specs.Words.{End, Phase, Cset, IsWord, word_at, image_start}
+use Rattle.heap_words.specs.Words.{End, Phase, Cset, word_at, image_start}
 use Rattle.steps_base.specs.Touch.{touch, loads, placed}
 use Rattle.handshake.specs.declared.enter_spot.EnterSpot.{EnterSpot}
 use Rattle.handshake.specs.declared.enter_spot.EnterSpot.TheVariants as enter
@@ -23,15 +23,12 @@ use Rattle.helper.specs.Rows.{is_gone, touch_at, after_enter, after_scan, next_s
 use Rattle.helper.specs.Ready.{spot_fits}
 use Rattle.step_core.specs.Standing.{help_standing}
 use Rattle.step_core.proofs.ControlObeys.{scan_image}
+use Rattle.step_core.proofs.Helpers.{is_off}
 
 -- where it enters it stands as who enters
 enter_same : (at : EnterSpot) → help_standing (after_enter at) ≡ enter_standing at
 enter_same enter.Inside = refl
 enter_same _ = refl
-
-not_entered : (b : Bool) → (if b then false else true) ≡ true → b ≡ false
-not_entered true is = absurd (cc (is))
-not_entered false is = refl
 
 -- where it scans, or has scanned a unit, it is in the heap
 scan_within : (at : ScanSpot) → is_within (help_standing (after_scan at)) ≡ true
@@ -55,7 +52,7 @@ module _ (c : Config) (seat : ℕ) where
   pub help_obeys : (spot : HelpSpot) → spot_fits c spot ≡ true → is_gone spot ≡ false → Obeys c seat (help_standing spot) (placed c (touch_at c seat spot)) (λ got. help_standing (next_spot c spot got))
   help_obeys LoadEnd fits going = inr (record { harmless = inl refl; next_is = λ got. outside_both (nat_eq got 1) })
   help_obeys (Entering at) fits going =
-      obeys_same c seat (enter_standing at) _ (λ got. enter_standing (enter_next at got)) _ (λ got. enter_same (enter_next at got)) (enter_obeys c seat at (not_entered (is_entered at) fits))
+      obeys_same c seat (enter_standing at) _ (λ got. enter_standing (enter_next at got)) _ (λ got. enter_same (enter_next at got)) (enter_obeys c seat at (is_off (is_entered at) fits))
   help_obeys LoadPhase fits going = record { elsewhere = placed_elsewhere c (touch Phase loads) tt refl; goes_on = λ got. within_both (nat_eq got 0) }
   help_obeys LoadSet fits going = record { elsewhere = placed_elsewhere c (touch Cset loads) tt refl; goes_on = λ got. refl }
   help_obeys (Scanning at) fits going = record { elsewhere = image_elsewhere c (placed c (scans.touch_at c at)) (scan_above at fits); goes_on = λ got. scan_within (scans.next_at c at got) }

@@ -1,5 +1,5 @@
 -- What the steps of a helper owe.
-use Rattle.std.proofs.Common.{◌≡◌, ◌≢◌, ℕ, ◌+◌, ◌<◌, ◌≤◌, Bool, true, false, Some, None, refl, sym, ◌∙◌, subst, arith}
+use Rattle.std.proofs.Common.{◌≡◌, ◌≢◌, ℕ, Bool, true, false, Some, None, refl, sym, ◌∙◌, subst, arith}
 use Rattle.std.specs.Prelude.{◌==◌, if◌then◌else◌}
 use Rattle.std.proofs.lemmas.Bool.{and_parts, eqb-false, cond-false, ne_eqb}
 use Rattle.heap_words.specs.declared.config.Config.{Config}
@@ -12,8 +12,8 @@ use Rattle.scan_steps.specs.declared.spot.ScanSpot.TheVariants as scan
 use Rattle.scan_steps.specs.Rows as scans
 use Rattle.helper.specs.declared.spot.HelpSpot.{HelpSpot}
 use Rattle.helper.specs.declared.spot.HelpSpot.TheVariants.{LoadEnd, Entering, LoadPhase, LoadSet, Scanning, Leave, Gone}
-use Rattle.helper.specs.Rows.{Helping, is_gone, touch_at, help_touch, after_enter, after_scan, next_spot, next_phase, next_set, help_next}
-use Rattle.helper.specs.Ready.{help_ready, ScanGoesOn}
+use Rattle.helper.specs.Rows.{Helping, is_gone, touch_at, help_touch, after_enter, after_scan, next_spot, next_phase, help_next}
+use Rattle.helper.specs.Ready.{ScanGoesOn}
 use Rattle.helper.proofs.Ready.{stays_ready}
 use Rattle.mark_steps.specs.Scanning.{CanScan}
 use Rattle.mark_steps.proofs.Parts.{scanning_steps}
@@ -21,6 +21,7 @@ use Rattle.heap_world.specs.World.{World, hand, Shared}
 use Rattle.heap_world.specs.Part.{PartStep}
 use Rattle.step_core.proofs.Alike.{load_step, store_step}
 use Rattle.step_core.proofs.Facts.{HelpFacts, IsHelper}
+use Rattle.step_core.proofs.Helpers.{is_off, phase_one}
 use Rattle.step_core.proofs.Marking.{world_with}
 
 module _ (c : Config) (u : World) (seat phase cset : ℕ) (shared : Shared c u) where
@@ -87,12 +88,9 @@ module _ (c : Config) (u : World) (seat phase cset : ℕ) (shared : Shared c u) 
       let some = is.facts.1 in
       let same = is.facts.2 in
       let calm = shared.calm.phase_is in
-      let on : u.memory Phase ≡ 1 = one_of calm (λ none. some (same ∙ none)) in
+      let on : u.memory Phase ≡ 1 = phase_one _ calm (λ none. some (same ∙ none)) in
       load_step c u seat Cset _ shared
       (stands_then u LoadSet is tt is.hands (scanning_steps.begins c u seat (let below = is.below in omega (arith, below)) on is.facts.0 is.hands))
-    where
-      one_of : {n : ℕ} → n ≤ 1 → n ≢ 0 → n ≡ 1
-      one_of {n} small some = grind (arith, small, some)
 
   -- it scans
   scan_step : (at : ScanSpot) → scans.is_ended at ≡ false → IsHelper c u seat (helper_at (Scanning at)) → Step (Scanning at)
@@ -118,11 +116,7 @@ module _ (c : Config) (u : World) (seat phase cset : ℕ) (shared : Shared c u) 
   by_spot (Entering at) going is = enter_step at is
   by_spot LoadPhase going is = load_phase is
   by_spot LoadSet going is = load_set is
-  by_spot (Scanning at) going is = scan_step at (not_ended (scans.is_ended at) (and_parts _ _ (and_parts _ _ is.ready).1).1) is
-    where
-      not_ended : (b : Bool) → (if b then false else true) ≡ true → b ≡ false
-      not_ended true is = absurd (cc (is))
-      not_ended false is = refl
+  by_spot (Scanning at) going is = scan_step at (is_off (scans.is_ended at) (and_parts _ _ (and_parts _ _ is.ready).1).1) is
   by_spot Leave going is = leave_step is
   by_spot Gone going is = absurd (cc (going))
 

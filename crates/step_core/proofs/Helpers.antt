@@ -1,9 +1,8 @@
 -- What holds of helpers and of the control by where they stand: it stays while others step, and outside the heap nobody scans.
-use Rattle.std.proofs.Common.{◌≡◌, ℕ, ◌+◌, ◌<◌, true, false, Some, None, refl, sym, ◌∙◌, subst}
-use Rattle.std.proofs.lemmas.Bool.{and_parts}
+use Rattle.std.proofs.Common.{◌≡◌, ◌≢◌, ℕ, ◌+◌, ◌<◌, ◌≤◌, Bool, true, false, None, refl, sym, ◌∙◌, subst, arith}
+use Rattle.std.specs.Prelude.{if◌then◌else◌}
 use Rattle.heap_words.specs.declared.config.Config.{Config}
-use Rattle.heap_words.specs.Words.{IsWord, is_word, is_image}
-use Rattle.heap_words.proofs.Stores.{is_word_from}
+use Rattle.heap_words.specs.Words.{IsWord, is_image}
 use Rattle.handshake.specs.declared.enter_spot.EnterSpot.TheVariants as enter
 use Rattle.handshake.specs.Standing.{is_within}
 use Rattle.helper.specs.declared.spot.HelpSpot.{HelpSpot}
@@ -16,6 +15,15 @@ use Rattle.heap_world.specs.World.{World}
 use Rattle.heap_world.specs.Rely.{Rely}
 use Rattle.step_core.specs.Standing.{help_standing}
 use Rattle.step_core.proofs.Facts.{HelpFacts, ControlFacts, IsHelper}
+
+-- a test that has to be off is false
+pub is_off : (b : Bool) → (if b then false else true) ≡ true → b ≡ false
+is_off true off = absurd (cc (off))
+is_off false off = refl
+
+-- outside of phase 0 objects are marked
+pub phase_one : (phase : ℕ) → phase ≤ 1 → phase ≢ 0 → phase ≡ 1
+phase_one phase small some = grind (arith, small, some)
 
 -- what a helper counts on stays
 pub help_stays : (c : Config) (u w : World) (seat phase : ℕ) (spot : HelpSpot) → Rely c seat u w → HelpFacts c u seat phase spot → HelpFacts c w seat phase spot

@@ -1,6 +1,6 @@
 -- The induction over events: each event leads from a stage that follows its history, and in which the handshake is kept, to one
 -- of which both hold.
-use Rattle.std.proofs.Common.{◌≡◌, ℕ, ◌+◌, ◌<◌, Bool, true, false, List, [], ◌∷◌, ◌++◌, Option, Some, None, refl, sym, subst, append_assoc}
+use Rattle.std.proofs.Common.{◌≡◌, ℕ, ◌+◌, Bool, true, false, List, [], ◌∷◌, ◌++◌, Option, Some, None, refl, sym, subst, append_assoc}
 use Rattle.std.specs.Prelude.{slice_get, if◌then◌else◌}
 use Rattle.std.proofs.lemmas.List.{append-nil}
 use Rattle.heap_words.specs.declared.config.Config.{Config}
@@ -18,12 +18,14 @@ use Rattle.heap_world.specs.Change.{Change, IsPause}
 use Rattle.helper.specs.Rows as help
 use Rattle.control_steps.specs.Rows.{is_gone}
 use Rattle.step_core.specs.Actor.{Machine, mutating, helping, controlling, Actor}
-use Rattle.step_core.specs.Machines.{takes_of, kind, told_by, HasNumber}
+use Rattle.step_core.specs.Machines.{takes_of, kind, told_by}
 use Rattle.step_core.specs.History.{told_of_machine, told, history}
 use Rattle.step_core.specs.Sound.{world_of}
 use Rattle.step_core.proofs.Facts.{IsMachine, Follows}
-use Rattle.step_core.proofs.MachinesObey.{not_gone, CanGo, standing, is_left, event_obeys, event_counts}
+use Rattle.step_core.proofs.MachinesObey.{CanGo, standing, is_left, event_obeys, event_counts}
+use Rattle.step_core.proofs.Helpers.{is_off}
 use Rattle.step_core.proofs.Held.{IsKept}
+use Rattle.step_core.proofs.Roles.{number_of}
 use Rattle.step_core.proofs.MutatorEvents.{follows_mutator}
 use Rattle.step_core.proofs.HelperEvents.{follows_helper}
 use Rattle.step_core.proofs.ControlEvents.{by_spot}
@@ -36,11 +38,11 @@ follows_order : (change : Change) → IsPause change → (c : Config) (g : Graph
     (past ++ told_by c s (record { machine = machine; command = command; calls = calls }) order machine)
 follows_order change law c g s past number order command calls (mutating m) here takes follows shaken = follows_mutator change c g s past number order m command calls follows shaken here takes
 follows_order change law c g s past number Nothing command calls (helping h) here takes follows shaken =
-    follows_helper change c g s past number h command calls follows shaken here (not_gone (help.is_gone h.spot) takes)
+    follows_helper change c g s past number h command calls follows shaken here (is_off (help.is_gone h.spot) takes)
 follows_order change law c g s past number (Begin begun) command calls (helping h) here takes follows shaken = absurd (cc (takes))
 follows_order change law c g s past number End command calls (helping h) here takes follows shaken = absurd (cc (takes))
 follows_order change law c g s past number Nothing command calls (controlling k) here takes follows shaken =
-    by_spot change law c g s past number k.seen k.phase k.image command calls follows shaken k.spot (not_gone (is_gone k.spot) takes) here
+    by_spot change law c g s past number k.seen k.phase k.image command calls follows shaken k.spot (is_off (is_gone k.spot) takes) here
 follows_order change law c g s past number (Begin begun) command calls (controlling k) here takes follows shaken = absurd (cc (takes))
 follows_order change law c g s past number End command calls (controlling k) here takes follows shaken = absurd (cc (takes))
 
@@ -50,12 +52,7 @@ pub record Goes (c : Config) (g : Graph) (s : Stage Actor) (past : List Entry) :
   pub shaken : IsKept c s
   pub counted : IsCounted c is_left s
 
--- a machine that is where it should be has its number, and can make its next access
-has_number : (c : Config) (words : List ℕ) (w : World) (entries : List Entry) (number : ℕ) (a : Actor) (machine : Machine) → IsMachine c words w entries number a machine → HasNumber c number machine
-has_number c words w es number a (mutating m) is = (is.number_is, subst (λ n. n < c.mutators) is.number_is is.mine.seated.below)
-has_number c words w es number a (helping h) is = (is.number_is, is.least, is.below)
-has_number c words w es number a (controlling k) is = is.number_is
-
+-- a machine that is where it should be can make its next access
 pub can_go : (c : Config) (words : List ℕ) (w : World) (entries : List Entry) (number : ℕ) (a : Actor) (machine : Machine) → IsMachine c words w entries number a machine → CanGo c machine
 can_go c words w es number a (mutating m) is = is.mine.ready
 can_go c words w es number a (helping h) is = is.ready
@@ -66,7 +63,7 @@ pub goes_event : (change : Change) → IsPause change → (c : Config) (g : Grap
 unfolding act told kind
 goes_event change law c g s past e goes = record {
   follows = by_machine (slice_get s.machines e.number) refl;
-  shaken = shaken_step c (kind change c) standing s e goes.shaken (event_obeys change c s e (λ a is. has_number c s.words _ _ e.number a a.machine (known a is)) (λ a is. can_go c s.words _ _ e.number a a.machine (known a is)));
+  shaken = shaken_step c (kind change c) standing s e goes.shaken (event_obeys change c s e (λ a is. number_of c s.words _ _ e.number a a.machine (known a is)) (λ a is. can_go c s.words _ _ e.number a a.machine (known a is)));
   counted = counted_step c (kind change c) is_left s e goes.counted (event_counts change c s e (λ a is. can_go c s.words _ _ e.number a a.machine (known a is)));
 }
   where

@@ -1,6 +1,6 @@
 -- All machines obey the handshake, and count.
-use Rattle.std.proofs.Common.{◌≡◌, ℕ, Bool, true, false, Some, refl, subst}
-use Rattle.std.specs.Prelude.{slice_get, if◌then◌else◌}
+use Rattle.std.proofs.Common.{◌≡◌, ℕ, Bool, true, false, Some, subst}
+use Rattle.std.specs.Prelude.{slice_get}
 use Rattle.std.proofs.lemmas.Bool.{and_parts}
 use Rattle.heap_words.specs.declared.config.Config.{Config}
 use Rattle.steps_base.specs.Steps.{Stage, Event}
@@ -19,6 +19,7 @@ use Rattle.step_core.specs.Actor.{Machine, mutating, helping, controlling, Actor
 use Rattle.step_core.specs.Machines.{takes_of, plan_of, machine_after, HasNumber, kind}
 use Rattle.step_core.specs.Standing.{standing_of}
 use Rattle.step_core.proofs.MutatorObeys.{has_not_ended, mutator_obeys, mutator_counts}
+use Rattle.step_core.proofs.Helpers.{is_off}
 use Rattle.step_core.proofs.HelperObeys.{help_obeys, help_counts}
 use Rattle.step_core.proofs.ControlObeys.{control_obeys, control_counts}
 
@@ -27,11 +28,6 @@ abbrev pub CanGo : Config → Machine → Type 0
 CanGo c (mutating m) = IsReady c m
 CanGo c (helping h) = help_ready c h ≡ true
 CanGo c (controlling k) = is_ready c k.spot ≡ true
-
--- a helper or the control that takes an order is not gone
-pub not_gone : (b : Bool) → (if b then false else true) ≡ true → b ≡ false
-not_gone true takes = absurd (cc (takes))
-not_gone false takes = refl
 
 -- where an actor stands
 abbrev pub standing : Actor → Standing
@@ -53,7 +49,7 @@ module _ (change : Change) (c : Config) (number : ℕ) (order : Order) where
       (mutator_obeys c m order takes can)
   machine_obeys (helping h) has takes can =
       subst (λ seat. Obeys c seat (standing_of (helping h)) (plan_of c order (helping h)) (λ got. standing_of (machine_after change c order got (helping h)))) has.0
-      (help_obeys c h.seat h.spot (and_parts _ _ can).1 (not_gone (is_gone h.spot) (and_parts _ _ takes).1))
+      (help_obeys c h.seat h.spot (and_parts _ _ can).1 (is_off (is_gone h.spot) (and_parts _ _ takes).1))
   machine_obeys (controlling k) has takes can = control_obeys c number k.phase k.seen (word_stored k.spot k.image) k.spot can
 
   pub machine_counts : (machine : Machine) → takes_of machine order ≡ true → CanGo c machine

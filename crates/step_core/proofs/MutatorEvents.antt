@@ -2,7 +2,6 @@
 use Rattle.std.proofs.Common.{◌≡◌, ◌≢◌, ℕ, ◌+◌, ◌<◌, ⊎_elim, true, false, List, [], ◌++◌, Option, Some, None, refl, sym, ap, ◌∙◌, subst, arith}
 use Rattle.std.specs.Prelude.{◌==◌, slice_get, slice_set, slice_index, if◌then◌else◌}
 use Rattle.std.proofs.lemmas.List.{length-set}
-use Rattle.std.proofs.lemmas.Option.{same_Some}
 use Rattle.std.proofs.lemmas.Bool.{lt-ltb, false≢true}
 use Rattle.heap_words.specs.declared.config.Config.{Config}
 use Rattle.shen_graph.specs.declared.command.Reply.TheVariants.{Full}
@@ -16,8 +15,7 @@ use Rattle.shen_graph.specs.declared.order.Order.TheVariants.{Nothing}
 use Rattle.shen_graph.specs.Graph.{Graph}
 use Rattle.shen_graph.specs.History.{Entry, after, of_thread}
 use Rattle.handshake.specs.declared.enter_spot.EnterSpot.TheVariants.{Raise}
-use Rattle.handshake.specs.Standing.{is_within, is_pausing}
-use Rattle.handshake.proofs.Still.{pause_empty}
+use Rattle.handshake.specs.Standing.{is_within}
 use Rattle.mutator.specs.declared.spot.Kept.{Kept}
 use Rattle.mutator.specs.declared.spot.Spot.{Spot}
 use Rattle.mutator.specs.declared.spot.Spot.TheVariants.{Entering, Waiting}
@@ -29,14 +27,12 @@ use Rattle.mutator.specs.Told.{told_of as settled_by_step}
 use Rattle.mutator.proofs.Orders.{in_call}
 use Rattle.heap_world.specs.World.{World, Shared}
 use Rattle.heap_world.specs.Change.{Change}
-use Rattle.control_steps.specs.declared.spot.ControlSpot.{ControlSpot}
-use Rattle.control_steps.specs.declared.spot.ControlSpot.TheVariants.{LoadWord, StoreWord}
 use Rattle.control_steps.specs.Rows.{Controlling}
 use Rattle.step_core.specs.Actor.{mutating, controlling, Actor, entries_of, command_by}
-use Rattle.step_core.specs.Machines.{took_of, kind, HasNumber}
+use Rattle.step_core.specs.Machines.{took_of, kind}
 use Rattle.step_core.specs.Settled.{mixed, settled, settled_by, control_number}
 use Rattle.step_core.specs.Sound.{world_of}
-use Rattle.step_core.specs.Standing.{standing_at, control_standing, standing_of}
+use Rattle.step_core.specs.Standing.{standing_at}
 use Rattle.step_core.proofs.Adapter.{owes_stepped}
 use Rattle.step_core.proofs.Aims.{aims_stay}
 use Rattle.step_core.proofs.Facts.{IsThread, IsAim, Follows, Owes}
@@ -46,7 +42,6 @@ use Rattle.step_core.proofs.Owing.{follows_owes}
 use Rattle.step_core.proofs.Places.{each_step}
 use Rattle.step_core.proofs.Polling.{polls_owes}
 use Rattle.step_core.proofs.Ordered.{order_word}
-use Rattle.step_core.proofs.Roles.{number_of}
 use Rattle.step_core.proofs.Spots.{mutator_at}
 use Rattle.step_core.proofs.Held.{IsKept, held_image, outside_held, other_holds}
 

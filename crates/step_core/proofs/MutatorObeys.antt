@@ -1,6 +1,6 @@
 -- A mutator obeys the handshake, and counts itself off where it ends.
 use Rattle.std.proofs.Common.{◌≡◌, ℕ, Bool, true, false, refl, sym, ◌∙◌, arith, inl, inr}
-use Rattle.std.specs.Prelude.{nat_eq, nat_lt, length, if◌then◌else◌}
+use Rattle.std.specs.Prelude.{nat_eq, if◌then◌else◌}
 use Rattle.heap_words.specs.declared.config.Config.{Config}
 use Rattle.heap_words.specs.Words.{IsWord, is_word, is_image}
 use Rattle.heap_words.proofs.Stores.{is_word_true}
@@ -9,13 +9,9 @@ use Rattle.steps_base.specs.Fits.{touch_fits, form_fits}
 use Rattle.steps_base.specs.Touch.{placed}
 use Rattle.shen_graph.specs.declared.order.Order.{Order}
 use Rattle.shen_graph.specs.declared.order.Order.TheVariants.{Nothing, Begin, End}
-use Rattle.shen_graph.specs.declared.command.Command.{Command}
-use Rattle.shen_graph.specs.declared.command.Command.TheVariants.{New, Get, Set, Cas, Xchg, Rd, Wr, Copy, Drop, Same, Gc}
 use Rattle.shen_graph.specs.declared.command.Reply.{Reply}
-use Rattle.shen_graph.specs.declared.command.Reply.TheVariants.{Full}
 use Rattle.heap_words.specs.Words.{Left}
 use Rattle.steps_base.specs.Touch.{touch, subtracts}
-use Rattle.alloc_buffers.specs.declared.spot.TakeSpot.{TakeSpot}
 use Rattle.alloc_buffers.specs.declared.spot.TakeSpot.TheVariants as take_spot
 use Rattle.satb_barrier.specs.declared.spot.RememberSpot.{RememberSpot}
 use Rattle.satb_barrier.specs.declared.spot.RememberSpot.TheVariants.{LoadCount, LoadEntry, MarkEntry, ClearCount, StoreEntry, StoreCount, Recorded}
@@ -48,9 +44,8 @@ use Rattle.mutator.specs.Orders.{takes_at}
 use Rattle.mutator.specs.Fit.{is_outside, numbers_fit, IsReady}
 use Rattle.step_core.specs.Standing.{wait_standing, standing_at}
 use Rattle.step_core.proofs.Within.{goes_on_in}
-use Rattle.mutator.specs.Commands.{roots_of, lacks_object, has_part}
 use Rattle.mutator.specs.WaitRows.{after_enter}
-use Rattle.mutator.specs.Rows.{Mutating, first_touch, begun, touch_at, touch_of, next_of, first_spot, after_roots, with_part, on_number, after_take, load_next, field_next, number_next, show_next, make_next, take_next}
+use Rattle.mutator.specs.Rows.{Mutating, first_touch, begun, touch_at, touch_of, next_of}
 
 -- whether a mutator has not ended
 abbrev pub has_not_ended : Spot → Bool

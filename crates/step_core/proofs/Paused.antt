@@ -124,7 +124,7 @@ heard_outside c w seat made refs nums kept (Entering at Waited) command fixed ou
     heard_polling w seat made refs nums kept.command command fixed (answered_polls w seat made kept.command command fixed mine.facts) is
 heard_outside c w seat made refs nums kept (Waiting wait.Poll) command fixed out mine is = heard_polling w seat made refs nums kept.command command fixed mine.facts is
 heard_outside c w seat made refs nums kept (Waiting at) command fixed out mine is = absurd (cc (out))
-heard_outside c w seat made refs nums kept _ command fixed out mine is = absurd (cc (is, out))
+heard_outside c w seat made refs nums kept _ command fixed out mine is = absurd (cc (is))
 
 -- The mutators in a new image: it stands for the same graph, nobody marks in it, and it answers who asks.
 module _ (c : Config) (words : List ℕ) (u w : World) (t made : ℕ) (kept : Kept) (b : Actor) (x : Asking)

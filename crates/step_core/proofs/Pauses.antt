@@ -1,13 +1,12 @@
 -- The steps of the control outside the words of an image: it looks, scans, stops the other machines, and lets them go.
-use Rattle.std.proofs.Common.{◌≡◌, ◌≢◌, ℕ, ◌+◌, ◌<◌, ◌≤◌, inl, Bool, true, false, List, [], ◌++◌, length, Option, Some, None, refl, sym, ap, ◌∙◌, subst, arith}
+use Rattle.std.proofs.Common.{◌≡◌, ◌≢◌, ℕ, ◌+◌, Bool, true, false, List, [], ◌++◌, length, None, refl, sym, ap, ◌∙◌, subst, arith}
 use Rattle.std.specs.Prelude.{◌==◌, if◌then◌else◌}
 use Rattle.std.proofs.lemmas.Bool.{and_parts, eqb-false}
-use Rattle.std.proofs.lemmas.Bool.Decides.{nat_tests}
 use Rattle.heap_words.specs.declared.config.Config.{Config}
 use Rattle.heap_words.specs.declared.access.Unit.TheVariants.{Worked, NoneLeft}
-use Rattle.heap_words.specs.Words.{Word, Pause, Left, End, Phase, Ask, Free, State, is_word, view, write, table_words}
+use Rattle.heap_words.specs.Words.{Word, Pause, Left, End, Ask, Free, State, is_word, view, write, table_words}
 use Rattle.heap_words.proofs.Stores.{is_word_from}
-use Rattle.steps_base.specs.Touch.{Touch, touch, loads, stores, touched}
+use Rattle.steps_base.specs.Touch.{Touch, touch, loads, stores}
 use Rattle.shen_graph.specs.declared.command.Command.{Command}
 use Rattle.shen_graph.specs.Graph.{Graph}
 use Rattle.shen_graph.specs.History.{Entry, of_thread}
@@ -19,13 +18,12 @@ use Rattle.scan_steps.specs.declared.spot.ScanSpot.TheVariants as scan
 use Rattle.scan_steps.specs.Rows as scans
 use Rattle.mark_steps.specs.Scanning.{CanScan}
 use Rattle.mark_steps.proofs.Parts.{scanning_steps}
-use Rattle.heap_world.specs.World.{Ghost, World, Plot, hand, Shared}
+use Rattle.heap_world.specs.World.{Ghost, World, Plot, Shared}
 use Rattle.heap_world.specs.Change.{Change}
 use Rattle.heap_world.specs.Part.{PartStep}
 use Rattle.control_steps.specs.declared.spot.ControlSpot.{ControlSpot}
 use Rattle.control_steps.specs.declared.spot.ControlSpot.TheVariants.{LookLeft, StoreEnd, LookAsked, LookFree, Scanning, Stopping, Go}
 use Rattle.control_steps.specs.Rows.{Controlling, control_touch, control_next, stopping, after_scan, begins_pause, unasked, wants_pause}
-use Rattle.control_steps.specs.Ready.{is_ready}
 use Rattle.control_steps.proofs.Ready.{stays_ready}
 use Rattle.step_core.specs.Actor.{Machine, mutating, helping, controlling, Actor}
 use Rattle.step_core.specs.Settled.{stored_image, settled_by, control_number}
@@ -33,6 +31,7 @@ use Rattle.step_core.proofs.Facts.{ControlFacts, IsAim, IsControl, IsMachine, Pr
 use Rattle.step_core.proofs.Images.{words_after, view-placed}
 use Rattle.step_core.proofs.Alike.{is_of_handshake, load_step, store_step}
 use Rattle.step_core.proofs.Marking.{world_with}
+use Rattle.step_core.proofs.Helpers.{phase_one}
 use Rattle.step_core.proofs.Quiet.{quiet_owes}
 
 -- another machine is no control
@@ -163,10 +162,7 @@ module _ (c : Config) (words : List ℕ) (block : Plot) (ghost : Ghost) (g : Gra
         let calm = shared.calm.phase_is in
         let other = eqb-false _ _ some in
         let same = known.phase_is in
-        scanning_steps.begins c u (control_number c) (omega arith) (one_of calm (λ none. other (same ∙ none))) known.facts known.hands
-      where
-        one_of : {n : ℕ} → n ≤ 1 → n ≢ 0 → n ≡ 1
-        one_of {n} small more = grind (arith, small, more)
+        scanning_steps.begins c u (control_number c) (omega arith) (phase_one _ calm (λ none. other (same ∙ none))) known.facts known.hands
 
     -- it looks what is asked for
     pub look_asked : (got : ℕ) → Quiet LookAsked got

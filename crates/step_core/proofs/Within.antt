@@ -9,7 +9,6 @@ use Rattle.shen_graph.specs.declared.order.Order.{Order}
 use Rattle.alloc_buffers.specs.declared.spot.TakeSpot.{TakeSpot}
 use Rattle.alloc_buffers.specs.declared.spot.TakeSpot.TheVariants as take
 use Rattle.alloc_buffers.specs.declared.spot.Taken.TheVariants.{At, NoRoom}
-use Rattle.handshake.specs.declared.enter_spot.EnterSpot.{EnterSpot}
 use Rattle.handshake.specs.declared.enter_spot.EnterSpot.TheVariants as enter
 use Rattle.handshake.specs.Standing.{inside, is_within}
 use Rattle.satb_barrier.specs.declared.spot.RememberSpot.{RememberSpot}

@@ -6,12 +6,11 @@ use Rattle.heap_words.specs.declared.access.Access.{Access}
 use Rattle.heap_words.specs.declared.access.Took.{Took}
 use Rattle.heap_words.specs.declared.access.Took.TheVariants.{Again}
 use Rattle.heap_words.specs.declared.place.Place.{Place}
-use Rattle.heap_words.specs.declared.place.Place.TheVariants as place
 use Rattle.heap_words.specs.Place.{same_place}
-use Rattle.heap_words.specs.Words.{Word, Pause, Answer, image_start}
+use Rattle.heap_words.specs.Words.{Word, Answer, image_start}
 use Rattle.heap_words.specs.Rows.{name_of}
 use Rattle.heap_world.specs.Change.{Change}
-use Rattle.steps_base.specs.Touch.{touch, loads, placed}
+use Rattle.steps_base.specs.Touch.{placed}
 use Rattle.steps_base.specs.Steps.{MachineKind, Stage}
 use Rattle.shen_graph.specs.declared.command.Command.{Command}
 use Rattle.shen_graph.specs.declared.command.Command.TheVariants.{Gc}

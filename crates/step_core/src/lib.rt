@@ -55,8 +55,8 @@ pub fn found_words_are_fit()
     ensures { (change : Change) → IsPause change → (c : Config) (s : Stage Actor) (g : Graph) → Begins c s g → (number : ℕ) (a : Actor) (order : Order) (told : ℕ) → Finds (kind change c) s number a order told → IsFitFor c order told a.machine }
 {}
 
-/// A law: in a pause, from the control's last check to its end, no mutator is in the heap, and none makes an access to a word
-/// that the pause may change, but to look for its answer.
+/// A law: in a pause, from the control's last check to its end, no mutator and no helper is in the heap, and none makes an access
+/// to a word that the pause may change, but a mutator to look for its answer.
 pub fn pauses_are_empty()
     ensures { (change : Change) → IsPause change → (c : Config) (s : Stage Actor) (g : Graph) → Begins c s g → (events : List (Event Order)) → IsInPause c (go (kind change c) s events) → IsEmpty c (go (kind change c) s events) }
 {}

@@ -70,7 +70,7 @@ pub record AreAtWork (b : Bundle) (jobs : Jobs) : Type 0 where
 abbrev pub next_for : Config → Jobs → ℕ → Option Command
 next_for c jobs number = if nat_lt number c.mutators then next_of jobs number else None
 
--- no command gives it a turn any more: it has ended
+-- no command gives it a turn any more: it has made its last step
 abbrev pub IsIdleForGood : Machine → Type 0
 IsIdleForGood machine = (next : Option Command) → order_for next machine ≡ None
 

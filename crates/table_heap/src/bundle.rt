@@ -33,6 +33,7 @@ impl Bundle {
     ghost use Rattle.heap_words.specs.declared.place.Place.TheVariants as places;
     ghost use Rattle.shared_steps.specs.Views.{machine_of, merged, dealt_to, left_over, is_dealt_to};
     ghost use Rattle.shen_graph.specs.Valid.{IsValid};
+    ghost use Rattle.heap_machines.specs.Roles.{is_mutating};
     ghost use Rattle.step_core.specs.Machines.{takes_of, reply_in, place_in, may_begin, made_of_machine};
     ghost use Rattle.heap_machines.specs.Roles.{is_mutating};
     ghost use Rattle.table_heap.specs.State.{heap_of, view_of, machines_of, orders_of, IsOf, HasMachine, machine_at, order_at, has_turn, IsSameBundle, IsUnmoved, IsUnchanged, IsStep};

@@ -114,8 +114,8 @@ impl Bundle {
     /// Runs the scripts of the bundle's mutators, whose replies it notes in `work`, until all machines of the bundle are idle.
     /// In a round each machine that is not idle makes one step, in the order of their numbers, when it has passed the gate. A
     /// mutator between two calls begins the next command of its script, and ends where there is none; the control ends when
-    /// all mutators of the heap have, and then the helpers do. After a round in which every step waits for another machine the
-    /// thread backs off. No memory is taken.
+    /// all mutators of the heap have, and a helper when the control has. After a round in which every step waits for another
+    /// machine the thread backs off. No memory is taken.
     pub fn run<R: Wait, G: Gate>(&mut self, rt: &R, heap: &Heap, work: &mut Work, gate: &G)
         requires heap { IsOf self.old heap.now }
         requires start { CanStart self.old work.old }

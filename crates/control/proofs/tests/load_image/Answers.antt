@@ -40,7 +40,7 @@ took-requires-clause-fit c =
     let got = next c.args.words.now c.image_start.result c.loop-index.index c.word.result (c.image_start.ensures.value ∙ ap image_start c.config-config.ensures) c.word.ensures.value in
     subst (λ e. IsFit e (seen_control c.loop-index.control) c.word.result) (sym c.loop-index.invariant.config)
     (fit-loaded d (image_in c.args.words.now) (long c.args.words.now d c.requires.same) (seen_control c.loop-index.control) c.loop-index.index c.word.result
-    c.loop-index.invariant.loaded (omega (arith, words)) got (can-blank c.args.words.now d c.requires.same c.requires.blank c.requires.idle))
+    c.loop-index.invariant.loaded (omega (arith, words)) got (can-blank c.args.words.now d c.requires.same c.requires.blank c.requires.phase c.requires.cset))
 
 pub loop-index-preserved : goal.loop-index-preserved
 loop-index-preserved c =

@@ -15,8 +15,8 @@ returns-clause-blank c =
       waits = λ t some. absurd (some (zero (Wait t)));
     }
 
-pub returns-clause-idle : goal.returns-clause-idle
-returns-clause-idle c = record {
-  phase = c.in_ok-open.ensures.words Phase;
-  cset = c.in_ok-open.ensures.words Cset;
-}
+pub returns-clause-phase : goal.returns-clause-phase
+returns-clause-phase c = c.in_ok-open.ensures.words Phase
+
+pub returns-clause-cset : goal.returns-clause-cset
+returns-clause-cset c = c.in_ok-open.ensures.words Cset

@@ -4,7 +4,7 @@ use Rattle.heap_words.specs.Words.{Word}
 use Rattle.image_laws.specs.Full.{served, refused}
 use Rattle.image_graph.specs.State.{config_of, memory_of}
 use Rattle.full_cycle.specs.Collect.{CanCollect}
-use Rattle.full_cycle.proofs.State.{carried}
+use Rattle.image_graph.proofs.Same.{carried}
 use Rattle.full_cycle.proofs.Holding.{can_collect_some}
 use Rattle.full_cycle.proofs.Whole.{roots_in_table, answers_in_table, five_config, five_words, five_within}
 use Rattle.image_graph.specs.Holds.{HoldsSome}

@@ -4,7 +4,7 @@ use Rattle.heap_words.specs.Words.{Word, Answer}
 use Rattle.heap_graph.specs.Walk.{with_address}
 use Rattle.image_graph.specs.State.{memory_of, found_of}
 use Rattle.full_cycle.specs.Collect.{copy_in}
-use Rattle.full_cycle.proofs.State.{memory_same, both}
+use Rattle.image_graph.proofs.Same.{memory_same, both}
 use Rattle.full_cycle.proofs.Listed.{answer_more, answer_none}
 use Rattle.full_cycle.proofs.walk.find_answers.Goals as goal
 

@@ -8,7 +8,7 @@ use Rattle.image_laws.specs.Full.{copies_of}
 use Rattle.image_graph.specs.State.{config_of, memory_of, found_of}
 use Rattle.image_graph.proofs.Steps.{placed_inside}
 use Rattle.full_cycle.specs.Collect.{LeadsToHeld}
-use Rattle.full_cycle.proofs.State.{memory_same, carried, both}
+use Rattle.image_graph.proofs.Same.{memory_same, carried, both}
 use Rattle.full_cycle.proofs.Kept.{field_word, noted_step}
 use Rattle.full_cycle.proofs.walk.find_fields.Goals as goal
 

@@ -7,8 +7,9 @@ use Rattle.heap_graph.proofs.Marks as marks
 use Rattle.image_laws.specs.Full.{copies_of, roots_below, answers_below, field_words, kept_in}
 use Rattle.image_graph.specs.State.{config_of, memory_of, found_of, marks_of}
 use Rattle.full_cycle.specs.Collect.{found_by}
-use Rattle.full_cycle.proofs.State.{memory_same, carried, both}
-use Rattle.full_cycle.proofs.Listed.{no_turn, next_turn, last_turn, is_none, none_left}
+use Rattle.image_graph.proofs.Same.{memory_same, carried, both}
+use Rattle.image_laws.proofs.Turns.{is_none, none_left}
+use Rattle.full_cycle.proofs.Listed.{no_turn, next_turn, last_turn}
 use Rattle.full_cycle.proofs.walk.find_held.Goals as goal
 
 pub loop-address-init : goal.loop-address-init

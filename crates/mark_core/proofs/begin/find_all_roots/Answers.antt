@@ -3,7 +3,7 @@ use Rattle.std.specs.List.{range_with_len}
 use Rattle.heap_words.specs.Words.{Word, Root}
 use Rattle.heap_graph.specs.Walk.{with_addresses}
 use Rattle.image_graph.specs.State.{memory_of, found_of}
-use Rattle.mark_core.proofs.State.{memory_same, both}
+use Rattle.image_graph.proofs.Same.{memory_same, both}
 use Rattle.mark_core.proofs.Listed.{roots_more}
 use Rattle.mark_core.proofs.begin.find_all_roots.Goals as goal
 

@@ -5,7 +5,7 @@ use Rattle.heap_graph.specs.Walk.{with_addresses}
 use Rattle.image_laws.specs.Full.{roots_below, answers_below}
 use Rattle.image_laws.proofs.Turns.{noted_both}
 use Rattle.image_graph.specs.State.{config_of, memory_of, found_of}
-use Rattle.mark_core.proofs.State.{memory_same, both}
+use Rattle.image_graph.proofs.Same.{memory_same, both}
 use Rattle.mark_core.proofs.begin.find_named.Goals as goal
 
 pub returns-clause-named : goal.returns-clause-named

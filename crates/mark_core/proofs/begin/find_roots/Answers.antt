@@ -4,7 +4,7 @@ use Rattle.heap_words.specs.declared.config.Config.{Config}
 use Rattle.heap_words.specs.Words.{Root, word_at}
 use Rattle.heap_graph.specs.Walk.{with_addresses}
 use Rattle.image_graph.specs.State.{memory_of, found_of}
-use Rattle.mark_core.proofs.State.{memory_same, both}
+use Rattle.image_graph.proofs.Same.{memory_same, both}
 use Rattle.mark_core.proofs.Listed.{noted_step}
 use Rattle.mark_core.proofs.begin.find_roots.Goals as goal
 

@@ -8,7 +8,7 @@ use Rattle.image_graph.proofs.Steps.{stored}
 use Rattle.mark_laws.specs.Laws.{BeginsMarking}
 use Rattle.mark_laws.proofs.Begun.{init_marks}
 use Rattle.mark_core.specs.Steps.{greyed, noted, emptied}
-use Rattle.mark_core.proofs.State.{memory_same}
+use Rattle.image_graph.proofs.Same.{memory_same}
 use Rattle.mark_core.proofs.Beginning.{roots_inside_some, all_inside, begun}
 use Rattle.mark_core.proofs.Some.{marks_after}
 use Rattle.mark_core.proofs.begin.init_mark.Goals as goal

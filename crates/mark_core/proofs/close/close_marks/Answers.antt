@@ -9,7 +9,7 @@ use Rattle.mark_laws.specs.Facts.{IsMarkedThrough}
 use Rattle.mark_laws.specs.Laws.{AreClosed}
 use Rattle.mark_laws.proofs.Closed.{are_closed, closed_holds, closed_through}
 use Rattle.mark_core.specs.Steps.{marked, emptied}
-use Rattle.mark_core.proofs.State.{memory_same}
+use Rattle.image_graph.proofs.Same.{memory_same}
 use Rattle.mark_core.proofs.Closing.{can_trace_some, closed_is}
 use Rattle.mark_core.proofs.Some.{holds_closed}
 use Rattle.mark_core.proofs.close.close_marks.Goals as goal

@@ -5,7 +5,7 @@ use Rattle.heap_words.specs.Words.{Word, Count, Buffer, word_at}
 use Rattle.heap_graph.specs.Walk.{with_addresses}
 use Rattle.image_graph.specs.State.{config_of, memory_of, found_of}
 use Rattle.mark_core.specs.Trace.{IsNullOrInside}
-use Rattle.mark_core.proofs.State.{memory_same, carried, both}
+use Rattle.image_graph.proofs.Same.{memory_same, carried, both}
 use Rattle.mark_core.proofs.Listed.{noted_step}
 use Rattle.mark_core.proofs.Tracing.{entry_inside}
 use Rattle.mark_core.proofs.trace.find_entries.Goals as goal

@@ -6,7 +6,7 @@ use Rattle.heap_words.specs.Encoding.{refs_in}
 use Rattle.heap_graph.specs.Walk.{with_addresses}
 use Rattle.image_graph.specs.State.{config_of, memory_of, found_of}
 use Rattle.mark_core.specs.Trace.{IsNullOrInside}
-use Rattle.mark_core.proofs.State.{memory_same, carried, both}
+use Rattle.image_graph.proofs.Same.{memory_same, carried, both}
 use Rattle.mark_core.proofs.Listed.{noted_step}
 use Rattle.mark_core.proofs.Tracing.{part_inside, field_inside}
 use Rattle.mark_core.proofs.trace.find_fields.Goals as goal

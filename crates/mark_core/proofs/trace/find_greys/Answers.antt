@@ -6,7 +6,7 @@ use Rattle.heap_graph.specs.Walk.{with_address, with_addresses}
 use Rattle.image_graph.specs.State.{config_of, memory_of, found_of}
 use Rattle.mark_laws.specs.Marks.{is_grey}
 use Rattle.mark_laws.specs.Close.{greys_below}
-use Rattle.mark_core.proofs.State.{memory_same, both}
+use Rattle.image_graph.proofs.Same.{memory_same, both}
 use Rattle.mark_core.proofs.Listed.{grey_more, grey_none}
 use Rattle.mark_core.proofs.trace.find_greys.Goals as goal
 

@@ -10,7 +10,7 @@ use Rattle.image_graph.specs.State.{config_of, memory_of, found_of, marks_of}
 use Rattle.mark_laws.specs.Close.{IsTraced, greys_below, entries_below, starts_in, open_fields, traced_by}
 use Rattle.mark_laws.proofs.Traced.{listed_traced}
 use Rattle.mark_core.specs.Trace.{CanTrace}
-use Rattle.mark_core.proofs.State.{memory_same, carried, both}
+use Rattle.image_graph.proofs.Same.{memory_same, carried, both}
 use Rattle.mark_core.proofs.trace.find_traced.Goals as goal
 
 pub find_all_entries-requires-clause-can : goal.find_all_entries-requires-clause-can

@@ -10,8 +10,8 @@ use Rattle.shared_steps.specs.Views.{kept_of}
 use Rattle.shared_steps.proofs.Kept.{kept-set}
 use Rattle.shared_steps.proofs.Numbers.{same_none}
 use Rattle.heap_machines.specs.Answer.{stepped_of, stepped_by, says}
-use Rattle.heap_machines.specs.Roles.{is_mutating}
 use Rattle.heap_machines.specs.Shown.{shown, order_of, heap_of, no_machine}
+use Rattle.heap_machines.specs.Roles.{is_mutating}
 use Rattle.step_core.specs.Machines.{takes_of, place_in, reply_in}
 use Rattle.table_heap.specs.State as State
 use Rattle.table_heap.specs.State.{order_at}
@@ -207,13 +207,12 @@ returns-clause-done c =
     let turn = c.is_idle.ensures ∙ ap not c.if-is_idle.false in
     let at = shows_as shown b.machines.items c.args.number m no_machine here in
     let given = shows_as order_of b.machines.items c.args.number m Nothing here in
-    let has : State.has_turn b c.args.number ≡ true = ap (λ x. takes_of x (order_at b c.args.number)) at ∙ ap (takes_of (shown m)) given ∙ turn in (
+    let has : State.has_turn b c.args.number ≡ true = ap (λ x. takes_of x (order_at b c.args.number)) at ∙ ap (takes_of (shown m)) given ∙ turn in
+    let place = ap (place_in (State.order_at b c.args.number)) at ∙ ap (λ o. place_in o (shown m)) given in (
       (λ is.
-          let done = c.took.ensures.done.0 (done_only c.took.result (sym c.of.ensures ∙ is)) in
-          (has, ap is_mutating at ∙ done.0, (ap (place_in (State.order_at b c.args.number)) at ∙ ap (λ o. place_in o (shown m)) given) ∙ done.1)),
-      (λ all.
-          c.of.ensures
-          ∙ ap stepped_of (c.took.ensures.done.1 (sym (ap is_mutating at) ∙ all.1, sym (ap (place_in (State.order_at b c.args.number)) at ∙ ap (λ o. place_in o (shown m)) given) ∙ all.2))),
+          let did = c.took.ensures.done.0 (done_only c.took.result (sym c.of.ensures ∙ is)) in
+          (has, ap is_mutating at ∙ did.0, place ∙ did.1)),
+      (λ all. c.of.ensures ∙ ap stepped_of (c.took.ensures.done.1 (ap is_mutating (sym at) ∙ all.1, sym place ∙ all.2))),
     )
 
 pub returns-clause-replied : goal.returns-clause-replied
