@@ -6,7 +6,7 @@ use Rattle.std.proofs.lemmas.Grind.{same_number_lists}
 use Rattle.std.proofs.lemmas.List.{append-nil, get_or-take, get_or-drop}
 use Rattle.std.specs.Prelude.{slice_get, ◌++◌}
 use Rattle.heap_words.specs.declared.config.Config.{Config}
-use Rattle.heap_words.specs.Words.{Word, Phase, Ask, Top, Tams, Root, Count, Buffer, Grey, Black, Heap, Cset, view, write, heap_in, roots_in, image_start}
+use Rattle.heap_words.specs.Words.{Word, Root, Cset, view, heap_in, roots_in, image_start}
 use Rattle.shen_graph.specs.declared.name.Name.{Name}
 use Rattle.shen_graph.specs.declared.command.Reply.{Reply}
 use Rattle.shen_graph.specs.Graph.{Graph}
@@ -16,11 +16,10 @@ use Rattle.mutator.specs.declared.spot.Spot.{Spot}
 use Rattle.mutator.specs.declared.spot.Spot.TheVariants.{Rest, Ended, Gone}
 use Rattle.mutator.specs.Orders.{is_between_calls}
 use Rattle.mutator.specs.Rows.{Mutating}
-use Rattle.heap_world.specs.World.{Plot, Ghost, World, Shared, no_snapshot, name_at, Points, hand}
+use Rattle.heap_world.specs.World.{World, Shared, name_at, Points, hand}
 use Rattle.heap_world.specs.Asking.{Asking, nothing, IsAsked}
 use Rattle.heap_world.specs.Change.{image_view, image_words}
 use Rattle.heap_world.specs.Represents.{Represents}
-use Rattle.heap_world.proofs.Unmarked.{none_marked}
 use Rattle.image_graph.specs.Holds.{Holds}
 use Rattle.control_steps.specs.declared.spot.ControlSpot.{ControlSpot}
 use Rattle.control_steps.specs.declared.spot.ControlSpot.TheVariants.{LoadWord, StoreWord}
@@ -36,12 +35,8 @@ use Rattle.step_core.specs.Settled.{settled, settled_by, mixed, stored_image, im
 use Rattle.step_core.specs.Sound.{world_of, is_clearing, IsSound}
 use Rattle.step_core.specs.Begins.{Run, ending, history_in, graph_after}
 use Rattle.heap_machines.specs.Pause.{pause_image}
-use Rattle.image_laws.specs.Promised.{Promises}
-use Rattle.mark_laws.proofs.Alike.{AreAlike, holds_alike}
-use Rattle.pause_laws.proofs.Dead.{plain}
-use Rattle.pause_laws.proofs.Promises.{promises_of}
-use Rattle.pause_laws.proofs.Holding.{holds_by}
 use Rattle.heap_machines.proofs.Pauses.{heap_pauses}
+use Rattle.heap_machines.proofs.Quiet.{quiet, unmarked, nobody_marks, quiet_shared, quiet_holds}
 use Rattle.step_core.proofs.Asked.{asked_same}
 use Rattle.step_core.proofs.Facts.{IsAim}
 use Rattle.step_core.proofs.Images.{mixed_whole}
@@ -80,14 +75,6 @@ none_at_rest kept Rest a words rest is = is
 none_at_rest kept (Ended reply) a words rest is = is
 none_at_rest kept Gone a words rest is = is
 none_at_rest kept _ a words rest is = absurd cc
-
--- These words in phase 0, with the bit that a mutator waits. What only marking reads does not matter to the graph.
-abbrev quiet : (Word → ℕ) → Word → ℕ
-quiet memory = write (write memory Phase 0) Ask 2
-
--- nobody marks
-abbrev unmarked : Ghost → Ghost
-unmarked ghost = record ghost { snapshot = no_snapshot; recording = λ seat. None; scanning = λ seat. None }
 
 module _ (c : Config) (run : Run c) (rest : (t : ℕ) (a : Actor) → t < c.mutators → slice_get (ending pause_image c run).machines t ≡ Some a → is_resting a.machine ≡ true)
     (calm : image_of (slice_get (ending pause_image c run).machines (control_number c)) ≡ None) where
@@ -176,52 +163,25 @@ module _ (c : Config) (run : Run c) (rest : (t : ℕ) (a : Actor) → t < c.muta
   image_shared : Shared c (record { memory = image_view c image; block = sound.stands.block; ghost = sound.stands.ghost; graph = graph })
   image_shared = subst (λ (memory : Word → ℕ). Shared c (record { memory = memory; block = sound.stands.block; ghost = sound.stands.ghost; graph = graph })) (table_counts ∙ whole) sound.stands.shared
 
-  quiet_shared : Shared c (record { memory = quiet (image_view c image); block = sound.stands.block; ghost = unmarked sound.stands.ghost; graph = graph })
-  quiet_shared =
-      let m : Word → ℕ = quiet (image_view c image) in
-      record {
-        parsable = image_shared.parsable;
-        contents = image_shared.contents;
-        owned = image_shared.owned;
-        calm = record { phase_is = omega arith; cset_is = image_shared.calm.cset_is; evac_is = image_shared.calm.evac_is };
-        uncopied = image_shared.uncopied;
-        unwritten = image_shared.unwritten;
-        marked = none_marked c 0 (λ n. m (Grey n)) (λ n. m (Black n)) (λ t. m (Count t)) (λ t k. m (Buffer t k)) (λ r. m (Top r)) (λ r. m (Tams r)) (λ a. m (Heap a)) sound.stands.block (λ seat. None) (λ seat. None) refl;
-      }
-
   -- outside of marking they would represent the graph
   represents : Represents c (quiet (image_view c image)) graph asking
   represents = record {
     block = sound.stands.block;
     ghost = unmarked sound.stands.ghost;
-    shared = quiet_shared;
+    shared = quiet_shared c (record { memory = image_view c image; block = sound.stands.block; ghost = sound.stands.ghost; graph = graph }) image_shared;
     roots = λ t i below small. subst (λ (memory : Word → ℕ). Points sound.stands.block (memory (Root t i)) (graph.root (t + 1) i)) (table_counts ∙ whole) (own_roots t i below small);
     none = no_hands;
     asked = λ t below. asked_same (mixed c (ending pause_image c run).words image) (quiet (image_view c image)) sound.stands.block graph.count t (asking t) refl refl (λ a. refl)
         (subst (λ memory. IsAsked memory sound.stands.block graph.count t (asking t)) whole (asked_by t (cases_lt t c.mutators) below));
     heard = λ t refs nums below is. refl;
     promised_to = sound.stands.promised_to;
-    unmarking = record { records_none = λ t below. refl; scans_none = λ seat below. refl };
+    unmarking = nobody_marks c sound.stands.ghost;
     no_more = sound.no_more;
   }
 
   -- so they hold it, with no region in the collection set
   pub image_holds : Holds c (image_view c image) graph
-  image_holds =
-      let m : Word → ℕ = quiet (image_view c image) in
-      let block : Plot = plain c m graph asking represents in
-      let p : Promises = promises_of c graph asking in
-      let alike : AreAlike m (image_view c image) = record {
-        heap = λ a. refl;
-        top = λ r. refl;
-        root = λ t i. refl;
-        answer = λ t. refl;
-        wait = λ t. refl;
-        current = λ s. refl;
-        free = refl;
-        cset = refl;
-      } in
-      (block, represents.ghost.owner, p, holds_alike m (image_view c image) alike c block represents.ghost.owner p graph (holds_by c m graph asking represents))
+  image_holds = quiet_holds c (image_view c image) graph asking represents
 
   pub image_calm : image_view c image Cset ≡ 0
   image_calm = image_shared.calm.cset_is

@@ -10,7 +10,7 @@ use Rattle.std.proofs.lemmas.Option.{slice_get_within, get_or_from_slice_get}
 use Rattle.std.proofs.lemmas.Simd.{map-map}
 use Rattle.heap_words.specs.declared.config.Config.{Config}
 use Rattle.heap_words.specs.Ranges.{seat_count}
-use Rattle.heap_words.specs.Words.{Free, view, table_words}
+use Rattle.heap_words.specs.Words.{Word, Phase, view, table_words}
 use Rattle.shen_graph.specs.declared.order.Order.{Order}
 use Rattle.shen_graph.specs.declared.order.Order.TheVariants.{Nothing}
 use Rattle.steps_base.specs.Steps.{Stage}
@@ -18,7 +18,7 @@ use Rattle.steps_base.proofs.Runs.{go-none}
 use Rattle.shen_graph.specs.Graph.{Graph}
 use Rattle.mutator.specs.Rows.{mutator_after}
 use Rattle.heap_machines.specs.Pause.{pause_image}
-use Rattle.step_core.specs.Actor.{mutating, fresh_control, Actor, fresh_helper}
+use Rattle.step_core.specs.Actor.{mutating, fresh_helper, Actor}
 use Rattle.heap_machines.specs.Shown.{no_machine, shown}
 use Rattle.step_core.specs.Actor as actors
 use Rattle.step_core.specs.Machines.{kind, HasNumber, IsIdle}
@@ -27,65 +27,65 @@ use Rattle.heap_machines.specs.declared.machine.Machine.{Machine}
 use Rattle.shen_core.specs.declared.plain.Plain.{Plain}
 use Rattle.shen_core.specs.State.{words_of, machines_of, orders_of}
 use Rattle.shen_core.specs.Runs.{Shows, IsShownBySome}
-use Rattle.shen_core.specs.FromImage.{machine_from, actor_from, stage_from, CanBegin}
+use Rattle.shen_core.specs.FromImage.{control_from, machine_from, actor_from, stage_from, CanBegin}
 
 -- one machine more
-pub machines_more : (c : Config) (counts : List ℕ) (free : ℕ) (machines : List Machine) (new : Machine) (number : ℕ) → map shown machines ≡ map (machine_from c counts free) (range_with_len 0 number) → shown new ≡ machine_from c counts free number
-    → map shown (machines ++ new ∷ []) ≡ map (machine_from c counts free) (range_with_len 0 (number + 1))
-machines_more c counts free machines new number so_far is =
-    map-append shown machines (new ∷ []) ∙ ap (λ xs. xs ++ shown new ∷ []) so_far ∙ ap (λ x. map (machine_from c counts free) (range_with_len 0 number) ++ x ∷ []) is
-    ∙ sym (map-range_with_len_more (machine_from c counts free) 0 number number (omega arith))
+pub machines_more : (c : Config) (counts : List ℕ) (memory : Word → ℕ) (machines : List Machine) (new : Machine) (number : ℕ) → map shown machines ≡ map (machine_from c counts memory) (range_with_len 0 number) → shown new ≡ machine_from c counts memory number
+    → map shown (machines ++ new ∷ []) ≡ map (machine_from c counts memory) (range_with_len 0 (number + 1))
+machines_more c counts memory machines new number so_far is =
+    map-append shown machines (new ∷ []) ∙ ap (λ xs. xs ++ shown new ∷ []) so_far ∙ ap (λ x. map (machine_from c counts memory) (range_with_len 0 number) ++ x ∷ []) is
+    ∙ sym (map-range_with_len_more (machine_from c counts memory) 0 number number (omega arith))
 
 -- the machine of each role
-pub mutator_is : (c : Config) (counts : List ℕ) (free number : ℕ) → number < c.mutators → mutating (mutator_after number (slice_index counts number)) ≡ machine_from c counts free number
-mutator_is c counts free number below =
-    ap (λ b. if b then mutating (mutator_after number (slice_index counts number)) else (if nat_lt number (c.mutators + c.helpers) then fresh_helper else fresh_control free)) (sym (lt-ltb number c.mutators below))
+pub mutator_is : (c : Config) (counts : List ℕ) (memory : Word → ℕ) (number : ℕ) → number < c.mutators → mutating (mutator_after number (slice_index counts number)) ≡ machine_from c counts memory number
+mutator_is c counts memory number below =
+    ap (λ b. if b then mutating (mutator_after number (slice_index counts number)) else (if nat_lt number (c.mutators + c.helpers) then fresh_helper number else control_from memory)) (sym (lt-ltb number c.mutators below))
 
-other_is : (c : Config) (counts : List ℕ) (free number : ℕ) (b : Bool) → nat_lt number c.mutators ≡ false → nat_lt number (c.mutators + c.helpers) ≡ b → (if b then fresh_helper else fresh_control free) ≡ machine_from c counts free number
-other_is c counts free number b none is =
-    ap (λ x. if x then fresh_helper else fresh_control free) (sym is)
-    ∙ ap (λ x. if x then mutating (mutator_after number (slice_index counts number)) else (if nat_lt number (c.mutators + c.helpers) then fresh_helper else fresh_control free)) (sym none)
+other_is : (c : Config) (counts : List ℕ) (memory : Word → ℕ) (number : ℕ) (b : Bool) → nat_lt number c.mutators ≡ false → nat_lt number (c.mutators + c.helpers) ≡ b → (if b then fresh_helper number else control_from memory) ≡ machine_from c counts memory number
+other_is c counts memory number b none is =
+    ap (λ x. if x then fresh_helper number else control_from memory) (sym is)
+    ∙ ap (λ x. if x then mutating (mutator_after number (slice_index counts number)) else (if nat_lt number (c.mutators + c.helpers) then fresh_helper number else control_from memory)) (sym none)
 
-pub helper_is : (c : Config) (counts : List ℕ) (free number : ℕ) → (number < c.mutators → ⊥) → number < c.mutators + c.helpers → no_machine ≡ machine_from c counts free number
-helper_is c counts free number none below = other_is c counts free number true (le-ltb number c.mutators (omega arith)) (lt-ltb number (c.mutators + c.helpers) below)
+pub helper_is : (c : Config) (counts : List ℕ) (memory : Word → ℕ) (number : ℕ) → (number < c.mutators → ⊥) → number < c.mutators + c.helpers → fresh_helper number ≡ machine_from c counts memory number
+helper_is c counts memory number none below = other_is c counts memory number true (le-ltb number c.mutators (omega arith)) (lt-ltb number (c.mutators + c.helpers) below)
 
-pub control_is : (c : Config) (counts : List ℕ) (free number : ℕ) → number ≡ c.mutators + c.helpers → fresh_control free ≡ machine_from c counts free number
-control_is c counts free number is = other_is c counts free number false (le-ltb number c.mutators (omega arith)) (le-ltb number (c.mutators + c.helpers) (omega arith))
+pub control_is : (c : Config) (counts : List ℕ) (memory : Word → ℕ) (number : ℕ) → number ≡ c.mutators + c.helpers → control_from memory ≡ machine_from c counts memory number
+control_is c counts memory number is = other_is c counts memory number false (le-ltb number c.mutators (omega arith)) (le-ltb number (c.mutators + c.helpers) (omega arith))
 
 -- what memory keeps of the machines
-pub stage_machines : (c : Config) (words counts : List ℕ) → map (λ a. a.machine) (stage_from c words counts).machines ≡ map (machine_from c counts (view c words Free)) (range_with_len 0 (seat_count c.mutators c.helpers))
+pub stage_machines : (c : Config) (words counts : List ℕ) → map (λ a. a.machine) (stage_from c words counts).machines ≡ map (machine_from c counts (view c words)) (range_with_len 0 (seat_count c.mutators c.helpers))
 unfolding stage_from
-stage_machines c words counts = map-map (λ a. a.machine) (actor_from c counts (view c words Free)) (range_with_len 0 (seat_count c.mutators c.helpers))
+stage_machines c words counts = map-map (λ a. a.machine) (actor_from c counts (view c words)) (range_with_len 0 (seat_count c.mutators c.helpers))
 
 -- how many there are
 pub stage_count : (c : Config) (words counts : List ℕ) → length (stage_from c words counts).machines ≡ seat_count c.mutators c.helpers
 unfolding stage_from
-stage_count c words counts = length-map-range_with_len (actor_from c counts (view c words Free)) 0 (seat_count c.mutators c.helpers)
+stage_count c words counts = length-map-range_with_len (actor_from c counts (view c words)) 0 (seat_count c.mutators c.helpers)
 
-pub machines_count : (c : Config) (words counts : List ℕ) (machines : List Machine) → map shown machines ≡ map (machine_from c counts (view c words Free)) (range_with_len 0 (seat_count c.mutators c.helpers)) → length machines ≡ seat_count c.mutators c.helpers
-machines_count c words counts machines is = sym (length-map machines shown) ∙ ap length is ∙ length-map-range_with_len (machine_from c counts (view c words Free)) 0 (seat_count c.mutators c.helpers)
+pub machines_count : (c : Config) (words counts : List ℕ) (machines : List Machine) → map shown machines ≡ map (machine_from c counts (view c words)) (range_with_len 0 (seat_count c.mutators c.helpers)) → length machines ≡ seat_count c.mutators c.helpers
+machines_count c words counts machines is = sym (length-map machines shown) ∙ ap length is ∙ length-map-range_with_len (machine_from c counts (view c words)) 0 (seat_count c.mutators c.helpers)
 
 -- the actor of a number
-stage_actor : (c : Config) (words counts : List ℕ) (k : ℕ) (a : Actor) → slice_get (stage_from c words counts).machines k ≡ Some a → (k < seat_count c.mutators c.helpers) × (actor_from c counts (view c words Free) k ≡ a)
+stage_actor : (c : Config) (words counts : List ℕ) (k : ℕ) (a : Actor) → slice_get (stage_from c words counts).machines k ≡ Some a → (k < seat_count c.mutators c.helpers) × (actor_from c counts (view c words) k ≡ a)
 unfolding stage_from
 stage_actor c words counts k a here =
-    let made = actor_from c counts (view c words Free) in
+    let made = actor_from c counts (view c words) in
     let within = slice_get_within (stage_from c words counts).machines k a here in
     let long = length-map-range_with_len made 0 (seat_count c.mutators c.helpers) in
     let below : k < seat_count c.mutators c.helpers = omega (arith, within, long) in
     (below, sym (get_or-map-range_with_len made 0 (seat_count c.mutators c.helpers) k k a below (omega arith)) ∙ get_or_from_slice_get (stage_from c words counts).machines k a a here)
 
 -- each machine is new
-machine_new : (c : Config) (counts : List ℕ) (free : ℕ) (g : Graph) → ((t : ℕ) → t < c.mutators → g.count (t + 1) ≡ slice_index counts t) → (k : ℕ) → k < seat_count c.mutators c.helpers
-    → HasNumber c k (machine_from c counts free k) × IsIdle g k (machine_from c counts free k)
-machine_new c counts free g count k below = by_role (nat_lt k c.mutators) refl (nat_lt k (c.mutators + c.helpers)) refl
+machine_new : (c : Config) (counts : List ℕ) (memory : Word → ℕ) (g : Graph) → ((t : ℕ) → t < c.mutators → g.count (t + 1) ≡ slice_index counts t) → (k : ℕ) → k < seat_count c.mutators c.helpers
+    → HasNumber c k (machine_from c counts memory k) × IsIdle (memory Phase) g k (machine_from c counts memory k)
+machine_new c counts memory g count k below = by_role (nat_lt k c.mutators) refl (nat_lt k (c.mutators + c.helpers)) refl
   where
     by_role : (b : Bool) → nat_lt k c.mutators ≡ b → (d : Bool) → nat_lt k (c.mutators + c.helpers) ≡ d
-        → HasNumber c k (if b then mutating (mutator_after k (slice_index counts k)) else (if d then fresh_helper else fresh_control free))
-        × IsIdle g k (if b then mutating (mutator_after k (slice_index counts k)) else (if d then fresh_helper else fresh_control free))
+        → HasNumber c k (if b then mutating (mutator_after k (slice_index counts k)) else (if d then fresh_helper k else control_from memory))
+        × IsIdle (memory Phase) g k (if b then mutating (mutator_after k (slice_index counts k)) else (if d then fresh_helper k else control_from memory))
     by_role true is d other = let small : k < c.mutators = ltb-true k c.mutators is in ((refl, small), (count k small, refl))
-    by_role false is true other = ((ltb-false k c.mutators is, ltb-true k (c.mutators + c.helpers) other), tt)
-    by_role false is false other = ((let above = ltb-false k (c.mutators + c.helpers) other in omega arith), (refl, refl))
+    by_role false is true other = ((refl, ltb-false k c.mutators is, ltb-true k (c.mutators + c.helpers) other), refl)
+    by_role false is false other = ((let above = ltb-false k (c.mutators + c.helpers) other in omega arith), (refl, refl, refl))
 
 -- the stage begins each graph with which the words can begin
 pub begins_from : (c : Config) (words counts : List ℕ) → length words ≡ table_words c → (g : Graph) → CanBegin c (view c words) counts g → Begins c (stage_from c words counts) g
@@ -97,12 +97,12 @@ begins_from c words counts long g can = record {
   outside = can.outside;
   machines = λ k a here.
       let is = stage_actor c words counts k a here in
-      let new = machine_new c counts (view c words Free) g can.counts_are k is.0 in
-      subst (λ (x : Actor). IsNew c g k x) is.1 (record { number_is = new.0; idle = new.1; calls = refl; valid = refl });
+      let new = machine_new c counts (view c words) g can.counts_are k is.0 in
+      subst (λ (x : Actor). IsNew c (view c words Phase) g k x) is.1 (record { number_is = new.0; idle = new.1; calls = refl; valid = refl });
 }
 
 -- memory shows the stage
-pub shows_from : (c : Config) (words counts held : List ℕ) (machines : List Machine) → held ≡ words → map shown machines ≡ map (machine_from c counts (view c words Free)) (range_with_len 0 (seat_count c.mutators c.helpers))
+pub shows_from : (c : Config) (words counts held : List ℕ) (machines : List Machine) → held ≡ words → map shown machines ≡ map (machine_from c counts (view c words)) (range_with_len 0 (seat_count c.mutators c.helpers))
     → Shows held (map shown machines) (stage_from c words counts)
 unfolding stage_from
 shows_from c words counts held machines words_are machines_are = record { words_are = sym words_are; machines_are = stage_machines c words counts ∙ sym machines_are }
@@ -126,7 +126,7 @@ opened_orders p orders is none = subst (λ os. All (λ order. order ≡ Nothing)
 pub first_from : (c : Config) (words counts : List ℕ) (machines : List actors.Machine) → map (λ a. a.machine) (stage_from c words counts).machines ≡ machines → 0 < c.mutators
     → slice_index_or machines 0 no_machine ≡ mutating (mutator_after 0 (slice_index counts 0))
 first_from c words counts machines is some =
-    let made = machine_from c counts (view c words Free) in
+    let made = machine_from c counts (view c words) in
     ap (λ ms. slice_index_or ms 0 no_machine) (sym is ∙ stage_machines c words counts)
     ∙ get_or-map-range_with_len made 0 (seat_count c.mutators c.helpers) 0 0 no_machine (omega arith) refl
-    ∙ sym (mutator_is c counts (view c words Free) 0 some)
+    ∙ sym (mutator_is c counts (view c words) 0 some)

@@ -14,7 +14,7 @@ use Rattle.heap_words.specs.Ranges.{seat_count}
 use Rattle.shen_graph.specs.declared.order.Order.{Order}
 use Rattle.shen_graph.specs.declared.order.Order.TheVariants.{Nothing}
 use Rattle.heap_machines.specs.declared.machine.Machine.{Machine}
-use Rattle.heap_machines.specs.Shown.{shown, order_of, heap_of, has_turn}
+use Rattle.heap_machines.specs.Shown.{shown, order_of, heap_of, has_turn, no_machine}
 use Rattle.heap_machines.proofs.Openings.{first_machines, first_count}
 use Rattle.step_core.specs.Actor as actors
 use Rattle.step_core.specs.Machines.{plan_of, machine_after, kind}

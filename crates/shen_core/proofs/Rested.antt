@@ -3,8 +3,9 @@
 use Rattle.std.proofs.Common.{◌≡◌, ℕ, ◌+◌, ◌<◌, true, false, List, [], ◌∷◌, None, Some, refl, sym, ap, ◌∙◌, subst, arith}
 use Rattle.std.specs.Prelude.{slice_index, slice_index_or}
 use Rattle.std.proofs.Math.Logic.{∥∥₁_map}
+use Rattle.std.proofs.Math.Path.{fun_ext}
 use Rattle.heap_words.specs.declared.config.Config.{Config}
-use Rattle.heap_words.specs.Words.{Word, Pause, Left, End, State, Root, Wait, Answer, view, write}
+use Rattle.heap_words.specs.Words.{Word, Pause, Left, End, State, Phase, Root, Wait, Answer, view, write}
 use Rattle.shen_graph.specs.Graph.{Graph}
 use Rattle.shen_graph.specs.declared.command.Command.{Command}
 use Rattle.mutator.specs.declared.spot.Kept.{Kept}
@@ -13,18 +14,18 @@ use Rattle.mutator.specs.declared.spot.Spot.TheVariants.{Rest, Ended, Gone}
 use Rattle.mutator.specs.Orders.{is_between_calls}
 use Rattle.mutator.specs.Rows.{Mutating}
 use Rattle.heap_world.specs.World.{World, Plot, hand, Points}
-use Rattle.heap_world.specs.Asking.{Asking, nothing, asks, refused, given, IsAsked}
+use Rattle.heap_world.specs.Asking as askings
+use Rattle.heap_world.specs.Asking.{Asking, nothing, asks, given, IsAsked}
 use Rattle.heap_world.specs.Represents.{Represents}
-use Rattle.image_laws.specs.Full.{full}
+use Rattle.image_laws.specs.Full.{packed, packed_in, served, refused, full}
 use Rattle.image_graph.specs.declared.image.Image.{Image}
 use Rattle.image_graph.specs.Holds.{HoldsSome}
 use Rattle.image_graph.specs.State as images
 use Rattle.heap_machines.specs.Pause.{pause_image}
-use Rattle.pause_laws.proofs.Dead.{plain}
-use Rattle.pause_laws.proofs.Promises.{promises_of}
-use Rattle.pause_laws.proofs.Holding.{waits_for, holds_by}
+use Rattle.pause_laws.proofs.Holding.{waits_for}
 use Rattle.pause_laws.proofs.Answered.{represents_again}
 use Rattle.heap_machines.proofs.Pauses.{heap_pauses}
+use Rattle.heap_machines.proofs.Quiet.{quiet, unmarked, nobody_marks, quiet_shared, quiet_holds}
 use Rattle.steps_base.specs.Steps.{Stage}
 use Rattle.step_core.specs.Actor.{Machine, Actor}
 use Rattle.heap_machines.specs.Shown.{no_machine}
@@ -66,7 +67,7 @@ not_clearing _ rest = absurd cc
 nothing_asked : (memory : Word → ℕ) (block : Plot) (count : ℕ → ℕ) (t : ℕ) (x : Asking) → IsAsked memory block count t x → memory (Wait t) ≡ 0 → memory (Answer t) ≡ 0 → IsAsked memory block count t nothing
 nothing_asked memory block count t nothing asked wait answer = asked
 nothing_asked memory block count t (asks refs nums) asked wait answer = absurd (waits_for memory count t refs nums asked.0 wait)
-nothing_asked memory block count t refused asked wait answer = absurd (omega (arith, asked.1, answer))
+nothing_asked memory block count t askings.refused asked wait answer = absurd (omega (arith, asked.1, answer))
 nothing_asked memory block count t (given refs nums) asked wait answer = absurd (omega (arith, asked.1, answer))
 
 -- the words of requests and answers are 0
@@ -90,9 +91,9 @@ idle_of w m command rest own asked = record {
   asked = asked.is;
 }
 
--- the words represent a graph of which the machines have made so many objects
+-- the words would represent a graph outside of marking, of which the machines have made so many objects
 pub record Rests (c : Config) (words : List ℕ) (machines : List Machine) (g : Graph) : Type 0 where
-  pub stands : Represents c (view c words) g (λ t. nothing)
+  pub stands : Represents c (quiet (view c words)) g (λ t. nothing)
   pub counts : (t : ℕ) → t < c.mutators → g.count (t + 1) ≡ made_of_machine (slice_index_or machines t no_machine)
 
 module _ (c : Config) (words : List ℕ) (machines : List Machine) (rest : (number : ℕ) → number < c.mutators → is_resting (slice_index_or machines number no_machine) ≡ true)
@@ -127,22 +128,24 @@ module _ (c : Config) (words : List ℕ) (machines : List Machine) (rest : (numb
       (subst (λ k. IsIdle world k m.made) seat
       (idle_of world m a.command resting (sound.stands.mutators t a m some.here) (sound.stands.asked t a m some.here (not_clearing m.spot resting))))
 
-  represents_settled : NobodyAsks c (settled c stage) → Represents c (settled c stage) graph (λ t. nothing)
+  represents_settled : NobodyAsks c (settled c stage) → Represents c (quiet (settled c stage)) graph (λ t. nothing)
   represents_settled none = record {
     block = sound.stands.block;
-    ghost = sound.stands.ghost;
-    shared = sound.stands.shared;
+    ghost = unmarked sound.stands.ghost;
+    shared = quiet_shared c world sound.stands.shared;
     roots = λ t i below few. (idle t below).roots i few;
     none = λ a seat more is. (idle seat (sound.stands.in_hand a seat more is)).hands a more is;
     asked = λ t below. let at = idle t below in nothing_asked (settled c stage) sound.stands.block graph.count t at.asking at.asked (none t below).0 (none t below).1;
+    heard = λ t refs nums below is. refl;
     promised_to = sound.stands.promised_to;
+    unmarking = nobody_marks c sound.stands.ghost;
     no_more = sound.no_more;
   }
 
   -- so the words represent the graph after the run
   pub rests : NobodyAsks c (view c words) → Rests c words machines graph
   rests none = record {
-    stands = subst (λ (memory : Word → ℕ). Represents c memory graph (λ t. nothing)) table_counts
+    stands = subst (λ (memory : Word → ℕ). Represents c (quiet memory) graph (λ t. nothing)) table_counts
         (represents_settled (subst (λ (memory : Word → ℕ). NobodyAsks c memory) (sym table_counts) none));
     counts = λ t below. (idle t below).counted;
   }
@@ -155,15 +158,16 @@ some_rests c words machines rest calm none some = ∥∥₁_map some (λ shown. 
 
 -- such words hold a graph
 pub rests_hold : (c : Config) (words : List ℕ) (machines : List Machine) → ∥ ((g : Graph) × Rests c words machines g) ∥₁ → HoldsSome c (view c words)
-rests_hold c words machines some = ∥∥₁_map some (λ r. (
-  r.0,
-  (
-    plain c (view c words) r.0 (λ t. nothing) r.1.stands,
-    r.1.stands.ghost.owner,
-    promises_of c r.0 (λ t. nothing),
-    holds_by c (view c words) r.0 (λ t. nothing) r.1.stands,
-  ),
-))
+rests_hold c words machines some = ∥∥₁_map some (λ r. (r.0, quiet_holds c (view c words) r.0 (λ t. nothing) r.1.stands))
+
+-- a full collection reads nothing that only marking reads
+packed_quiet : (c : Config) (memory : Word → ℕ) (word : Word) → packed_in c (quiet memory) word ≡ packed_in c memory word
+unfolding packed
+packed_quiet c memory Phase = refl
+packed_quiet c memory _ = refl
+
+full_quiet : (c : Config) (memory : Word → ℕ) → full c (quiet memory) ≡ full c memory
+full_quiet c memory = ap (λ (some : Word → ℕ). refused (served c some c.mutators)) (fun_ext (packed_quiet c memory))
 
 -- neither the count of threads that have not ended nor the end is a word of the graph
 represents_then : (c : Config) (m : Word → ℕ) (left ended : ℕ) (g : Graph) → Represents c m g (λ t. nothing) → Represents c (write (write m Left left) End ended) g (λ t. nothing)
@@ -187,7 +191,8 @@ pub rests_begin : (c : Config) (words : List ℕ) (machines : List Machine) (lef
 rests_begin c words machines left ended counts some outside made = ∥∥₁_map some (λ r. (
   r.0,
   record {
-    stands = represents_then c (full c (view c words)) left ended r.0 (represents_again c (view c words) r.0 (λ t. nothing) r.1.stands);
+    stands = represents_then c (full c (view c words)) left ended r.0
+        (subst (λ (m : Word → ℕ). Represents c m r.0 (λ t. nothing)) (full_quiet c (view c words)) (represents_again c (quiet (view c words)) r.0 (λ t. nothing) r.1.stands));
     outside = outside;
     counts_are = λ t below. r.1.counts t below ∙ made t below;
   },

@@ -40,6 +40,7 @@ impl Plain {
     ghost use Rattle.heap_graph.specs.Shows as texts;
     ghost use Rattle.shen_core.specs.State.{config_of, words_of, machines_of, orders_of, order_at, seats_of, Shows, machine_at, has_turn, found_by, next_machine, IsStep, IsUnchanged};
     ghost use Rattle.heap_machines.specs.Answer.{says};
+    ghost use Rattle.heap_machines.specs.Roles.{is_mutating};
     ghost use Rattle.heap_machines.specs.Turn.{order_for};
     ghost use Rattle.shen_core.specs.Progress.{CanRun, IsTurn, IsNextTurn, HasNext, AllRest, next_for};
 
@@ -129,7 +130,7 @@ impl Plain {
         ensures config { config_of self.new ≡ config_of self.old }
 
         // A call ends exactly where its mutator leaves the heap, and its reply is at hand then.
-        ensures done { (result ≡ Stepped.Done) ↔ ((has_turn self.old number ≡ true) × (place_in (order_at self.old number) (machine_at self.old number) ≡ Place.LV)) }
+        ensures done { (result ≡ Stepped.Done) ↔ ((has_turn self.old number ≡ true) × (is_mutating (machine_at self.old number) ≡ true) × (place_in (order_at self.old number) (machine_at self.old number) ≡ Place.LV)) }
         ensures replied { result ≡ Stepped.Done → reply_in (machine_at self.new number) ≢ None }
         ensures again { (result ≡ Stepped.Again) ↔ ((has_turn self.old number ≡ true) × WaitsIn (config_of self.old) (machine_at self.old number) (found_by self.old number)) }
     {

@@ -35,6 +35,7 @@ impl Bundle {
     ghost use Rattle.shen_graph.specs.Valid.{IsValid};
     ghost use Rattle.heap_machines.specs.Roles.{is_mutating};
     ghost use Rattle.step_core.specs.Machines.{takes_of, reply_in, place_in, may_begin, made_of_machine};
+    ghost use Rattle.heap_machines.specs.Roles.{is_mutating};
     ghost use Rattle.table_heap.specs.State.{heap_of, view_of, machines_of, orders_of, IsOf, HasMachine, machine_at, order_at, has_turn, IsSameBundle, IsUnmoved, IsUnchanged, IsStep};
 
     /// Gives the machines of one bundle, of so many, to a bundle of their own: those whose numbers have the remainder `bundle`.

@@ -1,7 +1,6 @@
 use Rattle.std.proofs.Common.{◌≡◌, ◌+◌, ap, sym, ◌∙◌, map, All, refl, subst, arith}
 use Rattle.std.specs.List.{range_with_len}
 use Rattle.std.proofs.lemmas.List.Elements.{All-push}
-use Rattle.heap_words.specs.Words.{Free}
 use Rattle.shen_graph.specs.declared.order.Order.TheVariants.{Nothing}
 use Rattle.image_graph.specs.State.{config_of, memory_of}
 use Rattle.step_core.specs.Actor.{controlling}
@@ -13,12 +12,12 @@ use Rattle.shen_core.proofs.from_image.machines_from.Goals as goal
 pub loop-number-preserved : goal.loop-number-preserved
 loop-number-preserved c =
     let heap = config_of c.args.image in
-    let free = memory_of c.args.image Free in
+    let memory = memory_of c.args.image in
     let grown = c.in-Ok.ensures.items in
     record {
       machines = ap (map shown) grown
-          ∙ machines_more heap c.args.counts.now free c.loop-number.machines.items c.machine_at-machine.result c.loop-number.number c.loop-number.invariant.machines
-          (subst (λ k. shown c.machine_at-machine.result ≡ machine_from k c.args.counts.now free c.loop-number.number) c.config-config.ensures (c.machine_at-machine.ensures.shown free));
+          ∙ machines_more heap c.args.counts.now memory c.loop-number.machines.items c.machine_at-machine.result c.loop-number.number c.loop-number.invariant.machines
+          (subst (λ k. shown c.machine_at-machine.result ≡ machine_from k c.args.counts.now memory c.loop-number.number) c.config-config.ensures (c.machine_at-machine.ensures.shown memory));
       heap = subst (λ xs. All (λ m. heap_of m ≡ heap) xs) (sym grown)
           (All-push (λ m. heap_of m ≡ heap) c.loop-number.machines.items c.machine_at-machine.result c.loop-number.invariant.heap (c.machine_at-machine.ensures.heap ∙ c.config-config.ensures));
       orders = subst (λ xs. All (λ m. order_of m ≡ Nothing) xs) (sym grown)
@@ -28,13 +27,13 @@ loop-number-preserved c =
 pub returns-clause-machines : goal.returns-clause-machines
 returns-clause-machines c =
     let heap = config_of c.args.image in
-    let free = memory_of c.args.image Free in
+    let memory = memory_of c.args.image in
     let first : c.config-config.result.mutators ≡ heap.mutators = ap (λ k. k.mutators) c.config-config.ensures in
     let then_on : c.config-config.result.helpers ≡ heap.helpers = ap (λ k. k.helpers) c.config-config.ensures in
     let at : c.loop-number.number ≡ heap.mutators + heap.helpers = omega (arith, c.mutators.ensures, c.helpers.ensures, c.loop-number-test.false, first, then_on) in
     ap (map shown) c.in-Ok-push.ensures.items
-    ∙ machines_more heap c.args.counts.now free c.loop-number.machines.items _ c.loop-number.number c.loop-number.invariant.machines (ap controlling c.new.ensures.seen ∙ control_is heap c.args.counts.now free c.loop-number.number at)
-    ∙ ap (λ n. map (machine_from heap c.args.counts.now free) (range_with_len 0 n)) (omega (arith, at))
+    ∙ machines_more heap c.args.counts.now memory c.loop-number.machines.items _ c.loop-number.number c.loop-number.invariant.machines (ap controlling c.new.ensures.seen ∙ control_is heap c.args.counts.now memory c.loop-number.number at)
+    ∙ ap (λ n. map (machine_from heap c.args.counts.now memory) (range_with_len 0 n)) (omega (arith, at))
 
 pub returns-clause-heap : goal.returns-clause-heap
 returns-clause-heap c =
