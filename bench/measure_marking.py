@@ -11,7 +11,9 @@ processors.
    compare-exchange and exchange a field of an object of their own, on a heap of which one of them has filled less than half first,
    with a tree of objects that all live. In the second run every 500th command is a `gc`, so that marking begins again as soon as it
    has ended; in the first it is a `same` in its place. A control and one helper have a thread each. A time is the least of three
-   runs, less the least of runs that read the same bytes and are refused at the last line. The shares are those of one further run.
+   runs, less the least of runs that read the same bytes and are refused at the last line. The shares of the time are those of one
+   further run; the commands a second outside pauses are worked out with them, since in a pause the threads wait. A pause loads and
+   stores all words of the heap, so where markings follow one on the other pauses take more of the time than scanning.
 2. What the store barrier costs a command, by `replay`: so many of one command in phase 0 and so many in phase 1, by the same
    commands with the `gc` behind them or before them. Steps are those that `shensteps` counts, times the least of three runs; each
    number is that of a longer trace less that of a shorter one, for each command more.
@@ -208,8 +210,8 @@ def worker(count, asking, built):
 def measure_commands(commands):
     built, _, _ = tree()
     print(f"two threads under run, {commands} commands each, a control and a helper")
-    print(f"{'':>16}{'million a second':>18}{'in phase 1':>12}{'in pauses':>11}{'markings seen':>15}")
-    rates = {}
+    print(f"{'':>16}{'million a second':>18}{'outside pauses':>16}{'in phase 1':>12}{'in pauses':>11}{'markings seen':>15}")
+    rates, beside = {}, {}
     for asking in (False, True):
         text = text_of(2, 1, [worker(commands, asking, built), worker(commands, asking, [])])
         with written(text) as trace, written(text + "?\n") as refused:
@@ -218,9 +220,11 @@ def measure_commands(commands):
         rates[asking] = 2 * commands / took
         whole = sum(shares.values()) or 1
         marking, paused = shares.get((0, 1), 0) / whole, (shares.get((1, 0), 0) + shares.get((1, 1), 0)) / whole
-        name = "marking" if asking else "nobody marks"
-        print(f"{name:>16}{rates[asking] / 1e6:>18.3f}{100 * marking:>10.0f} %{100 * paused:>9.0f} %{len(markings):>15}")
-    print(f"{'ratio':>16}{rates[True] / rates[False]:>18.2f}")
+        name, beside[asking] = "marking" if asking else "nobody marks", rates[asking] / max(1 - paused, 1e-6)
+        print(
+            f"{name:>16}{rates[asking] / 1e6:>18.3f}{beside[asking] / 1e6:>16.3f}{100 * marking:>10.0f} %{100 * paused:>9.0f} %{len(markings):>15}"
+        )
+    print(f"{'ratio':>16}{rates[True] / rates[False]:>18.2f}{beside[True] / beside[False]:>16.2f}")
 
 
 def steps_of(trace):

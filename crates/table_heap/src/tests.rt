@@ -26,14 +26,14 @@ fn script(alloc: Global, commands: &[Command]) -> Result<Script, Fail>
     Ok(script)
 }
 
-// A heap of one mutator, all its machines in one bundle, and work in which the mutator does this.
-fn opened(alloc: Global, commands: &[Command]) -> Result<(Heap, Bundle, Work), Fail>
+// A heap of one mutator and so many helpers, all its machines in one bundle, and work in which the mutator does this.
+fn opened(alloc: Global, helpers: usize, commands: &[Command]) -> Result<(Heap, Bundle, Work), Fail>
     requires { length commands.now ≤ 100 }
     ensures heap { IfOk result (λ made. IsOf made.1 made.0) }
     ensures start { IfOk result (λ made. CanStart made.1 made.2) }
     ensures script { IfOk result (λ made. HasScript made.2 0) }
 {
-    let config = Config::new(4, 64, 1, 0, 0)?;
+    let config = Config::new(4, 64, 1, helpers, 0)?;
     let (heap, mut bundles) = Heap::open(alloc, config, 1)?;
     let Some(bundle) = bundles.pop() else {
         unreachable!()
@@ -62,7 +62,7 @@ fn a_script_is_run(rt: HostRuntime) -> Result<(), Fail> {
         src: 0,
         field: 3,
     };
-    let (heap, mut bundle, mut work) = opened(alloc, &[make, store, load])?;
+    let (heap, mut bundle, mut work) = opened(alloc, 0, &[make, store, load])?;
     bundle.run(&rt, &heap, &mut work, &OpenGate);
     let made = Name {
         thread: 1,
@@ -98,7 +98,7 @@ impl Gate for Passes {
 #[test]
 fn each_step_passes_the_gate(rt: HostRuntime) -> Result<(), Fail> {
     let clear = Command::Drop { dst: 1 };
-    let (heap, mut bundle, mut work) = opened(rt.alloc(), &[clear, clear])?;
+    let (heap, mut bundle, mut work) = opened(rt.alloc(), 0, &[clear, clear])?;
     let gate = Passes {
         mutator: AtomicU64::new(0),
         control: AtomicU64::new(0),
@@ -106,5 +106,39 @@ fn each_step_passes_the_gate(rt: HostRuntime) -> Result<(), Fail> {
     bundle.run(&rt, &heap, &mut work, &gate);
     assert_eq!(rt; gate.mutator.load(Ordering::SeqCst), 13);
     assert_eq!(rt; gate.control.load(Ordering::SeqCst), 14);
+    Ok(())
+}
+
+// Which machine was the last to pass.
+#[derive(Drop)]
+struct Last(AtomicU64);
+
+impl Gate for Last {
+    fn pass(&self, number: usize) {
+        self.0.store(number as u64, Ordering::SeqCst);
+    }
+}
+
+// The mutator asks for a pause, and that begins marking, so that there are units to scan. The control is machine 2, and ends when
+// the mutator has; the helper, machine 1, sees that only later.
+#[test]
+fn the_helper_is_the_last_to_end(rt: HostRuntime) -> Result<(), Fail> {
+    let make = Command::New {
+        dst: 1,
+        refs: 1,
+        nums: 0,
+    };
+    let (heap, mut bundle, mut work) = opened(rt.alloc(), 1, &[make, Command::Gc])?;
+    let gate = Last(AtomicU64::new(0));
+    bundle.run(&rt, &heap, &mut work, &gate);
+    let made = Name {
+        thread: 1,
+        count: 1,
+    };
+    assert_eq!(rt;
+        work.replies(0).list(),
+        [Reply::Ref(made), Reply::Ok].as_slice()
+    );
+    assert_eq!(rt; gate.0.load(Ordering::SeqCst), 1);
     Ok(())
 }

@@ -210,8 +210,8 @@ returns-clause-done c =
     let has : State.has_turn b c.args.number ≡ true = ap (λ x. takes_of x (order_at b c.args.number)) at ∙ ap (takes_of (shown m)) given ∙ turn in
     let place = ap (place_in (State.order_at b c.args.number)) at ∙ ap (λ o. place_in o (shown m)) given in (
       (λ is.
-      let did = c.took.ensures.done.0 (done_only c.took.result (sym c.of.ensures ∙ is)) in
-      (has, ap is_mutating at ∙ did.0, place ∙ did.1)),
+          let did = c.took.ensures.done.0 (done_only c.took.result (sym c.of.ensures ∙ is)) in
+          (has, ap is_mutating at ∙ did.0, place ∙ did.1)),
       (λ all. c.of.ensures ∙ ap stepped_of (c.took.ensures.done.1 (ap is_mutating (sym at) ∙ all.1, sym place ∙ all.2))),
     )
 
