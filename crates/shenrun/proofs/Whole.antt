@@ -28,10 +28,10 @@ use Rattle.control_steps.specs.declared.spot.ControlSpot.TheVariants.{StoreWord}
 use Rattle.control_steps.specs.Rows.{is_gone}
 use Rattle.heap_machines.specs.Pause.{pause_image}
 use Rattle.heap_machines.proofs.Pauses.{heap_pauses}
+use Rattle.heap_machines.specs.Shown.{no_machine}
 use Rattle.heap_machines.specs.Scripts.{HasDoneScript}
 use Rattle.heap_machines.proofs.Standing.{entries_at_rest}
 use Rattle.step_core.specs.Actor.{Machine, mutating, helping, controlling, Actor}
-use Rattle.heap_machines.specs.Shown.{no_machine}
 use Rattle.step_core.specs.Schedule.{Scripts, nth_script, turn_of}
 use Rattle.step_core.specs.Begun.{begun_by, begun}
 use Rattle.step_core.specs.Settled.{control_number, stored_image, image_in}

@@ -15,8 +15,8 @@ use Rattle.shen_core.specs.Progress.{AreIdle}
 use Rattle.trace_grammar.specs.Grammar.{Reads}
 use Rattle.trace_writing.specs.Answer.{IsAnswerText}
 
--- the events of a trace, in a heap whose pauses begin marking, end it or collect in full: those of its schedule and of the rounds after it, from
--- the opening on, cut after so many
+-- the events of a trace, in a heap whose pauses begin marking, end it or collect in full: those of its schedule and of the
+-- rounds after it, from the opening on, cut after so many
 abbrev pub events_of : Config → Scripts → List Item → ℕ → List (Event Order)
 events_of c scripts items limit = schedule_events pause_image c scripts items limit (opening c)
 
@@ -27,9 +27,10 @@ history_of c scripts items limit = past pause_image c (events_of c scripts items
 abbrev pub end_of : Config → Scripts → List Item → ℕ → Stage Actor
 end_of c scripts items limit = reached pause_image c (events_of c scripts items limit)
 
--- Events from the opening on, after which all machines are idle: all mutators have ended, and the control has. In their history
--- each thread's commands are its script, whole and in order; each entry is a legal step from the opening graph; and each
--- allocation that was refused was crowded out by live objects and the other threads' allocations that were not answered yet.
+-- Events from the opening on, after which all machines are idle: all mutators have ended, and so have the control and all
+-- helpers. In their history each thread's commands are its script, whole and in order; each entry is a legal step from the
+-- opening graph; and each allocation that was refused was crowded out by live objects and the other threads' allocations that
+-- were not answered yet.
 pub record IsWhole (c : Config) (scripts : Scripts) (events : List (Event Order)) : Type 0 where
   pub idle : AreIdle c scripts (reached pause_image c events)
   pub follows : Follows scripts (past pause_image c events)
