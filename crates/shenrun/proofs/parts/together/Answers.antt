@@ -1,4 +1,4 @@
-use Rattle.std.proofs.Common.{rules, ◌≡◌, ℕ, ◌+◌, ◌≤◌, length, ap, sym, ◌∙◌, subst, arith}
+use Rattle.std.proofs.Common.{rules, ◌≡◌, ◌+◌, length, ap, ◌∙◌, subst, arith}
 use Rattle.shenrun.specs.Parts.{IsReady}
 use Rattle.shenrun.proofs.PartLaws.{apart}
 use Rattle.shenrun.proofs.Loops.{others_ready, last_ready, to_length, longer}

@@ -1,4 +1,4 @@
-use Rattle.std.proofs.Common.{◌≡◌, ℕ, ◌<◌, length, vec_len}
+use Rattle.std.proofs.Common.{ℕ, ◌<◌, length, vec_len}
 use Rattle.step_core.specs.Schedule.{Scripts}
 use Rattle.shenrun.specs.Parts.{IsReady, AreReady}
 use Rattle.shenrun.proofs.parts.together.Given as goal

@@ -1,4 +1,4 @@
-use Rattle.std.proofs.Common.{rules, ◌≡◌, ℕ, ◌+◌, ◌-◌, ◌≤◌, length, ap, sym, ◌∙◌, subst, arith}
+use Rattle.std.proofs.Common.{rules, ◌≡◌, ℕ, ◌+◌, ◌-◌, length, ap, ◌∙◌, subst, arith}
 use Rattle.step_core.specs.Schedule.{Scripts}
 use Rattle.shenrun.specs.Parts.{IsDone}
 use Rattle.shenrun.specs.Started.{IsThread}

@@ -1,7 +1,7 @@
-use Rattle.std.proofs.Common.{◌≡◌, ℕ, ◌+◌, length, sym, subst}
+use Rattle.std.proofs.Common.{ℕ, ◌+◌, length, sym, subst}
 use Rattle.step_core.specs.Schedule.{Scripts}
-use Rattle.shenrun.specs.Parts.{CanRun, IsReady, IsDone, AreReady}
-use Rattle.shenrun.specs.Started.{AreThreads, AreSplit}
+use Rattle.shenrun.specs.Parts.{CanRun, IsDone}
+use Rattle.shenrun.specs.Started.{AreThreads}
 use Rattle.shenrun.proofs.PartLaws.{ended_done}
 use Rattle.shenrun.proofs.threads.run_in.Goals as goal
 

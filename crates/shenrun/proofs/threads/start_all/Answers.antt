@@ -1,5 +1,5 @@
-use Rattle.std.proofs.Common.{rules, ◌≡◌, ◌+◌, ◌<◌, length, ap, ◌∙◌, sym, subst, arith}
-use Rattle.shenrun.specs.Parts.{CanRun, IsReady}
+use Rattle.std.proofs.Common.{rules, ◌≡◌, ◌+◌, ◌<◌, length, ap, ◌∙◌, arith}
+use Rattle.shenrun.specs.Parts.{CanRun}
 use Rattle.shenrun.proofs.Loops.{last_ready, next_split, same_split, longer}
 use Rattle.shenrun.proofs.threads.start_all.Goals as goal
 

@@ -1,4 +1,4 @@
-use Rattle.std.proofs.Common.{◌≡◌, ℕ, ◌+◌, ◌≤◌, ◌<◌, length, vec_len}
+use Rattle.std.proofs.Common.{◌≡◌, ◌+◌, ◌≤◌, ◌<◌, length, vec_len}
 use Rattle.std.specs.Prelude.{vec_capacity}
 use Rattle.step_core.specs.Schedule.{Scripts}
 use Rattle.shenrun.specs.Parts.{AreReady}
