@@ -14,18 +14,18 @@ use Rattle.image_graph.specs.Holds.{HoldsSome}
 use Rattle.mark_laws.specs.Init.{init_marked}
 use Rattle.mark_laws.specs.Final.{final_marked, mark_ended}
 use Rattle.mark_core.specs.Result.{MarksSome}
-use Rattle.mark_pauses.specs.Collect.{collected, CanCollectSome}
+use Rattle.mark_pauses.specs.Collect.{collected, CanPauseSome}
 
 -- they hold some graph
-pub can_hold : (c : Config) (m : Word → ℕ) → CanCollectSome c m → HoldsSome c m
+pub can_hold : (c : Config) (m : Word → ℕ) → CanPauseSome c m → HoldsSome c m
 can_hold c m can = ∥∥₁_map can (λ some. (some.0, (some.1, some.2, some.3, some.4.holds)))
 
 -- no region is collected
-pub can_calm : (c : Config) (m : Word → ℕ) → CanCollectSome c m → m Cset ≡ 0
+pub can_calm : (c : Config) (m : Word → ℕ) → CanPauseSome c m → m Cset ≡ 0
 can_calm c m can = ∥∥₁_elim can (hlevel ℕ_set) (λ some. some.4.uncollected)
 
 -- and where the phase is not 0 they hold a graph while objects are marked
-pub can_end : (c : Config) (m : Word → ℕ) → CanCollectSome c m → (m Phase == 0) ≡ false → MarksSome c m
+pub can_end : (c : Config) (m : Word → ℕ) → CanPauseSome c m → (m Phase == 0) ≡ false → MarksSome c m
 can_end c m can runs = ∥∥₁_map can (λ some. (some.0, some.1, some.2, some.3, some.4.holds, some.4.marking (let least = some.4.phase_is in (grind (arith, nat_tests)))))
 
 -- What each of them makes of the words is what a pause does.

@@ -9,7 +9,7 @@ use Rattle.heap_words.specs.Words.{Word, image_start, table_words, view}
 use Rattle.heap_world.specs.Change.{image_view, image_words}
 use Rattle.image_graph.specs.declared.image.Image.{Image}
 use Rattle.image_graph.specs.State.{config_of, words_of, memory_of}
-use Rattle.mark_pauses.specs.Collect.{collected, collect_image, CanCollectSome}
+use Rattle.mark_pauses.specs.Collect.{collected, collect_image, CanPauseSome}
 use Rattle.mark_pauses.proofs.Images.{collected_table}
 use Rattle.control.specs.Clear.{IsClear}
 use Rattle.control.specs.Image.{image_in, image_from}
@@ -65,10 +65,10 @@ module _ (old mid new : Image) (index word : ℕ) (last : index + 1 ≡ image_wo
   loaded-last = put ∙ set-last (image_in old) index word (last ∙ sym (length-image_in old))
 
   -- they can be collected
-  pub can-last : CanCollectSome (config_of old) (image_view (config_of old) (take index (image_in old) ++ word ∷ []))
-      → CanCollectSome (config_of mid) (image_view (config_of mid) (image_in mid))
+  pub can-last : CanPauseSome (config_of old) (image_view (config_of old) (take index (image_in old) ++ word ∷ []))
+      → CanPauseSome (config_of mid) (image_view (config_of mid) (image_in mid))
   can-last can =
-      let Can : Config → List ℕ → Type 0 = λ c image. CanCollectSome c (image_view c image) in
+      let Can : Config → List ℕ → Type 0 = λ c image. CanPauseSome c (image_view c image) in
       subst (λ c. Can c (image_in mid)) (sym config) (subst (Can (config_of old)) (sym loaded-last) can)
 
   module _ (config_then : config_of new ≡ config_of mid) (collected : image_in new ≡ collect_image (config_of mid) (image_in mid)) where

@@ -16,7 +16,7 @@ use Rattle.image_graph.proofs.Blank.{IsFirst, IsBlank, blank_holds}
 use Rattle.control_steps.specs.declared.spot.ControlSpot.{ControlSpot}
 use Rattle.control_steps.specs.declared.spot.ControlSpot.TheVariants.{LoadWord, StoreWord}
 use Rattle.control_steps.specs.Rows.{Controlling, control_next}
-use Rattle.mark_pauses.specs.Collect.{collect_image, CanCollectSome}
+use Rattle.mark_pauses.specs.Collect.{collect_image, CanPauseSome}
 use Rattle.control.specs.Image.{image_in}
 use Rattle.control.specs.Fit.{fits_with, IsFit}
 
@@ -56,10 +56,10 @@ module _ (c : Config) (image : List ℕ) (long : length image ≡ image_words c)
   more : k.image ++ got ∷ [] ≡ take (count + 1) image
   more = ap (λ some. some ++ got ∷ []) (is.loaded below) ∙ ap (λ n. take count image ++ n ∷ []) next ∙ sym (take_more image count 0 (omega arith))
 
-  pub fit-loaded : CanCollectSome c (image_view c image) → IsFit c k got
+  pub fit-loaded : CanPauseSome c (image_view c image) → IsFit c k got
   fit-loaded can =
       let Fits : ControlSpot → Type 0 = λ s. fits_with c s k.image got in
-      let Can : List ℕ → Type 0 = λ some. CanCollectSome c (image_view c some) in
+      let Can : List ℕ → Type 0 = λ some. CanPauseSome c (image_view c some) in
       subst Fits (sym (is.loading below))
       (λ last.
       let all : count + 1 ≡ length image = last ∙ sym long in
@@ -77,7 +77,7 @@ module _ (c : Config) (image : List ℕ) (long : length image ≡ image_words c)
       })
 
 -- in phase 0 what holds a graph can be collected
-can-idle : (c : Config) (m : Word → ℕ) → m Phase ≡ 0 → m Cset ≡ 0 → HoldsSome c m → CanCollectSome c m
+can-idle : (c : Config) (m : Word → ℕ) → m Phase ≡ 0 → m Cset ≡ 0 → HoldsSome c m → CanPauseSome c m
 can-idle c m phase cset holds = ∥∥₁_map holds (λ some. (
   some.0,
   some.1.0,
@@ -88,11 +88,11 @@ can-idle c m phase cset holds = ∥∥₁_map holds (λ some. (
 
 -- an image without an object can be loaded whole, and collected
 pub can-blank : (words : Image) (c : Config) → config_of words ≡ c → IsBlank (config_of words) (memory_of words) → memory_of words Phase ≡ 0 → memory_of words Cset ≡ 0
-    → CanCollectSome c (image_view c (image_in words))
+    → CanPauseSome c (image_view c (image_in words))
 can-blank words c same blank phase cset =
     let d = config_of words in
     let m = image_view d (image_in words) in
-    let Can : Config → Type 0 = λ e. CanCollectSome e (image_view e (image_in words)) in
+    let Can : Config → Type 0 = λ e. CanPauseSome e (image_view e (image_in words)) in
     subst Can same
     (can-idle d m (image_view-drop d (words_of words) Phase refl ∙ phase) (image_view-drop d (words_of words) Cset refl ∙ cset)
     (blank_holds d m (blank-drop d (words_of words) blank)))

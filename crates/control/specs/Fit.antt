@@ -6,13 +6,13 @@ use Rattle.heap_world.specs.Change.{image_view, image_words}
 use Rattle.control_steps.specs.declared.spot.ControlSpot.{ControlSpot}
 use Rattle.control_steps.specs.declared.spot.ControlSpot.TheVariants.{Scanning, LoadWord}
 use Rattle.control_steps.specs.Rows.{Controlling}
-use Rattle.mark_pauses.specs.Collect.{CanCollectSome}
+use Rattle.mark_pauses.specs.Collect.{CanPauseSome}
 
 -- In a scan those from which the scan can; the last word of the image, where the image that was loaded holds a graph, and in phase
 -- 1 does so while objects are marked; and else each word.
 abbrev pub fits_with : Config → ControlSpot → List ℕ → ℕ → Type 0
 fits_with c (Scanning at) image got = scan.IsFit c at got
-fits_with c (LoadWord index) image got = index + 1 ≡ image_words c → CanCollectSome c (image_view c (image ++ got ∷ []))
+fits_with c (LoadWord index) image got = index + 1 ≡ image_words c → CanPauseSome c (image_view c (image ++ got ∷ []))
 fits_with c _ image got = Unit {0}
 
 abbrev pub IsFit : Config → Controlling → ℕ → Type 0

@@ -6,7 +6,7 @@ ghost use Rattle.heap_words.specs.Words.{Phase, Ask};
 ghost use Rattle.image_graph.specs.State.{config_of, memory_of};
 ghost use Rattle.mark_core.specs.Result.{MarksSome};
 ghost use Rattle.mark_laws.specs.Final.{mark_ended};
-ghost use Rattle.mark_pauses.specs.Collect.{collected, CanCollectSome};
+ghost use Rattle.mark_pauses.specs.Collect.{collected, CanPauseSome};
 
 use full_cycle::full;
 use image_graph::Image;
@@ -48,7 +48,7 @@ fn is_idle(image: &Image) -> bool
 /// Does what a pause does: where a mutator waits for room it collects the whole heap; else it begins marking, or ends it where it
 /// runs.
 pub(crate) fn collect(image: &mut Image)
-    requires { CanCollectSome (config_of image.old) (memory_of image.old) }
+    requires { CanPauseSome (config_of image.old) (memory_of image.old) }
     ensures config { config_of image.new ≡ config_of image.old }
     ensures words { memory_of image.new ≡ collected (config_of image.old) (memory_of image.old) }
 {

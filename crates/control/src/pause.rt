@@ -6,7 +6,7 @@ ghost use Rattle.heap_world.specs.Change.{image_view, image_words};
 ghost use Rattle.image_graph.specs.State.{config_of, memory_of};
 ghost use Rattle.control_steps.specs.declared.spot.ControlSpot.TheVariants.{LoadWord};
 ghost use Rattle.control_steps.specs.Rows.{next_spot, next_image, seen_after, next_seen, next_phase};
-ghost use Rattle.mark_pauses.specs.Collect.{collect_image, CanCollectSome};
+ghost use Rattle.mark_pauses.specs.Collect.{collect_image, CanPauseSome};
 ghost use Rattle.control.specs.Clear.{IsClear};
 ghost use Rattle.control.specs.Fit.{fits_with};
 ghost use Rattle.control.specs.Image.{image_in, image_from, words_seen};
@@ -56,7 +56,7 @@ pub(crate) fn load(image: &mut Image, words: &[u64])
 // Collects the image.
 fn collect_image(image: &mut Image)
     requires clear { IsClear image.old }
-    requires can { CanCollectSome (config_of image.old) (image_view (config_of image.old) (image_in image.old)) }
+    requires can { CanPauseSome (config_of image.old) (image_view (config_of image.old) (image_in image.old)) }
     ensures config { config_of image.new ≡ config_of image.old }
     ensures image { image_in image.new ≡ collect_image (config_of image.old) (image_in image.old) }
     ensures clear { IsClear image.new }

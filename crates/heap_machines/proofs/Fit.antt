@@ -11,7 +11,7 @@ use Rattle.control_steps.specs.declared.spot.ControlSpot.{ControlSpot}
 use Rattle.control_steps.specs.declared.spot.ControlSpot.TheVariants.{Scanning, LoadWord}
 use Rattle.control_steps.specs.Ready.{ScanGoesOn}
 use Rattle.control.specs.Fit.{fits_with}
-use Rattle.mark_pauses.specs.Collect.{CanCollectSome}
+use Rattle.mark_pauses.specs.Collect.{CanPauseSome}
 use Rattle.mark_pauses.proofs.Standing.{representing_can_collect}
 use Rattle.step_core.specs.Actor.{Machine, mutating, helping, controlling}
 use Rattle.step_core.specs.Fit.{IsWhole, IsFitFor}
@@ -39,6 +39,6 @@ fit_is_prop c order got (controlling k) = hlevel (whole_is_prop c k.spot k.image
 pub fit_for_control : (c : Config) (spot : ControlSpot) (image : List ℕ) (got : ℕ) → IsWhole c spot image got → ScanGoesOn c spot got → fits_with c spot image got
 fit_for_control c (Scanning at) image got whole scans = scans
 fit_for_control c (LoadWord index) image got whole scans = λ last.
-    let prop : IsProp (CanCollectSome c (image_view c (image ++ got ∷ []))) = hlevel in
+    let prop : IsProp (CanPauseSome c (image_view c (image ++ got ∷ []))) = hlevel in
     ∥∥₁_elim (whole last) prop (λ h. representing_can_collect c (image_view c (image ++ got ∷ [])) h.0 h.1 h.2)
 fit_for_control c _ image got whole scans = tt

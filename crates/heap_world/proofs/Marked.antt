@@ -6,7 +6,7 @@ use Rattle.heap_words.specs.declared.config.Config.{Config}
 use Rattle.heap_words.specs.Words.{Phase, Grey, Count, Buffer, Heap}
 use Rattle.mark_bits.specs.Marks.{mark_word, mark_bit}
 use Rattle.shen_graph.specs.declared.name.Name.{Name}
-use Rattle.heap_world.specs.World.{Block, thing, hand, promised, filler, Plot, Snapshot, Scan, World, IsMarkable, IsYoung, IsNoted, IsDone, AreMarks, AreEntries, KeepsSnapshot, NotedIn}
+use Rattle.heap_world.specs.World.{Block, thing, hand, promised, filler, Plot, Snapshot, Scan, World, IsMarkable, IsYoung, IsNoted, NeedsNoMarking, AreMarks, AreEntries, KeepsSnapshot, NotedIn}
 use Rattle.heap_world.specs.Rely.{RelyMarks}
 use Rattle.heap_world.proofs.Traced.{traced_stored}
 
@@ -52,7 +52,7 @@ module _ (c : Config) (phase : ℕ) (grey black count : ℕ → ℕ) (buffer : �
     (marked : KeepsSnapshot c phase grey black count buffer top tams heap block s recording scanning) where
   -- a word of the heap changes, which is no field of the snapshot that marking still needs
   pub marked_stored : (after : ℕ → ℕ)
-      → ((a refs nums k : ℕ) (name : Name) → s.block a ≡ Some (thing name refs nums) → k < refs → (after (a + 3 + k) ≡ heap (a + 3 + k)) ⊎ IsDone s (IsNoted c grey count buffer recording) a k)
+      → ((a refs nums k : ℕ) (name : Name) → s.block a ≡ Some (thing name refs nums) → k < refs → (after (a + 3 + k) ≡ heap (a + 3 + k)) ⊎ NeedsNoMarking s (IsNoted c grey count buffer recording) a k)
       → KeepsSnapshot c phase grey black count buffer top tams after block s recording scanning
   marked_stored after stays = record {
     empty = marked.empty;

@@ -10,7 +10,7 @@ use Rattle.steps_base.proofs.Places.{slice_get-set_same, slice_get-set_other}
 use Rattle.shen_graph.specs.declared.name.Name.{Name}
 use Rattle.shen_graph.specs.Graph.{Reference, Object, Graph, same_name}
 use Rattle.shen_graph.proofs.PlainLemmas.{same_name-true, same_name-itself}
-use Rattle.heap_world.specs.World.{World, Block, thing, hand, promised, filler, words_of, Plot, Points, Target, IsPlotted, IsThing, AreObjects, IsMarkable, IsDone, IsCovered, NotedIn, Shared}
+use Rattle.heap_world.specs.World.{World, Block, thing, hand, promised, filler, words_of, Plot, Points, Target, IsPlotted, IsThing, AreObjects, IsMarkable, NeedsNoMarking, IsCovered, NotedIn, Shared}
 use Rattle.heap_world.specs.Rely.{Rely}
 use Rattle.heap_world.proofs.Updates.{updated, updated_same, updated_else}
 use Rattle.heap_world.proofs.Unwritten.{unwritten_stays}
@@ -134,7 +134,7 @@ module _ (c : Config) (u : World) (a refs nums at value : ℕ) (name : Name) (o 
   -- a field of the snapshot stays, or it is the one that is stored, and then it is covered
   field_stays : a ≤ at → at < a + (3 + refs + nums) → ((i : ℕ) → i < refs → at ≡ a + 3 + i → IsCovered c u a i)
       → (b more_refs more_nums k : ℕ) (n : Name) → u.ghost.snapshot.block b ≡ Some (thing n more_refs more_nums) → k < more_refs
-      → (updated (λ b. u.memory (Heap b)) at value (b + 3 + k) ≡ u.memory (Heap (b + 3 + k))) ⊎ IsDone u.ghost.snapshot (NotedIn c u) b k
+      → (updated (λ b. u.memory (Heap b)) at value (b + 3 + k) ≡ u.memory (Heap (b + 3 + k))) ⊎ NeedsNoMarking u.ghost.snapshot (NotedIn c u) b k
   field_stays from_start to_end covered b more_refs more_nums k n is below = ⊎_elim
       (λ (same : at ≡ b + 3 + k).
       let there = shared.marked.kept b more_refs more_nums n is in
@@ -142,7 +142,7 @@ module _ (c : Config) (u : World) (a refs nums at value : ℕ) (name : Name) (o 
       (omega arith) (omega (arith, below)) (omega (arith, same, from_start)) (omega (arith, same, to_end)) in
       let both : Some (thing n more_refs more_nums) ≡ Some (thing name refs nums) = sym there ∙ ap u.block same_piece ∙ target.piece in
       let refs_are : more_refs ≡ refs = cc in
-      inr (subst (λ x. IsDone u.ghost.snapshot (NotedIn c u) x k) (sym same_piece)
+      inr (subst (λ x. NeedsNoMarking u.ghost.snapshot (NotedIn c u) x k) (sym same_piece)
       (covered k (omega (arith, below, refs_are)) (omega (arith, same, same_piece)) more_refs more_nums n (ap u.ghost.snapshot.block (sym same_piece) ∙ is) below)))
       (λ (other : at ≢ b + 3 + k). inl (updated_else (λ b. u.memory (Heap b)) at value (b + 3 + k) other))
       (cases_eq at (b + 3 + k))

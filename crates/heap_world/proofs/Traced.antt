@@ -2,11 +2,11 @@
 use Rattle.std.proofs.Common.{◌≡◌, ℕ, ◌+◌, ◌<◌, ◌⊎◌, inl, inr, ⊎_elim, Option, Some, ◌∙◌}
 use Rattle.heap_words.specs.declared.config.Config.{Config}
 use Rattle.shen_graph.specs.declared.name.Name.{Name}
-use Rattle.heap_world.specs.World.{thing, Snapshot, Scan, IsToScan, IsDone, IsTracedAt, IsTraced}
+use Rattle.heap_world.specs.World.{thing, Snapshot, Scan, IsToScan, NeedsNoMarking, IsTracedAt, AreTraced}
 
 module _ (c : Config) (s : Snapshot) (heap black : ℕ → ℕ) (scanning : ℕ → Option Scan) where
   -- where more is noted
-  pub traced_noted : (P Q : ℕ → Type 0) → ((v : ℕ) → P v → Q v) → IsTraced c s heap black scanning P → IsTraced c s heap black scanning Q
+  pub traced_noted : (P Q : ℕ → Type 0) → ((v : ℕ) → P v → Q v) → AreTraced c s heap black scanning P → AreTraced c s heap black scanning Q
   traced_noted P Q more traced = record {
     edges = λ a refs nums k name is below. edge a k (traced.edges a refs nums k name is below);
     starts = λ a is. more a (traced.starts a is);
@@ -19,22 +19,22 @@ module _ (c : Config) (s : Snapshot) (heap black : ℕ → ℕ) (scanning : ℕ 
 
   -- where words change, but no field of the snapshot that marking still needs
   pub traced_stored : (P : ℕ → Type 0) (after : ℕ → ℕ)
-      → ((a refs nums k : ℕ) (name : Name) → s.block a ≡ Some (thing name refs nums) → k < refs → (after (a + 3 + k) ≡ heap (a + 3 + k)) ⊎ IsDone s P a k)
-      → IsTraced c s heap black scanning P → IsTraced c s after black scanning P
+      → ((a refs nums k : ℕ) (name : Name) → s.block a ≡ Some (thing name refs nums) → k < refs → (after (a + 3 + k) ≡ heap (a + 3 + k)) ⊎ NeedsNoMarking s P a k)
+      → AreTraced c s heap black scanning P → AreTraced c s after black scanning P
   traced_stored P after stays traced = record {
     edges = λ a refs nums k name is below. edge a k (stays a refs nums k name is below) (traced.edges a refs nums k name is below);
     starts = traced.starts;
   }
     where
-      edge : (a k : ℕ) → (after (a + 3 + k) ≡ heap (a + 3 + k)) ⊎ IsDone s P a k → IsTracedAt c s heap black scanning P a k → IsTracedAt c s after black scanning P a k
+      edge : (a k : ℕ) → (after (a + 3 + k) ≡ heap (a + 3 + k)) ⊎ NeedsNoMarking s P a k → IsTracedAt c s heap black scanning P a k → IsTracedAt c s after black scanning P a k
       edge a k (inr is_done) at = IsTracedAt.done is_done
       edge a k (inl same) (IsTracedAt.done is_done) = IsTracedAt.done is_done
       edge a k (inl same) (IsTracedAt.stands stands scan) = IsTracedAt.stands (same ∙ stands) scan
 
   -- where marks and scans change, but each field that had still to be scanned has so now, or marking needs it no more
   pub traced_scanned : (P : ℕ → Type 0) (black_then : ℕ → ℕ) (scanning_then : ℕ → Option Scan)
-      → ((a refs nums k : ℕ) (name : Name) → s.block a ≡ Some (thing name refs nums) → k < refs → IsToScan c black scanning a k → IsToScan c black_then scanning_then a k ⊎ IsDone s P a k)
-      → IsTraced c s heap black scanning P → IsTraced c s heap black_then scanning_then P
+      → ((a refs nums k : ℕ) (name : Name) → s.block a ≡ Some (thing name refs nums) → k < refs → IsToScan c black scanning a k → IsToScan c black_then scanning_then a k ⊎ NeedsNoMarking s P a k)
+      → AreTraced c s heap black scanning P → AreTraced c s heap black_then scanning_then P
   traced_scanned P black_then scanning_then stays traced = record {
     edges = λ a refs nums k name is below. edge a refs nums k name is below (traced.edges a refs nums k name is below);
     starts = traced.starts;

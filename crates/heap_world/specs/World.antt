@@ -242,16 +242,16 @@ abbrev pub was_at : Snapshot → ℕ → ℕ → ℕ
 was_at s a k = s.heap (a + 3 + k)
 
 -- marking needs that field no more: it was null, or its object is noted
-abbrev pub IsDone : Snapshot → (ℕ → Type 0) → ℕ → ℕ → Type 0
-IsDone s Noted a k = (was_at s a k ≡ 0) ⊎ Noted (was_at s a k)
+abbrev pub NeedsNoMarking : Snapshot → (ℕ → Type 0) → ℕ → ℕ → Type 0
+NeedsNoMarking s Noted a k = (was_at s a k ≡ 0) ⊎ Noted (was_at s a k)
 
 -- A reference of the snapshot is not lost: marking needs it no more, or the field still holds it and a scan has still to come to it.
 pub data IsTracedAt (c : Config) (s : Snapshot) (heap black : ℕ → ℕ) (scanning : ℕ → Option Scan) (Noted : ℕ → Type 0) (a k : ℕ) : Type 0 where
-  done : IsDone s Noted a k → IsTracedAt c s heap black scanning Noted a k
+  done : NeedsNoMarking s Noted a k → IsTracedAt c s heap black scanning Noted a k
   stands : heap (a + 3 + k) ≡ was_at s a k → IsToScan c black scanning a k → IsTracedAt c s heap black scanning Noted a k
 
 -- no reference of the snapshot is lost, and what roots and answers named then is noted
-pub record IsTraced (c : Config) (s : Snapshot) (heap black : ℕ → ℕ) (scanning : ℕ → Option Scan) (Noted : ℕ → Type 0) : Type 0 where
+pub record AreTraced (c : Config) (s : Snapshot) (heap black : ℕ → ℕ) (scanning : ℕ → Option Scan) (Noted : ℕ → Type 0) : Type 0 where
   pub edges : (a refs nums k : ℕ) (name : Name) → s.block a ≡ Some (thing name refs nums) → k < refs → IsTracedAt c s heap black scanning Noted a k
   pub starts : (a : ℕ) → s.starts a ≡ true → Noted a
 
@@ -275,7 +275,7 @@ pub record AreEntries (c : Config) (count : ℕ → ℕ) (buffer : ℕ → ℕ �
 -- other phases there is no snapshot.
 pub record KeepsSnapshot (c : Config) (phase : ℕ) (grey black count : ℕ → ℕ) (buffer : ℕ → ℕ → ℕ) (top tams heap : ℕ → ℕ) (block : Plot) (s : Snapshot) (recording : ℕ → Option ℕ) (scanning : ℕ → Option Scan) : Type 0 where
   pub empty : phase ≢ 1 → s ≡ no_snapshot
-  pub traced : IsTraced c s heap black scanning (IsNoted c grey count buffer recording)
+  pub traced : AreTraced c s heap black scanning (IsNoted c grey count buffer recording)
   pub led : (a refs nums : ℕ) (name : Name) → s.block a ≡ Some (thing name refs nums) → IsLed s a
   pub old : (a refs nums : ℕ) (name : Name) → s.block a ≡ Some (thing name refs nums) → IsYoung c s.top a → ⊥
   pub kept : (a refs nums : ℕ) (name : Name) → s.block a ≡ Some (thing name refs nums) → block a ≡ Some (thing name refs nums)
@@ -311,4 +311,4 @@ NotedIn c w v = IsNoted c (λ n. w.memory (Grey n)) (λ t. w.memory (Count t)) (
 
 -- marking needs a field of the snapshot no more, if an object of it has that field
 abbrev pub IsCovered : Config → World → ℕ → ℕ → Type 0
-IsCovered c w a k = (refs nums : ℕ) (name : Name) → w.ghost.snapshot.block a ≡ Some (thing name refs nums) → k < refs → IsDone w.ghost.snapshot (NotedIn c w) a k
+IsCovered c w a k = (refs nums : ℕ) (name : Name) → w.ghost.snapshot.block a ≡ Some (thing name refs nums) → k < refs → NeedsNoMarking w.ghost.snapshot (NotedIn c w) a k

@@ -23,7 +23,7 @@ use Rattle.pause_laws.proofs.Pauses.{paused}
 use Rattle.mark_laws.specs.Init.{init_marked}
 use Rattle.mark_laws.specs.Final.{mark_ended}
 use Rattle.mark_laws.specs.Laws.{HasNoMoreSeats}
-use Rattle.mark_pauses.specs.Collect.{collected, collect_image, CanCollect}
+use Rattle.mark_pauses.specs.Collect.{collected, collect_image, CanPause}
 use Rattle.mark_pauses.specs.Laws.{ImageIsCollected, CollectIsPause}
 use Rattle.mark_pauses.proofs.Images.{of_two, collected_by_name, collected_length}
 use Rattle.mark_pauses.proofs.Outside.{init_outside, end_outside}
@@ -44,7 +44,7 @@ due_outside : (c : Config) (m : Word → ℕ) (b : Bool) (word : Word) → (m Ph
 due_outside c m true word is begins ends = begins refl
 due_outside c m false word is begins ends = ends refl
 
-collected_outside : (c : Config) (image : List ℕ) (g : Graph) (block : Plot) (owner : ℕ → Option ℕ) (p : Promises) → CanCollect c (image_view c image) block owner p g → IsZeroOutside c (collected c (image_view c image))
+collected_outside : (c : Config) (image : List ℕ) (g : Graph) (block : Plot) (owner : ℕ → Option ℕ) (p : Promises) → CanPause c (image_view c image) block owner p g → IsZeroOutside c (collected c (image_view c image))
 collected_outside c image g block owner p can word other =
     let m : Word → ℕ = image_view c image in
     let none : IsZeroOutside c m = λ w out. view_none c (replicate (image_start c) 0 ++ image) w out in

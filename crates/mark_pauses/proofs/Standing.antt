@@ -11,7 +11,7 @@ use Rattle.pause_laws.proofs.Promises.{promises_of}
 use Rattle.pause_laws.proofs.Dead.{plain}
 use Rattle.pause_laws.proofs.Holding.{holds_by}
 use Rattle.mark_laws.proofs.Closed.{closed_holds, closed_through}
-use Rattle.mark_pauses.specs.Collect.{CanCollect}
+use Rattle.mark_pauses.specs.Collect.{CanPause}
 use Rattle.mark_pauses.specs.Laws.{MarkingStands, ReachableAreMarked, RepresentingCanCollect}
 use Rattle.mark_pauses.proofs.Chains.{is_marking}
 
@@ -26,7 +26,7 @@ reachable_are_marked c m g asking r on =
     let marking = is_marking c m g asking r on in
     (block, r.ghost.owner, p, closed_holds c m block r.ghost.owner p g holds marking, closed_through c m block r.ghost.owner p g holds marking)
 
-pub can_collect : (c : Config) (m : Word → ℕ) (g : Graph) (asking : ℕ → Asking) (r : Represents c m g asking) → CanCollect c m (plain c m g asking r) r.ghost.owner (promises_of c g asking) g
+pub can_collect : (c : Config) (m : Word → ℕ) (g : Graph) (asking : ℕ → Asking) (r : Represents c m g asking) → CanPause c m (plain c m g asking r) r.ghost.owner (promises_of c g asking) g
 can_collect c m g asking r = record {
   holds = holds_by c m g asking r;
   phase_is = r.shared.calm.phase_is;

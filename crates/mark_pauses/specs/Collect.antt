@@ -25,12 +25,12 @@ abbrev pub collect_image : Change
 collect_image c image = map (λ k. collected c (image_view c image) (name_of c (image_start c + k))) (range_with_len 0 (image_words c))
 
 -- What a pause needs of the words: they hold a graph, nothing but marking runs, and while it does, what holds then.
-pub record CanCollect (c : Config) (memory : Word → ℕ) (block : Plot) (owner : ℕ → Option ℕ) (p : Promises) (g : Graph) : Type 0 where
+pub record CanPause (c : Config) (memory : Word → ℕ) (block : Plot) (owner : ℕ → Option ℕ) (p : Promises) (g : Graph) : Type 0 where
   pub holds : HoldsBy c memory block owner p g
   pub phase_is : memory Phase ≤ 1
   pub uncollected : memory Cset ≡ 0
   pub marking : memory Phase ≡ 1 → IsMarking c memory block
 
 -- so it is in some way
-abbrev pub CanCollectSome : Config → (Word → ℕ) → Type 0
-CanCollectSome c memory = ∥ ((g : Graph) × (block : Plot) × (owner : ℕ → Option ℕ) × (p : Promises) × CanCollect c memory block owner p g) ∥₁
+abbrev pub CanPauseSome : Config → (Word → ℕ) → Type 0
+CanPauseSome c memory = ∥ ((g : Graph) × (block : Plot) × (owner : ℕ → Option ℕ) × (p : Promises) × CanPause c memory block owner p g) ∥₁

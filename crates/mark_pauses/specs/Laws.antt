@@ -11,7 +11,7 @@ use Rattle.image_laws.specs.Promised.{Promises}
 use Rattle.image_graph.specs.Holds.{HoldsBy}
 use Rattle.mark_laws.specs.Close.{closed}
 use Rattle.mark_laws.specs.Facts.{IsMarking, IsMarkedThrough}
-use Rattle.mark_pauses.specs.Collect.{collected, collect_image, CanCollectSome}
+use Rattle.mark_pauses.specs.Collect.{collected, collect_image, CanPauseSome}
 
 -- Words that represent a graph while objects are marked hold it, and marking comes to each object that can be reached.
 abbrev pub MarkingStands : Type 0
@@ -25,16 +25,16 @@ ReachableAreMarked = (c : Config) (memory : Word → ℕ) (g : Graph) (asking : 
 
 -- Words that represent a graph are such that a pause can collect.
 abbrev pub RepresentingCanCollect : Type 0
-RepresentingCanCollect = (c : Config) (memory : Word → ℕ) (g : Graph) (asking : ℕ → Asking) → Represents c memory g asking → CanCollectSome c memory
+RepresentingCanCollect = (c : Config) (memory : Word → ℕ) (g : Graph) (asking : ℕ → Asking) → Represents c memory g asking → CanPauseSome c memory
 
 -- By their names the words of an image after a pause are those that the pause makes of its words.
 abbrev pub ImageIsCollected : Type 0
-ImageIsCollected = (c : Config) (image : List ℕ) → length image ≡ image_words c → CanCollectSome c (image_view c image)
+ImageIsCollected = (c : Config) (image : List ℕ) → length image ≡ image_words c → CanPauseSome c (image_view c image)
     → image_view c (collect_image c image) ≡ collected c (image_view c image)
 
 -- So a table that reads as a pause makes of an image is that image after it, behind words that are 0.
 abbrev pub TableIsCollected : Type 0
-TableIsCollected = (c : Config) (image table : List ℕ) → length image ≡ image_words c → length table ≡ table_words c → CanCollectSome c (image_view c image)
+TableIsCollected = (c : Config) (image table : List ℕ) → length image ≡ image_words c → length table ≡ table_words c → CanPauseSome c (image_view c image)
     → view c table ≡ collected c (image_view c image) → table ≡ replicate (image_start c) 0 ++ collect_image c image
 
 -- Beginning and ending marking, and collecting in full where a mutator waits, is what a pause owes: it keeps the graph, answers each

@@ -9,7 +9,7 @@ use Rattle.heap_words.proofs.Stores.{same_word_true}
 use Rattle.steps_base.specs.Touch.{Touch, touch, loads, touched}
 use Rattle.mark_bits.specs.Marks.{HasMark}
 use Rattle.shen_graph.specs.declared.name.Name.{Name}
-use Rattle.heap_world.specs.World.{World, Scan, thing, with_recording, with_scanning, IsNoted, IsToScan, IsDone, AreMarks, AreEntries, KeepsSnapshot, NotedIn, Shared}
+use Rattle.heap_world.specs.World.{World, Scan, thing, with_recording, with_scanning, IsNoted, IsToScan, NeedsNoMarking, AreMarks, AreEntries, KeepsSnapshot, NotedIn, Shared}
 use Rattle.heap_world.specs.Rely.{KeepsMarks, Keeps, Rely}
 use Rattle.heap_world.specs.Part.{PartStep}
 use Rattle.heap_world.proofs.Keeping.{load_keeps}
@@ -65,7 +65,7 @@ module _ (c : Config) (u : World) (seat : ℕ) (marking : Word → ℕ) (recordi
     pub noted : (v : ℕ) → NotedIn c u v → IsNoted c (λ n. marking (Grey n)) (λ t. marking (Count t)) (λ t k. marking (Buffer t k)) recording v
     pub scanned : (a refs nums k : ℕ) (name : Name) → u.ghost.snapshot.block a ≡ Some (thing name refs nums) → k < refs
         → IsToScan c (λ n. u.memory (Black n)) u.ghost.scanning a k
-        → IsToScan c (λ n. marking (Black n)) scanning a k ⊎ IsDone u.ghost.snapshot (IsNoted c (λ n. marking (Grey n)) (λ t. marking (Count t)) (λ t k. marking (Buffer t k)) recording) a k
+        → IsToScan c (λ n. marking (Black n)) scanning a k ⊎ NeedsNoMarking u.ghost.snapshot (IsNoted c (λ n. marking (Grey n)) (λ t. marking (Count t)) (λ t k. marking (Buffer t k)) recording) a k
     pub grey_marks : AreMarks c (λ n. marking (Grey n)) u.block
     pub black_marks : AreMarks c (λ n. marking (Black n)) u.block
     pub entries : AreEntries c (λ t. marking (Count t)) (λ t k. marking (Buffer t k)) u.block

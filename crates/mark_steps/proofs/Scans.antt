@@ -15,7 +15,7 @@ use Rattle.mark_bits.specs.Marks.{mark_word, mark_bit, mark_at, address_at, lowe
 use Rattle.mark_bits.proofs.Marking.{mark_set, mark_stays, word_inside}
 use Rattle.shen_graph.specs.declared.name.Name.{Name}
 use Rattle.shen_graph.specs.Graph.{Reference}
-use Rattle.heap_world.specs.World.{World, Scan, thing, Points, was_at, IsMarkable, IsNoted, IsToScan, IsDone, IsTracedAt, AreMarks, AreEntries, NotedIn, Shared}
+use Rattle.heap_world.specs.World.{World, Scan, thing, Points, was_at, IsMarkable, IsNoted, IsToScan, NeedsNoMarking, IsTracedAt, AreMarks, AreEntries, NotedIn, Shared}
 use Rattle.heap_world.specs.Rely.{Rely}
 use Rattle.heap_world.proofs.Pointing.{named_thing}
 use Rattle.heap_world.proofs.Updates.{updated, updated_there, updated_else}
@@ -106,7 +106,7 @@ module _ (c : Config) (u : World) (seat : ℕ) where
   abbrev IsScannedOn : ScanSpot → ScanSpot → Type 0
   IsScannedOn at next = (a refs nums k : ℕ) (name : Name) → u.ghost.snapshot.block a ≡ Some (thing name refs nums) → k < refs
       → IsToScan c (λ n. u.memory (Black n)) u.ghost.scanning a k
-      → IsToScan c (λ n. words_then at (Black n)) (scans_then next) a k ⊎ IsDone u.ghost.snapshot (NotedThen at) a k
+      → IsToScan c (λ n. words_then at (Black n)) (scans_then next) a k ⊎ NeedsNoMarking u.ghost.snapshot (NotedThen at) a k
 
   -- a step that leads to another spot
   leads_to : (at next : ScanSpot) → next_at c at (found_at at) ≡ next → is_ready c next ≡ true → ScanFacts c (world_then at next) next → IsScannedOn at next
@@ -138,8 +138,8 @@ module _ (c : Config) (u : World) (seat : ℕ) where
   -- a step outside a scan that leaves the black bits
   looks : (at next : ScanSpot) → ((n : ℕ) → u.memory (Black n) ≡ words_then at (Black n)) → u.ghost.scanning seat ≡ None → IsScannedOn at next
   looks at next same idle a refs nums k name is below scan =
-      subst (λ black. IsToScan c black (scans_then next) a k ⊎ IsDone u.ghost.snapshot (NotedThen at) a k) (fun_ext same)
-      (scan_of_others c seat u.ghost.scanning (scanning_of next) (λ n. u.memory (Black n)) a k (IsDone u.ghost.snapshot (NotedThen at) a k) idle scan)
+      subst (λ black. IsToScan c black (scans_then next) a k ⊎ NeedsNoMarking u.ghost.snapshot (NotedThen at) a k) (fun_ext same)
+      (scan_of_others c seat u.ghost.scanning (scanning_of next) (λ n. u.memory (Black n)) a k (NeedsNoMarking u.ghost.snapshot (NotedThen at) a k) idle scan)
 
   -- the load of what is claimed
   at_load_claim : Shared c u → CanScan c u seat LoadClaim → ScanStep c u seat LoadClaim
@@ -245,14 +245,14 @@ module _ (c : Config) (u : World) (seat : ℕ) where
   -- what the machine's own scan leaves behind is done
   passes : (at next : ScanSpot) (address from field refs : ℕ) → ((n : ℕ) → u.memory (Black n) ≡ words_then at (Black n)) → Shared c u → CanScan c u seat at → scanning_of at ≡ Some (scan_at address from)
       → refs_in (u.memory (Heap (address + 1))) ≡ refs → GoesTo address field refs next
-      → ((name : Name) (more nums k : ℕ) → u.ghost.snapshot.block address ≡ Some (thing name more nums) → k < more → from ≤ k → k < field → IsDone u.ghost.snapshot (NotedThen at) address k) → IsScannedOn at next
+      → ((name : Name) (more nums k : ℕ) → u.ghost.snapshot.block address ≡ Some (thing name more nums) → k < more → from ≤ k → k < field → NeedsNoMarking u.ghost.snapshot (NotedThen at) address k) → IsScannedOn at next
   passes at next address from field refs same shared can scans is goes passed a more nums k name old below scan =
-      subst (λ black. IsToScan c black (scans_then next) a k ⊎ IsDone u.ghost.snapshot (NotedThen at) a k) (fun_ext same)
-      (scan_passes c seat u.ghost.scanning (scanning_of next) (λ n. u.memory (Black n)) a k (IsDone u.ghost.snapshot (NotedThen at) a k) address from field refs can.seated (can.scanning ∙ scans) goes
+      subst (λ black. IsToScan c black (scans_then next) a k ⊎ NeedsNoMarking u.ghost.snapshot (NotedThen at) a k) (fun_ext same)
+      (scan_passes c seat u.ghost.scanning (scanning_of next) (λ n. u.memory (Black n)) a k (NeedsNoMarking u.ghost.snapshot (NotedThen at) a k) address from field refs can.seated (can.scanning ∙ scans) goes
       (λ here. (let all : refs_in (u.memory (Heap (a + 1))) ≡ more = snapshot_refs a more nums name shared old in
       let there : refs_in (u.memory (Heap (a + 1))) ≡ refs = ap (λ x. refs_in (u.memory (Heap (x + 1)))) here ∙ is in
       omega (arith, below, all, there)))
-      (λ here start end. subst (λ x. IsDone u.ghost.snapshot (NotedThen at) x k) (sym here) (passed name more nums k (ap u.ghost.snapshot.block (sym here) ∙ old) below start end))
+      (λ here start end. subst (λ x. NeedsNoMarking u.ghost.snapshot (NotedThen at) x k) (sym here) (passed name more nums k (ap u.ghost.snapshot.block (sym here) ∙ old) below start end))
       scan)
 
   -- the load of an object's shape
@@ -268,7 +268,7 @@ module _ (c : Config) (u : World) (seat : ℕ) where
   field_then address field shared name refs nums is below = by_edge (shared.marked.traced.edges address refs nums field name is below)
     where
       by_edge : IsTracedAt c u.ghost.snapshot (λ a. u.memory (Heap a)) (λ n. u.memory (Black n)) u.ghost.scanning (NotedIn c u) address field
-          → IsDone u.ghost.snapshot (NotedIn c u) address field ⊎ (was_at u.ghost.snapshot address field ≡ u.memory (Heap (address + 3 + field)))
+          → NeedsNoMarking u.ghost.snapshot (NotedIn c u) address field ⊎ (was_at u.ghost.snapshot address field ≡ u.memory (Heap (address + 3 + field)))
       by_edge (IsTracedAt.done is_done) = inl is_done
       by_edge (IsTracedAt.stands same scan) = inr (sym same)
 
@@ -302,7 +302,7 @@ module _ (c : Config) (u : World) (seat : ℕ) where
       (λ next goes. passes (LoadField address field refs) next address field (field + 1) refs (λ n. refl) shared can refl facts.refs_are goes
       (λ name more nums k old below start end.
       let here : field ≡ k = omega (arith, start, end) in
-      subst (λ i. IsDone u.ghost.snapshot (NotedIn c u) address i) here
+      subst (λ i. NeedsNoMarking u.ghost.snapshot (NotedIn c u) address i) here
       (null_done null (field_then address field shared name more nums old (subst (λ i. i < more) (sym here) below)))))
       shared can)
       (λ (some : got ≢ 0).
@@ -315,8 +315,8 @@ module _ (c : Config) (u : World) (seat : ℕ) where
       shared can)
       (cases_eq got 0)
     where
-      null_done : u.memory (Heap (address + 3 + field)) ≡ 0 → IsDone u.ghost.snapshot (NotedIn c u) address field ⊎ (was_at u.ghost.snapshot address field ≡ u.memory (Heap (address + 3 + field)))
-          → IsDone u.ghost.snapshot (NotedIn c u) address field
+      null_done : u.memory (Heap (address + 3 + field)) ≡ 0 → NeedsNoMarking u.ghost.snapshot (NotedIn c u) address field ⊎ (was_at u.ghost.snapshot address field ≡ u.memory (Heap (address + 3 + field)))
+          → NeedsNoMarking u.ghost.snapshot (NotedIn c u) address field
       null_done null (inl is_done) = is_done
       null_done null (inr same) = inl (same ∙ null)
 
@@ -328,12 +328,12 @@ module _ (c : Config) (u : World) (seat : ℕ) where
       (λ next goes. passes (SetGrey address field refs found) next address field (field + 1) refs (λ n. refl) shared can refl facts.refs_are goes
       (λ name more nums k old below start end.
       let here : field ≡ k = omega (arith, start, end) in
-      subst (λ i. IsDone u.ghost.snapshot (NotedThen (SetGrey address field refs found)) address i) here
+      subst (λ i. NeedsNoMarking u.ghost.snapshot (NotedThen (SetGrey address field refs found)) address i) here
       (grey_done (can.facts.2 name more nums old (subst (λ i. i < more) (sym here) below)))))
       shared can
     where
-      grey_done : IsDone u.ghost.snapshot (NotedIn c u) address field ⊎ (was_at u.ghost.snapshot address field ≡ found)
-          → IsDone u.ghost.snapshot (NotedThen (SetGrey address field refs found)) address field
+      grey_done : NeedsNoMarking u.ghost.snapshot (NotedIn c u) address field ⊎ (was_at u.ghost.snapshot address field ≡ found)
+          → NeedsNoMarking u.ghost.snapshot (NotedThen (SetGrey address field refs found)) address field
       grey_done (inl (inl null)) = inl null
       grey_done (inl (inr noted)) = inr (noted_then (SetGrey address field refs found) _ noted)
       grey_done (inr same) = inr (subst (NotedThen (SetGrey address field refs found)) (sym same) (IsNoted.by_mark (mark_set c (λ n. u.memory (Grey n)) found)))
@@ -362,10 +362,10 @@ module _ (c : Config) (u w : World) (seat : ℕ) (rely : Rely c seat u w) where
   found_stays : (address field found : ℕ) → IsDoneOrFound c u address field found → IsDoneOrFound c w address field found
   found_stays address field found facts name refs nums is below =
       let snapshot = rely.marks.keeps.snapshot in
-      subst (λ s. IsDone s (NotedIn c w) address field ⊎ (was_at s address field ≡ found)) (sym snapshot)
+      subst (λ s. NeedsNoMarking s (NotedIn c w) address field ⊎ (was_at s address field ≡ found)) (sym snapshot)
       (noted_now (facts name refs nums (ap (λ s. s.block address) (sym snapshot) ∙ is) below))
     where
-      noted_now : IsDone u.ghost.snapshot (NotedIn c u) address field ⊎ (was_at u.ghost.snapshot address field ≡ found) → IsDone u.ghost.snapshot (NotedIn c w) address field ⊎ (was_at u.ghost.snapshot address field ≡ found)
+      noted_now : NeedsNoMarking u.ghost.snapshot (NotedIn c u) address field ⊎ (was_at u.ghost.snapshot address field ≡ found) → NeedsNoMarking u.ghost.snapshot (NotedIn c w) address field ⊎ (was_at u.ghost.snapshot address field ≡ found)
       noted_now (inl (inl null)) = inl (inl null)
       noted_now (inl (inr noted)) = inl (inr (rely.marks.keeps.noted _ noted))
       noted_now (inr same) = inr same

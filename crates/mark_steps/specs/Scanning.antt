@@ -7,7 +7,7 @@ use Rattle.heap_words.specs.Ranges.{seat_count}
 use Rattle.heap_words.specs.Words.{Phase, Heap}
 use Rattle.mark_bits.specs.Marks.{address_at}
 use Rattle.shen_graph.specs.declared.name.Name.{Name}
-use Rattle.heap_world.specs.World.{World, Scan, Plot, thing, hand, IsMarkable, NotedIn, was_at, IsDone}
+use Rattle.heap_world.specs.World.{World, Scan, Plot, thing, hand, IsMarkable, NotedIn, was_at, NeedsNoMarking}
 use Rattle.scan_steps.specs.declared.spot.ScanSpot.{ScanSpot}
 use Rattle.scan_steps.specs.declared.spot.ScanSpot.TheVariants.{LoadBlack, SetBlack, LoadShape, LoadField, SetGrey}
 use Rattle.scan_steps.specs.Rows.{is_ready}
@@ -37,7 +37,7 @@ pub record IsAtField (w : World) (address field refs : ℕ) : Type 0 where
 -- If an object of the snapshot is there, its field is done, or had then what was found.
 abbrev pub IsDoneOrFound : Config → World → ℕ → ℕ → ℕ → Type 0
 IsDoneOrFound c w address field found = (name : Name) (refs nums : ℕ) → w.ghost.snapshot.block address ≡ Some (thing name refs nums) → field < refs
-    → IsDone w.ghost.snapshot (NotedIn c w) address field ⊎ (was_at w.ghost.snapshot address field ≡ found)
+    → NeedsNoMarking w.ghost.snapshot (NotedIn c w) address field ⊎ (was_at w.ghost.snapshot address field ≡ found)
 
 -- what holds of the words and of the snapshot, by where the machine stands
 abbrev pub ScanFacts : Config → World → ScanSpot → Type 0

@@ -6,7 +6,7 @@ use Rattle.std.proofs.lemmas.Nat.Bits.{bit_at_set_same, bit_at_set_other}
 use Rattle.heap_words.specs.declared.config.Config.{Config}
 use Rattle.heap_words.specs.Words.{Word, Phase, Count, Buffer, Grey, Black, Heap}
 use Rattle.shen_graph.specs.Graph.{Graph}
-use Rattle.heap_world.specs.World.{World, thing, Snapshot, NotedIn, was_at, IsDone, IsTracedAt, IsCovered, Shared}
+use Rattle.heap_world.specs.World.{World, thing, Snapshot, NotedIn, was_at, NeedsNoMarking, IsTracedAt, IsCovered, Shared}
 use Rattle.heap_world.specs.Rely.{KeepsMarks, RelyMarks, Rely}
 use Rattle.heap_world.proofs.Marked.{rely_marks}
 use Rattle.step_core.specs.Stepped.{HasMarkingBy}
@@ -30,9 +30,9 @@ marking_relied c u w seat in_hand loaded knows marks marking = record {
 }
 
 -- a field that marking needs no more stays one
-done_stays : (c : Config) (u w : World) (a k : ℕ) → KeepsMarks c u w → IsDone u.ghost.snapshot (NotedIn c u) a k → IsDone w.ghost.snapshot (NotedIn c w) a k
+done_stays : (c : Config) (u w : World) (a k : ℕ) → KeepsMarks c u w → NeedsNoMarking u.ghost.snapshot (NotedIn c u) a k → NeedsNoMarking w.ghost.snapshot (NotedIn c w) a k
 done_stays c u w a k marks is =
-    subst (λ s. IsDone s (NotedIn c w) a k) (sym marks.snapshot) (⊎_elim (λ null. inl null) (λ noted. inr (marks.noted (was_at u.ghost.snapshot a k) noted)) is)
+    subst (λ s. NeedsNoMarking s (NotedIn c w) a k) (sym marks.snapshot) (⊎_elim (λ null. inl null) (λ noted. inr (marks.noted (was_at u.ghost.snapshot a k) noted)) is)
 
 -- so does what a Set counts on
 pub covered_stays : (c : Config) (u w : World) (a k : ℕ) → KeepsMarks c u w → IsCovered c u a k → IsCovered c w a k
@@ -51,10 +51,10 @@ covered_found c u w a k shared marks found refs nums name is below =
     let was : u.ghost.snapshot.block a ≡ Some (thing name refs nums) = ap (λ (s : Snapshot). s.block a) (sym marks.snapshot) ∙ is in
     by_edge (shared.marked.traced.edges a refs nums k name was below)
   where
-    by_edge : IsTracedAt c u.ghost.snapshot (λ b. u.memory (Heap b)) (λ n. u.memory (Black n)) u.ghost.scanning (NotedIn c u) a k → IsDone w.ghost.snapshot (NotedIn c w) a k
+    by_edge : IsTracedAt c u.ghost.snapshot (λ b. u.memory (Heap b)) (λ n. u.memory (Black n)) u.ghost.scanning (NotedIn c u) a k → NeedsNoMarking w.ghost.snapshot (NotedIn c w) a k
     by_edge (IsTracedAt.done is_done) = done_stays c u w a k marks is_done
     by_edge (IsTracedAt.stands same scan) =
-        subst (λ s. IsDone s (NotedIn c w) a k) (sym marks.snapshot)
+        subst (λ s. NeedsNoMarking s (NotedIn c w) a k) (sym marks.snapshot)
         (⊎_elim (λ null. inl (sym same ∙ null)) (λ noted. inr (subst (NotedIn c w) same noted)) found)
 
 -- the bit that a mutator waits stays where a cycle is asked for, and is there where a mutator has asked for room
