@@ -10,4 +10,6 @@ pub use plain::Plain;
 pub use run::Ran;
 
 #[cfg(test)]
+mod mark_tests;
+#[cfg(test)]
 mod tests;

@@ -131,7 +131,11 @@ fn cycles_leave_the_hub(rt: HostRuntime) -> Result<(), Fail> {
 }
 
 // A heap of two mutators, and work in which they do this.
-fn pair(alloc: Global, first: &[Command], second: &[Command]) -> Result<(Plain, Work), Fail>
+pub(crate) fn pair(
+    alloc: Global,
+    first: &[Command],
+    second: &[Command],
+) -> Result<(Plain, Work), Fail>
     requires first { length first.now ≤ 100 }
     requires second { length second.now ≤ 100 }
     ensures run { IfOk result (λ made. CanRun made.0 made.1) }
@@ -147,7 +151,7 @@ fn pair(alloc: Global, first: &[Command], second: &[Command]) -> Result<(Plain, 
     Ok((plain, work))
 }
 
-const DROP: Command = Command::Drop { dst: 1 };
+pub(crate) const DROP: Command = Command::Drop { dst: 1 };
 
 // Each command takes six steps, and the end of a mutator one: twenty in all. In each round the control makes one step too, and
 // looks in every third whether a mutator is left, so it sees in the thirteenth that there is none, and ends in the next.
@@ -163,13 +167,13 @@ fn cut_at_each_step(rt: HostRuntime) -> Result<(), Fail> {
     Ok(())
 }
 
-const MAKE: Command = Command::New {
+pub(crate) const MAKE: Command = Command::New {
     dst: 1,
     refs: 0,
     nums: 0,
 };
 
-const STORE: Command = Command::Set {
+pub(crate) const STORE: Command = Command::Set {
     obj: 0,
     field: 0,
     val: 1,
@@ -399,7 +403,11 @@ fn goes_on_from_an_image(rt: HostRuntime) -> Result<(), Fail> {
 }
 
 // A heap of one mutator, and work in which it does this.
-fn single(alloc: Global, config: Config, commands: &[Command]) -> Result<(Plain, Work), Fail>
+pub(crate) fn single(
+    alloc: Global,
+    config: Config,
+    commands: &[Command],
+) -> Result<(Plain, Work), Fail>
     requires mutators { config.mutators ≡ 1 }
     requires commands { length commands.now ≤ 100 }
     ensures run { IfOk result (λ made. CanRun made.0 made.1) }
