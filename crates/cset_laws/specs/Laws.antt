@@ -1,0 +1,27 @@
+-- That the choice is exactly the longest front of the candidates that fits, and that what it has can be copied.
+use Rattle.std.specs.Prelude.{ℕ, ◌≡◌, ◌<◌, ◌↔◌, true, List, length}
+use Rattle.heap_words.specs.declared.config.Config.{Config}
+use Rattle.heap_words.specs.Words.{Word, Free, Top}
+use Rattle.regions.specs.Sets.{IsIn}
+use Rattle.cset_laws.specs.Live.{is_candidate, IsCandidate}
+use Rattle.cset_laws.specs.Choice.{IsChoice, chosen}
+use Rattle.cset_laws.specs.Copying.{AreToCopy, FindsRoom}
+
+-- The test of a candidate says what it is to be one.
+abbrev pub CandidateIsCandidate : Type 0
+CandidateIsCandidate = (c : Config) (memory : Word → ℕ) (r : ℕ) → (is_candidate c memory r ≡ true) ↔ IsCandidate c memory r
+
+-- What is chosen is the choice, and there is no other.
+pub record ChosenIsTheChoice : Type 0 where
+  pub is : (c : Config) (memory : Word → ℕ) → IsChoice c memory (chosen c memory)
+  pub only : (c : Config) (memory : Word → ℕ) (set : ℕ) → IsChoice c memory set → set ≡ chosen c memory
+
+-- no word of a free region is in use
+abbrev pub FreeAreEmpty : Config → (Word → ℕ) → Type 0
+FreeAreEmpty c memory = (r : ℕ) → r < c.regions → IsIn (memory Free) r → memory (Top r) ≡ 0
+
+-- Whichever marked objects of the chosen regions are copied, and in whatever order: each finds room at its turn. Else each
+-- region that was free would hold more than may be copied to it.
+abbrev pub RoomIsFound : Type 0
+RoomIsFound = (c : Config) (memory : Word → ℕ) (objects : List ℕ) → FreeAreEmpty c memory → AreToCopy c memory (chosen c memory) objects
+    → (turn : ℕ) → turn < length objects → FindsRoom c memory (chosen c memory) objects turn

@@ -1,0 +1,5 @@
+pub mod Live
+pub mod Front
+pub mod Choice
+pub mod Copying
+pub mod Laws

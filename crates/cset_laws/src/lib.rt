@@ -1,0 +1,23 @@
+//! Which regions are evacuated, in words and numbers: how much of a region lives, which regions are candidates, which of
+//! these are chosen, and that there is room for all that lives in them. Laws, as theorems and no code.
+#![tactic(auto)]
+
+ghost use Rattle.cset_laws.specs.Laws.{CandidateIsCandidate, ChosenIsTheChoice, RoomIsFound};
+
+/// A law: the test of candidates tells a region that is in use, nobody's current one, without an object that is new, and
+/// with garbage of a quarter of its words; and it tells each such region.
+pub fn candidate_is_candidate()
+    ensures { CandidateIsCandidate }
+{}
+
+/// A law: what is chosen has only candidates of the heap, with each one all that come before it, by live words and then by
+/// number; its live words fit into the free regions; no other such set has a region besides, and it is the only such one.
+pub fn chosen_is_the_choice()
+    ensures { ChosenIsTheChoice }
+{}
+
+/// A law: whichever marked objects of the chosen regions are copied, each once and in whatever order, to the lowest region
+/// outside the chosen ones that has room: each finds room.
+pub fn room_is_found()
+    ensures { RoomIsFound }
+{}
