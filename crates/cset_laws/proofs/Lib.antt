@@ -1,0 +1,6 @@
+pub mod Sums
+pub mod Candidate
+pub mod Order
+pub mod Front
+pub mod Room
+pub mod Copied
