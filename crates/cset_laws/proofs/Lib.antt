@@ -2,5 +2,6 @@ pub mod Sums
 pub mod Candidate
 pub mod Order
 pub mod Front
+pub mod Taken
 pub mod Room
 pub mod Copied

@@ -1,8 +1,8 @@
 -- Candidates in the order of what lives in them, and the longest front of these that fits: what is evacuated first is what
 -- costs least to copy. `live` says how much lives in a region.
-use Rattle.std.specs.Prelude.{ℕ, ◌≡◌, ◌+◌, ◌^◌, ◌<◌, ◌≤◌, ◌⊎◌, ◌==◌, ◌&&◌, ◌||◌, nat_lt, nat_le, not, if◌then◌else◌, Bool, true}
+use Rattle.std.specs.Prelude.{ℕ, ◌≡◌, ◌≢◌, ◌+◌, ◌^◌, ◌<◌, ◌≤◌, ◌⊎◌, ◌==◌, ◌&&◌, ◌||◌, nat_lt, nat_le, not, if◌then◌else◌, Bool, true}
 use Rattle.std.specs.Int.{bit_at}
-use Rattle.regions.specs.Sets.{IsIn}
+use Rattle.regions.specs.Sets.{IsIn, IsOutside}
 use Rattle.packing.specs.Tops.{sum_below}
 use Rattle.mark_laws.specs.Marks.{bits_of}
 
@@ -42,3 +42,25 @@ is_in_front regions limit live candidate r = candidate r && nat_le (live_up_to r
 -- the longest front
 abbrev pub longest_front : (regions limit : ℕ) (live : ℕ → ℕ) (candidate : ℕ → Bool) → ℕ
 longest_front regions limit live candidate = bits_of (is_in_front regions limit live candidate) 0 regions
+
+-- A region is the next one of the candidates outside a set: none of these comes before it.
+pub record IsNext (regions : ℕ) (live : ℕ → ℕ) (candidate : ℕ → Bool) (set r : ℕ) : Type 0 where
+  pub below : r < regions
+  pub is : candidate r ≡ true
+  pub outside : IsOutside set r
+  pub none_before : (q : ℕ) → q < regions → candidate q ≡ true → IsOutside set q → ComesBefore live q r → ⊥
+
+-- a set has one region more than another
+pub record HasOneMore (set r more : ℕ) : Type 0 where
+  pub member : IsIn more r
+  pub others : (q : ℕ) → q ≢ r → bit_at more q ≡ bit_at set q
+
+-- The longest front is taken candidate by candidate, in their order, while what lives in them fits.
+pub record FrontsAreTaken (regions limit : ℕ) (live : ℕ → ℕ) (candidate : ℕ → Bool) : Type 0 where
+  pub begins : IsFront regions limit live candidate 0
+  pub goes_on : (set r more : ℕ) → IsFront regions limit live candidate set → IsNext regions live candidate set r → HasOneMore set r more
+      → live_in regions live set + live r ≤ limit → IsFront regions limit live candidate more
+  pub is_full : (set r : ℕ) → IsFront regions limit live candidate set → IsNext regions live candidate set r
+      → limit < live_in regions live set + live r → IsLongestFront regions limit live candidate set
+  pub has_all : (set : ℕ) → IsFront regions limit live candidate set → ((r : ℕ) → r < regions → candidate r ≡ true → IsIn set r)
+      → IsLongestFront regions limit live candidate set

@@ -1,9 +1,10 @@
 -- That the choice is exactly the longest front of the candidates that fits, and that what it has can be copied.
-use Rattle.std.specs.Prelude.{ℕ, ◌≡◌, ◌<◌, ◌↔◌, true, List, length}
+use Rattle.std.specs.Prelude.{ℕ, ◌≡◌, ◌<◌, ◌↔◌, true, Bool, List, length}
 use Rattle.heap_words.specs.declared.config.Config.{Config}
 use Rattle.heap_words.specs.Words.{Word, Free, Top}
 use Rattle.regions.specs.Sets.{IsIn}
 use Rattle.cset_laws.specs.Live.{is_candidate, IsCandidate}
+use Rattle.cset_laws.specs.Front.{FrontsAreTaken}
 use Rattle.cset_laws.specs.Choice.{IsChoice, chosen}
 use Rattle.cset_laws.specs.Copying.{AreToCopy, FindsRoom}
 
@@ -15,6 +16,10 @@ CandidateIsCandidate = (c : Config) (memory : Word → ℕ) (r : ℕ) → (is_ca
 pub record ChosenIsTheChoice : Type 0 where
   pub is : (c : Config) (memory : Word → ℕ) → IsChoice c memory (chosen c memory)
   pub only : (c : Config) (memory : Word → ℕ) (set : ℕ) → IsChoice c memory set → set ≡ chosen c memory
+
+-- It is what is taken candidate by candidate while it fits.
+abbrev pub ChoiceIsTaken : Type 0
+ChoiceIsTaken = (regions limit : ℕ) (live : ℕ → ℕ) (candidate : ℕ → Bool) → FrontsAreTaken regions limit live candidate
 
 -- no word of a free region is in use
 abbrev pub FreeAreEmpty : Config → (Word → ℕ) → Type 0

@@ -2,7 +2,7 @@
 //! these are chosen, and that there is room for all that lives in them. Laws, as theorems and no code.
 #![tactic(auto)]
 
-ghost use Rattle.cset_laws.specs.Laws.{CandidateIsCandidate, ChosenIsTheChoice, RoomIsFound};
+ghost use Rattle.cset_laws.specs.Laws.{CandidateIsCandidate, ChosenIsTheChoice, ChoiceIsTaken, RoomIsFound};
 
 /// A law: the test of candidates tells a region that is in use, nobody's current one, without an object that is new, and
 /// with garbage of a quarter of its words; and it tells each such region.
@@ -14,6 +14,12 @@ pub fn candidate_is_candidate()
 /// number; its live words fit into the free regions; no other such set has a region besides, and it is the only such one.
 pub fn chosen_is_the_choice()
     ensures { ChosenIsTheChoice }
+{}
+
+/// A law: the longest front that fits is what is taken candidate by candidate, in their order: the empty set is a front; with
+/// the next candidate, where that fits, it is one; and where the next does not fit, or there is none, it is the longest.
+pub fn choice_is_taken()
+    ensures { ChoiceIsTaken }
 {}
 
 /// A law: whichever marked objects of the chosen regions are copied, each once and in whatever order, to the lowest region
