@@ -4,4 +4,5 @@ pub mod Order
 pub mod Front
 pub mod Taken
 pub mod Room
-pub mod Copied
+pub mod Fits
+pub mod CopiedOut

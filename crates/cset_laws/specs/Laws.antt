@@ -1,12 +1,15 @@
 -- That the choice is exactly the longest front of the candidates that fits, and that what it has can be copied.
-use Rattle.std.specs.Prelude.{ℕ, ◌≡◌, ◌<◌, ◌↔◌, true, Bool, List, length}
+use Rattle.std.specs.Prelude.{ℕ, ◌≡◌, ◌+◌, ◌<◌, ◌≤◌, ◌↔◌, true, Bool, List, length, slice_index, Some}
 use Rattle.heap_words.specs.declared.config.Config.{Config}
-use Rattle.heap_words.specs.Words.{Word, Free, Top}
+use Rattle.heap_words.specs.Words.{Word, Cset, Free, Top}
+use Rattle.packing.specs.Places.{LieApart}
+use Rattle.regions.specs.Place.{region_with}
 use Rattle.regions.specs.Sets.{IsIn}
-use Rattle.cset_laws.specs.Live.{is_candidate, IsCandidate}
+use Rattle.cset_laws.specs.Live.{marked_words, is_candidate, IsCandidate}
 use Rattle.cset_laws.specs.Front.{FrontsAreTaken}
 use Rattle.cset_laws.specs.Choice.{IsChoice, chosen}
 use Rattle.cset_laws.specs.Copying.{AreToCopy, FindsRoom}
+use Rattle.cset_laws.specs.Copied.{copy_room, copied_out, copied_by, IsCopiedOut}
 
 -- The test of a candidate says what it is to be one.
 abbrev pub CandidateIsCandidate : Type 0
@@ -30,3 +33,16 @@ FreeAreEmpty c memory = (r : ℕ) → r < c.regions → IsIn (memory Free) r →
 abbrev pub RoomIsFound : Type 0
 RoomIsFound = (c : Config) (memory : Word → ℕ) (objects : List ℕ) → FreeAreEmpty c memory → AreToCopy c memory (chosen c memory) objects
     → (turn : ℕ) → turn < length objects → FindsRoom c memory (chosen c memory) objects turn
+
+-- Copying an object of the collection set to a region that has room for it, outside of the set, does what it is said to do.
+abbrev pub CopyingCopies : Type 0
+CopyingCopies = (c : Config) (memory : Word → ℕ) (a r : ℕ) → c.region_words ≤ a → IsIn (memory Cset) (region_with c a) → copy_room c memory a ≡ Some r
+    → IsCopiedOut c memory (copied_out c memory a) a
+
+-- Whichever marked objects of the chosen regions are copied out, one after the other, where marked objects lie apart and each
+-- in one region: none is left where it is.
+abbrev pub EachIsCopied : Type 0
+EachIsCopied = (c : Config) (memory : Word → ℕ) (objects : List ℕ) → FreeAreEmpty c memory → LieApart c.region_words (marked_words c memory)
+    → memory Cset ≡ chosen c memory → AreToCopy c memory (chosen c memory) objects
+    → (turn : ℕ) → turn < length objects
+    → IsCopiedOut c (copied_by c memory objects turn) (copied_by c memory objects (turn + 1)) (slice_index objects turn)

@@ -2,7 +2,7 @@
 //! these are chosen, and that there is room for all that lives in them. Laws, as theorems and no code.
 #![tactic(auto)]
 
-ghost use Rattle.cset_laws.specs.Laws.{CandidateIsCandidate, ChosenIsTheChoice, ChoiceIsTaken, RoomIsFound};
+ghost use Rattle.cset_laws.specs.Laws.{CandidateIsCandidate, ChosenIsTheChoice, ChoiceIsTaken, RoomIsFound, CopyingCopies, EachIsCopied};
 
 /// A law: the test of candidates tells a region that is in use, nobody's current one, without an object that is new, and
 /// with garbage of a quarter of its words; and it tells each such region.
@@ -26,4 +26,15 @@ pub fn choice_is_taken()
 /// outside the chosen ones that has room: each finds room.
 pub fn room_is_found()
     ensures { RoomIsFound }
+{}
+
+/// A law: an object of the collection set for which a region has room is copied to the top of the lowest one outside the set:
+/// its words stand there, its old copy is forwarded, and no word changes but those, the region's top and the free word.
+pub fn copying_copies()
+    ensures { CopyingCopies }
+{}
+
+/// A law: whichever marked objects of the chosen regions are copied out, each once and in whatever order: each is copied.
+pub fn each_is_copied()
+    ensures { EachIsCopied }
 {}

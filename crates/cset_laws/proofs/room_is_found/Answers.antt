@@ -1,4 +1,4 @@
-use Rattle.cset_laws.proofs.Copied.{room_is_found}
+use Rattle.cset_laws.proofs.Fits.{room_is_found}
 use Rattle.cset_laws.proofs.room_is_found.Goals as goal
 
 pub returns : goal.returns
