@@ -16,6 +16,7 @@ use Rattle.regions.specs.Sets.{IsIn, IsOutside}
 use Rattle.cset_laws.specs.Live.{words_at}
 use Rattle.cset_laws.specs.Copying.{tops_outside}
 use Rattle.cset_laws.specs.Copied.{copy_room, top_address, copied_word, copied_to, copied_in, copied_out, MayChange, IsCopiedTo, IsCopiedOut}
+use Rattle.cset_laws.proofs.Places.{some_words, of_its_region, regions_apart}
 
 -- a region with room is outside the set, since one of the set counts as full
 pub outside_with_room : (w set : ℕ) (top : ℕ → ℕ) (r n : ℕ) → 0 < n → tops_outside w set top r + n ≤ w → IsOutside set r
@@ -49,33 +50,6 @@ module _ (heap : ℕ → ℕ) (from to n : ℕ) where
       cond-false (to == x) plain_header _ (ne_eqb to x (λ same. omega (arith, same, behind, some)))
       ∙ cond-false (nat_lt to x && nat_lt x (to + n)) (heap (from + (x - to))) (heap x) (and_right (nat_lt to x) (nat_lt x (to + n)) (le-ltb x (to + n) behind)))
       apart
-
--- an address is of its region
-pub of_its_region : (c : Config) (a : ℕ) → c.region_words ≤ a → IsOf c (region_with c a) a
-of_its_region c a above =
-    let w = c.region_words in
-    let some : 0 < w = (let range = c.in_range in omega (arith, range.least_words)) in
-    ⊎_elim
-    (λ (none : a / w < 1).
-    let zero_row : a / w ≡ 0 = omega (arith, none) in
-    let row : a / w * w ≡ 0 * w = ap (λ k. k * w) zero_row in
-    absurd (omega (arith, row, above, div-add-mod' a w, mod_below a w some)))
-    (λ (least : 1 ≤ a / w).
-    let next : a / w - 1 + 1 ≡ a / w = omega (arith, least) in
-    let row : (a / w - 1 + 1) * w ≡ a / w * w = ap (λ k. k * w) next in
-    record { from = omega (arith, row, div-add-mod' a w); before = omega (arith, row, div-add-mod' a w, mod_below a w some) })
-    (cases_lt (a / w) 1)
-
--- addresses of two regions lie apart
-pub regions_apart : (c : Config) (q r x from n : ℕ) → q ≢ r → IsOf c q x → base_of c r ≤ from → from + n ≤ base_of c r + c.region_words → (x < from) ⊎ (from + n ≤ x)
-regions_apart c q r x from n differ of low high =
-    ⊎_elim
-    (λ (same : q ≡ r). absurd (differ same))
-    (λ (apart : (q * c.region_words + c.region_words ≤ r * c.region_words) ⊎ (r * c.region_words + c.region_words ≤ q * c.region_words)). ⊎_elim
-    (λ (lower : q * c.region_words + c.region_words ≤ r * c.region_words). inl (omega (arith, lower, of.before, low)))
-    (λ (higher : r * c.region_words + c.region_words ≤ q * c.region_words). inr (omega (arith, higher, of.from, high)))
-    apart)
-    (rows_apart c.region_words q r)
 
 module _ (c : Config) (memory : Word → ℕ) (a r : ℕ) where
   abbrev to : ℕ
@@ -122,12 +96,14 @@ pub copying_copies : (c : Config) (memory : Word → ℕ) (a r : ℕ) → c.regi
     → IsCopiedOut c memory (copied_out c memory a) a
 copying_copies c memory a r above member found =
     let w = c.region_words in
+    let here : a + 0 ≡ a = omega arith in
+    let below : a % w + 0 < w = omega (arith, mod_below a w (some_words c)) in
     let lowest = has_room w (tops_outside w (memory Cset) (λ q. memory (Top q))) (words_at memory a) c.regions r found in
     let outside : IsOutside (memory Cset) r = outside_with_room w (memory Cset) (λ q. memory (Top q)) r (words_at memory a) (omega arith) lowest.room in
     let own = own_top w (memory Cset) (λ q. memory (Top q)) r outside in
     let room : memory (Top r) + words_at memory a ≤ w = omega (arith, lowest.room, own) in
     let differ : region_with c a ≢ r = λ same. (let here : bit_at (memory Cset) r ≡ 1 = subst (IsIn (memory Cset)) same member in omega (arith, here, outside)) in
-    let apart = regions_apart c (region_with c a) r a (top_address c memory r) (words_at memory a) differ (of_its_region c a above) (omega arith) (omega (arith, room)) in
+    let apart = regions_apart c (region_with c a) r a (top_address c memory r) (words_at memory a) differ (subst (IsOf c (region_with c a)) here (of_its_region c a 0 above below)) (omega arith) (omega (arith, room)) in
     record {
       region = r;
       found = found;

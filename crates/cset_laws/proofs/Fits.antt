@@ -25,41 +25,12 @@ use Rattle.cset_laws.specs.Laws.{FreeAreEmpty, RoomIsFound}
 use Rattle.cset_laws.proofs.Sums.{sum_in_rows, sum_picked}
 use Rattle.cset_laws.proofs.Candidate.{candidate_is_candidate}
 use Rattle.cset_laws.proofs.Front.{front_is}
+use Rattle.cset_laws.proofs.Places.{some_words, from_base, IsPlace, place_of}
 use Rattle.cset_laws.proofs.Room.{served_least, some_room}
-
--- an address of the heap by its region and how far it is from the base, counted from the first address
-record IsPlace (w regions a : ℕ) : Type 0 where
-  row : (a - w) / w ≡ a / w - 1
-  offset : (a - w) % w ≡ a % w
-  again : (a / w - 1 + 1) * w + a % w ≡ a
-  below : a - w < regions * w
-
-place_of : (w regions a : ℕ) → 0 < w → w ≤ a → a / w - 1 < regions → IsPlace w regions a
-place_of w regions a some above inside = ⊎_elim
-    (λ (none : a / w < 1).
-    let zero_row : a / w ≡ 0 = omega (arith, none) in
-    let row : a / w * w ≡ 0 * w = ap (λ k. k * w) zero_row in
-    absurd (omega (arith, row, above, div-add-mod' a w, mod_below a w some)))
-    (λ (least : 1 ≤ a / w).
-    let q = a / w - 1 in
-    let next : a / w ≡ q + 1 = omega (arith, least) in
-    let row : a / w * w ≡ (q + 1) * w = ap (λ k. k * w) next in
-    let from_first : a - w ≡ q * w + a % w = omega (arith, row, div-add-mod' a w) in
-    let rows = mul-le (q + 1) w regions w (omega (arith, inside)) (omega arith) in
-    record {
-      row = ap (λ k. k / w) from_first ∙ div-mul-add q w (a % w) (mod_below a w some);
-      offset = ap (λ k. k % w) from_first ∙ mod-mul-add q w (a % w) (mod_below a w some);
-      again = omega (arith, row, div-add-mod' a w);
-      below = omega (arith, from_first, rows, mod_below a w some);
-    })
-    (cases_lt (a / w) 1)
 
 module _ (c : Config) (memory : Word → ℕ) (set : ℕ) (objects : List ℕ) (to_copy : AreToCopy c memory set objects) where
   abbrev w : ℕ
   w = c.region_words
-
-  some_words : 0 < w
-  some_words = let range = c.in_range in omega (arith, range.least_words)
 
   abbrev asked : ℕ → ℕ
   asked = words_by_turn memory objects
@@ -85,14 +56,14 @@ module _ (c : Config) (memory : Word → ℕ) (set : ℕ) (objects : List ℕ) (
   object_is : (k : ℕ) → k < length objects → Contains objects (get_or objects k 0)
   object_is k below = Contains-get_or objects k 0 below
 
-  above_first : (a : ℕ) → is_black c memory a ≡ true → w ≤ a
+  pub above_first : (a : ℕ) → is_black c memory a ≡ true → w ≤ a
   above_first a is = leb-true w a (and_parts (nat_le w a) (bit_at (memory (Black (mark_word c a))) (mark_bit c a) == 1) is).0
 
   -- the place of an object
   placed : (k : ℕ) → k < length objects → IsPlace w c.regions (get_or objects k 0)
   placed k below =
       let a = get_or objects k 0 in
-      place_of w c.regions a some_words (above_first a (to_copy.marked a (object_is k below))) (to_copy.of_region a (object_is k below))
+      place_of w c.regions a (some_words c) (above_first a (to_copy.marked a (object_is k below))) (to_copy.of_region a (object_is k below))
 
   -- there its words are counted
   counted_there : (k : ℕ) → k < length objects → asked k ≤ by_address (get_or objects k 0 - w)
@@ -103,7 +74,7 @@ module _ (c : Config) (memory : Word → ℕ) (set : ℕ) (objects : List ℕ) (
       let inside : at_offset (region_with c a) (a % w) ≡ marked_words c memory (base_of c (region_with c a) + a % w) =
       cond-true (bit_at set (region_with c a) == 1) (marked_words c memory (base_of c (region_with c a) + a % w)) 0
       (eq-eqb (bit_at set (region_with c a)) 1 (to_copy.in_set a (object_is k below))) in
-      let here : marked_words c memory (base_of c (region_with c a) + a % w) ≡ marked_words c memory a = ap (marked_words c memory) place.again in
+      let here : marked_words c memory (base_of c (region_with c a) + a % w) ≡ marked_words c memory a = ap (marked_words c memory) (from_base w a (some_words c) (above_first a (to_copy.marked a (object_is k below)))) in
       let all : marked_words c memory a ≡ words_at memory a = cond-true (is_black c memory a) (words_at memory a) 0 (to_copy.marked a (object_is k below)) in
       omega (arith, there, inside, here, all)
 

@@ -1,4 +1,5 @@
 pub mod Sums
+pub mod Places
 pub mod Candidate
 pub mod Order
 pub mod Front
@@ -6,3 +7,4 @@ pub mod Taken
 pub mod Room
 pub mod Fits
 pub mod CopiedOut
+pub mod Turns
