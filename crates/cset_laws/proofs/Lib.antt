@@ -8,3 +8,4 @@ pub mod Room
 pub mod Fits
 pub mod CopiedOut
 pub mod Turns
+pub mod Clearing

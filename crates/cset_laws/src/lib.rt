@@ -2,7 +2,7 @@
 //! these are chosen, and that there is room for all that lives in them. Laws, as theorems and no code.
 #![tactic(auto)]
 
-ghost use Rattle.cset_laws.specs.Laws.{CandidateIsCandidate, ChosenIsTheChoice, ChoiceIsTaken, RoomIsFound, CopyingCopies, EachIsCopied};
+ghost use Rattle.cset_laws.specs.Laws.{CandidateIsCandidate, ChosenIsTheChoice, ChoiceIsTaken, RoomIsFound, CopyingCopies, EachIsCopied, RootsAreCleared};
 
 /// A law: the test of candidates tells a region that is in use, nobody's current one, without an object that is new, and
 /// with garbage of a quarter of its words; and it tells each such region.
@@ -37,4 +37,10 @@ pub fn copying_copies()
 /// A law: whichever marked objects of the chosen regions are copied out, each once and in whatever order: each is copied.
 pub fn each_is_copied()
     ensures { EachIsCopied }
+{}
+
+/// A law: in the beginning of evacuation each object of the chosen regions that a root or an answer names is copied, and no other;
+/// the root or answer names the copy then, so that none of them names an object of those regions.
+pub fn roots_are_cleared()
+    ensures { RootsAreCleared }
 {}

@@ -1,0 +1,4 @@
+use Rattle.cset_laws.proofs.roots_are_cleared.Goals as goal
+
+pub returns : goal.returns
+returns c = ?
