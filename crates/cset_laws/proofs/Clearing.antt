@@ -4,10 +4,10 @@ use Rattle.std.specs.Prelude.{Contains, ⊤}
 use Rattle.std.specs.List.{IsDistinct, list_any, range_with_len}
 use Rattle.std.specs.Int.{bit_at}
 use Rattle.std.proofs.Math.Path.{fun_ext}
-use Rattle.std.proofs.lemmas.Bool.{cases_eq, cases_Bool, cond-true, cond-false, eq-eqb, eqb-true, ne_eqb, leb-true, and_parts, and_right, both_ways, false_from_ne_true, false≢true}
+use Rattle.std.proofs.lemmas.Bool.{cases_eq, cases_Bool, cond-true, cond-false, eq-eqb, eqb-true, ne_eqb, leb-true, le-leb, and_parts, and_from, and_right, both_ways, false_from_ne_true, false≢true}
 use Rattle.std.proofs.lemmas.Nat.{mod_below}
 use Rattle.std.proofs.lemmas.List.{get_or_append_left, get_or_push}
-use Rattle.std.proofs.lemmas.List.Elements.{Contains-push_cases, Contains-push, Contains-append_left}
+use Rattle.std.proofs.lemmas.List.Elements.{Contains-push_cases, Contains-push, Contains-append_left, Contains-append_cases}
 use Rattle.std.proofs.lemmas.Map.Keys.{IsDistinct-push}
 use Rattle.std.proofs.lemmas.Map.Views.{Contains-from_any, exact_unsigned_eq}
 use Rattle.std.proofs.lemmas.Cmp.{nat_eq_equiv}
@@ -27,7 +27,7 @@ use Rattle.cset_laws.specs.Live.{words_at, marked_words}
 use Rattle.cset_laws.specs.Choice.{chosen}
 use Rattle.cset_laws.specs.Copying.{tops_outside, AreToCopy}
 use Rattle.cset_laws.specs.Copied.{copy_room, top_address, copied_word, copied_in, copied_to, copied_out, copied_by, MayChange, IsCopiedTo, IsCopiedOut}
-use Rattle.cset_laws.specs.Begun.{naming_places, IsNaming, is_collected, moved_out, cleared_at, cleared_in_turn, with_set, roots_cleared, IsCopyable, AreCleared}
+use Rattle.cset_laws.specs.Begun.{root_places, naming_places, IsNaming, is_collected, moved_out, cleared_at, cleared_in_turn, with_set, roots_cleared, IsCopyable, AreCleared}
 use Rattle.cset_laws.specs.Laws.{FreeAreEmpty, RootsAreCleared}
 use Rattle.cset_laws.proofs.Places.{some_words, of_its_region, regions_apart}
 use Rattle.cset_laws.proofs.Fits.{above_first}
@@ -116,6 +116,45 @@ copied_front c m objects more (suc k) below =
 copied_next : (c : Config) (m : Word → ℕ) (objects : List ℕ) (k : ℕ) → copied_by c m objects (suc k) ≡ copied_out c (copied_by c m objects k) (get_or objects k 0)
 unfolding copied_by
 copied_next c m objects k = refl
+
+-- the parts of a list, and what is in it
+first_or_later : (first : Word) (later : List Word) (place : Word) (k : ℕ) → k < length (first ∷ later) → get_or (first ∷ later) k place ≡ place
+    → (first ≡ place) ⊎ Contains later place
+first_or_later first later place zero below same = inl same
+first_or_later first later place (suc k) below same = inr (k, omega (arith, below), same)
+
+is_later : (first : Word) (later : List Word) (place : Word) → Contains later place → Contains (first ∷ later) place
+is_later first later place has = (suc has.0, omega (arith, has.1), has.2)
+
+is_first : (first : Word) (later : List Word) → Contains (first ∷ later) first
+is_first first later = (zero, omega arith, refl)
+
+all_naming : (f : ℕ → Word) (each : (i : ℕ) → IsNaming (f i)) (xs : List ℕ) (place : Word) → Contains (map f xs) place → IsNaming place
+all_naming f each [] place has = absurd (omega (arith, has.1))
+all_naming f each (x ∷ xs) place has = ⊎_elim
+    (λ (here : f x ≡ place). subst IsNaming here (each x))
+    (λ (later : Contains (map f xs) place). all_naming f each xs place later)
+    (first_or_later (f x) (map f xs) place has.0 has.1 has.2)
+
+roots_name : (t : ℕ) (place : Word) → Contains (root_places t) place → IsNaming place
+roots_name zero place has = absurd (omega (arith, has.1))
+roots_name (suc t) place has = ⊎_elim
+    (λ (earlier : Contains (root_places t) place). roots_name t place earlier)
+    (λ (last : Contains (map (Root t) (range_with_len 0 16)) place). all_naming (Root t) (λ i. tt) (range_with_len 0 16) place last)
+    (Contains-append_cases (root_places t) (map (Root t) (range_with_len 0 16)) place has)
+
+places_name : (c : Config) (place : Word) → Contains (naming_places c) place → IsNaming place
+places_name c place has = ⊎_elim
+    (λ (root : Contains (root_places c.mutators) place). roots_name c.mutators place root)
+    (λ (answer : Contains (map Answer (range_with_len 0 c.mutators)) place). all_naming Answer (λ t. tt) (range_with_len 0 c.mutators) place answer)
+    (Contains-append_cases (root_places c.mutators) (map Answer (range_with_len 0 c.mutators)) place has)
+
+none_distinct : IsDistinct nat_eq []
+unfolding IsDistinct
+none_distinct = tt
+
+nothing_in_none : (x : ℕ) → Contains [] x → ⊥
+nothing_in_none x has = omega (arith, has.1)
 
 module _ (c : Config) (before : Word → ℕ) (empty : FreeAreEmpty c before) (lie : LieApart c.region_words (marked_words c before)) (set_is : before Cset ≡ chosen c before)
   (unmoved : (a : ℕ) → is_black c before a ≡ true → is_forwarded (before (Heap a)) ≡ false)
@@ -273,3 +312,179 @@ module _ (c : Config) (before : Word → ℕ) (empty : FreeAreEmpty c before) (l
       away = λ x in_list. ap (is_collected c before) (renamed_now x) ∙ so_far.away x in_list;
       left = λ x black in_set forwarded. so_far.left x black in_set (ap is_forwarded (sym (renamed_other (Heap x) (λ never. never))) ∙ forwarded);
     }
+
+  -- One place is cleared.
+  record IsCleared (m next : Word → ℕ) (place : Word) (objects : List ℕ) : Type 0 where
+    so_far : IsSoFar next objects
+    here : is_collected c before (next place) ≡ false
+    stays : (p : Word) → IsNaming p → is_collected c before (m p) ≡ false → is_collected c before (next p) ≡ false
+
+  -- an object of the set was copied out, in this turn or before
+  record IsMoved (m next : Word → ℕ) (a : ℕ) (objects : List ℕ) : Type 0 where
+    so_far : IsSoFar next objects
+    has : Contains objects a
+    naming_same : (p : Word) → IsNaming p → next p ≡ m p
+
+  module _ (m : Word → ℕ) (objects : List ℕ) (so_far : IsSoFar m objects) where
+    collected_same : (x : ℕ) → is_collected c m x ≡ is_collected c before x
+    collected_same x = ap (λ s. nat_le c.region_words x && (bit_at s (region_with c x) == 1)) so_far.same_set
+
+    module _ (place : Word) (there : Contains (naming_places c) place) where
+      naming : IsNaming place
+      naming = places_name c place there
+
+      -- the words once what an address names was copied and the place names the copy
+      abbrev clear_of : ℕ → Word → ℕ
+      clear_of a word = if same_word place word then now_in (moved_out c m a) a else moved_out c m a word
+
+      moved_by : is_collected c before (before place) ≡ true → (objects' : List ℕ) × IsMoved m (moved_out c m (before place)) (before place) objects'
+      moved_by collected =
+          let a = before place in
+          let parts = and_parts (nat_le c.region_words a) (bit_at (before Cset) (region_with c a) == 1) collected in
+          let above = leb-true c.region_words a parts.0 in
+          let member = eqb-true (bit_at (before Cset) (region_with c a)) 1 parts.1 in
+          let can = copyable place there collected in
+          ⊎_elim
+          (λ (forwarded : is_forwarded (m (Heap a)) ≡ true).
+          let same : moved_out c m a ≡ m = fun_ext (λ word. cond-true (is_forwarded (m (Heap a))) (m word) (copied_out c m a word) forwarded) in
+          (objects, subst (λ n. IsMoved m n a objects) (sym same) (record { so_far = so_far; has = so_far.left a can.marked member forwarded; naming_same = λ p _. refl })))
+          (λ (plain : is_forwarded (m (Heap a)) ≡ false).
+          let same : moved_out c m a ≡ copied_out c m a = fun_ext (λ word. cond-false (is_forwarded (m (Heap a))) (m word) (copied_out c m a word) plain) in
+          (
+            objects ++ a ∷ [],
+            subst (λ n. IsMoved m n a (objects ++ a ∷ [])) (sym same) (record {
+              so_far = one_more m objects so_far a above member can place there refl plain;
+              has = Contains-push objects a;
+              naming_same = naming_same m objects so_far a above member can place there refl plain;
+            }),
+          ))
+          (cases_Bool (is_forwarded (m (Heap a))))
+
+      -- the place named something in the set
+      cleared_by : is_collected c before (before place) ≡ true → (objects' : List ℕ) × IsCleared m (clear_of (before place)) place objects'
+      cleared_by collected =
+          let found = moved_by collected in
+          let n = moved_out c m (before place) in
+          let is = found.1 in
+          let here : is_collected c before (clear_of (before place) place) ≡ false =
+          ap (is_collected c before) (renamed_here n found.0 is.so_far place naming is.has) ∙ is.so_far.away (before place) is.has in
+          (
+            found.0,
+            record {
+              so_far = renamed_so_far n found.0 is.so_far place naming is.has;
+              here = here;
+              stays = λ p names was. ⊎_elim
+                  (λ (this : same_word place p ≡ true). subst (λ q. is_collected c before (clear_of (before place) q) ≡ false) (same_word_true place p this) here)
+                  (λ (other : same_word place p ≡ false).
+                  ap (is_collected c before) (cond-false (same_word place p) (now_in n (before place)) (n p) other ∙ is.naming_same p names) ∙ was)
+                  (cases_Bool (same_word place p));
+            },
+          )
+
+      clears : (next : Word → ℕ) → (is_collected c m (m place) ≡ false → next ≡ m) → (is_collected c m (m place) ≡ true → next ≡ clear_of (m place))
+          → (objects' : List ℕ) × IsCleared m next place objects'
+      clears next spared cleared = ⊎_elim
+          (λ (collected : is_collected c m (m place) ≡ true).
+          let in_set : is_collected c before (m place) ≡ true = sym (collected_same (m place)) ∙ collected in
+          let old : m place ≡ before place = ⊎_elim
+          (λ (is : m place ≡ before place). is)
+          (λ (new : Contains objects (before place) × (m place ≡ now_in m (before place))).
+          absurd (both_ways (is_collected c before (m place)) (ap (is_collected c before) new.1 ∙ so_far.away (before place) new.0) in_set))
+          (so_far.named place naming) in
+          let result = cleared_by (ap (is_collected c before) (sym old) ∙ in_set) in
+          (result.0, subst (λ n. IsCleared m n place result.0) (sym (cleared collected ∙ ap clear_of old)) result.1))
+          (λ (outside : is_collected c m (m place) ≡ false).
+          (objects, subst (λ n. IsCleared m n place objects) (sym (spared outside)) (record { so_far = so_far; here = sym (collected_same (m place)) ∙ outside; stays = λ p _ was. was })))
+          (cases_Bool (is_collected c m (m place)))
+
+      clears_here : (objects' : List ℕ) × IsCleared m (cleared_at c m place) place objects'
+      unfolding cleared_at
+      clears_here = clears (cleared_at c m place)
+          (λ outside. fun_ext (λ word. cond-false (is_collected c m (m place)) (clear_of (m place) word) (m word) outside))
+          (λ collected. fun_ext (λ word. cond-true (is_collected c m (m place)) (clear_of (m place) word) (m word) collected))
+
+  -- All places of a list are cleared.
+  record AreClearedHere (m end : Word → ℕ) (places : List Word) (objects : List ℕ) : Type 0 where
+    so_far : IsSoFar end objects
+    here : (p : Word) → Contains places p → is_collected c before (end p) ≡ false
+    stays : (p : Word) → IsNaming p → is_collected c before (m p) ≡ false → is_collected c before (end p) ≡ false
+
+  all_cleared : (places : List Word) (m : Word → ℕ) (objects : List ℕ) → ((p : Word) → Contains places p → Contains (naming_places c) p) → IsSoFar m objects
+      → (objects' : List ℕ) × AreClearedHere m (cleared_in_turn c m places) places objects'
+  unfolding cleared_in_turn
+  all_cleared [] m objects are so_far = (objects, record { so_far = so_far; here = λ p has. absurd (omega (arith, has.1)); stays = λ p _ was. was })
+  all_cleared (place ∷ places) m objects are so_far =
+      let first = clears_here m objects so_far place (are place (is_first place places)) in
+      let rest = all_cleared places (cleared_at c m place) first.0 (λ p has. are p (is_later place places p has)) first.1.so_far in
+      (
+        rest.0,
+        record {
+          so_far = rest.1.so_far;
+          here = λ p has. ⊎_elim
+              (λ (this : place ≡ p). rest.1.stays p (places_name c p (are p has)) (subst (λ q. is_collected c before (cleared_at c m place q) ≡ false) this first.1.here))
+              (λ (later : Contains places p). rest.1.here p later)
+              (first_or_later place places p has.0 has.1 has.2);
+          stays = λ p names was. rest.1.stays p names (first.1.stays p names was);
+        },
+      )
+
+  at_first : IsSoFar before []
+  unfolding copied_by
+  at_first = record {
+    to_copy = record {
+      once = none_distinct;
+      marked = λ x has. absurd (nothing_in_none x has);
+      of_region = λ x has. absurd (nothing_in_none x has);
+      in_set = λ x has. absurd (nothing_in_none x has);
+      short = λ x has. absurd (nothing_in_none x has);
+    };
+    only = λ x has. absurd (nothing_in_none x has);
+    same_set = refl;
+    same = λ word other. refl;
+    named = λ p names. inl refl;
+    moved = λ x has. absurd (nothing_in_none x has);
+    away = λ x has. absurd (nothing_in_none x has);
+    left = λ x black in_set forwarded. absurd (both_ways (is_forwarded (before (Heap x))) (unmoved x black) forwarded);
+  }
+
+  are_cleared : (objects : List ℕ) × AreCleared c before (cleared_in_turn c before (naming_places c)) objects
+  are_cleared =
+      let end = all_cleared (naming_places c) before [] (λ p has. has) at_first in
+      let so_far = end.1.so_far in
+      let after = cleared_in_turn c before (naming_places c) in
+      (
+        end.0,
+        record {
+          to_copy = so_far.to_copy;
+          named = so_far.only;
+          copied = so_far.same;
+          renewed = λ p there. ⊎_elim
+              (λ (old : after p ≡ before p).
+              old ∙ sym (cond-false (is_collected c before (before p)) (now_in after (before p)) (before p) (ap (is_collected c before) (sym old) ∙ end.1.here p there)))
+              (λ (new : Contains end.0 (before p) × (after p ≡ now_in after (before p))).
+              new.1 ∙ sym (cond-true (is_collected c before (before p)) (now_in after (before p)) (before p) (in_set end.0 so_far.to_copy (before p) new.0)))
+              (so_far.named p (places_name c p there));
+          cleared = end.1.here;
+        },
+      )
+    where
+      in_set : (objects : List ℕ) → AreToCopy c before (before Cset) objects → (a : ℕ) → Contains objects a → is_collected c before a ≡ true
+      in_set objects to_copy a has =
+          and_from (nat_le c.region_words a) (bit_at (before Cset) (region_with c a) == 1)
+          (le-leb c.region_words a (above_first c before (before Cset) objects to_copy a (to_copy.marked a has)))
+          (eq-eqb (bit_at (before Cset) (region_with c a)) 1 (to_copy.in_set a has))
+
+-- a collection set changes nothing else
+set_apart : (m : Word → ℕ) (set : ℕ) (place : Word) → IsNaming place → with_set m set place ≡ m place
+set_apart m set (Root t i) naming = refl
+set_apart m set (Answer t) naming = refl
+set_apart m set place naming = absurd naming
+
+pub roots_are_cleared : RootsAreCleared
+roots_are_cleared c memory empty lie unmoved copyable =
+    let before = with_set memory (chosen c memory) in
+    are_cleared c before empty lie refl unmoved (λ place there collected.
+    let same = set_apart memory (chosen c memory) place (places_name c place there) in
+    let can = copyable place there (ap (is_collected c before) (sym same) ∙ collected) in
+    let here = subst (IsCopyable c memory) (sym same) can in
+    record { marked = here.marked; of_region = here.of_region; short = here.short })
