@@ -1,0 +1,490 @@
+-- Roots and answers are cleared one after the other.
+use Rattle.std.proofs.Common.{length-append, ◌≡◌, ◌≢◌, ℕ, ◌+◌, ◌-◌, ◌*◌, ◌/◌, ◌%◌, ◌<◌, ◌≤◌, ◌⊎◌, ◌==◌, ◌&&◌, if◌then◌else◌, nat_le, nat_eq, bit_and, Bool, true, false, zero, suc, List, [], ◌∷◌, ◌++◌, map, length, get_or, Option, Some, None, inl, inr, refl, sym, ap, ◌∙◌, subst, ⊎_elim, arith}
+use Rattle.std.specs.Prelude.{Contains, ⊤}
+use Rattle.std.specs.List.{IsDistinct, list_any, range_with_len}
+use Rattle.std.specs.Int.{bit_at}
+use Rattle.std.proofs.Math.Path.{fun_ext}
+use Rattle.std.proofs.lemmas.Bool.{cases_eq, cases_Bool, cond-true, cond-false, eq-eqb, eqb-true, ne_eqb, leb-true, le-leb, and_parts, and_from, and_right, both_ways, false_from_ne_true, false≢true}
+use Rattle.std.proofs.lemmas.Nat.{mod_below}
+use Rattle.std.proofs.lemmas.List.{get_or_append_left, get_or_push}
+use Rattle.std.proofs.lemmas.List.Elements.{Contains-push_cases, Contains-push, Contains-append_left, Contains-append_cases}
+use Rattle.std.proofs.lemmas.Map.Keys.{IsDistinct-push}
+use Rattle.std.proofs.lemmas.Map.Views.{Contains-from_any, exact_unsigned_eq}
+use Rattle.std.proofs.lemmas.Cmp.{nat_eq_equiv}
+use Rattle.heap_words.specs.declared.config.Config.{Config}
+use Rattle.heap_words.specs.Words.{Word, Cset, Free, Top, Root, Answer, Black, Heap, same_word}
+use Rattle.heap_words.specs.Encoding.{header_word, is_forwarded, forwardee_in, object_words}
+use Rattle.heap_words.proofs.Stores.{same_word_refl, same_word_true}
+use Rattle.packing.specs.Places.{LieApart}
+use Rattle.packing.specs.Rooms.{lowest_room}
+use Rattle.regions.specs.Place.{base_of, region_with, IsOf}
+use Rattle.regions.specs.Sets.{IsIn, IsOutside, all_but}
+use Rattle.regions.proofs.PlaceLemmas.{regions_tile}
+use Rattle.image_laws.specs.Full.{now_in}
+use Rattle.mark_bits.specs.Marks.{mark_word, mark_bit}
+use Rattle.mark_laws.specs.Marks.{is_black}
+use Rattle.cset_laws.specs.Live.{words_at, marked_words}
+use Rattle.cset_laws.specs.Choice.{chosen}
+use Rattle.cset_laws.specs.Copying.{tops_outside, AreToCopy}
+use Rattle.cset_laws.specs.Copied.{copy_room, top_address, copied_word, copied_in, copied_to, copied_out, copied_by, MayChange, IsCopiedTo, IsCopiedOut}
+use Rattle.cset_laws.specs.Begun.{root_places, naming_places, IsNaming, is_collected, moved_out, cleared_at, cleared_in_turn, with_set, roots_cleared, IsCopyable, AreCleared}
+use Rattle.cset_laws.specs.Laws.{FreeAreEmpty, RootsAreCleared}
+use Rattle.cset_laws.proofs.Places.{some_words, of_its_region, regions_apart}
+use Rattle.cset_laws.proofs.Fits.{above_first}
+use Rattle.cset_laws.proofs.Turns.{each_is_copied}
+
+-- a word that names objects is none of the others
+not_same : (place word : Word) → IsNaming place → (IsNaming word → ⊥) → same_word place word ≡ false
+not_same place word naming other = false_from_ne_true (same_word place word) (λ same. other (subst IsNaming (same_word_true place word same) naming))
+
+-- a header that was written reads back
+header_forwarded : (to : ℕ) → is_forwarded (header_word to) ≡ true
+header_forwarded to = eq-eqb ((4 * to + 3) % 4) 3 (omega arith)
+
+header_names : (to : ℕ) → forwardee_in (header_word to) ≡ to
+header_names to = omega arith
+
+-- where the header names a copy, that is the current one
+now_is : (m : Word → ℕ) (a to : ℕ) → m (Heap a) ≡ header_word to → now_in m a ≡ to
+now_is m a to header =
+    cond-true (is_forwarded (m (Heap a))) (forwardee_in (m (Heap a))) a (ap is_forwarded header ∙ header_forwarded to)
+    ∙ ap forwardee_in header ∙ header_names to
+
+-- the current copy goes by the header
+now_same : (m n : Word → ℕ) (a : ℕ) → m (Heap a) ≡ n (Heap a) → now_in m a ≡ now_in n a
+now_same m n a same = ap (λ header. if is_forwarded header then forwardee_in header else a) same
+
+-- what is outside of the set is not collected
+not_collected : (c : Config) (m : Word → ℕ) (a : ℕ) → IsOutside (m Cset) (region_with c a) → is_collected c m a ≡ false
+not_collected c m a outside =
+    and_right (nat_le c.region_words a) (bit_at (m Cset) (region_with c a) == 1) (ne_eqb (bit_at (m Cset) (region_with c a)) 1 (λ member. omega (arith, member, outside)))
+
+-- the words of the heap by their addresses
+abbrev heap_of : (Word → ℕ) → ℕ → ℕ
+heap_of m y = m (Heap y)
+
+-- copying goes by the words that name no objects
+module _ (c : Config) (m n : Word → ℕ) (a : ℕ) (same : (word : Word) → (IsNaming word → ⊥) → m word ≡ n word) where
+  same_words_at : words_at m a ≡ words_at n a
+  same_words_at = ap object_words (same (Heap (a + 1)) (λ never. never))
+
+  same_heap : heap_of m ≡ heap_of n
+  same_heap = fun_ext (λ y. same (Heap y) (λ never. never))
+
+  same_copy_room : copy_room c m a ≡ copy_room c n a
+  same_copy_room =
+      ap (λ s. lowest_room c.region_words (tops_outside c.region_words s (λ r. m (Top r))) (words_at m a) c.regions) (same Cset (λ never. never))
+      ∙ ap (λ (top : ℕ → ℕ). lowest_room c.region_words (tops_outside c.region_words (n Cset) top) (words_at m a) c.regions) (fun_ext (λ r. same (Top r) (λ never. never)))
+      ∙ ap (λ k. lowest_room c.region_words (tops_outside c.region_words (n Cset) (λ r. n (Top r))) k c.regions) same_words_at
+
+  same_copied_to : (r : ℕ) (word : Word) → (IsNaming word → ⊥) → copied_to c m a r word ≡ copied_to c n a r word
+  unfolding copied_to
+  same_copied_to r (Heap x) other =
+      ap (λ t. if a == x then header_word (base_of c r + t) else copied_word (λ y. m (Heap y)) a (base_of c r + t) (words_at m a) x) (same (Top r) (λ never. never))
+      ∙ ap (λ (heap : ℕ → ℕ). if a == x then header_word (top_address c n r) else copied_word heap a (top_address c n r) (words_at m a) x) same_heap
+      ∙ ap (λ k. if a == x then header_word (top_address c n r) else copied_word (λ y. n (Heap y)) a (top_address c n r) k x) same_words_at
+  same_copied_to r (Top q) other =
+      ap (λ t. if r == q then t + words_at m a else m (Top q)) (same (Top r) (λ never. never))
+      ∙ ap (λ k. if r == q then n (Top r) + k else m (Top q)) same_words_at
+      ∙ ap (λ t. if r == q then n (Top r) + words_at n a else t) (same (Top q) (λ never. never))
+  same_copied_to r Free other = ap (λ free. bit_and free (all_but r)) (same Free (λ never. never))
+  same_copied_to r word other = same word other
+
+  same_copied_in : (o : Option ℕ) (word : Word) → (IsNaming word → ⊥) → copied_in c m a o word ≡ copied_in c n a o word
+  same_copied_in None word other = same word other
+  same_copied_in (Some r) word other = same_copied_to r word other
+
+  pub same_copied_out : (word : Word) → (IsNaming word → ⊥) → copied_out c m a word ≡ copied_out c n a word
+  same_copied_out word other = same_copied_in (copy_room c m a) word other ∙ ap (λ o. copied_in c n a o word) same_copy_room
+
+-- what names objects stays
+copied_naming : (c : Config) (m : Word → ℕ) (a : ℕ) (o : Option ℕ) (place : Word) → IsNaming place → copied_in c m a o place ≡ m place
+unfolding copied_to
+copied_naming c m a None place naming = refl
+copied_naming c m a (Some r) (Root t i) naming = refl
+copied_naming c m a (Some r) (Answer t) naming = refl
+copied_naming c m a (Some r) place naming = absurd naming
+
+-- copies of the first objects of a longer list
+copied_front : (c : Config) (m : Word → ℕ) (objects more : List ℕ) (k : ℕ) → k ≤ length objects → copied_by c m (objects ++ more) k ≡ copied_by c m objects k
+unfolding copied_by
+copied_front c m objects more zero below = refl
+copied_front c m objects more (suc k) below =
+    ap (λ a. copied_out c (copied_by c m (objects ++ more) k) a) (get_or_append_left objects more 0 k (omega (arith, below)))
+    ∙ ap (λ n. copied_out c n (get_or objects k 0)) (copied_front c m objects more k (omega (arith, below)))
+
+copied_next : (c : Config) (m : Word → ℕ) (objects : List ℕ) (k : ℕ) → copied_by c m objects (suc k) ≡ copied_out c (copied_by c m objects k) (get_or objects k 0)
+unfolding copied_by
+copied_next c m objects k = refl
+
+-- the parts of a list, and what is in it
+first_or_later : (first : Word) (later : List Word) (place : Word) (k : ℕ) → k < length (first ∷ later) → get_or (first ∷ later) k place ≡ place
+    → (first ≡ place) ⊎ Contains later place
+first_or_later first later place zero below same = inl same
+first_or_later first later place (suc k) below same = inr (k, omega (arith, below), same)
+
+is_later : (first : Word) (later : List Word) (place : Word) → Contains later place → Contains (first ∷ later) place
+is_later first later place has = (suc has.0, omega (arith, has.1), has.2)
+
+is_first : (first : Word) (later : List Word) → Contains (first ∷ later) first
+is_first first later = (zero, omega arith, refl)
+
+all_naming : (f : ℕ → Word) (each : (i : ℕ) → IsNaming (f i)) (xs : List ℕ) (place : Word) → Contains (map f xs) place → IsNaming place
+all_naming f each [] place has = absurd (omega (arith, has.1))
+all_naming f each (x ∷ xs) place has = ⊎_elim
+    (λ (here : f x ≡ place). subst IsNaming here (each x))
+    (λ (later : Contains (map f xs) place). all_naming f each xs place later)
+    (first_or_later (f x) (map f xs) place has.0 has.1 has.2)
+
+roots_name : (t : ℕ) (place : Word) → Contains (root_places t) place → IsNaming place
+roots_name zero place has = absurd (omega (arith, has.1))
+roots_name (suc t) place has = ⊎_elim
+    (λ (earlier : Contains (root_places t) place). roots_name t place earlier)
+    (λ (last : Contains (map (Root t) (range_with_len 0 16)) place). all_naming (Root t) (λ i. tt) (range_with_len 0 16) place last)
+    (Contains-append_cases (root_places t) (map (Root t) (range_with_len 0 16)) place has)
+
+places_name : (c : Config) (place : Word) → Contains (naming_places c) place → IsNaming place
+places_name c place has = ⊎_elim
+    (λ (root : Contains (root_places c.mutators) place). roots_name c.mutators place root)
+    (λ (answer : Contains (map Answer (range_with_len 0 c.mutators)) place). all_naming Answer (λ t. tt) (range_with_len 0 c.mutators) place answer)
+    (Contains-append_cases (root_places c.mutators) (map Answer (range_with_len 0 c.mutators)) place has)
+
+none_distinct : IsDistinct nat_eq []
+unfolding IsDistinct
+none_distinct = tt
+
+nothing_in_none : (x : ℕ) → Contains [] x → ⊥
+nothing_in_none x has = omega (arith, has.1)
+
+module _ (c : Config) (before : Word → ℕ) (empty : FreeAreEmpty c before) (lie : LieApart c.region_words (marked_words c before)) (set_is : before Cset ≡ chosen c before)
+  (unmoved : (a : ℕ) → is_black c before a ≡ true → is_forwarded (before (Heap a)) ≡ false)
+  (copyable : (place : Word) → Contains (naming_places c) place → is_collected c before (before place) ≡ true → IsCopyable c before (before place)) where
+  -- What holds after some places were cleared, for which these objects were copied out.
+  record IsSoFar (m : Word → ℕ) (objects : List ℕ) : Type 0 where
+    to_copy : AreToCopy c before (before Cset) objects
+    only : (a : ℕ) → Contains objects a → (place : Word) × Contains (naming_places c) place × (before place ≡ a)
+    same_set : m Cset ≡ before Cset
+    same : (word : Word) → (IsNaming word → ⊥) → m word ≡ copied_by c before objects (length objects) word
+    named : (place : Word) → IsNaming place → (m place ≡ before place) ⊎ (Contains objects (before place) × (m place ≡ now_in m (before place)))
+    moved : (a : ℕ) → Contains objects a → is_forwarded (m (Heap a)) ≡ true
+    away : (a : ℕ) → Contains objects a → is_collected c before (now_in m a) ≡ false
+    left : (a : ℕ) → is_black c before a ≡ true → IsIn (before Cset) (region_with c a) → is_forwarded (m (Heap a)) ≡ true → Contains objects a
+
+  -- One more object is copied.
+  module _ (m : Word → ℕ) (objects : List ℕ) (so_far : IsSoFar m objects) (a : ℕ) (above : c.region_words ≤ a) (member : IsIn (before Cset) (region_with c a))
+    (can : IsCopyable c before a) (place : Word) (there : Contains (naming_places c) place) (is : before place ≡ a) (plain : is_forwarded (m (Heap a)) ≡ false) where
+    abbrev more : List ℕ
+    more = objects ++ a ∷ []
+
+    abbrev now : Word → ℕ
+    now = copied_out c m a
+
+    abbrev by : Word → ℕ
+    by = copied_by c before objects (length objects)
+
+    not_yet : Contains objects a → ⊥
+    not_yet has = both_ways (is_forwarded (m (Heap a))) plain (so_far.moved a has)
+
+    -- what holds of the objects so far and of this one holds of all
+    each_more : (P : ℕ → Type 0) → ((x : ℕ) → Contains objects x → P x) → P a → (x : ℕ) → Contains more x → P x
+    each_more P old new x has = ⊎_elim
+        (λ (earlier : Contains objects x). old x earlier)
+        (λ (last : a ≡ x). subst P last new)
+        (Contains-push_cases objects a x has)
+
+    more_to_copy : AreToCopy c before (before Cset) more
+    more_to_copy = record {
+      once = IsDistinct-push nat_eq_equiv objects a so_far.to_copy.once (false_from_ne_true (list_any (nat_eq a) objects) (λ any. not_yet (Contains-from_any exact_unsigned_eq a objects any)));
+      marked = each_more (λ x. is_black c before x ≡ true) so_far.to_copy.marked can.marked;
+      of_region = each_more (λ x. region_with c x < c.regions) so_far.to_copy.of_region can.of_region;
+      in_set = each_more (λ x. IsIn (before Cset) (region_with c x)) so_far.to_copy.in_set member;
+      short = each_more (λ x. words_at before x ≤ 35) so_far.to_copy.short can.short;
+    }
+
+    longer : length more ≡ suc (length objects)
+    longer = let sum = length-append objects (a ∷ []) in omega (arith, sum)
+
+    by_next : copied_by c before more (suc (length objects)) ≡ copied_out c by a
+    by_next =
+        copied_next c before more (length objects)
+        ∙ ap (λ n. copied_out c n (get_or more (length objects) 0)) (copied_front c before objects (a ∷ []) (length objects) (omega arith))
+        ∙ ap (copied_out c by) (get_or_push objects a 0 (length objects) refl)
+
+    copied : IsCopiedOut c by (copied_out c by a) a
+    copied =
+        let one : suc (length objects) ≡ length objects + 1 = omega arith in
+        let raw = each_is_copied c before more empty lie set_is (subst (λ s. AreToCopy c before s more) set_is more_to_copy) (length objects) (omega (arith, longer)) in
+        let first = subst (λ n. IsCopiedOut c n (copied_by c before more (length objects + 1)) (get_or more (length objects) 0)) (copied_front c before objects (a ∷ []) (length objects) (omega arith)) raw in
+        let second = subst (λ x. IsCopiedOut c by (copied_by c before more (length objects + 1)) x) (get_or_push objects a 0 (length objects) refl) first in
+        subst (λ n. IsCopiedOut c by n a) (ap (copied_by c before more) (sym one) ∙ by_next) second
+
+    -- words that name nothing are as copying leaves them
+    now_by : (word : Word) → (IsNaming word → ⊥) → now word ≡ copied_out c by a word
+    now_by word other = same_copied_out c m by a so_far.same word other
+
+    -- headers of other objects of the set stay
+    header_stays : (x : ℕ) → c.region_words ≤ x → IsIn (before Cset) (region_with c x) → x ≢ a → now (Heap x) ≡ m (Heap x)
+    header_stays x from in_set other =
+        let differ : region_with c x ≢ copied.region = λ same_region.
+        (let inside : bit_at (before Cset) copied.region ≡ 1 = subst (IsIn (before Cset)) same_region in_set in
+            let set_now : by Cset ≡ before Cset = sym (so_far.same Cset (λ never. never)) ∙ so_far.same_set in
+            let outside : bit_at (before Cset) copied.region ≡ 0 = ap (λ s. bit_at s copied.region) (sym set_now) ∙ copied.outside in
+            omega (arith, inside, outside)) in
+        let plain_sum : x + 0 ≡ x = omega arith in
+        let apart = regions_apart c (region_with c x) copied.region x (top_address c by copied.region) (words_at by a) differ
+        (subst (IsOf c (region_with c x)) plain_sum (of_its_region c x 0 from (omega (arith, mod_below x c.region_words (some_words c))))) (omega arith) (omega (arith, copied.room)) in
+        now_by (Heap x) (λ never. never) ∙ copied.copied.elsewhere x other apart ∙ sym (so_far.same (Heap x) (λ never. never))
+
+    object_stays : (x : ℕ) → Contains objects x → now (Heap x) ≡ m (Heap x)
+    object_stays x has =
+        header_stays x (above_first c before (before Cset) objects so_far.to_copy x (so_far.to_copy.marked x has)) (so_far.to_copy.in_set x has)
+        (λ same. not_yet (subst (Contains objects) same has))
+
+    new_header : now (Heap a) ≡ header_word (top_address c by copied.region)
+    new_header = now_by (Heap a) (λ never. never) ∙ copied.copied.forwarded
+
+    new_away : is_collected c before (now_in now a) ≡ false
+    new_away =
+        let to = top_address c by copied.region in
+        let set_now : by Cset ≡ before Cset = sym (so_far.same Cset (λ never. never)) ∙ so_far.same_set in
+        let of : IsOf c copied.region to = record { from = omega arith; before = omega (arith, copied.room) } in
+        let region_is = regions_tile.of_no_other c copied.region to of in
+        let outside : IsOutside (before Cset) (region_with c to) = ap (λ s. bit_at s (region_with c to)) (sym set_now) ∙ ap (bit_at (by Cset)) region_is ∙ copied.outside in
+        ap (is_collected c before) (now_is now a to new_header) ∙ not_collected c before to outside
+
+    naming_same : (p : Word) → IsNaming p → now p ≡ m p
+    naming_same p naming = copied_naming c m a (copy_room c m a) p naming
+
+    one_more : IsSoFar now more
+    one_more = record {
+      to_copy = more_to_copy;
+      only = each_more (λ x. (p : Word) × Contains (naming_places c) p × (before p ≡ x)) so_far.only (place, there, is);
+      same_set = now_by Cset (λ never. never) ∙ copied.copied.others Cset (λ never. never) ∙ sym (so_far.same Cset (λ never. never)) ∙ so_far.same_set;
+      same = λ word other. now_by word other ∙ ap (λ (n : Word → ℕ). n word) (sym by_next) ∙ ap (λ k. copied_by c before more k word) (sym longer);
+      named = λ p naming. ⊎_elim
+          (λ (old : m p ≡ before p). inl (naming_same p naming ∙ old))
+          (λ (new : Contains objects (before p) × (m p ≡ now_in m (before p))).
+          inr (Contains-append_left objects (a ∷ []) (before p) new.0, naming_same p naming ∙ new.1 ∙ sym (now_same now m (before p) (object_stays (before p) new.0))))
+          (so_far.named p naming);
+      moved = each_more (λ x. is_forwarded (now (Heap x)) ≡ true) (λ x has. ap is_forwarded (object_stays x has) ∙ so_far.moved x has) (ap is_forwarded new_header ∙ header_forwarded (top_address c by copied.region));
+      away = each_more (λ x. is_collected c before (now_in now x) ≡ false) (λ x has. ap (is_collected c before) (now_same now m x (object_stays x has)) ∙ so_far.away x has) new_away;
+      left = λ x black in_set forwarded. ⊎_elim
+          (λ (here : x ≡ a). subst (Contains more) (sym here) (Contains-push objects a))
+          (λ (other : x ≢ a). Contains-append_left objects (a ∷ []) x (so_far.left x black in_set (ap is_forwarded (sym (header_stays x (black_above x black) in_set other)) ∙ forwarded)))
+          (cases_eq x a);
+    }
+      where
+        black_above : (x : ℕ) → is_black c before x ≡ true → c.region_words ≤ x
+        black_above x black = leb-true c.region_words x (and_parts (nat_le c.region_words x) (bit_at (before (Black (mark_word c x))) (mark_bit c x) == 1) black).0
+
+  -- A place that named an object of the set names the copy.
+  module _ (m : Word → ℕ) (objects : List ℕ) (so_far : IsSoFar m objects) (place : Word) (naming : IsNaming place) (has : Contains objects (before place)) where
+    abbrev renamed : Word → ℕ
+    renamed word = if same_word place word then now_in m (before place) else m word
+
+    renamed_other : (word : Word) → (IsNaming word → ⊥) → renamed word ≡ m word
+    renamed_other word other = cond-false (same_word place word) (now_in m (before place)) (m word) (not_same place word naming other)
+
+    renamed_here : renamed place ≡ now_in m (before place)
+    renamed_here = cond-true (same_word place place) (now_in m (before place)) (m place) (same_word_refl place)
+
+    renamed_now : (x : ℕ) → now_in renamed x ≡ now_in m x
+    renamed_now x = now_same renamed m x (renamed_other (Heap x) (λ never. never))
+
+    renamed_so_far : IsSoFar renamed objects
+    renamed_so_far = record {
+      to_copy = so_far.to_copy;
+      only = so_far.only;
+      same_set = renamed_other Cset (λ never. never) ∙ so_far.same_set;
+      same = λ word other. renamed_other word other ∙ so_far.same word other;
+      named = λ p names. ⊎_elim
+          (λ (here : same_word place p ≡ true).
+          let one : place ≡ p = same_word_true place p here in
+          inr (subst (λ q. Contains objects (before q)) one has, subst (λ q. renamed q ≡ now_in renamed (before q)) one (renamed_here ∙ sym (renamed_now (before place)))))
+          (λ (other : same_word place p ≡ false).
+          let stays : renamed p ≡ m p = cond-false (same_word place p) (now_in m (before place)) (m p) other in
+          ⊎_elim
+          (λ (old : m p ≡ before p). inl (stays ∙ old))
+          (λ (new : Contains objects (before p) × (m p ≡ now_in m (before p))). inr (new.0, stays ∙ new.1 ∙ sym (renamed_now (before p))))
+          (so_far.named p names))
+          (cases_Bool (same_word place p));
+      moved = λ x in_list. ap is_forwarded (renamed_other (Heap x) (λ never. never)) ∙ so_far.moved x in_list;
+      away = λ x in_list. ap (is_collected c before) (renamed_now x) ∙ so_far.away x in_list;
+      left = λ x black in_set forwarded. so_far.left x black in_set (ap is_forwarded (sym (renamed_other (Heap x) (λ never. never))) ∙ forwarded);
+    }
+
+  -- One place is cleared.
+  record IsCleared (m next : Word → ℕ) (place : Word) (objects : List ℕ) : Type 0 where
+    so_far : IsSoFar next objects
+    here : is_collected c before (next place) ≡ false
+    stays : (p : Word) → IsNaming p → is_collected c before (m p) ≡ false → is_collected c before (next p) ≡ false
+
+  -- an object of the set was copied out, in this turn or before
+  record IsMoved (m next : Word → ℕ) (a : ℕ) (objects : List ℕ) : Type 0 where
+    so_far : IsSoFar next objects
+    has : Contains objects a
+    naming_same : (p : Word) → IsNaming p → next p ≡ m p
+
+  module _ (m : Word → ℕ) (objects : List ℕ) (so_far : IsSoFar m objects) where
+    collected_same : (x : ℕ) → is_collected c m x ≡ is_collected c before x
+    collected_same x = ap (λ s. nat_le c.region_words x && (bit_at s (region_with c x) == 1)) so_far.same_set
+
+    module _ (place : Word) (there : Contains (naming_places c) place) where
+      naming : IsNaming place
+      naming = places_name c place there
+
+      -- the words once what an address names was copied and the place names the copy
+      abbrev clear_of : ℕ → Word → ℕ
+      clear_of a word = if same_word place word then now_in (moved_out c m a) a else moved_out c m a word
+
+      moved_by : is_collected c before (before place) ≡ true → (objects' : List ℕ) × IsMoved m (moved_out c m (before place)) (before place) objects'
+      moved_by collected =
+          let a = before place in
+          let parts = and_parts (nat_le c.region_words a) (bit_at (before Cset) (region_with c a) == 1) collected in
+          let above = leb-true c.region_words a parts.0 in
+          let member = eqb-true (bit_at (before Cset) (region_with c a)) 1 parts.1 in
+          let can = copyable place there collected in
+          ⊎_elim
+          (λ (forwarded : is_forwarded (m (Heap a)) ≡ true).
+          let same : moved_out c m a ≡ m = fun_ext (λ word. cond-true (is_forwarded (m (Heap a))) (m word) (copied_out c m a word) forwarded) in
+          (objects, subst (λ n. IsMoved m n a objects) (sym same) (record { so_far = so_far; has = so_far.left a can.marked member forwarded; naming_same = λ p _. refl })))
+          (λ (plain : is_forwarded (m (Heap a)) ≡ false).
+          let same : moved_out c m a ≡ copied_out c m a = fun_ext (λ word. cond-false (is_forwarded (m (Heap a))) (m word) (copied_out c m a word) plain) in
+          (
+            objects ++ a ∷ [],
+            subst (λ n. IsMoved m n a (objects ++ a ∷ [])) (sym same) (record {
+              so_far = one_more m objects so_far a above member can place there refl plain;
+              has = Contains-push objects a;
+              naming_same = naming_same m objects so_far a above member can place there refl plain;
+            }),
+          ))
+          (cases_Bool (is_forwarded (m (Heap a))))
+
+      -- the place named something in the set
+      cleared_by : is_collected c before (before place) ≡ true → (objects' : List ℕ) × IsCleared m (clear_of (before place)) place objects'
+      cleared_by collected =
+          let found = moved_by collected in
+          let n = moved_out c m (before place) in
+          let is = found.1 in
+          let here : is_collected c before (clear_of (before place) place) ≡ false =
+          ap (is_collected c before) (renamed_here n found.0 is.so_far place naming is.has) ∙ is.so_far.away (before place) is.has in
+          (
+            found.0,
+            record {
+              so_far = renamed_so_far n found.0 is.so_far place naming is.has;
+              here = here;
+              stays = λ p names was. ⊎_elim
+                  (λ (this : same_word place p ≡ true). subst (λ q. is_collected c before (clear_of (before place) q) ≡ false) (same_word_true place p this) here)
+                  (λ (other : same_word place p ≡ false).
+                  ap (is_collected c before) (cond-false (same_word place p) (now_in n (before place)) (n p) other ∙ is.naming_same p names) ∙ was)
+                  (cases_Bool (same_word place p));
+            },
+          )
+
+      clears : (next : Word → ℕ) → (is_collected c m (m place) ≡ false → next ≡ m) → (is_collected c m (m place) ≡ true → next ≡ clear_of (m place))
+          → (objects' : List ℕ) × IsCleared m next place objects'
+      clears next spared cleared = ⊎_elim
+          (λ (collected : is_collected c m (m place) ≡ true).
+          let in_set : is_collected c before (m place) ≡ true = sym (collected_same (m place)) ∙ collected in
+          let old : m place ≡ before place = ⊎_elim
+          (λ (is : m place ≡ before place). is)
+          (λ (new : Contains objects (before place) × (m place ≡ now_in m (before place))).
+          absurd (both_ways (is_collected c before (m place)) (ap (is_collected c before) new.1 ∙ so_far.away (before place) new.0) in_set))
+          (so_far.named place naming) in
+          let result = cleared_by (ap (is_collected c before) (sym old) ∙ in_set) in
+          (result.0, subst (λ n. IsCleared m n place result.0) (sym (cleared collected ∙ ap clear_of old)) result.1))
+          (λ (outside : is_collected c m (m place) ≡ false).
+          (objects, subst (λ n. IsCleared m n place objects) (sym (spared outside)) (record { so_far = so_far; here = sym (collected_same (m place)) ∙ outside; stays = λ p _ was. was })))
+          (cases_Bool (is_collected c m (m place)))
+
+      clears_here : (objects' : List ℕ) × IsCleared m (cleared_at c m place) place objects'
+      unfolding cleared_at
+      clears_here = clears (cleared_at c m place)
+          (λ outside. fun_ext (λ word. cond-false (is_collected c m (m place)) (clear_of (m place) word) (m word) outside))
+          (λ collected. fun_ext (λ word. cond-true (is_collected c m (m place)) (clear_of (m place) word) (m word) collected))
+
+  -- All places of a list are cleared.
+  record AreClearedHere (m end : Word → ℕ) (places : List Word) (objects : List ℕ) : Type 0 where
+    so_far : IsSoFar end objects
+    here : (p : Word) → Contains places p → is_collected c before (end p) ≡ false
+    stays : (p : Word) → IsNaming p → is_collected c before (m p) ≡ false → is_collected c before (end p) ≡ false
+
+  all_cleared : (places : List Word) (m : Word → ℕ) (objects : List ℕ) → ((p : Word) → Contains places p → Contains (naming_places c) p) → IsSoFar m objects
+      → (objects' : List ℕ) × AreClearedHere m (cleared_in_turn c m places) places objects'
+  unfolding cleared_in_turn
+  all_cleared [] m objects are so_far = (objects, record { so_far = so_far; here = λ p has. absurd (omega (arith, has.1)); stays = λ p _ was. was })
+  all_cleared (place ∷ places) m objects are so_far =
+      let first = clears_here m objects so_far place (are place (is_first place places)) in
+      let rest = all_cleared places (cleared_at c m place) first.0 (λ p has. are p (is_later place places p has)) first.1.so_far in
+      (
+        rest.0,
+        record {
+          so_far = rest.1.so_far;
+          here = λ p has. ⊎_elim
+              (λ (this : place ≡ p). rest.1.stays p (places_name c p (are p has)) (subst (λ q. is_collected c before (cleared_at c m place q) ≡ false) this first.1.here))
+              (λ (later : Contains places p). rest.1.here p later)
+              (first_or_later place places p has.0 has.1 has.2);
+          stays = λ p names was. rest.1.stays p names (first.1.stays p names was);
+        },
+      )
+
+  at_first : IsSoFar before []
+  unfolding copied_by
+  at_first = record {
+    to_copy = record {
+      once = none_distinct;
+      marked = λ x has. absurd (nothing_in_none x has);
+      of_region = λ x has. absurd (nothing_in_none x has);
+      in_set = λ x has. absurd (nothing_in_none x has);
+      short = λ x has. absurd (nothing_in_none x has);
+    };
+    only = λ x has. absurd (nothing_in_none x has);
+    same_set = refl;
+    same = λ word other. refl;
+    named = λ p names. inl refl;
+    moved = λ x has. absurd (nothing_in_none x has);
+    away = λ x has. absurd (nothing_in_none x has);
+    left = λ x black in_set forwarded. absurd (both_ways (is_forwarded (before (Heap x))) (unmoved x black) forwarded);
+  }
+
+  are_cleared : (objects : List ℕ) × AreCleared c before (cleared_in_turn c before (naming_places c)) objects
+  are_cleared =
+      let end = all_cleared (naming_places c) before [] (λ p has. has) at_first in
+      let so_far = end.1.so_far in
+      let after = cleared_in_turn c before (naming_places c) in
+      (
+        end.0,
+        record {
+          to_copy = so_far.to_copy;
+          named = so_far.only;
+          copied = so_far.same;
+          renewed = λ p there. ⊎_elim
+              (λ (old : after p ≡ before p).
+              old ∙ sym (cond-false (is_collected c before (before p)) (now_in after (before p)) (before p) (ap (is_collected c before) (sym old) ∙ end.1.here p there)))
+              (λ (new : Contains end.0 (before p) × (after p ≡ now_in after (before p))).
+              new.1 ∙ sym (cond-true (is_collected c before (before p)) (now_in after (before p)) (before p) (in_set end.0 so_far.to_copy (before p) new.0)))
+              (so_far.named p (places_name c p there));
+          cleared = end.1.here;
+        },
+      )
+    where
+      in_set : (objects : List ℕ) → AreToCopy c before (before Cset) objects → (a : ℕ) → Contains objects a → is_collected c before a ≡ true
+      in_set objects to_copy a has =
+          and_from (nat_le c.region_words a) (bit_at (before Cset) (region_with c a) == 1)
+          (le-leb c.region_words a (above_first c before (before Cset) objects to_copy a (to_copy.marked a has)))
+          (eq-eqb (bit_at (before Cset) (region_with c a)) 1 (to_copy.in_set a has))
+
+-- a collection set changes nothing else
+set_apart : (m : Word → ℕ) (set : ℕ) (place : Word) → IsNaming place → with_set m set place ≡ m place
+set_apart m set (Root t i) naming = refl
+set_apart m set (Answer t) naming = refl
+set_apart m set place naming = absurd naming
+
+pub roots_are_cleared : RootsAreCleared
+roots_are_cleared c memory empty lie unmoved copyable =
+    let before = with_set memory (chosen c memory) in
+    are_cleared c before empty lie refl unmoved (λ place there collected.
+    let same = set_apart memory (chosen c memory) place (places_name c place there) in
+    let can = copyable place there (ap (is_collected c before) (sym same) ∙ collected) in
+    let here = subst (IsCopyable c memory) (sym same) can in
+    record { marked = here.marked; of_region = here.of_region; short = here.short })

@@ -1,0 +1,11 @@
+pub mod Sums
+pub mod Places
+pub mod Candidate
+pub mod Order
+pub mod Front
+pub mod Taken
+pub mod Room
+pub mod Fits
+pub mod CopiedOut
+pub mod Turns
+pub mod Clearing

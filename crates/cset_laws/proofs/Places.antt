@@ -1,0 +1,59 @@
+-- Addresses by their regions.
+use Rattle.std.proofs.Common.{◌≡◌, ◌≢◌, ℕ, ◌+◌, ◌-◌, ◌*◌, ◌/◌, ◌%◌, ◌<◌, ◌≤◌, ◌⊎◌, inl, inr, ap, ◌∙◌, ⊎_elim, arith}
+use Rattle.std.proofs.lemmas.Bool.{cases_lt}
+use Rattle.std.proofs.lemmas.Nat.{div-add-mod', mod_below, mul-le, div-mul-add, mod-mul-add}
+use Rattle.heap_words.specs.declared.config.Config.{Config}
+use Rattle.packing.proofs.Tops.{rows_apart}
+use Rattle.regions.specs.Place.{base_of, region_with, IsOf}
+
+-- how far an address is from the base of its region
+pub from_base : (w a : ℕ) → 0 < w → w ≤ a → (a / w - 1 + 1) * w + a % w ≡ a
+from_base w a some above = ⊎_elim
+    (λ (none : a / w < 1).
+    let zero_row : a / w ≡ 0 = omega (arith, none) in
+    let row : a / w * w ≡ 0 * w = ap (λ k. k * w) zero_row in
+    absurd (omega (arith, row, above, div-add-mod' a w, mod_below a w some)))
+    (λ (least : 1 ≤ a / w).
+    let next : a / w - 1 + 1 ≡ a / w = omega (arith, least) in
+    let row : (a / w - 1 + 1) * w ≡ a / w * w = ap (λ k. k * w) next in
+    omega (arith, row, div-add-mod' a w))
+    (cases_lt (a / w) 1)
+
+-- the same, counted from the first address of the heap
+pub record IsPlace (w regions a : ℕ) : Type 0 where
+  pub row : (a - w) / w ≡ a / w - 1
+  pub offset : (a - w) % w ≡ a % w
+  pub below : a - w < regions * w
+
+pub place_of : (w regions a : ℕ) → 0 < w → w ≤ a → a / w - 1 < regions → IsPlace w regions a
+place_of w regions a some above inside =
+    let q = a / w - 1 in
+    let again = from_base w a some above in
+    let from_first : a - w ≡ q * w + a % w = omega (arith, again) in
+    let rows = mul-le (q + 1) w regions w (omega (arith, inside)) (omega arith) in
+    record {
+      row = ap (λ k. k / w) from_first ∙ div-mul-add q w (a % w) (mod_below a w some);
+      offset = ap (λ k. k % w) from_first ∙ mod-mul-add q w (a % w) (mod_below a w some);
+      below = omega (arith, from_first, rows, mod_below a w some);
+    }
+
+module _ (c : Config) where
+  pub some_words : 0 < c.region_words
+  some_words = let range = c.in_range in omega (arith, range.least_words)
+
+  -- an address that lies no further from another than the end of its region is of that region
+  pub of_its_region : (a k : ℕ) → c.region_words ≤ a → a % c.region_words + k < c.region_words → IsOf c (region_with c a) (a + k)
+  of_its_region a k above inside =
+      let again = from_base c.region_words a some_words above in
+      record { from = omega (arith, again); before = omega (arith, again, inside) }
+
+  -- addresses of two regions lie apart
+  pub regions_apart : (q r x from n : ℕ) → q ≢ r → IsOf c q x → base_of c r ≤ from → from + n ≤ base_of c r + c.region_words → (x < from) ⊎ (from + n ≤ x)
+  regions_apart q r x from n differ of low high =
+      ⊎_elim
+      (λ (same : q ≡ r). absurd (differ same))
+      (λ (apart : (q * c.region_words + c.region_words ≤ r * c.region_words) ⊎ (r * c.region_words + c.region_words ≤ q * c.region_words)). ⊎_elim
+      (λ (lower : q * c.region_words + c.region_words ≤ r * c.region_words). inl (omega (arith, lower, of.before, low)))
+      (λ (higher : r * c.region_words + c.region_words ≤ q * c.region_words). inr (omega (arith, higher, of.from, high)))
+      apart)
+      (rows_apart c.region_words q r)
