@@ -1,0 +1,7 @@
+pub mod Rows
+pub mod Fit
+pub mod Waits
+pub mod Seen
+pub mod UnitRows
+pub mod UnitFit
+pub mod UnitEnds
