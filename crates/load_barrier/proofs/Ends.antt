@@ -1,9 +1,9 @@
 -- A step of a machine that resolves an address says that it is done exactly where it leads to the end.
-use Rattle.std.proofs.Common.{◌≡◌, ℕ, true, false, refl, sym, ◌∙◌}
+use Rattle.std.proofs.Common.{◌≡◌, ℕ, true, false, refl}
 use Rattle.std.specs.Prelude.{◌↔◌}
 use Rattle.heap_words.specs.declared.config.Config.{Config}
 use Rattle.heap_words.specs.declared.access.Took.{Took}
-use Rattle.heap_words.specs.declared.access.Took.TheVariants.{More, Again, Done}
+use Rattle.heap_words.specs.declared.access.Took.TheVariants.{Again, Done}
 use Rattle.alloc_buffers.specs.declared.spot.Taken.TheVariants.{At, NoRoom}
 use Rattle.alloc_buffers.specs.declared.spot.TakeSpot.{TakeSpot}
 use Rattle.alloc_buffers.specs.declared.spot.TakeSpot.TheVariants as take
@@ -12,7 +12,7 @@ use Rattle.evac_room.specs.declared.spot.RoomSpot.{RoomSpot}
 use Rattle.evac_room.specs.declared.spot.RoomSpot.TheVariants as room
 use Rattle.evac_room.specs.Rows as rooms
 use Rattle.load_barrier.specs.declared.spot.ResolveSpot.{ResolveSpot}
-use Rattle.load_barrier.specs.declared.spot.ResolveSpot.TheVariants.{LoadHeader, Entering, LoadShape, Taking, Copying, Leaving, Stopping, LoadAgain, Resolved}
+use Rattle.load_barrier.specs.declared.spot.ResolveSpot.TheVariants.{Entering, Taking, Stopping, Resolved}
 use Rattle.load_barrier.specs.Rows.{next_at, says_at, is_resolved, told, told_by, after_enter, after_take, after_stop, take_next}
 
 told_resolved : (next : ResolveSpot) → told next ≡ Done → is_resolved next ≡ true

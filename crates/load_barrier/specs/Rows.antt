@@ -2,7 +2,7 @@
 -- it makes and what follows. Whoever finds the object not forwarded asks to copy, copies it into room of its own, and publishes
 -- its copy by one exchange on the old header. The loser of that race gives its room back, and goes on with the copy of the
 -- winner. Whoever finds no room stops all copying, and waits until nobody copies; then the header decides once more.
-use Rattle.std.specs.Prelude.{ℕ, ◌+◌, ◌-◌, ◌==◌, Bool, true, false, ◌&&◌, nat_lt, nat_le, if◌then◌else◌}
+use Rattle.std.specs.Prelude.{ℕ, ◌+◌, ◌-◌, ◌==◌, Bool, true, false, nat_lt, if◌then◌else◌}
 use Rattle.heap_words.specs.declared.config.Config.{Config}
 use Rattle.heap_words.specs.declared.place.Place.{Place}
 use Rattle.heap_words.specs.declared.place.Place.TheVariants as place

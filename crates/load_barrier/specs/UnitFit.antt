@@ -1,5 +1,5 @@
 -- Whether a machine that works on a unit of evacuation can make its next access, and by which words it can go on.
-use Rattle.std.specs.Prelude.{ℕ, ◌≡◌, ◌+◌, ◌*◌, Bool, true, ◌&&◌, nat_lt, nat_le, ⊤, if◌then◌else◌}
+use Rattle.std.specs.Prelude.{ℕ, ◌≡◌, ◌+◌, Bool, true, ◌&&◌, nat_lt, nat_le, ⊤, if◌then◌else◌}
 use Rattle.heap_words.specs.declared.config.Config.{Config}
 use Rattle.heap_words.specs.Words.{Heap, is_word}
 use Rattle.load_barrier.specs.declared.spot.ResolveSpot.{ResolveSpot}

@@ -1,4 +1,3 @@
-use Rattle.std.proofs.Common.{◌≡◌, sym, ◌∙◌}
 use Rattle.load_barrier.proofs.Ends.{done_is}
 use Rattle.load_barrier.proofs.resolve.Resolve.took.Goals as goal
 
