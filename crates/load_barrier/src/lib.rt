@@ -18,12 +18,20 @@ mod resolve;
 mod set;
 mod spot;
 
+ghost use Rattle.load_barrier.specs.Runs.{AnswersAreCurrent};
+
 pub use copying::CopySpot;
 pub use evac_spot::EvacSpot;
 pub use evac_unit::EvacUnit;
 pub use resolve::Resolve;
 pub use set::must_resolve;
 pub use spot::ResolveSpot;
+
+/// A law: whatever others do that leave the object as the protocol has it, the answer is the object's current copy, from the
+/// moment on at which it is there, and a copy that is about to be published is whole.
+pub fn answers_are_current()
+    ensures { AnswersAreCurrent }
+{}
 
 #[cfg(test)]
 mod tests;

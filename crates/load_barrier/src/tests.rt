@@ -1,4 +1,6 @@
 use super::*;
+use alloc_buffers::TakeSpot;
+use evac_room::RoomSpot;
 use heap_words::{Access, Config, Place, Took, Unit};
 use std::test::Fail;
 
@@ -12,9 +14,9 @@ const FORWARDED: u64 = 535;
 // Bit 63 of the counter of copiers.
 const OUT_OF_ROOM: u64 = 9223372036854775808;
 
-// Nobody else copies it: the room is at the top of region 1, whose top is 5, at address 133.
+// Nobody else copies it.
 #[test]
-fn copies_an_object(rt: HostRuntime) -> Result<(), Fail> {
+fn asks_to_copy(rt: HostRuntime) -> Result<(), Fail> {
     let config = Config::new(4, 64, 1, 0, 0)?;
     let mut copier = Resolve::new(config, 0, 96, 2, 1);
     assert!(rt; copier.place() == Place::HL);
@@ -28,20 +30,24 @@ fn copies_an_object(rt: HostRuntime) -> Result<(), Fail> {
     assert!(rt; copier.plan() == Access::Load { at: 92 });
     assert!(rt; copier.took(65536) == Took::More);
     assert!(rt; copier.place() == Place::TC);
-    assert!(rt; copier.took(2) == Took::More);
-    assert!(rt; copier.took(5) == Took::More);
-    assert!(rt; copier.place() == Place::TS);
-    assert!(rt; copier.took(5) == Took::More);
-    assert!(rt; copier.place() == Place::CL);
-    assert!(rt; copier.plan() == Access::Load { at: 92 });
     Ok(())
 }
 
-// Both words behind the header are copied, and then the header of the copy is stored.
+// The room is at the top of region 1, whose top is 5, at address 133. Both words behind the header are copied, and then the
+// header of the copy is stored.
 #[test]
 fn copies_each_word(rt: HostRuntime) -> Result<(), Fail> {
     let config = Config::new(4, 64, 1, 0, 0)?;
     let copy = 133;
+    let room = ResolveSpot::Taking {
+        words: 3,
+        at: TakeSpot::StoreTop { region: 1, top: 5 },
+    };
+    let begin = ResolveSpot::Copying {
+        copy,
+        at: CopySpot::LoadWord { words: 3, index: 1 },
+    };
+    assert!(rt; room.after(config, 0, 96, 2, 5) == (begin, Took::More));
     let load = CopySpot::LoadWord { words: 3, index: 2 };
     assert!(rt; load.access(config, 96, copy) == Access::Load { at: 93 });
     let store = CopySpot::StoreWord {
@@ -114,32 +120,30 @@ fn second_copy_wins(rt: HostRuntime) -> Result<(), Fail> {
 #[test]
 fn finds_no_room(rt: HostRuntime) -> Result<(), Fail> {
     let config = Config::new(4, 64, 1, 0, 0)?;
-    let mut copier = Resolve::new(config, 0, 96, 2, 1);
-    assert!(rt; copier.took(1) == Took::More);
-    assert!(rt; copier.took(1) == Took::More);
-    assert!(rt; copier.took(1) == Took::More);
-    assert!(rt; copier.took(65536) == Took::More);
-    assert!(rt; copier.took(0) == Took::More);
-    assert!(rt; copier.place() == Place::TF);
-    assert!(rt; copier.took(0) == Took::More);
-    assert!(rt; copier.place() == Place::OL);
-    assert!(rt; copier.took(2) == Took::More);
-    assert!(rt; copier.place() == Place::OX);
-    assert!(rt;
-        copier.plan()
-            == Access::Exchange {
-                at: 7,
-                expect: 2,
-                value: OUT_OF_ROOM + 1
-            }
-    );
-    assert!(rt; copier.took(2) == Took::More);
-    assert!(rt; copier.place() == Place::XW);
-    assert!(rt; copier.took(OUT_OF_ROOM + 1) == Took::Again);
-    assert!(rt; copier.took(OUT_OF_ROOM) == Took::More);
-    assert!(rt; copier.place() == Place::HR);
-    assert!(rt; copier.took(1) == Took::Done);
-    assert!(rt; copier.answer() == 96);
+    let looking = ResolveSpot::Taking {
+        words: 3,
+        at: TakeSpot::LoadFree,
+    };
+    let asking = ResolveSpot::Stopping { at: RoomSpot::Ask };
+    assert!(rt; looking.after(config, 0, 96, 2, 0) == (asking, Took::More));
+    let marking = ResolveSpot::Stopping {
+        at: RoomSpot::Mark { found: 2 },
+    };
+    assert!(rt; asking.after(config, 0, 96, 2, 2) == (marking, Took::More));
+    let marks = Access::Exchange {
+        at: 7,
+        expect: 2,
+        value: OUT_OF_ROOM + 1,
+    };
+    assert!(rt; marking.access(config, 0, 96) == marks);
+    let waiting = ResolveSpot::Stopping { at: RoomSpot::Wait };
+    assert!(rt; marking.after(config, 0, 96, 2, 3) == (asking, Took::Again));
+    assert!(rt; marking.after(config, 0, 96, 2, 2) == (waiting, Took::More));
+    assert!(rt; waiting.after(config, 0, 96, 2, OUT_OF_ROOM + 1) == (waiting, Took::Again));
+    let quiet = ResolveSpot::LoadAgain;
+    assert!(rt; waiting.after(config, 0, 96, 2, OUT_OF_ROOM) == (quiet, Took::More));
+    let same = ResolveSpot::Resolved { answer: 96 };
+    assert!(rt; quiet.after(config, 0, 96, 2, 1) == (same, Took::Done));
     Ok(())
 }
 
@@ -175,33 +179,50 @@ fn answers_at_once(rt: HostRuntime) -> Result<(), Fail> {
     Ok(())
 }
 
-// Region 0 has an object of 32 words that is not marked, and behind it the one at 96, which is.
+// Region 0 has an object of 32 words that is not marked, and behind it the one at 96, which is, and is forwarded.
 #[test]
-fn evacuates_a_region(rt: HostRuntime) -> Result<(), Fail> {
+fn walks_a_region(rt: HostRuntime) -> Result<(), Fail> {
     let config = Config::new(4, 64, 1, 0, 0)?;
-    let mut unit = EvacUnit::new(config, 1, 1);
-    assert!(rt; unit.place() == Place::EC);
-    assert!(rt; unit.plan() == Access::Load { at: 8 });
-    assert!(rt; unit.took(0) == Took::More);
-    assert!(rt; unit.place() == Place::KX);
-    assert!(rt; unit.took(0) == Took::More);
-    assert!(rt; unit.place() == Place::ET);
-    assert!(rt; unit.plan() == Access::Load { at: 10 });
-    assert!(rt; unit.took(35) == Took::More);
-    assert!(rt; unit.place() == Place::ES);
-    assert!(rt; unit.plan() == Access::Load { at: 60 });
-    assert!(rt; unit.took(69645) == Took::More);
-    assert!(rt; unit.place() == Place::EB);
-    assert!(rt; unit.plan() == Access::Load { at: 55 });
-    assert!(rt; unit.took(4294967296) == Took::More);
-    assert!(rt; unit.place() == Place::ES);
-    assert!(rt; unit.plan() == Access::Load { at: 92 });
-    assert!(rt; unit.took(65536) == Took::More);
-    assert!(rt; unit.took(4294967296) == Took::More);
-    assert!(rt; unit.place() == Place::HL);
-    assert!(rt; unit.plan() == Access::Load { at: 91 });
-    assert!(rt; unit.took(FORWARDED) == Took::Done);
-    assert!(rt; unit.answer() == Unit::Worked);
+    let top = EvacSpot::LoadTop { region: 0 };
+    let first = EvacSpot::LoadShape {
+        address: 64,
+        end: 99,
+    };
+    assert!(rt; top.access(config, 1) == Access::Load { at: 10 });
+    assert!(rt; top.after(config, 1, 1, 35) == (first, Took::More));
+    let mark = EvacSpot::LoadMark {
+        address: 64,
+        end: 99,
+        next: 96,
+    };
+    assert!(rt; first.after(config, 1, 1, 69645) == (mark, Took::More));
+    let second = EvacSpot::LoadShape {
+        address: 96,
+        end: 99,
+    };
+    assert!(rt; mark.access(config, 1) == Access::Load { at: 55 });
+    assert!(rt; mark.after(config, 1, 1, 4294967296) == (second, Took::More));
+    Ok(())
+}
+
+#[test]
+fn resolves_what_is_marked(rt: HostRuntime) -> Result<(), Fail> {
+    let config = Config::new(4, 64, 1, 0, 0)?;
+    let mark = EvacSpot::LoadMark {
+        address: 96,
+        end: 99,
+        next: 99,
+    };
+    let header = EvacSpot::Resolving {
+        address: 96,
+        end: 99,
+        next: 99,
+        at: ResolveSpot::LoadHeader,
+    };
+    let worked = EvacSpot::Ended { unit: Unit::Worked };
+    assert!(rt; mark.after(config, 1, 1, 4294967296) == (header, Took::More));
+    assert!(rt; header.access(config, 1) == Access::Load { at: 91 });
+    assert!(rt; header.after(config, 1, 1, FORWARDED) == (worked, Took::Done));
     Ok(())
 }
 
