@@ -1,0 +1,52 @@
+-- A step of a machine that resolves an address says that it is done exactly where it leads to the end.
+use Rattle.std.proofs.Common.{◌≡◌, ℕ, true, false, refl}
+use Rattle.std.specs.Prelude.{◌↔◌}
+use Rattle.heap_words.specs.declared.config.Config.{Config}
+use Rattle.heap_words.specs.declared.access.Took.{Took}
+use Rattle.heap_words.specs.declared.access.Took.TheVariants.{Again, Done}
+use Rattle.alloc_buffers.specs.declared.spot.Taken.TheVariants.{At, NoRoom}
+use Rattle.alloc_buffers.specs.declared.spot.TakeSpot.{TakeSpot}
+use Rattle.alloc_buffers.specs.declared.spot.TakeSpot.TheVariants as take
+use Rattle.alloc_buffers.specs.Rows as takes
+use Rattle.evac_room.specs.declared.spot.RoomSpot.{RoomSpot}
+use Rattle.evac_room.specs.declared.spot.RoomSpot.TheVariants as room
+use Rattle.evac_room.specs.Rows as rooms
+use Rattle.load_barrier.specs.declared.spot.ResolveSpot.{ResolveSpot}
+use Rattle.load_barrier.specs.declared.spot.ResolveSpot.TheVariants.{Entering, Taking, Stopping, Resolved}
+use Rattle.load_barrier.specs.Rows.{next_at, says_at, is_resolved, told, told_by, after_enter, after_take, after_stop, take_next}
+
+told_resolved : (next : ResolveSpot) → told next ≡ Done → is_resolved next ≡ true
+told_resolved (Resolved answer) done = refl
+told_resolved next done = absurd (cc (done))
+
+resolved_told : (next : ResolveSpot) → is_resolved next ≡ true → told next ≡ Done
+resolved_told (Resolved answer) resolved = refl
+resolved_told next resolved = absurd (cc (resolved))
+
+told_is : (next : ResolveSpot) → (told next ≡ Done) ↔ (is_resolved next ≡ true)
+told_is next = (told_resolved next, resolved_told next)
+
+told_by_is : (said : Took) (next : ResolveSpot) → is_resolved next ≡ false → (told_by said next ≡ Done) ↔ (is_resolved next ≡ true)
+told_by_is Again next going = ((λ done. absurd (cc (done))), (λ resolved. absurd (cc (going, resolved))))
+told_by_is said next going = told_is next
+
+enter_goes : (at : RoomSpot) → is_resolved (after_enter at) ≡ false
+enter_goes room.Inside = refl
+enter_goes room.Stopped = refl
+enter_goes at = refl
+
+take_goes : (words : ℕ) (at : TakeSpot) → is_resolved (after_take words at) ≡ false
+take_goes words (take.Ended (At copy)) = refl
+take_goes words (take.Ended NoRoom) = refl
+take_goes words at = refl
+
+stop_goes : (at : RoomSpot) → is_resolved (after_stop at) ≡ false
+stop_goes room.Stopped = refl
+stop_goes at = refl
+
+pub done_is : (c : Config) (address phase : ℕ) (at : ResolveSpot) (got : ℕ) → (says_at c address phase at got ≡ Done) ↔ (is_resolved (next_at c address phase at got) ≡ true)
+done_is c address phase (Entering at) got = told_by_is (rooms.answer_at at got) (after_enter (rooms.next_at at got)) (enter_goes (rooms.next_at at got))
+done_is c address phase (Taking words at) got =
+    told_by_is (takes.says at (take_next c words at got)) (after_take words (take_next c words at got)) (take_goes words (take_next c words at got))
+done_is c address phase (Stopping at) got = told_by_is (rooms.answer_at at got) (after_stop (rooms.next_at at got)) (stop_goes (rooms.next_at at got))
+done_is c address phase at got = told_is (next_at c address phase at got)

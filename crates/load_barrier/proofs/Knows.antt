@@ -1,0 +1,170 @@
+-- What a machine that resolves an address counts on at each spot, by the words alone, and that others leave it.
+use Rattle.std.proofs.Common.{◌≡◌, ◌≢◌, ◌≤◌, ◌<◌, ◌^◌, ℕ, ◌+◌, ◌*◌, ◌/◌, ◌%◌, inl, inr, Bool, true, false, refl, sym, ap, ◌∙◌, subst, arith}
+use Rattle.std.specs.Prelude.{◌==◌, nat_lt, if◌then◌else◌, ⊤, ◌⊎◌}
+use Rattle.std.proofs.lemmas.Bool.{cond-true, cond-false}
+use Rattle.std.proofs.lemmas.Bool.Decides.{nat_tests}
+use Rattle.heap_words.specs.Encoding.{plain_header, header_word, is_forwarded, forwardee_in, object_words}
+use Rattle.heap_words.specs.Words.{Word, Evac, Heap}
+use Rattle.alloc_buffers.specs.declared.spot.TakeSpot.{TakeSpot}
+use Rattle.alloc_buffers.specs.Rows as takes
+use Rattle.evac_room.specs.Counter.{count_of, is_out_of_room, IsQuiet}
+use Rattle.evac_room.specs.declared.spot.RoomSpot.{RoomSpot}
+use Rattle.evac_room.specs.declared.spot.RoomSpot.TheVariants.{Look, Raise, Ask, Mark, Wait}
+use Rattle.evac_room.proofs.Steps.{Mine, mine_stays}
+use Rattle.load_barrier.specs.declared.copying.CopySpot.{CopySpot}
+use Rattle.load_barrier.specs.declared.copying.CopySpot.TheVariants.{LoadWord, StoreWord, StoreHeader, Publish, GiveBack}
+use Rattle.load_barrier.specs.declared.spot.ResolveSpot.{ResolveSpot}
+use Rattle.load_barrier.specs.declared.spot.ResolveSpot.TheVariants.{LoadHeader, Entering, LoadShape, Taking, Copying, Leaving, Stopping, LoadAgain, Resolved}
+use Rattle.load_barrier.specs.Rows.{current_copy}
+use Rattle.load_barrier.specs.Runs.{is_copier, IsHeader, words_in, AreCopied, IsWhole, LeaveObject}
+
+-- it asks to copy
+abbrev pub IsAsking : RoomSpot → Type 0
+IsAsking Look = ⊤
+IsAsking (Raise found) = ⊤
+IsAsking _ = ⊥
+
+-- it has found no room, and stops all copying
+abbrev pub IsGoing : RoomSpot → Type 0
+IsGoing Ask = ⊤
+IsGoing (Mark found) = ⊤
+IsGoing Wait = ⊤
+IsGoing _ = ⊥
+
+module _ (phase address : ℕ) where
+  -- what holds while it copies
+  abbrev pub CopyKnows : (ℕ → ℕ) → ℕ → CopySpot → Type 0
+  CopyKnows heap copy (LoadWord words index) = (words ≡ words_in heap address) × (1 ≤ index) × (index < words) × AreCopied heap address copy index
+  CopyKnows heap copy (StoreWord words index found) =
+      (words ≡ words_in heap address) × (1 ≤ index) × (index < words) × AreCopied heap address copy index × (found ≡ heap (address + index))
+  CopyKnows heap copy StoreHeader = AreCopied heap address copy (words_in heap address)
+  CopyKnows heap copy Publish = IsWhole heap address copy
+  CopyKnows heap copy (GiveBack answer) = heap address ≡ header_word answer
+
+  -- the header does not change any more
+  abbrev pub IsSettled : (ℕ → ℕ) → ℕ → Type 0
+  IsSettled heap evac = (is_forwarded (heap address) ≡ true) ⊎ (IsQuiet evac ⊎ (phase ≡ 3))
+
+  -- what holds at each spot
+  abbrev pub Knows : (ℕ → ℕ) → ℕ → ResolveSpot → Type 0
+  Knows heap evac LoadHeader = ⊤
+  Knows heap evac (Entering at) = IsAsking at × Mine evac at
+  Knows heap evac LoadShape = ⊤
+  Knows heap evac (Taking words at) = (words ≡ words_in heap address) × (takes.is_ended at ≡ false)
+  Knows heap evac (Copying copy at) = CopyKnows heap copy at
+  Knows heap evac (Leaving answer) = heap address ≡ header_word answer
+  Knows heap evac (Stopping at) = IsGoing at × Mine evac at
+  Knows heap evac LoadAgain = IsQuiet evac
+  Knows heap evac (Resolved answer) = (answer ≡ current_copy address (heap address)) × IsSettled heap evac
+
+  pub record CanResolve (heap : ℕ → ℕ) (evac : ℕ) (spot : ResolveSpot) : Type 0 where
+    pub header : IsHeader (heap address)
+    pub counted : is_copier spot ≡ true → 1 ≤ count_of evac
+    pub knows : Knows heap evac spot
+
+  abbrev pub Can : (Word → ℕ) → ResolveSpot → Type 0
+  Can memory spot = CanResolve (λ a. memory (Heap a)) (memory Evac) spot
+
+-- a header that names a copy reads so
+pub header_forwarded : (to : ℕ) → is_forwarded (header_word to) ≡ true
+header_forwarded to = grind (arith, nat_tests)
+
+pub header_names : (to : ℕ) → forwardee_in (header_word to) ≡ to
+header_names to = omega arith
+
+-- an object's header that is not plain names a copy
+pub names_copy : (header : ℕ) → IsHeader header → (header == plain_header) ≡ false → header ≡ header_word (forwardee_in header)
+names_copy header (inl plain) other = absurd (grind (arith, nat_tests))
+names_copy header (inr named) other = grind (arith, nat_tests)
+
+-- the current copy by a header that names it
+pub current_named : (address header to : ℕ) → header ≡ header_word to → to ≡ current_copy address header
+current_named address header to is = subst (λ h. to ≡ current_copy address h) (sym is)
+    (sym (cond-true (is_forwarded (header_word to)) (forwardee_in (header_word to)) address (header_forwarded to) ∙ header_names to))
+
+-- Others leave the object.
+module _ (phase address : ℕ) (spot : ResolveSpot) (before after : Word → ℕ) (left : LeaveObject phase address spot before after) where
+  abbrev pub old : ℕ → ℕ
+  old a = before (Heap a)
+
+  abbrev pub new : ℕ → ℕ
+  new a = after (Heap a)
+
+  words_stay : is_copier spot ≡ true → words_in new address ≡ words_in old address
+  words_stay copies = ap object_words (left.words copies 1 (omega arith) (omega arith))
+
+  copied_stay : (copy index : ℕ) → is_copier spot ≡ true → index ≤ words_in old address
+      → ((k : ℕ) → k < words_in old address → new (copy + k) ≡ old (copy + k)) → AreCopied old address copy index → AreCopied new address copy index
+  copied_stay copy index copies most room copied k some below =
+      let inside : k < words_in old address = omega (arith, below, most) in
+      room k inside ∙ copied k some below ∙ sym (left.words copies k some inside)
+
+  header_stays : (to : ℕ) → old address ≡ header_word to → new address ≡ header_word to
+  header_stays to is = left.forwarded (ap is_forwarded is ∙ header_forwarded to) ∙ is
+
+  settled_header : IsSettled phase address old (before Evac) → new address ≡ old address
+  settled_header (inl named) = left.forwarded named
+  settled_header (inr (inl quiet)) = left.quiet quiet
+  settled_header (inr (inr updating)) = left.updating updating
+
+  settled_stays : IsSettled phase address old (before Evac) → IsSettled phase address new (after Evac)
+  settled_stays (inl named) = inl (ap is_forwarded (left.forwarded named) ∙ named)
+  settled_stays (inr (inl quiet)) = inr (inl (left.stopped quiet))
+  settled_stays (inr (inr updating)) = inr (inr updating)
+
+-- what holds of a copying stays
+copy_stays : (phase address copy : ℕ) (at : CopySpot) (before after : Word → ℕ) → LeaveObject phase address (Copying copy at) before after
+    → CopyKnows phase address (λ a. before (Heap a)) copy at → CopyKnows phase address (λ a. after (Heap a)) copy at
+copy_stays phase address copy (LoadWord words index) before after left knows =
+    let same = words_stay phase address (Copying copy (LoadWord words index)) before after left refl in (
+      knows.0 ∙ sym same,
+      knows.1,
+      knows.2,
+      copied_stay phase address (Copying copy (LoadWord words index)) before after left copy index refl (omega (arith, knows.0, knows.2)) left.room knows.3,
+    )
+copy_stays phase address copy (StoreWord words index found) before after left knows =
+    let same = words_stay phase address (Copying copy (StoreWord words index found)) before after left refl in (
+      knows.0 ∙ sym same,
+      knows.1,
+      knows.2,
+      copied_stay phase address (Copying copy (StoreWord words index found)) before after left copy index refl (omega (arith, knows.0, knows.2)) left.room knows.3,
+      knows.4 ∙ sym (left.words refl index knows.1 (omega (arith, knows.0, knows.2))),
+    )
+copy_stays phase address copy StoreHeader before after left knows =
+    let same = words_stay phase address (Copying copy StoreHeader) before after left refl in
+    subst (λ n. AreCopied (λ a. after (Heap a)) address copy n) (sym same)
+    (copied_stay phase address (Copying copy StoreHeader) before after left copy (words_in (λ a. before (Heap a)) address) refl (omega arith) left.room knows)
+copy_stays phase address copy Publish before after left knows =
+    let same = words_stay phase address (Copying copy Publish) before after left refl in
+    record {
+      header = first (left.room 0 (omega arith)) ∙ knows.header;
+      words = subst (λ n. AreCopied (λ a. after (Heap a)) address copy n) (sym same)
+          (copied_stay phase address (Copying copy Publish) before after left copy (words_in (λ a. before (Heap a)) address) refl (omega arith) left.room knows.words);
+    }
+  where
+    first : after (Heap (copy + 0)) ≡ before (Heap (copy + 0)) → after (Heap copy) ≡ before (Heap copy)
+    first is = subst (λ a. after (Heap a) ≡ before (Heap a)) (omega arith) is
+copy_stays phase address copy (GiveBack answer) before after left knows = header_stays phase address (Copying copy (GiveBack answer)) before after left answer knows
+
+knows_stay : (phase address : ℕ) (spot : ResolveSpot) (before after : Word → ℕ) → LeaveObject phase address spot before after
+    → Knows phase address (λ a. before (Heap a)) (before Evac) spot → Knows phase address (λ a. after (Heap a)) (after Evac) spot
+knows_stay phase address LoadHeader before after left knows = tt
+knows_stay phase address (Entering at) before after left knows = (knows.0, mine_stays (before Evac) (after Evac) at left.out knows.1)
+knows_stay phase address LoadShape before after left knows = tt
+knows_stay phase address (Taking words at) before after left knows = (knows.0 ∙ sym (words_stay phase address (Taking words at) before after left refl), knows.1)
+knows_stay phase address (Copying copy at) before after left knows = copy_stays phase address copy at before after left knows
+knows_stay phase address (Leaving answer) before after left knows = header_stays phase address (Leaving answer) before after left answer knows
+knows_stay phase address (Stopping at) before after left knows = (knows.0, mine_stays (before Evac) (after Evac) at left.out knows.1)
+knows_stay phase address LoadAgain before after left knows = left.stopped knows
+knows_stay phase address (Resolved answer) before after left knows = (
+  knows.0 ∙ sym (ap (current_copy address) (settled_header phase address (Resolved answer) before after left knows.1)),
+  settled_stays phase address (Resolved answer) before after left knows.1,
+)
+
+pub can_stays : (phase address : ℕ) (spot : ResolveSpot) (before after : Word → ℕ) → LeaveObject phase address spot before after
+    → Can phase address before spot → Can phase address after spot
+can_stays phase address spot before after left can = record {
+  header = left.header;
+  counted = left.counted;
+  knows = knows_stay phase address spot before after left can.knows;
+}

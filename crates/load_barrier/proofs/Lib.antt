@@ -1,0 +1,5 @@
+pub mod Ends
+pub mod Fitting
+pub mod Knows
+pub mod Resolving
+pub mod Every

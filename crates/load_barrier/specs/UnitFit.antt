@@ -1,0 +1,42 @@
+-- Whether a machine that works on a unit of evacuation can make its next access, and by which words it can go on.
+use Rattle.std.specs.Prelude.{ℕ, ◌≡◌, ◌+◌, Bool, true, ◌&&◌, nat_lt, nat_le, ⊤, if◌then◌else◌}
+use Rattle.heap_words.specs.declared.config.Config.{Config}
+use Rattle.heap_words.specs.Words.{Heap, is_word}
+use Rattle.load_barrier.specs.declared.spot.ResolveSpot.{ResolveSpot}
+use Rattle.load_barrier.specs.Rows.{is_resolved}
+use Rattle.load_barrier.specs.Fit as resolve
+use Rattle.load_barrier.specs.declared.evac_spot.EvacSpot.{EvacSpot}
+use Rattle.load_barrier.specs.declared.evac_spot.EvacSpot.TheVariants.{LoadClaim, ClaimUnit, LoadTop, LoadShape, LoadMark, Resolving, Ended}
+use Rattle.load_barrier.specs.UnitRows.{copy_phase, next_at}
+
+-- whether the header and the shape of an object at an address lie in the heap
+abbrev pub has_shape : Config → ℕ → Bool
+has_shape c address = is_word c (Heap address) && is_word c (Heap (address + 1))
+
+-- whether a walk can go on at an address: it has come to the end, or an object's shape can be loaded there
+abbrev pub is_walkable : Config → ℕ → ℕ → Bool
+is_walkable c next end = if nat_lt next end then has_shape c next else true
+
+-- whether a resolving of the address can make its next access
+abbrev pub resolve_ready : Config → ℕ → ℕ → ResolveSpot → Bool
+resolve_ready c seat address at = resolve.is_ready c seat address at && resolve.is_busy (is_resolved at)
+
+-- whether the numbers of a spot are in range, for the machine of a seat: the next access can be made
+abbrev pub is_ready : Config → ℕ → EvacSpot → Bool
+is_ready c seat LoadClaim = true
+is_ready c seat (ClaimUnit unit) = nat_lt unit c.regions
+is_ready c seat (LoadTop region) = nat_lt region c.regions
+is_ready c seat (LoadShape address end) = has_shape c address
+is_ready c seat (LoadMark address end next) = has_shape c address && is_walkable c next end
+is_ready c seat (Resolving address end next at) = has_shape c address && (is_walkable c next end && resolve_ready c seat address at)
+is_ready c seat (Ended unit) = true
+
+-- the word is fit for the part: a top is at most the words of a region, and a resolving can go on
+abbrev pub PartFit : Config → ℕ → EvacSpot → ℕ → Type 0
+PartFit c seat (LoadTop region) got = nat_le got c.region_words ≡ true
+PartFit c seat (Resolving address end next at) got = resolve.IsFit c seat address copy_phase at got
+PartFit c seat _ got = ⊤
+
+-- the word is fit: the access that follows can be made
+abbrev pub IsFit : Config → ℕ → ℕ → EvacSpot → ℕ → Type 0
+IsFit c seat cset spot got = (is_ready c seat (next_at c cset spot got) ≡ true) × PartFit c seat spot got

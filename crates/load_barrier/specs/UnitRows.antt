@@ -1,0 +1,106 @@
+-- The rows of the steps by which a machine claims a unit of evacuation, a region, and copies what is marked there: for each spot
+-- its place, the access that it makes and what follows. It walks a region of the collection set from object to object, and
+-- resolves each that is marked. It ends at the top, or where an object could not be copied, since there was no room.
+use Rattle.std.specs.Prelude.{ℕ, ◌+◌, ◌==◌, Bool, true, false, nat_lt, if◌then◌else◌}
+use Rattle.std.specs.Int.{bit_at}
+use Rattle.heap_words.specs.declared.config.Config.{Config}
+use Rattle.heap_words.specs.declared.place.Place.{Place}
+use Rattle.heap_words.specs.declared.place.Place.TheVariants as place
+use Rattle.heap_words.specs.declared.access.Took.{Took}
+use Rattle.heap_words.specs.declared.access.Took.TheVariants.{More, Again, Done}
+use Rattle.heap_words.specs.declared.access.Unit.TheVariants.{Worked, NoneLeft}
+use Rattle.heap_words.specs.Encoding.{object_words}
+use Rattle.heap_words.specs.Words.{Claim, Top, Black, Heap}
+use Rattle.steps_base.specs.Touch.{Touch, touch, loads, exchanges}
+use Rattle.regions.specs.Place.{region_with, base_of}
+use Rattle.mark_bits.specs.Marks.{mark_word, mark_bit}
+use Rattle.load_barrier.specs.declared.spot.ResolveSpot.{ResolveSpot}
+use Rattle.load_barrier.specs.declared.spot.ResolveSpot.TheVariants.{LoadHeader, Resolved}
+use Rattle.load_barrier.specs.Rows as resolves
+use Rattle.load_barrier.specs.declared.evac_spot.EvacSpot.{EvacSpot}
+use Rattle.load_barrier.specs.declared.evac_spot.EvacSpot.TheVariants.{LoadClaim, ClaimUnit, LoadTop, LoadShape, LoadMark, Resolving, Ended}
+
+-- the phase in which objects are copied
+abbrev pub copy_phase : ℕ
+copy_phase = 2
+
+-- whether a set has a region
+abbrev pub is_in_set : ℕ → ℕ → Bool
+is_in_set cset region = bit_at cset region == 1
+
+-- whether an address lies in a region of a set
+abbrev pub lies_in_set : Config → ℕ → ℕ → Bool
+lies_in_set c cset address = is_in_set cset (region_with c address)
+
+-- Whether a value that was loaded has to be resolved: not null, and not where objects do not move, nor outside the collection set.
+abbrev pub must_resolve : Config → ℕ → ℕ → ℕ → Bool
+must_resolve c phase cset value = if value == 0 then false else (if nat_lt phase copy_phase then false else lies_in_set c cset value)
+
+-- the place of the next access. There is none at the end, where it is named as that of the claim
+abbrev pub place_at : EvacSpot → Place
+place_at LoadClaim = place.EC
+place_at (ClaimUnit unit) = place.KX
+place_at (LoadTop region) = place.ET
+place_at (LoadShape address end) = place.ES
+place_at (LoadMark address end next) = place.EB
+place_at (Resolving address end next at) = resolves.place_at at
+place_at (Ended unit) = place.EC
+
+-- the next access, of the machine of a seat
+abbrev pub touch_at : Config → ℕ → EvacSpot → Touch
+touch_at c seat LoadClaim = touch Claim loads
+touch_at c seat (ClaimUnit unit) = touch Claim (exchanges unit (unit + 1))
+touch_at c seat (LoadTop region) = touch (Top region) loads
+touch_at c seat (LoadShape address end) = touch (Heap (address + 1)) loads
+touch_at c seat (LoadMark address end next) = touch (Black (mark_word c address)) loads
+touch_at c seat (Resolving address end next at) = resolves.touch_at c seat address at
+touch_at c seat (Ended unit) = touch Claim loads
+
+-- what follows once a unit is claimed: a region of the set is walked, and in any other there is nothing to do
+abbrev pub after_claim : ℕ → ℕ → EvacSpot
+after_claim cset unit = if is_in_set cset unit then LoadTop unit else Ended Worked
+
+-- where the walk goes on: at the next object below the end, if there is one
+abbrev pub walk_on : ℕ → ℕ → EvacSpot
+walk_on next end = if nat_lt next end then LoadShape next end else Ended Worked
+
+-- what follows the load of an object's mark: one that is marked is resolved
+abbrev pub after_mark : Config → ℕ → ℕ → ℕ → ℕ → EvacSpot
+after_mark c address end next got = if bit_at got (mark_bit c address) == 1 then Resolving address end next LoadHeader else walk_on next end
+
+-- where it stands that resolves an object: with the answer outside the set the walk goes on, and with one in the set it ends
+abbrev pub after_resolve : Config → ℕ → ℕ → ℕ → ℕ → ResolveSpot → EvacSpot
+after_resolve c cset address end next (Resolved answer) = if lies_in_set c cset answer then Ended Worked else walk_on next end
+after_resolve c cset address end next at = Resolving address end next at
+
+-- what follows, by the word that was found
+abbrev pub next_at : Config → ℕ → EvacSpot → ℕ → EvacSpot
+next_at c cset LoadClaim got = if nat_lt got c.regions then ClaimUnit got else Ended NoneLeft
+next_at c cset (ClaimUnit unit) got = if got == unit then after_claim cset unit else LoadClaim
+next_at c cset (LoadTop region) got = walk_on (base_of c region) (base_of c region + got)
+next_at c cset (LoadShape address end) got = LoadMark address end (address + object_words got)
+next_at c cset (LoadMark address end next) got = after_mark c address end next got
+next_at c cset (Resolving address end next at) got = after_resolve c cset address end next (resolves.next_at c address copy_phase at got)
+next_at c cset (Ended unit) got = Ended unit
+
+-- whether the unit is done, or none was left
+abbrev pub is_ended : EvacSpot → Bool
+is_ended (Ended unit) = true
+is_ended _ = false
+
+-- what a step says by where it leads: it is done once the unit is, or none was left
+abbrev pub told : EvacSpot → Took
+told (Ended unit) = Done
+told _ = More
+
+-- what a step of a resolving says: again where the resolving says so, and else by where it leads
+abbrev pub told_by : Took → EvacSpot → Took
+told_by Again next = Again
+told_by _ next = told next
+
+-- what the step says: again where another machine has claimed the unit, or the resolving waits
+abbrev pub says_at : Config → ℕ → EvacSpot → ℕ → Took
+says_at c cset (ClaimUnit unit) got = if got == unit then told (after_claim cset unit) else Again
+says_at c cset (Resolving address end next at) got =
+    told_by (resolves.says_at c address copy_phase at got) (after_resolve c cset address end next (resolves.next_at c address copy_phase at got))
+says_at c cset spot got = told (next_at c cset spot got)
