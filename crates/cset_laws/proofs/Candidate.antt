@@ -1,5 +1,5 @@
 -- The test of a candidate says what it is to be one.
-use Rattle.std.proofs.Common.{◌≡◌, ℕ, ◌+◌, ◌/◌, ◌≤◌, ◌==◌, ◌&&◌, ◌↔◌, nat_le, not, Bool, true, false}
+use Rattle.std.proofs.Common.{◌≡◌, ℕ, ◌/◌, ◌==◌, ◌&&◌, ◌↔◌, nat_le, not, Bool, true, false}
 use Rattle.std.specs.Int.{bit_at}
 use Rattle.std.proofs.lemmas.Bool.{and_parts, and_from, eqb-true, eq-eqb, leb-true, le-leb, not-true, not_from_false, false_from_ne_true, both_ways}
 use Rattle.heap_words.specs.declared.config.Config.{Config}

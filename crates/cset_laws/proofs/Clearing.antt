@@ -1,10 +1,10 @@
 -- Roots and answers are cleared one after the other.
-use Rattle.std.proofs.Common.{length-append, ◌≡◌, ◌≢◌, ℕ, ◌+◌, ◌-◌, ◌*◌, ◌/◌, ◌%◌, ◌<◌, ◌≤◌, ◌⊎◌, ◌==◌, ◌&&◌, if◌then◌else◌, nat_le, nat_eq, bit_and, Bool, true, false, zero, suc, List, [], ◌∷◌, ◌++◌, map, length, get_or, Option, Some, None, inl, inr, refl, sym, ap, ◌∙◌, subst, ⊎_elim, arith}
-use Rattle.std.specs.Prelude.{Contains, ⊤}
+use Rattle.std.proofs.Common.{length-append, ◌≡◌, ◌≢◌, ℕ, ◌+◌, ◌*◌, ◌%◌, ◌<◌, ◌≤◌, ◌⊎◌, ◌==◌, ◌&&◌, if◌then◌else◌, nat_le, nat_eq, bit_and, true, false, zero, suc, List, [], ◌∷◌, ◌++◌, map, length, get_or, Option, Some, None, inl, inr, refl, sym, ap, ◌∙◌, subst, ⊎_elim, arith}
+use Rattle.std.specs.Prelude.{Contains}
 use Rattle.std.specs.List.{IsDistinct, list_any, range_with_len}
 use Rattle.std.specs.Int.{bit_at}
 use Rattle.std.proofs.Math.Path.{fun_ext}
-use Rattle.std.proofs.lemmas.Bool.{cases_eq, cases_Bool, cond-true, cond-false, eq-eqb, eqb-true, ne_eqb, leb-true, le-leb, and_parts, and_from, and_right, both_ways, false_from_ne_true, false≢true}
+use Rattle.std.proofs.lemmas.Bool.{cases_eq, cases_Bool, cond-true, cond-false, eq-eqb, eqb-true, ne_eqb, leb-true, le-leb, and_parts, and_from, and_right, both_ways, false_from_ne_true}
 use Rattle.std.proofs.lemmas.Nat.{mod_below}
 use Rattle.std.proofs.lemmas.List.{get_or_append_left, get_or_push}
 use Rattle.std.proofs.lemmas.List.Elements.{Contains-push_cases, Contains-push, Contains-append_left, Contains-append_cases}
@@ -26,8 +26,8 @@ use Rattle.mark_laws.specs.Marks.{is_black}
 use Rattle.cset_laws.specs.Live.{words_at, marked_words}
 use Rattle.cset_laws.specs.Choice.{chosen}
 use Rattle.cset_laws.specs.Copying.{tops_outside, AreToCopy}
-use Rattle.cset_laws.specs.Copied.{copy_room, top_address, copied_word, copied_in, copied_to, copied_out, copied_by, MayChange, IsCopiedTo, IsCopiedOut}
-use Rattle.cset_laws.specs.Begun.{root_places, naming_places, IsNaming, is_collected, moved_out, cleared_at, cleared_in_turn, with_set, roots_cleared, IsCopyable, AreCleared}
+use Rattle.cset_laws.specs.Copied.{copy_room, top_address, copied_word, copied_in, copied_to, copied_out, copied_by, IsCopiedOut}
+use Rattle.cset_laws.specs.Begun.{root_places, naming_places, IsNaming, is_collected, moved_out, cleared_at, cleared_in_turn, with_set, IsCopyable, AreCleared}
 use Rattle.cset_laws.specs.Laws.{FreeAreEmpty, RootsAreCleared}
 use Rattle.cset_laws.proofs.Places.{some_words, of_its_region, regions_apart}
 use Rattle.cset_laws.proofs.Fits.{above_first}
@@ -157,8 +157,8 @@ nothing_in_none : (x : ℕ) → Contains [] x → ⊥
 nothing_in_none x has = omega (arith, has.1)
 
 module _ (c : Config) (before : Word → ℕ) (empty : FreeAreEmpty c before) (lie : LieApart c.region_words (marked_words c before)) (set_is : before Cset ≡ chosen c before)
-  (unmoved : (a : ℕ) → is_black c before a ≡ true → is_forwarded (before (Heap a)) ≡ false)
-  (copyable : (place : Word) → Contains (naming_places c) place → is_collected c before (before place) ≡ true → IsCopyable c before (before place)) where
+    (unmoved : (a : ℕ) → is_black c before a ≡ true → is_forwarded (before (Heap a)) ≡ false)
+    (copyable : (place : Word) → Contains (naming_places c) place → is_collected c before (before place) ≡ true → IsCopyable c before (before place)) where
   -- What holds after some places were cleared, for which these objects were copied out.
   record IsSoFar (m : Word → ℕ) (objects : List ℕ) : Type 0 where
     to_copy : AreToCopy c before (before Cset) objects
@@ -172,7 +172,7 @@ module _ (c : Config) (before : Word → ℕ) (empty : FreeAreEmpty c before) (l
 
   -- One more object is copied.
   module _ (m : Word → ℕ) (objects : List ℕ) (so_far : IsSoFar m objects) (a : ℕ) (above : c.region_words ≤ a) (member : IsIn (before Cset) (region_with c a))
-    (can : IsCopyable c before a) (place : Word) (there : Contains (naming_places c) place) (is : before place ≡ a) (plain : is_forwarded (m (Heap a)) ≡ false) where
+      (can : IsCopyable c before a) (place : Word) (there : Contains (naming_places c) place) (is : before place ≡ a) (plain : is_forwarded (m (Heap a)) ≡ false) where
     abbrev more : List ℕ
     more = objects ++ a ∷ []
 
@@ -227,9 +227,9 @@ module _ (c : Config) (before : Word → ℕ) (empty : FreeAreEmpty c before) (l
     header_stays x from in_set other =
         let differ : region_with c x ≢ copied.region = λ same_region.
         (let inside : bit_at (before Cset) copied.region ≡ 1 = subst (IsIn (before Cset)) same_region in_set in
-            let set_now : by Cset ≡ before Cset = sym (so_far.same Cset (λ never. never)) ∙ so_far.same_set in
-            let outside : bit_at (before Cset) copied.region ≡ 0 = ap (λ s. bit_at s copied.region) (sym set_now) ∙ copied.outside in
-            omega (arith, inside, outside)) in
+        let set_now : by Cset ≡ before Cset = sym (so_far.same Cset (λ never. never)) ∙ so_far.same_set in
+        let outside : bit_at (before Cset) copied.region ≡ 0 = ap (λ s. bit_at s copied.region) (sym set_now) ∙ copied.outside in
+        omega (arith, inside, outside)) in
         let plain_sum : x + 0 ≡ x = omega arith in
         let apart = regions_apart c (region_with c x) copied.region x (top_address c by copied.region) (words_at by a) differ
         (subst (IsOf c (region_with c x)) plain_sum (of_its_region c x 0 from (omega (arith, mod_below x c.region_words (some_words c))))) (omega arith) (omega (arith, copied.room)) in
@@ -349,8 +349,7 @@ module _ (c : Config) (before : Word → ℕ) (empty : FreeAreEmpty c before) (l
           let same : moved_out c m a ≡ m = fun_ext (λ word. cond-true (is_forwarded (m (Heap a))) (m word) (copied_out c m a word) forwarded) in
           (objects, subst (λ n. IsMoved m n a objects) (sym same) (record { so_far = so_far; has = so_far.left a can.marked member forwarded; naming_same = λ p _. refl })))
           (λ (plain : is_forwarded (m (Heap a)) ≡ false).
-          let same : moved_out c m a ≡ copied_out c m a = fun_ext (λ word. cond-false (is_forwarded (m (Heap a))) (m word) (copied_out c m a word) plain) in
-          (
+          let same : moved_out c m a ≡ copied_out c m a = fun_ext (λ word. cond-false (is_forwarded (m (Heap a))) (m word) (copied_out c m a word) plain) in (
             objects ++ a ∷ [],
             subst (λ n. IsMoved m n a (objects ++ a ∷ [])) (sym same) (record {
               so_far = one_more m objects so_far a above member can place there refl plain;
@@ -367,8 +366,7 @@ module _ (c : Config) (before : Word → ℕ) (empty : FreeAreEmpty c before) (l
           let n = moved_out c m (before place) in
           let is = found.1 in
           let here : is_collected c before (clear_of (before place) place) ≡ false =
-          ap (is_collected c before) (renamed_here n found.0 is.so_far place naming is.has) ∙ is.so_far.away (before place) is.has in
-          (
+          ap (is_collected c before) (renamed_here n found.0 is.so_far place naming is.has) ∙ is.so_far.away (before place) is.has in (
             found.0,
             record {
               so_far = renamed_so_far n found.0 is.so_far place naming is.has;
@@ -415,8 +413,7 @@ module _ (c : Config) (before : Word → ℕ) (empty : FreeAreEmpty c before) (l
   all_cleared [] m objects are so_far = (objects, record { so_far = so_far; here = λ p has. absurd (omega (arith, has.1)); stays = λ p _ was. was })
   all_cleared (place ∷ places) m objects are so_far =
       let first = clears_here m objects so_far place (are place (is_first place places)) in
-      let rest = all_cleared places (cleared_at c m place) first.0 (λ p has. are p (is_later place places p has)) first.1.so_far in
-      (
+      let rest = all_cleared places (cleared_at c m place) first.0 (λ p has. are p (is_later place places p has)) first.1.so_far in (
         rest.0,
         record {
           so_far = rest.1.so_far;
@@ -451,8 +448,7 @@ module _ (c : Config) (before : Word → ℕ) (empty : FreeAreEmpty c before) (l
   are_cleared =
       let end = all_cleared (naming_places c) before [] (λ p has. has) at_first in
       let so_far = end.1.so_far in
-      let after = cleared_in_turn c before (naming_places c) in
-      (
+      let after = cleared_in_turn c before (naming_places c) in (
         end.0,
         record {
           to_copy = so_far.to_copy;

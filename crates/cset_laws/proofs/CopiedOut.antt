@@ -1,17 +1,14 @@
 -- What copying one object makes of the words.
-use Rattle.std.proofs.Common.{◌≡◌, ◌≢◌, ℕ, ◌+◌, ◌-◌, ◌*◌, ◌/◌, ◌^◌, ◌%◌, ◌<◌, ◌≤◌, ◌⊎◌, ◌==◌, ◌&&◌, if◌then◌else◌, nat_lt, bit_and, Bool, true, false, Option, Some, None, inl, inr, refl, sym, ap, ◌∙◌, subst, ⊎_elim, arith, w64}
-use Rattle.std.specs.Prelude.{⊤}
+use Rattle.std.proofs.Common.{◌≡◌, ◌≢◌, ℕ, ◌+◌, ◌-◌, ◌%◌, ◌<◌, ◌≤◌, ◌⊎◌, ◌==◌, ◌&&◌, nat_lt, Some, refl, sym, ap, ◌∙◌, subst, ⊎_elim, arith, w64}
 use Rattle.std.specs.Int.{bit_at}
-use Rattle.std.proofs.lemmas.Bool.{cases_eq, cases_lt, cond-true, cond-false, eq-eqb, ne_eqb, and_from, and_left, and_right, lt-ltb, le-ltb}
-use Rattle.std.proofs.lemmas.Nat.{div-add-mod', mod_below}
+use Rattle.std.proofs.lemmas.Bool.{cases_eq, cond-true, cond-false, eq-eqb, ne_eqb, and_from, and_left, and_right, lt-ltb, le-ltb}
+use Rattle.std.proofs.lemmas.Nat.{mod_below}
 use Rattle.std.proofs.lemmas.Nat.Bits.{bit_at-lt, bit_at_clear_same, bit_at_clear_other}
 use Rattle.heap_words.specs.declared.config.Config.{Config}
 use Rattle.heap_words.specs.Words.{Word, Cset, Free, Top, Heap}
 use Rattle.heap_words.specs.Encoding.{header_word, plain_header}
-use Rattle.packing.specs.Rooms.{IsLowestRoom}
 use Rattle.packing.proofs.Rooms.{has_room}
-use Rattle.packing.proofs.Tops.{rows_apart}
-use Rattle.regions.specs.Place.{base_of, region_with, IsOf}
+use Rattle.regions.specs.Place.{region_with, IsOf}
 use Rattle.regions.specs.Sets.{IsIn, IsOutside}
 use Rattle.cset_laws.specs.Live.{words_at}
 use Rattle.cset_laws.specs.Copying.{tops_outside}

@@ -1,20 +1,20 @@
 -- Objects of the chosen regions find room, each at its turn.
-use Rattle.std.proofs.Common.{◌≡◌, ◌≢◌, ℕ, ◌+◌, ◌-◌, ◌*◌, ◌/◌, ◌%◌, ◌<◌, ◌≤◌, ◌⊎◌, ◌==◌, ◌&&◌, if◌then◌else◌, nat_le, nat_eq, Bool, true, false, zero, suc, List, length, get_or, Option, Some, None, inl, inr, refl, sym, ap, ◌∙◌, subst, ⊎_elim, arith}
+use Rattle.std.proofs.Common.{◌≡◌, ◌≢◌, ℕ, ◌+◌, ◌-◌, ◌*◌, ◌/◌, ◌%◌, ◌<◌, ◌≤◌, ◌⊎◌, ◌==◌, if◌then◌else◌, nat_le, nat_eq, true, suc, List, length, get_or, Option, Some, None, refl, sym, ap, ◌∙◌, ⊎_elim, arith}
 use Rattle.std.specs.Prelude.{Contains}
 use Rattle.std.specs.Int.{bit_at}
-use Rattle.std.proofs.lemmas.Bool.{cases_eq, cases_lt, cases_order, cond-true, cond-false, eq-eqb, ne_eqb, eqb-false, eqb-true, leb-true, and_parts}
-use Rattle.std.proofs.lemmas.Nat.{div-add-mod', mod_below, mul-le, div-mul-add, mod-mul-add}
+use Rattle.std.proofs.lemmas.Bool.{cases_eq, cases_order, cond-true, cond-false, eq-eqb, ne_eqb, eqb-false, leb-true, and_parts}
+use Rattle.std.proofs.lemmas.Nat.{div-mul-add, mod-mul-add}
 use Rattle.std.proofs.lemmas.Nat.Bits.{bit_at-lt}
 use Rattle.std.proofs.lemmas.List.Elements.{Contains-get_or}
 use Rattle.std.proofs.lemmas.Map.Keys.{apart_from_distinct}
 use Rattle.heap_words.specs.declared.config.Config.{Config}
 use Rattle.heap_words.specs.Words.{Word, Free, Top, Black}
 use Rattle.packing.specs.Tops.{sum_below}
-use Rattle.packing.specs.Rooms.{IsLowestRoom, tops_served, room_at_turn}
+use Rattle.packing.specs.Rooms.{room_at_turn}
 use Rattle.packing.proofs.Sums.{sum_next, sum_same, sum_grows, sum_of_things}
 use Rattle.packing.proofs.Rooms.{has_room}
 use Rattle.regions.specs.Place.{base_of, region_with}
-use Rattle.regions.specs.Sets.{IsIn, IsOutside, members_below}
+use Rattle.regions.specs.Sets.{IsIn, IsOutside}
 use Rattle.mark_bits.specs.Marks.{mark_word, mark_bit}
 use Rattle.mark_laws.specs.Marks.{is_black}
 use Rattle.cset_laws.specs.Live.{words_at, marked_words, live_words, is_candidate}
@@ -100,7 +100,7 @@ module _ (c : Config) (memory : Word → ℕ) (set : ℕ) (objects : List ℕ) (
       omega (arith, least, all_addresses)
 
   module _ (fits : live_in c.regions (live_words c memory) set ≤ copy_limit c memory)
-    (apart : (r : ℕ) → IsIn (memory Free) r → IsIn set r → ⊥) (empty : FreeAreEmpty c memory) where
+      (apart : (r : ℕ) → IsIn (memory Free) r → IsIn set r → ⊥) (empty : FreeAreEmpty c memory) where
     abbrev start : ℕ → ℕ
     start = tops_outside w set (λ r. memory (Top r))
 

@@ -1,12 +1,10 @@
 -- The longest front of the candidates is what it is said to be, and there is no other.
-use Rattle.std.proofs.Common.{◌≡◌, ℕ, ◌+◌, ◌^◌, ◌<◌, ◌≤◌, ◌⊎◌, ◌==◌, ◌&&◌, nat_le, not, if◌then◌else◌, Bool, true, false, refl, sym, ap, ◌∙◌, subst, ⊎_elim, arith}
+use Rattle.std.proofs.Common.{◌≡◌, ℕ, ◌+◌, ◌<◌, ◌≤◌, ◌⊎◌, ◌==◌, ◌&&◌, nat_le, not, if◌then◌else◌, Bool, true, false, refl, sym, ap, ◌∙◌, subst, ⊎_elim, arith}
 use Rattle.std.specs.Int.{bit_at}
 use Rattle.std.proofs.lemmas.Bool.{and_parts, and_from, cases_lt, cases_eq, leb-true, le-leb, eq-eqb, eqb-true, not-true, not_from_false, false_from_ne_true, both_ways, cond-false, ne_eqb}
 use Rattle.std.proofs.lemmas.Nat.Bits.{bit_at-lt, bit_at_above, same_from_bits_below}
-use Rattle.packing.specs.Tops.{sum_below}
 use Rattle.packing.proofs.Sums.{sum_of_none}
 use Rattle.regions.specs.Sets.{IsIn}
-use Rattle.mark_laws.specs.Marks.{bits_of}
 use Rattle.mark_laws.proofs.Bits.{one, bits_small, bits_at}
 use Rattle.cset_laws.specs.Front.{ComesBefore, comes_before, live_in, live_up_to, IsFront, IsLongestFront, is_in_front, longest_front}
 use Rattle.cset_laws.proofs.Sums.{sum_at_most, picked_at_most}

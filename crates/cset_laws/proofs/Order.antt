@@ -1,5 +1,5 @@
 -- The order of candidates: it is a strict order of all regions, and of some regions there is always a last one.
-use Rattle.std.proofs.Common.{◌≡◌, ℕ, ◌+◌, ◌<◌, ◌≤◌, ◌⊎◌, ◌==◌, ◌&&◌, nat_lt, Bool, true, false, zero, suc, inl, inr, refl, sym, ap, ◌∙◌, subst, ⊎_elim, arith}
+use Rattle.std.proofs.Common.{◌≡◌, ℕ, ◌<◌, ◌⊎◌, ◌==◌, ◌&&◌, nat_lt, Bool, true, false, zero, suc, inl, inr, sym, ap, ◌∙◌, subst, ⊎_elim, arith}
 use Rattle.std.proofs.lemmas.Bool.{or_cases, or_left, or_right, and_parts, and_from, cases_eq, cases_order, cases_Bool, lt-ltb, ltb-true, eq-eqb, eqb-true, both_ways}
 use Rattle.cset_laws.specs.Front.{ComesBefore, comes_before}
 

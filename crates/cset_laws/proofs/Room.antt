@@ -1,12 +1,10 @@
 -- Room is found for what is copied: as long as less was copied than may be, some region that was free has room.
-use Rattle.std.proofs.Common.{◌≡◌, ◌≢◌, ℕ, ◌+◌, ◌-◌, ◌*◌, ◌<◌, ◌≤◌, ◌⊎◌, ◌==◌, if◌then◌else◌, Bool, true, false, zero, suc, Option, Some, None, inl, inr, refl, sym, ap, ◌∙◌, subst, ⊎_elim, arith}
+use Rattle.std.proofs.Common.{◌≡◌, ◌≢◌, ℕ, ◌+◌, ◌-◌, ◌*◌, ◌<◌, ◌≤◌, ◌==◌, if◌then◌else◌, zero, suc, Option, Some, None, ap, ⊎_elim, arith}
 use Rattle.std.specs.Int.{bit_at}
-use Rattle.std.proofs.lemmas.Bool.{cases_eq, cond-true, cond-false, cond_both, eq-eqb, eqb-true}
-use Rattle.std.proofs.lemmas.Nat.{mul-le}
-use Rattle.std.proofs.lemmas.Nat.Bits.{bit_at-lt}
+use Rattle.std.proofs.lemmas.Bool.{cases_eq, cond_both, eqb-true}
 use Rattle.packing.specs.Tops.{sum_below}
-use Rattle.packing.specs.Rooms.{lowest_room, taken_in, tops_served, given_by, room_at_turn, granted}
-use Rattle.packing.proofs.Sums.{sum_next, sum_none, sum_both, sum_same}
+use Rattle.packing.specs.Rooms.{taken_in, tops_served, given_by, room_at_turn, granted}
+use Rattle.packing.proofs.Sums.{sum_both}
 use Rattle.packing.proofs.Rooms.{none_has_room, served_next, served_none, served_is, taken_here, taken_elsewhere}
 use Rattle.regions.specs.Sets.{IsIn, members_below}
 use Rattle.cset_laws.proofs.Sums.{sum_at_most, members_at_least}

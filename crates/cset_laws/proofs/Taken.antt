@@ -1,11 +1,11 @@
 -- A front that fits grows by the next candidate, until that one does not fit.
-use Rattle.std.proofs.Common.{inl, inr, zero, suc, ◌≡◌, ◌≢◌, ℕ, ◌+◌, ◌^◌, ◌<◌, ◌≤◌, ◌⊎◌, ◌==◌, if◌then◌else◌, Bool, true, false, refl, sym, ap, ◌∙◌, subst, ⊎_elim, arith}
+use Rattle.std.proofs.Common.{inl, inr, zero, suc, ◌≡◌, ◌≢◌, ℕ, ◌+◌, ◌^◌, ◌<◌, ◌≤◌, ◌⊎◌, ◌==◌, if◌then◌else◌, Bool, true, refl, sym, ap, ◌∙◌, subst, ⊎_elim, arith}
 use Rattle.std.specs.Int.{bit_at}
 use Rattle.std.proofs.lemmas.Bool.{cases_eq, cases_lt, cond-true, cond-false, cond_both, eq-eqb, ne_eqb, eqb-true}
 use Rattle.std.proofs.lemmas.Nat.Bits.{bit_at-lt, bit_at-zero, bit_at_above, same_from_bits}
 use Rattle.std.proofs.lemmas.Nat.{pow_pos}
 use Rattle.packing.specs.Tops.{sum_below}
-use Rattle.packing.proofs.Sums.{sum_both, sum_same, sum_of_none, sum_of_one}
+use Rattle.packing.proofs.Sums.{sum_both, sum_of_none, sum_of_one}
 use Rattle.regions.specs.Sets.{IsIn, IsOutside}
 use Rattle.mark_laws.specs.Marks.{bits_of}
 use Rattle.mark_laws.proofs.Bits.{one, bits_small, bits_at}

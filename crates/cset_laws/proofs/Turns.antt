@@ -1,16 +1,16 @@
 -- Objects that are copied out one after the other: each finds the room that it finds in numbers.
-use Rattle.std.proofs.Common.{◌≡◌, ◌≢◌, ℕ, ◌+◌, ◌-◌, ◌*◌, ◌/◌, ◌%◌, ◌<◌, ◌≤◌, ◌⊎◌, ◌==◌, if◌then◌else◌, true, zero, suc, List, length, get_or, Option, Some, None, refl, sym, ap, ◌∙◌, subst, ⊎_elim, arith}
+use Rattle.std.proofs.Common.{◌≡◌, ◌≢◌, ℕ, ◌+◌, ◌<◌, ◌≤◌, ◌⊎◌, ◌==◌, if◌then◌else◌, zero, suc, List, length, get_or, Some, refl, sym, ap, ◌∙◌, subst, ⊎_elim, arith}
 use Rattle.std.specs.Prelude.{Contains}
 use Rattle.std.specs.Int.{bit_at}
-use Rattle.std.proofs.lemmas.Bool.{cases_eq, cases_order, cond-true}
+use Rattle.std.proofs.lemmas.Bool.{cases_eq, cond-true}
 use Rattle.std.proofs.lemmas.List.Elements.{Contains-get_or}
 use Rattle.heap_words.specs.declared.config.Config.{Config}
 use Rattle.heap_words.specs.Words.{Word, Cset, Top, Heap}
 use Rattle.heap_words.specs.Encoding.{object_words}
 use Rattle.packing.specs.Places.{LieApart}
-use Rattle.packing.specs.Rooms.{lowest_room, taken_in, tops_served, room_at_turn}
+use Rattle.packing.specs.Rooms.{lowest_room, taken_in, room_at_turn}
 use Rattle.packing.proofs.Rooms.{same_room, served_next, served_none, taken_here, taken_elsewhere}
-use Rattle.regions.specs.Place.{base_of, region_with}
+use Rattle.regions.specs.Place.{region_with}
 use Rattle.regions.specs.Sets.{IsIn, IsOutside}
 use Rattle.mark_laws.specs.Marks.{is_black}
 use Rattle.cset_laws.specs.Live.{words_at, marked_words}
@@ -23,7 +23,7 @@ use Rattle.cset_laws.proofs.Fits.{above_first, room_is_found}
 use Rattle.cset_laws.proofs.CopiedOut.{own_top, copying_copies}
 
 module _ (c : Config) (memory : Word → ℕ) (objects : List ℕ) (empty : FreeAreEmpty c memory) (lie : LieApart c.region_words (marked_words c memory))
-  (set_is : memory Cset ≡ chosen c memory) (to_copy : AreToCopy c memory (chosen c memory) objects) where
+    (set_is : memory Cset ≡ chosen c memory) (to_copy : AreToCopy c memory (chosen c memory) objects) where
   abbrev w : ℕ
   w = c.region_words
 
