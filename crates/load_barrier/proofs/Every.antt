@@ -1,12 +1,10 @@
 -- The resolving of an address, over every list of moves.
-use Rattle.std.proofs.Common.{◌≡◌, ℕ, List, [], ◌∷◌, false, refl, subst}
+use Rattle.std.proofs.Common.{◌≡◌, ℕ, List, [], ◌∷◌, subst}
 use Rattle.heap_words.specs.declared.config.Config.{Config}
-use Rattle.heap_words.specs.Words.{Word, Evac, Heap}
-use Rattle.load_barrier.specs.declared.copying.CopySpot.TheVariants.{Publish}
+use Rattle.heap_words.specs.Words.{Evac, Heap}
 use Rattle.load_barrier.specs.declared.spot.ResolveSpot.{ResolveSpot}
-use Rattle.load_barrier.specs.declared.spot.ResolveSpot.TheVariants.{LoadHeader, Copying, Resolved}
-use Rattle.load_barrier.specs.Runs.{Resolving, Move, own, others, after_move, after_moves, IsMove, AreMoves, resolving_from, IsHeader, ResolvingHolds, AnswersAreCurrent}
-use Rattle.load_barrier.proofs.Knows.{CanResolve, Can, Knows, can_stays}
+use Rattle.load_barrier.specs.Runs.{Resolving, Move, own, others, after_move, after_moves, IsMove, AreMoves, resolving_from, ResolvingHolds, AnswersAreCurrent}
+use Rattle.load_barrier.proofs.Knows.{Can, Knows, can_stays}
 use Rattle.load_barrier.proofs.Resolving.{each_step}
 
 module _ (c : Config) (seat address phase : ℕ) where

@@ -1,13 +1,12 @@
 -- What a machine that resolves an address counts on at each spot, by the words alone, and that others leave it.
-use Rattle.std.proofs.Common.{◌≡◌, ◌≢◌, ◌≤◌, ◌<◌, ◌^◌, ℕ, ◌+◌, ◌*◌, ◌/◌, ◌%◌, inl, inr, Bool, true, false, refl, sym, ap, ◌∙◌, subst, arith}
-use Rattle.std.specs.Prelude.{◌==◌, nat_lt, if◌then◌else◌, ⊤, ◌⊎◌}
-use Rattle.std.proofs.lemmas.Bool.{cond-true, cond-false}
+use Rattle.std.proofs.Common.{◌≡◌, ◌≤◌, ◌<◌, ℕ, ◌+◌, inl, inr, true, false, refl, sym, ap, ◌∙◌, subst, arith}
+use Rattle.std.specs.Prelude.{◌==◌, ⊤, ◌⊎◌}
+use Rattle.std.proofs.lemmas.Bool.{cond-true}
 use Rattle.std.proofs.lemmas.Bool.Decides.{nat_tests}
 use Rattle.heap_words.specs.Encoding.{plain_header, header_word, is_forwarded, forwardee_in, object_words}
 use Rattle.heap_words.specs.Words.{Word, Evac, Heap}
-use Rattle.alloc_buffers.specs.declared.spot.TakeSpot.{TakeSpot}
 use Rattle.alloc_buffers.specs.Rows as takes
-use Rattle.evac_room.specs.Counter.{count_of, is_out_of_room, IsQuiet}
+use Rattle.evac_room.specs.Counter.{count_of, IsQuiet}
 use Rattle.evac_room.specs.declared.spot.RoomSpot.{RoomSpot}
 use Rattle.evac_room.specs.declared.spot.RoomSpot.TheVariants.{Look, Raise, Ask, Mark, Wait}
 use Rattle.evac_room.proofs.Steps.{Mine, mine_stays}

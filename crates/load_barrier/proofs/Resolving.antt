@@ -1,7 +1,7 @@
 -- Each step of a machine that resolves an address leads to what it counts on at the next spot.
-use Rattle.std.proofs.Common.{◌≡◌, ◌≢◌, ◌≤◌, ◌<◌, ◌^◌, ℕ, ◌+◌, ◌-◌, ◌*◌, ◌%◌, inl, inr, Bool, true, false, refl, sym, ap, ◌∙◌, subst, arith}
-use Rattle.std.specs.Prelude.{◌==◌, nat_lt, if◌then◌else◌, ⊤, ◌⊎◌}
-use Rattle.std.proofs.lemmas.Bool.{cond-true, cond-false, eq-eqb}
+use Rattle.std.proofs.Common.{◌≡◌, ◌≢◌, ◌≤◌, ◌<◌, ◌^◌, ℕ, ◌+◌, inl, inr, Bool, true, false, refl, sym, ap, ◌∙◌, subst, arith}
+use Rattle.std.specs.Prelude.{◌==◌, nat_lt, if◌then◌else◌, ◌⊎◌}
+use Rattle.std.proofs.lemmas.Bool.{cond-true, cond-false}
 use Rattle.std.proofs.lemmas.Bool.Decides.{nat_tests}
 use Rattle.heap_words.specs.declared.config.Config.{Config}
 use Rattle.heap_words.specs.Encoding.{plain_header, header_word, is_forwarded, forwardee_in, object_words}
@@ -11,9 +11,7 @@ use Rattle.heap_world.proofs.Keeping.{load_keeps}
 use Rattle.alloc_buffers.specs.declared.spot.Taken.TheVariants.{At, NoRoom}
 use Rattle.alloc_buffers.specs.declared.spot.TakeSpot.{TakeSpot}
 use Rattle.alloc_buffers.specs.declared.spot.TakeSpot.TheVariants as take
-use Rattle.alloc_buffers.specs.Rows as takes
-use Rattle.evac_room.specs.Counter.{count_of, is_out_of_room, marked, IsQuiet}
-use Rattle.evac_room.specs.declared.spot.RoomSpot.{RoomSpot}
+use Rattle.evac_room.specs.Counter.{count_of, is_out_of_room, marked}
 use Rattle.evac_room.specs.declared.spot.RoomSpot.TheVariants.{Outside, Look, Raise, Inside, Lower, Ask, Mark, Wait, Stopped}
 use Rattle.evac_room.specs.Rows as rooms
 use Rattle.load_barrier.specs.declared.copying.CopySpot.{CopySpot}
@@ -21,7 +19,7 @@ use Rattle.load_barrier.specs.declared.copying.CopySpot.TheVariants.{LoadWord, S
 use Rattle.load_barrier.specs.declared.spot.ResolveSpot.{ResolveSpot}
 use Rattle.load_barrier.specs.declared.spot.ResolveSpot.TheVariants.{LoadHeader, Entering, LoadShape, Taking, Copying, Leaving, Stopping, LoadAgain, Resolved}
 use Rattle.load_barrier.specs.Rows.{touch_at, next_at, is_resolved, current_copy, after_header, after_enter, after_take, after_word, after_publish, after_stop, take_next}
-use Rattle.load_barrier.specs.Runs.{is_copier, IsHeader, words_in, AreCopied, IsWhole, IsApart, IsCounter}
+use Rattle.load_barrier.specs.Runs.{IsHeader, words_in, AreCopied, IsApart, IsCounter}
 use Rattle.load_barrier.proofs.Knows.{CanResolve, Can, header_forwarded, names_copy, current_named}
 
 module _ (phase address : ℕ) where

@@ -1,5 +1,5 @@
 -- The resolving of an address by itself: the steps of the machine that resolves it, and between them whatever other machines do.
-use Rattle.std.specs.Prelude.{ℕ, ◌≡◌, ◌+◌, ◌*◌, ◌≤◌, ◌<◌, ◌^◌, Bool, true, false, ◌⊎◌, List, [], ◌∷◌, ⊤}
+use Rattle.std.specs.Prelude.{ℕ, ◌≡◌, ◌+◌, ◌≤◌, ◌<◌, ◌^◌, Bool, true, false, ◌⊎◌, List, [], ◌∷◌, ⊤}
 use Rattle.heap_words.specs.declared.config.Config.{Config}
 use Rattle.heap_words.specs.Encoding.{plain_header, is_forwarded, object_words}
 use Rattle.heap_words.specs.Words.{Word, Evac, Heap}
