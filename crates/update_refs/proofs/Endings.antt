@@ -48,7 +48,7 @@ field_ends c at field = by_words _ _ _ _ (ltb-false field (refs_in at.shape)) (l
 shape_ends : (c : Config) (at : Visit) → IsWorked (after_shape c at) ↔ ((refs_in at.shape ≡ 0) × IsLast c at)
 shape_ends c at = by_words _ _ _ _ (eqb-true (refs_in at.shape) 0) (eq-eqb _ _)
     (where_true (refs_in at.shape == 0) (next_object c at.walk (end_of at)) (if nat_lt at.address (tams_of c at.walk) then LoadBlack at else LoadField at 0) (IsLast c at)
-      (goes_on (nat_lt at.address (tams_of c at.walk))) (object_ends c at.walk (end_of at)))
+    (goes_on (nat_lt at.address (tams_of c at.walk))) (object_ends c at.walk (end_of at)))
   where
     goes_on : (b : Bool) → IsWorked (if b then LoadBlack at else LoadField at 0) → ⊥
     goes_on true end = cc
@@ -57,8 +57,8 @@ shape_ends c at = by_words _ _ _ _ (eqb-true (refs_in at.shape) 0) (eq-eqb _ _)
 claim_ends : (c : Config) (cset unit got : ℕ) → IsWorked (next_at c cset (ClaimUnit unit) got) ↔ IsDoneAt c cset (ClaimUnit unit) got
 claim_ends c cset unit got = by_words _ _ _ _ (eqb-true got unit) (eq-eqb _ _)
     (where_true (got == unit) (if bit_at cset unit == 1 then Ended Worked else LoadLimit unit) LoadClaim (bit_at cset unit ≡ 1) (λ end. cc)
-      (by_words_alone _ _ _ (eqb-true (bit_at cset unit) 1) (eq-eqb _ _)
-        (where_true (bit_at cset unit == 1) (Ended Worked) (LoadLimit unit) (Unit {0}) (λ end. cc) ended)))
+    (by_words_alone _ _ _ (eqb-true (bit_at cset unit) 1) (eq-eqb _ _)
+    (where_true (bit_at cset unit == 1) (Ended Worked) (LoadLimit unit) (Unit {0}) (λ end. cc) ended)))
 
 limit_ends : (c : Config) (cset region got : ℕ) → IsWorked (next_at c cset (LoadLimit region) got) ↔ (got ≡ 0)
 limit_ends c cset region got = by_words_alone _ _ _ (eqb-true got 0) (eq-eqb _ _)
