@@ -1,5 +1,5 @@
 -- A memory that stands for a graph while no machine has room in hand.
-use Rattle.std.specs.Prelude.{ℕ, ◌≡◌, ◌+◌, ◌<◌, Some, None}
+use Rattle.std.specs.Prelude.{ℕ, ◌≡◌, ◌+◌, ◌<◌, false, Some, None}
 use Rattle.std.specs.Int.{bit_at}
 use Rattle.heap_words.specs.declared.config.Config.{Config}
 use Rattle.heap_words.specs.Ranges.{seat_count}
@@ -14,8 +14,13 @@ pub record NobodyMarks (c : Config) (ghost : Ghost) : Type 0 where
   pub records_none : (t : ℕ) → t < c.mutators → ghost.recording t ≡ None
   pub scans_none : (seat : ℕ) → seat < seat_count c.mutators c.helpers → ghost.scanning seat ≡ None
 
+-- no machine copies an object, or works on a unit of evacuation
+pub record NobodyCopies (c : Config) (ghost : Ghost) : Type 0 where
+  pub copies_none : (seat : ℕ) → seat < seat_count c.mutators c.helpers → ghost.copying seat ≡ false
+  pub works_none : (seat : ℕ) → seat < seat_count c.mutators c.helpers → ghost.working seat ≡ None
+
 -- There is a way to divide the regions into objects of the graph and objects promised to mutators, with no room in hand, and
--- nobody marks; each mutator's roots stand for its thread's roots, and it has asked for what is said; the word of what is asked has
+-- nobody marks or copies; each mutator's roots stand for its thread's roots, and it has asked for what is said; the word of what is asked has
 -- the bit that a mutator waits, where one does; and the graph has no other roots.
 pub record Represents (c : Config) (memory : Word → ℕ) (g : Graph) (asking : ℕ → Asking) : Type 0 where
   pub block : Plot
@@ -27,4 +32,5 @@ pub record Represents (c : Config) (memory : Word → ℕ) (g : Graph) (asking :
   pub heard : (t refs nums : ℕ) → t < c.mutators → asking t ≡ asks refs nums → bit_at (memory Ask) 1 ≡ 1
   pub promised_to : (a seat words : ℕ) → block a ≡ Some (promised seat words) → seat < c.mutators
   pub unmarking : NobodyMarks c ghost
+  pub uncopying : NobodyCopies c ghost
   pub no_more : HasNoMore c.mutators g
