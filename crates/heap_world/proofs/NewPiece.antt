@@ -60,7 +60,7 @@ module _ (c : Config) (top current : ℕ → ℕ) (block : Plot) (region at word
   names_stay = joined.names_stay c top block region at (hand seat words) joins
 
   -- an object of the new plot is an old one
-  old_thing : (a refs nums : ℕ) (name : Name) → new_block a ≡ Some (thing name refs nums) → block a ≡ Some (thing name refs nums)
+  pub old_thing : (a refs nums : ℕ) (name : Name) → new_block a ≡ Some (thing name refs nums) → block a ≡ Some (thing name refs nums)
   old_thing a refs nums name is = ⊎_elim
       (λ (new : (a ≡ address) × (hand seat words ≡ thing name refs nums)). let differ = new.1 in cc)
       (λ (old : (a ≢ address) × (block a ≡ Some (thing name refs nums))). old.1)
