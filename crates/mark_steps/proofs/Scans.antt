@@ -8,16 +8,17 @@ use Rattle.std.proofs.lemmas.Option.{slice_get-get_or}
 use Rattle.heap_words.specs.declared.config.Config.{Config}
 use Rattle.heap_words.specs.declared.access.Unit.TheVariants.{Worked, NoneLeft}
 use Rattle.heap_words.specs.Encoding.{refs_in}
-use Rattle.heap_words.specs.Words.{Word, Claim, Count, Buffer, Grey, Black, Heap, IsWord, is_word, bit_words}
+use Rattle.heap_words.specs.Words.{Phase, Word, Claim, Count, Buffer, Grey, Black, Heap, IsWord, is_word, bit_words}
 use Rattle.heap_words.proofs.Shapes.{refs_in-shape_word}
 use Rattle.steps_base.specs.Touch.{touched}
 use Rattle.mark_bits.specs.Marks.{mark_word, mark_bit, mark_at, address_at, lowest_address, HasMark}
 use Rattle.mark_bits.proofs.Marking.{mark_set, mark_stays, word_inside}
 use Rattle.shen_graph.specs.declared.name.Name.{Name}
 use Rattle.shen_graph.specs.Graph.{Reference}
-use Rattle.heap_world.specs.World.{World, Scan, thing, Points, was_at, IsMarkable, IsNoted, IsToScan, NeedsNoMarking, IsTracedAt, AreMarks, AreEntries, NotedIn, Shared}
+use Rattle.heap_world.specs.World.{World, moved, Scan, thing, Points, was_at, IsMarkable, IsNoted, IsToScan, NeedsNoMarking, IsTracedAt, AreMarks, AreEntries, NotedIn, Shared}
 use Rattle.heap_world.specs.Rely.{Rely}
 use Rattle.heap_world.proofs.Pointing.{named_thing}
+use Rattle.heap_world.proofs.Unmoved.{unmoved}
 use Rattle.heap_world.proofs.Updates.{updated, updated_there, updated_else}
 use Rattle.scan_steps.specs.declared.spot.ScanSpot.{ScanSpot}
 use Rattle.scan_steps.specs.declared.spot.ScanSpot.TheVariants.{LoadClaim, ClaimUnit, LoadGrey, LoadBlack, SetBlack, LoadShape, LoadField, SetGrey, Ended}
