@@ -1,14 +1,12 @@
 -- The words of an image before a pause: promised objects are objects of a larger graph, and an old copy is an object as its current
 -- copy is.
-use Rattle.std.proofs.Common.{◌≡◌, ℕ, ◌+◌, ◌-◌, ◌<◌, ◌⊎◌, ◌&&◌, inl, inr, true, false, nat_le, nat_lt, slice_get, Option, Some, ⊎_elim, refl, sym, ap, ◌∙◌, subst, arith}
+use Rattle.std.proofs.Common.{◌≡◌, ℕ, ◌+◌, ◌-◌, ◌<◌, ◌⊎◌, ◌&&◌, inl, inr, true, false, nat_le, nat_lt, Option, Some, ⊎_elim, refl, sym, ap, ◌∙◌, subst, arith}
 use Rattle.std.proofs.lemmas.Bool.{cond-true, cond-false, cases_Bool, and_parts, leb-true, ltb-true}
 use Rattle.std.proofs.lemmas.Option.{none-some, same_Some}
 use Rattle.heap_words.specs.declared.config.Config.{Config}
 use Rattle.heap_words.specs.Words.{Word, Top, Root, Answer, Heap}
 use Rattle.shen_graph.specs.declared.name.Name.{Name}
 use Rattle.shen_graph.specs.Graph.{Graph, Object, blank, fresh, same_reference}
-use Rattle.shen_graph.specs.Reach.{IsReachable}
-use Rattle.shen_graph.specs.Reach as reach
 use Rattle.shen_graph.proofs.PlainLemmas.{same_name-itself}
 use Rattle.heap_world.specs.World.{Block, thing, moved, spent, hand, promised, filler, words_of, Plot, name_at, body_of, IsPlotted, IsFilled, IsThing, IsMarkable}
 use Rattle.heap_world.specs.Asking.{Asking, nothing, asks, refused, given, IsPromise, IsAsked}
@@ -18,15 +16,11 @@ use Rattle.heap_world.proofs.Pointing.{named_body, copy_cases}
 use Rattle.heap_world.proofs.Pieces.{object_reads}
 use Rattle.heap_world.proofs.Keeping.{points_stay}
 use Rattle.heap_world.proofs.NewObject.{new_object}
-use Rattle.image_laws.specs.Held.{IsAmong, HoldsGraph}
-use Rattle.image_laws.specs.Full.{now_in, root_words}
 use Rattle.image_laws.specs.Promised.{Promises, with_promised}
 use Rattle.image_laws.specs.Image.{AnswerStands, RootsStand}
 use Rattle.image_laws.proofs.Promised.{same_reference-true}
-use Rattle.image_laws.proofs.Reached.{named_object}
-use Rattle.image_laws.proofs.Standing.{objects_hold}
 use Rattle.pause_laws.proofs.Promises.{promised_ref, promised_refs, promised_nums, promises_of, ref_of, refs_of, nums_of, promised_one}
-use Rattle.pause_laws.proofs.Mapped.{mapped, mapped_at, mapped_from, plotted_alike, filled_alike}
+use Rattle.pause_laws.proofs.Mapped.{mapped, mapped_at, plotted_alike, filled_alike}
 
 -- what is at the address of a current copy, as an object of the larger graph: a promised object has its thread's next name
 abbrev pub as_current : Graph → (ℕ → Asking) → Option Block → Block → Block
@@ -109,7 +103,7 @@ module _ (c : Config) (m : Word → ℕ) (g : Graph) (asking : ℕ → Asking) (
   pub same_words : (a : ℕ) (b : Block) → r.block a ≡ Some b → words_of (as_object g asking r.block b) ≡ words_of b
   same_words a (thing name refs nums) is = refl
   same_words a (moved name refs nums to) is = refl
-  same_words a (spent words to) is = let old = r.shared.evacuated.moved.spents a words to is in spent_words to words old.copy old.long
+  same_words a (spent words to) is = let old = r.shared.evacuated.moved.spents a words to is in spent_words to words old.copy (λ b here. ap words_of (same_Some b old.piece (sym here ∙ old.there)) ∙ old.long)
   same_words a (hand seat words) is = refl
   same_words a (filler words) is = refl
   same_words a (promised seat words) is = promised_words a seat words is

@@ -1,10 +1,10 @@
 -- The words of an image before a pause: old copies lead to current ones, only these are held, and so the words hold the graph with the
 -- promised objects.
-use Rattle.std.proofs.Common.{◌≡◌, ◌≢◌, ℕ, ◌+◌, ◌<◌, get_or, true, slice_get, Option, Some, None, ⊎_elim, sym, ap, ◌∙◌, subst, arith}
+use Rattle.std.proofs.Common.{◌≡◌, ◌≢◌, ℕ, ◌+◌, ◌%◌, ◌<◌, get_or, slice_get, Some, None, ⊎_elim, sym, ap, ◌∙◌, subst, arith}
 use Rattle.std.proofs.lemmas.Bool.{cond-true, eq-eqb}
 use Rattle.std.proofs.lemmas.Option.{none-some, same_Some, slice_get-get_or}
 use Rattle.heap_words.specs.declared.config.Config.{Config}
-use Rattle.heap_words.specs.Words.{Word, Top, Root, Heap}
+use Rattle.heap_words.specs.Words.{Word, Cset, Top, Root, Heap}
 use Rattle.heap_words.specs.Encoding.{plain_header, header_word, is_forwarded, forwardee_in, refs_in}
 use Rattle.shen_graph.specs.declared.name.Name.{Name}
 use Rattle.shen_graph.specs.Graph.{Graph, Object, Reference}
@@ -25,7 +25,7 @@ use Rattle.pause_laws.proofs.Mapped.{mapped_from}
 use Rattle.pause_laws.proofs.Before.{as_current, as_object, live, live_at, pieces_are, names_stay, promised_at, object_at, once_each, live_rooted, live_plotted}
 
 -- where a header leads to an address, the current copy is there
-led_to : (memory : Word → ℕ) (a to : ℕ) → memory (Heap a) ≡ header_word to → now_in memory a ≡ to
+pub led_to : (memory : Word → ℕ) (a to : ℕ) → memory (Heap a) ≡ header_word to → now_in memory a ≡ to
 led_to memory a to is =
     let moved_on : memory (Heap a) % 4 ≡ 3 = omega (arith, is) in
     cond-true (is_forwarded (memory (Heap a))) (forwardee_in (memory (Heap a))) a (eq-eqb (memory (Heap a) % 4) 3 moved_on) ∙ omega (arith, is)
