@@ -10,7 +10,7 @@ use Rattle.regions.specs.Place.{base_of, region_with}
 use Rattle.shen_graph.specs.declared.name.Name.{Name}
 use Rattle.shen_graph.specs.Graph.{Graph, Reference}
 use Rattle.mark_bits.specs.Marks.{mark_word, mark_bit, HasMark}
-use Rattle.heap_world.specs.World.{Block, thing, moved, spent, promised, filler, Plot, Snapshot, IsCollected, IsMarkable, IsYoung, IsNoted, was_at, IsToScan, IsTracedAt, IsLed, name_at}
+use Rattle.heap_world.specs.World.{Block, thing, moved, spent, promised, filler, Snapshot, IsCollected, IsMarkable, IsYoung, IsNoted, was_at, IsToScan, IsTracedAt, IsLed, name_at}
 use Rattle.heap_world.specs.Asking.{Asking}
 use Rattle.heap_world.specs.Represents.{Represents}
 use Rattle.heap_world.proofs.Pointing.{piece_inside, named_thing, named_if_not_0}
