@@ -1,7 +1,9 @@
 use crate::{Entered, FieldSpot, LoadSpot, Loaded, Mutator, Overwritten, ShowSpot, Spot, WaitSpot};
+use alloc_buffers::TakeSpot;
+use evac_room::RoomSpot;
 use handshake::EnterSpot;
 use heap_words::{Access, Config, Place, Took};
-use load_barrier::ResolveSpot;
+use load_barrier::{CopySpot, ResolveSpot};
 use satb_barrier::RememberSpot;
 use shen_graph::{Command, Name, Order, Reply};
 use std::test::Fail;
@@ -324,25 +326,25 @@ fn a_cas_resolves(rt: HostRuntime) -> Result<(), Fail> {
     Ok(())
 }
 
-// Thread 1 gets field 0 of the object at 200 in phase 2, and finds the address 96 there, in the collection set.
-fn gets_an_old_address(config: Config) -> Mutator {
+// Thread 1 gets field 0 of the object at 200 in phase 2, and finds the address 96 there. The object at 96 has moved already, to
+// 133: its name is loaded there, and the root gets the copy.
+#[test]
+fn a_get_of_a_moved_object(rt: HostRuntime) -> Result<(), Fail> {
+    let config = Config::new(4, 64, 1, 0, 0)?;
     let mut mutator = Mutator::new(config, 0);
     mutator.begin(Command::Get {
         dst: 2,
         src: 1,
         field: 0,
     });
-    for found in [0, 0, 2, 1, 200, 65536 + 256, 96] {
-        mutator.took(found);
-    }
-    mutator
-}
-
-// The object has moved already: the root gets the copy.
-#[test]
-fn a_get_of_a_moved_object(rt: HostRuntime) -> Result<(), Fail> {
-    let config = Config::new(4, 64, 1, 0, 0)?;
-    let mut mutator = gets_an_old_address(config);
+    mutator.took(0);
+    mutator.took(0);
+    mutator.took(2);
+    mutator.took(1);
+    mutator.took(200);
+    mutator.took(65536 + 256);
+    assert!(rt; mutator.place() == Place::FL);
+    assert!(rt; mutator.took(96) == Took::More);
     assert!(rt; mutator.place() == Place::HL);
     let at = config.heap_at(96);
     assert!(rt; mutator.plan() == Access::Load { at });
@@ -357,60 +359,30 @@ fn a_get_of_a_moved_object(rt: HostRuntime) -> Result<(), Fail> {
     Ok(())
 }
 
-// It has not moved, and has three words: the thread copies it to the top 5 of its current region 1, at 133.
+// An object that has not moved: the thread asks to copy, and copies.
 #[test]
 fn a_get_that_copies(rt: HostRuntime) -> Result<(), Fail> {
-    let config = Config::new(4, 64, 1, 0, 0)?;
-    let mut mutator = gets_an_old_address(config);
-    let steps = [
-        (Place::HL, 1),
-        (Place::XL, 0),
-        (Place::XC, 0),
-        (Place::SL, 65536),
-        (Place::TC, 2),
-        (Place::TT, 5),
-        (Place::TS, 5),
-        (Place::CL, 65536),
-        (Place::CP, 0),
-        (Place::CL, 4294967296 + 5),
-        (Place::CP, 0),
-        (Place::HI, 0),
-    ];
-    for (place, found) in steps {
-        assert!(rt; mutator.place() == place);
-        assert!(rt; mutator.took(found) == Took::More);
-    }
-    assert!(rt; mutator.place() == Place::HX);
-    let at = config.heap_at(96);
-    let publish = Access::Exchange {
-        at,
-        expect: 1,
-        value: FORWARDED,
+    let order = Order::Nothing;
+    let asks = Loaded::ForRoot.resolve(96, ResolveSpot::Entering { at: RoomSpot::Look });
+    assert!(rt; asks.place(order) == Place::XL);
+    let loads = Loaded::ForRoot.resolve(96, ResolveSpot::LoadShape);
+    assert!(rt; loads.place(order) == Place::SL);
+    let takes = ResolveSpot::Taking {
+        words: 3,
+        at: TakeSpot::LoadCurrent,
     };
-    assert!(rt; mutator.plan() == publish);
-    assert!(rt; mutator.took(1) == Took::More);
-    assert!(rt; mutator.place() == Place::XS);
-    assert!(rt; mutator.took(1) == Took::More);
-    assert!(rt; mutator.place() == Place::NM);
-    let at = config.heap_at(135);
-    assert!(rt; mutator.plan() == Access::Load { at });
-    Ok(())
-}
-
-// Another machine has found no room, and one still copies: the thread waits, and then uses the old copy.
-#[test]
-fn a_get_without_room(rt: HostRuntime) -> Result<(), Fail> {
-    let config = Config::new(4, 64, 1, 0, 0)?;
-    let out_of_room = 9223372036854775808;
-    let mut mutator = gets_an_old_address(config);
-    assert!(rt; mutator.took(1) == Took::More);
-    assert!(rt; mutator.took(out_of_room + 1) == Took::Again);
-    assert!(rt; mutator.place() == Place::XL);
-    assert!(rt; mutator.took(out_of_room) == Took::More);
-    assert!(rt; mutator.place() == Place::HR);
-    assert!(rt; mutator.took(1) == Took::More);
-    assert!(rt; mutator.place() == Place::NM);
-    let at = config.heap_at(98);
-    assert!(rt; mutator.plan() == Access::Load { at });
+    assert!(rt; Loaded::ForRoot.resolve(96, takes).place(order) == Place::TC);
+    let publishes = ResolveSpot::Copying {
+        copy: 133,
+        at: CopySpot::Publish,
+    };
+    assert!(rt; Loaded::ForRoot.resolve(96, publishes).place(order) == Place::HX);
+    let leaves = Loaded::ForRoot.resolve(96, ResolveSpot::Leaving { answer: 133 });
+    assert!(rt; leaves.place(order) == Place::XS);
+    let shows = Spot::Showing {
+        value: 133,
+        at: ShowSpot::LoadName,
+    };
+    assert!(rt; Loaded::ForRoot.resolve(96, ResolveSpot::Resolved { answer: 133 }) == shows);
     Ok(())
 }
