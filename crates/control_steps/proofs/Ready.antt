@@ -5,7 +5,7 @@ use Rattle.std.proofs.lemmas.Bool.{and_parts, lt-ltb, ltb-true}
 use Rattle.std.proofs.lemmas.Bool.Decides.{nat_tests}
 use Rattle.heap_words.specs.declared.config.Config.{Config}
 use Rattle.heap_words.specs.Access.{table_index}
-use Rattle.heap_words.specs.Words.{is_word, word_at, table_words}
+use Rattle.heap_words.specs.Words.{IsWord, word_at, table_words}
 use Rattle.heap_words.proofs.Stores.{is_word_true}
 use Rattle.heap_words.proofs.Rows.{word_inside}
 use Rattle.steps_base.specs.Touch.{Touch, placed}
@@ -21,6 +21,7 @@ use Rattle.load_barrier.specs.declared.evac_spot.EvacSpot.{EvacSpot}
 use Rattle.load_barrier.specs.declared.evac_spot.EvacSpot.TheVariants as evac
 use Rattle.load_barrier.specs.UnitRows as evacs
 use Rattle.load_barrier.specs.UnitFit as evac_fit
+use Rattle.load_barrier.proofs.Inside.{evacuation_inside}
 use Rattle.heap_world.specs.Change.{image_words}
 use Rattle.control_steps.specs.declared.spot.ControlSpot.{ControlSpot}
 use Rattle.control_steps.specs.declared.spot.ControlSpot.TheVariants.{LookLeft, StoreEnd, LookAsked, LookFree, Scanning, Evacuating, Stopping, LoadWord, StoreWord, Go, Gone}
@@ -73,19 +74,19 @@ stays_ready c phase cset seen Go got ready goes = refl
 stays_ready c phase cset seen Gone got ready goes = refl
 
 -- an access of a word of the table is inside it
-placed_inside : (c : Config) (t : Touch) → is_word c t.word ≡ true → table_index (placed c t) < table_words c
-placed_inside c t is = subst (λ k. k < table_words c) (sym (table_index-access_at (word_at c t.word) t.form)) (word_inside c t.word (is_word_true c t.word is))
+placed_inside : (c : Config) (t : Touch) → IsWord c t.word → table_index (placed c t) < table_words c
+placed_inside c t is = subst (λ k. k < table_words c) (sym (table_index-access_at (word_at c t.word) t.form)) (word_inside c t.word is)
 
 -- the control's are
 pub accesses_inside : AccessesAreInside
-accesses_inside c LookLeft value ready = placed_inside c (control_touch c LookLeft) refl
-accesses_inside c StoreEnd value ready = placed_inside c (control_touch c StoreEnd) refl
-accesses_inside c LookAsked value ready = placed_inside c (control_touch c LookAsked) refl
-accesses_inside c LookFree value ready = placed_inside c (control_touch c LookFree) refl
+accesses_inside c LookLeft value ready = placed_inside c (control_touch c LookLeft) tt
+accesses_inside c StoreEnd value ready = placed_inside c (control_touch c StoreEnd) tt
+accesses_inside c LookAsked value ready = placed_inside c (control_touch c LookAsked) tt
+accesses_inside c LookFree value ready = placed_inside c (control_touch c LookFree) tt
 accesses_inside c (Scanning at) value ready = search (arith, nat_tests)
-accesses_inside c (Evacuating cset at) value ready = ?
-accesses_inside c (Stopping at) value ready = placed_inside c (stop_touch at) (and_parts _ _ (and_parts _ _ ready).0).0
+accesses_inside c (Evacuating cset at) value ready = placed_inside c (control_touch c (Evacuating cset at)) (evacuation_inside c (control_seat c) at (and_parts _ _ ready).0)
+accesses_inside c (Stopping at) value ready = placed_inside c (stop_touch at) (is_word_true c (stop_touch at).word (and_parts _ _ (and_parts _ _ ready).0).0)
 accesses_inside c (LoadWord index) value ready = (let below = ltb-true _ _ ready in omega (arith, below))
 accesses_inside c (StoreWord index) value ready = (let below = ltb-true _ _ ready in omega (arith, below))
-accesses_inside c Go value ready = placed_inside c (control_touch c Go) refl
-accesses_inside c Gone value ready = placed_inside c (control_touch c Gone) refl
+accesses_inside c Go value ready = placed_inside c (control_touch c Go) tt
+accesses_inside c Gone value ready = placed_inside c (control_touch c Gone) tt

@@ -1,8 +1,14 @@
 -- A helper can make its next access wherever it goes on.
-use Rattle.std.proofs.Common.{◌≡◌, ℕ, Bool, true, false, refl}
+use Rattle.std.proofs.Common.{◌≡◌, ℕ, ◌+◌, ◌<◌, Bool, true, false, refl, sym, subst, arith}
 use Rattle.std.specs.Prelude.{◌==◌, if◌then◌else◌}
-use Rattle.std.proofs.lemmas.Bool.{and_parts, and_from}
+use Rattle.std.proofs.lemmas.Bool.{and_parts, and_from, ltb-true}
+use Rattle.std.proofs.lemmas.Bool.Decides.{nat_tests}
 use Rattle.heap_words.specs.declared.config.Config.{Config}
+use Rattle.heap_words.specs.Access.{table_index}
+use Rattle.heap_words.specs.Words.{IsWord, word_at, table_words}
+use Rattle.heap_words.proofs.Rows.{word_inside}
+use Rattle.steps_base.specs.Touch.{Touch, placed}
+use Rattle.steps_base.proofs.Touches.{table_index-access_at}
 use Rattle.handshake.specs.declared.enter_spot.EnterSpot.{EnterSpot}
 use Rattle.handshake.specs.declared.enter_spot.EnterSpot.TheVariants as enter
 use Rattle.scan_steps.specs.declared.spot.ScanSpot.{ScanSpot}
@@ -12,10 +18,11 @@ use Rattle.load_barrier.specs.declared.evac_spot.EvacSpot.{EvacSpot}
 use Rattle.load_barrier.specs.declared.evac_spot.EvacSpot.TheVariants as evac
 use Rattle.load_barrier.specs.UnitRows as evacs
 use Rattle.load_barrier.specs.UnitFit as evac_fit
+use Rattle.load_barrier.proofs.Inside.{evacuation_inside}
 use Rattle.helper.specs.declared.spot.HelpSpot.{HelpSpot}
 use Rattle.helper.specs.declared.spot.HelpSpot.TheVariants.{LoadEnd, Entering, LoadPhase, LoadSet, Scanning, Evacuating, Leave, Gone}
-use Rattle.helper.specs.Rows.{next_spot, after_enter, after_scan, after_evacuation}
-use Rattle.helper.specs.Ready.{spot_fits, UnitGoesOn, StaysReady}
+use Rattle.helper.specs.Rows.{touch_at, next_spot, after_enter, after_scan, after_evacuation}
+use Rattle.helper.specs.Ready.{spot_fits, UnitGoesOn, AccessesAreInside, StaysReady}
 
 -- of two spots
 of_two : (c : Config) (seat : ℕ) (b : Bool) (x y : HelpSpot) → spot_fits c seat x ≡ true → spot_fits c seat y ≡ true → spot_fits c seat (if b then x else y) ≡ true
@@ -53,3 +60,21 @@ spot_stays c seat Gone got fits goes = refl
 
 pub stays_ready : StaysReady
 stays_ready c h got ready goes = let parts = and_parts _ _ ready in and_from _ _ parts.0 (spot_stays c h.seat h.spot got parts.1 goes)
+
+-- an access of a word of the table is inside it
+placed_inside : (c : Config) (t : Touch) → IsWord c t.word → table_index (placed c t) < table_words c
+placed_inside c t is = subst (λ k. k < table_words c) (sym (table_index-access_at (word_at c t.word) t.form)) (word_inside c t.word is)
+
+spot_inside : (c : Config) (seat : ℕ) (spot : HelpSpot) → seat < c.mutators + c.helpers → spot_fits c seat spot ≡ true → table_index (placed c (touch_at c seat spot)) < table_words c
+spot_inside c seat (Entering enter.Raise) below fits = placed_inside c (touch_at c seat (Entering enter.Raise)) below
+spot_inside c seat (Entering enter.Look) below fits = placed_inside c (touch_at c seat (Entering enter.Look)) tt
+spot_inside c seat (Entering enter.Lower) below fits = placed_inside c (touch_at c seat (Entering enter.Lower)) below
+spot_inside c seat (Entering enter.Await) below fits = placed_inside c (touch_at c seat (Entering enter.Await)) tt
+spot_inside c seat (Entering enter.Inside) below fits = placed_inside c (touch_at c seat (Entering enter.Inside)) tt
+spot_inside c seat (Scanning at) below fits = search (arith, nat_tests)
+spot_inside c seat (Evacuating cset at) below fits = placed_inside c (touch_at c seat (Evacuating cset at)) (evacuation_inside c seat at (and_parts _ _ fits).0)
+spot_inside c seat Leave below fits = placed_inside c (touch_at c seat Leave) below
+spot_inside c seat spot below fits = placed_inside c (touch_at c seat spot) tt
+
+pub accesses_inside : AccessesAreInside
+accesses_inside c h ready = let parts = and_parts _ _ ready in spot_inside c h.seat h.spot (ltb-true _ _ parts.0) parts.1
