@@ -41,8 +41,8 @@ pub record IsMeasured (c : Config) (w : World) (address end next : ℕ) : Type 0
 -- the machine of a seat copies, records and scans nothing, and has no room in hand
 pub record HasNothing (w : World) (seat : ℕ) : Type 0 where
   pub copying : w.ghost.copying seat ≡ false
-  pub recording : w.ghost.recording seat ≡ None
-  pub scanning : w.ghost.scanning seat ≡ None
+  pub records_none : w.ghost.recording seat ≡ None
+  pub scans_none : w.ghost.scanning seat ≡ None
   pub hands : (a words : ℕ) → w.block a ≡ Some (hand seat words) → ⊥
 
 -- what holds of the words and of what the machine copies, by where it stands
