@@ -86,7 +86,7 @@ module _ (c : Config) (phase cset evac claim free : ℕ) (top tams heap black : 
       objects = λ on a is. e.kept.objects on a (was_markable a is);
       young = λ on a seat words is. ⊎_elim (λ was. e.kept.young on a seat words was) (λ new. subst (IsYoung c tams) (sym new.0) (young on)) (only a (hand seat words) is);
       floors = λ on r inside. (let floor = e.kept.floors on r inside in let rise = rises r in omega (arith, floor, rise));
-      only = λ on a mark inside. copy_stays block new_block (bodies_stay block new_block (λ x refs nums name. stays x (thing name refs nums)) (λ x refs nums to name. stays x (moved name refs nums to))) (λ x words to. stays x (spent words to)) a (e.kept.only on a mark inside);
+      only = λ on a above mark inside. copy_stays block new_block (bodies_stay block new_block (λ x refs nums name. stays x (thing name refs nums)) (λ x refs nums to name. stays x (moved name refs nums to))) (λ x words to. stays x (spent words to)) a (e.kept.only on a above mark inside);
     };
     units = λ on r before is. ⊎_elim
         (λ swept. inl (⊎_elim (λ out. inl out) (λ none. inr (λ a refs nums name from to there. none a refs nums name from to (old a (thing name refs nums) (λ seat words same. (let differ = same in cc)) there))) swept))
@@ -136,7 +136,7 @@ module _ (c : Config) (phase cset evac claim free : ℕ) (top tams heap black : 
           (cases_eq a address);
       young = λ on a seat words is. e.kept.young on a seat words (old a (hand seat words) (λ same. (let differ = same in cc)) is);
       floors = e.kept.floors;
-      only = λ on a mark inside. copy_stays block new_block (bodies_stay block new_block things moveds) spents a (e.kept.only on a mark inside);
+      only = λ on a above mark inside. copy_stays block new_block (bodies_stay block new_block things moveds) spents a (e.kept.only on a above mark inside);
     };
     units = λ on r before is. ⊎_elim
         (λ swept. inl (⊎_elim

@@ -392,7 +392,7 @@ pub record AreKept (c : Config) (phase cset : ℕ) (black top tams : ℕ → ℕ
   pub objects : phase ≡ 2 → (a : ℕ) → IsMarkable block a → HasMark c black a ⊎ IsYoung c tams a
   pub young : phase ≡ 2 → (a seat words : ℕ) → block a ≡ Some (hand seat words) → IsYoung c tams a
   pub floors : phase ≡ 2 → (r : ℕ) → r < c.regions → tams r ≤ top r
-  pub only : phase ≡ 2 → (a : ℕ) → HasMark c black a → IsCollected c cset a → HasCopy block a
+  pub only : phase ≡ 2 → (a : ℕ) → c.region_words ≤ a → HasMark c black a → IsCollected c cset a → HasCopy block a
 
 -- A region of the collection set is swept up to an address: no object has its current copy below it; or there was no room.
 abbrev pub IsSweptTo : Config → (evac : ℕ) → Plot → (region end : ℕ) → Type 0
