@@ -7,6 +7,8 @@ pub mod Joined
 pub mod Unwritten
 pub mod Traced
 pub mod Marked
+pub mod Copies
+pub mod Evacuated
 pub mod Unmarked
 pub mod NewPiece
 pub mod FreeRegions

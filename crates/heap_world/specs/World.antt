@@ -2,7 +2,7 @@
 use Rattle.std.specs.Prelude.{ℕ, ◌≡◌, ◌≢◌, ◌⊎◌, ◌+◌, ◌<◌, ◌≤◌, ◌^◌, Bool, true, false, if◌then◌else◌, Option, Some, None, zero, suc}
 use Rattle.std.specs.Int.{bit_at}
 use Rattle.heap_words.specs.declared.config.Config.{Config}
-use Rattle.heap_words.specs.Words.{Word, Phase, Cset, Free, Evac, Claim, Top, Tams, Current, Root, Count, Buffer, Grey, Black, Heap}
+use Rattle.heap_words.specs.Words.{Word, Phase, Cset, Free, Evac, Claim, Top, Tams, Current, Count, Buffer, Grey, Black, Heap}
 use Rattle.heap_words.specs.Encoding.{plain_header, header_word, shape_word, object_words}
 use Rattle.heap_words.specs.Ranges.{seat_count}
 use Rattle.regions.specs.Place.{base_of, region_with}
@@ -216,12 +216,17 @@ ArePromises block = (a seat words : ℕ) → block a ≡ Some (promised seat wor
 abbrev pub AreFillers : Plot → Type 0
 AreFillers block = (a words : ℕ) → block a ≡ Some (filler words) → 3 ≤ words
 
+-- so were those of an object that was promised and has moved
+abbrev pub AreSpents : Plot → Type 0
+AreSpents block = (a words to : ℕ) → block a ≡ Some (spent words to) → 3 ≤ words
+
 -- The heap is parsable: pieces fill the parts in use, one after another, and each has the least size of its kind.
 pub record IsParsable (c : Config) (top : ℕ → ℕ) (block : Plot) : Type 0 where
   pub plotted : IsPlotted c top block
   pub filled : IsFilled c top block
   pub promises : ArePromises block
   pub fillers : AreFillers block
+  pub spents : AreSpents block
 
 -- The pieces that are objects are the graph's, and its names are given.
 pub record HasContents (c : Config) (heap : ℕ → ℕ) (block : Plot) (object : Name → Option Object) (count : ℕ → ℕ) : Type 0 where
@@ -344,10 +349,11 @@ pub record IsMoved (c : Config) (cset : ℕ) (heap : ℕ → ℕ) (block : Plot)
 pub record IsSpent (c : Config) (cset : ℕ) (heap : ℕ → ℕ) (block : Plot) (a words to : ℕ) : Type 0 where
   pub header : heap a ≡ header_word to
   pub shape : object_words (heap (a + 1)) ≡ words
-  pub some : 3 ≤ words
   pub inside : IsCollected c cset a
   pub copy : IsMarkable block to
-  pub long : (b : Block) → block to ≡ Some b → words_of b ≡ words
+  pub piece : Block
+  pub there : block to ≡ Some piece
+  pub long : words_of piece ≡ words
   pub outside : IsCollected c cset to → ⊥
 
 pub record HaveMoved (c : Config) (cset : ℕ) (heap : ℕ → ℕ) (block : Plot) : Type 0 where
@@ -404,31 +410,30 @@ abbrev pub AreUsable : Config → (cset evac : ℕ) → Plot → (root : ℕ →
 AreUsable c cset evac block root = (t i : ℕ) → t < c.mutators → i < 16 → IsUsable c cset evac block (root t i)
 
 -- Evacuation: objects are copied out of the collection set beside the threads. In other phases than 2 the set is empty and no copier is
--- counted, so that nothing is said but that roots may be used.
-pub record IsEvacuating (c : Config) (phase cset evac claim free : ℕ) (top tams heap black : ℕ → ℕ) (root : ℕ → ℕ → ℕ) (block : Plot) (owner : ℕ → Option ℕ) (copying : ℕ → Bool) (working : ℕ → Option ℕ) : Type 0 where
+-- counted, so that nothing is said.
+pub record IsEvacuating (c : Config) (phase cset evac claim free : ℕ) (top tams heap black : ℕ → ℕ) (block : Plot) (owner : ℕ → Option ℕ) (copying : ℕ → Bool) (working : ℕ → Option ℕ) : Type 0 where
   pub moved : HaveMoved c cset heap block
   pub counted : IsCounted c evac copying
   pub aside : AreSetAside c cset free top tams block owner
   pub kept : AreKept c phase cset black top tams block
   pub units : AreCaredFor c phase cset evac claim block working
-  pub roots : AreUsable c cset evac block root
 
 -- The facts that all machines share, in groups, each over the words that it speaks of: a step that changes none of these words
 -- hands the group on as it is.
 pub record SharedFacts (c : Config) (top heap : ℕ → ℕ) (block : Plot) (ghost : Ghost) (object : Name → Option Object) (count : ℕ → ℕ) (phase cset evac free : ℕ) (current : ℕ → ℕ)
-    (grey black entries : ℕ → ℕ) (buffer : ℕ → ℕ → ℕ) (tams : ℕ → ℕ) (claim : ℕ) (root : ℕ → ℕ → ℕ) : Type 0 where
+    (grey black entries : ℕ → ℕ) (buffer : ℕ → ℕ → ℕ) (tams : ℕ → ℕ) (claim : ℕ) : Type 0 where
   pub parsable : IsParsable c top block
   pub contents : HasContents c heap block object count
   pub owned : AreOwned c top free current block ghost.owner
   pub phased : IsPhased phase cset evac
   pub unwritten : AreUnwritten heap block
   pub marked : KeepsSnapshot c phase grey black entries buffer top tams heap block ghost.snapshot ghost.recording ghost.scanning
-  pub evacuated : IsEvacuating c phase cset evac claim free top tams heap black root block ghost.owner ghost.copying ghost.working
+  pub evacuated : IsEvacuating c phase cset evac claim free top tams heap black block ghost.owner ghost.copying ghost.working
 
 abbrev pub Shared : Config → World → Type 0
 Shared c w = SharedFacts c (λ r. w.memory (Top r)) (λ a. w.memory (Heap a)) w.block w.ghost w.graph.object w.graph.count (w.memory Phase) (w.memory Cset) (w.memory Evac)
     (w.memory Free) (λ s. w.memory (Current s)) (λ n. w.memory (Grey n)) (λ n. w.memory (Black n)) (λ t. w.memory (Count t)) (λ t k. w.memory (Buffer t k)) (λ r. w.memory (Tams r))
-    (w.memory Claim) (λ t i. w.memory (Root t i))
+    (w.memory Claim)
 
 -- the object's current copy is at an address of a world, and may be used
 abbrev pub TargetIn : Config → World → (address refs nums : ℕ) → Name → Type 0
