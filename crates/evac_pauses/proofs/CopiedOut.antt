@@ -30,17 +30,30 @@ use Rattle.evac_pauses.proofs.Replaced.{plotted_still, filled_still}
 use Rattle.evac_pauses.proofs.Copied.{object_copied, blank_copied}
 use Rattle.evac_pauses.proofs.Between.{IsBetween, AreBetween, IsLive, old_of, old_words, old_name, old_is_old, was_thing, was_promised, live_is_live, live_markable, old_has_copy}
 
+-- What holds once a piece was copied from an address to another one: what held between two turns, and what of it is where.
+pub record HasCopied (c : Config) (m n : Word → ℕ) (block plot : Plot) (owner : ℕ → Option ℕ) (g : Graph) (a to : ℕ) (x : Block) : Type 0 where
+  pub between : AreBetween c n plot owner g
+  pub header : n (Heap a) ≡ header_word to
+  pub there : plot to ≡ Some x
+  pub outside : IsCollected c (n Cset) to → ⊥
+  pub copied : (k : ℕ) → k < words_of x → n (Heap (to + k)) ≡ m (Heap (a + k))
+  pub stays : (p : ℕ) (z : Block) → p ≢ a → block p ≡ Some z → plot p ≡ Some z
+  pub kept : (p k : ℕ) (z : Block) → p ≢ a → block p ≡ Some z → k < words_of z → n (Heap (p + k)) ≡ m (Heap (p + k))
+  pub names : (p : ℕ) (name : Name) → name_at (block p) ≡ Some name → name_at (plot p) ≡ Some name
+  pub promises : (p seat words : ℕ) → plot p ≡ Some (promised seat words) → ((p ≡ to) × (x ≡ promised seat words)) ⊎ ((p ≢ a) × (block p ≡ Some (promised seat words)))
+  pub same : (word : Word) → (MayChange word → ⊥) → n word ≡ m word
+
 module _ (c : Config) (m : Word → ℕ) (block : Plot) (owner : ℕ → Option ℕ) (g : Graph) (b : AreBetween c m block owner g)
     (a : ℕ) (x : Block) (here : block a ≡ Some x) (live : IsLive x) (inside : IsCollected c (m Cset) a) (plain : m (Heap a) ≡ plain_header) (words_are : words_at m a ≡ words_of x)
     (out : IsCopiedOut c m (copied_out c m a) a) where
-  abbrev pub n : Word → ℕ
+  abbrev n : Word → ℕ
   n = copied_out c m a
 
   abbrev r : ℕ
   r = out.region
 
   -- where the copy lies
-  abbrev pub to : ℕ
+  abbrev to : ℕ
   to = top_address c m out.region
 
   abbrev old : Block
@@ -84,17 +97,17 @@ module _ (c : Config) (m : Word → ℕ) (block : Plot) (owner : ℕ → Option 
   abbrev mid : Plot
   mid = updated block to (Some x)
 
-  abbrev pub plot : Plot
+  abbrev plot : Plot
   plot = updated mid a (Some old)
 
   mid_stays : (p : ℕ) (z : Block) → block p ≡ Some z → mid p ≡ Some z
   mid_stays = joined.stays c top block r (m (Top r)) x joins
 
   -- what stood somewhere else stands there
-  pub stays : (p : ℕ) (z : Block) → p ≢ a → block p ≡ Some z → plot p ≡ Some z
+  stays : (p : ℕ) (z : Block) → p ≢ a → block p ≡ Some z → plot p ≡ Some z
   stays p z other is = updated_else mid a (Some old) p (λ e. other (sym e)) ∙ mid_stays p z is
 
-  pub new_there : plot to ≡ Some x
+  new_there : plot to ≡ Some x
   new_there = updated_else mid a (Some old) to (λ e. elsewhere (sym e)) ∙ updated_there block to (Some x)
 
   old_there : plot a ≡ Some old
@@ -104,7 +117,7 @@ module _ (c : Config) (m : Word → ℕ) (block : Plot) (owner : ℕ → Option 
   same_plot p other differs = updated_else mid a (Some old) p (λ e. other (sym e)) ∙ updated_else block to (Some x) p (λ e. differs (sym e))
 
   -- a piece is the old copy, or the new one, or stood there
-  pub plot_cases : (p : ℕ) (z : Block) → plot p ≡ Some z → ((p ≡ a) × (old ≡ z)) ⊎ (((p ≡ to) × (x ≡ z)) ⊎ ((p ≢ a) × (block p ≡ Some z)))
+  plot_cases : (p : ℕ) (z : Block) → plot p ≡ Some z → ((p ≡ a) × (old ≡ z)) ⊎ (((p ≡ to) × (x ≡ z)) ⊎ ((p ≢ a) × (block p ≡ Some z)))
   plot_cases p z is = ⊎_elim
       (λ (gone : (p ≡ a) × (old ≡ z)). inl gone)
       (λ (rest : (p ≢ a) × (mid p ≡ Some z)). ⊎_elim
@@ -114,7 +127,7 @@ module _ (c : Config) (m : Word → ℕ) (block : Plot) (owner : ℕ → Option 
       (piece_cases mid a old p z is)
 
   -- what stood for an object does so still
-  pub names_stay : (p : ℕ) (name : Name) → name_at (block p) ≡ Some name → name_at (plot p) ≡ Some name
+  names_stay : (p : ℕ) (name : Name) → name_at (block p) ≡ Some name → name_at (plot p) ≡ Some name
   names_stay p name is = ⊎_elim
       (λ (same : p ≡ a). ap name_at (ap plot same ∙ old_there) ∙ old_name x to live ∙ sym (ap name_at (ap block same ∙ here)) ∙ is)
       (λ (other : p ≢ a). let piece = named_piece (block p) name is in ap name_at (stays p piece.0 other piece.1) ∙ piece.2)
@@ -133,7 +146,7 @@ module _ (c : Config) (m : Word → ℕ) (block : Plot) (owner : ℕ → Option 
       rest)
       (beside c top block b.parsable.plotted r p z is))
 
-  pub kept : (p k : ℕ) (z : Block) → p ≢ a → block p ≡ Some z → k < words_of z → n (Heap (p + k)) ≡ m (Heap (p + k))
+  kept : (p k : ℕ) (z : Block) → p ≢ a → block p ≡ Some z → k < words_of z → n (Heap (p + k)) ≡ m (Heap (p + k))
   kept p k z other is below =
       let apart : p + k ≢ a + 0 = far c top block b.parsable.plotted p a k 0 z x is here other below (let some = long a x here in omega (arith, some)) in
       word_stays p k z is below (λ same. apart (omega (arith, same)))
@@ -142,7 +155,7 @@ module _ (c : Config) (m : Word → ℕ) (block : Plot) (owner : ℕ → Option 
   left k some below = word_stays a k x here below (λ same. omega (arith, same, some))
 
   -- the copy has the object's words
-  pub copied : (k : ℕ) → k < words_of x → n (Heap (to + k)) ≡ m (Heap (a + k))
+  copied : (k : ℕ) → k < words_of x → n (Heap (to + k)) ≡ m (Heap (a + k))
   copied k below = ⊎_elim
       (λ (none : k ≡ 0).
       let new : to + k ≡ to = omega (arith, none) in
@@ -152,7 +165,7 @@ module _ (c : Config) (m : Word → ℕ) (block : Plot) (owner : ℕ → Option 
       (cases_eq k 0)
 
   -- other words stay
-  pub word_same : (word : Word) → (MayChange word → ⊥) → n word ≡ m word
+  word_same : (word : Word) → (MayChange word → ⊥) → n word ≡ m word
   word_same word = out.copied.others word
 
   set_same : n Cset ≡ m Cset
@@ -175,7 +188,7 @@ module _ (c : Config) (m : Word → ℕ) (block : Plot) (owner : ℕ → Option 
       let room = out.room in
       regions_tile.of_no_other c r to (record { from = omega arith; before = omega (arith, some, room, words_are) })
 
-  pub outside : IsCollected c (m Cset) to → ⊥
+  outside : IsCollected c (m Cset) to → ⊥
   outside is =
       let member : bit_at (m Cset) r ≡ 1 = subst (IsIn (m Cset)) region_is is in
       let not_in = out.outside in
@@ -483,7 +496,7 @@ module _ (c : Config) (m : Word → ℕ) (block : Plot) (owner : ℕ → Option 
       omega (arith, there, not_in)
 
   -- all of it holds again
-  pub copied_between : AreBetween c n plot owner g
+  copied_between : AreBetween c n plot owner g
   copied_between = record {
     parsable = parsable_again;
     contents = record { objects = objects_again; given = b.contents.given };
@@ -514,3 +527,22 @@ module _ (c : Config) (m : Word → ℕ) (block : Plot) (owner : ℕ → Option 
         (cases_eq q r);
     only = only_again;
   }
+
+  -- and that is where the copy is
+  pub copied_out_of : (to' : ℕ) × (plot' : Plot) × HasCopied c m (copied_out c m a) block plot' owner g a to' x
+  copied_out_of = (
+    to,
+    plot,
+    record {
+      between = copied_between;
+      header = out.copied.forwarded;
+      there = new_there;
+      outside = outside_now;
+      copied = copied;
+      stays = stays;
+      kept = kept;
+      names = names_stay;
+      promises = promised_from;
+      same = word_same;
+    },
+  )
