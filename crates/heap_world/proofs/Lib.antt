@@ -9,6 +9,7 @@ pub mod Traced
 pub mod Marked
 pub mod Copies
 pub mod Evacuated
+pub mod Unmoved
 pub mod Unmarked
 pub mod NewPiece
 pub mod FreeRegions
