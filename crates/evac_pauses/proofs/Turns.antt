@@ -25,6 +25,7 @@ use Rattle.cset_laws.specs.Begun.{IsNaming, is_collected, moved_out, cleared_at,
 use Rattle.cset_laws.proofs.CopiedOut.{copying_copies}
 use Rattle.evac_pauses.proofs.Between.{AreBetween, IsLive}
 use Rattle.evac_pauses.proofs.CopiedOut.{HasCopied, copied_out_of}
+use Rattle.evac_pauses.proofs.Places.{IsPlace}
 use Rattle.evac_pauses.proofs.Asked.{asked_stays, was_given}
 
 -- the words between two turns: they stand for the graph, and but for pieces, roots and answers they are as at first
@@ -33,12 +34,6 @@ pub record IsClearing (c : Config) (first m : Word → ℕ) (block : Plot) (owne
   pub roots : (t i : ℕ) → t < c.mutators → i < 16 → Points block (m (Root t i)) (g.root (t + 1) i)
   pub asked : (t : ℕ) → t < c.mutators → IsAsked m block g.count t (asking t)
   pub same : (word : Word) → (MayChange word → ⊥) → (IsNaming word → ⊥) → m word ≡ first word
-
--- a root or an answer of a mutator
-abbrev pub IsPlace : Config → Word → Type 0
-IsPlace c (Root t i) = (t < c.mutators) × (i < 16)
-IsPlace c (Answer t) = t < c.mutators
-IsPlace c word = ⊥
 
 -- headers, and where an object is by its header
 plain_is_plain : (header : ℕ) → header ≡ plain_header → is_forwarded header ≡ false
@@ -59,12 +54,12 @@ moved_out_led : (c : Config) (m : Word → ℕ) (a to : ℕ) → m (Heap a) ≡ 
 moved_out_led c m a to is = fun_ext (λ word. cond-true (is_forwarded (m (Heap a))) (m word) (copied_out c m a word) (led_is_forwarded (m (Heap a)) to is))
 
 -- what a place is cleared to
-cleared_is : (c : Config) (m : Word → ℕ) (place : Word) → is_collected c m (m place) ≡ true
+pub cleared_is : (c : Config) (m : Word → ℕ) (place : Word) → is_collected c m (m place) ≡ true
     → cleared_at c m place ≡ write (moved_out c m (m place)) place (now_in (moved_out c m (m place)) (m place))
 unfolding cleared_at
 cleared_is c m place is = fun_ext (λ word. cond-true (is_collected c m (m place)) (write (moved_out c m (m place)) place (now_in (moved_out c m (m place)) (m place)) word) (m word) is)
 
-spared_is : (c : Config) (m : Word → ℕ) (place : Word) → is_collected c m (m place) ≡ false → cleared_at c m place ≡ m
+pub spared_is : (c : Config) (m : Word → ℕ) (place : Word) → is_collected c m (m place) ≡ false → cleared_at c m place ≡ m
 unfolding cleared_at
 spared_is c m place is = fun_ext (λ word. cond-false (is_collected c m (m place)) (write (moved_out c m (m place)) place (now_in (moved_out c m (m place)) (m place)) word) (m word) is)
 
@@ -94,7 +89,7 @@ not_written n place v word naming other = ⊎_elim
     (cases_Bool (same_word place word))
 
 -- copying copies, where there is room
-copies_out : (c : Config) (m : Word → ℕ) (a : ℕ) → c.region_words ≤ a → IsCollected c (m Cset) a → copy_room c m a ≢ None → IsCopiedOut c m (copied_out c m a) a
+pub copies_out : (c : Config) (m : Word → ℕ) (a : ℕ) → c.region_words ≤ a → IsCollected c (m Cset) a → copy_room c m a ≢ None → IsCopiedOut c m (copied_out c m a) a
 copies_out c m a above inside room = by_room (copy_room c m a) refl
   where
     by_room : (found : Option ℕ) → copy_room c m a ≡ found → IsCopiedOut c m (copied_out c m a) a
@@ -329,10 +324,10 @@ module _ (c : Config) (first m : Word → ℕ) (block : Plot) (owner : ℕ → O
   place_cleared _ at can = absurd at
 
 -- All of them are.
-is_first : (place : Word) (places : List Word) → Contains (place ∷ places) place
+pub is_first : (place : Word) (places : List Word) → Contains (place ∷ places) place
 is_first place places = (zero, omega arith, refl)
 
-is_later : (place : Word) (places : List Word) (p : Word) → Contains places p → Contains (place ∷ places) p
+pub is_later : (place : Word) (places : List Word) (p : Word) → Contains places p → Contains (place ∷ places) p
 is_later place places p has = (suc has.0, omega (arith, has.1), has.2)
 
 pub all_cleared : (c : Config) (first : Word → ℕ) (owner : ℕ → Option ℕ) (g : Graph) (asking : ℕ → Asking) (places : List Word) (m : Word → ℕ) (block : Plot)
