@@ -409,8 +409,6 @@ module _ (c : Config) (u : World) (seat words : ℕ) (kind : Kind) where
     keeps_grown = record {
       names = names;
       targets = λ a refs nums n has. record { piece = stays_there a (thing n refs nums) has.piece; safe = has.safe };
-      hands = λ a more is. stays_there a (hand seat more) is;
-      hand_words = λ a more k is below. refl;
       promises = λ a more is. stays_there a (promised seat more) is;
       no_promises = λ a more is. old_promise c tops currents u.block region top words seat grows a seat more is;
       promise_words = λ a more k is below. refl;

@@ -68,8 +68,6 @@ pub keeps_of : (c : Config) (seat : ℕ) (u w : World) → Rely c seat u w → K
 keeps_of c seat u w rely = record {
   names = rely.names;
   targets = rely.targets;
-  hands = rely.hands;
-  hand_words = rely.hand_words;
   promises = rely.promises;
   no_promises = rely.no_promises;
   promise_words = rely.promise_words;

@@ -34,12 +34,11 @@ pub record KeepsCopies (c : Config) (u w : World) : Type 0 where
   pub quiet : IsQuiet (u.memory Evac) → IsQuiet (w.memory Evac)
 
 -- What the facts of a seat stand on, whoever steps, also the machine of the seat itself: objects stay where they are, and
--- the roots, the count, the words in hand, what is asked and what is promised of the seat stay as they are.
+-- the roots, the count, what is asked and what is promised of the seat stay as they are. Room in hand is the machine's own: what it
+-- copies into it becomes an object, or is given back.
 pub record Keeps (c : Config) (seat : ℕ) (u w : World) : Type 0 where
   pub names : (a : ℕ) (name : Name) → name_at (u.block a) ≡ Some name → name_at (w.block a) ≡ Some name
   pub targets : (a refs nums : ℕ) (name : Name) → TargetIn c u a refs nums name → TargetIn c w a refs nums name
-  pub hands : (a words : ℕ) → u.block a ≡ Some (hand seat words) → w.block a ≡ Some (hand seat words)
-  pub hand_words : (a words k : ℕ) → u.block a ≡ Some (hand seat words) → k < words → w.memory (Heap (a + k)) ≡ u.memory (Heap (a + k))
   pub promises : (a words : ℕ) → u.block a ≡ Some (promised seat words) → w.block a ≡ Some (promised seat words)
   pub no_promises : (a words : ℕ) → w.block a ≡ Some (promised seat words) → u.block a ≡ Some (promised seat words)
   pub promise_words : (a words k : ℕ) → u.block a ≡ Some (promised seat words) → k < words → w.memory (Heap (a + k)) ≡ u.memory (Heap (a + k))

@@ -144,8 +144,6 @@ module _ (c : Config) (u : World) (seat : ℕ) (marking : Word → ℕ) (recordi
     keeps_after = record {
       names = λ a name is. is;
       targets = λ a refs nums name is. is;
-      hands = λ a words is. is;
-      hand_words = λ a words k is below. refl;
       promises = λ a words is. is;
       no_promises = λ a words is. is;
       promise_words = λ a words k is below. refl;
