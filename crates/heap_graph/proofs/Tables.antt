@@ -6,15 +6,16 @@ use Rattle.std.proofs.lemmas.Option.{same_Some, slice_get_within}
 use Rattle.std.proofs.lemmas.Bool.{cases_Bool, cond-true, cond-false, and_parts, and_from, leb-true, ltb-true}
 use Rattle.std.proofs.lemmas.Bool.Decides.{nat_tests}
 use Rattle.heap_words.specs.declared.config.Config.{Config}
-use Rattle.heap_words.specs.Words.{Top, Root, Heap, view, roots_start, heap_start, table_words, heap_in, roots_in}
+use Rattle.heap_words.specs.Words.{Cset, Top, Root, Heap, view, roots_start, heap_start, table_words, heap_in, roots_in}
 use Rattle.heap_words.proofs.Stores.{view_word}
 use Rattle.shen_graph.specs.declared.name.Name.{Name}
 use Rattle.shen_graph.specs.Graph.{Graph, Object}
 use Rattle.shen_graph.specs.Reach.{size}
 use Rattle.heap_world.specs.Objects.{Refers}
-use Rattle.heap_world.specs.World.{Ghost, Plot, Block, thing, words_of, name_at, Points, IsPlotted, IsThing, AreObjects, Shared}
+use Rattle.heap_world.specs.World.{Ghost, Plot, Block, thing, moved, words_of, name_at, Points, IsCollected, IsPlotted, IsThing, AreObjects, Shared}
 use Rattle.heap_world.specs.Roots.{is_root_of, HasNoMore}
 use Rattle.heap_world.proofs.Pointing.{named_thing, piece_inside as words_inside}
+use Rattle.heap_world.proofs.Copies.{none_in_0}
 use Rattle.heap_graph.specs.Stands.{IsAt}
 use Rattle.heap_graph.specs.Rows.{root_word}
 use Rattle.heap_graph.specs.Shows.{WordsStand}
@@ -27,10 +28,11 @@ get_or-part xs a b i within = get_or-take (b - a) (drop a xs) i 0 within ∙ get
 length-part : (xs : List ℕ) (a b : ℕ) → b ≤ length xs → length (slice_range xs a b) ≡ b - a
 length-part xs a b within = length-take-le (b - a) (drop a xs) (omega (arith, length-drop a xs))
 
--- Pieces lie where they should and are objects of the graph, whose names are short. Other objects need no piece.
+-- Pieces lie where they should and are objects of the graph, whose names are short, and none is an old copy. Other objects need no piece.
 pub record ArePieces (c : Config) (words : List ℕ) (block : Plot) (g : Graph) : Type 0 where
   pub plotted : IsPlotted c (λ r. view c words (Top r)) block
   pub objects : AreObjects (λ a. view c words (Heap a)) block g.object
+  pub unmoved : (a refs nums to : ℕ) (n : Name) → block a ≡ Some (moved n refs nums to) → ⊥
   pub small : (n : Name) (o : Object) → g.object n ≡ Some o → n.count < 2 ^ 32
 
 module _ (c : Config) (words : List ℕ) (block : Plot) (g : Graph) (long : length words ≡ table_words c) (pieces : ArePieces c words block g) where
@@ -97,15 +99,15 @@ module _ (c : Config) (words : List ℕ) (block : Plot) (g : Graph) (long : leng
   -- so has each name that stands somewhere
   each : (a : ℕ) (n : Name) → at a ≡ Some n → (o : Object) × IsAt first (first + length heap) (λ k. slice_index heap (k - first)) at g a n o
   each a n is =
-      let piece = named_thing (block a) n is in
+      let piece = named_thing (block a) n (λ refs nums to. pieces.unmoved a refs nums to n) is in
       let object = pieces.objects.each a piece.0 piece.1 n piece.2 in
       (object.0, object_stands a piece.0 piece.1 n object.0 piece.2 object.1 object.2 (pieces.small n object.0 object.1))
 
   -- objects lie apart
   apart : (a b : ℕ) (n m : Name) (o : Object) → at a ≡ Some n → at b ≡ Some m → g.object n ≡ Some o → a < b → a + size o ≤ b
   apart a b n m o is_a is_b object before =
-      let one = named_thing (block a) n is_a in
-      let other = named_thing (block b) m is_b in
+      let one = named_thing (block a) n (λ refs nums to. pieces.unmoved a refs nums to n) is_a in
+      let other = named_thing (block b) m (λ refs nums to. pieces.unmoved b refs nums to m) is_b in
       let found = pieces.objects.each a one.0 one.1 n one.2 in
       let same : found.0 ≡ o = same_Some found.0 o (sym found.1 ∙ object) in
       let behind : a + (3 + one.0 + one.1) ≤ b = pieces.plotted.apart a b (thing n one.0 one.1) (thing m other.0 other.1) one.2 other.2 before in
@@ -116,8 +118,8 @@ module _ (c : Config) (words : List ℕ) (block : Plot) (g : Graph) (long : leng
   -- a name stands at one address
   once : (a b : ℕ) (n : Name) → at a ≡ Some n → at b ≡ Some n → a ≡ b
   once a b n is_a is_b =
-      let one = named_thing (block a) n is_a in
-      let other = named_thing (block b) n is_b in
+      let one = named_thing (block a) n (λ refs nums to. pieces.unmoved a refs nums to n) is_a in
+      let other = named_thing (block b) n (λ refs nums to. pieces.unmoved b refs nums to n) is_b in
       pieces.objects.once a b one.0 one.1 other.0 other.1 n one.2 other.2
 
   -- there are 16 roots for each mutator
@@ -171,8 +173,13 @@ pieces_stand c words block g long pieces own no_more = record {
 
 pub table_stands : (c : Config) (words : List ℕ) (block : Plot) (ghost : Ghost) (g : Graph) → length words ≡ table_words c
     → Shared c (record { memory = view c words; block = block; ghost = ghost; graph = g })
-    → ((t i : ℕ) → t < c.mutators → i < 16 → Points block (view c words (Root t i)) (g.root (t + 1) i)) → HasNoMore c.mutators g
+    → view c words Cset ≡ 0 → ((t i : ℕ) → t < c.mutators → i < 16 → Points block (view c words (Root t i)) (g.root (t + 1) i)) → HasNoMore c.mutators g
     → WordsStand c.region_words (heap_in c words) (roots_in c words) (λ a. name_at (block a)) g
-table_stands c words block ghost g long shared own no_more =
+table_stands c words block ghost g long shared uncollected own no_more =
     pieces_stand c words block g long
-    (record { plotted = shared.parsable.plotted; objects = shared.contents.objects; small = λ n o is. (shared.contents.given n o is).small }) own no_more
+    (record {
+      plotted = shared.parsable.plotted;
+      objects = shared.contents.objects;
+      unmoved = λ a refs nums to n is. none_in_0 c a (subst (λ set. IsCollected c set a) uncollected (shared.evacuated.moved.moveds a refs nums to n is).inside);
+      small = λ n o is. (shared.contents.given n o is).small;
+    }) own no_more

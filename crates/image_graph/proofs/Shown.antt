@@ -17,8 +17,8 @@ use Rattle.shen_graph.proofs.PlainLemmas.{same_name-itself}
 use Rattle.shen_graph.specs.Reach.{IsReachable}
 use Rattle.shen_graph.specs.Reach as reach
 use Rattle.heap_world.specs.Roots.{is_root_of, HasNoMore}
-use Rattle.heap_world.specs.World.{Block, thing, hand, promised, filler, Plot, name_at, Points, IsPlotted, IsThing, AreObjects}
-use Rattle.heap_world.proofs.Pointing.{named_thing}
+use Rattle.heap_world.specs.World.{Block, thing, moved, spent, hand, promised, filler, Plot, name_at, Points, IsPlotted, IsThing, AreObjects}
+use Rattle.image_laws.proofs.Named.{thing_at}
 use Rattle.heap_graph.specs.Walk.{has}
 use Rattle.heap_graph.specs.Shows.{WordsStand, StandForSome}
 use Rattle.heap_graph.proofs.Tables.{pieces_stand}
@@ -42,6 +42,8 @@ IsOld p o b = (n : Name) × (refs : ℕ) × (nums : ℕ) × (b ≡ thing n refs 
 
 old_from : (p : Promises) (o : Option Block) (b : Block) → old_piece p o ≡ Some b → IsOld p o b
 old_from p None b is = absurd (none-some b is)
+old_from p (Some (moved n refs nums to)) b is = absurd (none-some b is)
+old_from p (Some (spent words to)) b is = absurd (none-some b is)
 old_from p (Some (hand seat words)) b is = absurd (none-some b is)
 old_from p (Some (promised seat words)) b is = absurd (none-some b is)
 old_from p (Some (filler words)) b is = absurd (none-some b is)
@@ -92,6 +94,9 @@ module _ (c : Config) (m : Word → ℕ) (block : Plot) (owner : ℕ → Option 
       (λ (other : has (held_in c m) a ≡ false). absurd (none-some b (sym (cond-false (has (held_in c m) a) (old_piece p (block a)) None other) ∙ is)))
       (cases_Bool (has (held_in c m) a))
 
+  not_moved : (a refs nums to : ℕ) (n : Name) → shown a ≡ Some (moved n refs nums to) → ⊥
+  not_moved a refs nums to n is = let old = (shown_from a (moved n refs nums to) is).1.3 in cc
+
   shown_thing : (a refs nums : ℕ) (n : Name) → shown a ≡ Some (thing n refs nums) → Held a × (block a ≡ Some (thing n refs nums)) × (same_reference (p.ref n.thread) (Some n) ≡ false)
   shown_thing a refs nums n is =
       let from = shown_from a (thing n refs nums) is in
@@ -111,7 +116,7 @@ module _ (c : Config) (m : Word → ℕ) (block : Plot) (owner : ℕ → Option 
   -- a word that leads to an object that the graph reaches shows it
   shows_name : (word : ℕ) (n : Name) → IsReachable g n → Held (now_in m word) → name_at (block word) ≡ Some n → name_at (shown word) ≡ Some n
   shows_name word n reached held is =
-      let piece = named_thing (block word) n is in
+      let piece = thing_at block holds.things word n is in
       let here : Held word = subst Held (stays word piece.0 piece.1 n piece.2) held in
       let old : same_reference (p.ref n.thread) (Some n) ≡ false = ⊎_elim
       (λ (yes : same_reference (p.ref n.thread) (Some n) ≡ true). absurd (holds.unreached.fresh n.thread n (same_reference-true (p.ref n.thread) n yes) reached))
@@ -216,6 +221,7 @@ holding_stands c words block owner p g long holds calm =
           (record {
             plotted = plotted c m block owner p g holds calm;
             objects = objects c m block owner p g holds calm;
+            unmoved = λ a refs nums to n is. not_moved c m block owner p g holds calm a refs nums to n is;
             small = λ n o is. (holds.next.given n o is).small;
           })
           (roots c m block owner p g holds calm) (no_more c m block owner p g holds calm),
