@@ -1,8 +1,15 @@
 -- That the choice is exactly the longest front of the candidates that fits, and that what it has can be copied.
-use Rattle.std.specs.Prelude.{ℕ, ◌≡◌, ◌+◌, ◌<◌, ◌≤◌, ◌↔◌, true, false, Bool, List, length, Contains, slice_index, Some}
+use Rattle.std.specs.Prelude.{ℕ, ◌≡◌, ◌+◌, ◌<◌, ◌≤◌, ◌↔◌, Option, true, Bool, List, length, Contains, slice_index, Some}
 use Rattle.heap_words.specs.declared.config.Config.{Config}
 use Rattle.heap_words.specs.Words.{Word, Cset}
 use Rattle.packing.specs.Places.{LieApart}
+use Rattle.shen_graph.specs.Graph.{Graph}
+use Rattle.heap_world.specs.World.{Plot}
+use Rattle.image_laws.specs.Promised.{Promises}
+use Rattle.image_graph.specs.Holds.{HoldsBy}
+use Rattle.mark_laws.specs.Facts.{IsMarking}
+use Rattle.mark_laws.specs.Final.{final_marked}
+use Rattle.mark_laws.specs.Laws.{HasNoMoreSeats}
 use Rattle.regions.specs.Place.{region_with}
 use Rattle.regions.specs.Sets.{IsIn}
 use Rattle.cset_laws.specs.Live.{marked_words, is_candidate, IsCandidate}
@@ -48,3 +55,9 @@ EachIsCopied = (c : Config) (memory : Word → ℕ) (objects : List ℕ) → Fre
 abbrev pub RootsAreCleared : Type 0
 RootsAreCleared = (c : Config) (memory : Word → ℕ) → CanBegin c memory
     → (objects : List ℕ) × AreCleared c (with_set memory (chosen c memory)) (roots_cleared c memory (chosen c memory)) objects
+
+-- Where marking has run, evacuation can begin once it is ended: what is marked are objects, and what roots and answers name is
+-- marked, or new, and no chosen region has a new object.
+abbrev pub EvacuationCanBegin : Type 0
+EvacuationCanBegin = (c : Config) (memory : Word → ℕ) (block : Plot) (owner : ℕ → Option ℕ) (p : Promises) (g : Graph)
+    → HoldsBy c memory block owner p g → IsMarking c memory block → HasNoMoreSeats c memory → CanBegin c (final_marked c memory)
