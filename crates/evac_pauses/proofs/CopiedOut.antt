@@ -362,6 +362,7 @@ module _ (c : Config) (m : Word → ℕ) (block : Plot) (owner : ℕ → Option 
       (record {
         header = out.copied.forwarded;
         shape = left 1 (omega arith) (omega (arith, size)) ∙ o.2.shape;
+        name_word = left 2 (omega arith) (omega (arith, size)) ∙ o.2.name_word;
         few_refs = o.2.few_refs;
         few_nums = o.2.few_nums;
         inside = inside_now;
@@ -376,6 +377,7 @@ module _ (c : Config) (m : Word → ℕ) (block : Plot) (owner : ℕ → Option 
       record {
         header = sym (ap after first) ∙ kept p 0 (moved name refs nums at) stood.0 stood.1 (omega arith) ∙ ap heap first ∙ was.header;
         shape = kept p 1 (moved name refs nums at) stood.0 stood.1 (omega arith) ∙ was.shape;
+        name_word = kept p 2 (moved name refs nums at) stood.0 stood.1 (omega arith) ∙ was.name_word;
         few_refs = was.few_refs;
         few_nums = was.few_nums;
         inside = subst (λ s. IsCollected c s p) (sym set_same) was.inside;

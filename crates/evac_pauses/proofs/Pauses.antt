@@ -109,23 +109,21 @@ no_more_seats c words seat past = view_none c words (Current seat) (le-ltb seat 
 
 -- Words that are no words of the table are 0 after a pause.
 collected_outside : (c : Config) (image : List ℕ) (g : Graph) (block : Plot) (owner : ℕ → Option ℕ) (p : Promises) → CanPause c (image_view c image) block owner p g → IsZeroOutside c (collected c (image_view c image))
-collected_outside c image g block owner p can = by_due (due_now m)
+collected_outside c image g block owner p can = by_due (due_now (image_view c image))
   where
-    abbrev words : List ℕ
-    words = replicate (image_start c) 0 ++ image
+    none : IsZeroOutside c (image_view c image)
+    none word out = view_none c (replicate (image_start c) 0 ++ image) word out
 
-    abbrev m : Word → ℕ
-    m = view c words
-
-    none : IsZeroOutside c m
-    none word out = view_none c words word out
-
-    by_due : IsDue m → IsZeroOutside c (collected c m)
-    by_due (IsDue.in_full is) = subst (IsZeroOutside c) (sym (full_then c m is)) (holds_outside c words g (block, owner, p, can.holds))
-    by_due (IsDue.to_mark other is begins) = subst (IsZeroOutside c) (sym (mark_then c m other is)) (init_outside c m block owner p g can.holds none (can.uncollected begins))
+    by_due : IsDue (image_view c image) → IsZeroOutside c (collected c (image_view c image))
+    by_due (IsDue.in_full is) =
+        subst (IsZeroOutside c) (sym (full_then c (image_view c image) is)) (holds_outside c (replicate (image_start c) 0 ++ image) g (block, owner, p, can.holds))
+    by_due (IsDue.to_mark other is begins) =
+        let m : Word → ℕ = image_view c image in
+        subst (IsZeroOutside c) (sym (mark_then c m other is)) (init_outside c m block owner p g can.holds none (can.uncollected begins))
     by_due (IsDue.to_evacuate other differs on) =
+        let m : Word → ℕ = image_view c image in
         let marking = can.marking on in
-        let begin = evacuation_can_begin c m block owner p g can.holds marking (no_more_seats c words) in
+        let begin = evacuation_can_begin c m block owner p g can.holds marking (no_more_seats c (replicate (image_start c) 0 ++ image)) in
         subst (IsZeroOutside c) (sym (next_then c m other differs))
         (begun_outside c (final_marked c m) (chosen c (final_marked c m)) (can_clear_in_turn c (final_marked c m) begin) (final_outside c m block owner p g can.holds none marking))
 

@@ -21,6 +21,10 @@ EvacuationBegins = (c : Config) (memory : Word → ℕ) (g : Graph) (asking : �
 abbrev pub RepresentingCanCollect : Type 0
 RepresentingCanCollect = (c : Config) (memory : Word → ℕ) (g : Graph) (asking : ℕ → Asking) → Represents c memory g asking → CanPauseSome c memory
 
+-- Where such a pause ends marking, evacuation can begin.
+abbrev pub EndedCanBegin : Type 0
+EndedCanBegin = (c : Config) (memory : Word → ℕ) → CanPauseSome c memory → memory Phase ≡ 1 → HasNoMoreSeats c memory → CanBegin c (final_marked c memory)
+
 -- By their names the words of an image after a pause are those that the pause makes of its words.
 abbrev pub ImageIsCollected : Type 0
 ImageIsCollected = (c : Config) (image : List ℕ) → length image ≡ image_words c → CanPauseSome c (image_view c image)

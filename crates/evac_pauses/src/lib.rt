@@ -2,7 +2,7 @@
 //! are being evacuated. It keeps the graph, and answers who waits. Laws, as theorems and no code.
 #![tactic(auto)]
 
-ghost use Rattle.evac_pauses.specs.Laws.{EvacuationBegins, RepresentingCanCollect, ImageIsCollected, TableIsCollected, CollectIsPause};
+ghost use Rattle.evac_pauses.specs.Laws.{EvacuationBegins, RepresentingCanCollect, EndedCanBegin, ImageIsCollected, TableIsCollected, CollectIsPause};
 
 /// A law: the pause that ends marking and begins evacuation keeps the graph. Where roots and answers named objects in the
 /// regions that it chose, they name their copies outside.
@@ -13,6 +13,11 @@ pub fn evacuation_begins()
 /// A law: words that represent a graph are such that a pause can collect.
 pub fn representing_can_collect()
     ensures { RepresentingCanCollect }
+{}
+
+/// A law: where a pause ends marking, evacuation can begin, of the words that the end of marking leaves.
+pub fn ended_can_begin()
+    ensures { EndedCanBegin }
 {}
 
 /// A law: the words of an image after a pause are, by their names, those that the pause makes of its words.
