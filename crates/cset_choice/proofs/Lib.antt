@@ -1,4 +1,4 @@
-pub mod Live
+pub mod Objects
 pub mod Choosing
 pub mod Copying
 pub mod Turns
