@@ -20,9 +20,9 @@ copy_stays u w bodies spents a (HasCopy.spent_copy words to is) = HasCopy.spent_
 
 module _ (c : Config) (phase cset evac claim free : ℕ) (top tams heap black : ℕ → ℕ) (block : Plot) (owner : ℕ → Option ℕ) (copying : ℕ → Bool) (working : ℕ → Option ℕ)
     (e : IsEvacuating c phase cset evac claim free top tams heap black block owner copying working) where
-  -- Words change, but not the headers and shapes of old copies.
+  -- Words change, but not the headers, shapes and names of old copies.
   pub evacuated_words : (after : ℕ → ℕ)
-      → ((a refs nums to : ℕ) (name : Name) → block a ≡ Some (moved name refs nums to) → (after a ≡ heap a) × (after (a + 1) ≡ heap (a + 1)))
+      → ((a refs nums to : ℕ) (name : Name) → block a ≡ Some (moved name refs nums to) → (after a ≡ heap a) × (after (a + 1) ≡ heap (a + 1)) × (after (a + 2) ≡ heap (a + 2)))
       → ((a words to : ℕ) → block a ≡ Some (spent words to) → (after a ≡ heap a) × (after (a + 1) ≡ heap (a + 1)))
       → IsEvacuating c phase cset evac claim free top tams after black block owner copying working
   evacuated_words after moveds spents = record {
@@ -30,7 +30,7 @@ module _ (c : Config) (phase cset evac claim free : ℕ) (top tams heap black : 
       moveds = λ a refs nums to name is.
           let was = e.moved.moveds a refs nums to name is in
           let same = moveds a refs nums to name is in
-          record { header = same.0 ∙ was.header; shape = same.1 ∙ was.shape; few_refs = was.few_refs; few_nums = was.few_nums; inside = was.inside; copy = was.copy; outside = was.outside };
+          record { header = same.0 ∙ was.header; shape = same.1 ∙ was.shape; name_word = same.2 ∙ was.name_word; few_refs = was.few_refs; few_nums = was.few_nums; inside = was.inside; copy = was.copy; outside = was.outside };
       spents = λ a words to is.
           let was = e.moved.spents a words to is in
           let same = spents a words to is in
@@ -69,7 +69,7 @@ module _ (c : Config) (phase cset evac claim free : ℕ) (top tams heap black : 
     moved = record {
       moveds = λ a refs nums to name is.
           let was = e.moved.moveds a refs nums to name (old a (moved name refs nums to) (λ seat words same. (let differ = same in cc)) is) in
-          record { header = was.header; shape = was.shape; few_refs = was.few_refs; few_nums = was.few_nums; inside = was.inside; copy = stays to (thing name refs nums) was.copy; outside = was.outside };
+          record { header = was.header; shape = was.shape; name_word = was.name_word; few_refs = was.few_refs; few_nums = was.few_nums; inside = was.inside; copy = stays to (thing name refs nums) was.copy; outside = was.outside };
       spents = λ a words to is.
           let was = e.moved.spents a words to (old a (spent words to) (λ seat more same. (let differ = same in cc)) is) in
           record { header = was.header; shape = was.shape; inside = was.inside; copy = still to was.copy; piece = was.piece; there = stays to was.piece was.there; long = was.long; outside = was.outside };
@@ -86,7 +86,7 @@ module _ (c : Config) (phase cset evac claim free : ℕ) (top tams heap black : 
       objects = λ on a is. e.kept.objects on a (was_markable a is);
       young = λ on a seat words is. ⊎_elim (λ was. e.kept.young on a seat words was) (λ new. subst (IsYoung c tams) (sym new.0) (young on)) (only a (hand seat words) is);
       floors = λ on r inside. (let floor = e.kept.floors on r inside in let rise = rises r in omega (arith, floor, rise));
-      only = λ on a mark inside. copy_stays block new_block (bodies_stay block new_block (λ x refs nums name. stays x (thing name refs nums)) (λ x refs nums to name. stays x (moved name refs nums to))) (λ x words to. stays x (spent words to)) a (e.kept.only on a mark inside);
+      only = λ on a above mark inside. copy_stays block new_block (bodies_stay block new_block (λ x refs nums name. stays x (thing name refs nums)) (λ x refs nums to name. stays x (moved name refs nums to))) (λ x words to. stays x (spent words to)) a (e.kept.only on a above mark inside);
     };
     units = λ on r before is. ⊎_elim
         (λ swept. inl (⊎_elim (λ out. inl out) (λ none. inr (λ a refs nums name from to there. none a refs nums name from to (old a (thing name refs nums) (λ seat words same. (let differ = same in cc)) there))) swept))
@@ -115,7 +115,7 @@ module _ (c : Config) (phase cset evac claim free : ℕ) (top tams heap black : 
     moved = record {
       moveds = λ a more_refs more_nums to n is.
           let was = e.moved.moveds a more_refs more_nums to n (old a (moved n more_refs more_nums to) (λ same. (let differ = same in cc)) is) in
-          record { header = was.header; shape = was.shape; few_refs = was.few_refs; few_nums = was.few_nums; inside = was.inside; copy = things to more_refs more_nums n was.copy; outside = was.outside };
+          record { header = was.header; shape = was.shape; name_word = was.name_word; few_refs = was.few_refs; few_nums = was.few_nums; inside = was.inside; copy = things to more_refs more_nums n was.copy; outside = was.outside };
       spents = λ a words to is.
           let was = e.moved.spents a words to (old a (spent words to) (λ same. (let differ = same in cc)) is) in
           let then = piece_then to was.piece was.there in
@@ -136,7 +136,7 @@ module _ (c : Config) (phase cset evac claim free : ℕ) (top tams heap black : 
           (cases_eq a address);
       young = λ on a seat words is. e.kept.young on a seat words (old a (hand seat words) (λ same. (let differ = same in cc)) is);
       floors = e.kept.floors;
-      only = λ on a mark inside. copy_stays block new_block (bodies_stay block new_block things moveds) spents a (e.kept.only on a mark inside);
+      only = λ on a above mark inside. copy_stays block new_block (bodies_stay block new_block things moveds) spents a (e.kept.only on a above mark inside);
     };
     units = λ on r before is. ⊎_elim
         (λ swept. inl (⊎_elim

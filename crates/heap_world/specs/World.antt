@@ -3,7 +3,7 @@ use Rattle.std.specs.Prelude.{ℕ, ◌≡◌, ◌≢◌, ◌⊎◌, ◌+◌, ◌
 use Rattle.std.specs.Int.{bit_at}
 use Rattle.heap_words.specs.declared.config.Config.{Config}
 use Rattle.heap_words.specs.Words.{Word, Phase, Cset, Free, Evac, Claim, Top, Tams, Current, Count, Buffer, Grey, Black, Heap}
-use Rattle.heap_words.specs.Encoding.{plain_header, header_word, shape_word, object_words}
+use Rattle.heap_words.specs.Encoding.{plain_header, header_word, shape_word, name_code, object_words}
 use Rattle.heap_words.specs.Ranges.{seat_count}
 use Rattle.regions.specs.Place.{base_of, region_with}
 use Rattle.regions.specs.Sets.{IsIn}
@@ -335,10 +335,12 @@ pub record KeepsSnapshot (c : Config) (phase : ℕ) (grey black count : ℕ → 
   pub blacks : phase ≡ 1 → AreMarks c black block
   pub entries : phase ≡ 1 → AreEntries c count buffer block
 
--- An old copy lies in the collection set. Its header leads to the current copy, which lies outside, and its shape word is as it was.
+-- An old copy lies in the collection set. Its header leads to the current copy, which lies outside, and its shape and its name are as they
+-- were.
 pub record IsMoved (c : Config) (cset : ℕ) (heap : ℕ → ℕ) (block : Plot) (a refs nums to : ℕ) (name : Name) : Type 0 where
   pub header : heap a ≡ header_word to
   pub shape : heap (a + 1) ≡ shape_word refs nums
+  pub name_word : heap (a + 2) ≡ name_code name.thread name.count
   pub few_refs : refs ≤ 16
   pub few_nums : nums ≤ 16
   pub inside : IsCollected c cset a
@@ -390,7 +392,7 @@ pub record AreKept (c : Config) (phase cset : ℕ) (black top tams : ℕ → ℕ
   pub objects : phase ≡ 2 → (a : ℕ) → IsMarkable block a → HasMark c black a ⊎ IsYoung c tams a
   pub young : phase ≡ 2 → (a seat words : ℕ) → block a ≡ Some (hand seat words) → IsYoung c tams a
   pub floors : phase ≡ 2 → (r : ℕ) → r < c.regions → tams r ≤ top r
-  pub only : phase ≡ 2 → (a : ℕ) → HasMark c black a → IsCollected c cset a → HasCopy block a
+  pub only : phase ≡ 2 → (a : ℕ) → c.region_words ≤ a → HasMark c black a → IsCollected c cset a → HasCopy block a
 
 -- A region of the collection set is swept up to an address: no object has its current copy below it; or there was no room.
 abbrev pub IsSweptTo : Config → (evac : ℕ) → Plot → (region end : ℕ) → Type 0

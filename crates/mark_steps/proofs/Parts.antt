@@ -1,13 +1,5 @@
 -- What the steps of recording an address and of scanning a unit owe: any machine that has a seat can have them inside.
-use Rattle.std.proofs.Common.{ℕ, refl}
-use Rattle.std.specs.Prelude.{⊤}
-use Rattle.heap_world.specs.Part.{Part}
-use Rattle.satb_barrier.specs.declared.spot.RememberSpot.{RememberSpot}
-use Rattle.satb_barrier.specs.Rows as remember
-use Rattle.scan_steps.specs.declared.spot.ScanSpot.{ScanSpot}
-use Rattle.scan_steps.specs.Rows as scan
-use Rattle.mark_steps.specs.Recording.{CanRecord}
-use Rattle.mark_steps.specs.Scanning.{CanScan}
+use Rattle.std.proofs.Common.{refl}
 use Rattle.mark_steps.specs.Laws.{RecordingSteps, ScanningSteps}
 use Rattle.satb_barrier.proofs.Remembering.{found_is_fit}
 use Rattle.mark_steps.proofs.Records.{each_records, takes_in_hand, can_record_stays, record_inside, record_noted}
