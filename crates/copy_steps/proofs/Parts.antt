@@ -17,6 +17,7 @@ use Rattle.load_barrier.specs.declared.spot.ResolveSpot.TheVariants.{LoadHeader,
 use Rattle.load_barrier.specs.Rows.{touch_at, next_at, copy_touch, is_resolved}
 use Rattle.load_barrier.specs.Fit.{LeavesFit}
 use Rattle.load_barrier.specs.UnitRows.{copy_phase}
+use Rattle.load_barrier.proofs.Inside.{resolve_inside}
 use Rattle.copy_steps.specs.Resolving.{CanResolve}
 use Rattle.copy_steps.specs.Laws.{CanResolveFor, ResolvingSteps}
 use Rattle.copy_steps.proofs.Bodies.{copy_piece, piece_word_is, piece_begins, room_within}
@@ -55,37 +56,11 @@ module _ (c : Config) (u : World) (seat a : ℕ) (shared : Shared c u) where
   leaves_fit LoadAgain can = tt
   leaves_fit (Resolved answer) can = tt
 
-  -- a word of the object is one of the table
-  object_inside : (at : ResolveSpot) (k : ℕ) → k < 3 → CanResolve c u seat a at → IsWord c (Heap (a + k))
-  object_inside at k below can = let piece = copy_piece c u shared a can.there in is_word_true c (Heap (a + k)) (piece_word_is c u shared a k piece.0 piece.1 (let long = piece.2 in omega (arith, long, below)))
-
-  -- so is its header
-  header_inside : (at : ResolveSpot) → CanResolve c u seat a at → IsWord c (Heap a)
-  header_inside at can = let piece = copy_piece c u shared a can.there in is_word_true c (Heap a) (piece_begins c u shared a piece.0 piece.1 (let long = piece.2 in omega (arith, long)))
-
-  copy_inside : (copy : ℕ) (at : CopySpot) → CanResolve c u seat a (Copying copy at) → IsWord c (copy_touch c a copy at).word
-  copy_inside copy (LoadWord words index) can =
-      let facts = can.facts in
-      let piece = body_piece (u.block a) facts.0 facts.1 in
-      is_word_true c (Heap (a + index)) (piece_word_is c u shared a index piece.0 piece.1 (let below = facts.2.2 in let long = facts.2.0 in let same = piece.2 in omega (arith, below, long, same)))
-  copy_inside copy (StoreWord words index found) can =
-      let facts = can.facts in
-      is_word_true c (Heap (copy + index)) (piece_word_is c u shared copy index (hand seat (body_words facts.0)) facts.2.3.room (let below = facts.2.2 in let long = facts.2.0 in omega (arith, below, long)))
-  copy_inside copy StoreHeader can = is_word_true c (Heap copy) can.ready
-  copy_inside copy Publish can = header_inside (Copying copy Publish) can
-  copy_inside copy (GiveBack answer) can = room_within c u shared copy seat (body_words can.facts.0) can.facts.2.0
-
   -- the next access is of the table
   inside_at : (at : ResolveSpot) → CanResolve c u seat a at → IsWord c (touch_at c seat a at).word
-  inside_at LoadHeader can = header_inside LoadHeader can
-  inside_at (Entering at) can = tt
-  inside_at LoadShape can = object_inside LoadShape 1 (omega arith) can
-  inside_at (Taking words at) can = is_word_true c (takes.touch_at seat words at).word (and_parts _ _ (and_parts _ _ can.facts.2.1.ready).0).0
-  inside_at (Copying copy at) can = copy_inside copy at can
-  inside_at (Leaving answer) can = tt
-  inside_at (Stopping at) can = tt
-  inside_at LoadAgain can = header_inside LoadAgain can
-  inside_at (Resolved answer) can = header_inside (Resolved answer) can
+  inside_at at can =
+      let piece = copy_piece c u shared a can.there in
+      resolve_inside c seat a at (piece_begins c u shared a piece.0 piece.1 (let long = piece.2 in omega (arith, long))) can.ready
 
 -- what the steps of resolving owe
 pub resolving_steps : ResolvingSteps

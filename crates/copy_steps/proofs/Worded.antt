@@ -52,6 +52,7 @@ module _ (c : Config) (u : World) (seat copy words at place value : ℕ) (shared
           record {
             header = first_stays a (moved name refs nums to) is other (omega arith) ∙ was.header;
             shape = else_stays a 1 (moved name refs nums to) is other (omega arith) ∙ was.shape;
+            name_word = else_stays a 2 (moved name refs nums to) is other (omega arith) ∙ was.name_word;
             few_refs = was.few_refs;
             few_nums = was.few_nums;
             inside = was.inside;
