@@ -1,10 +1,9 @@
 -- A header of a copy changes only once, and leads to the current copy then.
-use Rattle.std.proofs.Common.{◌≡◌, ℕ, ◌⊎◌, inl, inr, ⊎_elim, true, false, Some, sym, ap, ◌∙◌, subst}
+use Rattle.std.proofs.Common.{◌≡◌, ℕ, inl, inr, ⊎_elim, true, false, Some, sym, ap, ◌∙◌, subst}
 use Rattle.heap_words.specs.declared.config.Config.{Config}
 use Rattle.heap_words.specs.Encoding.{plain_header, header_word, is_forwarded, forwardee_in}
 use Rattle.heap_words.specs.Words.{Heap}
-use Rattle.heap_world.specs.World.{World, thing, moved, Body, body_at, TargetIn, Shared}
-use Rattle.heap_world.specs.Rely.{KeepsCopies}
+use Rattle.heap_world.specs.World.{World, thing, moved, Body, TargetIn, Shared}
 use Rattle.heap_world.proofs.Pointing.{copy_cases}
 use Rattle.load_barrier.proofs.Knows.{header_forwarded, header_names}
 use Rattle.copy_steps.specs.Laws.{HeadersLead}
