@@ -72,7 +72,7 @@ pub record IsResting (w : World) (seat : ℕ) : Type 0 where
 
 -- it scans a unit of marking, and neither copies nor works on a unit of evacuation
 abbrev pub Scans : Config → World → ℕ → ScanSpot → Type 0
-Scans c w seat at = CanScan c w seat at × (w.ghost.recording seat ≡ None) × (w.ghost.copying seat ≡ false) × (w.ghost.working seat ≡ None)
+Scans c w seat at = CanScan c w seat at × (w.ghost.copying seat ≡ false) × (w.ghost.working seat ≡ None)
 
 -- What a helper counts on by where it stands: between the two loads it knows the phase, which is not 0, and in a unit it can go on;
 -- elsewhere it rests.
