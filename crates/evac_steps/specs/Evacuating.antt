@@ -6,6 +6,7 @@ use Rattle.heap_words.specs.Words.{Phase, Cset, Evac, Top}
 use Rattle.regions.specs.Place.{base_of, region_with}
 use Rattle.regions.specs.Sets.{IsIn}
 use Rattle.heap_world.specs.World.{World, Block, hand, words_of, IsCollected, IsSweptTo}
+use Rattle.load_barrier.specs.Rows.{is_resolved}
 use Rattle.load_barrier.specs.declared.evac_spot.EvacSpot.{EvacSpot}
 use Rattle.load_barrier.specs.declared.evac_spot.EvacSpot.TheVariants.{LoadClaim, ClaimUnit, LoadTop, LoadShape, LoadMark, Resolving, Ended}
 use Rattle.copy_steps.specs.Resolving.{CanResolve}
@@ -52,7 +53,7 @@ WorkFacts c w seat (ClaimUnit unit) = HasNothing w seat × (unit < c.regions)
 WorkFacts c w seat (LoadTop region) = HasNothing w seat × IsIn (w.memory Cset) region
 WorkFacts c w seat (LoadShape address end) = HasNothing w seat × IsWalkedTo c w address end
 WorkFacts c w seat (LoadMark address end next) = HasNothing w seat × IsMeasured c w address end next
-WorkFacts c w seat (Resolving address end next at) = CanResolve c w seat address at × IsMeasured c w address end next
+WorkFacts c w seat (Resolving address end next at) = (is_resolved at ≡ false) × CanResolve c w seat address at × IsMeasured c w address end next
 WorkFacts c w seat (Ended unit) = HasNothing w seat
 
 -- Objects are evacuated, the machine knows the collection set, and works on the region of which its spot tells.

@@ -2,12 +2,17 @@
 //! code.
 #![tactic(auto)]
 
-ghost use Rattle.evac_steps.specs.Laws.{EvacuatingSteps, AllIsForwarded};
+ghost use Rattle.evac_steps.specs.Laws.{EvacuatingSteps, SweptIsForwarded, AllIsForwarded};
 
 /// A law: each step of a machine that works on a unit of evacuation keeps what all machines share and what the others rely on, and a
 /// unit that it ends is swept: each object there is forwarded, or there was no room.
 pub fn evacuating_steps()
     ensures { EvacuatingSteps }
+{}
+
+/// A law: in a region that is swept each marked object of the collection set is forwarded, if there was always room.
+pub fn swept_is_forwarded()
+    ensures { SweptIsForwarded }
 {}
 
 /// A law: once all units are claimed and nobody works on one, each marked object of the collection set is forwarded, if there was
