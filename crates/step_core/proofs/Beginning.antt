@@ -19,10 +19,10 @@ use Rattle.step_core.proofs.Induction.{Goes}
 use Rattle.step_core.proofs.Roles.{machine_there, machine_begins}
 
 -- an idle control holds no image
-idle_holds : (c : Config) (phase : ℕ) (g : Graph) (machine : Machine) → HasNumber c (control_number c) machine → IsIdle phase g (control_number c) machine → image_in machine ≡ None
-idle_holds c phase g (mutating m) number calm = absurd (let below = number.1 in omega (arith, below))
-idle_holds c phase g (helping h) number calm = absurd (let below = number.2 in omega (arith, below))
-idle_holds c phase g (controlling h) number calm = ap (λ spot. stored_image spot h.image) calm.0
+idle_holds : (c : Config) (phase cset : ℕ) (g : Graph) (machine : Machine) → HasNumber c (control_number c) machine → IsIdle phase cset g (control_number c) machine → image_in machine ≡ None
+idle_holds c phase cset g (mutating m) number calm = absurd (let below = number.1 in omega (arith, below))
+idle_holds c phase cset g (helping h) number calm = absurd (let below = number.2 in omega (arith, below))
+idle_holds c phase cset g (controlling h) number calm = ap (λ spot. stored_image spot h.image) calm.0
 
 -- What holds of a stage that begins a graph.
 module _ (c : Config) (s : Stage Actor) (g : Graph) (begins : Begins c s g) where
@@ -34,7 +34,7 @@ module _ (c : Config) (s : Stage Actor) (g : Graph) (begins : Begins c s g) wher
   pub whole_begins : settled c s ≡ view c s.words
   whole_begins =
       let new = begins.machines (control_number c) there.0 there.1 in
-      ap (settled_by c s.words) (ap image_of there.1 ∙ idle_holds c (view c s.words Phase) g there.0.machine new.number_is new.idle)
+      ap (settled_by c s.words) (ap image_of there.1 ∙ idle_holds c (view c s.words Phase) (view c s.words Cset) g there.0.machine new.number_is new.idle)
 
   pub follows_begins : Follows c g s []
   follows_begins = record {

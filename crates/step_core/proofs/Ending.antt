@@ -157,10 +157,10 @@ each_keeps_end change law c g s past (e ∷ es) goes = (
 )
 
 -- who is idle has not ended
-idle_goes : (phase : ℕ) (g : Graph) (number : ℕ) (machine : Machine) → IsIdle phase g number machine → has_ended_of machine ≡ false
-idle_goes phase g number (mutating m) idle = refl
-idle_goes phase g number (helping h) idle = refl
-idle_goes phase g number (controlling k) idle = ap is_gone idle.0
+idle_goes : (phase cset : ℕ) (g : Graph) (number : ℕ) (machine : Machine) → IsIdle phase cset g number machine → has_ended_of machine ≡ false
+idle_goes phase cset g number (mutating m) idle = refl
+idle_goes phase cset g number (helping h) idle = refl
+idle_goes phase cset g number (controlling k) idle = ap is_gone idle.0
 
 -- The word of the end is 1 where the control has ended and 0 where it has not, in each stage that events lead to from one in which it is 0.
 pub run_ends : (change : Change) → IsPause change → (c : Config) (s : Stage Actor) (g : Graph) → Begins c s g → view c s.words End ≡ 0 → (events : List (Event Order))
@@ -169,7 +169,7 @@ run_ends change law c s g begins zero events =
     known_run c (kind change c) has_ended s events
     (record {
       words = begins.words;
-      one = λ k a there has. absurd (true≢false (sym has ∙ idle_goes (view c s.words Phase) g k a.machine (begins.machines k a there).idle));
+      one = λ k a there has. absurd (true≢false (sym has ∙ idle_goes (view c s.words Phase) (view c s.words Cset) g k a.machine (begins.machines k a there).idle));
       none = λ no. zero;
     })
     (each_keeps_end change law c g s [] events (goes_begins c s g begins))
