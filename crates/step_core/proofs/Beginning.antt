@@ -3,7 +3,7 @@ use Rattle.std.proofs.Common.{◌≡◌, ℕ, [], None, Some, refl, sym, ap, ◌
 use Rattle.std.specs.Prelude.{slice_get}
 use Rattle.std.proofs.lemmas.List.Elements.{All-nil}
 use Rattle.heap_words.specs.declared.config.Config.{Config}
-use Rattle.heap_words.specs.Words.{Phase, view}
+use Rattle.heap_words.specs.Words.{Phase, Cset, view}
 use Rattle.steps_base.specs.Steps.{Stage}
 use Rattle.shen_graph.specs.Graph.{Graph}
 use Rattle.heap_world.specs.World.{Shared}
@@ -51,7 +51,7 @@ module _ (c : Config) (s : Stage Actor) (g : Graph) (begins : Begins c s g) wher
         let new = begins.machines k a is in
         subst (λ memory. IsMachine c s.words (record { memory = memory; block = begins.stands.block; ghost = begins.stands.ghost; graph = g }) [] k a a.machine) (sym whole_begins)
         (machine_begins c s.words (record { memory = view c s.words; block = begins.stands.block; ghost = begins.stands.ghost; graph = g }) k a a.machine refl new.number_is new.idle new.calls new.valid
-        (record { roots = begins.stands.roots; none = begins.stands.none; asked = begins.stands.asked; unmarking = begins.stands.unmarking }));
+        (record { roots = begins.stands.roots; none = begins.stands.none; asked = begins.stands.asked; unmarking = begins.stands.unmarking; uncopying = begins.stands.uncopying; usable = begins.stands.usable }));
   }
 
   pub goes_begins : Goes c g s []

@@ -1,7 +1,7 @@
 -- The handshake and the count where runs begin.
 use Rattle.std.proofs.Common.{◌≡◌, ℕ, ◌<◌, ◌≤◌, true, false, refl, ap, arith}
 use Rattle.heap_words.specs.declared.config.Config.{Config}
-use Rattle.heap_words.specs.Words.{Phase, view}
+use Rattle.heap_words.specs.Words.{Phase, Cset, view}
 use Rattle.steps_base.specs.Steps.{Stage}
 use Rattle.shen_graph.specs.Graph.{Graph}
 use Rattle.handshake.specs.Standing.{outside, idle, control_seat}
