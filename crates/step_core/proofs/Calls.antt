@@ -98,7 +98,7 @@ module _ (c : Config) (u : World) (seat made : ℕ) (kept : Kept) (command : Com
         legal = legal_answer u.graph seat command reply.Ok refl gc;
         settles = λ r e. (mine.facts.0, refl);
         shared = shared;
-        mine = leaving c _ seat made kept command reply.Ok mine.seated (mine.marking.records, mine.marking.scans) mine.roots mine.hands;
+        mine = leaving c _ seat made kept command reply.Ok mine.seated (mine.marking.records, mine.marking.scans, mine.copying.copies_is, mine.copying.works_none) mine.roots mine.hands;
         others = λ j d. let marks = marks_in c u (accessed c u (at_spot AskCycle)).memory u.graph j refl (λ n. refl) (λ t. refl) (λ t k. refl) (λ a. refl) in let waits = still_waits (u.memory Ask) in search (arith, nat_tests, marks, waits);
       }
 

@@ -82,8 +82,8 @@ module _ (c : Config) (u : World) (seat made : ℕ) (kept : Kept) (command : Com
 
   -- and once it is inside: a call begins with the phase, and one that has waited has its answer
   mine_inside : (next : Entered) → Mine c u (at_spot (Entering Look next)) command fixed → Mine c u (at_spot (after_enter next Inside)) command fixed
-  mine_inside Call mine = record { seated = mine.seated; ready = refl; marking = mine.marking; roots = mine.roots; hands = mine.hands; facts = mine.facts }
-  mine_inside Waited mine = record { seated = mine.seated; ready = ready_of _ true (lt-ltb _ _ mine.seated.below) refl; marking = mine.marking; roots = mine.roots; hands = mine.hands; facts = mine.facts }
+  mine_inside Call mine = record { seated = mine.seated; ready = refl; marking = mine.marking; copying = mine.copying; roots = mine.roots; hands = mine.hands; facts = mine.facts }
+  mine_inside Waited mine = record { seated = mine.seated; ready = ready_of _ true (lt-ltb _ _ mine.seated.below) refl; marking = mine.marking; copying = mine.copying; roots = mine.roots; hands = mine.hands; facts = mine.facts }
 
   -- the steps of an entering
   pub at_enter : (at : EnterSpot) (next : Entered) → Row c u (at_spot (Entering at next)) command fixed

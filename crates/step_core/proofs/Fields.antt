@@ -39,7 +39,7 @@ use Rattle.heap_world.proofs.RootChanges.{roots_then}
 use Rattle.step_core.proofs.InHand.{shown_not_full, field_mine}
 
 -- the store of a reference into the command's field can be made
-pub store_ready : (c : Config) (w : World) (seat made : ℕ) (kept : Kept) (object value obj val : ℕ) → Shared c w → (of : HasObject w seat obj object) → index_of kept.command < of.refs
+pub store_ready : (c : Config) (w : World) (seat made : ℕ) (kept : Kept) (object value obj val : ℕ) → Shared c w → (of : HasObject c w seat obj object) → index_of kept.command < of.refs
     → Points w.block value (w.graph.root (seat + 1) val) → is_ready c seat made kept (OnField object (fields.Store value)) ≡ true
 store_ready c w seat made kept object value obj val shared of below stands =
     let field : ℕ = index_of kept.command in
@@ -102,6 +102,7 @@ module _ (c : Config) (u : World) (seat made : ℕ) (kept : Kept) (command : Com
         seated = mine.seated;
         ready = store_ready c u seat made kept object value set.obj set.val shared set.of set.below set.value_is.stands;
         marking = mine.marking;
+        copying = mine.copying;
         roots = mine.roots;
         hands = mine.hands;
         facts = (mine.facts.0, set, covered);
@@ -130,6 +131,7 @@ module _ (c : Config) (u : World) (seat made : ℕ) (kept : Kept) (command : Com
         ready = ready_of _ (is_number got && is_number value) (word_in c u shared seat cas.obj object (object + 3 + field) (3 + field) cas.of (omega arith) (omega arith))
             (and_from _ _ (number_small got (points_small c _ u.block shared.parsable.plotted got here.0 here.2)) (number_small value (points_small c _ u.block shared.parsable.plotted value _ cas.value_is.stands)));
         marking = mine.marking;
+        copying = mine.copying;
         roots = mine.roots;
         hands = mine.hands;
         facts = (mine.facts.0, cas, eqb-true _ _ same);
@@ -138,7 +140,7 @@ module _ (c : Config) (u : World) (seat made : ℕ) (kept : Kept) (command : Com
       replies c u (at_spot (OnField object (fields.LoadExpected expect value))) (Heap (object + 3 + field)) command fixed reply.No refl (cond-false _ _ _ (agree ∙ differs)) refl mine.facts.0 refl
       (ap (λ k. outcome u.graph (seat + 1) k) cas.is ∙ rw here.1 (cond-false _ _ _ (sym words ∙ differs)))
       shared
-      (rw differs (leaving c _ seat made kept command reply.No mine.seated (mine.marking.records, mine.marking.scans) mine.roots mine.hands)))
+      (rw differs (leaving c _ seat made kept command reply.No mine.seated (mine.marking.records, mine.marking.scans, mine.copying.copies_is, mine.copying.works_none) mine.roots mine.hands)))
       (cases_Bool (got == expect))
 
   -- the load of a number settles it
@@ -151,7 +153,7 @@ module _ (c : Config) (u : World) (seat made : ℕ) (kept : Kept) (command : Com
       replies c u (at_spot (OnNumber object refs numbers.Load)) (Heap (object + 3 + refs + index)) command fixed (reply.Number got) refl refl refl mine.facts.0 refl
       (ap (λ k. outcome u.graph (seat + 1) k) rd.is ∙ rw here (ap (λ n. answers (reply.Number (u.memory (Heap (object + 3 + n + index)))) u.graph) (sym rd.refs_are)))
       shared
-      (leaving c _ seat made kept command (reply.Number got) mine.seated (mine.marking.records, mine.marking.scans) mine.roots mine.hands)
+      (leaving c _ seat made kept command (reply.Number got) mine.seated (mine.marking.records, mine.marking.scans, mine.copying.copies_is, mine.copying.works_none) mine.roots mine.hands)
 
   -- the load of a name: it is the one that was settled
   pub at_load_name : (value : ℕ) → Row c u (at_spot (Showing value show.LoadName)) command fixed
@@ -166,6 +168,7 @@ module _ (c : Config) (u : World) (seat made : ℕ) (kept : Kept) (command : Com
         seated = mine.seated;
         ready = ready_of _ _ (grind (arith, nat_tests)) (number_small value (points_small c _ u.block shared.parsable.plotted value (Some found.name) found.is));
         marking = mine.marking;
+        copying = mine.copying;
         roots = mine.roots;
         hands = mine.hands;
         facts = (found.settled ∙ ap (λ n. Some (reply.Ref n)) (sym read), found.small);

@@ -116,6 +116,7 @@ module _ (c : Config) (u : World) (seat made : ℕ) (kept : Kept) (command : Com
       seated = mine.seated;
       ready = word_ready c seat made kept command fixed mine.facts.0 (λ r. u.memory (Top r)) u.block shared.parsable.plotted address mine.facts.1.room mine.seated.below (done + 1) (ltb-true _ _ more);
       marking = mine.marking;
+      copying = mine.copying;
       roots = mine.roots;
       hands = mine.hands;
       facts = (mine.facts.0, filling, ltb-true _ _ more);
@@ -124,6 +125,7 @@ module _ (c : Config) (u : World) (seat made : ℕ) (kept : Kept) (command : Com
       seated = mine.seated;
       ready = fresh_ready c seat made kept command fixed mine.facts.0 (λ r. u.memory (Top r)) u.block shared.parsable.plotted address mine.facts.1.room mine.seated.below;
       marking = mine.marking;
+      copying = mine.copying;
       roots = mine.roots;
       hands = mine.hands;
       facts = (
@@ -202,7 +204,7 @@ module _ (c : Config) (u : World) (seat made : ℕ) (kept : Kept) (command : Com
     mine_made =
         leaving c (made_world has) seat (made + 1) kept command (made_reply has)
         (record { below = mine.seated.below; counted = count_made has; usable = usable_made has mine.seated.usable; unasked = λ calm. let was = mine.seated.unasked calm in (was.0, was.1, λ a words is. was.2 a words (promise_before has a seat words is).1) })
-        (mine.marking.records, mine.marking.scans)
+        (mine.marking.records, mine.marking.scans, mine.copying.copies_is, mine.copying.works_none)
         (roots_made has mine.roots)
         (λ a words is. let old = hand_before has a seat words is in old.0 (mine.hands a words old.1).0)
 

@@ -76,7 +76,7 @@ module _ {c : Config} {u : World} {seat made : ℕ} {command k : Command} {fixed
   names = names_stay c top u.block address refs nums name has.piece has.unnamed has.long has.here
 
   -- each object stands where it stood
-  targets : (a more_refs more_nums : ℕ) (n : Name) → Target u.block a more_refs more_nums n → Target made_world.block a more_refs more_nums n
+  targets : (a more_refs more_nums : ℕ) (n : Name) → TargetIn c u a more_refs more_nums n → Target made_world.block a more_refs more_nums n
   targets a more_refs more_nums n there =
       record { piece = things_stay c top u.block address refs nums name has.piece has.unnamed has.long has.here a more_refs more_nums n there.piece }
 
@@ -136,7 +136,7 @@ module _ {c : Config} {u : World} {seat made : ℕ} {command k : Command} {fixed
       (ap name_at (updated_there u.block address (Some (thing name refs nums))))
 
   -- and may be used
-  pub usable_made : ((i : ℕ) → i < 16 → IsUsable u.block (u.memory (Root seat i))) → (i : ℕ) → i < 16 → IsUsable made_world.block (made_world.memory (Root seat i))
+  pub usable_made : ((i : ℕ) → i < 16 → UsableIn c u (u.memory (Root seat i))) → (i : ℕ) → i < 16 → IsUsable made_world.block (made_world.memory (Root seat i))
   usable_made usable =
       usable_written made_world.block u.memory seat (dst_of k) address
       (λ i below. usable_stays u made_world targets (u.memory (Root seat i)) (usable i below))

@@ -57,7 +57,7 @@ root_small made (Same a b) (suc (suc i)) next below = absurd (omega arith)
 root_small made _ i next below = absurd (omega arith)
 
 -- the object of a command whose first root is not null
-abbrev object_of : (c : Config) (u : World) (seat : ℕ) (k : Command) (object : ℕ) → Shared c u → is_on_object k ≡ true → HasFirst u seat k object → HasObject u seat (root_of k 0) object
+abbrev object_of : (c : Config) (u : World) (seat : ℕ) (k : Command) (object : ℕ) → Shared c u → is_on_object k ≡ true → HasFirst c u seat k object → HasObject c u seat (root_of k 0) object
 object_of c u seat k object shared on first =
     let is = first.first_is first.some in
     let named = named_if_not_0 c _ u.block shared.parsable.plotted object _ is.stands (first.not_null on) in
@@ -104,7 +104,7 @@ module _ (c : Config) (u : World) (seat made : ℕ) (kept : Kept) (command : Com
   root_mine k now some mine =
       let below = mine.seated.below in
       let small = root_small made k 0 mine.facts.next some in
-      record { seated = mine.seated; ready = grind (arith, nat_tests); marking = mine.marking; roots = mine.roots; hands = mine.hands; facts = (mine.facts, some) }
+      record { seated = mine.seated; ready = grind (arith, nat_tests); marking = mine.marking; copying = mine.copying; roots = mine.roots; hands = mine.hands; facts = (mine.facts, some) }
 
   -- where it goes on after the collection set
   set_mine : (k : Command) (now : ℕ) → HasBegun k → HasSpot k now fixed (first_spot k)
@@ -115,6 +115,7 @@ module _ (c : Config) (u : World) (seat made : ℕ) (kept : Kept) (command : Com
         seated = mine.seated;
         ready = grind (arith, nat_tests);
         marking = mine.marking;
+        copying = mine.copying;
         roots = mine.roots;
         hands = mine.hands;
         facts = (
@@ -137,11 +138,12 @@ module _ (c : Config) (u : World) (seat made : ℕ) (kept : Kept) (command : Com
         seated = mine.seated;
         ready = grind (arith, nat_tests);
         marking = mine.marking;
+        copying = mine.copying;
         roots = mine.roots;
         hands = mine.hands;
         facts = (mine.facts.unsettled, small, inr (record { is = mine.facts.is; value_is = refl }));
       }
-  set_mine Gc now mine = record { seated = mine.seated; ready = refl; marking = mine.marking; roots = mine.roots; hands = mine.hands; facts = (mine.facts.unsettled, mine.facts.is) }
+  set_mine Gc now mine = record { seated = mine.seated; ready = refl; marking = mine.marking; copying = mine.copying; roots = mine.roots; hands = mine.hands; facts = (mine.facts.unsettled, mine.facts.is) }
   set_mine (Get dst src field) now mine = root_mine (Get dst src field) now (omega arith) mine
   set_mine (Set obj field val) now mine = root_mine (Set obj field val) now (omega arith) mine
   set_mine (Cas obj field expect val) now mine = root_mine (Cas obj field expect val) now (omega arith) mine
@@ -153,43 +155,44 @@ module _ (c : Config) (u : World) (seat made : ℕ) (kept : Kept) (command : Com
 
   -- it leaves with the reply that is settled
   leave_mine : (k : Command) (r : Reply) → HasBegun k → HasSpot k kept.cset (Some r) (Leave r)
-  leave_mine k r mine = leaving c _ seat made (keeping k kept.cset) command r mine.seated (mine.marking.records, mine.marking.scans) mine.roots mine.hands
+  leave_mine k r mine = leaving c _ seat made (keeping k kept.cset) command r mine.seated (mine.marking.records, mine.marking.scans, mine.copying.copies_is, mine.copying.works_none) mine.roots mine.hands
 
   -- it can go on with the shape of the command's object
-  shape_mine : (k : Command) (object second third : ℕ) → Shared c u → HasBegun k → is_on_object k ≡ true → HasRoots u seat k object second third → HasSpot k kept.cset fixed (Loading (load.Shape object second third))
+  shape_mine : (k : Command) (object second third : ℕ) → Shared c u → HasBegun k → is_on_object k ≡ true → HasRoots c u seat k object second third → HasSpot k kept.cset fixed (Loading (load.Shape object second third))
   shape_mine k object second third shared mine on has =
-      let of : HasObject u seat (root_of k 0) object = object_of c u seat k object shared on has.first_is in
+      let of : HasObject c u seat (root_of k 0) object = object_of c u seat k object shared on has.first_is in
       record {
         seated = mine.seated;
         ready = ready_of _ true (word_in c u shared seat (root_of k 0) object (object + 1) 1 of (omega arith) refl) refl;
         marking = mine.marking;
+        copying = mine.copying;
         roots = mine.roots;
         hands = mine.hands;
         facts = (mine.facts, on, has);
       }
 
   -- the word of a root of the command stands for the root
-  root_has : (k : Command) (i : ℕ) → HasBegun k → HasRoot u seat k i (u.memory (Root seat (root_of k i)))
+  root_has : (k : Command) (i : ℕ) → HasBegun k → HasRoot c u seat k i (u.memory (Root seat (root_of k i)))
   root_has k i mine below =
       let small = root_small made k i mine.facts.next below in
       record { stands = mine.roots (root_of k i) small; usable = mine.seated.usable (root_of k i) small }
 
   -- it can go on with the second root, and with the third
-  second_mine : (k : Command) (first : ℕ) → HasBegun k → 1 < length (roots_of k) → HasFirst u seat k first → HasSpot k kept.cset fixed (Loading (load.Second first))
+  second_mine : (k : Command) (first : ℕ) → HasBegun k → 1 < length (roots_of k) → HasFirst c u seat k first → HasSpot k kept.cset fixed (Loading (load.Second first))
   second_mine k first mine more has =
       let below = mine.seated.below in
       let small = root_small made k 1 mine.facts.next more in
-      record { seated = mine.seated; ready = grind (arith, nat_tests); marking = mine.marking; roots = mine.roots; hands = mine.hands; facts = (mine.facts, more, has) }
+      record { seated = mine.seated; ready = grind (arith, nat_tests); marking = mine.marking; copying = mine.copying; roots = mine.roots; hands = mine.hands; facts = (mine.facts, more, has) }
 
   -- it can go on with the third root
-  third_mine : (k : Command) (first second : ℕ) → HasBegun k → 2 < length (roots_of k) → HasFirst u seat k first → HasRoot u seat k 1 second → HasSpot k kept.cset fixed (Loading (load.Third first second))
+  third_mine : (k : Command) (first second : ℕ) → HasBegun k → 2 < length (roots_of k) → HasFirst c u seat k first → HasRoot c u seat k 1 second → HasSpot k kept.cset fixed (Loading (load.Third first second))
   third_mine k first second mine more has has_second =
       let below = mine.seated.below in
       let small = root_small made k 2 mine.facts.next more in
-      record { seated = mine.seated; ready = grind (arith, nat_tests); marking = mine.marking; roots = mine.roots; hands = mine.hands; facts = (mine.facts, more, has, has_second) }
+      record { seated = mine.seated; ready = grind (arith, nat_tests); marking = mine.marking; copying = mine.copying; roots = mine.roots; hands = mine.hands; facts = (mine.facts, more, has, has_second) }
 
   -- where it goes on after the first root
-  first_mine : (k : Command) (first : ℕ) → Shared c u → HasBegun k → HasFirst u seat k first → HasSpot k kept.cset fixed (after_first k first)
+  first_mine : (k : Command) (first : ℕ) → Shared c u → HasBegun k → HasFirst c u seat k first → HasSpot k kept.cset fixed (after_first k first)
   first_mine (Get dst src field) first shared mine has =
       shape_mine (Get dst src field) first 0 0 shared mine refl (record { first_is = has; second_is = λ below. absurd (omega arith); third_is = λ below. absurd (omega arith) })
   first_mine (Rd obj index) first shared mine has =
@@ -204,11 +207,12 @@ module _ (c : Config) (u : World) (seat made : ℕ) (kept : Kept) (command : Com
       let below = mine.seated.below in
       let next = mine.facts.next in
       let small : dst < 16 = grind (arith, nat_tests) in
-      let value_is : IsRootWord u seat src first = has.first_is has.some in
+      let value_is : IsRootWord c u seat src first = has.first_is has.some in
       record {
         seated = mine.seated;
         ready = ready_of _ _ (grind (arith, nat_tests)) (number_small first (points_small c _ u.block shared.parsable.plotted first _ value_is.stands));
         marking = mine.marking;
+        copying = mine.copying;
         roots = mine.roots;
         hands = mine.hands;
         facts = (mine.facts.unsettled, small, inl (record { src = src; is = mine.facts.is; value_is = value_is }));
@@ -218,7 +222,7 @@ module _ (c : Config) (u : World) (seat made : ℕ) (kept : Kept) (command : Com
   -- the load of the collection set
   pub at_load_set : Row c u (at_spot LoadSet) command fixed
   at_load_set shared mine =
-      let begun : HasBegun kept.command = record { seated = mine.seated; marking = mine.marking; roots = mine.roots; hands = mine.hands; facts = mine.facts } in
+      let begun : HasBegun kept.command = record { seated = mine.seated; marking = mine.marking; copying = mine.copying; roots = mine.roots; hands = mine.hands; facts = mine.facts } in
       looks c u (at_spot LoadSet) Cset command fixed refl refl refl shared (set_mine kept.command (u.memory Cset) begun)
 
   -- the first root of a command is null, and there is no object
@@ -245,11 +249,11 @@ module _ (c : Config) (u : World) (seat made : ℕ) (kept : Kept) (command : Com
   pub at_load_root : Row c u (at_spot (Loading load.First)) command fixed
   at_load_root shared mine =
       let k : Command = kept.command in
-      let base : HasBegun k = record { seated = mine.seated; marking = mine.marking; roots = mine.roots; hands = mine.hands; facts = mine.facts.0 } in
+      let base : HasBegun k = record { seated = mine.seated; marking = mine.marking; copying = mine.copying; roots = mine.roots; hands = mine.hands; facts = mine.facts.0 } in
       ⊎_elim (root_lacks k shared base mine.facts.1) (root_goes k shared base mine.facts.1) (cases_Bool (lacks_object k (u.memory (Root seat (root_of k 0)))))
 
   -- where it goes on after the second root; for a Same it is settled here whether the roots are the same
-  second_step : (k : Command) (first : ℕ) → Shared c u → HasBegun k → 1 < length (roots_of k) → HasFirst u seat k first → Stepped c u (at_call k (Loading (load.Second first))) command Nothing fixed
+  second_step : (k : Command) (first : ℕ) → Shared c u → HasBegun k → 1 < length (roots_of k) → HasFirst c u seat k first → Stepped c u (at_call k (Loading (load.Second first))) command Nothing fixed
   second_step (Set obj field val) first shared mine more has =
       looks c u (at_call (Set obj field val) (Loading (load.Second first))) (Root seat val) command fixed refl refl refl shared
       (shape_mine (Set obj field val) first (u.memory (Root seat val)) 0 shared mine refl (record { first_is = has; second_is = root_has (Set obj field val) 1 mine; third_is = λ below. absurd (omega arith) }))
@@ -274,10 +278,10 @@ module _ (c : Config) (u : World) (seat made : ℕ) (kept : Kept) (command : Com
   -- the load of the second root
   pub at_load_second : (first : ℕ) → Row c u (at_spot (Loading (load.Second first))) command fixed
   at_load_second first shared mine =
-      second_step kept.command first shared (record { seated = mine.seated; marking = mine.marking; roots = mine.roots; hands = mine.hands; facts = mine.facts.0 }) mine.facts.1 mine.facts.2
+      second_step kept.command first shared (record { seated = mine.seated; marking = mine.marking; copying = mine.copying; roots = mine.roots; hands = mine.hands; facts = mine.facts.0 }) mine.facts.1 mine.facts.2
 
   -- where it goes on after the third root: only a Cas has one
-  third_step : (k : Command) (first second : ℕ) → Shared c u → HasBegun k → 2 < length (roots_of k) → HasFirst u seat k first → HasRoot u seat k 1 second → Stepped c u (at_call k (Loading (load.Third first second))) command Nothing fixed
+  third_step : (k : Command) (first second : ℕ) → Shared c u → HasBegun k → 2 < length (roots_of k) → HasFirst c u seat k first → HasRoot c u seat k 1 second → Stepped c u (at_call k (Loading (load.Third first second))) command Nothing fixed
   third_step (Cas obj field expect val) first second shared mine more has has_second =
       looks c u (at_call (Cas obj field expect val) (Loading (load.Third first second))) (Root seat val) command fixed refl refl refl shared
       (shape_mine (Cas obj field expect val) first second (u.memory (Root seat val)) shared mine refl (record { first_is = has; second_is = has_second; third_is = root_has (Cas obj field expect val) 2 mine }))
@@ -286,16 +290,17 @@ module _ (c : Config) (u : World) (seat made : ℕ) (kept : Kept) (command : Com
   -- the load of the third root
   pub at_load_third : (first second : ℕ) → Row c u (at_spot (Loading (load.Third first second))) command fixed
   at_load_third first second shared mine =
-      third_step kept.command first second shared (record { seated = mine.seated; marking = mine.marking; roots = mine.roots; hands = mine.hands; facts = mine.facts.0 }) mine.facts.1 mine.facts.2 mine.facts.3
+      third_step kept.command first second shared (record { seated = mine.seated; marking = mine.marking; copying = mine.copying; roots = mine.roots; hands = mine.hands; facts = mine.facts.0 }) mine.facts.1 mine.facts.2 mine.facts.3
 
   -- A Set goes on with its field: while objects are marked it looks first what it will overwrite.
-  set_part : (obj field val object value : ℕ) → Shared c u → HasBegun (Set obj field val) → IsSet u seat command object field value
+  set_part : (obj field val object value : ℕ) → Shared c u → HasBegun (Set obj field val) → IsSet c u seat command object field value
       → HasSpot (Set obj field val) kept.cset fixed (OnField object (first_of_set kept.phase value))
   set_part obj field val object value shared mine is = ⊎_elim
       (λ (marks : (kept.phase == 1) ≡ true). rw marks (record {
         seated = mine.seated;
         ready = ready_of _ true there refl;
         marking = mine.marking;
+        copying = mine.copying;
         roots = mine.roots;
         hands = mine.hands;
         facts = (mine.facts.unsettled, is);
@@ -304,6 +309,7 @@ module _ (c : Config) (u : World) (seat made : ℕ) (kept : Kept) (command : Com
         seated = mine.seated;
         ready = ready_of _ _ there (number_small value (points_small c _ u.block shared.parsable.plotted value _ is.value_is.stands));
         marking = mine.marking;
+        copying = mine.copying;
         roots = mine.roots;
         hands = mine.hands;
         facts = (mine.facts.unsettled, is, covered_unmarked c u object field shared (λ on. eqb-false _ _ off (mine.marking.phase_is refl ∙ on)));
@@ -314,7 +320,7 @@ module _ (c : Config) (u : World) (seat made : ℕ) (kept : Kept) (command : Com
       there = word_in c u shared seat is.obj object (object + 3 + field) (3 + field) is.of (let below = is.below in omega (arith, below)) (omega arith)
 
   -- where it goes on with a part of the object that there is
-  part_mine : (k : Command) (object second third shape : ℕ) → Shared c u → HasBegun k → HasRoots u seat k object second third → (of : HasObject u seat (root_of k 0) object)
+  part_mine : (k : Command) (object second third shape : ℕ) → Shared c u → HasBegun k → HasRoots c u seat k object second third → (of : HasObject c u seat (root_of k 0) object)
       → refs_in shape ≡ of.refs → nums_in shape ≡ of.nums → is_on_object k ≡ true → has_part k shape ≡ true → HasSpot k kept.cset fixed (with_part kept.phase k object second third shape)
   part_mine (Get dst src field) object second third shape shared mine has of refs nums on part =
       let next = mine.facts.next in
@@ -323,6 +329,7 @@ module _ (c : Config) (u : World) (seat made : ℕ) (kept : Kept) (command : Com
         seated = mine.seated;
         ready = ready_of _ true (word_in c u shared seat src object (object + 3 + field) (3 + field) of (omega arith) (omega arith)) refl;
         marking = mine.marking;
+        copying = mine.copying;
         roots = mine.roots;
         hands = mine.hands;
         facts = (mine.facts.unsettled, record { src = src; is = mine.facts.is; small = grind (arith, nat_tests); of = of; below = below });
@@ -336,6 +343,7 @@ module _ (c : Config) (u : World) (seat made : ℕ) (kept : Kept) (command : Com
         seated = mine.seated;
         ready = ready_of _ true (word_in c u shared seat obj object (object + 3 + field) (3 + field) of (omega arith) (omega arith)) refl;
         marking = mine.marking;
+        copying = mine.copying;
         roots = mine.roots;
         hands = mine.hands;
         facts = (
@@ -346,11 +354,12 @@ module _ (c : Config) (u : World) (seat made : ℕ) (kept : Kept) (command : Com
   part_mine (Xchg dst obj field val) object second third shape shared mine has of refs nums on part =
       let next = mine.facts.next in
       let below : field < of.refs = let lt = ltb-true _ _ part in omega arith in
-      let value_is : IsRootWord u seat val second = has.second_is (omega arith) in
+      let value_is : IsRootWord c u seat val second = has.second_is (omega arith) in
       record {
         seated = mine.seated;
         ready = ready_of _ _ (word_in c u shared seat obj object (object + 3 + field) (3 + field) of (omega arith) (omega arith)) (number_small second (points_small c _ u.block shared.parsable.plotted second _ value_is.stands));
         marking = mine.marking;
+        copying = mine.copying;
         roots = mine.roots;
         hands = mine.hands;
         facts = (mine.facts.unsettled, record { obj = obj; val = val; is = mine.facts.is; small = grind (arith, nat_tests); of = of; below = below; value_is = value_is });
@@ -361,6 +370,7 @@ module _ (c : Config) (u : World) (seat made : ℕ) (kept : Kept) (command : Com
         seated = mine.seated;
         ready = ready_of _ true (word_in c u shared seat obj object (object + 3 + refs_in shape + index) (3 + refs_in shape + index) of (omega arith) (omega arith)) refl;
         marking = mine.marking;
+        copying = mine.copying;
         roots = mine.roots;
         hands = mine.hands;
         facts = (mine.facts.unsettled, record { obj = obj; is = mine.facts.is; of = of; refs_are = refs; below = below });
@@ -373,6 +383,7 @@ module _ (c : Config) (u : World) (seat made : ℕ) (kept : Kept) (command : Com
         seated = mine.seated;
         ready = ready_of _ _ (word_in c u shared seat obj object (object + 3 + refs_in shape + index) (3 + refs_in shape + index) of (omega arith) (omega arith)) small;
         marking = mine.marking;
+        copying = mine.copying;
         roots = mine.roots;
         hands = mine.hands;
         facts = (mine.facts.unsettled, record { obj = obj; is = mine.facts.is; of = of; refs_are = refs; below = below });
@@ -383,8 +394,8 @@ module _ (c : Config) (u : World) (seat made : ℕ) (kept : Kept) (command : Com
   pub at_load_shape : (object second third : ℕ) → Row c u (at_spot (Loading (load.Shape object second third))) command fixed
   at_load_shape object second third shared mine =
       let k : Command = kept.command in
-      let base : HasBegun k = record { seated = mine.seated; marking = mine.marking; roots = mine.roots; hands = mine.hands; facts = mine.facts.0 } in
-      let of : HasObject u seat (root_of k 0) object = object_of c u seat k object shared mine.facts.1 mine.facts.2.first_is in
+      let base : HasBegun k = record { seated = mine.seated; marking = mine.marking; copying = mine.copying; roots = mine.roots; hands = mine.hands; facts = mine.facts.0 } in
+      let of : HasObject c u seat (root_of k 0) object = object_of c u seat k object shared mine.facts.1 mine.facts.2.first_is in
       let sizes = shape_in c u shared seat (root_of k 0) object of in
       ⊎_elim
       (λ (part : has_part k (u.memory (Heap (object + 1))) ≡ true).

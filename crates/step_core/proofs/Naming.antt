@@ -104,12 +104,12 @@ module _ (c : Config) (u : World) (shared : Shared c u) where
       cond-false ((a == 0) || (b == 0)) _ _ (rw (some_a, some_b) refl) ∙ rw (word_a.0, word_b.0) codes ∙ sym (same_words a b (Some m) (Some n) is_a is_b)
 
   -- the graph's object of an object in hand
-  pub object_in : (seat root object : ℕ) (has : HasObject u seat root object)
+  pub object_in : (seat root object : ℕ) (has : HasObject c u seat root object)
       → (o : Object) × (u.graph.object has.name ≡ Some o) × IsThing (λ a. u.memory (Heap a)) u.block object has.refs has.nums has.name o
   object_in seat root object has = shared.contents.objects.each object has.refs has.nums has.name has.target.piece
 
   -- a reference field of an object in hand
-  pub field_in : (seat root object field : ℕ) (has : HasObject u seat root object) → field < has.refs
+  pub field_in : (seat root object field : ℕ) (has : HasObject c u seat root object) → field < has.refs
       → (v : Reference) × (field_at u.graph (seat + 1) root field ≡ Some v) × Points u.block (u.memory (Heap (object + 3 + field))) v
   field_in seat root object field has below =
       let o = object_in seat root object has in
@@ -117,7 +117,7 @@ module _ (c : Config) (u : World) (shared : Shared c u) where
       (get_or o.0.refs field None, ap (λ x. slice_get x.refs field) (named_object u.graph (seat + 1) root has.name o.0 has.root_is o.1) ∙ there, o.2.references field _ there)
 
   -- a number of it
-  pub number_in : (seat root object index : ℕ) (has : HasObject u seat root object) → index < has.nums
+  pub number_in : (seat root object index : ℕ) (has : HasObject c u seat root object) → index < has.nums
       → number_at u.graph (seat + 1) root index ≡ Some (u.memory (Heap (object + 3 + has.refs + index)))
   number_in seat root object index has below =
       let o = object_in seat root object has in
@@ -125,30 +125,30 @@ module _ (c : Config) (u : World) (shared : Shared c u) where
       ap (λ x. slice_get x.nums index) (named_object u.graph (seat + 1) root has.name o.0 has.root_is o.1) ∙ there ∙ ap (λ n. Some n) (sym (o.2.numbers index _ there))
 
   -- the words of an object in hand are words of the heap
-  pub word_in : (seat root object at k : ℕ) (has : HasObject u seat root object) → k < 3 + has.refs + has.nums → at ≡ object + k → is_word c (Heap at) ≡ true
+  pub word_in : (seat root object at k : ℕ) (has : HasObject c u seat root object) → k < 3 + has.refs + has.nums → at ≡ object + k → is_word c (Heap at) ≡ true
   word_in seat root object at k has below is = ap (λ a. is_word c (Heap a)) is ∙ piece_word c _ u.block shared.parsable.plotted object k (thing has.name has.refs has.nums) has.target.piece below
 
   -- there is no field and no number past the last
-  no_field_in : (seat root object field : ℕ) (has : HasObject u seat root object) → has.refs ≤ field → field_at u.graph (seat + 1) root field ≡ None
+  no_field_in : (seat root object field : ℕ) (has : HasObject c u seat root object) → has.refs ≤ field → field_at u.graph (seat + 1) root field ≡ None
   no_field_in seat root object field has past =
       let o = object_in seat root object has in
       ap (λ x. slice_get x.refs field) (named_object u.graph (seat + 1) root has.name o.0 has.root_is o.1) ∙ slice_get_past o.0.refs field (let long = o.2.refs_are in omega arith)
 
   -- there is no number past the last
-  no_number_in : (seat root object index : ℕ) (has : HasObject u seat root object) → has.nums ≤ index → number_at u.graph (seat + 1) root index ≡ None
+  no_number_in : (seat root object index : ℕ) (has : HasObject c u seat root object) → has.nums ≤ index → number_at u.graph (seat + 1) root index ≡ None
   no_number_in seat root object index has past =
       let o = object_in seat root object has in
       ap (λ x. slice_get x.nums index) (named_object u.graph (seat + 1) root has.name o.0 has.root_is o.1) ∙ slice_get_past o.0.nums index (let long = o.2.nums_are in omega arith)
 
   -- the shape word of an object in hand reads as its sizes
-  pub shape_in : (seat root object : ℕ) (has : HasObject u seat root object)
+  pub shape_in : (seat root object : ℕ) (has : HasObject c u seat root object)
       → (refs_in (u.memory (Heap (object + 1))) ≡ has.refs) × (nums_in (u.memory (Heap (object + 1))) ≡ has.nums)
   shape_in seat root object has =
       let o = object_in seat root object has in
       (ap refs_in o.2.shape ∙ refs_read has.refs has.nums o.2.few_refs o.2.few_nums, ap nums_in o.2.shape ∙ nums_read has.refs has.nums o.2.few_refs o.2.few_nums)
 
   -- A command on an object is answered Bad where the object has no such part.
-  pub bad_on_shape : (seat object : ℕ) (k : Command) → HasObject u seat (root_of k 0) object → is_on_object k ≡ true → has_part k (u.memory (Heap (object + 1))) ≡ false
+  pub bad_on_shape : (seat object : ℕ) (k : Command) → HasObject c u seat (root_of k 0) object → is_on_object k ≡ true → has_part k (u.memory (Heap (object + 1))) ≡ false
       → outcome u.graph (seat + 1) k ≡ answers reply.Bad u.graph
   bad_on_shape seat object (Get dst src field) has on lacks =
       let past = ltb-false _ _ lacks in let shape = shape_in seat src object has in rw (no_field_in seat src object field has (omega (arith, past, shape.0))) refl

@@ -80,7 +80,7 @@ module _ (c : Config) (u : World) (seat made : ℕ) (kept : Kept) (command : Com
         subst (λ f. Mine c w (at_spot (after_recording address overwrites.Xchg)) command f) (sym found.settled)
         (field_mine c w seat made kept command address (Some found.name) shared seated marking found.small roots none found.is)
     mine_recorded address overwrites.Cas roots settled =
-        subst (λ f. Mine c w (at_spot (Leave reply.Yes)) command f) (sym settled) (leaving c w seat made kept command reply.Yes seated (marking.records, marking.scans) roots none)
+        subst (λ f. Mine c w (at_spot (Leave reply.Yes)) command f) (sym settled) (leaving c w seat made kept command reply.Yes seated (marking.records, marking.scans, copying.copies_is, copying.works_none) roots none)
 
   module _ (before : RememberSpot) (address : ℕ) (next : Overwritten) (mine : Mine c u (at_spot (Recording before address next)) command fixed) where
     -- what it counts on after a step

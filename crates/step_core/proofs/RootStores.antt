@@ -29,12 +29,12 @@ use Rattle.heap_world.proofs.RootChanges.{root_written, roots_written, usable_wr
 
 -- the facts of a seat after a word that may be used was stored into a root
 seated_written : (c : Config) (u w : World) (seat made dst value : ℕ) → w.block ≡ u.block → w.graph.count ≡ u.graph.count → w.memory ≡ write u.memory (Root seat dst) value
-    → IsUsable u.block value → IsSeatedIn c u seat made false → IsSeatedIn c w seat made false
+    → UsableIn c u value → IsSeatedIn c u seat made false → IsSeatedIn c w seat made false
 seated_written c u w seat made dst value block count memory new seated = record {
   below = seated.below;
   counted = ap (λ f. f (seat + 1)) count ∙ seated.counted;
   usable = λ i below. subst (λ b. IsUsable b (w.memory (Root seat i))) (sym block)
-      (subst (λ (m : Word → ℕ). IsUsable u.block (m (Root seat i))) (sym memory) (usable_written u.block u.memory seat dst value seated.usable new i below));
+      (subst (λ (m : Word → ℕ). UsableIn c u (m (Root seat i))) (sym memory) (usable_written u.block u.memory seat dst value seated.usable new i below));
   unasked = λ calm. let was = seated.unasked calm in (
     ap (λ (m : Word → ℕ). m (Wait seat)) memory ∙ was.0,
     ap (λ (m : Word → ℕ). m (Answer seat)) memory ∙ was.1,
@@ -66,7 +66,7 @@ module _ (c : Config) (u : World) (seat made : ℕ) (kept : Kept) (command : Com
             rw mine.facts.0
             (leaving c _ seat made kept command r
             (seated_written c u (accessed c u (at_spot (Showing value (show.StoreRoot r)))) seat made dst value refl refl refl (usable_now u.block value _ stands) mine.seated)
-            (mine.marking.records, mine.marking.scans)
+            (mine.marking.records, mine.marking.scans, mine.copying.copies_is, mine.copying.works_none)
             (λ i below. subst (λ word. Points u.block word (u.graph.root (seat + 1) i)) (root_written u.memory seat dst value i) (mine.roots i below)) mine.hands);
         others = λ j d. let marks = marks_in c u (accessed c u (at_spot (Showing value (show.StoreRoot r)))).memory (accessed c u (at_spot (Showing value (show.StoreRoot r)))).graph j refl (λ n. refl) (λ t. refl) (λ t k. refl) (λ a. refl) in search (arith, nat_tests, marks);
       }
@@ -78,7 +78,7 @@ module _ (c : Config) (u : World) (seat made : ℕ) (kept : Kept) (command : Com
 
   -- A step that stores a reference into a root settles the reply Ok of a command which makes that root the reference.
   root_step : (value : ℕ) (v : Reference) → Shared c u → Mine c u (at_spot (StoreRoot value)) command fixed
-      → outcome u.graph (seat + 1) command ≡ answers reply.Ok (with_root u.graph (seat + 1) dst v) → Points u.block value v → IsUsable u.block value
+      → outcome u.graph (seat + 1) command ≡ answers reply.Ok (with_root u.graph (seat + 1) dst v) → Points u.block value v → UsableIn c u value
       → Stepped c u (at_spot (StoreRoot value)) command Nothing fixed
   root_step value v shared mine is stands new = record {
     world = rooted_world value v;
@@ -87,7 +87,7 @@ module _ (c : Config) (u : World) (seat made : ℕ) (kept : Kept) (command : Com
     legal = legal_answer u.graph seat command reply.Ok refl (ap (λ o. o.reply) is);
     settles = λ r e. (mine.facts.0, refl);
     shared = shared;
-    mine = leaving c _ seat made kept command reply.Ok (seated_written c u (rooted_world value v) seat made dst value refl refl refl new mine.seated) (mine.marking.records, mine.marking.scans) (roots_written u.block u.memory u.graph.root seat dst value v mine.roots stands) mine.hands;
+    mine = leaving c _ seat made kept command reply.Ok (seated_written c u (rooted_world value v) seat made dst value refl refl refl new mine.seated) (mine.marking.records, mine.marking.scans, mine.copying.copies_is, mine.copying.works_none) (roots_written u.block u.memory u.graph.root seat dst value v mine.roots stands) mine.hands;
     others = λ j d. let marks = marks_in c u (rooted_world value v).memory (rooted_world value v).graph j refl (λ n. refl) (λ t. refl) (λ t k. refl) (λ a. refl) in search (arith, nat_tests, marks);
   }
 

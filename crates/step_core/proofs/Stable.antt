@@ -48,19 +48,19 @@ module _ (c : Config) (u w : World) (seat : ℕ) (keeps : Keeps c seat u w) wher
   root_stays word index is = rw (keeps.roots index) (points_stay u.block w.block keeps.names word _ is)
 
   -- so does the word of a root that was loaded
-  root_word_stays : (word index : ℕ) → IsRootWord u seat index word → IsRootWord w seat index word
+  root_word_stays : (word index : ℕ) → IsRootWord c u seat index word → IsRootWord c w seat index word
   root_word_stays word index is = record { stands = root_stays word index is.stands; usable = usable_stays u w keeps.targets word is.usable }
 
   -- also of a command
-  loaded_stays : (k : Command) (i word : ℕ) → HasRoot u seat k i word → HasRoot w seat k i word
+  loaded_stays : (k : Command) (i word : ℕ) → HasRoot c u seat k i word → HasRoot c w seat k i word
   loaded_stays k i word has below = root_word_stays word (root_of k i) (has below)
 
   -- and that of the first one
-  first_stays : (k : Command) (first : ℕ) → HasFirst u seat k first → HasFirst w seat k first
+  first_stays : (k : Command) (first : ℕ) → HasFirst c u seat k first → HasFirst c w seat k first
   first_stays k first has = record { some = has.some; first_is = loaded_stays k 0 first has.first_is; not_null = has.not_null }
 
   -- an object in hand stays
-  abbrev object_stays : (root object : ℕ) → HasObject u seat root object → HasObject w seat root object
+  abbrev object_stays : (root object : ℕ) → HasObject c u seat root object → HasObject c w seat root object
   object_stays root object has = record {
     name = has.name;
     refs = has.refs;
@@ -78,11 +78,11 @@ module _ (c : Config) (u w : World) (seat : ℕ) (keeps : Keeps c seat u w) wher
   }
 
   -- what a Get counts on stays
-  pub get_stays : (command : Command) (object field dst : ℕ) → IsGet u seat command object field dst → IsGet w seat command object field dst
+  pub get_stays : (command : Command) (object field dst : ℕ) → IsGet c u seat command object field dst → IsGet c w seat command object field dst
   get_stays command object field dst is = record { src = is.src; is = is.is; small = is.small; of = object_stays is.src object is.of; below = is.below }
 
   -- what a Set counts on stays
-  pub set_stays : (command : Command) (object field value : ℕ) → IsSet u seat command object field value → IsSet w seat command object field value
+  pub set_stays : (command : Command) (object field value : ℕ) → IsSet c u seat command object field value → IsSet c w seat command object field value
   set_stays command object field value is = record {
     obj = is.obj;
     val = is.val;
@@ -93,7 +93,7 @@ module _ (c : Config) (u w : World) (seat : ℕ) (keeps : Keeps c seat u w) wher
   }
 
   -- what a Cas counts on stays
-  pub cas_stays : (command : Command) (object field expect value : ℕ) → IsCas u seat command object field expect value → IsCas w seat command object field expect value
+  pub cas_stays : (command : Command) (object field expect value : ℕ) → IsCas c u seat command object field expect value → IsCas c w seat command object field expect value
   cas_stays command object field expect value is = record {
     obj = is.obj;
     expected = is.expected;
@@ -106,7 +106,7 @@ module _ (c : Config) (u w : World) (seat : ℕ) (keeps : Keeps c seat u w) wher
   }
 
   -- what an Xchg counts on stays
-  pub xchg_stays : (command : Command) (object field value dst : ℕ) → IsXchg u seat command object field value dst → IsXchg w seat command object field value dst
+  pub xchg_stays : (command : Command) (object field value dst : ℕ) → IsXchg c u seat command object field value dst → IsXchg c w seat command object field value dst
   xchg_stays command object field value dst is = record {
     obj = is.obj;
     val = is.val;
@@ -118,11 +118,11 @@ module _ (c : Config) (u w : World) (seat : ℕ) (keeps : Keeps c seat u w) wher
   }
 
   -- what an Rd counts on stays
-  rd_stays : (command : Command) (object refs index : ℕ) → IsRd u seat command object refs index → IsRd w seat command object refs index
+  rd_stays : (command : Command) (object refs index : ℕ) → IsRd c u seat command object refs index → IsRd c w seat command object refs index
   rd_stays command object refs index is = record { obj = is.obj; is = is.is; of = object_stays is.obj object is.of; refs_are = is.refs_are; below = is.below }
 
   -- what a Wr counts on stays
-  wr_stays : (command : Command) (object refs index value : ℕ) → IsWr u seat command object refs index value → IsWr w seat command object refs index value
+  wr_stays : (command : Command) (object refs index value : ℕ) → IsWr c u seat command object refs index value → IsWr c w seat command object refs index value
   wr_stays command object refs index value is = record { obj = is.obj; is = is.is; of = object_stays is.obj object is.of; refs_are = is.refs_are; below = is.below }
 
   -- a reference that was found stays
@@ -130,7 +130,7 @@ module _ (c : Config) (u w : World) (seat : ℕ) (keeps : Keeps c seat u w) wher
   found_stays fixed value dst is = record { name = is.name; settled = is.settled; is = keeps.names value is.name is.is; small = is.small }
 
   -- what a Copy counts on stays
-  copy_stays : (command : Command) (dst value : ℕ) → IsCopy u seat command dst value → IsCopy w seat command dst value
+  copy_stays : (command : Command) (dst value : ℕ) → IsCopy c u seat command dst value → IsCopy c w seat command dst value
   copy_stays command dst value is = record { src = is.src; is = is.is; value_is = root_word_stays value is.src is.value_is }
 
   -- that nothing is promised to it stays
@@ -190,7 +190,7 @@ module _ (c : Config) (u w : World) (seat : ℕ) (keeps : Keeps c seat u w) wher
       is
 
   -- what a mutator counts on in each part of a call stays
-  load_stays : (made : ℕ) (k command : Command) (fixed : Option Reply) (at : LoadSpot) → LoadFacts u seat made k command fixed at → LoadFacts w seat made k command fixed at
+  load_stays : (made : ℕ) (k command : Command) (fixed : Option Reply) (at : LoadSpot) → LoadFacts c u seat made k command fixed at → LoadFacts c w seat made k command fixed at
   load_stays made k command fixed load.First facts = facts
   load_stays made k command fixed (load.Second first) facts = (facts.0, facts.1, first_stays k first facts.2)
   load_stays made k command fixed (load.Third first second) facts = (facts.0, facts.1, first_stays k first facts.2, loaded_stays k 1 second facts.3)
@@ -213,11 +213,11 @@ module _ (c : Config) (u w : World) (seat : ℕ) (keeps : Keeps c seat u w) wher
   record_stays k command fixed address overwrites.Xchg facts = found_stays fixed address (dst_of k) facts
   record_stays k command fixed address overwrites.Cas facts = facts
 
-  number_stays : (k command : Command) (fixed : Option Reply) (object refs : ℕ) (at : NumberSpot) → NumberFacts u seat k command fixed object refs at → NumberFacts w seat k command fixed object refs at
+  number_stays : (k command : Command) (fixed : Option Reply) (object refs : ℕ) (at : NumberSpot) → NumberFacts c u seat k command fixed object refs at → NumberFacts c w seat k command fixed object refs at
   number_stays k command fixed object refs numbers.Load facts = (facts.0, rd_stays command object refs (index_of k) facts.1)
   number_stays k command fixed object refs numbers.Store facts = (facts.0, wr_stays command object refs (index_of k) (number_of k) facts.1)
 
-  show_stays : (k : Command) (fixed : Option Reply) (value : ℕ) (at : ShowSpot) → ShowFacts u k fixed value at → ShowFacts w k fixed value at
+  show_stays : (k : Command) (fixed : Option Reply) (value : ℕ) (at : ShowSpot) → ShowFacts c u k fixed value at → ShowFacts c w k fixed value at
   show_stays k fixed value show.LoadName facts = found_stays fixed value (dst_of k) facts
   show_stays k fixed value (show.StoreRoot reply) facts = facts
 
@@ -266,7 +266,7 @@ module _ (c : Config) (u w : World) (seat : ℕ) (keeps : Keeps c seat u w) wher
   seated_stays made waiting seated = record {
     below = seated.below;
     counted = keeps.count ∙ seated.counted;
-    usable = λ i below. subst (λ word. IsUsable w.block word) (sym (keeps.root_words i)) (usable_stays u w keeps.targets _ (seated.usable i below));
+    usable = λ i below. subst (λ word. UsableIn c w word) (sym (keeps.root_words i)) (usable_stays u w keeps.targets _ (seated.usable i below));
     unasked = λ calm. let was = seated.unasked calm in (keeps.wait ∙ was.0, keeps.answer ∙ was.1, unpromised_stays was.2);
   }
 

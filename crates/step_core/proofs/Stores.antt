@@ -77,7 +77,7 @@ module _ (g : Graph) (t obj : ℕ) (name : Name) (o : Object) (root_is : g.root 
 module _ (c : Config) (u : World) (m : Mutating) (object refs nums at value : ℕ) (name : Name) (o : Object) (root : ℕ → ℕ → Reference) (command : Command) (fixed : Option Reply) (r : Reply) where
   -- the step is as it should be
   store_settles : touched u.memory (touch_of c m Nothing) ≡ write u.memory (Heap at) value → told_of u.memory m ≡ Some r → given_at m.spot ≡ None → fixed ≡ None → is_full r ≡ false
-      → Shared c u → Target u.block object refs nums name → object + 3 ≤ at → at < object + (3 + refs + nums) → ((i : ℕ) → i < refs → at ≡ object + 3 + i → IsCovered c u object i)
+      → Shared c u → TargetIn c u object refs nums name → object + 3 ≤ at → at < object + (3 + refs + nums) → ((i : ℕ) → i < refs → at ≡ object + 3 + i → IsCovered c u object i)
       → IsThing (updated (λ a. u.memory (Heap a)) at value) u.block object refs nums name o
       → outcome u.graph (m.seat + 1) command ≡ answers r (changed u.graph name o root)
       → ((seat i : ℕ) → seat ≢ m.seat → root (seat + 1) i ≡ u.graph.root (seat + 1) i)
@@ -95,7 +95,7 @@ module _ (c : Config) (u : World) (m : Mutating) (object refs nums at value : �
   }
 
 -- A step that makes a reference field of an object in hand that of a root of the mutator.
-module _ (c : Config) (u : World) (m : Mutating) (object field value obj val : ℕ) (shared : Shared c u) (of : HasObject u m.seat obj object) (below : field < of.refs) (value_is : Points u.block value (u.graph.root (m.seat + 1) val)) (covered : IsCovered c u object field) (root : ℕ → ℕ → Reference) where
+module _ (c : Config) (u : World) (m : Mutating) (object field value obj val : ℕ) (shared : Shared c u) (of : HasObject c u m.seat obj object) (below : field < of.refs) (value_is : Points u.block value (u.graph.root (m.seat + 1) val)) (covered : IsCovered c u object field) (root : ℕ → ℕ → Reference) where
   -- the object after the store
   abbrev object_then : Object
   object_then = with_reference (object_in c u shared m.seat obj object of).0 field (u.graph.root (m.seat + 1) val)
@@ -151,10 +151,10 @@ module _ (c : Config) (u : World) (seat made : ℕ) (kept : Kept) (command : Com
       let answered = set_outcome u.graph (seat + 1) is.obj is.of.name o.0 is.of.root_is o.1 field is.val v.0 v.1 in
       field_settles c u (at_spot (OnField object (fields.Store value))) object field value is.obj is.val shared is.of is.below is.value_is.stands mine.facts.2 u.graph.root command fixed reply.Ok
       refl refl refl mine.facts.0 refl (ap (λ k. outcome u.graph (seat + 1) k) is.is ∙ answered) (λ j i d. refl)
-      (leaving c _ seat made kept command reply.Ok mine.seated (mine.marking.records, mine.marking.scans) mine.roots mine.hands)
+      (leaving c _ seat made kept command reply.Ok mine.seated (mine.marking.records, mine.marking.scans, mine.copying.copies_is, mine.copying.works_none) mine.roots mine.hands)
 
   -- The swap of a field settles the reference that it had. In a world in which marking needs the field no more:
-  swap_settles : (w : World) (object value : ℕ) → (shared : Shared c w) → fixed ≡ None → (is : IsXchg w seat command object field value dst) → (covered : IsCovered c w object field)
+  swap_settles : (w : World) (object value : ℕ) → (shared : Shared c w) → fixed ≡ None → (is : IsXchg c w seat command object field value dst) → (covered : IsCovered c w object field)
       → ((v : Reference) → Points w.block (w.memory (Heap (object + 3 + field))) v → let root : ℕ → ℕ → Reference = (with_root w.graph (seat + 1) dst v).root in
       Shared c (world_then c w (at_spot (OnField object (fields.Swap value))) object field value is.obj is.val shared is.of is.below is.value_is.stands covered root)
       → Mine c (world_then c w (at_spot (OnField object (fields.Swap value))) object field value is.obj is.val shared is.of is.below is.value_is.stands covered root)
@@ -203,7 +203,7 @@ module _ (c : Config) (u : World) (seat made : ℕ) (kept : Kept) (command : Com
 
   -- The field has the word that was found in it: it changes. In a world in which marking needs the field no more:
   exchange_settles : (w : World) (object found expect value : ℕ) → (w.memory (Heap (object + 3 + field)) == found) ≡ true → (shared : Shared c w) → fixed ≡ None
-      → (is : IsCas w seat command object field expect value) → found ≡ expect → (covered : IsCovered c w object field)
+      → (is : IsCas c w seat command object field expect value) → found ≡ expect → (covered : IsCovered c w object field)
       → (Shared c (world_then c w (at_spot (OnField object (fields.Exchange found expect value))) object field value is.obj is.val shared is.of is.below is.value_is.stands covered w.graph.root)
       → Mine c (world_then c w (at_spot (OnField object (fields.Exchange found expect value))) object field value is.obj is.val shared is.of is.below is.value_is.stands covered w.graph.root)
       (at_spot (overwritten kept.phase found overwrites.Cas)) command (Some reply.Yes))
@@ -224,7 +224,7 @@ module _ (c : Config) (u : World) (seat made : ℕ) (kept : Kept) (command : Com
       → Overwrites c u seat kept.phase object field found → Stepped c u (at_spot (OnField object (fields.Exchange found expect value))) command Nothing fixed
   exchange_field object found expect value same shared mine (Overwrites.leaves other covered) =
       exchange_settles u object found expect value same shared mine.facts.0 mine.facts.1 mine.facts.2 covered
-      (λ shared_now. rw other (leaving c _ seat made kept command reply.Yes mine.seated (mine.marking.records, mine.marking.scans) mine.roots mine.hands))
+      (λ shared_now. rw other (leaving c _ seat made kept command reply.Yes mine.seated (mine.marking.records, mine.marking.scans, mine.copying.copies_is, mine.copying.works_none) mine.roots mine.hands))
   exchange_field object found expect value same shared mine (Overwrites.takes records held covered) =
       stepped_in_hand c u (at_spot (OnField object (fields.Exchange found expect value))) found command fixed held
       (exchange_settles (with_in_hand u seat found) object found expect value same held.shared mine.facts.0 (cas_stays c u (with_in_hand u seat found) seat held.keeps command object field expect value mine.facts.1) mine.facts.2 covered
@@ -259,6 +259,7 @@ module _ (c : Config) (u : World) (seat made : ℕ) (kept : Kept) (command : Com
       seated = mine.seated;
       ready = let ready = mine.ready in grind (arith, nat_tests);
       marking = mine.marking;
+      copying = mine.copying;
       roots = mine.roots;
       hands = mine.hands;
       facts = (mine.facts.0, mine.facts.1);
@@ -287,4 +288,4 @@ module _ (c : Config) (u : World) (seat made : ℕ) (kept : Kept) (command : Com
       refl refl refl mine.facts.0 refl shared is.of.target (omega arith) (omega (arith, is.below, is.refs_are)) (λ i small same. absurd (let refs_are = is.refs_are in omega (arith, small, same, refs_are)))
       (subst (λ (x : ℕ). IsThing (updated (λ a. u.memory (Heap a)) (object + 3 + x + index) value) u.block object is.of.refs is.of.nums is.of.name (with_value o.0 index value)) (sym is.refs_are) stands)
       (ap (λ k. outcome u.graph (seat + 1) k) is.is ∙ answered) (λ j i d. refl)
-      (leaving c _ seat made kept command reply.Ok mine.seated (mine.marking.records, mine.marking.scans) mine.roots mine.hands)
+      (leaving c _ seat made kept command reply.Ok mine.seated (mine.marking.records, mine.marking.scans, mine.copying.copies_is, mine.copying.works_none) mine.roots mine.hands)

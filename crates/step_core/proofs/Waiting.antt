@@ -56,6 +56,7 @@ module _ (c : Config) (u : World) (seat made : ℕ) (kept : Kept) (command : Com
       seated = record { below = mine.seated.below; counted = mine.seated.counted; usable = mine.seated.usable; unasked = λ no. absurd (cc (no)) };
       ready = refl;
       marking = mine.marking;
+      copying = mine.copying;
       roots = mine.roots;
       hands = mine.hands;
       facts = (
@@ -95,6 +96,7 @@ module _ (c : Config) (u : World) (seat made : ℕ) (kept : Kept) (command : Com
       seated = mine.seated;
       ready = ready_of _ true (state_word c seat mine.seated.below) refl;
       marking = mine.marking;
+      copying = mine.copying;
       roots = mine.roots;
       hands = mine.hands;
       facts = (asking_stays c u (accessed c u (at_spot wait.AskRoom)) seat ask_keeps made kept.command command fixed (asking.asks refs nums) mine.facts, now_waits (u.memory Ask));
@@ -115,6 +117,7 @@ module _ (c : Config) (u : World) (seat made : ℕ) (kept : Kept) (command : Com
       seated = mine.seated;
       ready = ready_of _ true (lt-ltb _ _ mine.seated.below) refl;
       marking = mine.marking;
+      copying = mine.copying;
       roots = mine.roots;
       hands = mine.hands;
       facts = inl (heard_stays c u (accessed c u (at_spot wait.StepOut)) seat (state_keeps c u seat seat 0) (λ is. is) made kept.command command fixed mine.facts);
@@ -145,6 +148,7 @@ module _ (c : Config) (u : World) (seat made : ℕ) (kept : Kept) (command : Com
         seated = mine.seated;
         ready = ready_of _ true (state_word c seat mine.seated.below) refl;
         marking = mine.marking;
+        copying = mine.copying;
         roots = mine.roots;
         hands = mine.hands;
         facts = answered some;
@@ -163,6 +167,7 @@ module _ (c : Config) (u : World) (seat made : ℕ) (kept : Kept) (command : Com
         seated = mine.seated;
         ready = ready_of _ true (lt-ltb _ _ mine.seated.below) refl;
         marking = mine.marking;
+        copying = mine.copying;
         roots = mine.roots;
         hands = mine.hands;
         facts = ⊎_elim
@@ -175,6 +180,7 @@ module _ (c : Config) (u : World) (seat made : ℕ) (kept : Kept) (command : Com
             seated = mine.seated;
             ready = given_ready c seat made kept command fixed given.0 (λ r. u.memory (Top r)) u.block (u.memory (Answer seat)) shared.parsable.plotted given.1.2.here mine.seated.below;
             marking = mine.marking;
+            copying = mine.copying;
             roots = mine.roots;
             hands = mine.hands;
             facts = (given, refl);
@@ -209,6 +215,7 @@ module _ (c : Config) (u : World) (seat made : ℕ) (kept : Kept) (command : Com
       seated = record { below = mine.seated.below; counted = count_made has; usable = usable_made has mine.seated.usable; unasked = λ no. absurd (cc (no)) };
       ready = ready_of _ true (lt-ltb _ _ mine.seated.below) refl;
       marking = mine.marking;
+      copying = mine.copying;
       roots = roots_made has mine.roots;
       hands = λ a words is. mine.hands a words (hand_before has a seat words is).1;
       facts = (refl, mine.facts.0.1.0, λ a words is. let old = promise_before has a seat words is in old.0 (promise.only a words old.1));
@@ -239,7 +246,7 @@ module _ (c : Config) (u : World) (seat made : ℕ) (kept : Kept) (command : Com
     mine = rw mine.facts.0
         (leaving c (accessed c u (at_spot (wait.ClearAnswer r))) seat made kept command r
         (record { below = mine.seated.below; counted = mine.seated.counted; usable = mine.seated.usable; unasked = λ calm. (mine.facts.1, cond-true (seat == seat) _ _ (eq-eqb seat seat refl), mine.facts.2) })
-        (mine.marking.records, mine.marking.scans) mine.roots mine.hands);
+        (mine.marking.records, mine.marking.scans, mine.copying.copies_is, mine.copying.works_none) mine.roots mine.hands);
     others = λ j d. let marks = marks_in c u (accessed c u (at_spot (wait.ClearAnswer r))).memory u.graph j refl (λ n. refl) (λ t. refl) (λ t k. refl) (λ a. refl) in search (arith, nat_tests, marks);
   }
 
