@@ -14,7 +14,7 @@ use Rattle.image_graph.specs.Holds.{HoldsSome}
 use Rattle.mark_laws.specs.Init.{init_marked}
 use Rattle.mark_laws.specs.Final.{final_marked, mark_ended}
 use Rattle.mark_core.specs.Result.{MarksSome}
-use Rattle.mark_pauses.specs.Collect.{collected, CanPauseSome}
+use Rattle.evac_pauses.specs.Collect.{collected, CanPauseSome}
 
 -- they hold some graph
 pub can_hold : (c : Config) (m : Word → ℕ) → CanPauseSome c m → HoldsSome c m

@@ -32,7 +32,7 @@ impl Control {
     ghost use Rattle.image_graph.specs.Left.{ShowsTheGraph};
     ghost use Rattle.control_steps.specs.Rows.{is_gone, control_place, control_access, control_next, control_says};
     ghost use Rattle.control_steps.specs.Waits.{WaitsAt};
-    ghost use Rattle.mark_pauses.specs.Collect.{collect_image};
+    ghost use Rattle.evac_pauses.specs.Collect.{collect_image};
     ghost use Rattle.control.specs.Fit.{IsFit};
     ghost use Rattle.control.specs.Image.{image_from, is_storing, IsLoadedFrom};
     ghost use Rattle.control.specs.Seen.{config_in, seen_control};

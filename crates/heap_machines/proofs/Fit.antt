@@ -11,7 +11,7 @@ use Rattle.control_steps.specs.declared.spot.ControlSpot.{ControlSpot}
 use Rattle.control_steps.specs.declared.spot.ControlSpot.TheVariants.{Scanning, LoadWord}
 use Rattle.control_steps.specs.Ready.{ScanGoesOn}
 use Rattle.control.specs.Fit.{fits_with}
-use Rattle.mark_pauses.specs.Collect.{CanPauseSome}
+use Rattle.evac_pauses.specs.Collect.{CanPauseSome}
 use Rattle.mark_pauses.proofs.Standing.{representing_can_collect}
 use Rattle.step_core.specs.Actor.{Machine, mutating, helping, controlling}
 use Rattle.step_core.specs.Fit.{IsWhole, IsFitFor}
