@@ -1,5 +1,5 @@
 -- What a mutator has asked for stays so where its words stay, and what is promised to it with its words.
-use Rattle.std.proofs.Common.{◌≡◌, ℕ, ◌+◌, ◌<◌, ◌≤◌, Some, refl, sym, ◌∙◌, subst, arith}
+use Rattle.std.proofs.Common.{◌≡◌, ℕ, ◌+◌, ◌<◌, Some, refl, sym, ◌∙◌, subst, arith}
 use Rattle.heap_words.specs.Words.{Word, Wait, Answer, Heap}
 use Rattle.heap_world.specs.World.{Plot, promised}
 use Rattle.heap_world.specs.Asking.{Asking, nothing, asks, refused, given, IsPromise, IsAsked}

@@ -1,6 +1,5 @@
 -- The pause that ends marking and begins evacuation keeps the graph.
-use Rattle.std.proofs.Common.{◌≡◌, ◌≢◌, ℕ, ◌<◌, ◌==◌, if◌then◌else◌, Bool, true, false, ⊎_elim, refl, sym, ap, ◌∙◌, subst, arith}
-use Rattle.std.specs.Int.{bit_at}
+use Rattle.std.proofs.Common.{◌≡◌, ℕ, ◌<◌, ◌==◌, true, false, ⊎_elim, refl, sym, subst, arith}
 use Rattle.std.proofs.Math.Bool.{Bool-set}
 use Rattle.std.proofs.Math.Bridge.{le_prop}
 use Rattle.std.proofs.Math.Logic.{∥∥₁_elim}
@@ -8,7 +7,7 @@ use Rattle.std.proofs.Math.Nat.{ℕ_set}
 use Rattle.std.proofs.Math.Path.{fun_ext}
 use Rattle.std.proofs.lemmas.Bool.{cases_Bool, cond-true, cond-false}
 use Rattle.heap_words.specs.declared.config.Config.{Config}
-use Rattle.heap_words.specs.Words.{Word, Phase, Ask}
+use Rattle.heap_words.specs.Words.{Word, Phase}
 use Rattle.regions.specs.Sets.{IsIn}
 use Rattle.shen_graph.specs.Graph.{Graph}
 use Rattle.heap_world.specs.World.{Plot, Ghost}
@@ -21,12 +20,12 @@ use Rattle.mark_pauses.specs.MarkedOut.{IsMarkedOut}
 use Rattle.mark_pauses.proofs.Standing.{marking_stands, end_gives}
 use Rattle.cset_laws.specs.Live.{live_words, is_candidate, IsCandidate}
 use Rattle.cset_laws.specs.Choice.{copy_limit, chosen}
-use Rattle.cset_laws.specs.Begun.{naming_places, is_collected, with_set, roots_cleared, evac_started, evac_spared, evac_begun, CanBegin, CanClearInTurn}
+use Rattle.cset_laws.specs.Begun.{naming_places, is_collected, with_set, roots_cleared, evac_started, evac_spared, evac_begun, CanBegin}
 use Rattle.cset_laws.proofs.Candidate.{candidate_is_candidate}
 use Rattle.cset_laws.proofs.Front.{member_is}
 use Rattle.cset_laws.proofs.Clearing.{roots_are_cleared, can_clear_in_turn}
 use Rattle.cset_laws.proofs.Ready.{evacuation_can_begin}
-use Rattle.evac_pauses.specs.Collect.{evac_next, CanPauseSome}
+use Rattle.evac_pauses.specs.Collect.{evac_next}
 use Rattle.evac_pauses.specs.Laws.{EndedCanBegin, EvacuationBegins}
 use Rattle.evac_pauses.proofs.Places.{IsPlace, are_places, places_have}
 use Rattle.evac_pauses.proofs.Turns.{IsClearing, all_cleared}

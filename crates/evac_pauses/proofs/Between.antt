@@ -1,5 +1,5 @@
 -- What holds of the words in the pause that begins evacuation, between two objects that are copied: roots and answers aside.
-use Rattle.std.proofs.Common.{◌≡◌, ℕ, ◌+◌, ◌<◌, ◌≤◌, ◌⊎◌, Option, Some, None, refl, sym, ap, ◌∙◌}
+use Rattle.std.proofs.Common.{◌≡◌, ℕ, ◌<◌, ◌≤◌, ◌⊎◌, Option, Some, refl, ap}
 use Rattle.heap_words.specs.declared.config.Config.{Config}
 use Rattle.heap_words.specs.Words.{Word, Cset, Free, Top, Tams, Current, Black, Heap}
 use Rattle.regions.specs.Sets.{IsIn}

@@ -1,22 +1,21 @@
 -- An object is copied out of the collection set: what holds between two turns holds again, with the object at its new place and an
 -- old copy where it was.
-use Rattle.std.proofs.Common.{◌≡◌, ◌≢◌, ℕ, ◌+◌, ◌<◌, ◌≤◌, ◌⊎◌, Option, Some, None, inl, inr, ⊎_elim, refl, sym, ap, ◌∙◌, subst, arith}
+use Rattle.std.proofs.Common.{◌≡◌, ◌≢◌, ℕ, ◌+◌, ◌<◌, ◌≤◌, ◌⊎◌, Option, Some, inl, inr, ⊎_elim, refl, sym, ap, ◌∙◌, subst, arith}
 use Rattle.std.specs.Prelude.{bit_and}
 use Rattle.std.specs.Int.{bit_at}
 use Rattle.std.proofs.Math.Path.{fun_ext}
 use Rattle.std.proofs.lemmas.Bool.{cases_eq}
 use Rattle.std.proofs.lemmas.Nat.{and_le_l}
-use Rattle.std.proofs.lemmas.Option.{same_Some}
 use Rattle.heap_words.specs.declared.config.Config.{Config}
 use Rattle.heap_words.specs.Words.{Word, Cset, Free, Top, Tams, Current, Black, Heap}
 use Rattle.heap_words.specs.Encoding.{plain_header, header_word, shape_word, object_words}
 use Rattle.regions.specs.Place.{base_of, region_with}
-use Rattle.regions.specs.Sets.{IsIn, IsOutside, all_but}
+use Rattle.regions.specs.Sets.{IsIn, all_but}
 use Rattle.regions.proofs.PlaceLemmas.{regions_tile}
 use Rattle.shen_graph.specs.declared.name.Name.{Name}
 use Rattle.shen_graph.specs.Graph.{Graph}
 use Rattle.mark_bits.specs.Marks.{HasMark}
-use Rattle.heap_world.specs.World.{Block, thing, moved, spent, hand, promised, filler, words_of, Plot, name_at, IsCollected, IsPlotted, IsFilled, IsThing, IsParsable, AreObjects, IsFreeWord, AreCurrent, IsBlank, AreUnwritten, HaveMoved, IsMoved, IsSpent, IsMarkable, IsYoung, HasCopy, body_at}
+use Rattle.heap_world.specs.World.{Block, thing, moved, spent, hand, promised, filler, words_of, Plot, name_at, IsCollected, IsPlotted, IsFilled, IsThing, IsParsable, AreObjects, IsFreeWord, AreCurrent, IsBlank, AreUnwritten, IsMoved, IsSpent, IsMarkable, IsYoung, HasCopy, body_at}
 use Rattle.heap_world.proofs.Updates.{updated, updated_same, updated_there, updated_else}
 use Rattle.heap_world.proofs.Pointing.{named_piece}
 use Rattle.heap_world.proofs.Pieces.{some_words, beside, piece_cases, object_reads}
@@ -28,7 +27,7 @@ use Rattle.cset_laws.specs.Copied.{MayChange, top_address, copied_to, copied_out
 use Rattle.cset_laws.proofs.CopiedOut.{copied_as}
 use Rattle.evac_pauses.proofs.Replaced.{plotted_still, filled_still}
 use Rattle.evac_pauses.proofs.Copied.{object_copied, blank_copied}
-use Rattle.evac_pauses.proofs.Between.{IsBetween, AreBetween, IsLive, old_of, old_words, old_name, old_is_old, was_thing, was_promised, live_is_live, live_markable, old_has_copy}
+use Rattle.evac_pauses.proofs.Between.{AreBetween, IsLive, old_of, old_words, old_name, old_is_old, was_thing, was_promised, live_is_live, live_markable, old_has_copy}
 
 -- What holds once a piece was copied from an address to another one: what held between two turns, and what of it is where.
 pub record HasCopied (c : Config) (m n : Word → ℕ) (block plot : Plot) (owner : ℕ → Option ℕ) (g : Graph) (a to : ℕ) (x : Block) : Type 0 where

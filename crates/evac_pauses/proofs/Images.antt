@@ -1,5 +1,5 @@
 -- The words of an image after a pause, by their names.
-use Rattle.std.proofs.Common.{◌≡◌, ℕ, Bool, false, List, ◌++◌, length, replicate, refl, ap}
+use Rattle.std.proofs.Common.{◌≡◌, ℕ, false, List, ◌++◌, length, replicate, refl, ap}
 use Rattle.heap_words.specs.declared.config.Config.{Config}
 use Rattle.heap_words.specs.Words.{Word, Pause, Left, End, State, Phase, IsWord, is_image, image_start, table_words, view}
 use Rattle.heap_world.specs.Change.{image_words, image_view}

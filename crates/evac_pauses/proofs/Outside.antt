@@ -1,14 +1,14 @@
 -- What the beginning of evacuation leaves as it was: words that are no words of the table read 0 still, and words before the image
 -- stay.
-use Rattle.std.proofs.Common.{◌≡◌, ◌≢◌, ℕ, ◌+◌, ◌%◌, ◌<◌, ◌≤◌, ◌⊎◌, ◌==◌, if◌then◌else◌, Bool, true, false, List, [], ◌∷◌, Option, Some, None, inl, inr, ⊎_elim, refl, sym, ap, ◌∙◌, subst, arith}
+use Rattle.std.proofs.Common.{◌≡◌, ◌≢◌, ℕ, ◌+◌, ◌<◌, ◌≤◌, ◌⊎◌, ◌==◌, if◌then◌else◌, Bool, true, false, List, [], ◌∷◌, Option, Some, None, inl, inr, ⊎_elim, refl, sym, ap, ◌∙◌, subst, arith}
 use Rattle.std.specs.Prelude.{Contains}
-use Rattle.std.proofs.lemmas.Bool.{cases_Bool, cases_eq, cases_lt, cond-true, cond-false, true≢false}
+use Rattle.std.proofs.lemmas.Bool.{cases_Bool, cases_lt, cond-true, cond-false, true≢false}
 use Rattle.std.proofs.lemmas.Nat.{mod_below}
 use Rattle.heap_words.specs.declared.config.Config.{Config}
-use Rattle.heap_words.specs.Words.{Word, Pause, Left, End, State, Phase, Cset, Evac, Claim, Free, Top, Root, Answer, Heap, is_word, is_image, same_word, write}
+use Rattle.heap_words.specs.Words.{Word, Pause, Left, End, State, Phase, Cset, Evac, Claim, Free, Top, Root, Answer, Heap, is_word, is_image, same_word}
 use Rattle.heap_words.specs.Encoding.{is_forwarded}
 use Rattle.heap_words.proofs.Stores.{same_word_true, is_word_from}
-use Rattle.regions.specs.Place.{base_of, region_with, IsOf}
+use Rattle.regions.specs.Place.{region_with, IsOf}
 use Rattle.regions.proofs.PlaceLemmas.{regions_tile}
 use Rattle.image_laws.specs.Full.{now_in}
 use Rattle.pause_laws.proofs.Outside.{IsZeroOutside}
@@ -16,7 +16,7 @@ use Rattle.mark_laws.specs.Final.{final_marked}
 use Rattle.cset_laws.specs.Live.{words_at}
 use Rattle.cset_laws.specs.Choice.{chosen}
 use Rattle.cset_laws.specs.Copied.{MayChange, CanCopyOut, copy_room, copied_in, copied_to, copied_out, top_address, IsCopiedOut}
-use Rattle.cset_laws.specs.Begun.{IsNaming, naming_places, is_collected, moved_out, cleared_at, cleared_in_turn, with_set, evac_started, evac_spared, evac_begun, CanClear, CanClearInTurn}
+use Rattle.cset_laws.specs.Begun.{naming_places, is_collected, moved_out, cleared_at, cleared_in_turn, with_set, evac_started, evac_spared, evac_begun, CanClear, CanClearInTurn}
 use Rattle.cset_laws.proofs.Places.{some_words, of_its_region}
 use Rattle.evac_pauses.specs.Collect.{evac_next}
 use Rattle.evac_pauses.proofs.Places.{IsPlace, are_places}
@@ -37,17 +37,17 @@ module _ (c : Config) (m : Word → ℕ) (a : ℕ) (can : CanCopyOut c m a) (out
   other_heap : (x : ℕ) → is_word c (Heap x) ≡ false → (x ≢ a) × ((x < top_address c m out.region) ⊎ (top_address c m out.region + words_at m a ≤ x))
   other_heap x other = (
     λ same.
-    (let first : a + 0 ≡ x = omega (arith, same) in
-    no_word c (region_with c a) x can.of_region
-    (subst (IsOf c (region_with c a)) first (of_its_region c a 0 can.above (let inside = mod_below a c.region_words (some_words c) in omega (arith, inside)))) other),
+        (let first : a + 0 ≡ x = omega (arith, same) in
+        no_word c (region_with c a) x can.of_region
+        (subst (IsOf c (region_with c a)) first (of_its_region c a 0 can.above (let inside = mod_below a c.region_words (some_words c) in omega (arith, inside)))) other),
     ⊎_elim
-    (λ (before : x < top_address c m out.region). inl before)
-    (λ (least : top_address c m out.region ≤ x). ⊎_elim
-    (λ (within : x < top_address c m out.region + words_at m a).
-    let room = out.room in absurd (no_word c out.region x out.below (record { from = omega (arith, least); before = omega (arith, within, room) }) other))
-    (λ (behind : top_address c m out.region + words_at m a ≤ x). inr behind)
-    (cases_lt x (top_address c m out.region + words_at m a)))
-    (cases_lt x (top_address c m out.region)),
+        (λ (before : x < top_address c m out.region). inl before)
+        (λ (least : top_address c m out.region ≤ x). ⊎_elim
+        (λ (within : x < top_address c m out.region + words_at m a).
+        let room = out.room in absurd (no_word c out.region x out.below (record { from = omega (arith, least); before = omega (arith, within, room) }) other))
+        (λ (behind : top_address c m out.region + words_at m a ≤ x). inr behind)
+        (cases_lt x (top_address c m out.region + words_at m a)))
+        (cases_lt x (top_address c m out.region)),
   )
 
   copied_outside : IsZeroOutside c (copied_out c m a)

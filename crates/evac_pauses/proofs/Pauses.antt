@@ -1,8 +1,8 @@
 -- Beginning and ending marking, beginning evacuation, and collecting in full, is what a pause owes.
-use Rattle.std.proofs.Common.{◌≡◌, ◌≢◌, ℕ, ◌<◌, ◌≤◌, ◌==◌, ◌++◌, Bool, true, false, Option, List, replicate, refl, ⊎_elim, sym, ap, ◌∙◌, subst, arith}
+use Rattle.std.proofs.Common.{◌≡◌, ◌≢◌, ℕ, ◌<◌, ◌≤◌, ◌==◌, ◌++◌, Bool, true, false, Option, List, replicate, refl, ⊎_elim, sym, ◌∙◌, subst, arith}
 use Rattle.std.specs.Prelude.{if◌then◌else◌, ◌||◌, nat_le}
 use Rattle.std.specs.Int.{bit_at}
-use Rattle.std.proofs.lemmas.Bool.{cond-true, cond-false, cases_Bool, cases_eq, eq-eqb, eqb-true, le-leb, le-ltb, true≢false, false≢true, cases_lt}
+use Rattle.std.proofs.lemmas.Bool.{cond-true, cond-false, cases_Bool, cases_eq, eq-eqb, eqb-true, le-leb, le-ltb, true≢false, cases_lt}
 use Rattle.std.proofs.Math.Logic.{∥∥₁_elim}
 use Rattle.std.proofs.Math.Nat.{ℕ_set}
 use Rattle.std.proofs.Math.Path.{fun_ext}
@@ -24,7 +24,6 @@ use Rattle.pause_laws.proofs.Promises.{promises_of}
 use Rattle.pause_laws.proofs.Dead.{plain}
 use Rattle.pause_laws.proofs.Holding.{holds_by}
 use Rattle.mark_laws.specs.Init.{init_marked}
-use Rattle.mark_laws.specs.Facts.{IsMarking}
 use Rattle.mark_laws.specs.Final.{final_marked}
 use Rattle.mark_laws.specs.Laws.{HasNoMoreSeats}
 use Rattle.mark_pauses.proofs.Chains.{is_marking}
@@ -35,7 +34,7 @@ use Rattle.cset_laws.proofs.Clearing.{can_clear_in_turn}
 use Rattle.cset_laws.proofs.Ready.{evacuation_can_begin}
 use Rattle.evac_pauses.specs.Collect.{evac_next, is_full_due, collected, collect_image, CanPause}
 use Rattle.evac_pauses.specs.Laws.{RepresentingCanCollect, ImageIsCollected, CollectIsPause}
-use Rattle.evac_pauses.proofs.Outside.{of_two, begun_outside}
+use Rattle.evac_pauses.proofs.Outside.{begun_outside}
 use Rattle.evac_pauses.proofs.Images.{collected_by_name, collected_length}
 use Rattle.evac_pauses.proofs.Begun.{idle_pause, next_represents}
 

@@ -1,27 +1,23 @@
 -- The words that the pause leaves stand for the same graph: where a region was chosen evacuation runs, and else nothing does.
-use Rattle.std.proofs.Common.{◌≡◌, ◌≢◌, ℕ, ◌+◌, ◌<◌, ◌≤◌, ◌⊎◌, ◌==◌, ◌&&◌, nat_le, Bool, true, false, Option, Some, None, inl, inr, ⊎_elim, refl, sym, ap, ◌∙◌, subst, arith}
+use Rattle.std.proofs.Common.{◌≡◌, ◌≢◌, ℕ, ◌+◌, ◌<◌, ◌≤◌, ◌⊎◌, ◌==◌, nat_le, false, Option, Some, None, inl, inr, ⊎_elim, refl, sym, ap, ◌∙◌, subst, arith}
 use Rattle.std.specs.Int.{bit_at}
 use Rattle.std.proofs.lemmas.Bool.{false≢true, true≢false, and_from, le-leb, eq-eqb}
 use Rattle.std.proofs.lemmas.Option.{none-some}
 use Rattle.heap_words.specs.declared.config.Config.{Config}
-use Rattle.heap_words.specs.Words.{Word, Phase, Cset, Evac, Claim, Ask, Free, Top, Tams, Current, Root, Count, Buffer, Wait, Answer, Grey, Black, Heap}
+use Rattle.heap_words.specs.Words.{Word, Cset, Evac, Ask, Free, Top, Tams, Root, Count, Buffer, Answer, Grey, Black, Heap}
 use Rattle.regions.specs.Place.{region_with}
 use Rattle.regions.specs.Sets.{IsIn}
-use Rattle.mark_bits.specs.Marks.{HasMark}
-use Rattle.shen_graph.specs.declared.name.Name.{Name}
 use Rattle.shen_graph.specs.Graph.{Graph, Reference}
-use Rattle.heap_world.specs.World.{Block, thing, moved, spent, promised, Plot, Ghost, Scan, no_snapshot, Points, name_at, body_of, Target, IsUsable, IsCollected, KeepsSnapshot, IsMarkable, HasCopy, IsEvacuating, body_at}
-use Rattle.heap_world.specs.Asking.{Asking, nothing, asks, refused, given, IsPromise, IsAsked}
+use Rattle.heap_world.specs.World.{Block, thing, moved, promised, Plot, Ghost, Scan, no_snapshot, Points, body_of, IsUsable, IsCollected, KeepsSnapshot, IsMarkable, HasCopy, IsEvacuating, body_at}
+use Rattle.heap_world.specs.Asking.{Asking, nothing, asks, refused, given, IsAsked}
 use Rattle.heap_world.specs.Represents.{Represents}
 use Rattle.heap_world.proofs.Pointing.{named_body, copy_cases, piece_inside}
 use Rattle.heap_world.proofs.Keeping.{usable_now}
 use Rattle.heap_world.proofs.Copies.{counted_none, none_evacuated}
 use Rattle.mark_pauses.specs.MarkedOut.{IsMarkedOut}
 use Rattle.cset_laws.specs.Live.{IsCandidate}
-use Rattle.cset_laws.specs.Copied.{MayChange}
-use Rattle.cset_laws.specs.Begun.{IsNaming, is_collected, with_set, evac_started, evac_spared}
+use Rattle.cset_laws.specs.Begun.{is_collected, with_set, evac_started, evac_spared}
 use Rattle.evac_pauses.proofs.Asked.{asked_stays}
-use Rattle.evac_pauses.proofs.Between.{AreBetween}
 use Rattle.evac_pauses.proofs.Places.{IsPlace}
 use Rattle.evac_pauses.proofs.Turns.{IsClearing}
 

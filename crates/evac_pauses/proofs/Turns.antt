@@ -1,21 +1,19 @@
 -- Roots and answers are cleared of the collection set, one after the other: after each the words stand for the same graph.
-use Rattle.std.proofs.Common.{◌≡◌, ◌≢◌, ℕ, ◌+◌, ◌*◌, ◌%◌, ◌<◌, ◌≤◌, ◌⊎◌, ◌==◌, ◌&&◌, if◌then◌else◌, nat_le, true, false, zero, suc, List, [], ◌∷◌, ◌++◌, map, length, get_or, Option, Some, None, inl, inr, ⊎_elim, refl, sym, ap, ◌∙◌, subst, arith}
-use Rattle.std.specs.Prelude.{Contains, Bool}
-use Rattle.std.specs.List.{range_with_len}
+use Rattle.std.proofs.Common.{◌≡◌, ◌≢◌, ℕ, ◌+◌, ◌%◌, ◌<◌, ◌≤◌, ◌==◌, ◌&&◌, nat_le, true, false, zero, suc, List, [], ◌∷◌, Option, Some, None, ⊎_elim, refl, sym, ap, ◌∙◌, subst, arith}
+use Rattle.std.specs.Prelude.{Contains}
 use Rattle.std.specs.Int.{bit_at}
 use Rattle.std.proofs.Math.Path.{fun_ext}
-use Rattle.std.proofs.lemmas.Bool.{cases_Bool, cases_eq, cond-true, cond-false, and_parts, leb-true, eqb-true, eq-eqb, ne_eqb, true≢false}
+use Rattle.std.proofs.lemmas.Bool.{cases_Bool, cases_eq, cond-true, cond-false, and_parts, leb-true, eqb-true, eq-eqb, ne_eqb}
 use Rattle.std.proofs.lemmas.Option.{same_Some}
 use Rattle.heap_words.specs.declared.config.Config.{Config}
 use Rattle.heap_words.specs.Words.{Word, Cset, Top, Root, Wait, Answer, Heap, same_word, write}
 use Rattle.heap_words.specs.Encoding.{plain_header, header_word, shape_word, is_forwarded, forwardee_in, object_words}
 use Rattle.heap_words.proofs.Stores.{same_word_true, both_equal}
 use Rattle.regions.specs.Place.{region_with}
-use Rattle.regions.specs.Sets.{IsIn}
 use Rattle.shen_graph.specs.declared.name.Name.{Name}
 use Rattle.shen_graph.specs.Graph.{Graph, Object, Reference}
 use Rattle.image_laws.specs.Full.{now_in}
-use Rattle.heap_world.specs.World.{Block, thing, moved, promised, words_of, Plot, Points, name_at, Body, body_of, IsCollected, IsMoved, IsThing}
+use Rattle.heap_world.specs.World.{Block, thing, moved, promised, words_of, Plot, Points, name_at, body_of, IsCollected, IsMoved, IsThing}
 use Rattle.heap_world.specs.Asking.{Asking, given, IsPromise, IsAsked}
 use Rattle.heap_world.proofs.Pointing.{named_body, copy_cases, piece_inside}
 use Rattle.heap_world.proofs.Keeping.{points_stay}
@@ -23,7 +21,7 @@ use Rattle.cset_laws.specs.Live.{words_at}
 use Rattle.cset_laws.specs.Copied.{MayChange, copy_room, copied_out, IsCopiedOut}
 use Rattle.cset_laws.specs.Begun.{IsNaming, is_collected, moved_out, cleared_at, cleared_in_turn, CanClear, CanClearInTurn}
 use Rattle.cset_laws.proofs.CopiedOut.{copying_copies}
-use Rattle.evac_pauses.proofs.Between.{AreBetween, IsLive}
+use Rattle.evac_pauses.proofs.Between.{AreBetween}
 use Rattle.evac_pauses.proofs.CopiedOut.{HasCopied, copied_out_of}
 use Rattle.evac_pauses.proofs.Places.{IsPlace}
 use Rattle.evac_pauses.proofs.Asked.{asked_stays, was_given}
@@ -177,13 +175,13 @@ module _ (c : Config) (first m : Word → ℕ) (block : Plot) (owner : ℕ → O
       root_copied = (
         at.1,
         subst (λ w. IsClearing c first w at.1 owner g asking) (sym (copied_then c m (Root t i) at.0 collected object.2.header at.2.header))
-        (root_named (copied_out c m a) at.1 t i at.0 at.2.between at.2.same at.2.names (subst (Points at.1 at.0) (sym named.1) (ap name_at at.2.there))
-        (λ u p words k promise below. at.2.kept p k (promised u words) (no_promise u p words promise) promise below)
-        (λ u p words promise. at.2.stays p (promised u words) (no_promise u p words promise) promise)
-        (λ u p words promise. ⊎_elim
-        (λ (new : (p ≡ at.0) × (x ≡ promised u words)). let differ = new.1 in cc)
-        (λ (stood : (p ≢ a) × (block p ≡ Some (promised u words))). stood.1)
-        (at.2.promises p u words promise))),
+            (root_named (copied_out c m a) at.1 t i at.0 at.2.between at.2.same at.2.names (subst (Points at.1 at.0) (sym named.1) (ap name_at at.2.there))
+            (λ u p words k promise below. at.2.kept p k (promised u words) (no_promise u p words promise) promise below)
+            (λ u p words promise. at.2.stays p (promised u words) (no_promise u p words promise) promise)
+            (λ u p words promise. ⊎_elim
+            (λ (new : (p ≡ at.0) × (x ≡ promised u words)). let differ = new.1 in cc)
+            (λ (stood : (p ≢ a) × (block p ≡ Some (promised u words))). stood.1)
+            (at.2.promises p u words promise))),
       )
 
     -- or which had moved
@@ -195,8 +193,8 @@ module _ (c : Config) (first m : Word → ℕ) (block : Plot) (owner : ℕ → O
       root_renamed = (
         block,
         subst (λ w. IsClearing c first w block owner g asking) (sym (renamed_then c m (Root t i) to collected old_at.header))
-        (root_named m block t i to s.between (λ word fixed. refl) (λ p name is. is) (subst (Points block to) (sym named.1) (ap name_at old_at.copy))
-        (λ u p words k promise below. refl) (λ u p words promise. promise) (λ u p words promise. promise)),
+            (root_named m block t i to s.between (λ word fixed. refl) (λ p name is. is) (subst (Points block to) (sym named.1) (ap name_at old_at.copy))
+            (λ u p words k promise below. refl) (λ u p words promise. promise) (λ u p words promise. promise)),
       )
 
     root_cleared : (plot : Plot) × IsClearing c first (cleared_at c m (Root t i)) plot owner g asking
@@ -261,22 +259,21 @@ module _ (c : Config) (first m : Word → ℕ) (block : Plot) (owner : ℕ → O
         let now : written (Answer t) ≡ to = cond-true (t == t) to (n (Answer t)) (eq-eqb t t refl) in
         let inside_of = piece_inside c (λ r. n (Top r)) plot moves.2.between.parsable.plotted to made moves.2.there in
         let long = c.in_range.least_words in
-        subst (IsAsked written plot g.count t) (sym gave.2)
-        (
+        subst (IsAsked written plot g.count t) (sym gave.2) (
           moves.2.same (Wait t) (λ never. never) ∙ gave.3,
           subst (λ k. 1 < k) (sym now) (omega (arith, inside_of.0, long)),
           subst (IsPromise written plot g.count t gave.0 gave.1) (sym now)
-          (record {
-            here = moves.2.there;
-            words = λ k below. moves.2.copied k below ∙ gave.4.words k below;
-            only = λ p more promise. ⊎_elim
-                (λ (new : (p ≡ to) × (made ≡ promised t more)). new.0)
-                (λ (stood : (p ≢ answer) × (block p ≡ Some (promised t more))). absurd (stood.0 (gave.4.only p more stood.1)))
-                (moves.2.promises p t more promise);
-            few_refs = gave.4.few_refs;
-            few_nums = gave.4.few_nums;
-            few = gave.4.few;
-          }),
+              (record {
+                here = moves.2.there;
+                words = λ k below. moves.2.copied k below ∙ gave.4.words k below;
+                only = λ p more promise. ⊎_elim
+                    (λ (new : (p ≡ to) × (made ≡ promised t more)). new.0)
+                    (λ (stood : (p ≢ answer) × (block p ≡ Some (promised t more))). absurd (stood.0 (gave.4.only p more stood.1)))
+                    (moves.2.promises p t more promise);
+                few_refs = gave.4.few_refs;
+                few_nums = gave.4.few_nums;
+                few = gave.4.few;
+              }),
         )
 
     answered_there : (u : ℕ) → u < c.mutators → u ≢ t → IsAsked written plot g.count u (asking u)
@@ -295,17 +292,17 @@ module _ (c : Config) (first m : Word → ℕ) (block : Plot) (owner : ℕ → O
     answer_cleared = (
       plot,
       subst (λ end. IsClearing c first end plot owner g asking) (sym (copied_then c m (Answer t) to collected made_header moves.2.header))
-      (record {
-        between = moves.2.between;
-        roots = λ u j within few.
-            subst (λ v. Points plot v (g.root (u + 1) j)) (sym (moves.2.same (Root u j) (λ never. never)))
-            (points_stay block plot moves.2.names (m (Root u j)) (g.root (u + 1) j) (s.roots u j within few));
-        asked = λ u within. ⊎_elim
-            (λ (own : u ≡ t). subst (λ k. IsAsked written plot g.count k (asking k)) (sym own) answered_here)
-            (λ (differs : u ≢ t). answered_there u within differs)
-            (cases_eq u t);
-        same = λ word fixed other. not_written n (Answer t) to word tt other ∙ moves.2.same word fixed ∙ s.same word fixed other;
-      }),
+          (record {
+            between = moves.2.between;
+            roots = λ u j within few.
+                subst (λ v. Points plot v (g.root (u + 1) j)) (sym (moves.2.same (Root u j) (λ never. never)))
+                (points_stay block plot moves.2.names (m (Root u j)) (g.root (u + 1) j) (s.roots u j within few));
+            asked = λ u within. ⊎_elim
+                (λ (own : u ≡ t). subst (λ k. IsAsked written plot g.count k (asking k)) (sym own) answered_here)
+                (λ (differs : u ≢ t). answered_there u within differs)
+                (cases_eq u t);
+            same = λ word fixed other. not_written n (Answer t) to word tt other ∙ moves.2.same word fixed ∙ s.same word fixed other;
+          }),
     )
 
   -- One place is cleared.
