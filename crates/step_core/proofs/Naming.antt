@@ -133,6 +133,25 @@ module _ (c : Config) (u : World) (shared : Shared c u) where
       let word = name_there value n is in
       cond-false (value == 0) _ _ other ∙ ap (λ w. reply.Ref (name_in w)) word.0 ∙ ap (λ m. reply.Ref m) (name_read n word.1)
 
+  -- and otherwise they do not stand for one
+  pub not_one : (a b : ℕ) (r s : Reference) → Points u.block a r → Points u.block b s → NameOthers u.block a b → same_reference r s ≡ false
+  not_one a b None s is_a is_b others = absurd (none-some others.name (sym (null_if_0 c _ u.block shared.parsable.plotted a (Some others.name) others.is is_a)))
+  not_one a b (Some m) None is_a is_b others = refl
+  not_one a b (Some m) (Some n) is_a is_b others = ⊎_elim
+      (λ (same : same_name m n ≡ true).
+      let is : others.name ≡ n = same_Some others.name m (sym others.is ∙ is_a) ∙ same_name-true m n same in
+      absurd (⊎_elim
+      (λ (null : b ≡ 0). none-some n (sym (null_if_0 c _ u.block shared.parsable.plotted b (Some n) is_b null)))
+      (λ more. more.2 (is ∙ sym (same_Some more.0 n (sym more.1 ∙ is_b))))
+      others.other))
+      (λ (differs : same_name m n ≡ false). differs)
+      (cases_Bool (same_name m n))
+
+  -- a copy of an object stands for what another copy of it stands for
+  pub copied : (a b : ℕ) (n : Name) (r : Reference) → name_at (u.block a) ≡ Some n → name_at (u.block b) ≡ Some n → Points u.block a r → Points u.block b r
+  copied a b n None is_a is_b is = absurd (none-some n (sym (null_if_0 c _ u.block shared.parsable.plotted a (Some n) is_a is)))
+  copied a b n (Some m) is_a is_b is = is_b ∙ sym is_a ∙ is
+
   -- by their name words, words name the same exactly where they stand for one reference
   pub names_agree : (a b : ℕ) (r s : Reference) → Points u.block a r → Points u.block b s → name_the_same u.memory a b ≡ same_reference r s
   names_agree a b None None is_a is_b = cond-true ((a == 0) || (b == 0)) _ _ (rw (eq-eqb a 0 is_a) refl) ∙ eq-eqb a b (is_a ∙ sym is_b)

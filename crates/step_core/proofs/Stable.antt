@@ -21,7 +21,7 @@ use Rattle.mutator.specs.declared.resolves.Loaded.{Loaded}
 use Rattle.mutator.specs.declared.resolves.Loaded.TheVariants.{ForRoot, ToCompare}
 use Rattle.load_barrier.specs.declared.spot.ResolveSpot.{ResolveSpot}
 use Rattle.copy_steps.specs.Resolving.{CanResolve}
-use Rattle.copy_steps.specs.Laws.{ResolvingSteps}
+use Rattle.copy_steps.proofs.Parts.{resolving_steps}
 use Rattle.mutator.specs.declared.numbers.NumberSpot.{NumberSpot}
 use Rattle.mutator.specs.declared.numbers.NumberSpot.TheVariants as numbers
 use Rattle.mutator.specs.declared.shows.ShowSpot.{ShowSpot}
@@ -321,15 +321,17 @@ filling_stays c u w seat rely made refs nums address done facts = record {
   stored = λ k below. rely.hand_words address (3 + refs + nums) k facts.room (let within = facts.within in omega arith) ∙ facts.stored k below;
 }
 
-module _ (resolves : ResolvingSteps) where
-  -- all that it knows stays
-  pub mine_stays : (c : Config) (u w : World) (m : Mutating) (command : Command) (fixed : Option Reply) → Shared c u → Rely c m.seat u w → Mine c u m command fixed → Mine c w m command fixed
-  mine_stays c u w m command fixed shared rely mine = let keeps : Keeps c m.seat u w = keeps_of c m.seat u w rely in record {
-    seated = seated_stays c u w m.seat keeps m.made (is_waiting m.spot) mine.seated;
-    ready = mine.ready;
-    marking = marking_relied c u w m.seat (recording_of m.spot) m.kept.phase (has_phase m.spot) rely.marks mine.marking;
-    roots = λ i below. rw (now_stays c u w m.seat keeps m.kept m.spot i) (root_stays c u w m.seat keeps _ i (mine.roots i below));
-    hands = λ a words is. mine.hands a words (rely.no_hands a words is);
-    facts = facts_stay c u w m.seat keeps m.made m.kept command fixed (take_stays c u w m.seat rely (λ r is. shared.owned.currents.own m.seat r is))
-        (λ address at can. recording_steps.stays c u w m.seat address at rely can) rely.asked m.spot mine.facts;
-  }
+-- all that it knows stays
+pub mine_stays : (c : Config) (u w : World) (m : Mutating) (command : Command) (fixed : Option Reply) → Shared c u → Rely c m.seat u w → Mine c u m command fixed → Mine c w m command fixed
+mine_stays c u w m command fixed shared rely mine = let keeps : Keeps c m.seat u w = keeps_of c m.seat u w rely in record {
+  seated = seated_stays c u w m.seat keeps m.made (is_waiting m.spot) mine.seated;
+  ready = mine.ready;
+  marking = marking_relied c u w m.seat (recording_of m.spot) m.kept.phase (has_phase m.spot) rely.marks mine.marking;
+  copying = copying_relied c u w m.seat (copies_at m.spot) m.kept.cset (has_set m.spot) rely.copies mine.copying;
+  roots = λ i below. rw (now_stays c u w m.seat keeps m.kept m.spot i) (root_stays c u w m.seat keeps _ i (mine.roots i below));
+  hands = λ a words is. mine.hands a words (rely.no_hands a words is);
+  facts = facts_stay c u w m.seat keeps m.made m.kept command fixed (take_stays c u w m.seat rely (λ r is. shared.owned.currents.own m.seat r is))
+      (filling_stays c u w m.seat rely m.made)
+      (λ address at can. resolving_steps.stays c u w m.seat address at shared rely can)
+      (λ address at can. recording_steps.stays c u w m.seat address at rely can) rely.asked m.spot mine.facts;
+}

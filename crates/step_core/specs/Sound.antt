@@ -7,12 +7,15 @@ use Rattle.heap_words.specs.Words.{Answer, view, table_words}
 use Rattle.steps_base.specs.Steps.{Stage}
 use Rattle.shen_graph.specs.declared.command.Command.{Command}
 use Rattle.shen_graph.specs.declared.command.Reply.{Reply}
+use Rattle.shen_graph.specs.declared.command.Reply.TheVariants.{No}
 use Rattle.shen_graph.specs.declared.order.Order.{Order}
 use Rattle.shen_graph.specs.Graph.{Graph}
 use Rattle.shen_graph.specs.History.{Entry, after, EachIsLegal, of_thread}
 use Rattle.shen_graph.specs.Crowd.{AreCrowded}
 use Rattle.mutator.specs.declared.spot.Spot.{Spot}
-use Rattle.mutator.specs.declared.spot.Spot.TheVariants.{Recording, Showing, Leave, Entering, Waiting}
+use Rattle.mutator.specs.declared.spot.Spot.TheVariants.{Resolving, Recording, Showing, Leave, Entering, Waiting}
+use Rattle.mutator.specs.declared.resolves.Loaded.{Loaded}
+use Rattle.mutator.specs.declared.resolves.Loaded.TheVariants.{ForRoot}
 use Rattle.mutator.specs.declared.overwrites.Overwritten.{Overwritten}
 use Rattle.mutator.specs.declared.overwrites.Overwritten.TheVariants as overwrites
 use Rattle.mutator.specs.declared.spot.Entered.TheVariants.{Waited}
@@ -98,13 +101,28 @@ abbrev pub has_overwritten : Overwritten → Bool
 has_overwritten (overwrites.Set object value) = false
 has_overwritten _ = true
 
+-- and of who resolves what it has found, where that is for a root
+abbrev pub has_loaded : Loaded → Bool
+has_loaded ForRoot = true
+has_loaded _ = false
+
 abbrev pub has_settled : ℕ → Spot → Bool
+has_settled answer (Resolving address at next) = has_loaded next
 has_settled answer (Recording at address next) = has_overwritten next
 has_settled answer (Showing value at) = true
 has_settled answer (Leave reply) = true
 has_settled answer (Entering at Waited) = answer == 1
 has_settled answer (Waiting at) = has_waited answer at
 has_settled answer _ = false
+
+-- whether a mutator resolves what a Cas has found, to compare it: the words that it found say whether its reply is settled, which is No then
+abbrev pub is_to_compare : Loaded → Bool
+is_to_compare ForRoot = false
+is_to_compare _ = true
+
+abbrev pub is_comparing : Spot → Bool
+is_comparing (Resolving address at next) = is_to_compare next
+is_comparing _ = false
 
 -- The entries of a mutator in the history are the calls that it has ended and, where the reply of its call in progress is
 -- settled, one more, of that call. Between two calls there is no more, and the reply that ends a call is the settled one.
@@ -113,8 +131,9 @@ pub record AreCalls (answer : ℕ) (entries : List Entry) (number : ℕ) (a : Ac
   pub fixed : Option Reply
   pub entries_are : entries ≡ a.calls ++ entries_of number a.command fixed
   pub between_calls : is_between_calls m.spot ≡ true → fixed ≡ None
-  pub before_it : has_settled answer m.spot ≡ false → fixed ≡ None
+  pub before_it : is_comparing m.spot ≡ false → has_settled answer m.spot ≡ false → fixed ≡ None
   pub after_it : has_settled answer m.spot ≡ true → fixed ≢ None
+  pub compares : is_comparing m.spot ≡ true → (fixed ≡ None) ⊎ (fixed ≡ Some No)
   pub gives : (reply : Reply) → given_at m.spot ≡ Some reply → fixed ≡ Some reply
 
 -- a machine's next access is of a word of the table, and the word that it finds there is fit
