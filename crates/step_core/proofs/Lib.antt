@@ -26,7 +26,9 @@ pub mod Ordered
 pub mod Within
 pub mod Images
 pub mod Alike
+pub mod Units
 pub mod Helpers
+pub mod Units
 pub mod Answers
 pub mod Quiet
 pub mod HelperSteps

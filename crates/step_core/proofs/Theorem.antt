@@ -34,8 +34,8 @@ use Rattle.alloc_buffers.specs.Facts.{HasLess}
 use Rattle.heap_world.specs.World.{World, hand}
 use Rattle.heap_world.specs.Change.{Change, IsPause}
 use Rattle.control_steps.specs.declared.spot.ControlSpot.{ControlSpot}
-use Rattle.control_steps.specs.declared.spot.ControlSpot.TheVariants.{Scanning, LoadWord}
-use Rattle.control_steps.specs.Ready.{is_ready, ScanGoesOn}
+use Rattle.control_steps.specs.declared.spot.ControlSpot.TheVariants.{Scanning, Evacuating, LoadWord}
+use Rattle.control_steps.specs.Ready.{is_ready, UnitGoesOn}
 use Rattle.helper.specs.Rows.{Helping, help_touch}
 use Rattle.helper.specs.Ready as help
 use Rattle.control_steps.specs.Rows.{Controlling, control_access, word_stored}
@@ -56,7 +56,7 @@ use Rattle.step_core.proofs.Crowding.{run_crowded}
 use Rattle.step_core.proofs.Facts.{IsSeen, IsThread, IsAim, IsMachine}
 use Rattle.step_core.proofs.FirstFacts.{opening_run}
 use Rattle.step_core.proofs.Images.{found-placed}
-use Rattle.step_core.proofs.ControlEvents.{whole_stands, scan_fit}
+use Rattle.step_core.proofs.ControlEvents.{whole_stands, scan_fit, evac_fit}
 use Rattle.step_core.proofs.Helpers.{help_leaves_image, help_word}
 use Rattle.step_core.proofs.Induction.{Goes, goes_event, goes_run}
 use Rattle.step_core.proofs.MachinesObey.{standing, is_left}
@@ -67,13 +67,6 @@ use Rattle.step_core.specs.Standing.{standing_at, help_standing, standing_of}
 use Rattle.step_core.proofs.Replies.{unsettled_at_rest, unsettled_before, settled_after}
 use Rattle.step_core.proofs.Requests.{has_asked}
 use Rattle.step_core.proofs.Roles.{number_of, mutator_of, machine_there}
-
--- only a mutator has room in hand
-hand_of : (c : Config) (words : List ℕ) (w : World) (entries : List Entry) (number : ℕ) (actor : Actor) (machine : Machine) → IsMachine c words w entries number actor machine
-    → (a more : ℕ) → w.block a ≡ Some (hand number more) → number < c.mutators
-hand_of c words w es number actor (mutating m) is a more there = subst (λ k. k < c.mutators) is.number_is is.mine.seated.below
-hand_of c words w es number actor (helping h) is a more there = absurd (is.hands a more there)
-hand_of c words w es number actor (controlling k) is a more there = absurd (is.hands a more there)
 
 -- a mutator that ends has not ended, and its access is of the count
 ends_left : (spot : Spot) (made : ℕ) → takes_at spot made End ≡ true → has_not_ended spot ≡ true
@@ -150,20 +143,23 @@ module _ (change : Change) (law : IsPause change) (c : Config) (g : Graph) (s : 
       (machine_after change c Nothing (slice_index s.words (table_index (plan_of c Nothing machine))) machine)) is next.3).ready
 
   -- and one that the control finds
-  fit_control : (number seen phase : ℕ) (image : List ℕ) (a : Actor) (spot : ControlSpot) → slice_get s.machines number ≡ Some a → a.machine ≡ controlling (record { spot = spot; seen = seen; phase = phase; image = image })
-      → IsWhole c spot image (slice_index s.words (table_index (control_access c (record { spot = spot; seen = seen; phase = phase; image = image }))))
-  fit_control number seen phase image a (LoadWord index) here is =
-      λ last. whole_stands change law c g s h number seen phase image a.command a.calls goes.follows goes.shaken index
+  fit_control : (number seen phase cset : ℕ) (image : List ℕ) (a : Actor) (spot : ControlSpot) → slice_get s.machines number ≡ Some a → a.machine ≡ controlling (record { spot = spot; seen = seen; phase = phase; cset = cset; image = image })
+      → IsWhole c spot image (slice_index s.words (table_index (control_access c (record { spot = spot; seen = seen; phase = phase; cset = cset; image = image }))))
+  fit_control number seen phase cset image a (LoadWord index) here is =
+      λ last. whole_stands change law c g s h number seen phase cset image a.command a.calls goes.follows goes.shaken index
       (here ∙ ap (λ machine. Some (record { machine = machine; command = a.command; calls = a.calls })) is) last
-  fit_control number seen phase image a _ here is = tt
+  fit_control number seen phase cset image a _ here is = tt
 
-  -- also while it scans
-  fit_scan : (number seen phase : ℕ) (image : List ℕ) (a : Actor) (spot : ControlSpot) → slice_get s.machines number ≡ Some a → a.machine ≡ controlling (record { spot = spot; seen = seen; phase = phase; image = image })
-      → ScanGoesOn c spot (slice_index s.words (table_index (control_access c (record { spot = spot; seen = seen; phase = phase; image = image }))))
-  fit_scan number seen phase image a (Scanning at) here is =
-      scan_fit change law c g s h number seen phase image a.command a.calls goes.follows goes.shaken at
+  -- also while it works on a unit
+  fit_unit : (number seen phase cset : ℕ) (image : List ℕ) (a : Actor) (spot : ControlSpot) → slice_get s.machines number ≡ Some a → a.machine ≡ controlling (record { spot = spot; seen = seen; phase = phase; cset = cset; image = image })
+      → UnitGoesOn c spot (slice_index s.words (table_index (control_access c (record { spot = spot; seen = seen; phase = phase; cset = cset; image = image }))))
+  fit_unit number seen phase cset image a (Scanning at) here is =
+      scan_fit change law c g s h number seen phase cset image a.command a.calls goes.follows goes.shaken at
       (here ∙ ap (λ machine. Some (record { machine = machine; command = a.command; calls = a.calls })) is)
-  fit_scan number seen phase image a _ here is = tt
+  fit_unit number seen phase cset image a (Evacuating kept at) here is =
+      evac_fit change law c g s h number seen phase cset image a.command a.calls goes.follows goes.shaken kept at
+      (here ∙ ap (λ machine. Some (record { machine = machine; command = a.command; calls = a.calls })) is)
+  fit_unit number seen phase cset image a _ here is = tt
 
   -- a machine finds a fit word
   finds_fit : (number : ℕ) (a : Actor) → slice_get s.machines number ≡ Some a → FindsFit c s a
@@ -187,7 +183,7 @@ module _ (change : Change) (law : IsPause change) (c : Config) (g : Graph) (s : 
           record {
             inside = λ order takes.
                 subst (λ machine. table_index (plan_of c order machine) < table_words c) (sym is)
-                (subst (λ k. k < table_words c) (sym (table_index-access_at (word_at c (help_touch c m).word) (help_touch c m).form)) (word_inside c (help_touch c m).word (help_word c the_world number m facts)));
+                (subst (λ k. k < table_words c) (sym (table_index-access_at (word_at c (help_touch c m).word) (help_touch c m).form)) (word_inside c (help_touch c m).word (help_word c the_world number m goes.follows.shared facts)));
             fit = λ order takes.
                 subst (λ machine. IsFitFor c order (slice_index s.words (table_index (plan_of c order machine))) machine) (sym is)
                 (fit_helper number a m here is (unordered order _ (ap (λ machine. takes_of machine order) (sym is) ∙ takes)));
@@ -199,7 +195,7 @@ module _ (change : Change) (law : IsPause change) (c : Config) (g : Graph) (s : 
                 subst (λ machine. table_index (plan_of c order machine) < table_words c) (sym is) (accesses_inside c k.spot (word_stored k.spot k.image) facts.ready);
             fit = λ order takes.
                 subst (λ machine. IsFitFor c order (slice_index s.words (table_index (plan_of c order machine))) machine) (sym is)
-                (fit_control number k.seen k.phase k.image a k.spot here is, fit_scan number k.seen k.phase k.image a k.spot here is);
+                (fit_control number k.seen k.phase k.cset k.image a k.spot here is, fit_unit number k.seen k.phase k.cset k.image a k.spot here is);
           }
 
   -- of its machines
@@ -216,10 +212,8 @@ module _ (change : Change) (law : IsPause change) (c : Config) (g : Graph) (s : 
   }
 
   -- of room in hand
-  in_hand : (a seat more : ℕ) → goes.follows.block a ≡ Some (hand seat more) → seat < c.mutators
-  in_hand a seat more is =
-      let there = machine_there c s.words the_world h s.machines goes.follows.seats seat (goes.follows.shared.owned.rooms a seat more is).seated in
-      hand_of c s.words the_world (of_thread h (seat + 1)) seat there.0 there.0.machine (known seat there.0 there.1) a more is
+  in_hand : (a seat more : ℕ) → goes.follows.block a ≡ Some (hand seat more) → seat < seat_count c.mutators c.helpers
+  in_hand a seat more is = (goes.follows.shared.owned.rooms a seat more is).seated
 
   -- of all: it is sound
   sound : AreCrowded c.regions c.region_words g (begun c s) h → IsSound c g s h
