@@ -47,14 +47,14 @@ class Heap:
     def take(self, place, rest):
         """Takes an event; whether it has found what stood there. A pause also finds marks of objects that are gone."""
         access = ACCESS.match(rest)
-        # A header that is stored is that of a new object, or of a copy that nobody has seen yet.
         if place == "P3":
             self.words = {name: word for name, word in self.words.items() if not name.startswith("header")}
-        if not access or (access[1] == "store" and access[2].startswith("header")):
+        # A header that is stored is that of a new object, or of a copy that nobody has seen yet; a pause loads those of all copies.
+        if not access or (access[2].startswith("header") and (access[1] == "store" or place == "PL")):
             return True
         verb, name, first, second, found = access.groups()
         found = value(found)
-        # A pause writes headers by their addresses, so they are not known behind it.
+        # A pause stores headers by their addresses, so they are not known behind it.
         before = self.words.setdefault(name, found) if name.startswith("header") else self.word(name)
         if verb == "store":
             self.words[name] = value(first)

@@ -5,9 +5,9 @@ usage: test_marking.py
 
 There are two tables. In the first a thread overwrites a field while a helper scans the object: each stands at each of its
 places. The second one is marking.txt. A line behind `=` says what holds after the items above it, and one behind `end:` what
-holds when all machines are idle: the places of machines, and words of the heap, as following.py follows them. `grey` and `black` tell all objects whose bit is set, `buffer` the entries below the count; `start` is a
-region's top when marking began. The rules also say how many steps and pauses each trace takes. No answer was taken from the
-programs.
+holds when all machines are idle: the places of machines, and words of the heap, as following.py follows them. `grey` and
+`black` tell all objects whose bit is set, `buffer` the entries below the count; `start` is a region's top when marking began.
+The rules also say how many steps and pauses each trace takes. No answer was taken from the programs.
 """
 import sys
 
