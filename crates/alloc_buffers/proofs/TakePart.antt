@@ -21,5 +21,6 @@ take_part = record {
   ended = λ take. is_ended take;
   facts = λ c seat asked w take. CanTake c w seat asked.words take;
   stable = λ c u w seat asked take shared rely can. can_take_stays c u w seat asked.words take shared rely can;
-  step = λ c u seat asked take going shared can. each_take c u seat asked.words asked.kind take going shared can;
+  step = λ c u seat asked take going shared can. let s = each_take c u seat asked.words asked.kind take going shared can in
+      record { world = s.world; memory = s.memory; graph = s.graph; shared = s.shared; own = s.own.0; keeps = s.keeps; others = s.others };
 }

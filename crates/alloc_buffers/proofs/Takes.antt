@@ -1,25 +1,27 @@
 -- The steps that take room, of any seat and for whatever it is taken.
-use Rattle.std.proofs.Common.{◌≡◌, ◌≢◌, ℕ, ◌+◌, ◌-◌, ◌^◌, ◌<◌, ◌≤◌, true, false, Option, Some, None, ⊎_elim, refl, sym, ap, ◌∙◌, subst, arith}
-use Rattle.std.specs.Prelude.{◌==◌}
+use Rattle.std.proofs.Common.{◌≡◌, ◌≢◌, ℕ, ◌+◌, ◌-◌, ◌^◌, ◌<◌, ◌≤◌, true, false, Option, Some, None, inl, inr, ⊎_elim, refl, sym, ap, ◌∙◌, subst, arith}
+use Rattle.std.specs.Prelude.{◌==◌, bit_and}
 use Rattle.std.specs.Int.{bit_at}
 use Rattle.std.proofs.lemmas.Bool.{cases_eq, cases_Bool, cond-true, cond-false, eq-eqb, eqb-true, ne_eqb, and_from, lt-ltb, le-leb, leb-true, leb-false}
 use Rattle.std.proofs.lemmas.Bool.Decides.{nat_tests}
 use Rattle.std.proofs.lemmas.Option.{same_Some}
 use Rattle.heap_words.specs.declared.config.Config.{Config}
 use Rattle.heap_words.specs.Ranges.{seat_count}
-use Rattle.heap_words.specs.Words.{Word, Phase, Free, Top, Tams, Current, Count, Buffer, Grey, Black, Heap}
+use Rattle.heap_words.specs.Words.{Word, Phase, Cset, Free, Evac, Claim, Top, Tams, Current, Count, Buffer, Grey, Black, Heap}
 use Rattle.steps_base.specs.Touch.{touch, loads, touched}
 use Rattle.regions.specs.Place.{base_of}
-use Rattle.regions.specs.Sets.{lowest_in}
+use Rattle.regions.specs.Sets.{IsIn, lowest_in, all_but}
 use Rattle.shen_graph.specs.declared.name.Name.{Name}
-use Rattle.heap_world.specs.World.{World, with_owner, Plot, Block, thing, hand, promised, name_at, IsMarkable, AreCurrent, AreRooms, Shared}
-use Rattle.heap_world.specs.Rely.{Keeps, RelyMarks, Rely}
-use Rattle.heap_world.specs.Part.{PartStep}
+use Rattle.heap_world.specs.World.{World, with_owner, Plot, Block, thing, moved, spent, hand, promised, name_at, IsMarkable, AreCurrent, AreRooms, Shared}
+use Rattle.heap_world.specs.Rely.{Keeps, RelyMarks, RelyCopies, Rely}
+use Rattle.heap_world.specs.Part.{PartStep, SameWork}
 use Rattle.heap_world.proofs.Updates.{updated, updated_same, updated_there, updated_else}
 use Rattle.heap_world.proofs.Keeping.{load_keeps, rely_same, keeps_of}
-use Rattle.heap_world.proofs.NewPiece.{CanGrow, names_stay, stays, old_hand, own_hand, old_promise, parsable_more, contents_more, owned_more, unwritten_more, markable_more, marking_more}
+use Rattle.heap_world.proofs.NewPiece.{CanGrow, names_stay, stays, old_hand, own_hand, old_promise, parsable_more, contents_more, owned_more, old_thing, unwritten_more, markable_more, marking_more, evacuating_more}
+use Rattle.heap_world.proofs.Copies.{CopiesStay, keeps_copies, rely_copies, same_plot}
+use Rattle.heap_world.proofs.Evacuated.{evacuated_taken}
 use Rattle.heap_world.proofs.Marked.{rely_marks}
-use Rattle.heap_world.proofs.FreeRegions.{lowest_within, owner_stays, free_without, currents_stay}
+use Rattle.heap_world.proofs.FreeRegions.{lowest_within, owner_stays, free_before, free_without, currents_stay}
 use Rattle.alloc_buffers.specs.declared.spot.Kind.{Kind}
 use Rattle.alloc_buffers.specs.declared.spot.Taken.TheVariants.{At, NoRoom}
 use Rattle.alloc_buffers.specs.declared.spot.TakeSpot.{TakeSpot}
@@ -59,10 +61,10 @@ rooms_with c top current block seat region none rooms a s words is =
       at_top = is_room.at_top;
     }
 
--- what a step of a taking of room owes
+-- what a step of a taking of room owes: whether the seat copies, and on what it works, stays as it is
 abbrev pub TakeStep : Config → World → ℕ → ℕ → Kind → TakeSpot → Type 0
 TakeStep c u seat words kind take =
-    PartStep c u seat (touch_at seat words take) (λ w. CanTake c w seat words (next_at c words kind take (u.memory (touch_at seat words take).word)))
+    PartStep c u seat (touch_at seat words take) (λ w. CanTake c w seat words (next_at c words kind take (u.memory (touch_at seat words take).word)) × SameWork u w seat)
 
 -- before a taking has ended, it has no room
 none_taken : (words : ℕ) (take : TakeSpot) → is_ended take ≡ false → (a more : ℕ) → IsTakenRoom take words a more → ⊥
@@ -79,6 +81,20 @@ module _ (c : Config) (u : World) (seat words : ℕ) (kind : Kind) where
       → ((t k : ℕ) → w.memory (Buffer t k) ≡ u.memory (Buffer t k)) → ((a : ℕ) → w.memory (Heap (a + 1)) ≡ u.memory (Heap (a + 1))) → w.memory Phase ≡ u.memory Phase → (j : ℕ) → w.ghost.scanning ≡ u.ghost.scanning → RelyMarks c j u w
   same_in w block snapshot recording greys counts buffers shapes phase j scanning =
       rely_marks c u w j phase greys counts buffers snapshot (λ t. ap (λ f. f t) recording) (ap (λ f. f j) scanning) (λ a is. subst (λ b. IsMarkable b a) (sym block) is) (λ a is. shapes a)
+
+  -- nor does anything of evacuation where no word of the heap does
+  same_in_set : (w : World) → w.block ≡ u.block → w.memory Cset ≡ u.memory Cset → w.memory Evac ≡ u.memory Evac → ((r : ℕ) → w.memory (Top r) ≡ u.memory (Top r)) → (j : ℕ) → w.ghost.copying ≡ u.ghost.copying
+      → w.ghost.working ≡ u.ghost.working → ((a : ℕ) → w.memory (Heap a) ≡ u.memory (Heap a)) → RelyCopies c j u w
+  same_in_set w block cset evac tops j copying working heap =
+      rely_copies c u w j (same_plot c u w block cset evac (λ r is. tops r)) (ap (λ f. f j) copying) (ap (λ f. f j) working) (λ a k b seated counted inside is from below. heap (a + k))
+
+  -- the tops
+  abbrev tops_now : ℕ → ℕ
+  tops_now r = u.memory (Top r)
+
+  -- a region that is free once one was taken was free
+  still_free : (region : ℕ) → region < c.regions → (r : ℕ) → r < c.regions → IsIn (bit_and (u.memory Free) (all_but region)) r → IsIn (u.memory Free) r
+  still_free region within r inside is = free_before c (u.memory Free) region within r inside is
 
   module _ (take : TakeSpot) (going : is_ended take ≡ false) (shared : Shared c u) (can : CanTake c u seat words take) where
     -- there is no room in hand
@@ -106,7 +122,7 @@ module _ (c : Config) (u : World) (seat words : ℕ) (kind : Kind) where
       memory = rw loaded (load_keeps u.memory at);
       graph = refl;
       shared = shared;
-      own = rw (loaded, leads) (can_at next u refl refl refl ready facts);
+      own = (rw (loaded, leads) (can_at next u refl refl refl ready facts), record { copying = refl; working = refl });
       keeps = keeps_of c seat u u (rely_same c seat u);
       others = λ j d. rely_same c j u;
     }
@@ -192,20 +208,27 @@ module _ (c : Config) (u : World) (seat words : ℕ) (kind : Kind) where
             currents = currents_stay c (λ s. u.memory (Current s)) u.ghost.owner region seat nobodys shared.owned.currents;
             rooms = shared.owned.rooms;
           };
-          calm = shared.calm;
-          uncopied = shared.uncopied;
+          phased = shared.phased;
           unwritten = shared.unwritten;
           marked = shared.marked;
+          evacuated = evacuated_taken c (u.memory Phase) (u.memory Cset) (u.memory Evac) (u.memory Claim) (u.memory Free) tops_now (λ r. u.memory (Tams r)) (λ a. u.memory (Heap a)) (λ n. u.memory (Black n))
+              u.block u.ghost.owner u.ghost.copying u.ghost.working shared.evacuated (bit_and (u.memory Free) (all_but region)) (updated u.ghost.owner region (Some seat))
+              (still_free region within)
+              (λ r other is. ⊎_elim
+              (λ (same : region ≡ r). inr (subst (λ k. IsIn (u.memory Free) k) same bit))
+              (λ (differs : region ≢ r). inl (sym (updated_else u.ghost.owner region (Some seat) r differs) ∙ is))
+              (cases_eq region r));
         };
-        own = subst (λ s. CanTake c (taken_world region) seat words s)
+        own = (subst (λ s. CanTake c (taken_world region) seat words s)
             (sym (cond-true (bit_at (u.memory Free) region == 1) (StoreCurrent region) LoadFree won))
             (can_at (TakeRegion region) refl shared can (StoreCurrent region) (taken_world region) refl refl refl
             (and_from _ _ (and_from _ _ (lt-ltb seat (seat_count c.mutators c.helpers) can.seated) (lt-ltb (region + 1) (2 ^ 64) (omega (arith, within, few)))) (lt-ltb _ _ within))
-            (record { within = within; own = updated_there u.ghost.owner region (Some seat); empty = shared.owned.free_word.empty region within bit }));
-        keeps = (let marks = same_in (taken_world region) refl refl refl (λ n. refl) (λ t. refl) (λ t k. refl) (λ a. refl) refl seat refl in let kept = marks.keeps in search (arith, nat_tests, kept));
+            (record { within = within; own = updated_there u.ghost.owner region (Some seat); empty = shared.owned.free_word.empty region within bit })),
+            record { copying = refl; working = refl });
+        keeps = (let marks = same_in (taken_world region) refl refl refl (λ n. refl) (λ t. refl) (λ t k. refl) (λ a. refl) refl seat refl in let kept = marks.keeps in let copied = (same_in_set (taken_world region) refl refl refl (λ r. refl) seat refl refl (λ a. refl)).keeps in search (arith, nat_tests, kept, copied));
         others = λ j d. record {
           names = λ a n is. is;
-          targets = λ a more_refs more_nums n has. record { piece = has.piece };
+          targets = λ a more_refs more_nums n has. has;
           hands = λ a more is. is;
           no_hands = λ a more is. is;
           hand_words = λ a more k is below. refl;
@@ -221,9 +244,9 @@ module _ (c : Config) (u : World) (seat words : ℕ) (kind : Kind) where
           wait = refl;
           answer = refl;
           state = refl;
-          cset = refl;
           asked = λ is. is;
           marks = same_in (taken_world region) refl refl refl (λ n. refl) (λ t. refl) (λ t k. refl) (λ a. refl) refl j refl;
+          copies = same_in_set (taken_world region) refl refl refl (λ r. refl) j refl refl (λ a. refl);
         };
       }
 
@@ -241,16 +264,20 @@ module _ (c : Config) (u : World) (seat words : ℕ) (kind : Kind) where
         currents = shared.owned.currents;
         rooms = shared.owned.rooms;
       };
-      calm = shared.calm;
-      uncopied = shared.uncopied;
+      phased = shared.phased;
       unwritten = shared.unwritten;
       marked = shared.marked;
+      evacuated = evacuated_taken c (u.memory Phase) (u.memory Cset) (u.memory Evac) (u.memory Claim) (u.memory Free) tops_now (λ r. u.memory (Tams r)) (λ a. u.memory (Heap a)) (λ n. u.memory (Black n))
+          u.block u.ghost.owner u.ghost.copying u.ghost.working shared.evacuated (bit_and (u.memory Free) (all_but region)) u.ghost.owner
+          (still_free region can.facts.1) (λ r other is. inl is);
     };
-    own = subst (λ s. CanTake c (accessed (TakeRegion region)) seat words s)
+    own = (subst (λ s. CanTake c (accessed (TakeRegion region)) seat words s)
         (sym (cond-false (bit_at (u.memory Free) region == 1) (StoreCurrent region) LoadFree lost))
-        (can_at (TakeRegion region) refl shared can LoadFree (accessed (TakeRegion region)) refl refl refl refl can.facts.0);
-    keeps = (let marks = same_in (accessed (TakeRegion region)) refl refl refl (λ n. refl) (λ t. refl) (λ t k. refl) (λ a. refl) refl seat refl in let kept = marks.keeps in search (arith, nat_tests, kept));
-    others = λ j d. let marks = same_in (accessed (TakeRegion region)) refl refl refl (λ n. refl) (λ t. refl) (λ t k. refl) (λ a. refl) refl j refl in search (arith, nat_tests, marks);
+        (can_at (TakeRegion region) refl shared can LoadFree (accessed (TakeRegion region)) refl refl refl refl can.facts.0), record { copying = refl; working = refl });
+    keeps = (let marks = same_in (accessed (TakeRegion region)) refl refl refl (λ n. refl) (λ t. refl) (λ t k. refl) (λ a. refl) refl seat refl in let kept = marks.keeps in
+        let copied = (same_in_set (accessed (TakeRegion region)) refl refl refl (λ r. refl) seat refl refl (λ a. refl)).keeps in search (arith, nat_tests, kept, copied));
+    others = λ j d. let marks = same_in (accessed (TakeRegion region)) refl refl refl (λ n. refl) (λ t. refl) (λ t k. refl) (λ a. refl) refl j refl in
+        let copied = same_in_set (accessed (TakeRegion region)) refl refl refl (λ r. refl) j refl refl (λ a. refl) in search (arith, nat_tests, marks, copied);
   }
 
   -- the step that takes a region
@@ -275,16 +302,18 @@ module _ (c : Config) (u : World) (seat words : ℕ) (kind : Kind) where
             currents = currents_with c (λ s. u.memory (Current s)) u.ghost.owner seat region taken.within taken.own shared.owned.currents;
             rooms = rooms_with c (λ r. u.memory (Top r)) (λ s. u.memory (Current s)) u.block seat region (none_in_hand (StoreCurrent region) refl shared can) shared.owned.rooms;
           };
-          calm = shared.calm;
-          uncopied = shared.uncopied;
+          phased = shared.phased;
           unwritten = shared.unwritten;
           marked = shared.marked;
+          evacuated = shared.evacuated;
         };
-        own = can_at (StoreCurrent region) refl shared can (StoreTop region 0) (accessed (StoreCurrent region)) refl refl refl
+        own = (can_at (StoreCurrent region) refl shared can (StoreTop region 0) (accessed (StoreCurrent region)) refl refl refl
             (and_from _ _ (and_from _ _ (lt-ltb _ _ taken.within) (lt-ltb _ _ (omega (arith, most)))) (le-leb _ _ (omega (arith, most, long))))
-            (record { within = taken.within; is_current = cond-true (seat == seat) _ _ (eq-eqb seat seat refl); top_is = taken.empty; room = omega (arith, most, long) });
-        keeps = (let marks = same_in (accessed (StoreCurrent region)) refl refl refl (λ n. refl) (λ t. refl) (λ t k. refl) (λ a. refl) refl seat refl in let kept = marks.keeps in search (arith, nat_tests, kept));
-        others = λ j d. let marks = same_in (accessed (StoreCurrent region)) refl refl refl (λ n. refl) (λ t. refl) (λ t k. refl) (λ a. refl) refl j refl in search (arith, nat_tests, marks);
+            (record { within = taken.within; is_current = cond-true (seat == seat) _ _ (eq-eqb seat seat refl); top_is = taken.empty; room = omega (arith, most, long) }), record { copying = refl; working = refl });
+        keeps = (let marks = same_in (accessed (StoreCurrent region)) refl refl refl (λ n. refl) (λ t. refl) (λ t k. refl) (λ a. refl) refl seat refl in let kept = marks.keeps in
+            let copied = (same_in_set (accessed (StoreCurrent region)) refl refl refl (λ r. refl) seat refl refl (λ a. refl)).keeps in search (arith, nat_tests, kept, copied));
+        others = λ j d. let marks = same_in (accessed (StoreCurrent region)) refl refl refl (λ n. refl) (λ t. refl) (λ t k. refl) (λ a. refl) refl j refl in
+            let copied = same_in_set (accessed (StoreCurrent region)) refl refl refl (λ r. refl) j refl refl (λ a. refl) in search (arith, nat_tests, marks, copied);
       }
 
   module _ (region top : ℕ) (shared : Shared c u) (can : CanTake c u seat words (StoreTop region top)) where
@@ -329,11 +358,12 @@ module _ (c : Config) (u : World) (seat words : ℕ) (kind : Kind) where
       parsable = parsable_more c tops currents u.block region top words seat grows;
       contents = contents_more c tops currents u.block region top words seat grows (λ a. u.memory (Heap a)) u.graph.object u.graph.count shared.contents;
       owned = owned_more c tops currents u.block region top words seat grows (u.memory Free) u.ghost.owner can.seated roomy.is_current none shared.owned;
-      calm = shared.calm;
-      uncopied = shared.uncopied;
+      phased = shared.phased;
       unwritten = unwritten_more c tops currents u.block region top words seat grows (λ a. u.memory (Heap a)) shared.unwritten;
       marked = marking_more c tops currents u.block region top words seat grows (u.memory Phase) (λ n. u.memory (Grey n)) (λ n. u.memory (Black n)) (λ t. u.memory (Count t)) (λ t k. u.memory (Buffer t k))
           (λ r. u.memory (Tams r)) (λ a. u.memory (Heap a)) u.ghost.snapshot u.ghost.recording u.ghost.scanning shared.marked;
+      evacuated = evacuating_more c tops currents u.block region top words seat grows (u.memory Phase) (u.memory Cset) (u.memory Evac) (u.memory Claim) (u.memory Free) (λ r. u.memory (Tams r)) (λ a. u.memory (Heap a)) (λ n. u.memory (Black n))
+          u.ghost.owner u.ghost.copying u.ghost.working own shared.evacuated;
     }
 
     -- what a word stands for it still stands for
@@ -361,13 +391,24 @@ module _ (c : Config) (u : World) (seat words : ℕ) (kind : Kind) where
     marks_grown : (j : ℕ) → RelyMarks c j u grown_world
     marks_grown j = rely_marks c u grown_world j refl (λ n. refl) (λ t. refl) (λ t k. refl) refl (λ t. refl) refl (markable_more c tops currents u.block region top words seat grows) (λ a is. refl)
 
+    -- a region that is set aside is nobody's, so that its pieces and its top stay
+    set_stays : CopiesStay c u grown_world
+    set_stays = record {
+      cset = refl;
+      evac = refl;
+      things = λ a refs nums n is. stays_there a (thing n refs nums) is;
+      moveds = λ a refs nums to n is. stays_there a (moved n refs nums to) is;
+      spents = λ a more to is. stays_there a (spent more to) is;
+      pieces = λ a x inside is. (x, stays_there a x is, refl);
+      no_new = λ a refs nums n inside is. old_thing c tops currents u.block region top words seat grows a refs nums n is;
+      tops = λ r is. updated_else tops region (top + words) r (λ same. shared.evacuated.aside.nobodys region seat own (subst (λ k. IsIn (u.memory Cset) k) (sym same) is));
+    }
+
     -- the facts of the seat's machine stand
     keeps_grown : Keeps c seat u grown_world
     keeps_grown = record {
       names = names;
-      targets = λ a refs nums n has. record { piece = stays_there a (thing n refs nums) has.piece };
-      hands = λ a more is. stays_there a (hand seat more) is;
-      hand_words = λ a more k is below. refl;
+      targets = λ a refs nums n has. record { piece = stays_there a (thing n refs nums) has.piece; safe = has.safe };
       promises = λ a more is. stays_there a (promised seat more) is;
       no_promises = λ a more is. old_promise c tops currents u.block region top words seat grows a seat more is;
       promise_words = λ a more k is below. refl;
@@ -377,13 +418,14 @@ module _ (c : Config) (u : World) (seat words : ℕ) (kind : Kind) where
       wait = refl;
       answer = refl;
       marks = (marks_grown seat).keeps;
+      copies = keeps_copies c u grown_world set_stays;
     }
 
     -- others can rely on what they knew
     others_grown : (j : ℕ) → j ≢ seat → Rely c j u grown_world
     others_grown j differs = record {
       names = names;
-      targets = λ a refs nums n has. record { piece = stays_there a (thing n refs nums) has.piece };
+      targets = λ a refs nums n has. record { piece = stays_there a (thing n refs nums) has.piece; safe = has.safe };
       hands = λ a more is. stays_there a (hand j more) is;
       no_hands = λ a more is. old_hand c tops currents u.block region top words seat grows a j more differs is;
       hand_words = λ a more k is below. refl;
@@ -399,9 +441,9 @@ module _ (c : Config) (u : World) (seat words : ℕ) (kind : Kind) where
       wait = refl;
       answer = refl;
       state = refl;
-      cset = refl;
       asked = λ is. is;
       marks = marks_grown j;
+      copies = rely_copies c u grown_world j set_stays refl refl (λ a k b seated counted inside is from below. refl);
     }
 
     -- the store of the top puts the words into hand
@@ -411,7 +453,7 @@ module _ (c : Config) (u : World) (seat words : ℕ) (kind : Kind) where
       memory = refl;
       graph = refl;
       shared = shared_grown;
-      own = has_room_now;
+      own = (has_room_now, record { copying = refl; working = refl });
       keeps = keeps_grown;
       others = others_grown;
     }

@@ -11,4 +11,4 @@ config_in k = config_of k.image
 
 -- what it is
 abbrev pub seen_control : Control → Controlling
-seen_control k = record { spot = k.spot; seen = k.last.seen; phase = k.last.phase; image = words_seen k.spot (image_in k.image) }
+seen_control k = record { spot = k.spot; seen = k.last.seen; phase = k.last.phase; cset = k.last.cset; image = words_seen k.spot (image_in k.image) }

@@ -3,8 +3,8 @@ ghost use Rattle.image_graph.specs.State.{config_of};
 ghost use Rattle.control_steps.specs.Ready.{is_ready};
 ghost use Rattle.control.specs.Clear.{IsClear};
 
-use crate::pause::{LastPause, clear, load, take_word};
-use control_steps::ControlSpot;
+use crate::pause::{clear, load, take_found};
+use control_steps::{ControlSpot, LastPause};
 use heap_words::{Access, Config, Place, Took};
 use image_graph::Image;
 use shen_graph::GraphText;
@@ -37,15 +37,17 @@ impl Control {
     ghost use Rattle.control.specs.Image.{image_from, is_storing, IsLoadedFrom};
     ghost use Rattle.control.specs.Seen.{config_in, seen_control};
 
-    /// The control of the image's heap. It has seen the image's phase and free word. Nothing else of the image matters.
+    /// The control of the image's heap. It has seen the image's phase, collection set and free word. Nothing else of the image
+    /// matters.
     pub fn new(image: Image) -> Control
         ensures config { config_in result ≡ config_of image }
-        ensures seen { seen_control result ≡ record { spot = ControlSpot.LookLeft; seen = memory_of image Free; phase = memory_of image Phase; image = [] } }
+        ensures seen { seen_control result ≡ record { spot = ControlSpot.LookLeft; seen = memory_of image Free; phase = memory_of image Phase; cset = memory_of image Cset; image = [] } }
     {
         let mut image = image;
         let config = image.config();
         let last = LastPause {
             phase: image.word(config.phase_at()),
+            cset: image.word(config.cset_at()),
             seen: image.word(config.free_at()),
         };
         clear(&mut image);
@@ -103,12 +105,10 @@ impl Control {
     {
         let before = self.spot;
         let last = self.last;
-        if let ControlSpot::LoadWord { index } = before {
-            self.last = take_word(&mut self.image, index, last, got);
-        }
-        let config = self.image.config();
-        self.spot = before.after(config, last.phase, last.seen, got);
-        before.says(config, last.seen, got)
+        self.last = take_found(&mut self.image, before, last, got);
+        let (spot, said) = before.after(self.image.config(), last, got);
+        self.spot = spot;
+        said
     }
 
     /// Writes the graph that the words of the heap's table hold, as `Image::answer_graph` does: it is the only place in a

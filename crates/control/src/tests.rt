@@ -123,14 +123,16 @@ fn makes_a_pause(rt: HostRuntime) -> Result<(), Fail> {
     Ok(())
 }
 
-// The control of a heap in which objects are marked.
-fn marking(alloc: Global, config: Config) -> Result<Control, Fail>
+// The control of a heap in this phase, with this collection set.
+fn in_phase(alloc: Global, config: Config, phase: u64, cset: u64) -> Result<Control, Fail>
     ensures config { IfOk result (λ control. config_in control ≡ config) }
     ensures spot { IfOk result (λ control. (seen_control control).spot ≡ LookLeft) }
-    ensures phase { IfOk result (λ control. (seen_control control).phase ≡ 1) }
+    ensures phase { IfOk result (λ control. (seen_control control).phase ≡ phase) }
+    ensures cset { IfOk result (λ control. (seen_control control).cset ≡ cset) }
 {
     let mut image = Image::open(alloc, config)?;
-    image.set_word(config.phase_at(), 1);
+    image.set_word(config.phase_at(), phase);
+    image.set_word(config.cset_at(), cset);
     Ok(Control::new(image))
 }
 
@@ -139,7 +141,7 @@ fn marking(alloc: Global, config: Config) -> Result<Control, Fail>
 #[test]
 fn scans_while_objects_are_marked(rt: HostRuntime) -> Result<(), Fail> {
     let config = Config::new(4, 64, 1, 0, 0)?;
-    let mut control = marking(rt.alloc(), config)?;
+    let mut control = in_phase(rt.alloc(), config, 1, 0)?;
     assert_eq!(rt; control.took(1), Took::More);
     assert_eq!(rt; control.plan(), Access::Load { at: 9 });
     assert_eq!(rt; control.took(1), Took::More);
@@ -159,5 +161,49 @@ fn scans_while_objects_are_marked(rt: HostRuntime) -> Result<(), Fail> {
     assert_eq!(rt; control.took(8), Took::More);
     assert_eq!(rt; control.place(), Place::P1);
     assert_eq!(rt; control.plan(), Access::Store { at: 0, value: 1 });
+    Ok(())
+}
+
+// While objects are copied it evacuates a region: region 1 is the collection set, and has one object, at address 128. It is marked,
+// and not copied yet. The control waits while nobody may copy, and then looks for room in its own current region. The counter of copiers is word 7, the tops are the words from 10 on, the current regions those from 22 on,
+// the black bits those from 55 on, and the heap begins at word 59, with address 64.
+#[test]
+fn evacuates_while_objects_are_copied(rt: HostRuntime) -> Result<(), Fail> {
+    let config = Config::new(4, 64, 1, 0, 0)?;
+    let mut control = in_phase(rt.alloc(), config, 2, 2)?;
+    assert_eq!(rt; control.took(1), Took::More);
+    assert_eq!(rt; control.took(1), Took::More);
+    assert_eq!(rt; control.place(), Place::EC);
+    assert_eq!(rt; control.plan(), Access::Load { at: 8 });
+    assert_eq!(rt; control.took(1), Took::More);
+    assert_eq!(rt; control.took(1), Took::More);
+    assert_eq!(rt; control.place(), Place::ET);
+    assert_eq!(rt; control.plan(), Access::Load { at: 11 });
+    assert_eq!(rt; control.took(3), Took::More);
+    assert_eq!(rt; control.plan(), Access::Load { at: 124 });
+    assert_eq!(rt; control.took(65536), Took::More);
+    assert_eq!(rt; control.plan(), Access::Load { at: 56 });
+    assert_eq!(rt; control.took(1), Took::More);
+    assert_eq!(rt; control.plan(), Access::Load { at: 123 });
+    assert_eq!(rt; control.took(1), Took::More);
+    assert_eq!(rt; control.plan(), Access::Load { at: 7 });
+    assert_eq!(rt; control.took(9223372036854775809), Took::Again);
+    assert_eq!(rt; control.took(0), Took::More);
+    assert_eq!(rt; control.took(0), Took::More);
+    assert_eq!(rt; control.place(), Place::SL);
+    assert_eq!(rt; control.took(65536), Took::More);
+    assert_eq!(rt; control.plan(), Access::Load { at: 23 });
+    Ok(())
+}
+
+// Once no region is left it makes a pause.
+#[test]
+fn ends_evacuation(rt: HostRuntime) -> Result<(), Fail> {
+    let config = Config::new(4, 64, 1, 0, 0)?;
+    let mut control = in_phase(rt.alloc(), config, 2, 2)?;
+    assert_eq!(rt; control.took(1), Took::More);
+    assert_eq!(rt; control.took(0), Took::More);
+    assert_eq!(rt; control.took(4), Took::More);
+    assert_eq!(rt; control.place(), Place::P1);
     Ok(())
 }

@@ -1,11 +1,11 @@
 -- The control can make its next access wherever it goes on.
-use Rattle.std.proofs.Common.{◌≡◌, ◌+◌, ◌<◌, Bool, true, false, refl, sym, subst, arith}
+use Rattle.std.proofs.Common.{◌≡◌, ℕ, ◌+◌, ◌<◌, Bool, true, false, refl, sym, subst, arith}
 use Rattle.std.specs.Prelude.{◌==◌, nat_lt, if◌then◌else◌}
 use Rattle.std.proofs.lemmas.Bool.{and_parts, lt-ltb, ltb-true}
 use Rattle.std.proofs.lemmas.Bool.Decides.{nat_tests}
 use Rattle.heap_words.specs.declared.config.Config.{Config}
 use Rattle.heap_words.specs.Access.{table_index}
-use Rattle.heap_words.specs.Words.{is_word, word_at, table_words}
+use Rattle.heap_words.specs.Words.{IsWord, word_at, table_words}
 use Rattle.heap_words.proofs.Stores.{is_word_true}
 use Rattle.heap_words.proofs.Rows.{word_inside}
 use Rattle.steps_base.specs.Touch.{Touch, placed}
@@ -17,10 +17,15 @@ use Rattle.heap_words.specs.declared.access.Unit.TheVariants.{Worked, NoneLeft}
 use Rattle.scan_steps.specs.declared.spot.ScanSpot.{ScanSpot}
 use Rattle.scan_steps.specs.declared.spot.ScanSpot.TheVariants as scan
 use Rattle.scan_steps.specs.Rows as scans
+use Rattle.load_barrier.specs.declared.evac_spot.EvacSpot.{EvacSpot}
+use Rattle.load_barrier.specs.declared.evac_spot.EvacSpot.TheVariants as evac
+use Rattle.load_barrier.specs.UnitRows as evacs
+use Rattle.load_barrier.specs.UnitFit as evac_fit
+use Rattle.load_barrier.proofs.Inside.{evacuation_inside}
 use Rattle.heap_world.specs.Change.{image_words}
 use Rattle.control_steps.specs.declared.spot.ControlSpot.{ControlSpot}
-use Rattle.control_steps.specs.declared.spot.ControlSpot.TheVariants.{LookLeft, StoreEnd, LookAsked, LookFree, Scanning, Stopping, LoadWord, StoreWord, Go, Gone}
-use Rattle.control_steps.specs.Rows.{control_touch, after_scan, stopping, begins_pause, unasked, wants_pause}
+use Rattle.control_steps.specs.declared.spot.ControlSpot.TheVariants.{LookLeft, StoreEnd, LookAsked, LookFree, Scanning, Evacuating, Stopping, LoadWord, StoreWord, Go, Gone}
+use Rattle.control_steps.specs.Rows.{control_seat, control_touch, after_scan, after_evacuation, stopping, begins_pause, begins_unit, unasked, wants_pause}
 use Rattle.control_steps.specs.Ready.{is_ready, AccessesAreInside, StaysReady}
 
 -- of two spots
@@ -43,36 +48,45 @@ scans_on c (scan.Ended Worked) ready = refl
 scans_on c (scan.Ended NoneLeft) ready = refl
 scans_on c at ready = search arith
 
+-- where an evacuation goes on
+evacuates_on : (c : Config) (cset : ℕ) (at : EvacSpot) → evac_fit.is_ready c (control_seat c) at ≡ true → is_ready c (after_evacuation cset at) ≡ true
+evacuates_on c cset (evac.Ended Worked) ready = refl
+evacuates_on c cset (evac.Ended NoneLeft) ready = refl
+evacuates_on c cset at ready = search arith
+
 pub stays_ready : StaysReady
-stays_ready c phase seen LookLeft got ready goes = of_two c (got == 0) StoreEnd LookAsked (λ e. refl) (λ e. refl)
-stays_ready c phase seen StoreEnd got ready goes = refl
-stays_ready c phase seen LookAsked got ready goes = of_two c (begins_pause phase got) (Stopping stop.Raise) (unasked phase) (λ e. refl) (λ e. of_two c (phase == 0) LookFree (Scanning scan.LoadClaim) (λ e. refl) (λ e. refl))
-stays_ready c phase seen LookFree got ready goes = of_two c (wants_pause c seen got) (Stopping stop.Raise) LookLeft (λ e. refl) (λ e. refl)
-stays_ready c phase seen (Scanning at) got ready goes = scans_on c (scans.next_at c at got) goes
-stays_ready c phase seen (Stopping stop.Raise) got ready goes = (let some = c.in_range.least_mutators in grind (arith, nat_tests))
-stays_ready c phase seen (Stopping (stop.Check seat)) got ready goes =
+stays_ready c phase cset seen LookLeft got ready goes = of_two c (got == 0) StoreEnd LookAsked (λ e. refl) (λ e. refl)
+stays_ready c phase cset seen StoreEnd got ready goes = refl
+stays_ready c phase cset seen LookAsked got ready goes = of_two c (begins_pause phase got) (Stopping stop.Raise) (unasked phase cset) (λ e. refl)
+    (λ e. of_two c (phase == 0) LookFree (begins_unit phase cset) (λ e. refl) (λ e. of_two c (phase == 1) (Scanning scan.LoadClaim) (Evacuating cset evac.LoadClaim) (λ e. refl) (λ e. refl)))
+stays_ready c phase cset seen LookFree got ready goes = of_two c (wants_pause c seen got) (Stopping stop.Raise) LookLeft (λ e. refl) (λ e. refl)
+stays_ready c phase cset seen (Scanning at) got ready goes = scans_on c (scans.next_at c at got) goes
+stays_ready c phase cset seen (Evacuating kept at) got ready goes = evacuates_on c kept (evacs.next_at c kept at got) goes.0
+stays_ready c phase cset seen (Stopping stop.Raise) got ready goes = (let some = c.in_range.least_mutators in grind (arith, nat_tests))
+stays_ready c phase cset seen (Stopping (stop.Check seat)) got ready goes =
     checks_on c (got == 0) (after_seat c seat) (stop.Check seat)
     (λ e. checks_on c (nat_lt (seat + 1) (c.mutators + c.helpers)) (stop.Check (seat + 1)) stop.Stopped (λ more. grind (arith, nat_tests)) (λ all. lt-ltb _ _ (some_words c)))
     (λ e. ready)
-stays_ready c phase seen (Stopping stop.Stopped) got ready goes = lt-ltb _ _ (some_words c)
-stays_ready c phase seen (LoadWord index) got ready goes = of_two c (nat_lt (index + 1) (image_words c)) (LoadWord (index + 1)) (StoreWord 0) (λ more. more) (λ all. lt-ltb _ _ (some_words c))
-stays_ready c phase seen (StoreWord index) got ready goes = of_two c (nat_lt (index + 1) (image_words c)) (StoreWord (index + 1)) Go (λ more. more) (λ all. refl)
-stays_ready c phase seen Go got ready goes = refl
-stays_ready c phase seen Gone got ready goes = refl
+stays_ready c phase cset seen (Stopping stop.Stopped) got ready goes = lt-ltb _ _ (some_words c)
+stays_ready c phase cset seen (LoadWord index) got ready goes = of_two c (nat_lt (index + 1) (image_words c)) (LoadWord (index + 1)) (StoreWord 0) (λ more. more) (λ all. lt-ltb _ _ (some_words c))
+stays_ready c phase cset seen (StoreWord index) got ready goes = of_two c (nat_lt (index + 1) (image_words c)) (StoreWord (index + 1)) Go (λ more. more) (λ all. refl)
+stays_ready c phase cset seen Go got ready goes = refl
+stays_ready c phase cset seen Gone got ready goes = refl
 
 -- an access of a word of the table is inside it
-placed_inside : (c : Config) (t : Touch) → is_word c t.word ≡ true → table_index (placed c t) < table_words c
-placed_inside c t is = subst (λ k. k < table_words c) (sym (table_index-access_at (word_at c t.word) t.form)) (word_inside c t.word (is_word_true c t.word is))
+placed_inside : (c : Config) (t : Touch) → IsWord c t.word → table_index (placed c t) < table_words c
+placed_inside c t is = subst (λ k. k < table_words c) (sym (table_index-access_at (word_at c t.word) t.form)) (word_inside c t.word is)
 
 -- the control's are
 pub accesses_inside : AccessesAreInside
-accesses_inside c LookLeft value ready = placed_inside c (control_touch c LookLeft) refl
-accesses_inside c StoreEnd value ready = placed_inside c (control_touch c StoreEnd) refl
-accesses_inside c LookAsked value ready = placed_inside c (control_touch c LookAsked) refl
-accesses_inside c LookFree value ready = placed_inside c (control_touch c LookFree) refl
+accesses_inside c LookLeft value ready = placed_inside c (control_touch c LookLeft) tt
+accesses_inside c StoreEnd value ready = placed_inside c (control_touch c StoreEnd) tt
+accesses_inside c LookAsked value ready = placed_inside c (control_touch c LookAsked) tt
+accesses_inside c LookFree value ready = placed_inside c (control_touch c LookFree) tt
 accesses_inside c (Scanning at) value ready = search (arith, nat_tests)
-accesses_inside c (Stopping at) value ready = placed_inside c (stop_touch at) (and_parts _ _ (and_parts _ _ ready).0).0
+accesses_inside c (Evacuating cset at) value ready = placed_inside c (control_touch c (Evacuating cset at)) (evacuation_inside c (control_seat c) at (and_parts _ _ ready).0)
+accesses_inside c (Stopping at) value ready = placed_inside c (stop_touch at) (is_word_true c (stop_touch at).word (and_parts _ _ (and_parts _ _ ready).0).0)
 accesses_inside c (LoadWord index) value ready = (let below = ltb-true _ _ ready in omega (arith, below))
 accesses_inside c (StoreWord index) value ready = (let below = ltb-true _ _ ready in omega (arith, below))
-accesses_inside c Go value ready = placed_inside c (control_touch c Go) refl
-accesses_inside c Gone value ready = placed_inside c (control_touch c Gone) refl
+accesses_inside c Go value ready = placed_inside c (control_touch c Go) tt
+accesses_inside c Gone value ready = placed_inside c (control_touch c Gone) tt

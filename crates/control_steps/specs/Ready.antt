@@ -7,15 +7,18 @@ use Rattle.steps_base.specs.Fits.{touch_fits}
 use Rattle.handshake.specs.Rows.{stop_touch, is_stopped}
 use Rattle.scan_steps.specs.Rows as scans
 use Rattle.scan_steps.specs.Seen as scan
+use Rattle.load_barrier.specs.UnitRows as evacs
+use Rattle.load_barrier.specs.UnitFit as evac
 use Rattle.heap_world.specs.Change.{image_words}
 use Rattle.control_steps.specs.declared.spot.ControlSpot.{ControlSpot}
-use Rattle.control_steps.specs.declared.spot.ControlSpot.TheVariants.{Scanning, Stopping, LoadWord, StoreWord}
-use Rattle.control_steps.specs.Rows.{access_with, next_spot}
+use Rattle.control_steps.specs.declared.spot.ControlSpot.TheVariants.{Scanning, Evacuating, Stopping, LoadWord, StoreWord}
+use Rattle.control_steps.specs.Rows.{control_seat, access_with, next_spot}
 
--- whether the numbers of a spot are in range: the next access of a scan can be made, a seat is one of a mutator or a helper, an
+-- whether the numbers of a spot are in range: the next access of a unit can be made, a seat is one of a mutator or a helper, an
 -- index one of a word of the image
 abbrev pub is_ready : Config → ControlSpot → Bool
 is_ready c (Scanning at) = scans.is_ready c at && (if scans.is_ended at then false else true)
+is_ready c (Evacuating cset at) = evac.is_ready c (control_seat c) at && (if evacs.is_ended at then false else true)
 is_ready c (Stopping at) = touch_fits c (stop_touch at) && (if is_stopped at then false else true)
 is_ready c (LoadWord index) = nat_lt index (image_words c)
 is_ready c (StoreWord index) = nat_lt index (image_words c)
@@ -25,11 +28,12 @@ is_ready c _ = true
 abbrev pub AccessesAreInside : Type 0
 AccessesAreInside = (c : Config) (spot : ControlSpot) (value : ℕ) → is_ready c spot ≡ true → table_index (access_with c spot value) < table_words c
 
--- a scan can go on from a word
-abbrev pub ScanGoesOn : Config → ControlSpot → ℕ → Type 0
-ScanGoesOn c (Scanning at) got = scan.IsFit c at got
-ScanGoesOn c _ got = Unit {0}
+-- a unit can go on from a word
+abbrev pub UnitGoesOn : Config → ControlSpot → ℕ → Type 0
+UnitGoesOn c (Scanning at) got = scan.IsFit c at got
+UnitGoesOn c (Evacuating cset at) got = evac.IsFit c (control_seat c) cset at got
+UnitGoesOn c _ got = Unit {0}
 
--- and they are in range at the next spot, whatever word is found; in a scan, where the scan can go on from it
+-- and they are in range at the next spot, whatever word is found; in a unit, where the unit can go on from it
 abbrev pub StaysReady : Type 0
-StaysReady = (c : Config) (phase seen : ℕ) (spot : ControlSpot) (got : ℕ) → is_ready c spot ≡ true → ScanGoesOn c spot got → is_ready c (next_spot c phase seen spot got) ≡ true
+StaysReady = (c : Config) (phase cset seen : ℕ) (spot : ControlSpot) (got : ℕ) → is_ready c spot ≡ true → UnitGoesOn c spot got → is_ready c (next_spot c phase cset seen spot got) ≡ true

@@ -1,15 +1,16 @@
 -- The rows of the control: for each spot its place, the access that it makes and what follows. While objects are marked, in phase
--- 1, it works on units as helpers do, and once none is left it makes the pause that ends the phase.
+-- 1, and while they are copied, in phase 2, it works on units as helpers do, and once none is left it makes the pause that ends the
+-- phase.
 use Rattle.std.specs.Prelude.{ℕ, ◌+◌, ◌*◌, ◌==◌, Bool, true, false, ◌&&◌, ◌||◌, nat_lt, List, [], ◌∷◌, ◌++◌, slice_index, if◌then◌else◌}
 use Rattle.std.specs.Int.{bit_at}
 use Rattle.heap_words.specs.declared.config.Config.{Config}
 use Rattle.heap_words.specs.declared.access.Access.{Access}
 use Rattle.heap_words.specs.declared.access.Access.TheVariants.{Load, Store}
 use Rattle.heap_words.specs.declared.access.Took.{Took}
-use Rattle.heap_words.specs.declared.access.Took.TheVariants.{More, Again}
+use Rattle.heap_words.specs.declared.access.Took.TheVariants.{More, Again, Done}
 use Rattle.heap_words.specs.declared.place.Place.{Place}
 use Rattle.heap_words.specs.declared.place.Place.TheVariants as place
-use Rattle.heap_words.specs.Words.{Word, Left, End, Ask, Free, Phase, image_start}
+use Rattle.heap_words.specs.Words.{Word, Left, End, Ask, Free, Phase, Cset, image_start}
 use Rattle.steps_base.specs.Touch.{Touch, touch, loads, stores, placed}
 use Rattle.regions.specs.Sets.{members_below}
 use Rattle.handshake.specs.declared.stop_spot.StopSpot.{StopSpot}
@@ -19,19 +20,27 @@ use Rattle.heap_words.specs.declared.access.Unit.TheVariants.{Worked, NoneLeft}
 use Rattle.scan_steps.specs.declared.spot.ScanSpot.{ScanSpot}
 use Rattle.scan_steps.specs.declared.spot.ScanSpot.TheVariants as scan
 use Rattle.scan_steps.specs.Rows as scans
+use Rattle.load_barrier.specs.declared.evac_spot.EvacSpot.{EvacSpot}
+use Rattle.load_barrier.specs.declared.evac_spot.EvacSpot.TheVariants as evac
+use Rattle.load_barrier.specs.UnitRows as evacs
 use Rattle.heap_world.specs.Change.{Change, image_view, image_words}
 use Rattle.control_steps.specs.declared.spot.ControlSpot.{ControlSpot}
-use Rattle.control_steps.specs.declared.spot.ControlSpot.TheVariants.{LookLeft, StoreEnd, LookAsked, LookFree, Scanning, Stopping, LoadWord, StoreWord, Go, Gone}
+use Rattle.control_steps.specs.declared.spot.ControlSpot.TheVariants.{LookLeft, StoreEnd, LookAsked, LookFree, Scanning, Evacuating, Stopping, LoadWord, StoreWord, Go, Gone}
 
 -- what the events see of the control
 pub record Controlling : Type 0 where
   pub spot : ControlSpot
   -- the free word that it has seen: that of the image at the end of its last pause that ended with phase 0
   pub seen : ℕ
-  -- the phase at the end of its last pause
+  -- the phase and the collection set at the end of its last pause
   pub phase : ℕ
+  pub cset : ℕ
   -- the words of the image that it has loaded so far, and those of the new image while it stores them; outside pauses none
   pub image : List ℕ
+
+-- the control's seat is behind those of the mutators and the helpers
+abbrev pub control_seat : Config → ℕ
+control_seat c = c.mutators + c.helpers
 
 -- whether it has ended
 abbrev pub is_gone : ControlSpot → Bool
@@ -45,6 +54,7 @@ control_place StoreEnd = place.IE
 control_place LookAsked = place.I1
 control_place LookFree = place.I2
 control_place (Scanning at) = scans.place_at at
+control_place (Evacuating cset at) = evacs.place_at at
 control_place (Stopping at) = stop_place at
 control_place (LoadWord index) = place.PL
 control_place (StoreWord index) = place.PS
@@ -58,6 +68,7 @@ control_touch c StoreEnd = touch End (stores 1)
 control_touch c LookAsked = touch Ask loads
 control_touch c LookFree = touch Free loads
 control_touch c (Scanning at) = scans.touch_at c at
+control_touch c (Evacuating cset at) = evacs.touch_at c (control_seat c) at
 control_touch c (Stopping at) = stop_touch at
 control_touch c Go = go_touch
 control_touch c _ = touch Left loads
@@ -88,30 +99,41 @@ after_scan (scan.Ended Worked) = LookLeft
 after_scan (scan.Ended NoneLeft) = Stopping stop.Raise
 after_scan at = Scanning at
 
+-- and where it stands that evacuates a collection set
+abbrev pub after_evacuation : ℕ → EvacSpot → ControlSpot
+after_evacuation cset (evac.Ended Worked) = LookLeft
+after_evacuation cset (evac.Ended NoneLeft) = Stopping stop.Raise
+after_evacuation cset at = Evacuating cset at
+
 -- whether a pause is asked for: by bit 1 because a mutator waits for room, and in phase 0 by bit 0 for a cycle
 abbrev pub begins_pause : ℕ → ℕ → Bool
 begins_pause phase asked = (bit_at asked 1 == 1) || ((phase == 0) && (bit_at asked 0 == 1))
 
--- what it does where no pause is asked for: in phase 0 it looks at the free word, and in phase 1 it claims a unit
-abbrev pub unasked : ℕ → ControlSpot
-unasked phase = if phase == 0 then LookFree else Scanning scan.LoadClaim
+-- where it begins with a unit, by the phase and the collection set: in phase 1 objects are marked, and in phase 2 copied
+abbrev pub begins_unit : (phase cset : ℕ) → ControlSpot
+begins_unit phase cset = if phase == 1 then Scanning scan.LoadClaim else Evacuating cset evac.LoadClaim
+
+-- what it does where no pause is asked for: in phase 0 it looks at the free word, and in each other it claims a unit
+abbrev pub unasked : (phase cset : ℕ) → ControlSpot
+unasked phase cset = if phase == 0 then LookFree else begins_unit phase cset
 
 -- whether the free word calls for a pause: fewer than half of the regions are free, and it is not the word seen
 abbrev pub wants_pause : Config → ℕ → ℕ → Bool
 wants_pause c seen free = nat_lt (2 * members_below free 64) c.regions && (if free == seen then false else true)
 
--- where it stands next, by the phase, the free word that it has seen and the word that was found
-abbrev pub next_spot : Config → (phase seen : ℕ) → ControlSpot → ℕ → ControlSpot
-next_spot c phase seen LookLeft got = if got == 0 then StoreEnd else LookAsked
-next_spot c phase seen StoreEnd got = Gone
-next_spot c phase seen LookAsked got = if begins_pause phase got then Stopping stop.Raise else unasked phase
-next_spot c phase seen LookFree got = if wants_pause c seen got then Stopping stop.Raise else LookLeft
-next_spot c phase seen (Scanning at) got = after_scan (scans.next_at c at got)
-next_spot c phase seen (Stopping at) got = stopping (stop_next c at got)
-next_spot c phase seen (LoadWord index) got = if nat_lt (index + 1) (image_words c) then LoadWord (index + 1) else StoreWord 0
-next_spot c phase seen (StoreWord index) got = if nat_lt (index + 1) (image_words c) then StoreWord (index + 1) else Go
-next_spot c phase seen Go got = LookLeft
-next_spot c phase seen Gone got = Gone
+-- where it stands next, by the phase, the collection set, the free word that it has seen and the word that was found
+abbrev pub next_spot : Config → (phase cset seen : ℕ) → ControlSpot → ℕ → ControlSpot
+next_spot c phase cset seen LookLeft got = if got == 0 then StoreEnd else LookAsked
+next_spot c phase cset seen StoreEnd got = Gone
+next_spot c phase cset seen LookAsked got = if begins_pause phase got then Stopping stop.Raise else unasked phase cset
+next_spot c phase cset seen LookFree got = if wants_pause c seen got then Stopping stop.Raise else LookLeft
+next_spot c phase cset seen (Scanning at) got = after_scan (scans.next_at c at got)
+next_spot c phase cset seen (Evacuating kept at) got = after_evacuation kept (evacs.next_at c kept at got)
+next_spot c phase cset seen (Stopping at) got = stopping (stop_next c at got)
+next_spot c phase cset seen (LoadWord index) got = if nat_lt (index + 1) (image_words c) then LoadWord (index + 1) else StoreWord 0
+next_spot c phase cset seen (StoreWord index) got = if nat_lt (index + 1) (image_words c) then StoreWord (index + 1) else Go
+next_spot c phase cset seen Go got = LookLeft
+next_spot c phase cset seen Gone got = Gone
 
 -- the image then: with the last word that is loaded it is changed
 abbrev pub next_image : Change → Config → ControlSpot → List ℕ → ℕ → List ℕ
@@ -133,20 +155,42 @@ abbrev pub next_phase : Change → Config → ControlSpot → List ℕ → ℕ �
 next_phase change c (LoadWord index) image phase got = if nat_lt (index + 1) (image_words c) then phase else image_view c (change c (image ++ got ∷ [])) Phase
 next_phase change c _ image phase got = phase
 
+-- the collection set then: that of the new image, once there is one
+abbrev pub next_set : Change → Config → ControlSpot → List ℕ → ℕ → ℕ → ℕ
+next_set change c (LoadWord index) image cset got = if nat_lt (index + 1) (image_words c) then cset else image_view c (change c (image ++ got ∷ [])) Cset
+next_set change c _ image cset got = cset
+
 -- what it is then
 abbrev pub control_next : Change → Config → Controlling → ℕ → Controlling
 control_next change c k got = record {
-  spot = next_spot c k.phase k.seen k.spot got;
+  spot = next_spot c k.phase k.cset k.seen k.spot got;
   seen = next_seen change c k.spot k.image k.seen got;
   phase = next_phase change c k.spot k.image k.phase got;
+  cset = next_set change c k.spot k.image k.cset got;
   image = next_image change c k.spot k.image got;
 }
 
--- what a step says that finds this word: that it waits, that a helper was faster, or that there is more to do
+-- what a step of scanning says: again where a helper has claimed the unit
+abbrev pub scanning_says : ScanSpot → ℕ → Took
+scanning_says (scan.ClaimUnit unit) got = if got == unit then More else Again
+scanning_says at got = More
+
+-- what a step of stopping says: again while the seat is not out
+abbrev pub stopping_says : StopSpot → ℕ → Took
+stopping_says (stop.Check seat) got = if got == 0 then More else Again
+stopping_says at got = More
+
+-- what a step of evacuation says that says this by itself: once a unit is done, or none was left, there is more to do
+abbrev pub evacuating_says : Took → Took
+evacuating_says Done = More
+evacuating_says said = said
+
+-- what a step says that finds this word: that it waits, that another machine was faster, or that there is more to do
 abbrev pub says_at : Config → ℕ → ControlSpot → ℕ → Took
 says_at c seen LookFree got = if wants_pause c seen got then More else Again
-says_at c seen (Scanning (scan.ClaimUnit unit)) got = if got == unit then More else Again
-says_at c seen (Stopping (stop.Check seat)) got = if got == 0 then More else Again
+says_at c seen (Scanning at) got = scanning_says at got
+says_at c seen (Evacuating cset at) got = evacuating_says (evacs.says_at c cset at got)
+says_at c seen (Stopping at) got = stopping_says at got
 says_at c seen _ got = More
 
 abbrev pub control_says : Config → Controlling → ℕ → Took

@@ -4,11 +4,12 @@ ghost use Rattle.heap_words.specs.Access.{table_index};
 ghost use Rattle.heap_words.specs.Words.{table_words};
 ghost use Rattle.heap_world.specs.Change.{image_words};
 ghost use Rattle.control_steps.specs.Rows as rows;
-ghost use Rattle.control_steps.specs.Ready.{is_ready, ScanGoesOn};
+ghost use Rattle.control_steps.specs.Ready.{is_ready, UnitGoesOn};
 ghost use Rattle.control_steps.specs.Waits.{waits_at};
 
 use handshake::{StopSpot, go_access};
 use heap_words::{Access, Config, Place, Took, Unit};
+use load_barrier::EvacSpot;
 use regions::size;
 use scan_steps::ScanSpot;
 
@@ -19,6 +20,20 @@ const ROOM: u32 = 1;
 
 // The phase between two cycles.
 const IDLE: u64 = 0;
+
+// The phase in which objects are marked.
+const MARK: u64 = 1;
+
+/// What stood in the image at the end of the control's last pause.
+#[derive(Clone, Copy, Debug)]
+pub struct LastPause {
+    /// The phase.
+    pub phase: u64,
+    /// The collection set.
+    pub cset: u64,
+    /// The free word, or that of the last pause before it that ended with phase 0.
+    pub seen: u64,
+}
 
 /// Where the control stands.
 #[derive(Clone, Copy, Debug, PartialEq, Eq)]
@@ -35,6 +50,13 @@ pub enum ControlSpot {
     Scanning {
         /// Where the scan stands.
         at: ScanSpot,
+    },
+    /// It claims a unit of evacuation and copies what is marked there.
+    Evacuating {
+        /// The collection set.
+        cset: u64,
+        /// Where the evacuation stands.
+        at: EvacSpot,
     },
     /// It stops the mutators and helpers.
     Stopping {
@@ -68,6 +90,7 @@ impl ControlSpot {
             ControlSpot::LookAsked => Place::I1,
             ControlSpot::LookFree => Place::I2,
             ControlSpot::Scanning { at } => at.place(),
+            ControlSpot::Evacuating { at, .. } => at.place(),
             ControlSpot::Stopping { at } => at.place(),
             ControlSpot::LoadWord { .. } => Place::PL,
             ControlSpot::StoreWord { .. } => Place::PS,
@@ -104,6 +127,7 @@ impl ControlSpot {
                 at: config.free_at(),
             },
             ControlSpot::Scanning { at } => at.access(config),
+            ControlSpot::Evacuating { at, .. } => at.access(config, seat_of(config)),
             ControlSpot::Stopping { at } => at.access(config),
             ControlSpot::LoadWord { index } => Access::Load {
                 at: config.image_start() + index,
@@ -117,44 +141,48 @@ impl ControlSpot {
         }
     }
 
-    /// Where it stands after it, by the phase and the free word that it has seen, and the word that the access has found.
-    pub fn after(self, config: Config, phase: u64, seen: u64, got: u64) -> ControlSpot
+    /// Where it stands after it, by what stood at the end of its last pause and the word that the access has found, and what the
+    /// step says.
+    pub fn after(self, config: Config, last: LastPause, got: u64) -> (ControlSpot, Took)
         requires ready { is_ready config self ≡ true }
-        requires fit { ScanGoesOn config self got }
-        ensures row { result ≡ rows.next_spot config phase seen self got }
-        ensures ready { is_ready config result ≡ true }
+        requires fit { UnitGoesOn config self got }
+        ensures row { result.0 ≡ rows.next_spot config last.phase last.cset last.seen self got }
+        ensures ready { is_ready config result.0 ≡ true }
+        ensures says { result.1 ≡ rows.says_at config last.seen self got }
+        ensures again { (result.1 ≡ Took.Again) ↔ waits_at config last.seen self got }
     {
         match self {
-            ControlSpot::LookLeft if got == 0 => ControlSpot::StoreEnd,
-            ControlSpot::LookLeft => ControlSpot::LookAsked,
-            ControlSpot::LookAsked if is_asked(phase, got) => STOP,
-            ControlSpot::LookAsked => unasked(phase),
-            ControlSpot::LookFree if is_wanted(config, seen, got) => STOP,
-            ControlSpot::LookFree | ControlSpot::Go => ControlSpot::LookLeft,
-            ControlSpot::Scanning { at } => after_scan(at.after(config, got)),
-            ControlSpot::Stopping { at } => stopping(at.after(config, got)),
-            ControlSpot::LoadWord { index } => after_load(config, index),
-            ControlSpot::StoreWord { index } => after_store(config, index),
-            ControlSpot::StoreEnd | ControlSpot::Gone => ControlSpot::Gone,
+            ControlSpot::LookLeft if got == 0 => (ControlSpot::StoreEnd, Took::More),
+            ControlSpot::LookLeft => (ControlSpot::LookAsked, Took::More),
+            ControlSpot::LookAsked if is_asked(last.phase, got) => (STOP, Took::More),
+            ControlSpot::LookAsked => (unasked(last.phase, last.cset), Took::More),
+            ControlSpot::LookFree if is_wanted(config, last.seen, got) => (STOP, Took::More),
+            ControlSpot::LookFree => (ControlSpot::LookLeft, Took::Again),
+            ControlSpot::Scanning { at } => (
+                after_scan(at.after(config, got)),
+                scanning_says(at, got),
+            ),
+            ControlSpot::Evacuating { cset, at } => {
+                let (next, said) = at.after(config, seat_of(config), cset, got);
+                (after_evacuation(cset, next), evacuating_says(said))
+            }
+            ControlSpot::Stopping { at } => (
+                stopping(at.after(config, got)),
+                stopping_says(at, got),
+            ),
+            ControlSpot::LoadWord { index } => (after_load(config, index), Took::More),
+            ControlSpot::StoreWord { index } => (after_store(config, index), Took::More),
+            ControlSpot::Go => (ControlSpot::LookLeft, Took::More),
+            ControlSpot::StoreEnd | ControlSpot::Gone => (ControlSpot::Gone, Took::More),
         }
     }
+}
 
-    /// What the step says that finds this word.
-    pub fn says(self, config: Config, seen: u64, got: u64) -> Took
-        ensures row { result ≡ rows.says_at config seen self got }
-        ensures again { (result ≡ Took.Again) ↔ waits_at config seen self got }
-    {
-        match self {
-            ControlSpot::LookFree if !is_wanted(config, seen, got) => Took::Again,
-            ControlSpot::Scanning {
-                at: ScanSpot::ClaimUnit { unit },
-            } if got != unit => Took::Again,
-            ControlSpot::Stopping {
-                at: StopSpot::Check { .. },
-            } if got != 0 => Took::Again,
-            _ => Took::More,
-        }
-    }
+// The control's seat is behind those of the mutators and the helpers.
+fn seat_of(config: Config) -> usize
+    ensures { result ≡ rows.control_seat config }
+{
+    config.mutators() + config.helpers()
 }
 
 // Where a pause begins.
@@ -178,14 +206,28 @@ fn is_set(word: u64, bit: u32) -> bool
 }
 
 // What it does where no pause is asked for.
-fn unasked(phase: u64) -> ControlSpot
-    ensures { result ≡ rows.unasked phase }
+fn unasked(phase: u64, cset: u64) -> ControlSpot
+    ensures { result ≡ rows.unasked phase cset }
 {
     if phase == IDLE {
         ControlSpot::LookFree
     } else {
+        begins_unit(phase, cset)
+    }
+}
+
+// Where it begins with a unit of the phase.
+fn begins_unit(phase: u64, cset: u64) -> ControlSpot
+    ensures { result ≡ rows.begins_unit phase cset }
+{
+    if phase == MARK {
         ControlSpot::Scanning {
             at: ScanSpot::LoadClaim,
+        }
+    } else {
+        ControlSpot::Evacuating {
+            cset,
+            at: EvacSpot::LoadClaim,
         }
     }
 }
@@ -200,6 +242,39 @@ fn after_scan(at: ScanSpot) -> ControlSpot
             unit: Unit::NoneLeft,
         } => STOP,
         at => ControlSpot::Scanning { at },
+    }
+}
+
+// It says again where a helper has claimed the unit.
+fn scanning_says(at: ScanSpot, got: u64) -> Took
+    ensures { result ≡ rows.scanning_says at got }
+{
+    match at {
+        ScanSpot::ClaimUnit { unit } if got != unit => Took::Again,
+        _ => Took::More,
+    }
+}
+
+// Once a unit is done it looks again what is to do, and once none was left it makes a pause.
+fn after_evacuation(cset: u64, at: EvacSpot) -> ControlSpot
+    ensures { result ≡ rows.after_evacuation cset at }
+{
+    match at {
+        EvacSpot::Ended { unit: Unit::Worked } => ControlSpot::LookLeft,
+        EvacSpot::Ended {
+            unit: Unit::NoneLeft,
+        } => STOP,
+        at => ControlSpot::Evacuating { cset, at },
+    }
+}
+
+// What a step of evacuation says: once a unit is done, or none was left, there is more to do.
+fn evacuating_says(said: Took) -> Took
+    ensures { result ≡ rows.evacuating_says said }
+{
+    match said {
+        Took::Done => Took::More,
+        said => said,
     }
 }
 
@@ -222,6 +297,16 @@ fn stopping(at: StopSpot) -> ControlSpot
     }
 }
 
+// It says again while the seat is not out.
+fn stopping_says(at: StopSpot, got: u64) -> Took
+    ensures { result ≡ rows.stopping_says at got }
+{
+    match at {
+        StopSpot::Check { .. } if got != 0 => Took::Again,
+        _ => Took::More,
+    }
+}
+
 /// How many words the image has.
 pub fn image_words(config: Config) -> usize
     ensures { result ≡ image_words config }
@@ -232,7 +317,7 @@ pub fn image_words(config: Config) -> usize
 // What follows once a word of the image is loaded.
 fn after_load(config: Config, index: usize) -> ControlSpot
     requires { index < image_words config }
-    ensures row { result ≡ rows.next_spot config 0 0 (ControlSpot.LoadWord index) 0 }
+    ensures row { result ≡ rows.next_spot config 0 0 0 (ControlSpot.LoadWord index) 0 }
     ensures ready { is_ready config result ≡ true }
 {
     if index + 1 < image_words(config) {
@@ -245,7 +330,7 @@ fn after_load(config: Config, index: usize) -> ControlSpot
 // What follows once a word of the new image is stored.
 fn after_store(config: Config, index: usize) -> ControlSpot
     requires { index < image_words config }
-    ensures row { result ≡ rows.next_spot config 0 0 (ControlSpot.StoreWord index) 0 }
+    ensures row { result ≡ rows.next_spot config 0 0 0 (ControlSpot.StoreWord index) 0 }
     ensures ready { is_ready config result ≡ true }
 {
     if index + 1 < image_words(config) {

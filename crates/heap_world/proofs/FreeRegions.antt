@@ -28,6 +28,17 @@ lowest_within c free kept small some = ⊎_elim
 pub owner_stays : (owner : ℕ → Option ℕ) (region seat : ℕ) → owner region ≡ None → (r s : ℕ) → owner r ≡ Some s → updated owner region (Some seat) r ≡ Some s
 owner_stays owner region seat nobodys r s is = updated_else owner region (Some seat) r (λ same. none-some s (sym nobodys ∙ ap owner same ∙ is)) ∙ is
 
+-- a region that is free without another one was free
+pub free_before : (c : Config) (free region : ℕ) → region < c.regions → (r : ℕ) → r < c.regions → IsIn (bit_and free (all_but region)) r → IsIn free r
+free_before c free region within r inside bit =
+    let few = c.in_range.most_regions in
+    let other : r ≢ region = λ same.
+    let gone = bit_at_clear_same w64 free region (omega (arith, within, few)) in
+    let here : bit_at (bit_and free (all_but region)) region ≡ 1 = subst (λ k. bit_at (bit_and free (all_but region)) k ≡ 1) same bit in
+    omega (arith, gone, here)
+    in
+    sym (bit_at_clear_other w64 free region (omega (arith, within, few)) r (omega (arith, inside, few)) other) ∙ bit
+
 -- The free word without a region: the others stay free, and nobody's.
 pub free_without : (c : Config) (free region : ℕ) (top : ℕ → ℕ) (owner after : ℕ → Option ℕ) → region < c.regions
     → ((r : ℕ) → r ≢ region → after r ≡ owner r) → IsFreeWord c free top owner → IsFreeWord c (bit_and free (all_but region)) top after

@@ -4,9 +4,9 @@ use Rattle.std.proofs.lemmas.Bool.{cases_eq, cases_lt}
 use Rattle.heap_words.specs.declared.config.Config.{Config}
 use Rattle.regions.specs.Place.{base_of}
 use Rattle.shen_graph.specs.declared.name.Name.{Name}
-use Rattle.heap_world.specs.World.{Block, thing, words_of, Plot, name_at, IsInUse, IsPlotted, IsFilled}
+use Rattle.heap_world.specs.World.{Block, words_of, Plot, name_at, IsInUse, IsPlotted, IsFilled}
 use Rattle.heap_world.proofs.Updates.{updated, updated_same, updated_there, updated_else}
-use Rattle.heap_world.proofs.Pointing.{named_thing}
+use Rattle.heap_world.proofs.Pointing.{named_piece}
 use Rattle.heap_world.proofs.Pieces.{behind, beside, piece_cases}
 
 -- A region has room for a piece above its top, and pieces have a word at least.
@@ -48,7 +48,7 @@ module _ (c : Config) (top : ℕ → ℕ) (block : Plot) (region at : ℕ) (piec
 
   -- what a word stands for it still stands for
   pub names_stay : (a : ℕ) (name : Name) → name_at (block a) ≡ Some name → name_at (new_block a) ≡ Some name
-  names_stay a name is = let old = named_thing (block a) name is in ap name_at (stays a (thing name old.0 old.1) old.2)
+  names_stay a name is = let old = named_piece (block a) name is in ap name_at (stays a old.0 old.1) ∙ old.2
 
   -- no top falls
   tops_grow : (r : ℕ) → top r ≤ new_top r

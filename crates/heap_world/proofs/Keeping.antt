@@ -7,14 +7,11 @@ use Rattle.heap_words.specs.Words.{Word, same_word, write}
 use Rattle.heap_words.proofs.Stores.{same_word_true}
 use Rattle.shen_graph.specs.declared.name.Name.{Name}
 use Rattle.shen_graph.specs.Graph.{Reference}
-use Rattle.heap_world.specs.World.{World, Plot, no_ghost, IsUncopied, Target, IsUsable, Points, name_at}
+use Rattle.heap_world.specs.World.{World, Plot, moved, TargetIn, UsableIn, IsUsable, Points, name_at}
 use Rattle.heap_world.proofs.Pointing.{named_thing}
 use Rattle.heap_world.proofs.Marked.{same_marks}
+use Rattle.heap_world.proofs.Copies.{same_copies, none_in_0}
 use Rattle.heap_world.specs.Rely.{Keeps, Rely}
-
--- nobody copies or works in no ghost state
-pub none_copies : IsUncopied no_ghost.copying no_ghost.working
-none_copies = record { copies_none = λ seat. refl; works_none = λ seat. refl }
 
 -- a word stands for what it stood for where names stay
 pub points_stay : (u w : Plot) → ((a : ℕ) (name : Name) → name_at (u a) ≡ Some name → name_at (w a) ≡ Some name) → (word : ℕ) (reference : Reference) → Points u word reference → Points w word reference
@@ -29,14 +26,17 @@ load_keeps memory at = fun_ext (λ w. ⊎_elim
     (cases_Bool (same_word at w)))
 
 -- a word may still be used
-pub usable_stays : (u w : World) → ((a refs nums : ℕ) (name : Name) → Target u.block a refs nums name → Target w.block a refs nums name) → (word : ℕ) → IsUsable u.block word → IsUsable w.block word
-usable_stays u w targets word (inl null) = inl null
-usable_stays u w targets word (inr at) = inr (at.0, at.1, at.2, targets word at.1 at.2 at.0 at.3)
+pub usable_stays : (c : Config) (u w : World) → ((a refs nums : ℕ) (name : Name) → TargetIn c u a refs nums name → TargetIn c w a refs nums name) → (word : ℕ) → UsableIn c u word → UsableIn c w word
+usable_stays c u w targets word (inl null) = inl null
+usable_stays c u w targets word (inr at) = inr (at.0, at.1, at.2, targets word at.1 at.2 at.0 at.3)
 
--- as long as no object has a second copy, each word that stands for a reference may be used
-pub usable_now : (block : Plot) (word : ℕ) (reference : Reference) → Points block word reference → IsUsable block word
-usable_now block word None points = inl points
-usable_now block word (Some name) points = let piece = named_thing (block word) name points in inr (name, piece.0, piece.1, record { piece = piece.2 })
+-- as long as there is no collection set and no object has a second copy, each word that stands for a reference may be used
+pub usable_now : (c : Config) (evac : ℕ) (block : Plot) → ((a refs nums to : ℕ) (name : Name) → block a ≡ Some (moved name refs nums to) → ⊥) → (word : ℕ) (reference : Reference) → Points block word reference
+    → IsUsable c 0 evac block word
+usable_now c evac block unmoved word None points = inl points
+usable_now c evac block unmoved word (Some name) points =
+    let piece = named_thing (block word) name (λ refs nums to. unmoved word refs nums to name) points in
+    inr (name, piece.0, piece.1, record { piece = piece.2; safe = λ collected. absurd (none_in_0 c word collected) })
 
 -- where nothing changes, everything can be relied on
 pub rely_same : (c : Config) (seat : ℕ) (u : World) → Rely c seat u u
@@ -58,9 +58,9 @@ rely_same c seat u = record {
   wait = refl;
   answer = refl;
   state = refl;
-  cset = refl;
   asked = λ is. is;
   marks = same_marks c u seat;
+  copies = same_copies c u seat;
 }
 
 -- what is relied on keeps all that the facts of a seat stand on
@@ -68,8 +68,6 @@ pub keeps_of : (c : Config) (seat : ℕ) (u w : World) → Rely c seat u w → K
 keeps_of c seat u w rely = record {
   names = rely.names;
   targets = rely.targets;
-  hands = rely.hands;
-  hand_words = rely.hand_words;
   promises = rely.promises;
   no_promises = rely.no_promises;
   promise_words = rely.promise_words;
@@ -79,4 +77,5 @@ keeps_of c seat u w rely = record {
   wait = rely.wait;
   answer = rely.answer;
   marks = rely.marks.keeps;
+  copies = rely.copies.keeps;
 }

@@ -7,6 +7,9 @@ pub mod Joined
 pub mod Unwritten
 pub mod Traced
 pub mod Marked
+pub mod Copies
+pub mod Evacuated
+pub mod Unmoved
 pub mod Unmarked
 pub mod NewPiece
 pub mod FreeRegions

@@ -36,7 +36,7 @@ pub rely_marks : (c : Config) (u w : World) (seat : ℕ) → w.memory Phase ≡ 
     → ((t k : ℕ) → w.memory (Buffer t k) ≡ u.memory (Buffer t k)) → w.ghost.snapshot ≡ u.ghost.snapshot → ((t : ℕ) → w.ghost.recording t ≡ u.ghost.recording t) → w.ghost.scanning seat ≡ u.ghost.scanning seat
     → ((a : ℕ) → IsMarkable u.block a → IsMarkable w.block a) → ((a : ℕ) → IsMarkable u.block a → w.memory (Heap (a + 1)) ≡ u.memory (Heap (a + 1))) → RelyMarks c seat u w
 rely_marks c u w seat phase greys counts buffers snapshot hands scans markable shapes = record {
-  keeps = record { phase = phase; snapshot = snapshot; markable = markable; shapes = shapes; noted = noted_same c u w greys counts buffers hands };
+  keeps = record { phase = phase; snapshot = snapshot; markable = λ on. markable; shapes = shapes; noted = noted_same c u w greys counts buffers hands };
   recording = hands seat;
   scanning = scans;
   entries = counts seat;

@@ -1,6 +1,6 @@
 -- A piece that is no object yet, room in hand or a promised object, becomes one: it keeps its words, and the graph has the object
 -- under a fresh name.
-use Rattle.std.proofs.Common.{◌≡◌, ◌≢◌, ℕ, zero, suc, ◌+◌, ◌<◌, ◌≤◌, ◌⊎◌, true, false, replicate, Option, Some, None, ⊎_elim, refl, sym, ap, ◌∙◌, subst, arith}
+use Rattle.std.proofs.Common.{◌≡◌, ◌≢◌, ℕ, zero, suc, ◌+◌, ◌<◌, ◌≤◌, ◌⊎◌, Bool, true, false, replicate, Option, Some, None, ⊎_elim, refl, sym, ap, ◌∙◌, subst, arith}
 use Rattle.std.specs.Prelude.{◌==◌, if◌then◌else◌, slice_get}
 use Rattle.std.proofs.lemmas.Bool.{cases_eq, cases_Bool, cond-true, cond-false, eq-eqb}
 use Rattle.std.proofs.lemmas.Bool.Decides.{nat_tests}
@@ -12,12 +12,14 @@ use Rattle.shen_graph.specs.declared.name.Name.{Name}
 use Rattle.shen_graph.specs.Graph.{Object, same_name, blank}
 use Rattle.shen_graph.proofs.PlainLemmas.{same_name-true, same_name-itself}
 use Rattle.heap_words.specs.Encoding.{fresh_word}
-use Rattle.heap_world.specs.World.{Block, thing, hand, promised, filler, words_of, Plot, name_at, Points, IsInUse, IsPlotted, IsFilled, IsThing, IsGiven, AreObjects, IsParsable, AreOwned, AreUnwritten, Snapshot, Scan, IsMarkable, IsYoung, KeepsSnapshot}
+use Rattle.heap_world.specs.World.{Block, thing, spent, hand, promised, filler, words_of, Plot, name_at, Points, IsInUse, IsPlotted, IsFilled, IsThing, IsGiven, AreObjects, IsParsable, AreOwned, AreUnwritten, Snapshot, Scan, IsMarkable, IsYoung, IsCollected, KeepsSnapshot, IsEvacuating}
 use Rattle.heap_world.proofs.Updates.{updated, updated_there, updated_else}
-use Rattle.heap_world.proofs.Pointing.{named_thing}
+use Rattle.heap_world.proofs.Pointing.{named_piece}
 use Rattle.heap_world.proofs.Objects.{two_names, where_object}
 use Rattle.heap_world.proofs.Unwritten.{unwritten_stays}
 use Rattle.heap_world.proofs.Marked.{markable_stays, marked_made}
+use Rattle.mark_bits.specs.Marks.{HasMark}
+use Rattle.heap_world.proofs.Evacuated.{evacuated_made}
 use Rattle.heap_world.proofs.Pieces.{piece_cases, object_reads}
 
 -- the references of a new object are null, and its numbers 0
@@ -72,7 +74,7 @@ module _ (c : Config) (top : ℕ → ℕ) (block : Plot) (address refs nums : �
 
   -- what a word stands for it still stands for
   pub names_stay : (a : ℕ) (n : Name) → name_at (block a) ≡ Some n → name_at (new_block a) ≡ Some n
-  names_stay a n is = let old = named_thing (block a) n is in ap name_at (things_stay a old.0 old.1 n old.2)
+  names_stay a n is = let old = named_piece (block a) n is in ap name_at (stays a old.0 old.1 (λ same. none-some n (sym unnamed ∙ ap (λ b. name_at (Some b)) same ∙ old.2))) ∙ old.2
 
   -- a piece that is no object was there before, elsewhere
   pub old_unnamed : (a : ℕ) (b : Block) → name_at (Some b) ≡ None → new_block a ≡ Some b → (a ≢ address) × (block a ≡ Some b)
@@ -133,11 +135,12 @@ module _ (c : Config) (top : ℕ → ℕ) (block : Plot) (address refs nums : �
     filled = filled_again parsable.filled;
     promises = λ a other words is. parsable.promises a other words (old_promise a other words is).1;
     fillers = λ a words is. parsable.fillers a words (old_unnamed a (filler words) refl is).1;
+    spents = λ a words to is. parsable.spents a words to (old_unnamed a (spent words to) refl is).1;
   }
 
   -- pieces that nobody writes to are as before
   pub unwritten_again : (heap : ℕ → ℕ) → AreUnwritten heap block → AreUnwritten heap new_block
-  unwritten_again heap = unwritten_stays heap heap block new_block (λ a other more is. ((old_promise a other more is).1, λ k below. refl)) (λ a more is. ((old_unnamed a (filler more) refl is).1, refl))
+  unwritten_again heap = unwritten_stays heap heap block new_block (λ a other more is. ((old_promise a other more is).1, λ k below. refl)) (λ a more is. ((old_unnamed a (filler more) refl is).1, refl, refl))
 
   -- a piece elsewhere stands where it stood
   elsewhere : (a : ℕ) (b : Block) → block a ≡ Some b → a ≢ address → new_block a ≡ Some b
@@ -157,6 +160,15 @@ module _ (c : Config) (top : ℕ → ℕ) (block : Plot) (address refs nums : �
   marking_again phase grey black count buffer tams heap s recording scanning known marked =
       marked_made c phase grey black count buffer top tams heap block s recording scanning marked new_block address refs nums name (updated_there block address (Some new_thing)) known things_stay elsewhere
       (λ a b is other. sym (updated_else block address (Some new_thing) a (λ e. other (sym e))) ∙ is)
+
+  -- evacuation goes on, where the piece is not set aside, and is marked or was allocated since mark start
+  pub evacuating_again : (phase cset evac claim free : ℕ) (tams heap black : ℕ → ℕ) (owner : ℕ → Option ℕ) (copying : ℕ → Bool) (working : ℕ → Option ℕ)
+      → (IsCollected c cset address → ⊥) → (phase ≡ 2 → HasMark c black address ⊎ IsYoung c tams address)
+      → IsEvacuating c phase cset evac claim free top tams heap black block owner copying working → IsEvacuating c phase cset evac claim free top tams heap black new_block owner copying working
+  evacuating_again phase cset evac claim free tams heap black owner copying working outside known e =
+      evacuated_made c phase cset evac claim free top tams heap black block owner copying working e new_block address refs nums name piece room long (updated_there block address (Some new_thing)) outside known elsewhere
+      (λ a b is other. sym (updated_else block address (Some new_thing) a (λ e. other (sym e))) ∙ is)
+      unnamed
 
   module _ (heap : ℕ → ℕ) (object : Name → Option Object) (objects : AreObjects heap block object) (fresh : (o : Object) → object name ≡ Some o → ⊥) (o : Object) where
     -- the objects of other names are as before

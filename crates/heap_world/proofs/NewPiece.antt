@@ -1,17 +1,19 @@
 -- A new piece at the top of a region: the words between the old top and the new one, in a seat's hand.
-use Rattle.std.proofs.Common.{◌≡◌, ◌≢◌, ℕ, ◌+◌, ◌<◌, ◌≤◌, Option, Some, inl, inr, ⊎_elim, refl, sym, ap, ◌∙◌, subst, arith}
+use Rattle.std.proofs.Common.{◌≡◌, ◌≢◌, ℕ, ◌+◌, ◌<◌, ◌≤◌, ◌⊎◌, Bool, Option, Some, inl, inr, ⊎_elim, refl, sym, ap, ◌∙◌, subst, arith}
 use Rattle.std.proofs.lemmas.Bool.{cases_eq}
 use Rattle.std.proofs.lemmas.Option.{none-some, same_Some}
 use Rattle.heap_words.specs.declared.config.Config.{Config}
 use Rattle.heap_words.specs.Ranges.{seat_count}
-use Rattle.regions.specs.Place.{base_of, IsOf}
+use Rattle.regions.specs.Place.{base_of, region_with, IsOf}
+use Rattle.regions.specs.Sets.{IsIn}
 use Rattle.regions.proofs.PlaceLemmas.{regions_tile}
 use Rattle.shen_graph.specs.declared.name.Name.{Name}
 use Rattle.shen_graph.specs.Graph.{Object}
-use Rattle.heap_world.specs.World.{Block, thing, hand, promised, filler, Plot, name_at, AreObjects, IsFreeWord, AreCurrent, IsRoom, AreRooms, IsParsable, HasContents, AreOwned, AreUnwritten, Snapshot, Scan, IsMarkable, IsYoung, KeepsSnapshot}
+use Rattle.heap_world.specs.World.{Block, thing, spent, hand, promised, filler, Plot, name_at, AreObjects, IsFreeWord, AreCurrent, IsRoom, AreRooms, IsParsable, HasContents, AreOwned, AreUnwritten, Snapshot, Scan, IsMarkable, IsYoung, KeepsSnapshot, IsEvacuating}
 use Rattle.heap_world.proofs.Updates.{updated, updated_there, updated_else}
 use Rattle.heap_world.proofs.Unwritten.{unwritten_stays}
 use Rattle.heap_world.proofs.Marked.{markable_stays, marked_more}
+use Rattle.heap_world.proofs.Evacuated.{evacuated_more}
 use Rattle.heap_world.proofs.Joined as joined
 use Rattle.heap_world.proofs.Joined.{CanJoin}
 use Rattle.heap_world.proofs.Pieces.{some_words, piece_cases, object_reads}
@@ -58,7 +60,7 @@ module _ (c : Config) (top current : ℕ → ℕ) (block : Plot) (region at word
   names_stay = joined.names_stay c top block region at (hand seat words) joins
 
   -- an object of the new plot is an old one
-  old_thing : (a refs nums : ℕ) (name : Name) → new_block a ≡ Some (thing name refs nums) → block a ≡ Some (thing name refs nums)
+  pub old_thing : (a refs nums : ℕ) (name : Name) → new_block a ≡ Some (thing name refs nums) → block a ≡ Some (thing name refs nums)
   old_thing a refs nums name is = ⊎_elim
       (λ (new : (a ≡ address) × (hand seat words ≡ thing name refs nums)). let differ = new.1 in cc)
       (λ (old : (a ≢ address) × (block a ≡ Some (thing name refs nums))). old.1)
@@ -92,6 +94,13 @@ module _ (c : Config) (top current : ℕ → ℕ) (block : Plot) (region at word
       (λ (old : (a ≢ address) × (block a ≡ Some (filler more))). old.1)
       (piece_cases block address (hand seat words) a (filler more) is)
 
+  -- an old copy of an object that was promised is an old piece
+  old_spent : (a more to : ℕ) → new_block a ≡ Some (spent more to) → block a ≡ Some (spent more to)
+  old_spent a more to is = ⊎_elim
+      (λ (new : (a ≡ address) × (hand seat words ≡ spent more to)). let differ = new.1 in cc)
+      (λ (old : (a ≢ address) × (block a ≡ Some (spent more to))). old.1)
+      (piece_cases block address (hand seat words) a (spent more to) is)
+
   -- the heap is parsable
   pub parsable_more : IsParsable c new_top new_block
   parsable_more = record {
@@ -99,11 +108,12 @@ module _ (c : Config) (top current : ℕ → ℕ) (block : Plot) (region at word
     filled = joined.filled_more c top block region at (hand seat words) joins grows.parsable.filled;
     promises = λ a other more is. grows.parsable.promises a other more (old_promise a other more is);
     fillers = λ a more is. grows.parsable.fillers a more (old_filler a more is);
+    spents = λ a more to is. grows.parsable.spents a more to (old_spent a more to is);
   }
 
   -- pieces that nobody writes to are as before
   pub unwritten_more : (heap : ℕ → ℕ) → AreUnwritten heap block → AreUnwritten heap new_block
-  unwritten_more heap = unwritten_stays heap heap block new_block (λ a other more is. (old_promise a other more is, λ k below. refl)) (λ a more is. (old_filler a more is, refl))
+  unwritten_more heap = unwritten_stays heap heap block new_block (λ a other more is. (old_promise a other more is, λ k below. refl)) (λ a more is. (old_filler a more is, refl, refl))
 
   -- what can be marked still can
   pub markable_more : (a : ℕ) → IsMarkable block a → IsMarkable new_block a
@@ -117,20 +127,39 @@ module _ (c : Config) (top current : ℕ → ℕ) (block : Plot) (region at word
       let top_is = grows.top_is in
       subst (λ r. base_of c r + start r ≤ address) (sym (regions_tile.of_no_other c region address inside)) (omega (arith, floor, top_is))
 
+  -- no top falls
+  tops_rise : (r : ℕ) → top r ≤ new_top r
+  tops_rise r = ⊎_elim
+      (λ (same : r ≡ region). let now : new_top r ≡ at + words = ap new_top same ∙ updated_there top region (at + words) in let was : top r ≡ at = ap top same ∙ grows.top_is in omega (arith, now, was))
+      (λ (other : r ≢ region). let now : new_top r ≡ top r = updated_else top region (at + words) r (λ e. other (sym e)) in omega (arith, now))
+      (cases_eq r region)
+
+  -- a piece is an old one, or the new one
+  old_or_new : (a : ℕ) (b : Block) → new_block a ≡ Some b → (block a ≡ Some b) ⊎ ((a ≡ address) × (s : ℕ) × (w : ℕ) × (b ≡ hand s w))
+  old_or_new a b is = ⊎_elim
+      (λ (new : (a ≡ address) × (hand seat words ≡ b)). inr (new.0, seat, words, sym new.1))
+      (λ (old : (a ≢ address) × (block a ≡ Some b)). inl old.1)
+      (piece_cases block address (hand seat words) a b is)
+
   -- marking goes on
   pub marking_more : (phase : ℕ) (grey black count : ℕ → ℕ) (buffer : ℕ → ℕ → ℕ) (tams heap : ℕ → ℕ) (s : Snapshot) (recording : ℕ → Option ℕ) (scanning : ℕ → Option Scan)
       → KeepsSnapshot c phase grey black count buffer top tams heap block s recording scanning → KeepsSnapshot c phase grey black count buffer new_top tams heap new_block s recording scanning
   marking_more phase grey black count buffer tams heap s recording scanning marked =
       marked_more c phase grey black count buffer top tams heap block s recording scanning marked new_top new_block address (young_there s.top marked.floors)
-      (λ r. ⊎_elim
-      (λ (same : r ≡ region). let now : new_top r ≡ at + words = ap new_top same ∙ updated_there top region (at + words) in let was : top r ≡ at = ap top same ∙ grows.top_is in omega (arith, now, was))
-      (λ (other : r ≢ region). let now : new_top r ≡ top r = updated_else top region (at + words) r (λ e. other (sym e)) in omega (arith, now))
-      (cases_eq r region))
-      stays
-      (λ a b is. ⊎_elim
-      (λ (new : (a ≡ address) × (hand seat words ≡ b)). inr (new.0, seat, words, sym new.1))
-      (λ (old : (a ≢ address) × (block a ≡ Some b)). inl old.1)
-      (piece_cases block address (hand seat words) a b is))
+      tops_rise stays old_or_new
+
+  -- evacuation goes on, where the region is not set aside
+  pub evacuating_more : (phase cset evac claim free : ℕ) (tams heap black : ℕ → ℕ) (owner : ℕ → Option ℕ) (copying : ℕ → Bool) (working : ℕ → Option ℕ) → owner region ≡ Some seat
+      → IsEvacuating c phase cset evac claim free top tams heap black block owner copying working → IsEvacuating c phase cset evac claim free new_top tams heap black new_block owner copying working
+  evacuating_more phase cset evac claim free tams heap black owner copying working own e =
+      let inside : IsOf c region address = record { from = omega arith; before = (let room = grows.room in let some = grows.some in omega (arith, room, some)) } in
+      let of_region : region_with c address ≡ region = regions_tile.of_no_other c region address inside in
+      evacuated_more c phase cset evac claim free top tams heap black block owner copying working e new_top new_block address
+      (λ collected. e.aside.nobodys region seat own (subst (λ r. IsIn cset r) of_region collected))
+      (λ on. young_there tams (e.kept.floors on))
+      tops_rise
+      (λ r is. updated_else top region (at + words) r (λ same. e.aside.nobodys region seat own (subst (λ r. IsIn cset r) (sym same) is)))
+      stays old_or_new
 
   -- the words are those of the graph's objects
   objects_more : (heap : ℕ → ℕ) (object : Name → Option Object) → AreObjects heap block object → AreObjects heap new_block object

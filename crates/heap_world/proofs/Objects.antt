@@ -1,20 +1,24 @@
 -- A word of an object changes, and the graph's object with it.
-use Rattle.std.proofs.Common.{◌≡◌, ◌≢◌, ℕ, ◌+◌, ◌<◌, ◌≤◌, ◌⊎◌, inl, inr, false, List, length, Option, Some, ⊎_elim, refl, sym, ap, ◌∙◌, subst, arith}
+use Rattle.std.proofs.Common.{◌≡◌, ◌≢◌, ℕ, ◌+◌, ◌<◌, ◌≤◌, ◌⊎◌, inl, inr, true, false, List, length, Option, Some, ⊎_elim, refl, sym, ap, ◌∙◌, subst, arith}
 use Rattle.std.specs.Prelude.{if◌then◌else◌, slice_get, slice_set}
 use Rattle.std.proofs.lemmas.Bool.{cases_Bool, cases_eq, cond-true, cond-false}
 use Rattle.std.proofs.lemmas.List.{length-set}
 use Rattle.std.proofs.lemmas.Option.{same_Some, slice_get_within, slice_get-get_or}
 use Rattle.heap_words.specs.declared.config.Config.{Config}
-use Rattle.heap_words.specs.Words.{Phase, Grey, Black, Count, Buffer, Heap, Top, Tams, write}
+use Rattle.heap_words.specs.Words.{Phase, Cset, Evac, Claim, Free, Grey, Black, Count, Buffer, Heap, Top, Tams, write}
+use Rattle.heap_words.specs.Ranges.{seat_count}
 use Rattle.steps_base.proofs.Places.{slice_get-set_same, slice_get-set_other}
 use Rattle.shen_graph.specs.declared.name.Name.{Name}
 use Rattle.shen_graph.specs.Graph.{Reference, Object, Graph, same_name}
 use Rattle.shen_graph.proofs.PlainLemmas.{same_name-true, same_name-itself}
-use Rattle.heap_world.specs.World.{World, Block, thing, hand, promised, filler, words_of, Plot, Points, Target, IsPlotted, IsThing, AreObjects, IsMarkable, NeedsNoMarking, IsCovered, NotedIn, Shared}
+use Rattle.heap_world.specs.World.{World, Block, thing, moved, spent, hand, promised, filler, words_of, Plot, Body, body_at, body_words, IsCollected, Points, TargetIn, IsPlotted, IsThing, AreObjects, IsMarkable, NeedsNoMarking, IsCovered, NotedIn, Shared}
 use Rattle.heap_world.specs.Rely.{Rely}
 use Rattle.heap_world.proofs.Updates.{updated, updated_same, updated_else}
 use Rattle.heap_world.proofs.Unwritten.{unwritten_stays}
 use Rattle.heap_world.proofs.Marked.{rely_marks, marked_stored}
+use Rattle.heap_world.proofs.Copies.{same_plot, rely_copies, not_quiet}
+use Rattle.heap_world.proofs.Evacuated.{evacuated_words}
+use Rattle.heap_world.proofs.Pointing.{body_piece}
 use Rattle.heap_world.proofs.Apart.{one_piece}
 use Rattle.heap_world.proofs.Pieces.{object_reads}
 
@@ -123,13 +127,28 @@ stored u at value g = record { memory = write u.memory (Heap at) value; block = 
 abbrev pub changed : Graph → Name → Object → (ℕ → ℕ → Reference) → Graph
 changed g name o root = record { object = where_object g.object name o; root = root; count = g.count }
 
-module _ (c : Config) (u : World) (a refs nums at value : ℕ) (name : Name) (o : Object) (root : ℕ → ℕ → Reference) (shared : Shared c u) (target : Target u.block a refs nums name) where
+module _ (c : Config) (u : World) (a refs nums at value : ℕ) (name : Name) (o : Object) (root : ℕ → ℕ → Reference) (shared : Shared c u) (target : TargetIn c u a refs nums name) where
   -- the words of another piece stay
   else_stays : a ≤ at → at < a + (3 + refs + nums) → (b k : ℕ) (x : Block) → u.block b ≡ Some x → (x ≡ thing name refs nums → ⊥) → k < words_of x
       → updated (λ b. u.memory (Heap b)) at value (b + k) ≡ u.memory (Heap (b + k))
   else_stays from_start to_end b k x is differs below = updated_else (λ b. u.memory (Heap b)) at value (b + k) (λ same.
       let same_piece : b ≡ a = one_piece c (λ r. u.memory (Top r)) u.block shared.parsable.plotted b a (b + k) x (thing name refs nums) is target.piece (omega arith) (omega (arith, below)) (omega (arith, same, from_start)) (omega (arith, same, to_end)) in
       differs (same_Some x (thing name refs nums) (sym is ∙ ap u.block same_piece ∙ target.piece)))
+
+  -- so does its first word
+  head_stays : a ≤ at → at < a + (3 + refs + nums) → (b : ℕ) (x : Block) → u.block b ≡ Some x → (x ≡ thing name refs nums → ⊥) → 0 < words_of x → updated (λ b. u.memory (Heap b)) at value b ≡ u.memory (Heap b)
+  head_stays from_start to_end b x is differs below =
+      let header : b + 0 ≡ b = omega arith in
+      ap (updated (λ b. u.memory (Heap b)) at value) (sym header) ∙ else_stays from_start to_end b 0 x is differs below ∙ ap (λ b. u.memory (Heap b)) header
+
+  -- a word of the object changes only where no seat copies, if the object lies in the set; an old copy is another piece
+  copy_words_stay : a ≤ at → at < a + (3 + refs + nums) → (b k : ℕ) (x : Body) (seat : ℕ) → seat < seat_count c.mutators c.helpers → u.ghost.copying seat ≡ true → IsCollected c (u.memory Cset) b → body_at (u.block b) ≡ Some x → k < body_words x
+      → updated (λ b. u.memory (Heap b)) at value (b + k) ≡ u.memory (Heap (b + k))
+  copy_words_stay from_start to_end b k x seat seated copies inside is below =
+      let there = body_piece (u.block b) x is in
+      updated_else (λ b. u.memory (Heap b)) at value (b + k) (λ same.
+      let same_piece : b ≡ a = one_piece c (λ r. u.memory (Top r)) u.block shared.parsable.plotted b a (b + k) there.0 (thing name refs nums) there.1 target.piece (omega arith) (let long = there.2 in omega (arith, below, long)) (omega (arith, same, from_start)) (omega (arith, same, to_end)) in
+      not_quiet c (u.memory Evac) u.ghost.copying seat shared.evacuated.counted seated copies (target.safe (subst (λ y. IsCollected c (u.memory Cset) y) same_piece inside)))
 
   -- a field of the snapshot stays, or it is the one that is stored, and then it is covered
   field_stays : a ≤ at → at < a + (3 + refs + nums) → ((i : ℕ) → i < refs → at ≡ a + 3 + i → IsCovered c u a i)
@@ -161,20 +180,19 @@ module _ (c : Config) (u : World) (a refs nums at value : ℕ) (name : Name) (o 
           shared.contents.given n before.0 before.1;
     };
     owned = shared.owned;
-    calm = shared.calm;
-    uncopied = shared.uncopied;
+    phased = shared.phased;
     unwritten = unwritten_stays (λ b. u.memory (Heap b)) (updated (λ b. u.memory (Heap b)) at value) u.block u.block
         (λ b seat words is_promised. (is_promised, λ k below. else_stays from_start to_end b k (promised seat words) is_promised (λ differ. cc) below))
-        (λ b words is_filler. (
-          is_filler,
-          let header : b + 0 ≡ b = omega arith in
-              ap (updated (λ b. u.memory (Heap b)) at value) (sym header)
-              ∙ else_stays from_start to_end b 0 (filler words) is_filler (λ differ. cc) (let long = shared.parsable.fillers b words is_filler in omega (arith, long))
-              ∙ ap (λ b. u.memory (Heap b)) header,
-        ))
+        (λ b words is_filler. let long = shared.parsable.fillers b words is_filler in (is_filler, head_stays from_start to_end b (filler words) is_filler (λ differ. cc) (omega (arith, long)),
+          else_stays from_start to_end b 1 (filler words) is_filler (λ differ. cc) (omega (arith, long))))
         shared.unwritten;
     marked = marked_stored c (u.memory Phase) (λ n. u.memory (Grey n)) (λ n. u.memory (Black n)) (λ t. u.memory (Count t)) (λ t k. u.memory (Buffer t k)) (λ r. u.memory (Top r)) (λ r. u.memory (Tams r))
         (λ b. u.memory (Heap b)) u.block u.ghost.snapshot u.ghost.recording u.ghost.scanning shared.marked (updated (λ b. u.memory (Heap b)) at value) (field_stays from_start to_end covered);
+    evacuated = evacuated_words c (u.memory Phase) (u.memory Cset) (u.memory Evac) (u.memory Claim) (u.memory Free) (λ r. u.memory (Top r)) (λ r. u.memory (Tams r)) (λ b. u.memory (Heap b)) (λ n. u.memory (Black n))
+        u.block u.ghost.owner u.ghost.copying u.ghost.working shared.evacuated (updated (λ b. u.memory (Heap b)) at value)
+        (λ b more_refs more_nums to n is_old. (head_stays from_start to_end b (moved n more_refs more_nums to) is_old (λ differ. cc) (omega arith), else_stays from_start to_end b 1 (moved n more_refs more_nums to) is_old (λ differ. cc) (omega arith),
+          else_stays from_start to_end b 2 (moved n more_refs more_nums to) is_old (λ differ. cc) (omega arith)))
+        (λ b words to is_old. let long = shared.parsable.spents b words to is_old in (head_stays from_start to_end b (spent words to) is_old (λ differ. cc) (omega (arith, long)), else_stays from_start to_end b 1 (spent words to) is_old (λ differ. cc) (omega (arith, long))));
   }
 
   -- the shape of an object stays
@@ -190,7 +208,7 @@ module _ (c : Config) (u : World) (a refs nums at value : ℕ) (name : Name) (o 
       → Rely c seat u (stored u at value (changed u.graph name o root))
   rely_stored behind to_end seat roots = let from_start : a ≤ at = omega (arith, behind) in record {
     names = λ b n is. is;
-    targets = λ b more_refs more_nums n has. record { piece = has.piece };
+    targets = λ b more_refs more_nums n has. record { piece = has.piece; safe = has.safe };
     hands = λ b words is. is;
     no_hands = λ b words is. is;
     hand_words = λ b words k is below. updated_else (λ b. u.memory (Heap b)) at value (b + k) (λ same.
@@ -212,8 +230,9 @@ module _ (c : Config) (u : World) (a refs nums at value : ℕ) (name : Name) (o 
     wait = refl;
     answer = refl;
     state = refl;
-    cset = refl;
     asked = λ is. is;
     marks = rely_marks c u (stored u at value (changed u.graph name o root)) seat refl (λ n. refl) (λ t. refl) (λ t k. refl) refl (λ t. refl) refl (λ b is. is)
         (shape_stays from_start to_end (λ same. omega (arith, same, behind)));
+    copies = rely_copies c u (stored u at value (changed u.graph name o root)) seat (same_plot c u (stored u at value (changed u.graph name o root)) refl refl refl (λ r is. refl)) refl refl
+        (λ b k x seated copies inside is least below. copy_words_stay from_start to_end b k x seat seated copies inside is below);
   }

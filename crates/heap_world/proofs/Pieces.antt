@@ -7,7 +7,7 @@ use Rattle.heap_words.specs.declared.config.Config.{Config}
 use Rattle.regions.specs.Place.{base_of}
 use Rattle.shen_graph.specs.declared.name.Name.{Name}
 use Rattle.shen_graph.specs.Graph.{Object}
-use Rattle.heap_world.specs.World.{Block, thing, hand, promised, filler, words_of, Plot, name_at, Points, IsPlotted, IsThing, AreRooms, IsParsable}
+use Rattle.heap_world.specs.World.{Block, thing, moved, spent, hand, promised, filler, words_of, Plot, name_at, Points, IsPlotted, IsThing, AreRooms, IsParsable}
 use Rattle.heap_world.proofs.Updates.{updated, updated_same, updated_else}
 use Rattle.heap_world.proofs.Keeping.{points_stay}
 
@@ -20,6 +20,8 @@ behind c r s before =
 -- a piece has a word at least
 pub some_words : (c : Config) (top current : ℕ → ℕ) (block : Plot) → IsParsable c top block → AreRooms c top current block → (a : ℕ) (b : Block) → block a ≡ Some b → 1 ≤ words_of b
 some_words c top current block parsable rooms a (thing name refs nums) is = omega arith
+some_words c top current block parsable rooms a (moved name refs nums to) is = omega arith
+some_words c top current block parsable rooms a (spent words to) is = let long = parsable.spents a words to is in omega (arith, long)
 some_words c top current block parsable rooms a (hand seat words) is = let room = rooms a seat words is in omega (arith, room.some)
 some_words c top current block parsable rooms a (promised seat words) is = let long = parsable.promises a seat words is in omega (arith, long)
 some_words c top current block parsable rooms a (filler words) is = (let long = parsable.fillers a words is in omega (arith, long))

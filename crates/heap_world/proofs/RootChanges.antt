@@ -3,6 +3,7 @@ use Rattle.std.proofs.Common.{◌≡◌, ℕ, ◌+◌, ◌<◌, true, false, ⊎
 use Rattle.std.specs.Prelude.{◌==◌, ◌&&◌, if◌then◌else◌}
 use Rattle.std.proofs.lemmas.Bool.{eq-eqb, cond-true, cond-false, cases_Bool}
 use Rattle.std.proofs.lemmas.Bool.Decides.{nat_tests}
+use Rattle.heap_words.specs.declared.config.Config.{Config}
 use Rattle.heap_words.specs.Words.{Word, Root, write}
 use Rattle.shen_graph.specs.Graph.{Reference}
 use Rattle.heap_world.specs.World.{Plot, Points, IsUsable}
@@ -30,9 +31,9 @@ roots_written block memory root seat dst value v roots stands i below =
     (roots_then block (λ k. memory (Root seat k)) root (seat + 1) dst value v roots stands i below)
 
 -- Words of a mutator's roots may be used after one that may be used was stored into one of them.
-pub usable_written : (block : Plot) (memory : Word → ℕ) (seat dst value : ℕ) → ((i : ℕ) → i < 16 → IsUsable block (memory (Root seat i))) → IsUsable block value → (i : ℕ) → i < 16
-    → IsUsable block (write memory (Root seat dst) value (Root seat i))
-usable_written block memory seat dst value usable new i below = subst (λ word. IsUsable block word) (root_written memory seat dst value i) (⊎_elim
-    (λ (same : (i == dst) ≡ true). subst (λ word. IsUsable block word) (sym (cond-true (i == dst) value (memory (Root seat i)) same)) new)
-    (λ (other : (i == dst) ≡ false). subst (λ word. IsUsable block word) (sym (cond-false (i == dst) value (memory (Root seat i)) other)) (usable i below))
+pub usable_written : (c : Config) (cset evac : ℕ) (block : Plot) (memory : Word → ℕ) (seat dst value : ℕ) → ((i : ℕ) → i < 16 → IsUsable c cset evac block (memory (Root seat i))) → IsUsable c cset evac block value → (i : ℕ) → i < 16
+    → IsUsable c cset evac block (write memory (Root seat dst) value (Root seat i))
+usable_written c cset evac block memory seat dst value usable new i below = subst (λ word. IsUsable c cset evac block word) (root_written memory seat dst value i) (⊎_elim
+    (λ (same : (i == dst) ≡ true). subst (λ word. IsUsable c cset evac block word) (sym (cond-true (i == dst) value (memory (Root seat i)) same)) new)
+    (λ (other : (i == dst) ≡ false). subst (λ word. IsUsable c cset evac block word) (sym (cond-false (i == dst) value (memory (Root seat i)) other)) (usable i below))
     (cases_Bool (i == dst)))

@@ -6,6 +6,11 @@ use Rattle.steps_base.specs.Touch.{Touch, touched}
 use Rattle.heap_world.specs.World.{World, Shared}
 use Rattle.heap_world.specs.Rely.{Keeps, Rely}
 
+-- a step leaves as it is whether a seat copies, and on which unit it works
+pub record SameWork (u w : World) (seat : ℕ) : Type 0 where
+  pub copying : w.ghost.copying seat ≡ u.ghost.copying seat
+  pub working : w.ghost.working seat ≡ u.ghost.working seat
+
 -- What a step of a part owes, which settles nothing, to the machine that has it inside: the world after it, by its memory and
 -- its graph; what all machines share; what the part counts on from here; what the machine's own facts stand on; and what the
 -- others rely on.

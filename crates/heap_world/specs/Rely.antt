@@ -1,28 +1,44 @@
 -- What facts of one machine stand on while a machine makes a step from one world to another.
-use Rattle.std.specs.Prelude.{ℕ, ◌≡◌, ◌+◌, ◌<◌, Some}
+use Rattle.std.specs.Prelude.{ℕ, ◌≡◌, ◌+◌, ◌<◌, ◌≤◌, true, Some}
 use Rattle.std.specs.Int.{bit_at}
 use Rattle.heap_words.specs.declared.config.Config.{Config}
-use Rattle.heap_words.specs.Words.{Top, Current, Root, Heap, Phase, Cset, Ask, State, Wait, Answer, Count, Buffer, Grey}
+use Rattle.heap_words.specs.Ranges.{seat_count}
+use Rattle.heap_words.specs.Words.{Top, Current, Root, Heap, Phase, Cset, Evac, Ask, State, Wait, Answer, Count, Buffer, Grey}
+use Rattle.regions.specs.Sets.{IsIn}
+use Rattle.evac_room.specs.Counter.{is_out_of_room, IsQuiet}
 use Rattle.mark_bits.specs.Marks.{HasMark}
 use Rattle.shen_graph.specs.declared.name.Name.{Name}
-use Rattle.heap_world.specs.World.{World, Target, hand, promised, name_at, IsMarkable, NotedIn}
+use Rattle.heap_world.specs.World.{World, Block, TargetIn, thing, moved, spent, hand, promised, words_of, name_at, Body, body_at, body_words, IsCollected, IsMarkable, NotedIn}
 
--- What holds of marking whoever steps, outside pauses: the phase and the snapshot stay, what can be marked stays so, with its
--- shape, and what is noted stays noted.
+-- What holds of marking whoever steps, outside pauses: the phase and the snapshot stay, while objects are marked what can be marked
+-- stays so, with its shape, and what is noted stays noted.
 pub record KeepsMarks (c : Config) (u w : World) : Type 0 where
   pub phase : w.memory Phase ≡ u.memory Phase
   pub snapshot : w.ghost.snapshot ≡ u.ghost.snapshot
-  pub markable : (a : ℕ) → IsMarkable u.block a → IsMarkable w.block a
+  pub markable : u.memory Phase ≡ 1 → (a : ℕ) → IsMarkable u.block a → IsMarkable w.block a
   pub shapes : (a : ℕ) → IsMarkable u.block a → w.memory (Heap (a + 1)) ≡ u.memory (Heap (a + 1))
   pub noted : (v : ℕ) → NotedIn c u v → NotedIn c w v
 
+-- What holds of evacuation whoever steps, outside pauses: the collection set stays, copies stay copies, with their shapes, and an old copy
+-- leads where it led. Nothing in the set becomes a current copy; its pieces and tops stay. Once a copier found no room, and once nobody
+-- copies any more then, it stays so.
+pub record KeepsCopies (c : Config) (u w : World) : Type 0 where
+  pub cset : w.memory Cset ≡ u.memory Cset
+  pub bodies : (a : ℕ) (b : Body) → body_at (u.block a) ≡ Some b → body_at (w.block a) ≡ Some b
+  pub moveds : (a refs nums to : ℕ) (name : Name) → u.block a ≡ Some (moved name refs nums to) → w.block a ≡ Some (moved name refs nums to)
+  pub spents : (a words to : ℕ) → u.block a ≡ Some (spent words to) → w.block a ≡ Some (spent words to)
+  pub pieces : (a : ℕ) (x : Block) → IsCollected c (u.memory Cset) a → u.block a ≡ Some x → (y : Block) × (w.block a ≡ Some y) × (words_of y ≡ words_of x)
+  pub no_new : (a refs nums : ℕ) (name : Name) → IsCollected c (u.memory Cset) a → w.block a ≡ Some (thing name refs nums) → u.block a ≡ Some (thing name refs nums)
+  pub tops : (r : ℕ) → IsIn (u.memory Cset) r → w.memory (Top r) ≡ u.memory (Top r)
+  pub out : is_out_of_room (u.memory Evac) ≡ true → is_out_of_room (w.memory Evac) ≡ true
+  pub quiet : IsQuiet (u.memory Evac) → IsQuiet (w.memory Evac)
+
 -- What the facts of a seat stand on, whoever steps, also the machine of the seat itself: objects stay where they are, and
--- the roots, the count, the words in hand, what is asked and what is promised of the seat stay as they are.
+-- the roots, the count, what is asked and what is promised of the seat stay as they are. Room in hand is the machine's own: what it
+-- copies into it becomes an object, or is given back.
 pub record Keeps (c : Config) (seat : ℕ) (u w : World) : Type 0 where
   pub names : (a : ℕ) (name : Name) → name_at (u.block a) ≡ Some name → name_at (w.block a) ≡ Some name
-  pub targets : (a refs nums : ℕ) (name : Name) → Target u.block a refs nums name → Target w.block a refs nums name
-  pub hands : (a words : ℕ) → u.block a ≡ Some (hand seat words) → w.block a ≡ Some (hand seat words)
-  pub hand_words : (a words k : ℕ) → u.block a ≡ Some (hand seat words) → k < words → w.memory (Heap (a + k)) ≡ u.memory (Heap (a + k))
+  pub targets : (a refs nums : ℕ) (name : Name) → TargetIn c u a refs nums name → TargetIn c w a refs nums name
   pub promises : (a words : ℕ) → u.block a ≡ Some (promised seat words) → w.block a ≡ Some (promised seat words)
   pub no_promises : (a words : ℕ) → w.block a ≡ Some (promised seat words) → u.block a ≡ Some (promised seat words)
   pub promise_words : (a words k : ℕ) → u.block a ≡ Some (promised seat words) → k < words → w.memory (Heap (a + k)) ≡ u.memory (Heap (a + k))
@@ -32,6 +48,7 @@ pub record Keeps (c : Config) (seat : ℕ) (u w : World) : Type 0 where
   pub wait : w.memory (Wait seat) ≡ u.memory (Wait seat)
   pub answer : w.memory (Answer seat) ≡ u.memory (Answer seat)
   pub marks : KeepsMarks c u w
+  pub copies : KeepsCopies c u w
 
 -- What the machine of a seat relies on of marking while another machine steps: its buffer, what it records and what it scans stay
 -- as they are, and what is grey stays grey.
@@ -43,11 +60,20 @@ pub record RelyMarks (c : Config) (seat : ℕ) (u w : World) : Type 0 where
   pub buffer : (k : ℕ) → w.memory (Buffer seat k) ≡ u.memory (Buffer seat k)
   pub greys : (a : ℕ) → HasMark c (λ n. u.memory (Grey n)) a → HasMark c (λ n. w.memory (Grey n)) a
 
+-- What the machine of a seat relies on of evacuation while another machine steps: whether it copies and on which unit it works stays as
+-- it is, and while it copies so do the words of copies in the collection set, but for their headers.
+pub record RelyCopies (c : Config) (seat : ℕ) (u w : World) : Type 0 where
+  pub keeps : KeepsCopies c u w
+  pub copying : w.ghost.copying seat ≡ u.ghost.copying seat
+  pub working : w.ghost.working seat ≡ u.ghost.working seat
+  pub words : (a k : ℕ) (b : Body) → seat < seat_count c.mutators c.helpers → u.ghost.copying seat ≡ true → IsCollected c (u.memory Cset) a → body_at (u.block a) ≡ Some b
+      → 1 ≤ k → k < body_words b → w.memory (Heap (a + k)) ≡ u.memory (Heap (a + k))
+
 -- What the machine of a seat relies on while another machine leads from u to w: objects stay where they are; what is the
 -- seat's own stays as it is; phase and collection set stay, which only a pause changes, and so does that a mutator waits.
 pub record Rely (c : Config) (seat : ℕ) (u w : World) : Type 0 where
   pub names : (a : ℕ) (name : Name) → name_at (u.block a) ≡ Some name → name_at (w.block a) ≡ Some name
-  pub targets : (a refs nums : ℕ) (name : Name) → Target u.block a refs nums name → Target w.block a refs nums name
+  pub targets : (a refs nums : ℕ) (name : Name) → TargetIn c u a refs nums name → TargetIn c w a refs nums name
   pub hands : (a words : ℕ) → u.block a ≡ Some (hand seat words) → w.block a ≡ Some (hand seat words)
   pub no_hands : (a words : ℕ) → w.block a ≡ Some (hand seat words) → u.block a ≡ Some (hand seat words)
   pub hand_words : (a words k : ℕ) → u.block a ≡ Some (hand seat words) → k < words → w.memory (Heap (a + k)) ≡ u.memory (Heap (a + k))
@@ -63,6 +89,6 @@ pub record Rely (c : Config) (seat : ℕ) (u w : World) : Type 0 where
   pub wait : w.memory (Wait seat) ≡ u.memory (Wait seat)
   pub answer : w.memory (Answer seat) ≡ u.memory (Answer seat)
   pub state : w.memory (State seat) ≡ u.memory (State seat)
-  pub cset : w.memory Cset ≡ u.memory Cset
   pub asked : bit_at (u.memory Ask) 1 ≡ 1 → bit_at (w.memory Ask) 1 ≡ 1
   pub marks : RelyMarks c seat u w
+  pub copies : RelyCopies c seat u w

@@ -1,28 +1,35 @@
 -- What it means that the words of a heap stand for a graph.
-use Rattle.std.specs.Prelude.{ℕ, ◌≡◌, ◌≢◌, ◌⊎◌, ◌+◌, ◌<◌, ◌≤◌, ◌^◌, Bool, true, false, Option, Some, None}
+use Rattle.std.specs.Prelude.{ℕ, ◌≡◌, ◌≢◌, ◌⊎◌, ◌+◌, ◌<◌, ◌≤◌, ◌^◌, Bool, true, false, if◌then◌else◌, Option, Some, None, zero, suc}
 use Rattle.std.specs.Int.{bit_at}
 use Rattle.heap_words.specs.declared.config.Config.{Config}
-use Rattle.heap_words.specs.Words.{Word, Phase, Cset, Free, Evac, Top, Tams, Current, Count, Buffer, Grey, Black, Heap}
-use Rattle.heap_words.specs.Encoding.{plain_header, shape_word}
+use Rattle.heap_words.specs.Words.{Word, Phase, Cset, Free, Evac, Claim, Top, Tams, Current, Count, Buffer, Grey, Black, Heap}
+use Rattle.heap_words.specs.Encoding.{plain_header, header_word, shape_word, name_code, object_words}
 use Rattle.heap_words.specs.Ranges.{seat_count}
 use Rattle.regions.specs.Place.{base_of, region_with}
 use Rattle.regions.specs.Sets.{IsIn}
 use Rattle.shen_graph.specs.declared.name.Name.{Name}
 use Rattle.shen_graph.specs.Graph.{Reference, Object, Graph}
 use Rattle.mark_bits.specs.Marks.{address_at, mark_at, HasMark}
+use Rattle.evac_room.specs.Counter.{count_of, is_out_of_room, IsQuiet}
 use Rattle.heap_world.specs.Objects.{Refers, IsObject}
 
--- A piece of the part of a region that is in use: an object of a name, with so many references and numbers; so many words
--- that a machine has in hand; an object of so many words that a pause has made for the mutator of a seat, which waits for it
--- and has not taken it into the graph yet; or so many words that only fill, and are no object and nobody's.
+-- A piece of the part of a region that is in use: the current copy of an object of a name, with so many references and numbers; an
+-- old copy of one, whose current copy is at an address; an old copy, of so many words, of an object that a pause had made for a mutator
+-- when its current copy was made at an address; so many words that a machine has in hand; an object of so many words that a pause has
+-- made for the mutator of a seat, which waits for it and has not taken it into the graph yet; or so many words that only fill, and are no
+-- object and nobody's.
 pub data Block : Type 0 where
   thing : (name : Name) (refs nums : ℕ) → Block
+  moved : (name : Name) (refs nums to : ℕ) → Block
+  spent : (words to : ℕ) → Block
   hand : (seat words : ℕ) → Block
   promised : (seat words : ℕ) → Block
   filler : (words : ℕ) → Block
 
 abbrev pub words_of : Block → ℕ
 words_of (thing name refs nums) = 3 + refs + nums
+words_of (moved name refs nums to) = 3 + refs + nums
+words_of (spent words to) = words
 words_of (hand seat words) = words
 words_of (promised seat words) = words
 words_of (filler words) = words
@@ -76,6 +83,15 @@ abbrev pub with_scanning : Ghost → (ℕ → Option Scan) → Ghost
 with_scanning ghost scanning =
     record { owner = ghost.owner; snapshot = ghost.snapshot; recording = ghost.recording; scanning = scanning; copying = ghost.copying; working = ghost.working }
 
+-- and with other seats that copy, or work
+abbrev pub with_copying : Ghost → (ℕ → Bool) → Ghost
+with_copying ghost copying =
+    record { owner = ghost.owner; snapshot = ghost.snapshot; recording = ghost.recording; scanning = ghost.scanning; copying = copying; working = ghost.working }
+
+abbrev pub with_working : Ghost → (ℕ → Option ℕ) → Ghost
+with_working ghost working =
+    record { owner = ghost.owner; snapshot = ghost.snapshot; recording = ghost.recording; scanning = ghost.scanning; copying = ghost.copying; working = working }
+
 -- a memory, how its regions are divided, ghost state, and the graph that the memory stands for
 pub record World : Type 0 where
   pub memory : Word → ℕ
@@ -83,25 +99,54 @@ pub record World : Type 0 where
   pub ghost : Ghost
   pub graph : Graph
 
--- the object that an address stands for, if it does
+-- the object that an address stands for, if it does: current and old copies alike
 abbrev pub name_at : Option Block → Option Name
 name_at (Some (thing name refs nums)) = Some name
+name_at (Some (moved name refs nums to)) = Some name
+name_at (Some (spent words to)) = None
 name_at (Some (hand seat words)) = None
 name_at (Some (promised seat words)) = None
 name_at (Some (filler words)) = None
 name_at None = None
 
+-- what a copy of an object is, current or old: its name, and how many references and numbers it has
+pub record Body : Type 0 where
+  pub name : Name
+  pub refs : ℕ
+  pub nums : ℕ
+
+abbrev pub body_of : Name → ℕ → ℕ → Body
+body_of name refs nums = record { name = name; refs = refs; nums = nums }
+
+abbrev pub body_words : Body → ℕ
+body_words b = 3 + b.refs + b.nums
+
+abbrev pub body_at : Option Block → Option Body
+body_at (Some (thing name refs nums)) = Some (body_of name refs nums)
+body_at (Some (moved name refs nums to)) = Some (body_of name refs nums)
+body_at (Some (spent words to)) = None
+body_at (Some (hand seat words)) = None
+body_at (Some (promised seat words)) = None
+body_at (Some (filler words)) = None
+body_at None = None
+
 -- a word stands for a reference where objects stand so
 abbrev pub Points : Plot → ℕ → Reference → Type 0
 Points block word reference = Refers (λ a. name_at (block a)) word reference
 
--- the object's current copy, with so many references and numbers, is at the address
-pub record Target (block : Plot) (address refs nums : ℕ) (name : Name) : Type 0 where
-  pub piece : block address ≡ Some (thing name refs nums)
+-- an address lies in a region of the collection set
+abbrev pub IsCollected : Config → (cset : ℕ) → ℕ → Type 0
+IsCollected c cset a = IsIn cset (region_with c a)
 
--- a word may be used as a reference: it is null, or the object's current copy is there
-abbrev pub IsUsable : Plot → ℕ → Type 0
-IsUsable block word = (word ≡ 0) ⊎ ((name : Name) × (refs : ℕ) × (nums : ℕ) × Target block word refs nums name)
+-- The object's current copy, with so many references and numbers, is at the address, and may be used: if it lies in the collection set
+-- nobody copies any more, so that it stays the current one.
+pub record Target (c : Config) (cset evac : ℕ) (block : Plot) (address refs nums : ℕ) (name : Name) : Type 0 where
+  pub piece : block address ≡ Some (thing name refs nums)
+  pub safe : IsCollected c cset address → IsQuiet evac
+
+-- a word may be used as a reference: it is null, or the object's current copy is there, and may be used
+abbrev pub IsUsable : Config → (cset evac : ℕ) → Plot → ℕ → Type 0
+IsUsable c cset evac block word = (word ≡ 0) ⊎ ((name : Name) × (refs : ℕ) × (nums : ℕ) × Target c cset evac block word refs nums name)
 
 -- so many words from an address on lie in the part of a region that is in use
 pub record IsInUse (c : Config) (top : ℕ → ℕ) (address words : ℕ) : Type 0 where
@@ -133,7 +178,7 @@ pub record IsGiven (c : Config) (count : ℕ → ℕ) (name : Name) : Type 0 whe
   pub by_thread : 1 ≤ name.thread → name.count ≤ count name.thread
   pub small : name.count < 2 ^ 32
 
--- each piece that is an object is one of the graph, and no two have one name
+-- each piece that is a current copy is an object of the graph, and no two have one name
 pub record AreObjects (heap : ℕ → ℕ) (block : Plot) (object : Name → Option Object) : Type 0 where
   pub each : (a refs nums : ℕ) (name : Name) → block a ≡ Some (thing name refs nums)
       → (o : Object) × (object name ≡ Some o) × IsThing heap block a refs nums name o
@@ -171,12 +216,17 @@ ArePromises block = (a seat words : ℕ) → block a ≡ Some (promised seat wor
 abbrev pub AreFillers : Plot → Type 0
 AreFillers block = (a words : ℕ) → block a ≡ Some (filler words) → 3 ≤ words
 
+-- so were those of an object that was promised and has moved
+abbrev pub AreSpents : Plot → Type 0
+AreSpents block = (a words to : ℕ) → block a ≡ Some (spent words to) → 3 ≤ words
+
 -- The heap is parsable: pieces fill the parts in use, one after another, and each has the least size of its kind.
 pub record IsParsable (c : Config) (top : ℕ → ℕ) (block : Plot) : Type 0 where
   pub plotted : IsPlotted c top block
   pub filled : IsFilled c top block
   pub promises : ArePromises block
   pub fillers : AreFillers block
+  pub spents : AreSpents block
 
 -- The pieces that are objects are the graph's, and its names are given.
 pub record HasContents (c : Config) (heap : ℕ → ℕ) (block : Plot) (object : Name → Option Object) (count : ℕ → ℕ) : Type 0 where
@@ -189,16 +239,11 @@ pub record AreOwned (c : Config) (top : ℕ → ℕ) (free : ℕ) (current : ℕ
   pub currents : AreCurrent c current owner
   pub rooms : AreRooms c top current block
 
--- nothing but marking runs beside the threads: the phase is 0 or 1, no region is in the collection set, and nobody copies
-pub record IsCalm (phase cset evac : ℕ) : Type 0 where
-  pub phase_is : phase ≤ 1
-  pub cset_is : cset ≡ 0
-  pub evac_is : evac ≡ 0
-
--- and the ghost state says so: no seat copies or works
-pub record IsUncopied (copying : ℕ → Bool) (working : ℕ → Option ℕ) : Type 0 where
-  pub copies_none : (seat : ℕ) → copying seat ≡ false
-  pub works_none : (seat : ℕ) → working seat ≡ None
+-- The phase is 0 to 2. Only while objects are evacuated, in phase 2, is a region in the collection set or a copier counted.
+pub record IsPhased (phase cset evac : ℕ) : Type 0 where
+  pub phase_is : phase ≤ 2
+  pub cset_is : phase ≢ 2 → cset ≡ 0
+  pub evac_is : phase ≢ 2 → evac ≡ 0
 
 -- so many words are a new object: its shape word says so, and its references are null
 pub record IsBlank (heap : ℕ → ℕ) (a words : ℕ) : Type 0 where
@@ -211,10 +256,11 @@ pub record IsBlank (heap : ℕ → ℕ) (a words : ℕ) : Type 0 where
   pub nulls : (i : ℕ) → i < refs → heap (a + 3 + i) ≡ 0
 
 -- Pieces that nobody writes to: an object that was promised is a new one, and words that only fill begin with the header of an
--- object that has not moved.
+-- object that has not moved, and a shape word that says how many they are.
 pub record AreUnwritten (heap : ℕ → ℕ) (block : Plot) : Type 0 where
   pub blanks : (a seat words : ℕ) → block a ≡ Some (promised seat words) → IsBlank heap a words
   pub headers : (a words : ℕ) → block a ≡ Some (filler words) → heap a ≡ plain_header
+  pub lengths : (a words : ℕ) → block a ≡ Some (filler words) → object_words (heap (a + 1)) ≡ words
 
 -- Marking from a snapshot at the beginning: what is marked is an object: one of the graph, or one that is promised.
 pub data IsMarkable (block : Plot) (a : ℕ) : Type 0 where
@@ -289,21 +335,115 @@ pub record KeepsSnapshot (c : Config) (phase : ℕ) (grey black count : ℕ → 
   pub blacks : phase ≡ 1 → AreMarks c black block
   pub entries : phase ≡ 1 → AreEntries c count buffer block
 
+-- An old copy lies in the collection set. Its header leads to the current copy, which lies outside, and its shape and its name are as they
+-- were.
+pub record IsMoved (c : Config) (cset : ℕ) (heap : ℕ → ℕ) (block : Plot) (a refs nums to : ℕ) (name : Name) : Type 0 where
+  pub header : heap a ≡ header_word to
+  pub shape : heap (a + 1) ≡ shape_word refs nums
+  pub name_word : heap (a + 2) ≡ name_code name.thread name.count
+  pub few_refs : refs ≤ 16
+  pub few_nums : nums ≤ 16
+  pub inside : IsCollected c cset a
+  pub copy : block to ≡ Some (thing name refs nums)
+  pub outside : IsCollected c cset to → ⊥
+
+-- So it is with an old copy of an object that was promised then. Its current copy still is, or is an object of the graph.
+pub record IsSpent (c : Config) (cset : ℕ) (heap : ℕ → ℕ) (block : Plot) (a words to : ℕ) : Type 0 where
+  pub header : heap a ≡ header_word to
+  pub shape : object_words (heap (a + 1)) ≡ words
+  pub inside : IsCollected c cset a
+  pub copy : IsMarkable block to
+  pub piece : Block
+  pub there : block to ≡ Some piece
+  pub long : words_of piece ≡ words
+  pub outside : IsCollected c cset to → ⊥
+
+pub record HaveMoved (c : Config) (cset : ℕ) (heap : ℕ → ℕ) (block : Plot) : Type 0 where
+  pub moveds : (a refs nums to : ℕ) (name : Name) → block a ≡ Some (moved name refs nums to) → IsMoved c cset heap block a refs nums to name
+  pub spents : (a words to : ℕ) → block a ≡ Some (spent words to) → IsSpent c cset heap block a words to
+
+-- how many of so many seats copy
+unfoldable pub copiers : (ℕ → Bool) → ℕ → ℕ
+copiers copying zero = 0
+copiers copying (suc n) = copiers copying n + (if copying n then 1 else 0)
+
+-- the counter counts the seats that copy
+pub record IsCounted (c : Config) (evac : ℕ) (copying : ℕ → Bool) : Type 0 where
+  pub is_word : evac < 2 ^ 64
+  pub counts : count_of evac ≡ copiers copying (seat_count c.mutators c.helpers)
+
+-- The regions of the collection set are set aside: each is one of the heap, in use and nobody's, nothing was allocated in it since mark
+-- start, and no object that is promised lies there.
+pub record AreSetAside (c : Config) (cset free : ℕ) (top tams : ℕ → ℕ) (block : Plot) (owner : ℕ → Option ℕ) : Type 0 where
+  pub in_heap : (r : ℕ) → IsIn cset r → r < c.regions
+  pub in_use : (r : ℕ) → IsIn free r → IsIn cset r → ⊥
+  pub nobodys : (r seat : ℕ) → owner r ≡ Some seat → IsIn cset r → ⊥
+  pub no_new : (r : ℕ) → IsIn cset r → top r ≡ tams r
+  pub no_promises : (a seat words : ℕ) → block a ≡ Some (promised seat words) → IsCollected c cset a → ⊥
+
+-- what is marked in the collection set: a current copy of an object, or an old one
+pub data HasCopy (block : Plot) (a : ℕ) : Type 0 where
+  copy : (b : Body) → body_at (block a) ≡ Some b → HasCopy block a
+  spent_copy : (words to : ℕ) → block a ≡ Some (spent words to) → HasCopy block a
+
+-- While objects are evacuated, each object is marked or was allocated since mark start, as room in hand was; and what is marked in the
+-- collection set is an object.
+pub record AreKept (c : Config) (phase cset : ℕ) (black top tams : ℕ → ℕ) (block : Plot) : Type 0 where
+  pub objects : phase ≡ 2 → (a : ℕ) → IsMarkable block a → HasMark c black a ⊎ IsYoung c tams a
+  pub young : phase ≡ 2 → (a seat words : ℕ) → block a ≡ Some (hand seat words) → IsYoung c tams a
+  pub floors : phase ≡ 2 → (r : ℕ) → r < c.regions → tams r ≤ top r
+  pub only : phase ≡ 2 → (a : ℕ) → c.region_words ≤ a → HasMark c black a → IsCollected c cset a → HasCopy block a
+
+-- A region of the collection set is swept up to an address: no object has its current copy below it; or there was no room.
+abbrev pub IsSweptTo : Config → (evac : ℕ) → Plot → (region end : ℕ) → Type 0
+IsSweptTo c evac block region end =
+    (is_out_of_room evac ≡ true) ⊎ ((a refs nums : ℕ) (name : Name) → base_of c region ≤ a → a < end → block a ≡ Some (thing name refs nums) → ⊥)
+
+-- a unit that was claimed is swept, or some machine works on it
+abbrev pub IsCaredFor : Config → (evac : ℕ) → Plot → (working : ℕ → Option ℕ) → (region : ℕ) → Type 0
+IsCaredFor c evac block working region =
+    IsSweptTo c evac block region (base_of c (region + 1)) ⊎ ((seat : ℕ) × (seat < seat_count c.mutators c.helpers) × (working seat ≡ Some region))
+
+abbrev pub AreCaredFor : Config → (phase cset evac claim : ℕ) → Plot → (working : ℕ → Option ℕ) → Type 0
+AreCaredFor c phase cset evac claim block working = phase ≡ 2 → (r : ℕ) → r < claim → IsIn cset r → IsCaredFor c evac block working r
+
+-- each root may be used as a reference
+abbrev pub AreUsable : Config → (cset evac : ℕ) → Plot → (root : ℕ → ℕ → ℕ) → Type 0
+AreUsable c cset evac block root = (t i : ℕ) → t < c.mutators → i < 16 → IsUsable c cset evac block (root t i)
+
+-- Evacuation: objects are copied out of the collection set beside the threads. In other phases than 2 the set is empty and no copier is
+-- counted, so that nothing is said.
+pub record IsEvacuating (c : Config) (phase cset evac claim free : ℕ) (top tams heap black : ℕ → ℕ) (block : Plot) (owner : ℕ → Option ℕ) (copying : ℕ → Bool) (working : ℕ → Option ℕ) : Type 0 where
+  pub moved : HaveMoved c cset heap block
+  pub counted : IsCounted c evac copying
+  pub aside : AreSetAside c cset free top tams block owner
+  pub kept : AreKept c phase cset black top tams block
+  pub units : AreCaredFor c phase cset evac claim block working
+
 -- The facts that all machines share, in groups, each over the words that it speaks of: a step that changes none of these words
 -- hands the group on as it is.
 pub record SharedFacts (c : Config) (top heap : ℕ → ℕ) (block : Plot) (ghost : Ghost) (object : Name → Option Object) (count : ℕ → ℕ) (phase cset evac free : ℕ) (current : ℕ → ℕ)
-    (grey black entries : ℕ → ℕ) (buffer : ℕ → ℕ → ℕ) (tams : ℕ → ℕ) : Type 0 where
+    (grey black entries : ℕ → ℕ) (buffer : ℕ → ℕ → ℕ) (tams : ℕ → ℕ) (claim : ℕ) : Type 0 where
   pub parsable : IsParsable c top block
   pub contents : HasContents c heap block object count
   pub owned : AreOwned c top free current block ghost.owner
-  pub calm : IsCalm phase cset evac
-  pub uncopied : IsUncopied ghost.copying ghost.working
+  pub phased : IsPhased phase cset evac
   pub unwritten : AreUnwritten heap block
   pub marked : KeepsSnapshot c phase grey black entries buffer top tams heap block ghost.snapshot ghost.recording ghost.scanning
+  pub evacuated : IsEvacuating c phase cset evac claim free top tams heap black block ghost.owner ghost.copying ghost.working
 
 abbrev pub Shared : Config → World → Type 0
 Shared c w = SharedFacts c (λ r. w.memory (Top r)) (λ a. w.memory (Heap a)) w.block w.ghost w.graph.object w.graph.count (w.memory Phase) (w.memory Cset) (w.memory Evac)
     (w.memory Free) (λ s. w.memory (Current s)) (λ n. w.memory (Grey n)) (λ n. w.memory (Black n)) (λ t. w.memory (Count t)) (λ t k. w.memory (Buffer t k)) (λ r. w.memory (Tams r))
+    (w.memory Claim)
+
+-- the object's current copy is at an address of a world, and may be used
+abbrev pub TargetIn : Config → World → (address refs nums : ℕ) → Name → Type 0
+TargetIn c w = Target c (w.memory Cset) (w.memory Evac) w.block
+
+-- a word may be used as a reference in a world
+abbrev pub UsableIn : Config → World → ℕ → Type 0
+UsableIn c w = IsUsable c (w.memory Cset) (w.memory Evac) w.block
 
 -- what is noted in a world
 abbrev pub NotedIn : Config → World → ℕ → Type 0

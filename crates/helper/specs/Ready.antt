@@ -7,33 +7,38 @@ use Rattle.steps_base.specs.Touch.{placed}
 use Rattle.handshake.specs.Rows.{is_entered}
 use Rattle.scan_steps.specs.Rows as scans
 use Rattle.scan_steps.specs.Seen as scan
+use Rattle.load_barrier.specs.UnitRows as evacs
+use Rattle.load_barrier.specs.UnitFit as evac
 use Rattle.helper.specs.declared.spot.HelpSpot.{HelpSpot}
-use Rattle.helper.specs.declared.spot.HelpSpot.TheVariants.{Entering, Scanning}
+use Rattle.helper.specs.declared.spot.HelpSpot.TheVariants.{Entering, Scanning, Evacuating}
 use Rattle.helper.specs.Rows.{Helping, help_touch, help_next}
 
--- whether the numbers of a spot are in range: an entering or a scan has not ended, and its next access can be made
-abbrev pub spot_fits : Config → HelpSpot → Bool
-spot_fits c (Entering at) = if is_entered at then false else true
-spot_fits c (Scanning at) = scans.is_ready c at && (if scans.is_ended at then false else true)
-spot_fits c _ = true
+-- whether the numbers of a spot are in range, for the helper of a seat: an entering or a unit has not ended, and its next access can
+-- be made
+abbrev pub spot_fits : Config → ℕ → HelpSpot → Bool
+spot_fits c seat (Entering at) = if is_entered at then false else true
+spot_fits c seat (Scanning at) = scans.is_ready c at && (if scans.is_ended at then false else true)
+spot_fits c seat (Evacuating cset at) = evac.is_ready c seat at && (if evacs.is_ended at then false else true)
+spot_fits c seat _ = true
 
 -- whether a helper's next access can be made: its seat is that of a mutator or a helper, and the numbers of its spot are in range
 abbrev pub help_ready : Config → Helping → Bool
-help_ready c h = nat_lt h.seat (c.mutators + c.helpers) && spot_fits c h.spot
+help_ready c h = nat_lt h.seat (c.mutators + c.helpers) && spot_fits c h.seat h.spot
 
--- the word is fit: the access that follows can be made
+-- a unit can go on from a word
+abbrev pub UnitGoesOn : Config → ℕ → HelpSpot → ℕ → Type 0
+UnitGoesOn c seat (Scanning at) got = scan.IsFit c at got
+UnitGoesOn c seat (Evacuating cset at) got = evac.IsFit c seat cset at got
+UnitGoesOn c seat _ got = Unit {0}
+
+-- the word is fit: in a unit it is one from which the unit can go on, and anywhere else each word is
 abbrev pub IsFit : Config → Helping → ℕ → Type 0
-IsFit c h got = help_ready c (help_next c h got) ≡ true
+IsFit c h got = UnitGoesOn c h.seat h.spot got
 
 -- a helper that can make its access makes it to a word of the table
 abbrev pub AccessesAreInside : Type 0
 AccessesAreInside = (c : Config) (h : Helping) → help_ready c h ≡ true → table_index (placed c (help_touch c h)) < table_words c
 
--- a scan can go on from a word
-abbrev pub ScanGoesOn : Config → HelpSpot → ℕ → Type 0
-ScanGoesOn c (Scanning at) got = scan.IsFit c at got
-ScanGoesOn c _ got = Unit {0}
-
--- each word is fit but in a scan, and there those from which the scan can go on
+-- and where it goes on with a word that is fit it can make the next one
 abbrev pub StaysReady : Type 0
-StaysReady = (c : Config) (h : Helping) (got : ℕ) → help_ready c h ≡ true → ScanGoesOn c h.spot got → IsFit c h got
+StaysReady = (c : Config) (h : Helping) (got : ℕ) → help_ready c h ≡ true → IsFit c h got → help_ready c (help_next c h got) ≡ true

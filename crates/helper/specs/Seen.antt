@@ -5,7 +5,7 @@ use Rattle.helper.specs.Rows.{Helping}
 
 -- all but its configuration
 abbrev pub seen_helper : Helper → Helping
-seen_helper h = record { seat = h.seat; phase = h.phase; cset = h.cset; spot = h.spot }
+seen_helper h = record { seat = h.seat; spot = h.spot }
 
 -- the heap that it works on
 abbrev pub config_of : Helper → Config

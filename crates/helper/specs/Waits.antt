@@ -4,17 +4,21 @@ use Rattle.heap_words.specs.declared.config.Config.{Config}
 use Rattle.handshake.specs.declared.enter_spot.EnterSpot.TheVariants.{Await}
 use Rattle.scan_steps.specs.declared.spot.ScanSpot.TheVariants.{LoadClaim, ClaimUnit}
 use Rattle.scan_steps.specs.Rows.{unit_limit}
+use Rattle.load_barrier.specs.declared.evac_spot.EvacSpot.TheVariants as evac
+use Rattle.load_barrier.specs.UnitEnds as evacs
 use Rattle.helper.specs.declared.spot.HelpSpot.{HelpSpot}
-use Rattle.helper.specs.declared.spot.HelpSpot.TheVariants.{Entering, LoadPhase, Scanning}
+use Rattle.helper.specs.declared.spot.HelpSpot.TheVariants.{Entering, LoadPhase, Scanning, Evacuating}
 use Rattle.helper.specs.Rows.{Helping}
 
--- At E4 a pause is wanted; at PH the phase is 0; at MC the claim word is at or past the number of units; at KX it is not the one
--- that was loaded. At each other place it never waits.
+-- At E4 a pause is wanted; at PH the phase is 0; at MC and EC the claim word is at or past the number of units; at KX it is not the
+-- one that was loaded; and where it resolves an address it waits as the resolving does. At each other place it never waits.
 abbrev pub waits_at : Config → HelpSpot → ℕ → Type 0
 waits_at c (Entering Await) got = got ≢ 0
 waits_at c LoadPhase got = got ≡ 0
 waits_at c (Scanning LoadClaim) got = unit_limit c ≤ got
 waits_at c (Scanning (ClaimUnit unit)) got = got ≢ unit
+waits_at c (Evacuating cset evac.LoadClaim) got = c.regions ≤ got
+waits_at c (Evacuating cset at) got = evacs.WaitsAt at got
 waits_at c _ got = ⊥
 
 abbrev pub WaitsAt : Config → Helping → ℕ → Type 0

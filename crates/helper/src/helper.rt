@@ -9,12 +9,9 @@ use heap_words::{Access, Config, Place, Took};
 pub struct Helper {
     config: Config,
     seat: usize,
-    // The phase and the collection set that the round has loaded.
-    phase: u64,
-    cset: u64,
     spot: HelpSpot,
     ghost is_seat: { seat < config.mutators + config.helpers },
-    ghost fits: { spot_fits config spot ≡ true },
+    ghost fits: { spot_fits config seat spot ≡ true },
 }
 
 impl Helper {
@@ -36,8 +33,6 @@ impl Helper {
         Helper {
             config,
             seat: config.mutators() + helper,
-            phase: 0,
-            cset: 0,
             spot: HelpSpot::LoadEnd,
         }
     }
@@ -65,8 +60,8 @@ impl Helper {
         self.spot.access(self.config, self.seat)
     }
 
-    /// Goes on with the word that its access has found. In a scan a word is fit if the access that follows is of the table;
-    /// anywhere else each word is.
+    /// Goes on with the word that its access has found. In a unit of work a word is fit if the unit can go on from it; anywhere else
+    /// each word is.
     pub fn took(&mut self, got: u64) -> Took
         requires busy { is_gone (seen_helper self.old).spot ≡ false }
         requires fit { IsFit (config_of self.old) (seen_helper self.old) got }
@@ -75,13 +70,8 @@ impl Helper {
         ensures says { result ≡ help_says (config_of self.old) (seen_helper self.old) got }
         ensures again { (result ≡ Took.Again) ↔ WaitsAt (config_of self.old) (seen_helper self.old) got }
     {
-        let before = self.spot;
-        match before {
-            HelpSpot::LoadPhase => self.phase = got,
-            HelpSpot::LoadSet => self.cset = got,
-            _ => {}
-        }
-        self.spot = before.after(self.config, got);
-        before.says(self.config, got)
+        let (spot, said) = self.spot.after(self.config, self.seat, got);
+        self.spot = spot;
+        said
     }
 }

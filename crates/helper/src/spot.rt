@@ -1,18 +1,21 @@
-ghost use Rattle.std.specs.Prelude.{◌≡◌, ◌<◌, ◌+◌, ◌↔◌, true, false, if◌then◌else◌};
+ghost use Rattle.std.specs.Prelude.{◌≡◌, ◌<◌, ◌+◌, ◌↔◌, true, false};
 ghost use Rattle.heap_words.specs.Access.{table_index};
 ghost use Rattle.heap_words.specs.Words.{table_words};
 ghost use Rattle.steps_base.specs.Touch.{placed};
-ghost use Rattle.scan_steps.specs.Rows as scans;
 ghost use Rattle.helper.specs.Rows as rows;
-ghost use Rattle.helper.specs.Ready.{spot_fits};
+ghost use Rattle.helper.specs.Ready.{spot_fits, UnitGoesOn};
 ghost use Rattle.helper.specs.Waits.{waits_at};
 
 use handshake::{EnterSpot, leave_access};
 use heap_words::{Access, Config, Place, Took};
+use load_barrier::EvacSpot;
 use scan_steps::ScanSpot;
 
 // The phase in which there is no work for a helper.
 const IDLE: u64 = 0;
+
+// The phase in which objects are marked.
+const MARK: u64 = 1;
 
 /// Where a helper stands.
 #[derive(Clone, Copy, Debug, PartialEq, Eq)]
@@ -27,11 +30,21 @@ pub enum HelpSpot {
     /// It loads the phase.
     LoadPhase,
     /// It loads the collection set.
-    LoadSet,
+    LoadSet {
+        /// The phase that it has loaded.
+        phase: u64,
+    },
     /// It claims a unit of marking and scans it.
     Scanning {
         /// Where the scan stands.
         at: ScanSpot,
+    },
+    /// It claims a unit of evacuation and copies what is marked there.
+    Evacuating {
+        /// The collection set that it has loaded.
+        cset: u64,
+        /// Where the evacuation stands.
+        at: EvacSpot,
     },
     /// It leaves the heap.
     Leave,
@@ -48,8 +61,9 @@ impl HelpSpot {
             HelpSpot::LoadEnd | HelpSpot::Gone => Place::H0,
             HelpSpot::Entering { at } => at.place(),
             HelpSpot::LoadPhase => Place::PH,
-            HelpSpot::LoadSet => Place::CS,
+            HelpSpot::LoadSet { .. } => Place::CS,
             HelpSpot::Scanning { at } => at.place(),
+            HelpSpot::Evacuating { at, .. } => at.place(),
             HelpSpot::Leave => Place::LV,
         }
     }
@@ -64,7 +78,7 @@ impl HelpSpot {
     /// The next access, of the helper of a seat.
     pub fn access(self, config: Config, seat: usize) -> Access
         requires seat { seat < config.mutators + config.helpers }
-        requires fits { spot_fits config self ≡ true }
+        requires fits { spot_fits config seat self ≡ true }
         requires busy { rows.is_gone self ≡ false }
         ensures row { result ≡ placed config (rows.touch_at config seat self) }
         ensures inside { table_index result < table_words config }
@@ -77,55 +91,48 @@ impl HelpSpot {
             HelpSpot::LoadPhase => Access::Load {
                 at: config.phase_at(),
             },
-            HelpSpot::LoadSet => Access::Load {
+            HelpSpot::LoadSet { .. } => Access::Load {
                 at: config.cset_at(),
             },
             HelpSpot::Scanning { at } => at.access(config),
+            HelpSpot::Evacuating { at, .. } => at.access(config, seat),
             HelpSpot::Leave => leave_access(config, seat),
             HelpSpot::Gone => unreachable!(),
         }
     }
 
-    /// Where the helper stands after it, by the word that the access has found.
-    pub fn after(self, config: Config, got: u64) -> HelpSpot
-        requires fits { spot_fits config self ≡ true }
-        requires fit { spot_fits config (rows.next_spot config self got) ≡ true }
-        ensures row { result ≡ rows.next_spot config self got }
+    /// Where the helper stands after it, by the word that the access has found, and what the step says. A helper is done with
+    /// nothing: there is always more to do, or it waits.
+    pub fn after(self, config: Config, seat: usize, got: u64) -> (HelpSpot, Took)
+        requires fits { spot_fits config seat self ≡ true }
+        requires fit { UnitGoesOn config seat self got }
+        ensures row { result.0 ≡ rows.next_spot config self got }
+        ensures fits { spot_fits config seat result.0 ≡ true }
+        ensures says { result.1 ≡ rows.says_at config self got }
+        ensures again { (result.1 ≡ Took.Again) ↔ waits_at config self got }
     {
         match self {
-            HelpSpot::LoadEnd if got == 1 => HelpSpot::Gone,
-            HelpSpot::LoadEnd => HelpSpot::Entering {
-                at: EnterSpot::Raise,
-            },
-            HelpSpot::Entering { at } => after_enter(at.after(got)),
-            HelpSpot::LoadPhase if got == IDLE => HelpSpot::Leave,
-            HelpSpot::LoadPhase => HelpSpot::LoadSet,
-            HelpSpot::LoadSet => HelpSpot::Scanning {
-                at: ScanSpot::LoadClaim,
-            },
-            HelpSpot::Scanning { at } => after_scan(at.after(config, got)),
-            HelpSpot::Leave => HelpSpot::LoadEnd,
-            HelpSpot::Gone => HelpSpot::Gone,
-        }
-    }
-
-    /// What the step says that finds this word. A helper is done with nothing: there is always more to do, or it waits.
-    pub fn says(self, config: Config, got: u64) -> Took
-        ensures row { result ≡ rows.says_at config self got }
-        ensures again { (result ≡ Took.Again) ↔ waits_at config self got }
-    {
-        match self {
-            HelpSpot::Entering {
-                at: EnterSpot::Await,
-            } if got != 0 => Took::Again,
-            HelpSpot::LoadPhase if got == IDLE => Took::Again,
-            HelpSpot::Scanning {
-                at: ScanSpot::LoadClaim,
-            } if is_none_left(config, got) => Took::Again,
-            HelpSpot::Scanning {
-                at: ScanSpot::ClaimUnit { unit },
-            } if got != unit => Took::Again,
-            _ => Took::More,
+            HelpSpot::LoadEnd if got == 1 => (HelpSpot::Gone, Took::More),
+            HelpSpot::LoadEnd => (
+                HelpSpot::Entering {
+                    at: EnterSpot::Raise,
+                },
+                Took::More,
+            ),
+            HelpSpot::Entering { at } => (after_enter(at.after(got)), entering_says(at, got)),
+            HelpSpot::LoadPhase if got == IDLE => (HelpSpot::Leave, Took::Again),
+            HelpSpot::LoadPhase => (HelpSpot::LoadSet { phase: got }, Took::More),
+            HelpSpot::LoadSet { phase } => (begins_unit(phase, got), Took::More),
+            HelpSpot::Scanning { at } => (
+                after_scan(at.after(config, got)),
+                scanning_says(config, at, got),
+            ),
+            HelpSpot::Evacuating { cset, at } => {
+                let (next, said) = at.after(config, seat, cset, got);
+                (after_evacuation(cset, next), evacuating_says(at, said))
+            }
+            HelpSpot::Leave => (HelpSpot::LoadEnd, Took::More),
+            HelpSpot::Gone => (HelpSpot::Gone, Took::More),
         }
     }
 }
@@ -141,6 +148,32 @@ fn after_enter(at: EnterSpot) -> HelpSpot
     }
 }
 
+// It waits while a pause is wanted.
+fn entering_says(at: EnterSpot, got: u64) -> Took
+    ensures { result ≡ rows.entering_says at got }
+{
+    match at {
+        EnterSpot::Await if got != 0 => Took::Again,
+        _ => Took::More,
+    }
+}
+
+// Where it begins with a unit of the phase.
+fn begins_unit(phase: u64, cset: u64) -> HelpSpot
+    ensures { result ≡ rows.begins_unit phase cset }
+{
+    if phase == MARK {
+        HelpSpot::Scanning {
+            at: ScanSpot::LoadClaim,
+        }
+    } else {
+        HelpSpot::Evacuating {
+            cset,
+            at: EvacSpot::LoadClaim,
+        }
+    }
+}
+
 // Once its unit is done, or none was left, it leaves.
 fn after_scan(at: ScanSpot) -> HelpSpot
     ensures { result ≡ rows.after_scan at }
@@ -152,9 +185,35 @@ fn after_scan(at: ScanSpot) -> HelpSpot
     }
 }
 
-// Whether no unit is left to claim, by the claim word.
-fn is_none_left(config: Config, claimed: u64) -> bool
-    ensures { result ≡ (if scans.has_unit config claimed then false else true) }
+// It waits where no unit was left, or another machine has claimed the unit.
+fn scanning_says(config: Config, at: ScanSpot, got: u64) -> Took
+    ensures { result ≡ rows.scanning_says config at got }
 {
-    ScanSpot::LoadClaim.says(config, claimed) == Took::Done
+    match at {
+        ScanSpot::LoadClaim if at.says(config, got) == Took::Done => Took::Again,
+        ScanSpot::ClaimUnit { unit } if got != unit => Took::Again,
+        _ => Took::More,
+    }
+}
+
+// Once its unit is done, or none was left, it leaves.
+fn after_evacuation(cset: u64, at: EvacSpot) -> HelpSpot
+    ensures { result ≡ rows.after_evacuation cset at }
+{
+    if at.is_ended() {
+        HelpSpot::Leave
+    } else {
+        HelpSpot::Evacuating { cset, at }
+    }
+}
+
+// What a step of evacuation says: where no unit was left to claim it waits, and once a unit is done there is more to do.
+fn evacuating_says(at: EvacSpot, said: Took) -> Took
+    ensures { result ≡ rows.evacuating_says at said }
+{
+    match (at, said) {
+        (EvacSpot::LoadClaim, Took::Done) => Took::Again,
+        (_, Took::Done) => Took::More,
+        (_, said) => said,
+    }
 }

@@ -3,7 +3,8 @@ use heap_words::{Access, Config, Place, Took};
 use std::test::Fail;
 
 // In the smallest heap with one mutator and one helper the helper's seat is 1. Its state word is word 4, the phase is word 5, the
-// collection set word 6 and the claim word is word 9. There are 8 units.
+// collection set word 6 and the claim word is word 9. There are 8 units of marking, and 4 of evacuation. The tops are the words
+// from 11 on, the black bits those from 57 on, and the heap begins at word 61, with address 64.
 
 // A pause is wanted where it enters; then there is no work in phase 0; and then the control has ended.
 #[test]
@@ -78,6 +79,52 @@ fn finds_no_unit(rt: HostRuntime) -> Result<(), Fail> {
     assert!(rt; helper.took(1) == Took::More);
     assert!(rt; helper.took(0) == Took::More);
     assert!(rt; helper.took(8) == Took::Again);
+    assert!(rt; helper.place() == Place::LV);
+    Ok(())
+}
+
+// In phase 2 it claims a unit of evacuation: region 1 is the collection set, and has one object, at address 128. It is marked, and
+// was copied to address 200.
+#[test]
+fn evacuates_a_region(rt: HostRuntime) -> Result<(), Fail> {
+    let config = Config::new(4, 64, 1, 1, 0)?;
+    let mut helper = Helper::new(config, 0);
+    assert!(rt; helper.took(0) == Took::More);
+    assert!(rt; helper.took(0) == Took::More);
+    assert!(rt; helper.took(0) == Took::More);
+    assert!(rt; helper.took(2) == Took::More);
+    assert!(rt; helper.place() == Place::CS);
+    assert!(rt; helper.took(2) == Took::More);
+    assert!(rt; helper.place() == Place::EC);
+    assert!(rt; helper.plan() == Access::Load { at: 9 });
+    assert!(rt; helper.took(0) == Took::More);
+    assert!(rt; helper.took(1) == Took::Again);
+    assert!(rt; helper.took(1) == Took::More);
+    assert!(rt; helper.took(1) == Took::More);
+    assert!(rt; helper.place() == Place::ET);
+    assert!(rt; helper.plan() == Access::Load { at: 12 });
+    assert!(rt; helper.took(3) == Took::More);
+    assert!(rt; helper.plan() == Access::Load { at: 126 });
+    assert!(rt; helper.took(65536) == Took::More);
+    assert!(rt; helper.plan() == Access::Load { at: 58 });
+    assert!(rt; helper.took(1) == Took::More);
+    assert!(rt; helper.place() == Place::HL);
+    assert!(rt; helper.took(803) == Took::More);
+    assert!(rt; helper.place() == Place::LV);
+    Ok(())
+}
+
+// No region is left in phase 2.
+#[test]
+fn finds_no_region(rt: HostRuntime) -> Result<(), Fail> {
+    let config = Config::new(4, 64, 1, 1, 0)?;
+    let mut helper = Helper::new(config, 0);
+    assert!(rt; helper.took(0) == Took::More);
+    assert!(rt; helper.took(0) == Took::More);
+    assert!(rt; helper.took(0) == Took::More);
+    assert!(rt; helper.took(2) == Took::More);
+    assert!(rt; helper.took(2) == Took::More);
+    assert!(rt; helper.took(4) == Took::Again);
     assert!(rt; helper.place() == Place::LV);
     Ok(())
 }

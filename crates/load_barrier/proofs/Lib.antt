@@ -2,3 +2,4 @@ pub mod Ends
 pub mod Knows
 pub mod Resolving
 pub mod Every
+pub mod Inside

@@ -1,18 +1,19 @@
 -- What a step owes that changes only words of marking, and who records and scans what.
-use Rattle.std.proofs.Common.{◌≡◌, ◌≢◌, ℕ, ◌<◌, ◌⊎◌, ⊎_elim, Bool, true, false, Option, Some, refl, sym, ap, ◌∙◌}
+use Rattle.std.proofs.Common.{◌≡◌, ◌≢◌, ℕ, ◌<◌, ◌⊎◌, ⊎_elim, Bool, true, false, Option, Some, refl, sym, ap, ◌∙◌, arith}
 use Rattle.std.specs.Prelude.{if◌then◌else◌}
 use Rattle.std.proofs.Math.Path.{fun_ext}
 use Rattle.std.proofs.lemmas.Bool.{cases_Bool, cond-true, cond-false, false≢true}
 use Rattle.heap_words.specs.declared.config.Config.{Config}
-use Rattle.heap_words.specs.Words.{Word, Phase, Claim, Top, Tams, Count, Buffer, Grey, Black, Heap, same_word}
+use Rattle.heap_words.specs.Words.{Word, Phase, Cset, Free, Evac, Claim, Top, Tams, Count, Buffer, Grey, Black, Heap, same_word}
 use Rattle.heap_words.proofs.Stores.{same_word_true}
 use Rattle.steps_base.specs.Touch.{Touch, touch, loads, touched}
 use Rattle.mark_bits.specs.Marks.{HasMark}
 use Rattle.shen_graph.specs.declared.name.Name.{Name}
-use Rattle.heap_world.specs.World.{World, Scan, thing, with_recording, with_scanning, IsNoted, IsToScan, NeedsNoMarking, AreMarks, AreEntries, KeepsSnapshot, NotedIn, Shared}
-use Rattle.heap_world.specs.Rely.{KeepsMarks, Keeps, Rely}
-use Rattle.heap_world.specs.Part.{PartStep}
+use Rattle.heap_world.specs.World.{World, Scan, thing, with_recording, with_scanning, IsNoted, IsToScan, NeedsNoMarking, AreMarks, AreEntries, KeepsSnapshot, IsEvacuating, NotedIn, Shared}
+use Rattle.heap_world.specs.Rely.{KeepsMarks, RelyCopies, Keeps, Rely}
+use Rattle.heap_world.specs.Part.{PartStep, SameWork}
 use Rattle.heap_world.proofs.Keeping.{load_keeps}
+use Rattle.heap_world.proofs.Copies.{same_plot, rely_copies}
 use Rattle.heap_world.proofs.Traced.{traced_noted, traced_scanned}
 
 -- whether a word is one of marking: what is claimed, a buffer, or bits
@@ -61,6 +62,7 @@ module _ (c : Config) (u : World) (seat : ℕ) (marking : Word → ℕ) (recordi
   -- What the change keeps: what is grey and what is noted stays so, each field of the snapshot that a scan has still to come to is such
   -- a one, or done; marks and entries are objects; and what is another seat's stays as it is.
   pub record IsMarkingStep : Type 0 where
+    pub phase : u.memory Phase ≡ 1
     pub greys : (a : ℕ) → HasMark c (λ n. u.memory (Grey n)) a → HasMark c (λ n. marking (Grey n)) a
     pub noted : (v : ℕ) → NotedIn c u v → IsNoted c (λ n. marking (Grey n)) (λ t. marking (Count t)) (λ t k. marking (Buffer t k)) recording v
     pub scanned : (a refs nums k : ℕ) (name : Name) → u.ghost.snapshot.block a ≡ Some (thing name refs nums) → k < refs
@@ -98,29 +100,50 @@ module _ (c : Config) (u : World) (seat : ℕ) (marking : Word → ℕ) (recordi
       entries = λ on. step.entries;
     }
 
+    -- it is not so that objects are evacuated
+    evacuating_after : IsEvacuating c (u.memory Phase) (u.memory Cset) (u.memory Evac) (marking Claim) (u.memory Free) (λ r. u.memory (Top r)) (λ r. u.memory (Tams r)) (λ a. u.memory (Heap a)) (λ n. marking (Black n))
+        u.block u.ghost.owner u.ghost.copying u.ghost.working
+    evacuating_after =
+        let other : u.memory Phase ≢ 2 = λ on. (let is = step.phase in omega (arith, is, on)) in
+        let was = shared.evacuated in
+        record {
+          moved = was.moved;
+          counted = was.counted;
+          aside = was.aside;
+          kept = record {
+            objects = λ on. absurd (other on);
+            young = λ on. absurd (other on);
+            floors = λ on. absurd (other on);
+            only = λ on. absurd (other on);
+          };
+          units = λ on. absurd (other on);
+        }
+
+    -- nothing changes of copies
+    copies_after : (j : ℕ) → RelyCopies c j u world_after
+    copies_after j = rely_copies c u world_after j (same_plot c u world_after refl refl refl (λ r is. refl)) refl refl (λ a k b seated counted inside is from below. refl)
+
     -- machines share what they should
     pub shared_after : Shared c world_after
     shared_after = record {
       parsable = shared.parsable;
       contents = shared.contents;
       owned = shared.owned;
-      calm = shared.calm;
-      uncopied = shared.uncopied;
+      phased = shared.phased;
       unwritten = shared.unwritten;
       marked = snapshot_after;
+      evacuated = evacuating_after;
     }
 
     -- what holds of marking holds
     marks_kept : KeepsMarks c u world_after
-    marks_kept = record { phase = refl; snapshot = refl; markable = λ a is. is; shapes = λ a is. refl; noted = step.noted }
+    marks_kept = record { phase = refl; snapshot = refl; markable = λ on a is. is; shapes = λ a is. refl; noted = step.noted }
 
     -- the facts of the seat's machine stand
     pub keeps_after : Keeps c seat u world_after
     keeps_after = record {
       names = λ a name is. is;
       targets = λ a refs nums name is. is;
-      hands = λ a words is. is;
-      hand_words = λ a words k is below. refl;
       promises = λ a words is. is;
       no_promises = λ a words is. is;
       promise_words = λ a words k is below. refl;
@@ -130,6 +153,7 @@ module _ (c : Config) (u : World) (seat : ℕ) (marking : Word → ℕ) (recordi
       wait = refl;
       answer = refl;
       marks = marks_kept;
+      copies = (copies_after seat).keeps;
     }
 
     -- others can rely on what they knew
@@ -152,7 +176,6 @@ module _ (c : Config) (u : World) (seat : ℕ) (marking : Word → ℕ) (recordi
       wait = refl;
       answer = refl;
       state = refl;
-      cset = refl;
       asked = λ is. is;
       marks = record {
         keeps = marks_kept;
@@ -162,8 +185,9 @@ module _ (c : Config) (u : World) (seat : ℕ) (marking : Word → ℕ) (recordi
         buffer = λ k. step.buffers j k differs;
         greys = step.greys;
       };
+      copies = copies_after j;
     }
 
     -- the step owes no more
-    pub step_after : (t : Touch) (facts : World → Type 0) → with_marking u.memory marking ≡ touched u.memory t → facts world_after → PartStep c u seat t facts
-    step_after t facts memory own = record { world = world_after; memory = memory; graph = refl; shared = shared_after; own = own; keeps = keeps_after; others = others_after }
+    pub step_after : (t : Touch) (facts : World → Type 0) → with_marking u.memory marking ≡ touched u.memory t → facts world_after → PartStep c u seat t (λ w. facts w × SameWork u w seat)
+    step_after t facts memory own = record { world = world_after; memory = memory; graph = refl; shared = shared_after; own = (own, record { copying = refl; working = refl }); keeps = keeps_after; others = others_after }

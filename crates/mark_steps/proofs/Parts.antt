@@ -1,39 +1,9 @@
--- Recording an address and scanning a unit of marking as parts: any machine that has a seat can have them inside.
-use Rattle.std.proofs.Common.{ℕ, refl}
-use Rattle.std.specs.Prelude.{⊤}
-use Rattle.heap_world.specs.Part.{Part}
-use Rattle.satb_barrier.specs.declared.spot.RememberSpot.{RememberSpot}
-use Rattle.satb_barrier.specs.Rows as remember
-use Rattle.scan_steps.specs.declared.spot.ScanSpot.{ScanSpot}
-use Rattle.scan_steps.specs.Rows as scan
-use Rattle.mark_steps.specs.Recording.{CanRecord}
-use Rattle.mark_steps.specs.Scanning.{CanScan}
+-- What the steps of recording an address and of scanning a unit owe: any machine that has a seat can have them inside.
+use Rattle.std.proofs.Common.{refl}
 use Rattle.mark_steps.specs.Laws.{RecordingSteps, ScanningSteps}
 use Rattle.satb_barrier.proofs.Remembering.{found_is_fit}
 use Rattle.mark_steps.proofs.Records.{each_records, takes_in_hand, can_record_stays, record_inside, record_noted}
 use Rattle.mark_steps.proofs.Scans.{each_scans, can_scan_stays, scan_inside}
-
--- the rows, the facts and the proofs of recording an address
-abbrev pub remember_part : Part RememberSpot ℕ
-remember_part = record {
-  touch = λ c mutator v at. remember.touch_at c mutator v at;
-  next = λ c v at got. remember.next_at at got;
-  ended = λ at. remember.is_recorded at;
-  facts = λ c mutator v w at. CanRecord c w mutator v at;
-  stable = λ c u w mutator v at shared rely can. can_record_stays c u w mutator rely v at can;
-  step = λ c u mutator v at going shared can. each_records c u mutator v at going shared can;
-}
-
--- and those of scanning a unit
-abbrev pub scan_part : Part ScanSpot ⊤
-scan_part = record {
-  touch = λ c seat asked at. scan.touch_at c at;
-  next = λ c asked at got. scan.next_at c at got;
-  ended = λ at. scan.is_ended at;
-  facts = λ c seat asked w at. CanScan c w seat at;
-  stable = λ c u w seat asked at shared rely can. can_scan_stays c u w seat rely at can;
-  step = λ c u seat asked at going shared can. each_scans c u seat at going shared can;
-}
 
 -- what the steps of recording owe
 pub recording_steps : RecordingSteps
@@ -52,6 +22,6 @@ scanning_steps = record {
   begins = λ c u seat seated marking idle roomless. record { seated = seated; phase = marking; scanning = idle; ready = refl; hands = roomless; facts = tt };
   each = λ c u seat at going shared can. each_scans c u seat at going shared can;
   stays = λ c u w seat at rely can. can_scan_stays c u w seat rely at can;
-  fits = λ c u seat at going shared can. (each_scans c u seat at going shared can).own.ready;
+  fits = λ c u seat at going shared can. (each_scans c u seat at going shared can).own.0.ready;
   inside = λ c u seat at can. scan_inside c at can.ready;
 }

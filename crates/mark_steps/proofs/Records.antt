@@ -173,6 +173,7 @@ module _ (c : Config) (u : World) (mutator v : ℕ) where
     -- so it is a step of marking
     is_marking_step : IsMarkingStep c u mutator (after at) (hands at) u.ghost.scanning
     is_marking_step = record {
+      phase = can.phase;
       greys = greys_stay at;
       noted = noted_then at going shared can;
       scanned = λ a refs nums k name is below scan. inl (scans_stay at u.ghost.scanning a k scan);
@@ -219,6 +220,7 @@ module _ (c : Config) (u : World) (mutator v : ℕ) (seated : mutator < c.mutato
 
   taking_step : IsMarkingStep c u mutator u.memory taken u.ghost.scanning
   taking_step = record {
+    phase = marking;
     greys = λ a mark. mark;
     noted = noted_taken;
     scanned = λ a refs nums k name is below scan. inl scan;
@@ -280,7 +282,7 @@ module _ (c : Config) (u w : World) (mutator : ℕ) (rely : Rely c mutator u w) 
   can_record_stays v at can = record {
     seated = can.seated;
     phase = rely.marks.keeps.phase ∙ can.phase;
-    markable = rely.marks.keeps.markable v can.markable;
+    markable = rely.marks.keeps.markable can.phase v can.markable;
     recording = rely.marks.recording ∙ can.recording;
     scanning = rely.marks.scanning ∙ can.scanning;
     hands = λ a words is. can.hands a words (rely.no_hands a words is);

@@ -8,16 +8,17 @@ use Rattle.std.proofs.lemmas.Option.{slice_get-get_or}
 use Rattle.heap_words.specs.declared.config.Config.{Config}
 use Rattle.heap_words.specs.declared.access.Unit.TheVariants.{Worked, NoneLeft}
 use Rattle.heap_words.specs.Encoding.{refs_in}
-use Rattle.heap_words.specs.Words.{Word, Claim, Count, Buffer, Grey, Black, Heap, IsWord, is_word, bit_words}
+use Rattle.heap_words.specs.Words.{Phase, Word, Claim, Count, Buffer, Grey, Black, Heap, IsWord, is_word, bit_words}
 use Rattle.heap_words.proofs.Shapes.{refs_in-shape_word}
 use Rattle.steps_base.specs.Touch.{touched}
 use Rattle.mark_bits.specs.Marks.{mark_word, mark_bit, mark_at, address_at, lowest_address, HasMark}
 use Rattle.mark_bits.proofs.Marking.{mark_set, mark_stays, word_inside}
 use Rattle.shen_graph.specs.declared.name.Name.{Name}
 use Rattle.shen_graph.specs.Graph.{Reference}
-use Rattle.heap_world.specs.World.{World, Scan, thing, Points, was_at, IsMarkable, IsNoted, IsToScan, NeedsNoMarking, IsTracedAt, AreMarks, AreEntries, NotedIn, Shared}
+use Rattle.heap_world.specs.World.{World, moved, Scan, thing, Points, was_at, IsMarkable, IsNoted, IsToScan, NeedsNoMarking, IsTracedAt, AreMarks, AreEntries, NotedIn, Shared}
 use Rattle.heap_world.specs.Rely.{Rely}
 use Rattle.heap_world.proofs.Pointing.{named_thing}
+use Rattle.heap_world.proofs.Unmoved.{unmoved}
 use Rattle.heap_world.proofs.Updates.{updated, updated_there, updated_else}
 use Rattle.scan_steps.specs.declared.spot.ScanSpot.{ScanSpot}
 use Rattle.scan_steps.specs.declared.spot.ScanSpot.TheVariants.{LoadClaim, ClaimUnit, LoadGrey, LoadBlack, SetBlack, LoadShape, LoadField, SetGrey, Ended}
@@ -114,6 +115,7 @@ module _ (c : Config) (u : World) (seat : ℕ) where
   leads_to at next leads ready facts scanned shared can =
       step_after c u seat (words_then at) u.ghost.recording (scans_then next) shared
       (record {
+        phase = can.phase;
         greys = greys_stay at;
         noted = noted_then at;
         scanned = scanned;
@@ -273,20 +275,20 @@ module _ (c : Config) (u : World) (seat : ℕ) where
       by_edge (IsTracedAt.stands same scan) = inr (sym same)
 
   -- a word that stands for a reference and is not 0 is an object
-  reference_object : (word : ℕ) (r : Reference) → Points u.block word r → word ≢ 0 → IsMarkable u.block word
-  reference_object word None points some = absurd (some points)
-  reference_object word (Some name) points some = let piece = named_thing (u.block word) name points in IsMarkable.object name piece.0 piece.1 piece.2
+  reference_object : ((a refs nums to : ℕ) (name : Name) → u.block a ≡ Some (moved name refs nums to) → ⊥) → (word : ℕ) (r : Reference) → Points u.block word r → word ≢ 0 → IsMarkable u.block word
+  reference_object unmoved word None points some = absurd (some points)
+  reference_object unmoved word (Some name) points some = let piece = named_thing (u.block word) name (λ refs nums to. unmoved word refs nums to name) points in IsMarkable.object name piece.0 piece.1 piece.2
 
   -- what a field of an object names is one
-  field_object : (address field refs : ℕ) → Shared c u → IsMarkable u.block address → refs_in (u.memory (Heap (address + 1))) ≡ refs → field < refs → u.memory (Heap (address + 3 + field)) ≢ 0
+  field_object : (address field refs : ℕ) → Shared c u → u.memory Phase ≡ 1 → IsMarkable u.block address → refs_in (u.memory (Heap (address + 1))) ≡ refs → field < refs → u.memory (Heap (address + 3 + field)) ≢ 0
       → IsMarkable u.block (u.memory (Heap (address + 3 + field)))
-  field_object address field refs shared (IsMarkable.object name more nums piece) is below some =
+  field_object address field refs shared on (IsMarkable.object name more nums piece) is below some =
       let of_graph = shared.contents.objects.each address more nums name piece in
       let there = of_graph.2 in
       let all : refs_in (u.memory (Heap (address + 1))) ≡ more = ap refs_in there.shape ∙ refs_in-shape_word more nums there.few_refs there.few_nums in
       let within : field < length of_graph.0.refs = (let many = there.refs_are in omega (arith, below, is, all, many)) in
-      reference_object (u.memory (Heap (address + 3 + field))) _ (there.references field _ (slice_get-get_or of_graph.0.refs field None within)) some
-  field_object address field refs shared (IsMarkable.to_come owner words piece) is below some =
+      reference_object (unmoved c u shared (λ two. omega (arith, on, two))) (u.memory (Heap (address + 3 + field))) _ (there.references field _ (slice_get-get_or of_graph.0.refs field None within)) some
+  field_object address field refs shared on (IsMarkable.to_come owner words piece) is below some =
       let blank = shared.unwritten.blanks address owner words piece in
       let all : refs_in (u.memory (Heap (address + 1))) ≡ blank.refs = ap refs_in blank.shape ∙ refs_in-shape_word blank.refs blank.nums blank.few_refs blank.few_nums in
       absurd (some (blank.nulls field (omega (arith, below, is, all))))
@@ -306,7 +308,7 @@ module _ (c : Config) (u : World) (seat : ℕ) where
       (null_done null (field_then address field shared name more nums old (subst (λ i. i < more) (sym here) below)))))
       shared can)
       (λ (some : got ≢ 0).
-      let object : IsMarkable u.block got = field_object address field refs shared facts.object facts.refs_are facts.below some in
+      let object : IsMarkable u.block got = field_object address field refs shared can.phase facts.object facts.refs_are facts.below some in
       leads_to (LoadField address field refs) (SetGrey address field refs got) (cond-false (got == 0) _ _ (ne_eqb got 0 some))
       (and_from _ _ (fields_there address refs shared facts.object facts.refs_are) (and_from _ _ (lt-ltb field refs facts.below) (word_there c got (markable_word c u got shared object))))
       (record { object = facts.object; refs_are = facts.refs_are; below = facts.below }, object, field_then address field shared)
@@ -352,9 +354,9 @@ module _ (c : Config) (u : World) (seat : ℕ) where
 
 -- While others step, what it counts on stays.
 module _ (c : Config) (u w : World) (seat : ℕ) (rely : Rely c seat u w) where
-  field_stays : (address field refs : ℕ) → IsAtField u address field refs → IsAtField w address field refs
-  field_stays address field refs facts = record {
-    object = rely.marks.keeps.markable address facts.object;
+  field_stays : u.memory Phase ≡ 1 → (address field refs : ℕ) → IsAtField u address field refs → IsAtField w address field refs
+  field_stays on address field refs facts = record {
+    object = rely.marks.keeps.markable on address facts.object;
     refs_are = ap refs_in (rely.marks.keeps.shapes address facts.object) ∙ facts.refs_are;
     below = facts.below;
   }
@@ -370,13 +372,13 @@ module _ (c : Config) (u w : World) (seat : ℕ) (rely : Rely c seat u w) where
       noted_now (inl (inr noted)) = inl (inr (rely.marks.keeps.noted _ noted))
       noted_now (inr same) = inr same
 
-  facts_stay : (at : ScanSpot) → ScanFacts c u at → ScanFacts c w at
-  facts_stay (LoadBlack word grey) facts = record { small = facts.small; of_objects = λ k below set. rely.marks.keeps.markable _ (facts.of_objects k below set) }
-  facts_stay (SetBlack address) facts = rely.marks.keeps.markable address facts
-  facts_stay (LoadShape address) facts = rely.marks.keeps.markable address facts
-  facts_stay (LoadField address field refs) facts = field_stays address field refs facts
-  facts_stay (SetGrey address field refs found) facts = (field_stays address field refs facts.0, rely.marks.keeps.markable found facts.1, found_stays address field found facts.2)
-  facts_stay _ facts = tt
+  facts_stay : u.memory Phase ≡ 1 → (at : ScanSpot) → ScanFacts c u at → ScanFacts c w at
+  facts_stay on (LoadBlack word grey) facts = record { small = facts.small; of_objects = λ k below set. rely.marks.keeps.markable on _ (facts.of_objects k below set) }
+  facts_stay on (SetBlack address) facts = rely.marks.keeps.markable on address facts
+  facts_stay on (LoadShape address) facts = rely.marks.keeps.markable on address facts
+  facts_stay on (LoadField address field refs) facts = field_stays on address field refs facts
+  facts_stay on (SetGrey address field refs found) facts = (field_stays on address field refs facts.0, rely.marks.keeps.markable on found facts.1, found_stays address field found facts.2)
+  facts_stay on _ facts = tt
 
   pub can_scan_stays : (at : ScanSpot) → CanScan c u seat at → CanScan c w seat at
   can_scan_stays at can = record {
@@ -385,7 +387,7 @@ module _ (c : Config) (u w : World) (seat : ℕ) (rely : Rely c seat u w) where
     scanning = rely.marks.scanning ∙ can.scanning;
     ready = can.ready;
     hands = λ a words is. can.hands a words (rely.no_hands a words is);
-    facts = facts_stay at can.facts;
+    facts = facts_stay can.phase at can.facts;
   }
 
 -- the next access is of the table

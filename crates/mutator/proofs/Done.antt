@@ -7,8 +7,9 @@ use Rattle.heap_words.specs.declared.access.Took.TheVariants as took
 use Rattle.shen_graph.specs.declared.command.Reply.{Reply}
 use Rattle.handshake.specs.Rows.{enter_says}
 use Rattle.alloc_buffers.specs.Rows as takes
+use Rattle.load_barrier.specs.Rows as resolves
 use Rattle.mutator.specs.declared.spot.Spot.{Spot}
-use Rattle.mutator.specs.declared.spot.Spot.TheVariants.{Entering, OnField, Making, Waiting, Leave}
+use Rattle.mutator.specs.declared.spot.Spot.TheVariants.{Entering, OnField, Resolving, Making, Waiting, Leave}
 use Rattle.mutator.specs.declared.spot.Kept.{Kept}
 use Rattle.mutator.specs.declared.fields.FieldSpot.TheVariants.{Exchange}
 use Rattle.shen_graph.specs.declared.command.Command.{Command}
@@ -24,7 +25,7 @@ not_done true one other first second is = first is
 not_done false one other first second is = second is
 
 -- a part never ends a call
-goes_on : (said : Took) → call_says said ≡ took.Done → ⊥
+pub goes_on : (said : Took) → call_says said ≡ took.Done → ⊥
 goes_on took.Again is = cc
 goes_on _ is = cc
 
@@ -38,6 +39,7 @@ pub done_gives : (c : Config) (kept : Kept) (spot : Spot) (got : ℕ) → answer
 done_gives c kept (Leave r) got is = (r, refl)
 done_gives c kept (Entering at next) got is = absurd (goes_on (enter_says at got) is)
 done_gives c kept (OnField object (Exchange found expect value)) got is = absurd (not_done (got == found) took.More took.Again (λ e. cc) (λ e. cc) is)
+done_gives c kept (Resolving address at next) got is = absurd (goes_on (resolves.says_at c address kept.phase at got) is)
 done_gives c kept (Waiting Poll) got is = absurd (not_done (got == 0) took.Again took.More (λ e. cc) (λ e. cc) is)
 done_gives c kept (OnField object at) got is = absurd (cc)
 done_gives c kept (Making at) got is = absurd (makes_go_on c kept.command at got is)

@@ -1,5 +1,5 @@
 -- Which words a mutator can go on from.
-use Rattle.std.specs.Prelude.{ℕ, ◌≡◌, ◌≢◌, Bool, true, false, ◌&&◌, nat_lt, if◌then◌else◌}
+use Rattle.std.specs.Prelude.{ℕ, ◌≡◌, ◌≢◌, Bool, true, false, ◌&&◌, ◌==◌, nat_lt, if◌then◌else◌}
 use Rattle.heap_words.specs.declared.config.Config.{Config}
 use Rattle.heap_words.specs.Words.{Heap, is_word}
 use Rattle.steps_base.specs.Fits.{touch_fits}
@@ -12,9 +12,14 @@ use Rattle.alloc_buffers.specs.declared.spot.TakeSpot.{TakeSpot}
 use Rattle.alloc_buffers.specs.Rows as takes
 use Rattle.satb_barrier.specs.declared.spot.RememberSpot.{RememberSpot}
 use Rattle.satb_barrier.specs.Rows as satb
+use Rattle.load_barrier.specs.declared.spot.ResolveSpot.{ResolveSpot}
+use Rattle.load_barrier.specs.Fit as resolves
+use Rattle.load_barrier.specs.UnitFit.{resolve_ready}
 use Rattle.mutator.specs.declared.spot.Kept.{Kept}
 use Rattle.mutator.specs.declared.spot.Spot.{Spot}
-use Rattle.mutator.specs.declared.spot.Spot.TheVariants.{Entering, LoadSet, Recording, Making, Waiting}
+use Rattle.mutator.specs.declared.spot.Spot.TheVariants.{Entering, LoadSet, OnField, Resolving, Recording, Making, Waiting}
+use Rattle.mutator.specs.declared.fields.FieldSpot.{FieldSpot}
+use Rattle.mutator.specs.declared.fields.FieldSpot.TheVariants as fields
 use Rattle.mutator.specs.declared.makes.MakeSpot.{MakeSpot}
 use Rattle.mutator.specs.declared.makes.MakeSpot.TheVariants.{Taking, StoreWord, StoreRoot}
 use Rattle.mutator.specs.declared.waits.WaitSpot.{WaitSpot}
@@ -59,20 +64,25 @@ wait_fits made command at = can_count made at
 abbrev pub remember_fits : Config → ℕ → RememberSpot → Bool
 remember_fits c address at = (if satb.is_recorded at then false else true) && (satb.is_ready c at && is_word c (Heap address))
 
--- Whether the numbers of a spot, beside those of its access, are in range. As long as no collection copies objects, the phase
--- is 0 or 1 wherever a call has begun.
-abbrev pub numbers_fit : Config → ℕ → Kept → Spot → Bool
-numbers_fit c made kept (Entering at next) = is_outside at
-numbers_fit c made kept LoadSet = nat_lt kept.phase 2
-numbers_fit c made kept (Recording at address next) = remember_fits c address at
-numbers_fit c made kept (Making at) = can_make made kept.command && make_fits c kept.command at
-numbers_fit c made kept (Waiting at) = wait_fits made kept.command at
-numbers_fit c made kept _ = true
+-- whether the resolving of an address of the heap, by the mutator of a seat, has not ended, and its numbers are in range
+abbrev pub resolve_fits : Config → ℕ → ℕ → ResolveSpot → Bool
+resolve_fits c seat address at = is_word c (Heap address) && resolve_ready c seat address at
+
+-- Whether the numbers of a spot, beside those of its access, are in range. As long as no collection updates references
+-- concurrently, the phase is 0, 1 or 2 wherever a call has begun.
+abbrev pub numbers_fit : Config → ℕ → ℕ → Kept → Spot → Bool
+numbers_fit c seat made kept (Entering at next) = is_outside at
+numbers_fit c seat made kept LoadSet = nat_lt kept.phase 3
+numbers_fit c seat made kept (Resolving address at next) = resolve_fits c seat address at
+numbers_fit c seat made kept (Recording at address next) = remember_fits c address at
+numbers_fit c seat made kept (Making at) = can_make made kept.command && make_fits c kept.command at
+numbers_fit c seat made kept (Waiting at) = wait_fits made kept.command at
+numbers_fit c seat made kept _ = true
 
 -- Whether the next access can be made from a spot. Between two calls it is that of the begin of a call; the one by which a
 -- mutator ends can always be made.
 abbrev pub is_ready : Config → ℕ → ℕ → Kept → Spot → Bool
-is_ready c seat made kept spot = touch_fits c (touch_at c seat made kept Nothing spot) && numbers_fit c made kept spot
+is_ready c seat made kept spot = touch_fits c (touch_at c seat made kept Nothing spot) && numbers_fit c seat made kept spot
 
 -- the mutator's next access can be made
 abbrev pub IsReady : Config → Mutating → Type 0
@@ -88,6 +98,23 @@ abbrev pub EndsFit : Order → ℕ → Type 0
 EndsFit End got = got ≢ 0
 EndsFit _ got = Unit {0}
 
--- the word is fit: the access that follows can be made, and nobody ends that is not counted
+-- whether a word is null or an address of the heap
+abbrev pub is_reference : Config → ℕ → Bool
+is_reference c word = if word == 0 then true else is_word c (Heap word)
+
+-- whether a word that was found in a field can be gone on with: one that is to be used is a reference
+abbrev pub field_goes : Config → FieldSpot → ℕ → Bool
+field_goes c fields.Load got = is_reference c got
+field_goes c (fields.LoadExpected expect value) got = is_reference c got
+field_goes c (fields.Swap value) got = is_reference c got
+field_goes c _ got = true
+
+-- the word is fit for the part: a reference that is to be used is one, and a resolving can go on
+abbrev pub PartFit : Config → ℕ → Kept → Spot → ℕ → Type 0
+PartFit c seat kept (OnField object at) got = field_goes c at got ≡ true
+PartFit c seat kept (Resolving address at next) got = resolves.IsFit c seat address kept.phase at got
+PartFit c seat kept _ got = Unit {0}
+
+-- the word is fit: the access that follows can be made, the part can go on, and nobody ends that is not counted
 abbrev pub IsFit : Config → Mutating → Order → ℕ → Type 0
-IsFit c m order got = IsReady c (next_of c m order got) × EndsFit order got
+IsFit c m order got = IsReady c (next_of c m order got) × PartFit c m.seat m.kept m.spot got × EndsFit order got

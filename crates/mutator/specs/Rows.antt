@@ -19,6 +19,10 @@ use Rattle.alloc_buffers.specs.declared.spot.TakeSpot.TheVariants as take_spot
 use Rattle.satb_barrier.specs.Rows as satb
 use Rattle.satb_barrier.specs.declared.spot.RememberSpot.{RememberSpot}
 use Rattle.satb_barrier.specs.declared.spot.RememberSpot.TheVariants.{LoadCount, Recorded}
+use Rattle.load_barrier.specs.Rows as resolves
+use Rattle.load_barrier.specs.UnitRows.{must_resolve}
+use Rattle.load_barrier.specs.declared.spot.ResolveSpot.{ResolveSpot}
+use Rattle.load_barrier.specs.declared.spot.ResolveSpot.TheVariants.{LoadHeader, Resolved}
 use Rattle.shen_graph.specs.declared.name.Name.{Name}
 use Rattle.shen_graph.specs.declared.command.Command.{Command}
 use Rattle.shen_graph.specs.declared.command.Command.TheVariants.{New, Get, Set, Cas, Xchg, Rd, Wr, Copy, Drop, Same, Gc}
@@ -29,12 +33,14 @@ use Rattle.shen_graph.specs.declared.order.Order.TheVariants.{Nothing, Begin, En
 use Rattle.shen_graph.specs.Step.{yes_or_no}
 use Rattle.mutator.specs.declared.spot.Kept.{Kept}
 use Rattle.mutator.specs.declared.spot.Spot.{Spot}
-use Rattle.mutator.specs.declared.spot.Spot.TheVariants.{Rest, Ended, Entering, LoadPhase, LoadSet, Loading, OnField, Recording, OnNumber, Showing, StoreRoot, Making, AskCycle, Waiting, Leave, Gone}
+use Rattle.mutator.specs.declared.spot.Spot.TheVariants.{Rest, Ended, Entering, LoadPhase, LoadSet, Loading, OnField, Resolving, Recording, OnNumber, Showing, StoreRoot, Making, AskCycle, Waiting, Leave, Gone}
 use Rattle.mutator.specs.declared.spot.Entered.TheVariants.{Call}
 use Rattle.mutator.specs.declared.loads.LoadSpot.{LoadSpot}
 use Rattle.mutator.specs.declared.loads.LoadSpot.TheVariants as load
 use Rattle.mutator.specs.declared.fields.FieldSpot.{FieldSpot}
 use Rattle.mutator.specs.declared.fields.FieldSpot.TheVariants as fields
+use Rattle.mutator.specs.declared.resolves.Loaded.{Loaded}
+use Rattle.mutator.specs.declared.resolves.Loaded.TheVariants.{ForRoot, ToCompare}
 use Rattle.mutator.specs.declared.overwrites.Overwritten.{Overwritten}
 use Rattle.mutator.specs.declared.overwrites.Overwritten.TheVariants as overwrites
 use Rattle.mutator.specs.declared.numbers.NumberSpot.{NumberSpot}
@@ -103,6 +109,7 @@ place_at order LoadPhase = place.PH
 place_at order LoadSet = place.CS
 place_at order (Loading at) = load_place at
 place_at order (OnField object at) = field_place at
+place_at order (Resolving address at next) = resolves.place_at at
 place_at order (Recording at address next) = satb.place_at at
 place_at order (OnNumber object refs at) = number_place at
 place_at order (Showing value at) = show_place at
@@ -159,6 +166,7 @@ touch_at c seat made kept order LoadPhase = touch Phase loads
 touch_at c seat made kept order LoadSet = touch Cset loads
 touch_at c seat made kept order (Loading at) = load_touch seat kept.command at
 touch_at c seat made kept order (OnField object at) = field_touch object kept.command at
+touch_at c seat made kept order (Resolving address at next) = resolves.touch_at c seat address at
 touch_at c seat made kept order (Recording at address next) = satb.touch_at c seat address at
 touch_at c seat made kept order (OnNumber object refs at) = number_touch object refs kept.command at
 touch_at c seat made kept order (Showing value at) = show_touch seat value kept.command at
@@ -218,15 +226,30 @@ with_part phase command object second third shape = on_number command object sha
 abbrev pub after_shape : ℕ → Command → ℕ → ℕ → ℕ → ℕ → Spot
 after_shape phase command object second third shape = if has_part command shape then with_part phase command object second third shape else Leave reply.Bad
 
--- where it goes on with the reference that was in the field, for a root
+-- where it goes on with a resolved reference, for a root
 abbrev pub after_field : ℕ → Spot
 after_field value = Showing value (if value == 0 then show.StoreRoot reply.Null else show.LoadName)
 
--- where it goes on with it to exchange it, if it is the one that is to be there
-abbrev pub after_expected : ℕ → ℕ → ℕ → ℕ → Spot
-after_expected object expect value found = if found == expect then OnField object (fields.Exchange found expect value) else Leave reply.No
+-- where it goes on with what it found in the field, to exchange it if it resolves to the reference that is to be there
+abbrev pub after_expected : (object expect value found answer : ℕ) → Spot
+after_expected object expect value found answer = if answer == expect then OnField object (fields.Exchange found expect value) else Leave reply.No
 
--- where a call goes on with the reference that it overwrites, once that is recorded
+-- where it goes on with what it found in the field, once that is resolved
+abbrev pub after_resolved : (found answer : ℕ) → Loaded → Spot
+after_resolved found answer ForRoot = after_field answer
+after_resolved found answer (ToCompare object expect value) = after_expected object expect value found answer
+
+-- where a call that has loaded this phase and this collection set goes on with what it found in the field: a reference into the
+-- set is resolved first
+abbrev pub with_loaded : Config → (phase cset found : ℕ) → Loaded → Spot
+with_loaded c phase cset found next = if must_resolve c phase cset found then Resolving found LoadHeader next else after_resolved found found next
+
+-- where it goes on that resolves what it found in the field and stands so
+abbrev pub after_resolve : (found : ℕ) → Loaded → ResolveSpot → Spot
+after_resolve found next (Resolved answer) = after_resolved found answer next
+after_resolve found next at = Resolving found at next
+
+-- where a call goes on with the reference that it overwrites, once that is recorded. Objects are marked then, and do not move
 abbrev pub after_recording : ℕ → Overwritten → Spot
 after_recording found (overwrites.Set object value) = OnField object (fields.Store value)
 after_recording found overwrites.Xchg = after_field found
@@ -239,6 +262,10 @@ is_to_record phase found = (phase == 1) && nat_lt 0 found
 -- where a call goes on, in its phase, with the reference that it overwrites
 abbrev pub overwritten : (phase found : ℕ) → Overwritten → Spot
 overwritten phase found next = if is_to_record phase found then Recording LoadCount found next else after_recording found next
+
+-- where a call goes on with the reference that it has swapped out of the field, for a root
+abbrev pub after_swap : Config → (phase cset found : ℕ) → Spot
+after_swap c phase cset found = if is_to_record phase found then Recording LoadCount found overwrites.Xchg else with_loaded c phase cset found ForRoot
 
 -- where it goes on that records an address and stands so
 abbrev pub after_remember : ℕ → Overwritten → RememberSpot → Spot
@@ -270,13 +297,13 @@ load_next phase command (load.Second first) got = after_second command first got
 load_next phase command (load.Third first second) got = after_roots command first second got
 load_next phase command (load.Shape object second third) got = after_shape phase command object second third got
 
-abbrev pub field_next : ℕ → ℕ → FieldSpot → ℕ → Spot
-field_next phase object fields.Load got = after_field got
-field_next phase object (fields.LoadExpected expect value) got = after_expected object expect value got
-field_next phase object (fields.LoadOld value) got = overwritten phase got (overwrites.Set object value)
-field_next phase object (fields.Store value) got = Leave reply.Ok
-field_next phase object (fields.Swap value) got = overwritten phase got overwrites.Xchg
-field_next phase object (fields.Exchange found expect value) got = if got == found then overwritten phase found overwrites.Cas else OnField object (fields.LoadExpected expect value)
+abbrev pub field_next : Config → (phase cset object : ℕ) → FieldSpot → ℕ → Spot
+field_next c phase cset object fields.Load got = with_loaded c phase cset got ForRoot
+field_next c phase cset object (fields.LoadExpected expect value) got = with_loaded c phase cset got (ToCompare object expect value)
+field_next c phase cset object (fields.LoadOld value) got = overwritten phase got (overwrites.Set object value)
+field_next c phase cset object (fields.Store value) got = Leave reply.Ok
+field_next c phase cset object (fields.Swap value) got = after_swap c phase cset got
+field_next c phase cset object (fields.Exchange found expect value) got = if got == found then overwritten phase found overwrites.Cas else OnField object (fields.LoadExpected expect value)
 
 abbrev pub number_next : NumberSpot → ℕ → Spot
 number_next number.Load got = Leave (reply.Number got)
@@ -310,7 +337,8 @@ next_at c m order got (Entering at next) = record m { spot = after_enter next (e
 next_at c m order got LoadPhase = record m { kept = record m.kept { phase = got }; spot = LoadSet }
 next_at c m order got LoadSet = record m { kept = record m.kept { cset = got }; spot = first_spot m.kept.command }
 next_at c m order got (Loading at) = record m { spot = load_next m.kept.phase m.kept.command at got }
-next_at c m order got (OnField object at) = record m { spot = field_next m.kept.phase object at got }
+next_at c m order got (OnField object at) = record m { spot = field_next c m.kept.phase m.kept.cset object at got }
+next_at c m order got (Resolving address at next) = record m { spot = after_resolve address next (resolves.next_at c address m.kept.phase at got) }
 next_at c m order got (Recording at address next) = record m { spot = after_remember address next (satb.next_at at got) }
 next_at c m order got (OnNumber object refs at) = record m { spot = number_next at got }
 next_at c m order got (Showing value at) = record m { spot = show_next value at got }
@@ -324,8 +352,8 @@ next_at c m order got Gone = m
 abbrev pub next_of : Config → Mutating → Order → ℕ → Mutating
 next_of c m order got = next_at c m order got m.spot
 
--- what the step says: of an exchange, that it was lost; of the making of an object, what its taking of room says; and that a
--- mutator waits to enter, or for an object
+-- what the step says: of an exchange, that it was lost; of a resolving and of a taking of room, what they say; and that a mutator
+-- waits to enter, or for an object
 abbrev pub field_says : FieldSpot → ℕ → Took
 field_says (fields.Exchange found expect value) got = if got == found then More else Again
 field_says _ got = More
@@ -337,6 +365,7 @@ make_says c command _ got = More
 abbrev pub answer_at : Config → Kept → Spot → ℕ → Took
 answer_at c kept (Entering at next) got = call_says (enters.enter_says at got)
 answer_at c kept (OnField object at) got = field_says at got
+answer_at c kept (Resolving address at next) got = call_says (resolves.says_at c address kept.phase at got)
 answer_at c kept (Making at) got = make_says c kept.command at got
 answer_at c kept (Waiting at) got = wait_says at got
 answer_at c kept (Leave reply) got = Done

@@ -2,10 +2,11 @@ ghost use Rattle.std.specs.Prelude.{◌≡◌, true};
 ghost use Rattle.steps_base.specs.Touch.{placed};
 ghost use Rattle.steps_base.specs.Fits.{touch_fits};
 ghost use Rattle.mutator.specs.Rows as rows;
+ghost use Rattle.mutator.specs.Fit.{field_goes, is_reference};
 
 use crate::commands::index_of;
-use crate::overwrites::Overwritten;
-use crate::shows::after_field;
+use crate::overwrites::{Overwritten, is_to_record};
+use crate::resolves::Loaded;
 use crate::spot::Spot;
 use heap_words::{Access, Config, Place, Took};
 use shen_graph::{Command, Reply};
@@ -83,18 +84,27 @@ impl FieldSpot {
         }
     }
 
-    /// Where the call goes on, in its phase, with the reference that was in the field of the object.
-    pub(crate) fn after(self, phase: u64, object: u64, got: u64) -> Spot
-        ensures { result ≡ rows.field_next phase object self got }
+    /// Where the call goes on that has loaded this phase and this collection set, with the reference that was in the field of the
+    /// object.
+    pub(crate) fn after(self, config: Config, phase: u64, cset: u64, object: u64, got: u64) -> Spot
+        requires { field_goes config self got ≡ true }
+        ensures { result ≡ rows.field_next config phase cset object self got }
     {
         match self {
-            FieldSpot::Load => after_field(got),
-            FieldSpot::LoadExpected { expect, value } => after_expected(object, expect, value, got),
+            FieldSpot::Load => Loaded::ForRoot.begin(config, phase, cset, got),
+            FieldSpot::LoadExpected { expect, value } => {
+                Loaded::ToCompare {
+                    object,
+                    expect,
+                    value,
+                }
+                .begin(config, phase, cset, got)
+            }
             FieldSpot::LoadOld { value } => Overwritten::Set { object, value }.overwrite(
                 phase, got,
             ),
             FieldSpot::Store { .. } => Spot::Leave { reply: Reply::Ok },
-            FieldSpot::Swap { .. } => Overwritten::Xchg.overwrite(phase, got),
+            FieldSpot::Swap { .. } => after_swap(config, phase, cset, got),
             FieldSpot::Exchange { found, .. } if got == found => {
                 Overwritten::Cas.overwrite(phase, found)
             }
@@ -116,20 +126,15 @@ impl FieldSpot {
     }
 }
 
-// Where it goes on with the reference that it has found in a field, to exchange it if it is the one that is to be there.
-fn after_expected(object: u64, expect: u64, value: u64, found: u64) -> Spot
-    ensures { result ≡ rows.after_expected object expect value found }
+// Where it goes on with the reference that it has swapped out of a field, for a root: while objects are marked, one that is not
+// null is recorded, and objects do not move then; in other phases it is resolved.
+fn after_swap(config: Config, phase: u64, cset: u64, found: u64) -> Spot
+    requires { is_reference config found ≡ true }
+    ensures { result ≡ rows.after_swap config phase cset found }
 {
-    if found == expect {
-        Spot::OnField {
-            object,
-            at: FieldSpot::Exchange {
-                found,
-                expect,
-                value,
-            },
-        }
+    if is_to_record(phase, found) {
+        Overwritten::Xchg.record(found)
     } else {
-        Spot::Leave { reply: Reply::No }
+        Loaded::ForRoot.begin(config, phase, cset, found)
     }
 }

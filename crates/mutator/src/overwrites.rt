@@ -7,6 +7,13 @@ use crate::spot::Spot;
 use satb_barrier::RememberSpot;
 use shen_graph::Reply;
 
+/// Whether a reference that is overwritten in a phase has to be recorded: objects are marked, and it is not null.
+pub(crate) fn is_to_record(phase: u64, found: u64) -> bool
+    ensures { result ≡ rows.is_to_record phase found }
+{
+    phase == 1 && found > 0
+}
+
 /// What a mutator does once the reference that it overwrites is recorded.
 #[derive(Clone, Copy, Debug, PartialEq, Eq)]
 pub enum Overwritten {
@@ -29,14 +36,21 @@ impl Overwritten {
     pub(crate) fn overwrite(self, phase: u64, found: u64) -> Spot
         ensures { result ≡ rows.overwritten phase found self }
     {
-        if phase == 1 && found > 0 {
-            Spot::Recording {
-                at: RememberSpot::LoadCount,
-                address: found,
-                next: self,
-            }
+        if is_to_record(phase, found) {
+            self.record(found)
         } else {
             self.after(found)
+        }
+    }
+
+    /// Where it begins to record the reference that it overwrites.
+    pub(crate) fn record(self, found: u64) -> Spot
+        ensures { result ≡ Spot.Recording RememberSpot.LoadCount found self }
+    {
+        Spot::Recording {
+            at: RememberSpot::LoadCount,
+            address: found,
+            next: self,
         }
     }
 

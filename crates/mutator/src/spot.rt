@@ -7,10 +7,12 @@ use crate::loads::LoadSpot;
 use crate::makes::MakeSpot;
 use crate::numbers::NumberSpot;
 use crate::overwrites::Overwritten;
+use crate::resolves::Loaded;
 use crate::shows::ShowSpot;
 use crate::waits::WaitSpot;
 use handshake::EnterSpot;
 use heap_words::{Place, Took};
+use load_barrier::ResolveSpot;
 use satb_barrier::RememberSpot;
 use shen_graph::{Command, Order, Reply};
 
@@ -93,6 +95,15 @@ pub enum Spot {
         /// What it does to the field.
         at: FieldSpot,
     },
+    /// It resolves a reference into the collection set, which it has found in the field.
+    Resolving {
+        /// The reference.
+        address: u64,
+        /// Where the resolving stands.
+        at: ResolveSpot,
+        /// What follows.
+        next: Loaded,
+    },
     /// It records a reference that it overwrites while objects are marked.
     Recording {
         /// Where the recording stands.
@@ -157,6 +168,7 @@ impl Spot {
             Spot::LoadSet => Place::CS,
             Spot::Loading { at } => at.place(),
             Spot::OnField { at, .. } => at.place(),
+            Spot::Resolving { at, .. } => at.place(),
             Spot::Recording { at, .. } => at.place(),
             Spot::OnNumber { at, .. } => at.place(),
             Spot::Showing { at, .. } => at.place(),

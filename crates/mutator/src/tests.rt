@@ -1,6 +1,9 @@
-use crate::{Entered, FieldSpot, LoadSpot, Mutator, Overwritten, ShowSpot, Spot, WaitSpot};
+use crate::{Entered, FieldSpot, LoadSpot, Loaded, Mutator, Overwritten, ShowSpot, Spot, WaitSpot};
+use alloc_buffers::TakeSpot;
+use evac_room::RoomSpot;
 use handshake::EnterSpot;
 use heap_words::{Access, Config, Place, Took};
+use load_barrier::{CopySpot, ResolveSpot};
 use satb_barrier::RememberSpot;
 use shen_graph::{Command, Name, Order, Reply};
 use std::test::Fail;
@@ -123,6 +126,7 @@ fn the_end_of_a_thread(rt: HostRuntime) -> Result<(), Fail> {
 // before it stores.
 #[test]
 fn a_set_that_records(rt: HostRuntime) -> Result<(), Fail> {
+    let config = Config::new(4, 64, 1, 0, 0)?;
     let command = Command::Set {
         obj: 0,
         field: 1,
@@ -157,8 +161,8 @@ fn a_set_that_records(rt: HostRuntime) -> Result<(), Fail> {
     );
     assert!(rt; shape.after(0, command, two_fields) == store);
     assert!(rt; load.place() == Place::FL);
-    assert!(rt; load.after(1, 64, 90) == record);
-    assert!(rt; load.after(1, 64, 0) == store);
+    assert!(rt; load.after(config, 1, 0, 64, 90) == record);
+    assert!(rt; load.after(config, 1, 0, 64, 0) == store);
     assert!(rt; set.remember(90, RememberSpot::Recorded) == store);
     Ok(())
 }
@@ -175,8 +179,9 @@ fn after(spot: Spot, found: u64) -> Spot {
 // the buffer has what the Set overwrites.
 #[test]
 fn a_set_with_a_full_buffer(rt: HostRuntime) -> Result<(), Fail> {
+    let config = Config::new(4, 64, 1, 0, 0)?;
     let order = Order::Nothing;
-    let mut spot = FieldSpot::LoadOld { value: 99 }.after(1, 64, 90);
+    let mut spot = FieldSpot::LoadOld { value: 99 }.after(config, 1, 0, 64, 90);
     assert!(rt; spot.place(order) == Place::BC);
     spot = after(spot, 8);
     for entry in 0..8 {
@@ -198,6 +203,7 @@ fn a_set_with_a_full_buffer(rt: HostRuntime) -> Result<(), Fail> {
 // An Xchg and a Cas record what they have overwritten, but not null; in phase 0 nothing is recorded.
 #[test]
 fn what_is_overwritten(rt: HostRuntime) -> Result<(), Fail> {
+    let config = Config::new(4, 64, 1, 0, 0)?;
     let swap = FieldSpot::Swap { value: 99 };
     let shows = Spot::Showing {
         value: 90,
@@ -208,14 +214,14 @@ fn what_is_overwritten(rt: HostRuntime) -> Result<(), Fail> {
         address: 90,
         next: Overwritten::Xchg,
     };
-    assert!(rt; swap.after(1, 64, 90) == records);
-    assert!(rt; swap.after(0, 64, 90) == shows);
+    assert!(rt; swap.after(config, 1, 0, 64, 90) == records);
+    assert!(rt; swap.after(config, 0, 0, 64, 90) == shows);
     assert!(rt; Overwritten::Xchg.remember(90, RememberSpot::Recorded) == shows);
     let none = Spot::Showing {
         value: 0,
         at: ShowSpot::StoreRoot { reply: Reply::Null },
     };
-    assert!(rt; swap.after(1, 64, 0) == none);
+    assert!(rt; swap.after(config, 1, 0, 64, 0) == none);
     let exchange = FieldSpot::Exchange {
         found: 90,
         expect: 90,
@@ -227,14 +233,156 @@ fn what_is_overwritten(rt: HostRuntime) -> Result<(), Fail> {
         address: 90,
         next: Overwritten::Cas,
     };
-    assert!(rt; exchange.after(1, 64, 90) == records);
-    assert!(rt; exchange.after(0, 64, 90) == yes);
+    assert!(rt; exchange.after(config, 1, 0, 64, 90) == records);
+    assert!(rt; exchange.after(config, 0, 0, 64, 90) == yes);
     assert!(rt; Overwritten::Cas.remember(90, RememberSpot::Recorded) == yes);
     let null = FieldSpot::Exchange {
         found: 0,
         expect: 0,
         value: 99,
     };
-    assert!(rt; null.after(1, 64, 0) == yes);
+    assert!(rt; null.after(config, 1, 0, 64, 0) == yes);
+    Ok(())
+}
+
+// In the smallest heap region 0 has the addresses 64 to 127, and region 1 those up to 191. Region 0 is the collection set. The
+// header of an object that is forwarded to address 133 is 4 * 133 + 3.
+const FORWARDED: u64 = 535;
+
+// What a Get or an Xchg finds in a field is resolved where objects are copied and it lies in the collection set.
+#[test]
+fn what_is_resolved(rt: HostRuntime) -> Result<(), Fail> {
+    let config = Config::new(4, 64, 1, 0, 0)?;
+    let load = FieldSpot::Load;
+    let swap = FieldSpot::Swap { value: 99 };
+    let resolves = Spot::Resolving {
+        address: 96,
+        at: ResolveSpot::LoadHeader,
+        next: Loaded::ForRoot,
+    };
+    assert!(rt; load.after(config, 2, 1, 200, 96) == resolves);
+    assert!(rt; swap.after(config, 2, 1, 200, 96) == resolves);
+    let shows = Spot::Showing {
+        value: 96,
+        at: ShowSpot::LoadName,
+    };
+    assert!(rt; load.after(config, 0, 1, 200, 96) == shows);
+    assert!(rt; load.after(config, 1, 1, 200, 96) == shows);
+    assert!(rt; load.after(config, 2, 2, 200, 96) == shows);
+    assert!(rt; swap.after(config, 2, 2, 200, 96) == shows);
+    let null = Spot::Showing {
+        value: 0,
+        at: ShowSpot::StoreRoot { reply: Reply::Null },
+    };
+    assert!(rt; load.after(config, 2, 1, 200, 0) == null);
+    let set = FieldSpot::LoadOld { value: 99 };
+    let stores = Spot::OnField {
+        object: 200,
+        at: FieldSpot::Store { value: 99 },
+    };
+    assert!(rt; set.after(config, 2, 1, 200, 96) == stores);
+    Ok(())
+}
+
+// A Cas compares the current copy, and exchanges the word that it has found.
+#[test]
+fn a_cas_resolves(rt: HostRuntime) -> Result<(), Fail> {
+    let config = Config::new(4, 64, 1, 0, 0)?;
+    let compare = Loaded::ToCompare {
+        object: 200,
+        expect: 133,
+        value: 99,
+    };
+    let load = FieldSpot::LoadExpected {
+        expect: 133,
+        value: 99,
+    };
+    let resolves = Spot::Resolving {
+        address: 96,
+        at: ResolveSpot::LoadHeader,
+        next: compare,
+    };
+    assert!(rt; load.after(config, 2, 1, 200, 96) == resolves);
+    let exchange = FieldSpot::Exchange {
+        found: 96,
+        expect: 133,
+        value: 99,
+    };
+    let exchanges = Spot::OnField {
+        object: 200,
+        at: exchange,
+    };
+    assert!(rt; compare.resolve(96, ResolveSpot::Resolved { answer: 133 }) == exchanges);
+    let no = Spot::Leave { reply: Reply::No };
+    assert!(rt; compare.resolve(96, ResolveSpot::Resolved { answer: 96 }) == no);
+    assert!(rt; load.after(config, 1, 1, 200, 96) == no);
+    let yes = Spot::Leave { reply: Reply::Yes };
+    assert!(rt; exchange.after(config, 2, 1, 200, 96) == yes);
+    let again = Spot::OnField {
+        object: 200,
+        at: load,
+    };
+    assert!(rt; exchange.after(config, 2, 1, 200, 133) == again);
+    Ok(())
+}
+
+// Thread 1 gets field 0 of the object at 200 in phase 2, and finds the address 96 there. The object at 96 has moved already, to
+// 133: its name is loaded there, and the root gets the copy.
+#[test]
+fn a_get_of_a_moved_object(rt: HostRuntime) -> Result<(), Fail> {
+    let config = Config::new(4, 64, 1, 0, 0)?;
+    let mut mutator = Mutator::new(config, 0);
+    mutator.begin(Command::Get {
+        dst: 2,
+        src: 1,
+        field: 0,
+    });
+    mutator.took(0);
+    mutator.took(0);
+    mutator.took(2);
+    mutator.took(1);
+    mutator.took(200);
+    mutator.took(65536 + 256);
+    assert!(rt; mutator.place() == Place::FL);
+    assert!(rt; mutator.took(96) == Took::More);
+    assert!(rt; mutator.place() == Place::HL);
+    let at = config.heap_at(96);
+    assert!(rt; mutator.plan() == Access::Load { at });
+    assert!(rt; mutator.took(FORWARDED) == Took::More);
+    assert!(rt; mutator.place() == Place::NM);
+    let at = config.heap_at(135);
+    assert!(rt; mutator.plan() == Access::Load { at });
+    assert!(rt; mutator.took(4294967296 + 5) == Took::More);
+    assert!(rt; mutator.place() == Place::RS);
+    let at = config.root_at(0, 2);
+    assert!(rt; mutator.plan() == Access::Store { at, value: 133 });
+    Ok(())
+}
+
+// An object that has not moved: the thread asks to copy, and copies.
+#[test]
+fn a_get_that_copies(rt: HostRuntime) -> Result<(), Fail> {
+    let order = Order::Nothing;
+    let asks = Loaded::ForRoot.resolve(96, ResolveSpot::Entering { at: RoomSpot::Look });
+    assert!(rt; asks.place(order) == Place::XL);
+    let loads = Loaded::ForRoot.resolve(96, ResolveSpot::LoadShape);
+    assert!(rt; loads.place(order) == Place::SL);
+    let takes = ResolveSpot::Taking {
+        words: 3,
+        at: TakeSpot::LoadCurrent,
+    };
+    assert!(rt; Loaded::ForRoot.resolve(96, takes).place(order) == Place::TC);
+    let publishes = ResolveSpot::Copying {
+        copy: 133,
+        at: CopySpot::Publish,
+    };
+    assert!(rt; Loaded::ForRoot.resolve(96, publishes).place(order) == Place::HX);
+    let leaves = Loaded::ForRoot.resolve(96, ResolveSpot::Leaving { answer: 133 });
+    assert!(rt; leaves.place(order) == Place::XS);
+    let shows = Spot::Showing {
+        value: 133,
+        at: ShowSpot::LoadName,
+    };
+    assert!(rt; Loaded::ForRoot.resolve(96, ResolveSpot::Resolved { answer: 133 }) == shows);
     Ok(())
 }

@@ -7,10 +7,12 @@ ghost use Rattle.mutator.specs.Fit.{is_ready};
 use crate::commands::dst_of;
 use crate::loads::first_spot;
 use crate::makes::MakeSpot;
+use crate::resolves::Loaded;
 use crate::spot::{Entered, Kept, Spot, call_says};
 use crate::waits::WaitSpot;
 use handshake::{EnterSpot, leave_access};
 use heap_words::{Access, Config, Place, Took};
+use load_barrier::ResolveSpot;
 use shen_graph::{Command, Order, Reply};
 
 /// A mutator thread: it makes calls one after the other, each in steps of one access.
@@ -38,6 +40,7 @@ impl Mutator {
     ghost use Rattle.mutator.specs.Fit.{IsFit};
     ghost use Rattle.mutator.specs.Waits.{WaitsAt};
     ghost use Rattle.mutator.specs.Seen.{seen, config_of, order_of, is_idle};
+    ghost use Rattle.load_barrier.specs.Waits as resolves;
 
     /// A mutator, counted from 0, that has not begun a call.
     pub fn new(config: Config, mutator: usize) -> Mutator
@@ -160,6 +163,8 @@ impl Mutator {
             },
             Spot::Loading { at } => at.access(config, seat, command),
             Spot::OnField { object, at } => at.access(config, object, command),
+            // keeps IsCounted, HaveMoved and AreObjects
+            Spot::Resolving { address, at, .. } => at.access(config, seat, address),
             // keeps IsBuffer
             Spot::Recording { at, address, .. } => at.access(config, seat, address),
             Spot::OnNumber { object, refs, at } => at.access(config, object, refs, command),
@@ -212,9 +217,10 @@ impl Mutator {
             }
             Spot::Loading { at } => self.spot = at.after(self.kept.phase, self.kept.command, got),
             Spot::OnField { object, at } => {
-                self.spot = at.after(self.kept.phase, object, got);
+                self.spot = at.after(self.config, self.kept.phase, self.kept.cset, object, got);
                 return at.says(got);
             }
+            Spot::Resolving { address, at, next } => return self.resolve(address, at, next, got),
             Spot::Recording { at, address, next } => self.spot = next.remember(
                 address,
                 at.after(got),
@@ -262,6 +268,22 @@ impl Mutator {
             Order::End => self.spot = Spot::Gone,
             Order::Nothing => {}
         }
+    }
+
+    // Goes on with the resolving of what it has found in a field.
+    fn resolve(&mut self, address: u64, at: ResolveSpot, next: Loaded, got: u64) -> Took
+        requires at { (seen self.old).spot ≡ Spot.Resolving address at next }
+        requires order { order_of self.old ≡ Order.Nothing }
+        requires fit { IsFit (config_of self.old) (seen self.old) Order.Nothing got }
+        ensures seen { seen self.new ≡ next_of (config_of self.old) (seen self.old) Order.Nothing got }
+        ensures order { order_of self.new ≡ Order.Nothing }
+        ensures config { config_of self.new ≡ config_of self.old }
+        ensures answer { result ≡ answer_at (config_of self.old) (seen self.old).kept (Spot.Resolving address at next) got }
+        ensures again { (result ≡ Took.Again) ↔ resolves.WaitsAt at got }
+    {
+        let (at, said) = at.after(self.config, self.mutator, address, self.kept.phase, got);
+        self.spot = next.resolve(address, at);
+        call_says(said)
     }
 
     // Goes on with the making of its object.

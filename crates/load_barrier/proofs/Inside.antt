@@ -1,0 +1,113 @@
+-- The accesses of a machine that resolves an address, and of one that evacuates a region, are of words of the table, and of the
+-- image.
+use Rattle.std.proofs.Common.{◌≡◌, ℕ, ◌+◌, ◌*◌, ◌<◌, ◌≤◌, true, refl, arith}
+use Rattle.std.specs.Prelude.{nat_le}
+use Rattle.std.proofs.lemmas.Bool.{and_parts, ltb-true, leb-true}
+use Rattle.heap_words.specs.declared.config.Config.{Config}
+use Rattle.heap_words.specs.Words.{Heap, Top, IsWord, is_word, is_image}
+use Rattle.heap_words.proofs.Stores.{is_word_true}
+use Rattle.regions.specs.Place.{region_with}
+use Rattle.regions.proofs.PlaceLemmas.{regions_tile}
+use Rattle.mark_bits.proofs.Marking.{word_inside}
+use Rattle.alloc_buffers.specs.declared.spot.TakeSpot.{TakeSpot}
+use Rattle.alloc_buffers.specs.declared.spot.TakeSpot.TheVariants as take
+use Rattle.alloc_buffers.specs.Rows as takes
+use Rattle.load_barrier.specs.declared.copying.CopySpot.{CopySpot}
+use Rattle.load_barrier.specs.declared.copying.CopySpot.TheVariants.{LoadWord, StoreWord, StoreHeader, Publish, GiveBack}
+use Rattle.load_barrier.specs.declared.spot.ResolveSpot.{ResolveSpot}
+use Rattle.load_barrier.specs.declared.spot.ResolveSpot.TheVariants.{LoadHeader, Entering, LoadShape, Taking, Copying, Leaving, Stopping, LoadAgain, Resolved}
+use Rattle.load_barrier.specs.Rows as resolves
+use Rattle.load_barrier.specs.Fit.{has_words, is_size, is_object, copy_ready, is_busy}
+use Rattle.load_barrier.specs.Fit as resolve
+use Rattle.load_barrier.specs.declared.evac_spot.EvacSpot.{EvacSpot}
+use Rattle.load_barrier.specs.declared.evac_spot.EvacSpot.TheVariants as evac
+use Rattle.load_barrier.specs.UnitRows as evacs
+use Rattle.load_barrier.specs.UnitFit.{is_ready}
+
+-- the region of an address of the heap is one of the heap
+region_inside : (c : Config) (address : ℕ) → IsWord c (Heap address) → IsWord c (Top (region_with c address))
+region_inside c address is = regions_tile.in_range c address is
+
+-- of words from an address on that lie in the heap each does
+words_inside : (c : Config) (address words index : ℕ) → has_words c address words ≡ true → index < words → IsWord c (Heap (address + index))
+words_inside c address words index has below =
+    let parts = and_parts (nat_le c.region_words address) (nat_le (address + words) ((c.regions + 1) * c.region_words)) has in
+    let low : c.region_words ≤ address = leb-true _ _ parts.0 in
+    let high : address + words ≤ (c.regions + 1) * c.region_words = leb-true _ _ parts.1 in (omega (arith, low), omega (arith, high, below))
+
+heap_there : (c : Config) (address : ℕ) → is_word c (Heap address) ≡ true → IsWord c (Heap address)
+heap_there c address is = is_word_true c (Heap address) is
+
+copy_inside : (c : Config) (address copy : ℕ) (at : CopySpot) → is_word c (Heap address) ≡ true → copy_ready c address copy at ≡ true → IsWord c (resolves.copy_touch c address copy at).word
+copy_inside c address copy (LoadWord words index) there ready =
+    let object = and_parts _ _ ready in
+    words_inside c address words index (and_parts _ _ object.0).1 (ltb-true _ _ (and_parts _ _ object.1).1)
+copy_inside c address copy (StoreWord words index found) there ready =
+    let room = and_parts _ _ (and_parts _ _ ready).1 in
+    words_inside c copy words index room.0 (ltb-true _ _ room.1)
+copy_inside c address copy StoreHeader there ready = heap_there c copy ready
+copy_inside c address copy Publish there ready = heap_there c address there
+copy_inside c address copy (GiveBack answer) there ready = region_inside c copy (heap_there c copy (and_parts _ _ ready).0)
+
+-- where the address is one of the heap, each access of its resolving is of a word of the table
+pub resolve_inside : (c : Config) (seat address : ℕ) (at : ResolveSpot) → is_word c (Heap address) ≡ true → resolve.is_ready c seat address at ≡ true → IsWord c (resolves.touch_at c seat address at).word
+resolve_inside c seat address LoadHeader there ready = heap_there c address there
+resolve_inside c seat address (Entering at) there ready = tt
+resolve_inside c seat address LoadShape there ready = heap_there c (address + 1) ready
+resolve_inside c seat address (Taking words at) there ready =
+    is_word_true c (takes.touch_at seat words at).word (and_parts _ _ (and_parts _ _ (and_parts _ _ (and_parts _ _ ready).1).1).0).0
+resolve_inside c seat address (Copying copy at) there ready = copy_inside c address copy at there ready
+resolve_inside c seat address (Leaving answer) there ready = tt
+resolve_inside c seat address (Stopping at) there ready = tt
+resolve_inside c seat address LoadAgain there ready = heap_there c address there
+resolve_inside c seat address (Resolved answer) there ready = heap_there c address there
+
+-- and so is each access of an evacuation
+pub evacuation_inside : (c : Config) (seat : ℕ) (at : EvacSpot) → is_ready c seat at ≡ true → IsWord c (evacs.touch_at c seat at).word
+evacuation_inside c seat evac.LoadClaim ready = tt
+evacuation_inside c seat (evac.ClaimUnit unit) ready = tt
+evacuation_inside c seat (evac.LoadTop region) ready = ltb-true _ _ ready
+evacuation_inside c seat (evac.LoadShape address end) ready = heap_there c (address + 1) (and_parts _ _ ready).1
+evacuation_inside c seat (evac.LoadMark address end next) ready = word_inside c address (heap_there c address (and_parts _ _ (and_parts _ _ ready).0).0)
+evacuation_inside c seat (evac.Resolving address end next at) ready =
+    let parts = and_parts _ _ ready in
+    resolve_inside c seat address at (and_parts _ _ parts.0).0 (and_parts _ _ (and_parts _ _ parts.1).1).0
+evacuation_inside c seat (evac.Ended unit) ready = tt
+
+take_image : (seat words : ℕ) (at : TakeSpot) → is_image (takes.touch_at seat words at).word ≡ true
+take_image seat words take.LoadCurrent = refl
+take_image seat words (take.LoadTop region) = refl
+take_image seat words take.LoadFree = refl
+take_image seat words (take.TakeRegion region) = refl
+take_image seat words (take.StoreCurrent region) = refl
+take_image seat words (take.StoreTop region top) = refl
+take_image seat words (take.Ended taken) = refl
+
+copy_image : (c : Config) (address copy : ℕ) (at : CopySpot) → is_image (resolves.copy_touch c address copy at).word ≡ true
+copy_image c address copy (LoadWord words index) = refl
+copy_image c address copy (StoreWord words index found) = refl
+copy_image c address copy StoreHeader = refl
+copy_image c address copy Publish = refl
+copy_image c address copy (GiveBack answer) = refl
+
+-- a resolving accesses words of the image alone
+pub resolve_image : (c : Config) (seat address : ℕ) (at : ResolveSpot) → is_image (resolves.touch_at c seat address at).word ≡ true
+resolve_image c seat address LoadHeader = refl
+resolve_image c seat address (Entering at) = refl
+resolve_image c seat address LoadShape = refl
+resolve_image c seat address (Taking words at) = take_image seat words at
+resolve_image c seat address (Copying copy at) = copy_image c address copy at
+resolve_image c seat address (Leaving answer) = refl
+resolve_image c seat address (Stopping at) = refl
+resolve_image c seat address LoadAgain = refl
+resolve_image c seat address (Resolved answer) = refl
+
+-- and so does an evacuation
+pub evacuation_image : (c : Config) (seat : ℕ) (at : EvacSpot) → is_image (evacs.touch_at c seat at).word ≡ true
+evacuation_image c seat evac.LoadClaim = refl
+evacuation_image c seat (evac.ClaimUnit unit) = refl
+evacuation_image c seat (evac.LoadTop region) = refl
+evacuation_image c seat (evac.LoadShape address end) = refl
+evacuation_image c seat (evac.LoadMark address end next) = refl
+evacuation_image c seat (evac.Resolving address end next at) = resolve_image c seat address at
+evacuation_image c seat (evac.Ended unit) = refl
