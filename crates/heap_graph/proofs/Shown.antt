@@ -30,8 +30,8 @@ has-element : (xs : List ℕ) (i : ℕ) → i < length xs → has xs (get_or xs 
 has-element xs i h = list_any_at (nat_eq (get_or xs i 0)) xs i 0 h (eq-eqb (get_or xs i 0) (get_or xs i 0) refl)
 
 module _ (first : ℕ) (heap roots : List ℕ) (sound : IsWalkable first heap roots) where
-  pub roots_named : All (IsNamed first (length heap)) roots
-  roots_named = all_from-has (IsNamed first (length heap)) roots sound.roots_named
+  pub roots_named : All (IsNamed first heap) roots
+  roots_named = all_from-has (IsNamed first heap) roots sound.roots_named
 
   module _ (order : List ℕ) (walk : IsWalk first heap roots order) where
     pub all_above : All (λ a. first ≤ a) order
@@ -41,10 +41,10 @@ module _ (first : ℕ) (heap roots : List ℕ) (sound : IsWalkable first heap ro
     all_below =
         all_from-has (λ a. a + words_at heap (a - first) ≤ first + length heap) order (λ a h. sound.below a (walk.led a h))
 
-    pub all_named : All (λ a. All (IsNamed first (length heap)) (refs_at heap (a - first))) order
+    pub all_named : All (λ a. All (IsNamed first heap) (refs_at heap (a - first))) order
     all_named =
-        all_from-has (λ a. All (IsNamed first (length heap)) (refs_at heap (a - first))) order
-        (λ m h. all_from-has (IsNamed first (length heap)) (refs_at heap (m - first))
+        all_from-has (λ a. All (IsNamed first heap) (refs_at heap (a - first))) order
+        (λ m h. all_from-has (IsNamed first heap) (refs_at heap (m - first))
         (λ a field. sound.fields_named m a (walk.led m h) field))
 
     -- the objects take at most all words

@@ -202,17 +202,22 @@ module _ (first : ℕ) (heap roots : List ℕ) (at : ℕ → Option Name) (g : G
       let now = current_is w n here in
       (current_at first heap w, now, from_field u.0 (current_at first heap w) u.2 (never_null (current_at first heap w) n now.0) (has_current (refs_at heap k) w inside))
 
+  -- a word that names an object leads to words of the heap
+  is_named : (a : ℕ) (n : Name) → at a ≡ Some n → ((first ≤ a) × (a < first + length heap)) × ((first ≤ current_at first heap a) × (current_at first heap a + 3 ≤ first + length heap))
+  is_named a n is =
+      let copy = s.each a n is in
+      let now = object_at (current_at first heap a) n (current_is a n is) in
+      ((copy.above, copy.below), (now.1.above, omega (arith, now.1.below)))
+
   pub sound : IsWalkable first heap roots
   sound = record {
     roots_named = (λ a h ne. let c = place_from-has roots a h in
         let r = root_name c.0 a c.2 ne in
-        let copy = s.each a r.0 r.1 in
-        (copy.above, copy.below));
+        is_named a r.0 r.1);
     fields_named = (λ m a led h ne. let u = led_name m led in
         let c = place_from-has (refs_at heap (m - first)) a h in
         let r = field_name m a c.0 u.0 u.1 u.2 c.1 c.2 ne in
-        let copy = s.each a r.0 r.1 in
-        (copy.above, copy.below));
+        is_named a r.0 r.1);
     above = λ a led. let u = led_name a led in (object_at a u.0 u.1).1.above;
     below = (λ a led. let u = led_name a led in
         omega (arith, (facts a u.0 u.1).words, (object_at a u.0 u.1).1.below));
@@ -226,13 +231,10 @@ module _ (first : ℕ) (heap roots : List ℕ) (at : ℕ → Option Name) (g : G
 
   -- the reference that a word stands for is the one that is read from it
   pub reference_same : (w : ℕ) (r : Reference) → Refers at w r → reference_in first heap w ≡ r
-  reference_same w None h = cond-true (w == 0) None (Some (name_at heap (w - first))) (eq-eqb w 0 h)
+  reference_same w None h = cond-true (w == 0) None (Some (name_at heap (current_at first heap w - first))) (eq-eqb w 0 h)
   reference_same w (Some n) h =
-      let copy = s.each w n h in
-      let place = sym (shift first w 2 copy.above) in
-      let name : name_at heap (w - first) ≡ n = name_back n (get_or heap (w - first + 2) 0) (s.object w n h).1.short_count (ap (λ k. get_or heap k 0) place ∙ copy.name_word) in
-      cond-false (w == 0) None (Some (name_at heap (w - first))) (ne_eqb w 0 (never_null w n h))
-      ∙ ap (λ b. Some b) name
+      cond-false (w == 0) None (Some (name_at heap (current_at first heap w - first))) (ne_eqb w 0 (never_null w n h))
+      ∙ ap (λ b. Some b) (facts (current_at first heap w) n (current_is w n h)).name
 
   refs_same : (a : ℕ) (n : Name) (here : IsHere a n)
       → map (reference_in first heap) (refs_at heap (a - first)) ≡ (object_at a n here).0.refs

@@ -1,6 +1,6 @@
 -- When the words of a heap stand for a graph, by the current copies of its objects.
 use Rattle.std.specs.Prelude.{ℕ, ◌≡◌, ◌+◌, ◌^◌, ◌<◌, ◌≤◌, if◌then◌else◌, length, Option, Some}
-use Rattle.heap_words.specs.Encoding.{is_forwarded, forwardee_in, name_code}
+use Rattle.heap_words.specs.Encoding.{is_forwarded, forwardee_in}
 use Rattle.shen_graph.specs.declared.name.Name.{Name}
 use Rattle.shen_graph.specs.Graph.{Graph, Object}
 use Rattle.shen_graph.specs.Reach.{size}
@@ -10,11 +10,10 @@ use Rattle.heap_world.specs.Objects.{Refers, IsObject}
 abbrev pub current_of : (heap : ℕ → ℕ) → ℕ → ℕ
 current_of heap a = if is_forwarded (heap a) then forwardee_in (heap a) else a
 
--- a copy of an object, current or old, begins at the address: its name word says of which one, and the current copy is one of it too
+-- a copy of an object, current or old, begins at the address, and the current copy is one of it too
 pub record IsCopyAt (first end : ℕ) (heap : ℕ → ℕ) (at : ℕ → Option Name) (a : ℕ) (n : Name) : Type 0 where
-  pub name_word : heap (a + 2) ≡ name_code n.thread n.count
   pub above : first ≤ a
-  pub below : a + 3 ≤ end
+  pub below : a < end
   pub current : at (current_of heap a) ≡ Some n
 
 -- an object of the graph stands at the address, and all of it among the words from `first` to before `end`

@@ -39,15 +39,16 @@ pub data Leads (first : ℕ) (heap roots : List ℕ) : ℕ → Type 0 where
   from_root : (a : ℕ) → a ≢ 0 → has (currents first heap roots) a ≡ true → Leads first heap roots a
   from_field : (m a : ℕ) → Leads first heap roots m → a ≢ 0 → has (currents first heap (refs_at heap (m - first))) a ≡ true → Leads first heap roots a
 
--- a word is null, or the address of an object whose header, shape and name are words of the heap
-abbrev pub IsNamed : (first words : ℕ) → ℕ → Type 0
-IsNamed first words a = a ≢ 0 → (first ≤ a) × (a + 3 ≤ first + words)
+-- a word is null, or an address of the heap, and header, shape and name of the current copy there are words of the heap
+abbrev pub IsNamed : (first : ℕ) (heap : List ℕ) → ℕ → Type 0
+IsNamed first heap a =
+    a ≢ 0 → ((first ≤ a) × (a < first + length heap)) × ((first ≤ current_at first heap a) × (current_at first heap a + 3 ≤ first + length heap))
 
 -- Roots, and references of objects that these lead to, name objects among the words. Each object that the roots lead to lies among the
 -- words, and no two of them share a word.
 pub record IsWalkable (first : ℕ) (heap roots : List ℕ) : Type 0 where
-  pub roots_named : (a : ℕ) → has roots a ≡ true → IsNamed first (length heap) a
-  pub fields_named : (m a : ℕ) → Leads first heap roots m → has (refs_at heap (m - first)) a ≡ true → IsNamed first (length heap) a
+  pub roots_named : (a : ℕ) → has roots a ≡ true → IsNamed first heap a
+  pub fields_named : (m a : ℕ) → Leads first heap roots m → has (refs_at heap (m - first)) a ≡ true → IsNamed first heap a
   pub above : (a : ℕ) → Leads first heap roots a → first ≤ a
   pub below : (a : ℕ) → Leads first heap roots a → a + words_at heap (a - first) ≤ first + length heap
   pub apart : (a b : ℕ) → Leads first heap roots a → Leads first heap roots b → a < b → a + words_at heap (a - first) ≤ b

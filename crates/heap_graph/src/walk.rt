@@ -25,9 +25,9 @@ pub fn take_down(first: u64, address: u64, marks: &mut [bool], order: &mut Vec<u
     }
 }
 
-// The address of the current copy of what a word names, by the header there; null stays null.
-fn current(first: u64, heap: &[u64], word: u64) -> u64
-    requires { IsNamed first (length heap.now) word }
+/// The address of the current copy of what a word names, by the header there; null stays null.
+pub(crate) fn current(first: u64, heap: &[u64], word: u64) -> u64
+    requires { IsNamed first heap.now word }
     ensures { result ≡ current_at first heap.now word }
 {
     if word == 0 {
@@ -42,7 +42,7 @@ fn current(first: u64, heap: &[u64], word: u64) -> u64
 
 // Takes down the current copies of what some words name.
 fn take_each_down(first: u64, heap: &[u64], words: &[u64], marks: &mut [bool], order: &mut Vec<u64>)
-    requires named { All (IsNamed first (length heap.now)) words.now }
+    requires named { All (IsNamed first heap.now) words.now }
     requires marked { IsMarked first marks.old order.old.items }
     requires among { All (IsAmong first (length marks.old)) (currents first heap.now words.now) }
     requires room { length marks.old ≤ vec_capacity order.old }

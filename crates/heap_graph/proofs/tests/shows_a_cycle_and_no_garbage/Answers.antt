@@ -6,7 +6,6 @@ use Rattle.std.proofs.lemmas.Bool.{cases_lt, cases_Bool, eqb-true, cond-true, co
 use Rattle.shen_graph.specs.declared.name.Name.{Name}
 use Rattle.shen_graph.specs.Graph.{Graph, Object, Reference, hub, same_name}
 use Rattle.shen_graph.specs.Reach.{size}
-use Rattle.heap_words.specs.Encoding.{name_code}
 use Rattle.heap_graph.specs.Stands.{current_of, IsCopyAt, IsAt}
 use Rattle.heap_world.specs.Objects.{Refers}
 use Rattle.heap_graph.specs.Rows.{root_word}
@@ -116,17 +115,17 @@ second_there = record {
   below = omega arith;
 }
 
-copy_at : (a : ℕ) (n : Name) → word (a + 2) ≡ name_code n.thread n.count → 1 ≤ a → a + 3 ≤ 16 → at (current_of word a) ≡ Some n → IsCopyAt 1 16 word at a n
-copy_at a n name_word above below current = record { name_word = name_word; above = above; below = below; current = current }
+copy_at : (a : ℕ) (n : Name) → 1 ≤ a → a < 16 → at (current_of word a) ≡ Some n → IsCopyAt 1 16 word at a n
+copy_at a n above below current = record { above = above; below = below; current = current }
 
 second_copy : (a : ℕ) → IsSecond a → IsCopyAt 1 16 word at a second
-second_copy a (inl five) = subst (λ (b : ℕ). IsCopyAt 1 16 word at b second) (sym five) (copy_at 5 second refl (omega arith) (omega arith) refl)
-second_copy a (inr old) = subst (λ (b : ℕ). IsCopyAt 1 16 word at b second) (sym old) (copy_at 13 second refl (omega arith) (omega arith) refl)
+second_copy a (inl five) = subst (λ (b : ℕ). IsCopyAt 1 16 word at b second) (sym five) (copy_at 5 second (omega arith) (omega arith) refl)
+second_copy a (inr old) = subst (λ (b : ℕ). IsCopyAt 1 16 word at b second) (sym old) (copy_at 13 second (omega arith) (omega arith) refl)
 
 each : (a : ℕ) (n : Name) → at a ≡ Some n → IsCopyAt 1 16 word at a n
 each a n h =
     elim (cases_at a n h) [
-      | inl e ↦ subst (λ (b : ℕ). IsCopyAt 1 16 word at b n) (sym e.0) (subst (λ (m : Name). IsCopyAt 1 16 word at 1 m) e.1 (copy_at 1 hub refl (omega arith) (omega arith) refl))
+      | inl e ↦ subst (λ (b : ℕ). IsCopyAt 1 16 word at b n) (sym e.0) (subst (λ (m : Name). IsCopyAt 1 16 word at 1 m) e.1 (copy_at 1 hub (omega arith) (omega arith) refl))
       | inr e ↦ subst (λ (m : Name). IsCopyAt 1 16 word at a m) e.1 (second_copy a e.0)
     ]
 

@@ -7,7 +7,7 @@ use Rattle.heap_graph.proofs.Walks.{all_named-in, IsMarked-none, all_among, led_
 use Rattle.heap_graph.proofs.walk.find_reachable.Goals as goal
 
 pub take_each_down-requires-clause-named : goal.take_each_down-requires-clause-named
-take_each_down-requires-clause-named c = all_named-in c.args.roots.now (IsNamed c.args.first (length c.args.heap.now)) c.requires.sound.roots_named
+take_each_down-requires-clause-named c = all_named-in c.args.roots.now (IsNamed c.args.first c.args.heap.now) c.requires.sound.roots_named
 
 pub take_each_down-requires-clause-marked : goal.take_each_down-requires-clause-marked
 take_each_down-requires-clause-marked c =
@@ -48,7 +48,7 @@ pub take_each_down-requires-in-loop-next-clause-named :
 take_each_down-requires-in-loop-next-clause-named c =
     let x = c.index.result.now in
     let led = c.loop-next.invariant.led x (has-read _ c.loop-next.next x (omega arith) c.index.ensures) in
-    all_named-in c.references.result.now (IsNamed c.args.first (length c.args.heap.now))
+    all_named-in c.references.result.now (IsNamed c.args.first c.args.heap.now)
     (λ a h. c.requires.sound.fields_named x a led (ap (λ xs. has xs a) (sym c.references.ensures) ∙ h))
 
 pub take_each_down-requires-in-loop-next-clause-among :
