@@ -3,3 +3,4 @@ pub mod Choosing
 pub mod Copying
 pub mod Turns
 pub mod Beginning
+pub mod Ready
