@@ -94,7 +94,8 @@ impl Control {
         self.spot.access(config, word)
     }
 
-    /// Goes on with the word that its access has found. A pause begins marking, ends it, or collects the whole heap.
+    /// Goes on with the word that its access has found. A pause begins marking, ends it and begins evacuation, or collects
+    /// the whole heap.
     pub fn took(&mut self, got: u64) -> Took
         requires busy { is_gone (seen_control self.old).spot ≡ false }
         requires fit { IsFit (config_in self.old) (seen_control self.old) got }
