@@ -79,7 +79,7 @@ fn put_marks(row: &mut Row, plain: &Plain, first: u64, marks: u64) {
 // Puts a header: of an old copy the address of the object's current one.
 fn put_header(row: &mut Row, header: u64) {
     if forwarded(header) {
-        row.put(b"to ");
+        row.put(b"copy ");
         row.put_number(forwardee(header));
     } else {
         row.put_number(header);
