@@ -1,0 +1,2 @@
+pub mod Evacuating
+pub mod Laws
