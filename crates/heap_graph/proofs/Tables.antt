@@ -6,17 +6,18 @@ use Rattle.std.proofs.lemmas.Option.{same_Some, slice_get_within}
 use Rattle.std.proofs.lemmas.Bool.{cases_Bool, cond-true, cond-false, and_parts, and_from, leb-true, ltb-true}
 use Rattle.std.proofs.lemmas.Bool.Decides.{nat_tests}
 use Rattle.heap_words.specs.declared.config.Config.{Config}
-use Rattle.heap_words.specs.Words.{Cset, Top, Root, Heap, view, roots_start, heap_start, table_words, heap_in, roots_in}
+use Rattle.heap_words.specs.Words.{Top, Root, Heap, view, roots_start, heap_start, table_words, heap_in, roots_in}
 use Rattle.heap_words.proofs.Stores.{view_word}
 use Rattle.shen_graph.specs.declared.name.Name.{Name}
 use Rattle.shen_graph.specs.Graph.{Graph, Object}
 use Rattle.shen_graph.specs.Reach.{size}
 use Rattle.heap_world.specs.Objects.{Refers}
-use Rattle.heap_world.specs.World.{Ghost, Plot, Block, thing, moved, words_of, name_at, Points, IsCollected, IsPlotted, IsThing, AreObjects, Shared}
+use Rattle.heap_world.specs.World.{Ghost, Plot, Block, thing, moved, words_of, name_at, body_of, Points, IsPlotted, IsThing, AreObjects, Shared}
 use Rattle.heap_world.specs.Roots.{is_root_of, HasNoMore}
-use Rattle.heap_world.proofs.Pointing.{named_thing, piece_inside as words_inside}
-use Rattle.heap_world.proofs.Copies.{none_in_0}
-use Rattle.heap_graph.specs.Stands.{IsAt}
+use Rattle.heap_world.proofs.Pointing.{named_body, copy_cases, piece_inside as words_inside}
+use Rattle.heap_words.specs.Encoding.{header_word, name_code}
+use Rattle.heap_graph.specs.Stands.{current_of, IsCopyAt, IsAt}
+use Rattle.heap_graph.proofs.Copies.{plain_current, moved_current}
 use Rattle.heap_graph.specs.Rows.{root_word}
 use Rattle.heap_graph.specs.Shows.{WordsStand}
 
@@ -28,11 +29,17 @@ get_or-part xs a b i within = get_or-take (b - a) (drop a xs) i 0 within ∙ get
 length-part : (xs : List ℕ) (a b : ℕ) → b ≤ length xs → length (slice_range xs a b) ≡ b - a
 length-part xs a b within = length-take-le (b - a) (drop a xs) (omega (arith, length-drop a xs))
 
--- Pieces lie where they should and are objects of the graph, whose names are short, and none is an old copy. Other objects need no piece.
+-- An old copy: its header leads to the current one, and its name word says of which object it is.
+pub record IsOldCopy (heap : ℕ → ℕ) (block : Plot) (a refs nums to : ℕ) (n : Name) : Type 0 where
+  pub header : heap a ≡ header_word to
+  pub name_word : heap (a + 2) ≡ name_code n.thread n.count
+  pub copy : block to ≡ Some (thing n refs nums)
+
+-- Pieces lie where they should and are objects of the graph, whose names are short, or old copies of such. Other objects need no piece.
 pub record ArePieces (c : Config) (words : List ℕ) (block : Plot) (g : Graph) : Type 0 where
   pub plotted : IsPlotted c (λ r. view c words (Top r)) block
   pub objects : AreObjects (λ a. view c words (Heap a)) block g.object
-  pub unmoved : (a refs nums to : ℕ) (n : Name) → block a ≡ Some (moved n refs nums to) → ⊥
+  pub moveds : (a refs nums to : ℕ) (n : Name) → block a ≡ Some (moved n refs nums to) → IsOldCopy (λ x. view c words (Heap x)) block a refs nums to n
   pub small : (n : Name) (o : Object) → g.object n ≡ Some o → n.count < 2 ^ 32
 
 module _ (c : Config) (words : List ℕ) (block : Plot) (g : Graph) (long : length words ≡ table_words c) (pieces : ArePieces c words block g) where
@@ -96,31 +103,78 @@ module _ (c : Config) (words : List ℕ) (block : Plot) (g : Graph) (long : leng
         below = omega (arith, inside.1, facts.refs_are, facts.nums_are);
       }
 
-  -- so has each name that stands somewhere
-  each : (a : ℕ) (n : Name) → at a ≡ Some n → (o : Object) × IsAt first (first + length heap) (λ k. slice_index heap (k - first)) at g a n o
+  -- the words of the heap by their addresses
+  abbrev here : ℕ → ℕ
+  here a = slice_index heap (a - first)
+
+  -- what stands for a name: a copy of so many references and numbers, whose current copy is the object
+  record IsCopied (a : ℕ) (n : Name) : Type 0 where
+    refs : ℕ
+    nums : ℕ
+    piece : Block
+    there : block a ≡ Some piece
+    many : 3 ≤ words_of piece
+    name_word : view c words (Heap (a + 2)) ≡ name_code n.thread n.count
+    copy : block (current_of here a) ≡ Some (thing n refs nums)
+
+  copied_thing : (a refs nums : ℕ) (n : Name) → block a ≡ Some (thing n refs nums) → IsCopied a n
+  copied_thing a refs nums n is =
+      let o = pieces.objects.each a refs nums n is in
+      let inside = piece_inside a (thing n refs nums) is in
+      let own : current_of here a ≡ a = plain_current here a (heap_word a inside.0 (omega (arith, inside.1)) ∙ o.2.header) in
+      record { refs = refs; nums = nums; piece = thing n refs nums; there = is; many = omega arith; name_word = o.2.name_word; copy = ap block own ∙ is }
+
+  copied_moved : (a refs nums to : ℕ) (n : Name) → block a ≡ Some (moved n refs nums to) → IsCopied a n
+  copied_moved a refs nums to n is =
+      let old = pieces.moveds a refs nums to n is in
+      let inside = piece_inside a (moved n refs nums to) is in
+      let there : current_of here a ≡ to = moved_current here a to (heap_word a inside.0 (omega (arith, inside.1)) ∙ old.header) in
+      record { refs = refs; nums = nums; piece = moved n refs nums to; there = is; many = omega arith; name_word = old.name_word; copy = ap block there ∙ old.copy }
+
+  copied : (a : ℕ) (n : Name) → at a ≡ Some n → IsCopied a n
+  copied a n is =
+      let body = named_body (block a) n is in
+      ⊎_elim
+      (λ (now : block a ≡ Some (thing n body.0 body.1)). copied_thing a body.0 body.1 n now)
+      (λ (old : (to : ℕ) × (block a ≡ Some (moved n body.0 body.1 to))). copied_moved a body.0 body.1 old.0 n old.1)
+      (copy_cases (block a) (body_of n body.0 body.1) body.2)
+
+  each : (a : ℕ) (n : Name) → at a ≡ Some n → IsCopyAt first (first + length heap) here at a n
   each a n is =
-      let piece = named_thing (block a) n (λ refs nums to. pieces.unmoved a refs nums to n) is in
-      let object = pieces.objects.each a piece.0 piece.1 n piece.2 in
-      (object.0, object_stands a piece.0 piece.1 n object.0 piece.2 object.1 object.2 (pieces.small n object.0 object.1))
+      let x = copied a n is in
+      let inside = piece_inside a x.piece x.there in
+      record {
+        name_word = heap_word (a + 2) (omega (arith, inside.0)) (omega (arith, inside.1, x.many)) ∙ x.name_word;
+        above = inside.0;
+        below = omega (arith, inside.1, x.many);
+        current = ap name_at x.copy;
+      }
+
+  -- so the object of each name stands somewhere
+  object : (a : ℕ) (n : Name) → at a ≡ Some n → (o : Object) × IsAt first (first + length heap) here at g (current_of here a) n o
+  object a n is =
+      let x = copied a n is in
+      let o = pieces.objects.each (current_of here a) x.refs x.nums n x.copy in
+      (o.0, object_stands (current_of here a) x.refs x.nums n o.0 x.copy o.1 o.2 (pieces.small n o.0 o.1))
 
   -- objects lie apart
-  apart : (a b : ℕ) (n m : Name) (o : Object) → at a ≡ Some n → at b ≡ Some m → g.object n ≡ Some o → a < b → a + size o ≤ b
-  apart a b n m o is_a is_b object before =
-      let one = named_thing (block a) n (λ refs nums to. pieces.unmoved a refs nums to n) is_a in
-      let other = named_thing (block b) m (λ refs nums to. pieces.unmoved b refs nums to m) is_b in
-      let found = pieces.objects.each a one.0 one.1 n one.2 in
-      let same : found.0 ≡ o = same_Some found.0 o (sym found.1 ∙ object) in
-      let behind : a + (3 + one.0 + one.1) ≤ b = pieces.plotted.apart a b (thing n one.0 one.1) (thing m other.0 other.1) one.2 other.2 before in
-      let refs : length o.refs ≡ one.0 = ap (λ x. length x.refs) (sym same) ∙ found.2.refs_are in
-      let nums : length o.nums ≡ one.1 = ap (λ x. length x.nums) (sym same) ∙ found.2.nums_are in
+  apart : (a b : ℕ) (n m : Name) (o : Object) → at a ≡ Some n → at b ≡ Some m → g.object n ≡ Some o → current_of here a < current_of here b → current_of here a + size o ≤ current_of here b
+  apart a b n m o is_a is_b known before =
+      let one = copied a n is_a in
+      let other = copied b m is_b in
+      let found = pieces.objects.each (current_of here a) one.refs one.nums n one.copy in
+      let same : found.0 ≡ o = same_Some found.0 o (sym found.1 ∙ known) in
+      let behind = pieces.plotted.apart (current_of here a) (current_of here b) (thing n one.refs one.nums) (thing m other.refs other.nums) one.copy other.copy before in
+      let refs : length o.refs ≡ one.refs = ap (λ x. length x.refs) (sym same) ∙ found.2.refs_are in
+      let nums : length o.nums ≡ one.nums = ap (λ x. length x.nums) (sym same) ∙ found.2.nums_are in
       omega (arith, behind, refs, nums)
 
-  -- a name stands at one address
-  once : (a b : ℕ) (n : Name) → at a ≡ Some n → at b ≡ Some n → a ≡ b
+  -- a name has one current copy
+  once : (a b : ℕ) (n : Name) → at a ≡ Some n → at b ≡ Some n → current_of here a ≡ current_of here b
   once a b n is_a is_b =
-      let one = named_thing (block a) n (λ refs nums to. pieces.unmoved a refs nums to n) is_a in
-      let other = named_thing (block b) n (λ refs nums to. pieces.unmoved b refs nums to n) is_b in
-      pieces.objects.once a b one.0 one.1 other.0 other.1 n one.2 other.2
+      let one = copied a n is_a in
+      let other = copied b n is_b in
+      pieces.objects.once (current_of here a) (current_of here b) one.refs one.nums other.refs other.nums n one.copy other.copy
 
   -- there are 16 roots for each mutator
   length-roots : length roots ≡ 16 * c.mutators
@@ -166,6 +220,7 @@ pub pieces_stand : (c : Config) (words : List ℕ) (block : Plot) (g : Graph) �
     → WordsStand c.region_words (heap_in c words) (roots_in c words) (λ a. name_at (block a)) g
 pieces_stand c words block g long pieces own no_more = record {
   each = each c words block g long pieces;
+  object = object c words block g long pieces;
   once = once c words block g long pieces;
   apart = apart c words block g long pieces;
   roots = root_stands c words block g long pieces own no_more;
@@ -173,13 +228,15 @@ pieces_stand c words block g long pieces own no_more = record {
 
 pub table_stands : (c : Config) (words : List ℕ) (block : Plot) (ghost : Ghost) (g : Graph) → length words ≡ table_words c
     → Shared c (record { memory = view c words; block = block; ghost = ghost; graph = g })
-    → view c words Cset ≡ 0 → ((t i : ℕ) → t < c.mutators → i < 16 → Points block (view c words (Root t i)) (g.root (t + 1) i)) → HasNoMore c.mutators g
+    → ((t i : ℕ) → t < c.mutators → i < 16 → Points block (view c words (Root t i)) (g.root (t + 1) i)) → HasNoMore c.mutators g
     → WordsStand c.region_words (heap_in c words) (roots_in c words) (λ a. name_at (block a)) g
-table_stands c words block ghost g long shared uncollected own no_more =
+table_stands c words block ghost g long shared own no_more =
     pieces_stand c words block g long
     (record {
       plotted = shared.parsable.plotted;
       objects = shared.contents.objects;
-      unmoved = λ a refs nums to n is. none_in_0 c a (subst (λ set. IsCollected c set a) uncollected (shared.evacuated.moved.moveds a refs nums to n is).inside);
+      moveds = λ a refs nums to n is.
+          let old = shared.evacuated.moved.moveds a refs nums to n is in
+          record { header = old.header; name_word = old.name_word; copy = old.copy };
       small = λ n o is. (shared.contents.given n o is).small;
     }) own no_more

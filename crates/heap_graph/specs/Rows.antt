@@ -1,5 +1,5 @@
 -- The rows that objects are written as, by the words of the heap alone.
-use Rattle.std.specs.Prelude.{ℕ, ◌+◌, ◌-◌, ◌*◌, ◌≢◌, ◌≤◌, ◌==◌, ◌&&◌, nat_le, nat_lt, List, [], ◌∷◌, ◌++◌, Some, None, map, slice_index, length, if◌then◌else◌}
+use Rattle.std.specs.Prelude.{ℕ, ◌+◌, ◌-◌, ◌*◌, ◌==◌, ◌&&◌, nat_le, nat_lt, List, [], ◌∷◌, ◌++◌, Some, None, map, slice_index, length, if◌then◌else◌}
 use Rattle.std.specs.List.{range_with_len}
 use Rattle.heap_words.specs.Encoding.{thread_in, count_in}
 use Rattle.shen_graph.specs.declared.name.Name.{Name}
@@ -10,10 +10,6 @@ use Rattle.heap_graph.specs.Walk.{refs_at, nums_at}
 -- the name of the object whose header is the word at an index of the heap
 abbrev pub name_at : List ℕ → ℕ → Name
 name_at heap k = record { thread = thread_in (slice_index heap (k + 2)); count = count_in (slice_index heap (k + 2)) }
-
--- a word is null, or the address of an object whose name is a word of the heap
-abbrev pub IsNamed : (first words : ℕ) → ℕ → Type 0
-IsNamed first words a = a ≢ 0 → (first ≤ a) × (a + 3 ≤ first + words)
 
 -- the reference that a word stands for
 abbrev pub reference_in : ℕ → List ℕ → ℕ → Reference

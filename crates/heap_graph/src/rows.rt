@@ -5,8 +5,8 @@ ghost use Rattle.std.specs.List.{IsDistinct};
 ghost use Rattle.shen_graph.specs.Graph.{same_name};
 ghost use Rattle.shen_graph.specs.Reach.{InOrder};
 ghost use Rattle.shen_graph.specs.GraphText.{names_of};
-ghost use Rattle.heap_graph.specs.Walk.{refs_at, nums_at, words_at};
-ghost use Rattle.heap_graph.specs.Rows.{name_at, IsNamed, reference_in, row_at, with_references, with_numbers, with_whole_row, root_word, root_rows};
+ghost use Rattle.heap_graph.specs.Walk.{refs_at, nums_at, words_at, IsNamed};
+ghost use Rattle.heap_graph.specs.Rows.{name_at, reference_in, row_at, with_references, with_numbers, with_whole_row, root_word, root_rows};
 
 use crate::walk::references;
 use heap_words::{count_of, nums_of, refs_of, thread_of};

@@ -221,7 +221,7 @@ holding_stands c words block owner p g long holds calm =
           (record {
             plotted = plotted c m block owner p g holds calm;
             objects = objects c m block owner p g holds calm;
-            unmoved = λ a refs nums to n is. not_moved c m block owner p g holds calm a refs nums to n is;
+            moveds = λ a refs nums to n is. absurd (not_moved c m block owner p g holds calm a refs nums to n is);
             small = λ n o is. (holds.next.given n o is).small;
           })
           (roots c m block owner p g holds calm) (no_more c m block owner p g holds calm),
