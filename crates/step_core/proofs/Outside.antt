@@ -10,7 +10,7 @@ use Rattle.handshake.specs.declared.enter_spot.EnterSpot.TheVariants as enter
 use Rattle.handshake.specs.Standing.{is_within}
 use Rattle.mutator.specs.declared.spot.Kept.{Kept}
 use Rattle.mutator.specs.declared.spot.Spot.{Spot}
-use Rattle.mutator.specs.declared.spot.Spot.TheVariants.{Rest, Ended, Entering, Loading, OnField, Recording, OnNumber, Showing, Making, Waiting, Gone}
+use Rattle.mutator.specs.declared.spot.Spot.TheVariants.{Rest, Ended, Entering, Loading, OnField, Resolving, Recording, OnNumber, Showing, Making, Waiting, Gone}
 use Rattle.mutator.specs.declared.loads.LoadSpot.TheVariants as load
 use Rattle.mutator.specs.declared.fields.FieldSpot.TheVariants as fields
 use Rattle.mutator.specs.declared.numbers.NumberSpot.TheVariants as numbers
@@ -19,6 +19,10 @@ use Rattle.mutator.specs.declared.makes.MakeSpot.TheVariants as make
 use Rattle.alloc_buffers.specs.declared.spot.TakeSpot.TheVariants as take
 use Rattle.mutator.specs.declared.waits.WaitSpot.TheVariants as wait
 use Rattle.satb_barrier.specs.declared.spot.RememberSpot.TheVariants as remember
+use Rattle.load_barrier.specs.declared.spot.ResolveSpot.{ResolveSpot}
+use Rattle.load_barrier.specs.declared.spot.ResolveSpot.TheVariants as resolve
+use Rattle.load_barrier.specs.declared.copying.CopySpot.TheVariants.{LoadWord, StoreWord, StoreHeader, Publish, GiveBack}
+use Rattle.load_barrier.specs.Rows as resolves
 use Rattle.mutator.specs.Orders.{takes_at}
 use Rattle.mutator.specs.Rows.{touch_at, given_at}
 use Rattle.steps_base.specs.Touch.{touched}
@@ -83,6 +87,28 @@ outside_given (Waiting at) out = refl
 outside_given Gone out = refl
 outside_given _ out = cc
 
+-- who resolves a reference writes into no answer
+resolve_before : (c : Config) (memory : Word → ℕ) (seat address : ℕ) (at : ResolveSpot) → touched memory (resolves.touch_at c seat address at) (Answer seat) ≡ memory (Answer seat)
+resolve_before c memory seat address resolve.LoadHeader = refl
+resolve_before c memory seat address (resolve.Entering at) = refl
+resolve_before c memory seat address resolve.LoadShape = refl
+resolve_before c memory seat address (resolve.Taking words take.LoadCurrent) = refl
+resolve_before c memory seat address (resolve.Taking words (take.LoadTop region)) = refl
+resolve_before c memory seat address (resolve.Taking words take.LoadFree) = refl
+resolve_before c memory seat address (resolve.Taking words (take.TakeRegion region)) = refl
+resolve_before c memory seat address (resolve.Taking words (take.StoreCurrent region)) = refl
+resolve_before c memory seat address (resolve.Taking words (take.StoreTop region top)) = refl
+resolve_before c memory seat address (resolve.Taking words (take.Ended taken)) = refl
+resolve_before c memory seat address (resolve.Copying copy (LoadWord words index)) = refl
+resolve_before c memory seat address (resolve.Copying copy (StoreWord words index found)) = refl
+resolve_before c memory seat address (resolve.Copying copy StoreHeader) = refl
+resolve_before c memory seat address (resolve.Copying copy Publish) = refl
+resolve_before c memory seat address (resolve.Copying copy (GiveBack answer)) = refl
+resolve_before c memory seat address (resolve.Leaving answer) = refl
+resolve_before c memory seat address (resolve.Stopping at) = refl
+resolve_before c memory seat address resolve.LoadAgain = refl
+resolve_before c memory seat address (resolve.Resolved answer) = refl
+
 -- a step of a mutator never writes into its answer that the heap is full
 pub answer_before : (c : Config) (memory : Word → ℕ) (seat made : ℕ) (kept : Kept) (order : Order) (spot : Spot) → touched memory (touch_at c seat made kept order spot) (Answer seat) ≡ 1 → memory (Answer seat) ≡ 1
 answer_before c memory seat made kept Nothing Rest now = now
@@ -106,6 +132,7 @@ answer_before c memory seat made kept order (OnField object (fields.LoadOld valu
 answer_before c memory seat made kept order (OnField object (fields.Store value)) now = now
 answer_before c memory seat made kept order (OnField object (fields.Swap value)) now = now
 answer_before c memory seat made kept order (OnField object (fields.Exchange found expect value)) now = now
+answer_before c memory seat made kept order (Resolving address at next) now = sym (resolve_before c memory seat address at) ∙ now
 answer_before c memory seat made kept order (Recording remember.LoadCount address next) now = now
 answer_before c memory seat made kept order (Recording (remember.LoadEntry entry) address next) now = now
 answer_before c memory seat made kept order (Recording (remember.MarkEntry entry found) address next) now = now
