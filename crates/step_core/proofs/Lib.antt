@@ -1,6 +1,8 @@
 pub mod Spots
 pub mod Settling
 pub mod Marking
+pub mod Copying
+pub mod Resolving
 pub mod Overwriting
 pub mod Naming
 pub mod Loading

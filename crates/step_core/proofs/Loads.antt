@@ -23,7 +23,7 @@ use Rattle.mutator.specs.Commands.{roots_of, root_of, is_on_object, lacks_object
 use Rattle.mutator.specs.Rows.{Mutating, first_spot, after_first, first_of_set, with_part}
 use Rattle.mutator.specs.Told.{name_the_same}
 use Rattle.heap_world.specs.World.{World, hand, name_at, Points, Shared}
-use Rattle.step_core.specs.Stepped.{IsRootWord, HasRoot, HasObject, HasFirst, HasRoots, IsBegun, IsSet, IsSeatedIn, HasMarkingBy, Mine, Stepped, Row}
+use Rattle.step_core.specs.Stepped.{IsRootWord, HasRoot, HasObject, HasFirst, HasRoots, IsBegun, IsSet, IsSeatedIn, HasMarkingBy, HasCopyingBy, Mine, Stepped, Row}
 use Rattle.step_core.proofs.Spots.{mutator_at}
 use Rattle.step_core.proofs.Marking.{covered_unmarked}
 use Rattle.step_core.proofs.Ready.{leaving, ready_of, number_small}
@@ -67,9 +67,10 @@ object_of c u seat k object shared on first =
     is.usable
 
 -- a call of a command has begun: what a mutator counts on that has no root in hand
-record IsUnderWay (c : Config) (u : World) (seat made phase : ℕ) (command : Command) (fixed : Option Reply) (k : Command) : Type 0 where
+record IsUnderWay (c : Config) (u : World) (seat made phase cset : ℕ) (command : Command) (fixed : Option Reply) (k : Command) : Type 0 where
   seated : IsSeatedIn c u seat made false
   marking : HasMarkingBy u seat None phase true
+  copying : HasCopyingBy u seat false cset true
   roots : (i : ℕ) → i < 16 → Points u.block (u.memory (Root seat i)) (u.graph.root (seat + 1) i)
   hands : (a words : ℕ) → u.block a ≡ Some (hand seat words) → ⊥
   facts : IsBegun made command fixed k
@@ -95,19 +96,22 @@ module _ (c : Config) (u : World) (seat made : ℕ) (kept : Kept) (command : Com
   abbrev HasSpot : Command → ℕ → Option Reply → Spot → Type 0
   HasSpot k now settled spot = Mine c u (mutator_at seat made (keeping k now) spot) command settled
 
-  -- a call of a command has begun, and no root is in hand
+  -- a call of a command has begun, which has loaded this collection set, and no root is in hand
+  abbrev HasBegunWith : Command → ℕ → Type 0
+  HasBegunWith k now = IsUnderWay c u seat made kept.phase now command fixed k
+
   abbrev HasBegun : Command → Type 0
-  HasBegun k = IsUnderWay c u seat made kept.phase command fixed k
+  HasBegun k = HasBegunWith k kept.cset
 
   -- it can go on with the command's first root
-  root_mine : (k : Command) (now : ℕ) → 0 < length (roots_of k) → HasBegun k → HasSpot k now fixed (Loading load.First)
+  root_mine : (k : Command) (now : ℕ) → 0 < length (roots_of k) → HasBegunWith k now → HasSpot k now fixed (Loading load.First)
   root_mine k now some mine =
       let below = mine.seated.below in
       let small = root_small made k 0 mine.facts.next some in
       record { seated = mine.seated; ready = grind (arith, nat_tests); marking = mine.marking; copying = mine.copying; roots = mine.roots; hands = mine.hands; facts = (mine.facts, some) }
 
   -- where it goes on after the collection set
-  set_mine : (k : Command) (now : ℕ) → HasBegun k → HasSpot k now fixed (first_spot k)
+  set_mine : (k : Command) (now : ℕ) → HasBegunWith k now → HasSpot k now fixed (first_spot k)
   set_mine (New dst refs nums) now mine =
       let below = mine.seated.below in
       let next = mine.facts.next in
@@ -222,7 +226,7 @@ module _ (c : Config) (u : World) (seat made : ℕ) (kept : Kept) (command : Com
   -- the load of the collection set
   pub at_load_set : Row c u (at_spot LoadSet) command fixed
   at_load_set shared mine =
-      let begun : HasBegun kept.command = record { seated = mine.seated; marking = mine.marking; copying = mine.copying; roots = mine.roots; hands = mine.hands; facts = mine.facts } in
+      let begun : HasBegunWith kept.command (u.memory Cset) = record { seated = mine.seated; marking = mine.marking; copying = record { copies_is = mine.copying.copies_is; works_none = mine.copying.works_none; set_is = λ on. refl }; roots = mine.roots; hands = mine.hands; facts = mine.facts } in
       looks c u (at_spot LoadSet) Cset command fixed refl refl refl shared (set_mine kept.command (u.memory Cset) begun)
 
   -- the first root of a command is null, and there is no object
