@@ -1,18 +1,16 @@
 -- Where copies and room in hand lie, and what the words of copies say.
-use Rattle.std.proofs.Common.{◌≡◌, ◌≢◌, ℕ, ◌+◌, ◌*◌, ◌<◌, ◌≤◌, ◌⊎◌, ⊎_elim, inl, inr, Bool, true, false, Some, None, refl, sym, ap, ◌∙◌, subst, arith}
-use Rattle.std.proofs.lemmas.Bool.{and_from, le-leb, lt-ltb}
+use Rattle.std.proofs.Common.{◌≡◌, ℕ, ◌+◌, ◌*◌, ◌<◌, ◌≤◌, ⊎_elim, true, Some, sym, ap, ◌∙◌, subst, arith}
+use Rattle.std.proofs.lemmas.Bool.{and_from, le-leb}
 use Rattle.std.proofs.lemmas.Bool.Decides.{nat_tests}
 use Rattle.heap_words.specs.declared.config.Config.{Config}
-use Rattle.heap_words.specs.Words.{Top, Current, Heap, Cset, IsWord, is_word}
-use Rattle.heap_words.specs.Encoding.{plain_header, header_word, shape_word, object_words}
+use Rattle.heap_words.specs.Words.{Top, Heap, Cset, is_word}
+use Rattle.heap_words.specs.Encoding.{shape_word, object_words}
 use Rattle.heap_words.proofs.Shapes.{refs_in-shape_word, nums_in-shape_word}
-use Rattle.regions.specs.Place.{base_of, region_with, IsOf}
+use Rattle.regions.specs.Place.{base_of, region_with}
 use Rattle.regions.proofs.PlaceLemmas.{regions_tile}
-use Rattle.regions.specs.Sets.{IsIn}
-use Rattle.shen_graph.specs.declared.name.Name.{Name}
-use Rattle.heap_world.specs.World.{World, Block, thing, moved, spent, hand, promised, words_of, Body, body_at, body_words, IsCollected, HasCopy, IsMarkable, Shared}
+use Rattle.heap_world.specs.World.{World, Block, thing, spent, hand, promised, words_of, Body, body_at, body_words, IsCollected, HasCopy, IsMarkable, Shared}
 use Rattle.heap_world.proofs.Pointing.{copy_cases, body_piece, piece_inside}
-use Rattle.load_barrier.specs.Fit.{has_words, is_size, is_object, is_copied}
+use Rattle.load_barrier.specs.Fit.{has_words, is_object}
 
 module _ (c : Config) (u : World) (shared : Shared c u) where
   -- a copy's shape word

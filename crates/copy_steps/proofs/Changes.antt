@@ -1,18 +1,17 @@
 -- What a step owes that changes only words of the heap, tops, the counter of copiers, pieces, and who copies.
-use Rattle.std.proofs.Common.{◌≡◌, ◌≢◌, ℕ, ◌+◌, ◌<◌, ◌≤◌, ◌⊎◌, ⊎_elim, inl, inr, Bool, true, false, Option, Some, None, refl, sym, ap, ◌∙◌, subst, arith}
+use Rattle.std.proofs.Common.{◌≡◌, ◌≢◌, ℕ, ◌+◌, ◌<◌, ◌≤◌, ◌⊎◌, ⊎_elim, inl, inr, Bool, true, Option, Some, None, refl, sym, ap, ◌∙◌, subst, arith}
 use Rattle.std.proofs.Math.Path.{fun_ext}
 use Rattle.std.proofs.lemmas.Option.{none-some}
 use Rattle.std.proofs.lemmas.Bool.{false≢true}
 use Rattle.heap_words.specs.declared.config.Config.{Config}
-use Rattle.heap_words.specs.Ranges.{seat_count}
-use Rattle.heap_words.specs.Words.{Word, Phase, Cset, Free, Evac, Claim, Top, Tams, Current, Count, Buffer, Grey, Black, Heap, write}
+use Rattle.heap_words.specs.Words.{Word, Phase, Cset, Free, Evac, Top, Tams, Current, Count, Buffer, Grey, Black, Heap, write}
 use Rattle.regions.specs.Place.{base_of}
 use Rattle.regions.proofs.PlaceLemmas.{regions_tile}
 use Rattle.regions.specs.Sets.{IsIn}
 use Rattle.shen_graph.specs.declared.name.Name.{Name}
 use Rattle.steps_base.specs.Touch.{Touch, touched}
 use Rattle.evac_room.specs.Counter.{is_out_of_room, IsQuiet}
-use Rattle.heap_world.specs.World.{World, Block, thing, moved, spent, hand, promised, filler, words_of, Plot, Snapshot, Scan, no_snapshot, with_copying, name_at, Body, body_of, body_at, body_words, Target, IsCollected, IsParsable, AreObjects, AreOwned, IsMarkable, HaveMoved, IsCounted, AreKept, KeepsSnapshot, Shared}
+use Rattle.heap_world.specs.World.{World, Block, thing, moved, spent, hand, promised, filler, words_of, Plot, Snapshot, Scan, no_snapshot, with_copying, name_at, Body, body_of, body_at, Target, IsCollected, IsParsable, AreObjects, AreOwned, IsMarkable, HaveMoved, IsCounted, AreKept, KeepsSnapshot, Shared}
 use Rattle.heap_world.specs.Rely.{KeepsMarks, KeepsCopies, Keeps, Rely}
 use Rattle.heap_world.specs.Part.{PartStep}
 use Rattle.heap_world.proofs.Updates.{updated}

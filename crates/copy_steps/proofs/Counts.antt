@@ -1,11 +1,11 @@
 -- The counter of copiers moves, and who copies with it.
-use Rattle.std.proofs.Common.{◌≡◌, ◌≢◌, ℕ, zero, suc, ◌+◌, ◌<◌, ◌≤◌, ◌^◌, Bool, true, false, cond, ⊎_elim, refl, sym, ap, ◌∙◌, subst, arith}
+use Rattle.std.proofs.Common.{◌≡◌, ◌≢◌, ℕ, zero, suc, ◌+◌, ◌<◌, ◌≤◌, Bool, true, false, cond, ⊎_elim, refl, sym, ap, ◌∙◌, subst, arith}
 use Rattle.std.proofs.lemmas.Bool.{cases_eq}
 use Rattle.heap_words.specs.declared.config.Config.{Config}
 use Rattle.heap_words.specs.Ranges.{seat_count}
-use Rattle.heap_words.specs.Words.{Word, Phase, Evac, Top, Heap}
+use Rattle.heap_words.specs.Words.{Phase, Evac, Top, Heap}
 use Rattle.steps_base.specs.Touch.{touch, formed}
-use Rattle.evac_room.specs.Counter.{count_of, is_out_of_room, IsQuiet}
+use Rattle.evac_room.specs.Counter.{IsQuiet}
 use Rattle.evac_room.specs.declared.spot.RoomSpot.{RoomSpot}
 use Rattle.evac_room.specs.Spot.{is_at_rest, is_counted}
 use Rattle.evac_room.specs.Rows.{form_at, next_at}

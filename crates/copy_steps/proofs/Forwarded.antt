@@ -1,25 +1,24 @@
 -- A copy is published: the header of the old one names it, and it is the object's current copy from then on.
-use Rattle.std.proofs.Common.{◌≡◌, ◌≢◌, ℕ, ◌+◌, ◌<◌, ◌≤◌, ◌⊎◌, Some, None, true, ⊎_elim, inl, inr, refl, sym, ap, ◌∙◌, subst, arith}
-use Rattle.std.specs.Prelude.{◌==◌, length, slice_get}
+use Rattle.std.proofs.Common.{◌≡◌, ◌≢◌, ℕ, ◌+◌, ◌<◌, ◌≤◌, ◌⊎◌, Some, true, ⊎_elim, inl, inr, refl, sym, ap, ◌∙◌, subst, arith}
+use Rattle.std.specs.Prelude.{◌==◌, length}
 use Rattle.std.proofs.lemmas.Bool.{cases_eq, cond-true, eq-eqb}
 use Rattle.std.proofs.lemmas.Option.{same_Some, none-some, slice_get_within}
 use Rattle.heap_words.specs.declared.config.Config.{Config}
 use Rattle.heap_words.specs.Encoding.{plain_header, header_word, object_words}
 use Rattle.heap_words.specs.Ranges.{seat_count}
-use Rattle.heap_words.specs.Words.{Phase, Cset, Evac, Top, Tams, Black, Heap, write}
+use Rattle.heap_words.specs.Words.{Phase, Cset, Evac, Top, Tams, Heap, write}
 use Rattle.regions.specs.Place.{base_of}
 use Rattle.steps_base.specs.Touch.{touch, exchanges}
-use Rattle.mark_bits.specs.Marks.{HasMark}
 use Rattle.shen_graph.specs.declared.name.Name.{Name}
 use Rattle.shen_graph.specs.Graph.{Object}
 use Rattle.heap_world.specs.World.{World, Block, thing, moved, spent, hand, promised, filler, words_of, Plot, name_at, Points, IsInUse, Body, body_of, body_at, IsPlotted, IsFilled, IsThing, IsCollected, IsMarkable, IsYoung, HasCopy, IsMoved, Shared}
 use Rattle.heap_world.specs.Part.{PartStep}
-use Rattle.heap_world.proofs.Updates.{updated, updated_same, updated_there, updated_else}
-use Rattle.heap_world.proofs.Apart.{far, one_piece}
+use Rattle.heap_world.proofs.Updates.{updated, updated_there, updated_else}
+use Rattle.heap_world.proofs.Apart.{one_piece}
 use Rattle.heap_world.proofs.Keeping.{points_stay}
 use Rattle.heap_world.proofs.Pieces.{object_reads, piece_cases}
 use Rattle.heap_world.proofs.Pointing.{named_body, body_named}
-use Rattle.heap_world.proofs.Copies.{not_quiet, bodies_stay}
+use Rattle.heap_world.proofs.Copies.{not_quiet}
 use Rattle.copy_steps.proofs.Changes.{world_after, heap_written, IsCopyingStep, step_after}
 use Rattle.copy_steps.proofs.Bodies.{room_outside}
 

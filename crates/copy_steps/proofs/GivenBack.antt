@@ -1,20 +1,20 @@
 -- Room in hand is given back: its region's top falls to where it begins.
-use Rattle.std.proofs.Common.{◌≡◌, ◌≢◌, ℕ, ◌+◌, ◌-◌, ◌<◌, ◌≤◌, Option, Some, None, ⊎_elim, inl, inr, refl, sym, ap, ◌∙◌, subst, arith}
+use Rattle.std.proofs.Common.{◌≡◌, ◌≢◌, ℕ, ◌+◌, ◌-◌, ◌<◌, ◌≤◌, Some, None, ⊎_elim, refl, sym, ap, ◌∙◌, subst, arith}
 use Rattle.std.proofs.lemmas.Bool.{cases_eq, cases_lt, cases_order}
 use Rattle.std.proofs.lemmas.Option.{same_Some, none-some}
 use Rattle.heap_words.specs.declared.config.Config.{Config}
-use Rattle.heap_words.specs.Words.{Phase, Cset, Free, Evac, Top, Tams, Current, Black, Heap}
+use Rattle.heap_words.specs.Words.{Phase, Cset, Evac, Top, Tams, Current, Heap}
 use Rattle.steps_base.specs.Touch.{touch, stores}
 use Rattle.regions.specs.Place.{base_of, region_with}
 use Rattle.regions.specs.Sets.{IsIn}
 use Rattle.shen_graph.specs.declared.name.Name.{Name}
-use Rattle.heap_world.specs.World.{World, Block, thing, moved, spent, hand, promised, filler, words_of, Plot, name_at, Body, body_of, body_at, IsPlotted, IsFilled, IsInUse, IsRoom, IsCollected, IsMarkable, HasCopy, Shared}
+use Rattle.heap_world.specs.World.{World, Block, thing, moved, spent, hand, promised, filler, words_of, Plot, name_at, Body, body_at, IsPlotted, IsFilled, IsCollected, IsMarkable, HasCopy, Shared}
 use Rattle.heap_world.specs.Part.{PartStep}
 use Rattle.heap_world.proofs.Updates.{updated, updated_same, updated_there, updated_else}
-use Rattle.heap_world.proofs.Pieces.{object_reads, behind, beside, some_words}
+use Rattle.heap_world.proofs.Pieces.{object_reads, behind, some_words}
 use Rattle.load_barrier.specs.Rows.{offset_of}
 use Rattle.copy_steps.proofs.Changes.{world_after, top_written, IsCopyingStep, step_after}
-use Rattle.copy_steps.proofs.Bodies.{room_owned, room_within, room_outside, room_from, room_top, room_of}
+use Rattle.copy_steps.proofs.Bodies.{room_owned, room_within, room_outside, room_from, room_top}
 
 module _ (c : Config) (u : World) (seat copy words : ℕ) (shared : Shared c u) (on : u.memory Phase ≡ 2) (room : u.block copy ≡ Some (hand seat words))
     (only : (b more : ℕ) → u.block b ≡ Some (hand seat more) → b ≡ copy) where

@@ -4,3 +4,10 @@ pub mod Counts
 pub mod Worded
 pub mod Forwarded
 pub mod GivenBack
+pub mod Stays
+pub mod Headers
+pub mod Steps
+pub mod Entering
+pub mod Copying
+pub mod Ending
+pub mod Parts

@@ -1,22 +1,21 @@
 -- A word of room in hand is written.
-use Rattle.std.proofs.Common.{◌≡◌, ◌≢◌, ℕ, ◌+◌, ◌<◌, ◌≤◌, Some, ⊎_elim, inl, inr, refl, sym, ap, ◌∙◌, subst, arith}
+use Rattle.std.proofs.Common.{◌≡◌, ◌≢◌, ℕ, ◌+◌, ◌<◌, ◌≤◌, Some, refl, sym, ap, ◌∙◌, subst, arith}
 use Rattle.std.proofs.lemmas.Option.{same_Some}
 use Rattle.heap_words.specs.declared.config.Config.{Config}
 use Rattle.heap_words.specs.Encoding.{object_words}
 use Rattle.heap_words.specs.Words.{Phase, Evac, Top, Heap}
 use Rattle.steps_base.specs.Touch.{touch, stores}
-use Rattle.shen_graph.specs.declared.name.Name.{Name}
-use Rattle.heap_world.specs.World.{World, Block, thing, moved, spent, hand, words_of, body_at, Shared}
+use Rattle.heap_world.specs.World.{World, Block, thing, moved, spent, hand, words_of, Shared}
 use Rattle.heap_world.specs.Part.{PartStep}
 use Rattle.heap_world.proofs.Updates.{updated, updated_else}
 use Rattle.heap_world.proofs.Apart.{far}
 use Rattle.heap_world.proofs.Pieces.{object_reads}
 use Rattle.copy_steps.proofs.Changes.{world_after, heap_written, IsCopyingStep, step_after}
 
-module _ (c : Config) (u : World) (seat copy words at value : ℕ) (shared : Shared c u) (on : u.memory Phase ≡ 2) (room : u.block copy ≡ Some (hand seat words)) (below : at < words) where
+module _ (c : Config) (u : World) (seat copy words at place value : ℕ) (shared : Shared c u) (on : u.memory Phase ≡ 2) (room : u.block copy ≡ Some (hand seat words)) (below : at < words) (place_is : copy + at ≡ place) where
   -- the words of the heap then
   abbrev pub heap_then : ℕ → ℕ
-  heap_then = updated (λ a. u.memory (Heap a)) (copy + at) value
+  heap_then = updated (λ a. u.memory (Heap a)) place value
 
   -- the world then
   abbrev pub worded_world : World
@@ -24,8 +23,8 @@ module _ (c : Config) (u : World) (seat copy words at value : ℕ) (shared : Sha
 
   -- a word of another piece stays
   pub else_stays : (a k : ℕ) (x : Block) → u.block a ≡ Some x → a ≢ copy → k < words_of x → heap_then (a + k) ≡ u.memory (Heap (a + k))
-  else_stays a k x is other inside = updated_else (λ b. u.memory (Heap b)) (copy + at) value (a + k)
-      (far c (λ r. u.memory (Top r)) u.block shared.parsable.plotted copy a at k (hand seat words) x room is (λ same. other (sym same)) below inside)
+  else_stays a k x is other inside = updated_else (λ b. u.memory (Heap b)) place value (a + k)
+      (λ same. far c (λ r. u.memory (Top r)) u.block shared.parsable.plotted copy a at k (hand seat words) x room is (λ e. other (sym e)) below inside (place_is ∙ same))
 
   -- its first word too
   first_stays : (a : ℕ) (x : Block) → u.block a ≡ Some x → a ≢ copy → 1 ≤ words_of x → heap_then a ≡ u.memory (Heap a)
@@ -96,6 +95,6 @@ module _ (c : Config) (u : World) (seat copy words at value : ℕ) (shared : Sha
   }
 
   -- the store of the word owes no more
-  pub word_step : (facts : World → Type 0) → facts worded_world → PartStep c u seat (touch (Heap (copy + at)) (stores value)) facts
+  pub word_step : (facts : World → Type 0) → facts worded_world → PartStep c u seat (touch (Heap place) (stores value)) facts
   word_step facts own = step_after c u seat heap_then (λ r. u.memory (Top r)) (u.memory Evac) u.block u.ghost.copying shared on wording
-      (touch (Heap (copy + at)) (stores value)) facts (heap_written u.memory (copy + at) value) own
+      (touch (Heap place) (stores value)) facts (heap_written u.memory place value) own
