@@ -163,7 +163,7 @@ impl Mutator {
             },
             Spot::Loading { at } => at.access(config, seat, command),
             Spot::OnField { object, at } => at.access(config, object, command),
-            // keeps AreObjects: copies, and headers that name them
+            // keeps IsCounted, HaveMoved and AreObjects
             Spot::Resolving { address, at, .. } => at.access(config, seat, address),
             // keeps IsBuffer
             Spot::Recording { at, address, .. } => at.access(config, seat, address),

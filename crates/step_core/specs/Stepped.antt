@@ -3,7 +3,7 @@ use Rattle.std.specs.Int.{bit_at}
 use Rattle.std.specs.Prelude.{ℕ, ◌≡◌, ◌≢◌, ◌⊎◌, ◌+◌, ◌<◌, ◌≤◌, Bool, true, false, length, Option, Some, None}
 use Rattle.heap_words.specs.declared.config.Config.{Config}
 use Rattle.heap_words.specs.Encoding.{fresh_word}
-use Rattle.heap_words.specs.Words.{Heap, Root, Wait, Answer, Ask, Phase}
+use Rattle.heap_words.specs.Words.{Heap, Root, Wait, Answer, Ask, Phase, Cset, Evac}
 use Rattle.steps_base.specs.Touch.{touched}
 use Rattle.shen_graph.specs.declared.name.Name.{Name}
 use Rattle.shen_graph.specs.declared.command.Command.{Command}
@@ -18,7 +18,7 @@ use Rattle.shen_graph.specs.declared.order.Order.{Order}
 use Rattle.shen_graph.specs.declared.order.Order.TheVariants.{Nothing}
 use Rattle.mutator.specs.declared.spot.Kept.{Kept}
 use Rattle.mutator.specs.declared.spot.Spot.{Spot}
-use Rattle.mutator.specs.declared.spot.Spot.TheVariants.{Rest, Ended, Entering, LoadPhase, LoadSet, Loading, OnField, Recording, OnNumber, Showing, StoreRoot, Making, AskCycle, Waiting, Leave, Gone}
+use Rattle.mutator.specs.declared.spot.Spot.TheVariants.{Rest, Ended, Entering, LoadPhase, LoadSet, Loading, OnField, Resolving, Recording, OnNumber, Showing, StoreRoot, Making, AskCycle, Waiting, Leave, Gone}
 use Rattle.mutator.specs.declared.spot.Entered.{Entered}
 use Rattle.mutator.specs.declared.spot.Entered.TheVariants.{Call, Waited}
 use Rattle.mutator.specs.declared.loads.LoadSpot.{LoadSpot}
@@ -27,6 +27,8 @@ use Rattle.mutator.specs.declared.fields.FieldSpot.{FieldSpot}
 use Rattle.mutator.specs.declared.fields.FieldSpot.TheVariants as fields
 use Rattle.mutator.specs.declared.overwrites.Overwritten.{Overwritten}
 use Rattle.mutator.specs.declared.overwrites.Overwritten.TheVariants as overwrites
+use Rattle.mutator.specs.declared.resolves.Loaded.{Loaded}
+use Rattle.mutator.specs.declared.resolves.Loaded.TheVariants.{ForRoot, ToCompare}
 use Rattle.mutator.specs.declared.numbers.NumberSpot.{NumberSpot}
 use Rattle.mutator.specs.declared.numbers.NumberSpot.TheVariants as numbers
 use Rattle.mutator.specs.declared.shows.ShowSpot.{ShowSpot}
@@ -43,19 +45,21 @@ use Rattle.mutator.specs.Fit.{IsReady}
 use Rattle.step_core.specs.Actor.{entry_of, command_by}
 use Rattle.step_core.specs.Own.{root_now, IsInHand}
 use Rattle.mark_steps.specs.Recording.{CanRecord}
-use Rattle.heap_world.specs.World.{World, Plot, Scan, hand, name_at, Points, Target, IsUsable, IsCovered, Shared}
+use Rattle.load_barrier.specs.Runs.{is_copier}
+use Rattle.copy_steps.specs.Resolving.{CanResolve}
+use Rattle.heap_world.specs.World.{World, Plot, Scan, hand, name_at, Points, TargetIn, IsUsable, UsableIn, IsCovered, Shared}
 use Rattle.heap_world.specs.Asking as asking
 use Rattle.heap_world.specs.Asking.{Asking, HasNoPromise, IsAsked}
 use Rattle.heap_world.specs.Rely.{Rely}
 
 -- a word is that of a root of the mutator: it stands for the root's reference, and may be used
-pub record IsRootWord (w : World) (seat index word : ℕ) : Type 0 where
+pub record IsRootWord (c : Config) (w : World) (seat index word : ℕ) : Type 0 where
   pub stands : Points w.block word (w.graph.root (seat + 1) index)
-  pub usable : IsUsable w.block word
+  pub usable : UsableIn c w word
 
 -- A word is that of a root which the command loads. Of a root that the command does not load nothing is known.
-abbrev pub HasRoot : World → ℕ → Command → ℕ → ℕ → Type 0
-HasRoot w seat command k word = k < length (roots_of command) → IsRootWord w seat (root_of command k) word
+abbrev pub HasRoot : Config → World → ℕ → Command → ℕ → ℕ → Type 0
+HasRoot c w seat command k word = k < length (roots_of command) → IsRootWord c w seat (root_of command k) word
 
 -- the call has begun and nothing is settled
 pub record IsBegun (made : ℕ) (command : Command) (fixed : Option Reply) (k : Command) : Type 0 where
@@ -64,86 +68,102 @@ pub record IsBegun (made : ℕ) (command : Command) (fixed : Option Reply) (k : 
   pub next : is_next made k ≡ true
 
 -- the object that a root of the mutator names
-pub record HasObject (w : World) (seat root object : ℕ) : Type 0 where
+pub record HasObject (c : Config) (w : World) (seat root object : ℕ) : Type 0 where
   pub name : Name
   pub refs : ℕ
   pub nums : ℕ
   pub root_is : w.graph.root (seat + 1) root ≡ Some name
-  pub target : Target w.block object refs nums name
+  pub target : TargetIn c w object refs nums name
 
 -- the first root of a command is loaded, and if the command works on an object, it is not null
-pub record HasFirst (w : World) (seat : ℕ) (k : Command) (first : ℕ) : Type 0 where
+pub record HasFirst (c : Config) (w : World) (seat : ℕ) (k : Command) (first : ℕ) : Type 0 where
   pub some : 0 < length (roots_of k)
-  pub first_is : HasRoot w seat k 0 first
+  pub first_is : HasRoot c w seat k 0 first
   pub not_null : is_on_object k ≡ true → first ≢ 0
 
 -- all roots are loaded
-pub record HasRoots (w : World) (seat : ℕ) (k : Command) (first second third : ℕ) : Type 0 where
-  pub first_is : HasFirst w seat k first
-  pub second_is : HasRoot w seat k 1 second
-  pub third_is : HasRoot w seat k 2 third
+pub record HasRoots (c : Config) (w : World) (seat : ℕ) (k : Command) (first second third : ℕ) : Type 0 where
+  pub first_is : HasFirst c w seat k first
+  pub second_is : HasRoot c w seat k 1 second
+  pub third_is : HasRoot c w seat k 2 third
 
 -- The command works on a reference field of an object, or on a number of it.
-pub record IsGet (w : World) (seat : ℕ) (command : Command) (object field dst : ℕ) : Type 0 where
+pub record IsGet (c : Config) (w : World) (seat : ℕ) (command : Command) (object field dst : ℕ) : Type 0 where
   pub src : ℕ
   pub is : command ≡ Get dst src field
   pub small : dst < 16
-  pub of : HasObject w seat src object
+  pub of : HasObject c w seat src object
   pub below : field < of.refs
 
-pub record IsSet (w : World) (seat : ℕ) (command : Command) (object field value : ℕ) : Type 0 where
+pub record IsSet (c : Config) (w : World) (seat : ℕ) (command : Command) (object field value : ℕ) : Type 0 where
   pub obj : ℕ
   pub val : ℕ
   pub is : command ≡ Set obj field val
-  pub of : HasObject w seat obj object
+  pub of : HasObject c w seat obj object
   pub below : field < of.refs
-  pub value_is : IsRootWord w seat val value
+  pub value_is : IsRootWord c w seat val value
 
-pub record IsCas (w : World) (seat : ℕ) (command : Command) (object field expect value : ℕ) : Type 0 where
+pub record IsCas (c : Config) (w : World) (seat : ℕ) (command : Command) (object field expect value : ℕ) : Type 0 where
   pub obj : ℕ
   pub expected : ℕ
   pub val : ℕ
   pub is : command ≡ Cas obj field expected val
-  pub of : HasObject w seat obj object
+  pub of : HasObject c w seat obj object
   pub below : field < of.refs
-  pub expect_is : IsRootWord w seat expected expect
-  pub value_is : IsRootWord w seat val value
+  pub expect_is : IsRootWord c w seat expected expect
+  pub value_is : IsRootWord c w seat val value
 
-pub record IsXchg (w : World) (seat : ℕ) (command : Command) (object field value dst : ℕ) : Type 0 where
+pub record IsXchg (c : Config) (w : World) (seat : ℕ) (command : Command) (object field value dst : ℕ) : Type 0 where
   pub obj : ℕ
   pub val : ℕ
   pub is : command ≡ Xchg dst obj field val
   pub small : dst < 16
-  pub of : HasObject w seat obj object
+  pub of : HasObject c w seat obj object
   pub below : field < of.refs
-  pub value_is : IsRootWord w seat val value
+  pub value_is : IsRootWord c w seat val value
 
-pub record IsRd (w : World) (seat : ℕ) (command : Command) (object refs index : ℕ) : Type 0 where
+pub record IsRd (c : Config) (w : World) (seat : ℕ) (command : Command) (object refs index : ℕ) : Type 0 where
   pub obj : ℕ
   pub is : command ≡ Rd obj index
-  pub of : HasObject w seat obj object
+  pub of : HasObject c w seat obj object
   pub refs_are : refs ≡ of.refs
   pub below : index < of.nums
 
-pub record IsWr (w : World) (seat : ℕ) (command : Command) (object refs index value : ℕ) : Type 0 where
+pub record IsWr (c : Config) (w : World) (seat : ℕ) (command : Command) (object refs index value : ℕ) : Type 0 where
   pub obj : ℕ
   pub is : command ≡ Wr obj index value
-  pub of : HasObject w seat obj object
+  pub of : HasObject c w seat obj object
   pub refs_are : refs ≡ of.refs
   pub below : index < of.nums
 
--- the reply shows the object that was found, which is in hand
+-- the reply shows the object that was found, of which a copy is in hand
 pub record IsFound (w : World) (fixed : Option Reply) (value dst : ℕ) : Type 0 where
   pub name : Name
   pub settled : fixed ≡ Some (reply.Ref name)
   pub is : name_at (w.block value) ≡ Some name
   pub small : dst < 16
 
+-- two words name the same: both are null, or what stands at them is of one name
+abbrev pub NameTheSame : Plot → ℕ → ℕ → Type 0
+NameTheSame block a b = ((a ≡ 0) × (b ≡ 0)) ⊎ ((name : Name) × (name_at (block a) ≡ Some name) × (name_at (block b) ≡ Some name))
+
+-- what was found in the field that a Cas is about to exchange is compared with what is to be there: it is settled that they differ, or
+-- they name the same and nothing is settled
+pub record IsComparing (c : Config) (w : World) (seat : ℕ) (k command : Command) (fixed : Option Reply) (object found expect value : ℕ) : Type 0 where
+  pub some : found ≢ 0
+  pub is_cas : IsCas c w seat command object (index_of k) expect value
+  pub settled : ((fixed ≡ Some reply.No) × (NameTheSame w.block found expect → ⊥)) ⊎ ((fixed ≡ None) × NameTheSame w.block found expect)
+
+-- what holds while a reference that was found in a field is resolved
+abbrev pub LoadedFacts : Config → World → ℕ → Command → Command → Option Reply → (found : ℕ) → Loaded → Type 0
+LoadedFacts c w seat k command fixed found ForRoot = IsFound w fixed found (dst_of k)
+LoadedFacts c w seat k command fixed found (ToCompare object expect value) = IsComparing c w seat k command fixed object found expect value
+
 -- the command makes one root another, or null
-pub record IsCopy (w : World) (seat : ℕ) (command : Command) (dst value : ℕ) : Type 0 where
+pub record IsCopy (c : Config) (w : World) (seat : ℕ) (command : Command) (dst value : ℕ) : Type 0 where
   pub src : ℕ
   pub is : command ≡ Copy dst src
-  pub value_is : IsRootWord w seat src value
+  pub value_is : IsRootWord c w seat src value
 
 pub record IsDrop (command : Command) (dst value : ℕ) : Type 0 where
   pub is : command ≡ Drop dst
@@ -202,19 +222,19 @@ IsAnswered w seat made k command fixed =
 
 -- What holds in each part of a call of this command, of which the mutator keeps k. `fixed` is the reply that the history has
 -- for the call, once it is settled.
-abbrev pub LoadFacts : World → ℕ → ℕ → Command → Command → Option Reply → LoadSpot → Type 0
-LoadFacts w seat made k command fixed load.First = IsBegun made command fixed k × (0 < length (roots_of k))
-LoadFacts w seat made k command fixed (load.Second first) = IsBegun made command fixed k × (1 < length (roots_of k)) × HasFirst w seat k first
-LoadFacts w seat made k command fixed (load.Third first second) = IsBegun made command fixed k × (2 < length (roots_of k)) × HasFirst w seat k first × HasRoot w seat k 1 second
-LoadFacts w seat made k command fixed (load.Shape object second third) = IsBegun made command fixed k × (is_on_object k ≡ true) × HasRoots w seat k object second third
+abbrev pub LoadFacts : Config → World → ℕ → ℕ → Command → Command → Option Reply → LoadSpot → Type 0
+LoadFacts c w seat made k command fixed load.First = IsBegun made command fixed k × (0 < length (roots_of k))
+LoadFacts c w seat made k command fixed (load.Second first) = IsBegun made command fixed k × (1 < length (roots_of k)) × HasFirst c w seat k first
+LoadFacts c w seat made k command fixed (load.Third first second) = IsBegun made command fixed k × (2 < length (roots_of k)) × HasFirst c w seat k first × HasRoot c w seat k 1 second
+LoadFacts c w seat made k command fixed (load.Shape object second third) = IsBegun made command fixed k × (is_on_object k ≡ true) × HasRoots c w seat k object second third
 
 abbrev pub FieldFacts : Config → World → ℕ → Command → Command → Option Reply → ℕ → FieldSpot → Type 0
-FieldFacts c w seat k command fixed object fields.Load = (fixed ≡ None) × IsGet w seat command object (index_of k) (dst_of k)
-FieldFacts c w seat k command fixed object (fields.LoadExpected expect value) = (fixed ≡ None) × IsCas w seat command object (index_of k) expect value
-FieldFacts c w seat k command fixed object (fields.LoadOld value) = (fixed ≡ None) × IsSet w seat command object (index_of k) value
-FieldFacts c w seat k command fixed object (fields.Store value) = (fixed ≡ None) × IsSet w seat command object (index_of k) value × IsCovered c w object (index_of k)
-FieldFacts c w seat k command fixed object (fields.Swap value) = (fixed ≡ None) × IsXchg w seat command object (index_of k) value (dst_of k)
-FieldFacts c w seat k command fixed object (fields.Exchange found expect value) = (fixed ≡ None) × IsCas w seat command object (index_of k) expect value × (found ≡ expect)
+FieldFacts c w seat k command fixed object fields.Load = (fixed ≡ None) × IsGet c w seat command object (index_of k) (dst_of k)
+FieldFacts c w seat k command fixed object (fields.LoadExpected expect value) = (fixed ≡ None) × IsCas c w seat command object (index_of k) expect value
+FieldFacts c w seat k command fixed object (fields.LoadOld value) = (fixed ≡ None) × IsSet c w seat command object (index_of k) value
+FieldFacts c w seat k command fixed object (fields.Store value) = (fixed ≡ None) × IsSet c w seat command object (index_of k) value × IsCovered c w object (index_of k)
+FieldFacts c w seat k command fixed object (fields.Swap value) = (fixed ≡ None) × IsXchg c w seat command object (index_of k) value (dst_of k)
+FieldFacts c w seat k command fixed object (fields.Exchange found expect value) = (fixed ≡ None) × IsCas c w seat command object (index_of k) expect value × NameTheSame w.block found expect
 
 -- what follows once an overwritten reference is recorded: a Set covers what its field had in the snapshot, and of an Xchg and a Cas the
 -- reply is settled
@@ -223,13 +243,13 @@ RecordFacts c w seat k command fixed address (overwrites.Set object value) = Fie
 RecordFacts c w seat k command fixed address overwrites.Xchg = IsFound w fixed address (dst_of k)
 RecordFacts c w seat k command fixed address overwrites.Cas = fixed ≡ Some reply.Yes
 
-abbrev pub NumberFacts : World → ℕ → Command → Command → Option Reply → ℕ → ℕ → NumberSpot → Type 0
-NumberFacts w seat k command fixed object refs numbers.Load = (fixed ≡ None) × IsRd w seat command object refs (index_of k)
-NumberFacts w seat k command fixed object refs numbers.Store = (fixed ≡ None) × IsWr w seat command object refs (index_of k) (number_of k)
+abbrev pub NumberFacts : Config → World → ℕ → Command → Command → Option Reply → ℕ → ℕ → NumberSpot → Type 0
+NumberFacts c w seat k command fixed object refs numbers.Load = (fixed ≡ None) × IsRd c w seat command object refs (index_of k)
+NumberFacts c w seat k command fixed object refs numbers.Store = (fixed ≡ None) × IsWr c w seat command object refs (index_of k) (number_of k)
 
-abbrev pub ShowFacts : World → Command → Option Reply → ℕ → ShowSpot → Type 0
-ShowFacts w k fixed value show.LoadName = IsFound w fixed value (dst_of k)
-ShowFacts w k fixed value (show.StoreRoot reply) = (fixed ≡ Some reply) × (dst_of k < 16)
+abbrev pub ShowFacts : Config → World → Command → Option Reply → ℕ → ShowSpot → Type 0
+ShowFacts c w k fixed value show.LoadName = IsFound w fixed value (dst_of k) × UsableIn c w value
+ShowFacts c w k fixed value (show.StoreRoot reply) = (fixed ≡ Some reply) × (dst_of k < 16) × UsableIn c w value
 
 abbrev pub MakeFacts : Config → World → ℕ → ℕ → Command → Command → Option Reply → MakeSpot → Type 0
 MakeFacts c w seat made k command fixed (make.Taking take) = IsMaking made command fixed (dst_of k) (refs_of k) (nums_of k) × TakeFacts c w seat (words_of k) take
@@ -259,13 +279,14 @@ SpotFacts c w seat made kept command fixed (Ended reply) = fixed ≡ None
 SpotFacts c w seat made kept command fixed (Entering at next) = EnterFacts w seat made kept.command command fixed next
 SpotFacts c w seat made kept command fixed LoadPhase = IsBegun made command fixed kept.command
 SpotFacts c w seat made kept command fixed LoadSet = IsBegun made command fixed kept.command
-SpotFacts c w seat made kept command fixed (Loading at) = LoadFacts w seat made kept.command command fixed at
+SpotFacts c w seat made kept command fixed (Loading at) = LoadFacts c w seat made kept.command command fixed at
 SpotFacts c w seat made kept command fixed (OnField object at) = FieldFacts c w seat kept.command command fixed object at
+SpotFacts c w seat made kept command fixed (Resolving address at next) = CanResolve c w seat address at × LoadedFacts c w seat kept.command command fixed address next
 SpotFacts c w seat made kept command fixed (Recording at address next) = CanRecord c w seat address at × RecordFacts c w seat kept.command command fixed address next
-SpotFacts c w seat made kept command fixed (OnNumber object refs at) = NumberFacts w seat kept.command command fixed object refs at
-SpotFacts c w seat made kept command fixed (Showing value at) = ShowFacts w kept.command fixed value at
+SpotFacts c w seat made kept command fixed (OnNumber object refs at) = NumberFacts c w seat kept.command command fixed object refs at
+SpotFacts c w seat made kept command fixed (Showing value at) = ShowFacts c w kept.command fixed value at
 SpotFacts c w seat made kept command fixed (StoreRoot value) =
-    (fixed ≡ None) × (dst_of kept.command < 16) × (IsCopy w seat command (dst_of kept.command) value ⊎ IsDrop command (dst_of kept.command) value)
+    (fixed ≡ None) × (dst_of kept.command < 16) × (IsCopy c w seat command (dst_of kept.command) value ⊎ IsDrop command (dst_of kept.command) value)
 SpotFacts c w seat made kept command fixed (Making at) = MakeFacts c w seat made kept.command command fixed at
 SpotFacts c w seat made kept command fixed AskCycle = (fixed ≡ None) × (command ≡ Gc)
 SpotFacts c w seat made kept command fixed (Waiting at) = WaitFacts w seat made kept.command command fixed at
@@ -275,16 +296,16 @@ SpotFacts c w seat made kept command fixed Gone = fixed ≡ None
 -- The facts of a seat that all places share, over the words and numbers that they read: it is a mutator's, it has made as many
 -- objects as the graph says, its root words may be used, and while it does not wait for an object it has asked for none, and
 -- none is promised to it.
-pub record IsSeated (mutators seat count made : ℕ) (waiting : Bool) (wait answer : ℕ) (root : ℕ → ℕ) (block : Plot) : Type 0 where
-  pub below : seat < mutators
+pub record IsSeated (c : Config) (seat count made : ℕ) (waiting : Bool) (wait answer cset evac : ℕ) (root : ℕ → ℕ) (block : Plot) : Type 0 where
+  pub below : seat < c.mutators
   pub counted : count ≡ made
-  pub usable : (i : ℕ) → i < 16 → IsUsable block (root i)
+  pub usable : (i : ℕ) → i < 16 → IsUsable c cset evac block (root i)
   pub unasked : waiting ≡ false → (wait ≡ 0) × (answer ≡ 0) × HasNoPromise block seat
 
 -- those of a seat in a world, by the objects that its mutator has made and whether it waits
 abbrev pub IsSeatedIn : Config → World → ℕ → ℕ → Bool → Type 0
 IsSeatedIn c w seat made waiting =
-    IsSeated c.mutators seat (w.graph.count (seat + 1)) made waiting (w.memory (Wait seat)) (w.memory (Answer seat)) (λ i. w.memory (Root seat i)) w.block
+    IsSeated c seat (w.graph.count (seat + 1)) made waiting (w.memory (Wait seat)) (w.memory (Answer seat)) (w.memory Cset) (w.memory Evac) (λ i. w.memory (Root seat i)) w.block
 
 -- and those of a mutator
 abbrev pub Seated : Config → World → Mutating → Type 0
@@ -300,6 +321,7 @@ abbrev pub has_phase : Spot → Bool
 has_phase LoadSet = true
 has_phase (Loading at) = true
 has_phase (OnField object at) = true
+has_phase (Resolving address at next) = true
 has_phase (Recording at address next) = true
 has_phase (OnNumber object refs at) = true
 has_phase (Showing value at) = true
@@ -322,11 +344,35 @@ HasMarkingBy w seat in_hand loaded knows = HasMarking (w.memory Phase) (w.ghost.
 abbrev pub HasMarkingIn : World → ℕ → Kept → Spot → Type 0
 HasMarkingIn w seat kept spot = HasMarkingBy w seat (recording_of spot) kept.phase (has_phase spot)
 
+-- whether the collection set that a call has loaded is the set: from there on until it waits or leaves
+abbrev pub has_set : Spot → Bool
+has_set LoadSet = false
+has_set spot = has_phase spot
+
+-- whether the counter counts a mutator: where it copies the object that it resolves
+abbrev pub copies_at : Spot → Bool
+copies_at (Resolving address at next) = is_copier at
+copies_at _ = false
+
+-- Of evacuation a mutator counts on this: it copies where its spot says so, it works on no unit, and where its call has loaded the
+-- collection set, that is the set.
+pub record HasCopying (cset : ℕ) (copying : Bool) (working : Option ℕ) (copies : Bool) (loaded : ℕ) (knows : Bool) : Type 0 where
+  pub copies_is : copying ≡ copies
+  pub works_none : working ≡ None
+  pub set_is : knows ≡ true → loaded ≡ cset
+
+abbrev pub HasCopyingBy : World → ℕ → Bool → ℕ → Bool → Type 0
+HasCopyingBy w seat copies loaded knows = HasCopying (w.memory Cset) (w.ghost.copying seat) (w.ghost.working seat) copies loaded knows
+
+abbrev pub HasCopyingIn : World → ℕ → Kept → Spot → Type 0
+HasCopyingIn w seat kept spot = HasCopyingBy w seat (copies_at spot) kept.cset (has_set spot)
+
 -- what a mutator counts on
 pub record Mine (c : Config) (w : World) (m : Mutating) (command : Command) (fixed : Option Reply) : Type 0 where
   pub seated : Seated c w m
   pub ready : IsReady c m
   pub marking : HasMarkingIn w m.seat m.kept m.spot
+  pub copying : HasCopyingIn w m.seat m.kept m.spot
   pub roots : (i : ℕ) → i < 16 → Points w.block (root_now w m.seat m.kept m.spot i) (w.graph.root (m.seat + 1) i)
   pub hands : (a words : ℕ) → w.block a ≡ Some (hand m.seat words) → IsInHand m.kept m.spot a words
   pub facts : SpotFacts c w m.seat m.made m.kept command fixed m.spot
