@@ -3,7 +3,7 @@ ghost use Rattle.image_graph.specs.State.{config_of};
 ghost use Rattle.control_steps.specs.Ready.{is_ready};
 ghost use Rattle.control.specs.Clear.{IsClear};
 
-use crate::pause::{clear, load, take_word};
+use crate::pause::{clear, load, take_found};
 use control_steps::{ControlSpot, LastPause};
 use heap_words::{Access, Config, Place, Took};
 use image_graph::Image;
@@ -103,11 +103,10 @@ impl Control {
         ensures says { result ≡ control_says (config_in self.old) (seen_control self.old) got }
         ensures again { (result ≡ Took.Again) ↔ WaitsAt (config_in self.old) (seen_control self.old) got }
     {
+        let before = self.spot;
         let last = self.last;
-        if let ControlSpot::LoadWord { index } = self.spot {
-            self.last = take_word(&mut self.image, index, last, got);
-        }
-        let (spot, said) = self.spot.after(self.image.config(), last, got);
+        self.last = take_found(&mut self.image, before, last, got);
+        let (spot, said) = before.after(self.image.config(), last, got);
         self.spot = spot;
         said
     }

@@ -1,10 +1,11 @@
 //! What a pause does with the image.
 
-ghost use Rattle.std.specs.Prelude.{◌≡◌, ◌+◌, ◌<◌, length, take, slice_set};
+ghost use Rattle.std.specs.Prelude.{◌≡◌, ◌+◌, ◌<◌, true, length, take, slice_set};
 ghost use Rattle.heap_words.specs.Words.{Phase, Cset, image_start, table_words};
 ghost use Rattle.heap_world.specs.Change.{image_view, image_words};
 ghost use Rattle.image_graph.specs.State.{config_of, memory_of};
 ghost use Rattle.control_steps.specs.declared.spot.ControlSpot.TheVariants.{LoadWord};
+ghost use Rattle.control_steps.specs.Ready.{is_ready};
 ghost use Rattle.control_steps.specs.Rows.{next_spot, next_image, seen_after, next_seen, next_phase, next_set};
 ghost use Rattle.mark_pauses.specs.Collect.{collect_image, CanPauseSome};
 ghost use Rattle.control.specs.Clear.{IsClear};
@@ -12,7 +13,7 @@ ghost use Rattle.control.specs.Fit.{fits_with};
 ghost use Rattle.control.specs.Image.{image_in, image_from, words_seen};
 
 use crate::collect::collect;
-use control_steps::{LastPause, image_words};
+use control_steps::{ControlSpot, LastPause, image_words};
 use image_graph::Image;
 
 // Makes the words before the image 0.
@@ -86,7 +87,7 @@ fn ended_with(image: &Image, before: LastPause) -> LastPause
 
 // Takes a word of the image that was loaded, and with the last one collects. What stood at the end of the last pause becomes
 // what stands in the new image then.
-pub(crate) fn take_word(image: &mut Image, index: usize, last: LastPause, word: u64) -> LastPause
+fn take_word(image: &mut Image, index: usize, last: LastPause, word: u64) -> LastPause
     requires index { index < image_words (config_of image.old) }
     requires clear { IsClear image.old }
     requires fit { fits_with (config_of image.old) (LoadWord index) (take index (image_in image.old)) word }
@@ -103,4 +104,28 @@ pub(crate) fn take_word(image: &mut Image, index: usize, last: LastPause, word: 
     }
     collect_image(image);
     ended_with(image, last)
+}
+
+// Takes the word that the step of a spot has found: where a word of the image is loaded it goes into the image, and anywhere else
+// the image stays.
+pub(crate) fn take_found(
+    image: &mut Image,
+    spot: ControlSpot,
+    last: LastPause,
+    got: u64,
+) -> LastPause
+    requires ready { is_ready (config_of image.old) spot ≡ true }
+    requires clear { IsClear image.old }
+    requires fit { fits_with (config_of image.old) spot (words_seen spot (image_in image.old)) got }
+    ensures config { config_of image.new ≡ config_of image.old }
+    ensures image { words_seen (next_spot (config_of image.old) last.phase last.cset last.seen spot got) (image_in image.new) ≡ next_image collect_image (config_of image.old) spot (words_seen spot (image_in image.old)) got }
+    ensures seen { result.seen ≡ next_seen collect_image (config_of image.old) spot (words_seen spot (image_in image.old)) last.seen got }
+    ensures phase { result.phase ≡ next_phase collect_image (config_of image.old) spot (words_seen spot (image_in image.old)) last.phase got }
+    ensures cset { result.cset ≡ next_set collect_image (config_of image.old) spot (words_seen spot (image_in image.old)) last.cset got }
+    ensures clear { IsClear image.new }
+{
+    match spot {
+        ControlSpot::LoadWord { index } => take_word(image, index, last, got),
+        _ => last,
+    }
 }

@@ -9,9 +9,9 @@ use Rattle.heap_world.specs.World.{hand, promised, Plot, Ghost, Points, AreUsabl
 use Rattle.heap_world.specs.Asking.{Asking, asks, IsAsked}
 use Rattle.heap_world.specs.Roots.{HasNoMore}
 
--- no mutator is about to record an address, and no machine scans an object
+-- no machine is about to record an address, or scans an object
 pub record NobodyMarks (c : Config) (ghost : Ghost) : Type 0 where
-  pub records_none : (t : ℕ) → t < c.mutators → ghost.recording t ≡ None
+  pub records_none : (seat : ℕ) → seat < seat_count c.mutators c.helpers → ghost.recording seat ≡ None
   pub scans_none : (seat : ℕ) → seat < seat_count c.mutators c.helpers → ghost.scanning seat ≡ None
 
 -- no machine copies an object, or works on a unit of evacuation
