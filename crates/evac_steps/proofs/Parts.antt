@@ -1,19 +1,16 @@
 -- Working on a unit of evacuation as a part: any machine that has a seat can have it inside. And what all units come to.
-use Rattle.std.proofs.Common.{◌≡◌, ◌≢◌, ℕ, ◌+◌, ◌*◌, ◌%◌, ◌<◌, ◌≤◌, nat_lt, nat_le, true, false, Option, Some, None, ⊎_elim, inl, inr, ◌⊎◌, refl, sym, ap, ◌∙◌, subst, arith}
-use Rattle.std.specs.Prelude.{◌==◌, ⊤}
+use Rattle.std.proofs.Common.{◌≡◌, ℕ, ◌+◌, ◌*◌, ◌%◌, ◌<◌, nat_lt, true, false, Some, None, ⊎_elim, inl, inr, ◌⊎◌, refl, sym, ap, ◌∙◌, subst, arith}
 use Rattle.std.proofs.lemmas.Bool.{cases_Bool, cond-true, cond-false, eq-eqb, and_from, false≢true, le-leb, lt-ltb, ltb-true}
 use Rattle.heap_words.specs.declared.config.Config.{Config}
 use Rattle.heap_words.specs.Encoding.{header_word, is_forwarded}
 use Rattle.heap_words.specs.Ranges.{seat_count}
-use Rattle.heap_words.specs.Words.{Word, Phase, Cset, Evac, Claim, Top, Black, Heap, IsWord, is_word}
+use Rattle.heap_words.specs.Words.{Evac, Top, Heap, IsWord, is_word}
 use Rattle.steps_base.specs.Touch.{loads}
 use Rattle.regions.specs.Place.{base_of, region_with}
 use Rattle.regions.specs.Sets.{IsIn}
-use Rattle.mark_bits.specs.Marks.{HasMark}
 use Rattle.mark_bits.proofs.Marking.{word_inside}
-use Rattle.evac_room.specs.Counter.{is_out_of_room}
 use Rattle.shen_graph.specs.declared.name.Name.{Name}
-use Rattle.heap_world.specs.World.{World, Block, thing, moved, spent, words_of, Body, body_at, body_words, HasCopy, IsCollected, IsCaredFor, Shared}
+use Rattle.heap_world.specs.World.{World, Block, thing, moved, Body, body_at, body_words, HasCopy, IsCaredFor, Shared}
 use Rattle.heap_world.specs.Rely.{Rely}
 use Rattle.heap_world.specs.Part.{Part}
 use Rattle.heap_world.proofs.Pointing.{piece_inside, copy_cases}
@@ -21,7 +18,7 @@ use Rattle.load_barrier.specs.declared.evac_spot.EvacSpot.{EvacSpot}
 use Rattle.load_barrier.specs.declared.evac_spot.EvacSpot.TheVariants.{LoadClaim, ClaimUnit, LoadTop, LoadShape, LoadMark, Resolving, Ended}
 use Rattle.load_barrier.specs.UnitRows.{touch_at, next_at, is_ended}
 use Rattle.load_barrier.specs.Fit as resolve
-use Rattle.load_barrier.specs.UnitFit.{has_shape, is_walkable, is_ready, PartFit, IsFit}
+use Rattle.load_barrier.specs.UnitFit.{has_shape, is_walkable, is_ready, PartFit}
 use Rattle.copy_steps.specs.Laws.{ResolvingSteps}
 use Rattle.copy_steps.proofs.Parts.{resolving_steps}
 use Rattle.evac_steps.specs.Evacuating.{IsSwept, IsMeasured, HasNothing, WorkFacts, CanEvacuate}
