@@ -10,8 +10,7 @@ use Rattle.shen_graph.specs.declared.name.Name.{Name}
 use Rattle.heap_world.specs.Rely.{Keeps, Rely}
 use Rattle.heap_world.specs.Part.{PartStep}
 use Rattle.heap_world.proofs.Keeping.{load_keeps, rely_same, keeps_of}
-use Rattle.step_core.proofs.Marking.{world_with, marks_in}
-use Rattle.step_core.proofs.Copying.{copies_in}
+use Rattle.step_core.proofs.Marking.{world_with, marks_in, copies_in}
 
 -- two memories are alike in the words that facts of all machines speak of
 pub record AreAlike (u w : Word → ℕ) : Type 0 where

@@ -25,8 +25,7 @@ use Rattle.heap_world.proofs.Keeping.{rely_same, keeps_of}
 use Rattle.heap_world.proofs.Marked.{same_marks}
 use Rattle.step_core.specs.Stepped.{Mine, Row}
 use Rattle.step_core.proofs.Spots.{mutator_at}
-use Rattle.step_core.proofs.Marking.{marks_in, marking_relied}
-use Rattle.step_core.proofs.Copying.{copies_in, copying_relied}
+use Rattle.step_core.proofs.Marking.{marks_in, marking_relied, copies_in, copying_relied}
 use Rattle.heap_world.proofs.Copies.{same_copies}
 use Rattle.step_core.proofs.Stable.{root_stays, enter_stays, seated_stays}
 use Rattle.step_core.proofs.Loading.{looks}

@@ -28,7 +28,6 @@ pub mod Images
 pub mod Alike
 pub mod Units
 pub mod Helpers
-pub mod Units
 pub mod Answers
 pub mod Quiet
 pub mod HelperSteps

@@ -15,8 +15,7 @@ use Rattle.mutator.specs.Told.{told_of}
 use Rattle.heap_world.specs.World.{World, Shared}
 use Rattle.step_core.specs.Stepped.{Mine, Stepped}
 use Rattle.heap_world.proofs.Keeping.{load_keeps, rely_same}
-use Rattle.step_core.proofs.Marking.{marks_in}
-use Rattle.step_core.proofs.Copying.{copies_in}
+use Rattle.step_core.proofs.Marking.{marks_in, copies_in}
 use Rattle.step_core.proofs.Settling.{legal_answer, graph_answer}
 
 -- a step that loads a word and settles nothing

@@ -1,12 +1,12 @@
 -- Which reply the history has for a call in progress, by where its mutator stands and by its answer in the table.
-use Rattle.std.proofs.Common.{◌≡◌, ◌≢◌, ℕ, ◌⊎◌, inl, inr, ⊎_elim, true, false, Option, Some, None, sym, ◌∙◌, arith}
+use Rattle.std.proofs.Common.{◌≡◌, ◌≢◌, ℕ, ◌+◌, ◌⊎◌, inl, inr, ⊎_elim, true, false, Option, Some, None, sym, ◌∙◌, arith}
 use Rattle.std.specs.Prelude.{◌==◌}
 use Rattle.std.proofs.lemmas.Bool.{eqb-true, eqb-false}
 use Rattle.heap_words.specs.declared.config.Config.{Config}
 use Rattle.heap_words.specs.Words.{Answer}
 use Rattle.shen_graph.specs.declared.command.Command.{Command}
 use Rattle.shen_graph.specs.declared.command.Reply.{Reply}
-use Rattle.shen_graph.specs.declared.command.Reply.TheVariants.{Full, No}
+use Rattle.shen_graph.specs.declared.command.Reply.TheVariants.{Full}
 use Rattle.mutator.specs.declared.spot.Kept.{Kept}
 use Rattle.mutator.specs.declared.spot.Spot.{Spot}
 use Rattle.mutator.specs.declared.spot.Spot.TheVariants.{Rest, Ended, Entering, LoadPhase, LoadSet, Loading, OnField, Resolving, Recording, OnNumber, Showing, StoreRoot, Making, AskCycle, Waiting, Leave, Gone}
@@ -20,9 +20,12 @@ use Rattle.mutator.specs.declared.numbers.NumberSpot.TheVariants as numbers
 use Rattle.mutator.specs.declared.shows.ShowSpot.TheVariants as show
 use Rattle.mutator.specs.declared.waits.WaitSpot.TheVariants as wait
 use Rattle.mutator.specs.Orders.{is_between_calls}
-use Rattle.heap_world.specs.World.{World}
-use Rattle.step_core.specs.Sound.{has_settled, is_comparing}
-use Rattle.step_core.specs.Stepped.{IsPolling, IsAnswered, SpotFacts}
+use Rattle.heap_world.specs.World.{World, Shared}
+use Rattle.mutator.specs.Commands.{index_of}
+use Rattle.mutator.specs.Told.{name_the_same}
+use Rattle.step_core.proofs.Naming.{names_agree, not_one, one_reference}
+use Rattle.step_core.specs.Sound.{has_settled}
+use Rattle.step_core.specs.Stepped.{IsCas, NameTheSame, NameOthers, IsPolling, IsAnswered, SpotFacts}
 use Rattle.step_core.proofs.Facts.{IsSeen}
 
 -- between two calls no reply is settled that is not given
@@ -60,58 +63,70 @@ module _ (w : World) (seat made : ℕ) (k command : Command) (fixed : Option Rep
       (λ (neither : (raw ≢ 1) × (fixed ≡ None)). neither.0 (eqb-true _ _ behind))
       (full_or_none polls)
 
-module _ (c : Config) (w : World) (seat made : ℕ) (kept : Kept) (command : Command) (fixed : Option Reply) (raw : ℕ) (seen : IsSeen raw (w.memory (Answer seat)) fixed) where
-  -- before the access that settles the reply there is none
-  pub unsettled_before : (spot : Spot) → is_comparing spot ≡ false → has_settled raw spot ≡ false → SpotFacts c w seat made kept command fixed spot → fixed ≡ None
-  unsettled_before Rest plain before facts = facts
-  unsettled_before (Ended reply) plain before facts = facts
-  unsettled_before Gone plain before facts = facts
-  unsettled_before (Entering at Call) plain before facts = facts.unsettled
-  unsettled_before (Entering at Waited) plain before facts = waits_unsettled w seat made kept.command command fixed raw seen before (answered_polls w seat made kept.command command fixed facts)
-  unsettled_before LoadPhase plain before facts = facts.unsettled
-  unsettled_before LoadSet plain before facts = facts.unsettled
-  unsettled_before (Loading load.First) plain before facts = facts.0.unsettled
-  unsettled_before (Loading (load.Second first)) plain before facts = facts.0.unsettled
-  unsettled_before (Loading (load.Third first second)) plain before facts = facts.0.unsettled
-  unsettled_before (Loading (load.Shape object second third)) plain before facts = facts.0.unsettled
-  unsettled_before (OnField object fields.Load) plain before facts = facts.0
-  unsettled_before (OnField object (fields.LoadExpected expect value)) plain before facts = facts.0
-  unsettled_before (OnField object (fields.LoadOld value)) plain before facts = facts.0
-  unsettled_before (OnField object (fields.Store value)) plain before facts = facts.0
-  unsettled_before (OnField object (fields.Swap value)) plain before facts = facts.0
-  unsettled_before (OnField object (fields.Exchange found expect value)) plain before facts = facts.0
-  unsettled_before (Resolving address at ForRoot) plain before facts = absurd (cc (before))
-  unsettled_before (Resolving address at (ToCompare object expect value)) plain before facts = absurd (cc (plain))
-  unsettled_before (Recording at address (overwrites.Set object value)) plain before facts = facts.1.0
-  unsettled_before (Recording at address overwrites.Xchg) plain before facts = absurd (cc (before))
-  unsettled_before (Recording at address overwrites.Cas) plain before facts = absurd (cc (before))
-  unsettled_before (OnNumber object refs numbers.Load) plain before facts = facts.0
-  unsettled_before (OnNumber object refs numbers.Store) plain before facts = facts.0
-  unsettled_before (StoreRoot value) plain before facts = facts.0
-  unsettled_before (Making (make.Taking take)) plain before facts = facts.0.unsettled
-  unsettled_before (Making (make.StoreWord address done)) plain before facts = facts.0.unsettled
-  unsettled_before (Making (make.StoreRoot address)) plain before facts = facts.0.unsettled
-  unsettled_before AskCycle plain before facts = facts.0
-  unsettled_before (Waiting wait.StoreRequest) plain before facts = facts.0.unsettled
-  unsettled_before (Waiting wait.AskRoom) plain before facts = facts.0.unsettled
-  unsettled_before (Waiting wait.StepOut) plain before facts = facts.0.0.unsettled
-  unsettled_before (Waiting wait.Poll) plain before facts = waits_unsettled w seat made kept.command command fixed raw seen before facts
-  unsettled_before (Waiting wait.LoadAnswer) plain before facts = waits_unsettled w seat made kept.command command fixed raw seen before (answered_polls w seat made kept.command command fixed facts)
-  unsettled_before (Waiting (wait.StoreRoot address)) plain before facts = facts.0.0.unsettled
-  unsettled_before (Waiting (wait.ClearAnswer reply)) plain before facts = absurd (cc (before))
-  unsettled_before (Showing value at) plain before facts = absurd (cc (before))
-  unsettled_before (Leave reply) plain before facts = absurd (cc (before))
+module _ (c : Config) (w : World) (seat made : ℕ) (kept : Kept) (command : Command) (fixed : Option Reply) (raw : ℕ) (seen : IsSeen raw (w.memory (Answer seat)) fixed) (shared : Shared c w) where
+  -- by their name words two words name the same, or do not
+  others_apart : (found object expect value : ℕ) → IsCas c w seat command object (index_of kept.command) expect value → NameOthers w.block found expect → name_the_same w.memory found expect ≡ false
+  others_apart found object expect value cas others =
+      names_agree c w shared found expect (Some others.name) (w.graph.root (seat + 1) cas.expected) others.is cas.expect_is.stands
+      ∙ not_one c w shared found expect (Some others.name) (w.graph.root (seat + 1) cas.expected) others.is cas.expect_is.stands others
 
-  -- who compares has No, or none
-  pub compared_settled : (spot : Spot) → is_comparing spot ≡ true → SpotFacts c w seat made kept command fixed spot → (fixed ≡ None) ⊎ (fixed ≡ Some No)
-  compared_settled (Resolving address at (ToCompare object expect value)) compares facts = ⊎_elim (λ no. inr no.0) (λ same. inl same.0) facts.1.settled
-  compared_settled (Resolving address at ForRoot) compares facts = absurd (cc (compares))
-  compared_settled _ compares facts = absurd (cc (compares))
+  same_name_words : (found object expect value : ℕ) → IsCas c w seat command object (index_of kept.command) expect value → found ≢ 0 → NameTheSame w.block found expect → name_the_same w.memory found expect ≡ true
+  same_name_words found object expect value cas some (inl null) = absurd (some null.0)
+  same_name_words found object expect value cas some (inr both) =
+      names_agree c w shared found expect (Some both.0) (w.graph.root (seat + 1) cas.expected) both.1 cas.expect_is.stands
+      ∙ one_reference c w shared found expect (Some both.0) (w.graph.root (seat + 1) cas.expected) both.1 cas.expect_is.stands (inr both)
+
+  -- before the access that settles the reply there is none
+  pub unsettled_before : (spot : Spot) → has_settled w.memory raw spot ≡ false → SpotFacts c w seat made kept command fixed spot → fixed ≡ None
+  unsettled_before Rest before facts = facts
+  unsettled_before (Ended reply) before facts = facts
+  unsettled_before Gone before facts = facts
+  unsettled_before (Entering at Call) before facts = facts.unsettled
+  unsettled_before (Entering at Waited) before facts = waits_unsettled w seat made kept.command command fixed raw seen before (answered_polls w seat made kept.command command fixed facts)
+  unsettled_before LoadPhase before facts = facts.unsettled
+  unsettled_before LoadSet before facts = facts.unsettled
+  unsettled_before (Loading load.First) before facts = facts.0.unsettled
+  unsettled_before (Loading (load.Second first)) before facts = facts.0.unsettled
+  unsettled_before (Loading (load.Third first second)) before facts = facts.0.unsettled
+  unsettled_before (Loading (load.Shape object second third)) before facts = facts.0.unsettled
+  unsettled_before (OnField object fields.Load) before facts = facts.0
+  unsettled_before (OnField object (fields.LoadExpected expect value)) before facts = facts.0
+  unsettled_before (OnField object (fields.LoadOld value)) before facts = facts.0
+  unsettled_before (OnField object (fields.Store value)) before facts = facts.0
+  unsettled_before (OnField object (fields.Swap value)) before facts = facts.0
+  unsettled_before (OnField object (fields.Exchange found expect value)) before facts = facts.0
+  unsettled_before (Resolving address at ForRoot) before facts = absurd (cc (before))
+  unsettled_before (Resolving address at (ToCompare object expect value)) before facts = ⊎_elim
+      (λ no. let apart = others_apart address object expect value facts.1.is_cas no.1 in absurd (cc (before, apart)))
+      (λ same. same.0)
+      facts.1.settled
+  unsettled_before (Recording at address (overwrites.Set object value)) before facts = facts.1.0
+  unsettled_before (Recording at address overwrites.Xchg) before facts = absurd (cc (before))
+  unsettled_before (Recording at address overwrites.Cas) before facts = absurd (cc (before))
+  unsettled_before (OnNumber object refs numbers.Load) before facts = facts.0
+  unsettled_before (OnNumber object refs numbers.Store) before facts = facts.0
+  unsettled_before (StoreRoot value) before facts = facts.0
+  unsettled_before (Making (make.Taking take)) before facts = facts.0.unsettled
+  unsettled_before (Making (make.StoreWord address done)) before facts = facts.0.unsettled
+  unsettled_before (Making (make.StoreRoot address)) before facts = facts.0.unsettled
+  unsettled_before AskCycle before facts = facts.0
+  unsettled_before (Waiting wait.StoreRequest) before facts = facts.0.unsettled
+  unsettled_before (Waiting wait.AskRoom) before facts = facts.0.unsettled
+  unsettled_before (Waiting wait.StepOut) before facts = facts.0.0.unsettled
+  unsettled_before (Waiting wait.Poll) before facts = waits_unsettled w seat made kept.command command fixed raw seen before facts
+  unsettled_before (Waiting wait.LoadAnswer) before facts = waits_unsettled w seat made kept.command command fixed raw seen before (answered_polls w seat made kept.command command fixed facts)
+  unsettled_before (Waiting (wait.StoreRoot address)) before facts = facts.0.0.unsettled
+  unsettled_before (Waiting (wait.ClearAnswer reply)) before facts = absurd (cc (before))
+  unsettled_before (Showing value at) before facts = absurd (cc (before))
+  unsettled_before (Leave reply) before facts = absurd (cc (before))
 
   -- and behind it there is one
-  pub settled_after : (spot : Spot) → has_settled raw spot ≡ true → SpotFacts c w seat made kept command fixed spot → fixed ≢ None
+  pub settled_after : (spot : Spot) → has_settled w.memory raw spot ≡ true → SpotFacts c w seat made kept command fixed spot → fixed ≢ None
   settled_after (Resolving address at ForRoot) behind facts = λ none. absurd (let it = facts.1.settled in cc)
-  settled_after (Resolving address at (ToCompare object expect value)) behind facts = absurd (cc (behind))
+  settled_after (Resolving address at (ToCompare object expect value)) behind facts = λ none. ⊎_elim
+      (λ no. absurd (let it = no.0 in cc (it, none)))
+      (λ same. let one = same_name_words address object expect value facts.1.is_cas facts.1.some same.1 in absurd (cc (behind, one)))
+      facts.1.settled
   settled_after (Showing value show.LoadName) behind facts = λ none. absurd (let it = facts.0.settled in cc)
   settled_after (Showing value (show.StoreRoot reply)) behind facts = λ none. absurd (let it = facts.0 in cc)
   settled_after (Recording at address (overwrites.Set object value)) behind facts = absurd (cc (behind))

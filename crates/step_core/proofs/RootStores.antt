@@ -21,8 +21,7 @@ use Rattle.mutator.specs.Rows.{Mutating, touch_of}
 use Rattle.heap_world.specs.World.{World, Points, IsUsable, UsableIn, Shared}
 use Rattle.step_core.specs.Stepped.{IsSeatedIn, Mine, Stepped, Row}
 use Rattle.step_core.proofs.Spots.{mutator_at, accessed}
-use Rattle.step_core.proofs.Marking.{marks_in}
-use Rattle.step_core.proofs.Copying.{copies_in}
+use Rattle.step_core.proofs.Marking.{marks_in, copies_in}
 use Rattle.step_core.proofs.Settling.{legal_answer, graph_answer}
 use Rattle.step_core.proofs.Ready.{leaving}
 use Rattle.heap_world.proofs.RootChanges.{root_written, roots_written, usable_written}

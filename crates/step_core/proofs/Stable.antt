@@ -44,8 +44,7 @@ use Rattle.alloc_buffers.proofs.TakeStays.{take_stays}
 use Rattle.satb_barrier.specs.declared.spot.RememberSpot.{RememberSpot}
 use Rattle.mark_steps.specs.Recording.{CanRecord}
 use Rattle.mark_steps.proofs.Parts.{recording_steps}
-use Rattle.step_core.proofs.Marking.{covered_stays, marking_relied}
-use Rattle.step_core.proofs.Copying.{copying_relied}
+use Rattle.step_core.proofs.Marking.{covered_stays, marking_relied, copying_relied}
 use Rattle.heap_world.proofs.Keeping.{points_stay, usable_stays, keeps_of}
 
 module _ (c : Config) (u w : World) (seat : ℕ) (keeps : Keeps c seat u w) where

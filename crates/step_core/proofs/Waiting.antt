@@ -24,8 +24,7 @@ use Rattle.heap_world.specs.Asking.{IsPromise}
 use Rattle.heap_world.specs.Rely.{Keeps, RelyCopies, RelyMarks}
 use Rattle.step_core.specs.Stepped.{IsAnswered, Mine, Row}
 use Rattle.step_core.proofs.Spots.{mutator_at, accessed}
-use Rattle.step_core.proofs.Marking.{marks_in, now_waits}
-use Rattle.step_core.proofs.Copying.{copies_in}
+use Rattle.step_core.proofs.Marking.{marks_in, now_waits, copies_in}
 use Rattle.step_core.proofs.Stable.{asking_stays, heard_stays}
 use Rattle.step_core.proofs.Loading.{looks}
 use Rattle.step_core.proofs.Entering.{state_keeps}
