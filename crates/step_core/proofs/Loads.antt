@@ -11,6 +11,7 @@ use Rattle.shen_graph.specs.declared.command.Command.{Command}
 use Rattle.shen_graph.specs.declared.command.Command.TheVariants.{New, Get, Set, Cas, Xchg, Rd, Wr, Copy, Drop, Same, Gc}
 use Rattle.shen_graph.specs.declared.command.Reply.{Reply}
 use Rattle.shen_graph.specs.declared.command.Reply.TheVariants as reply
+use Rattle.shen_graph.specs.Graph.{same_reference}
 use Rattle.shen_graph.specs.Step.{yes_or_no, answers, outcome}
 use Rattle.shen_graph.specs.History.{is_full}
 use Rattle.mutator.specs.declared.spot.Spot.{Spot}
@@ -271,10 +272,11 @@ module _ (c : Config) (u : World) (seat made : ℕ) (kept : Kept) (command : Com
       let got : ℕ = u.memory (Root seat b) in
       let is_first = has.first_is has.some in
       let is_second = root_has (Same a b) 1 mine more in
-      let agree : name_the_same u.memory first got ≡ (first == got) = names_agree c u shared first got _ _ is_first.stands is_second.stands in
+      let stand : name_the_same u.memory first got ≡ same_reference (u.graph.root (seat + 1) a) (u.graph.root (seat + 1) b) = names_agree c u shared first got _ _ is_first.stands is_second.stands in
+      let agree : name_the_same u.memory first got ≡ (first == got) = stand ∙ sym (same_words c u shared first got _ _ is_first.usable is_second.usable is_first.stands is_second.stands) in
       replies c u (at_call (Same a b) (Loading (load.Second first))) (Root seat b) command fixed (yes_or_no (name_the_same u.memory first got)) refl refl refl mine.facts.unsettled
       (full_no (name_the_same u.memory first got))
-      (ap (λ x. outcome u.graph (seat + 1) x) mine.facts.is ∙ ap (λ x. answers (yes_or_no x) u.graph) (sym (agree ∙ same_words c u shared first got _ _ is_first.stands is_second.stands)))
+      (ap (λ x. outcome u.graph (seat + 1) x) mine.facts.is ∙ ap (λ x. answers (yes_or_no x) u.graph) (sym stand))
       shared
       (subst (λ f. HasSpot (Same a b) kept.cset f (Leave (yes_or_no (first == got)))) (ap (λ x. Some (yes_or_no x)) (sym agree)) (leave_mine (Same a b) (yes_or_no (first == got)) mine))
   second_step _ first shared mine more has = absurd (omega arith)

@@ -1,4 +1,3 @@
-use Rattle.std.proofs.Common.{rules}
 use Rattle.mutator.proofs.Making.{can_make_more}
 use Rattle.mutator.proofs.thread.Mutator.make.Goals as goal
 
