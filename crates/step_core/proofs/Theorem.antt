@@ -1,11 +1,13 @@
 -- The theorem over every list of events.
-use Rattle.std.proofs.Common.{◌≡◌, ◌≢◌, ℕ, ◌+◌, ◌<◌, Bool, true, false, List, [], ◌++◌, Some, refl, sym, ap, ◌∙◌, subst, arith}
+use Rattle.std.proofs.Common.{◌≡◌, ◌≢◌, ℕ, ◌+◌, ◌<◌, Bool, true, false, List, [], ◌++◌, ⊎_elim, Some, refl, sym, ap, ◌∙◌, subst, arith}
 use Rattle.std.specs.Prelude.{◌&&◌, slice_get, slice_index}
 use Rattle.std.proofs.lemmas.Option.{same_Some}
+use Rattle.std.proofs.lemmas.Bool.{cases_Bool, false≢true}
 use Rattle.heap_words.specs.declared.config.Config.{Config}
+use Rattle.heap_words.specs.Ranges.{seat_count}
 use Rattle.heap_words.specs.Access.{table_index}
 use Rattle.heap_words.specs.Words.{Left, Answer, word_at, view, table_words}
-use Rattle.heap_words.proofs.Stores.{is_word_true}
+use Rattle.heap_words.proofs.Stores.{is_word_true, is_word_from}
 use Rattle.heap_words.proofs.Rows.{word_inside}
 use Rattle.steps_base.specs.Touch.{touch, subtracts, placed}
 use Rattle.steps_base.specs.Steps.{Stage, Event, act, go, HasReached, Finds}
@@ -28,7 +30,7 @@ use Rattle.mutator.specs.declared.spot.Spot.TheVariants.{Rest, Ended, Making}
 use Rattle.mutator.specs.declared.makes.MakeSpot.TheVariants.{Taking}
 use Rattle.mutator.specs.Orders.{takes_at}
 use Rattle.mutator.specs.Rows.{Mutating, touch_at, touch_of, next_of, words_of}
-use Rattle.mutator.specs.Fit.{IsReady, EndsFit, IsFit}
+use Rattle.mutator.specs.Fit.{IsReady, PartFit, EndsFit, IsFit}
 use Rattle.alloc_buffers.specs.declared.spot.TakeSpot.TheVariants.{LoadFree}
 use Rattle.alloc_buffers.specs.Facts.{HasLess}
 use Rattle.heap_world.specs.World.{World, hand}
