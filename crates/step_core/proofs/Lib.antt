@@ -21,6 +21,7 @@ pub mod Takes
 pub mod Fresh
 pub mod FreshRoot
 pub mod Places
+pub mod PartFits
 pub mod Facts
 pub mod Ordered
 pub mod Within

@@ -5,6 +5,7 @@ use Rattle.heap_words.specs.declared.config.Config.{Config}
 use Rattle.heap_words.specs.Words.{IsWord, is_word, is_image}
 use Rattle.heap_words.proofs.Stores.{is_word_true}
 use Rattle.std.proofs.lemmas.Bool.{and_parts}
+use Rattle.steps_base.specs.Fits.{touch_fits, form_fits}
 use Rattle.steps_base.specs.Touch.{placed}
 use Rattle.shen_graph.specs.declared.order.Order.{Order}
 use Rattle.shen_graph.specs.declared.order.Order.TheVariants.{Nothing, Begin, End}
@@ -41,7 +42,7 @@ use Rattle.mutator.specs.declared.makes.MakeSpot.TheVariants as make
 use Rattle.mutator.specs.declared.waits.WaitSpot.{WaitSpot}
 use Rattle.mutator.specs.declared.waits.WaitSpot.TheVariants as wait
 use Rattle.mutator.specs.Orders.{takes_at}
-use Rattle.mutator.specs.Fit.{is_outside, numbers_fit, IsReady, stores_fit}
+use Rattle.mutator.specs.Fit.{is_outside, numbers_fit, stores_fit, IsReady}
 use Rattle.step_core.specs.Standing.{wait_standing, standing_at}
 use Rattle.step_core.proofs.Within.{goes_on_in}
 use Rattle.mutator.specs.WaitRows.{after_enter}

@@ -223,7 +223,7 @@ module _ (c : Config) (u : World) (seat made : ℕ) (kept : Kept) (command : Com
 
   module _ (before : ResolveSpot) (address : ℕ) (next : Loaded) (mine : Mine c u (at_spot (Resolving address before next)) command fixed) where
     -- it has not ended
-    going_now : resolves.is_resolved before ≡ false
+    pub going_now : resolves.is_resolved before ≡ false
     going_now =
         still (resolves.is_resolved before)
         (and_parts (load.is_ready c seat address before) (load.is_busy (resolves.is_resolved before))
@@ -235,7 +235,7 @@ module _ (c : Config) (u : World) (seat made : ℕ) (kept : Kept) (command : Com
         still false busy = refl
 
     -- the phase that it keeps is that in which objects are copied
-    phase_kept : kept.phase ≡ copy_phase
+    pub phase_kept : kept.phase ≡ copy_phase
     phase_kept = mine.marking.phase_is refl ∙ mine.facts.0.phase
 
     module _ (w : World) (shared : Shared c w) (keeps : Keeps c seat u w) where

@@ -20,21 +20,21 @@ use Rattle.mutator.specs.declared.spot.Entered.{Entered}
 use Rattle.mutator.specs.declared.spot.Entered.TheVariants.{Call, Waited}
 use Rattle.mutator.specs.declared.loads.LoadSpot.TheVariants as load
 use Rattle.mutator.specs.declared.fields.FieldSpot.TheVariants as fields
-use Rattle.mutator.specs.declared.overwrites.Overwritten.{Overwritten}
-use Rattle.mutator.specs.declared.overwrites.Overwritten.TheVariants as overwrites
-use Rattle.mutator.specs.declared.resolves.Loaded.{Loaded}
-use Rattle.mutator.specs.declared.resolves.Loaded.TheVariants.{ForRoot, ToCompare}
+use Rattle.load_barrier.specs.Rows as resolves
+use Rattle.load_barrier.specs.UnitRows.{must_resolve}
 use Rattle.load_barrier.specs.declared.spot.ResolveSpot.{ResolveSpot}
 use Rattle.load_barrier.specs.declared.spot.ResolveSpot.TheVariants.{LoadHeader, Resolved}
-use Rattle.load_barrier.specs.UnitRows.{must_resolve}
-use Rattle.load_barrier.specs.Rows as resolves
+use Rattle.mutator.specs.declared.resolves.Loaded.{Loaded}
+use Rattle.mutator.specs.declared.resolves.Loaded.TheVariants.{ForRoot, ToCompare}
+use Rattle.mutator.specs.declared.overwrites.Overwritten.{Overwritten}
+use Rattle.mutator.specs.declared.overwrites.Overwritten.TheVariants as overwrites
 use Rattle.mutator.specs.declared.numbers.NumberSpot.TheVariants as numbers
 use Rattle.mutator.specs.declared.shows.ShowSpot.TheVariants as show
 use Rattle.mutator.specs.declared.makes.MakeSpot.TheVariants as make
 use Rattle.mutator.specs.declared.waits.WaitSpot.{WaitSpot}
 use Rattle.mutator.specs.declared.waits.WaitSpot.TheVariants as wait
 use Rattle.mutator.specs.Commands.{roots_of, lacks_object, has_part}
-use Rattle.mutator.specs.Rows.{Mutating, first_spot, after_roots, after_first, with_part, is_to_record, overwritten, after_recording, after_remember, after_expected, after_resolved, after_resolve, with_loaded, after_take, take_next, next_at}
+use Rattle.mutator.specs.Rows.{Mutating, first_spot, after_roots, after_first, with_part, is_to_record, overwritten, after_recording, after_remember, after_resolved, after_resolve, with_loaded, after_take, take_next, next_at}
 use Rattle.mutator.specs.WaitRows.{after_enter}
 use Rattle.step_core.specs.Standing.{standing_at, wait_standing}
 
@@ -81,24 +81,21 @@ recorded_in found overwrites.Cas = refl
 overwritten_in : (phase found : ℕ) (next : Overwritten) → IsIn (overwritten phase found next)
 overwritten_in phase found next = either_in (is_to_record phase found) (Recording LoadCount found next) (after_recording found next) refl (recorded_in found next)
 
--- also with a reference that it has found in a field, and resolves where that may have moved
-expected_in : (object expect value found answer : ℕ) → IsIn (after_expected object expect value found answer)
-expected_in object expect value found answer = either_in (answer == expect) (OnField object (fields.Exchange found expect value)) (Leave reply.No) refl refl
-
-answered_in : (found answer : ℕ) (next : Loaded) → IsIn (after_resolved found answer next)
-answered_in found answer ForRoot = refl
-answered_in found answer (ToCompare object expect value) = expected_in object expect value found answer
-
-loaded_in : (c : Config) (phase cset found : ℕ) (next : Loaded) → IsIn (with_loaded c phase cset found next)
-loaded_in c phase cset found next = either_in (must_resolve c phase cset found) (Resolving found LoadHeader next) (after_resolved found found next) refl (answered_in found found next)
-
-resolve_in : (address : ℕ) (next : Loaded) (at : ResolveSpot) → IsIn (after_resolve address next at)
-resolve_in address next (Resolved answer) = answered_in address answer next
-resolve_in address next _ = refl
-
 remember_in : (address : ℕ) (next : Overwritten) (at : RememberSpot) → IsIn (after_remember address next at)
 remember_in address next Recorded = recorded_in address next
 remember_in address next _ = refl
+
+-- where it goes on with a reference that is resolved, or resolves it
+resolved_in : (found answer : ℕ) (next : Loaded) → IsIn (after_resolved found answer next)
+resolved_in found answer ForRoot = refl
+resolved_in found answer (ToCompare object expect value) = either_in (answer == expect) (OnField object (fields.Exchange found expect value)) (Leave reply.No) refl refl
+
+loaded_in : (c : Config) (phase cset found : ℕ) (next : Loaded) → IsIn (with_loaded c phase cset found next)
+loaded_in c phase cset found next = either_in (must_resolve c phase cset found) (Resolving found LoadHeader next) (after_resolved found found next) refl (resolved_in found found next)
+
+resolve_in : (found : ℕ) (next : Loaded) (at : ResolveSpot) → IsIn (after_resolve found next at)
+resolve_in found next (Resolved answer) = resolved_in found answer next
+resolve_in found next _ = refl
 
 take_in : (at : TakeSpot) → IsIn (after_take at)
 take_in (take.Ended (At address)) = refl
