@@ -7,7 +7,7 @@ use Rattle.std.proofs.lemmas.Bool.{and_parts, ltb-true, ltb-false}
 use Rattle.heap_words.specs.declared.config.Config.{Config}
 use Rattle.heap_words.specs.Access.{table_index}
 use Rattle.heap_words.specs.Ranges.{seat_count}
-use Rattle.heap_words.specs.Words.{Phase, image_start, view}
+use Rattle.heap_words.specs.Words.{Phase, Cset, image_start, view}
 use Rattle.heap_words.proofs.Stores.{is_word_from}
 use Rattle.steps_base.specs.Steps.{Stage, accessed, moved}
 use Rattle.steps_base.proofs.Places.{slice_get-set_same}

@@ -63,12 +63,15 @@ pub record IsThread (c : Config) (words : List ℕ) (w : World) (entries : List 
   pub entries_are : entries ≡ a.calls ++ entries_of number a.command fixed
 
 -- the machine of a seat has no room in hand, and neither marks nor copies, nor does it work on a unit
-pub record IsResting (w : World) (seat : ℕ) : Type 0 where
-  pub records_none : w.ghost.recording seat ≡ None
-  pub scans_none : w.ghost.scanning seat ≡ None
-  pub copies_none : w.ghost.copying seat ≡ false
-  pub works_none : w.ghost.working seat ≡ None
-  pub hands : (a words : ℕ) → w.block a ≡ Some (hand seat words) → ⊥
+pub record Rests (ghost : Ghost) (block : Plot) (seat : ℕ) : Type 0 where
+  pub records_none : ghost.recording seat ≡ None
+  pub scans_none : ghost.scanning seat ≡ None
+  pub copies_none : ghost.copying seat ≡ false
+  pub works_none : ghost.working seat ≡ None
+  pub hands : (a words : ℕ) → block a ≡ Some (hand seat words) → ⊥
+
+abbrev pub IsResting : World → ℕ → Type 0
+IsResting w seat = Rests w.ghost w.block seat
 
 -- it scans a unit of marking, and neither copies nor works on a unit of evacuation
 abbrev pub Scans : Config → World → ℕ → ScanSpot → Type 0

@@ -8,6 +8,10 @@ use Rattle.handshake.specs.Standing.{is_within}
 use Rattle.helper.specs.declared.spot.HelpSpot.{HelpSpot}
 use Rattle.helper.specs.declared.spot.HelpSpot.TheVariants.{LoadEnd, Entering, LoadPhase, LoadSet, Scanning, Evacuating, Leave, Gone}
 use Rattle.helper.specs.Rows.{Helping, touch_at}
+use Rattle.helper.specs.Ready.{spot_fits, UnitGoesOn}
+use Rattle.scan_steps.specs.Rows as scans
+use Rattle.load_barrier.specs.UnitRows as evacs
+use Rattle.std.proofs.lemmas.Bool.{and_parts}
 use Rattle.control_steps.specs.declared.spot.ControlSpot.{ControlSpot}
 use Rattle.control_steps.specs.declared.spot.ControlSpot.TheVariants as control
 use Rattle.scan_steps.specs.declared.spot.ScanSpot.{ScanSpot}
@@ -97,3 +101,18 @@ spot_word c w seat Gone shared below facts = tt
 
 pub help_word : (c : Config) (w : World) (number : ℕ) (h : Helping) → Shared c w → IsHelper c w number h → IsWord c (touch_at c h.seat h.spot).word
 help_word c w number h shared is = spot_word c w h.seat h.spot shared (subst (λ j. j < c.mutators + c.helpers) (sym is.number_is) is.below) (subst (λ j. HelpFacts c w j h.spot) (sym is.number_is) is.facts)
+
+-- a word that it finds is fit
+spot_found : (c : Config) (w : World) (seat : ℕ) (spot : HelpSpot) → Shared c w → spot_fits c seat spot ≡ true → HelpFacts c w seat spot → UnitGoesOn c seat spot (w.memory (touch_at c seat spot).word)
+spot_found c w seat (Scanning at) shared fits facts = scanning_steps.fits c w seat at (is_off (scans.is_ended at) (and_parts _ _ fits).1) shared facts.0
+spot_found c w seat (Evacuating cset at) shared fits facts = evacuating_steps.fits c w seat cset at (is_off (evacs.is_ended at) (and_parts _ _ fits).1) shared facts
+spot_found c w seat _ shared fits facts = tt
+
+pub help_fits : (c : Config) (w : World) (number : ℕ) (h : Helping) → Shared c w → IsHelper c w number h → UnitGoesOn c h.seat h.spot (w.memory (touch_at c h.seat h.spot).word)
+help_fits c w number h shared is = spot_found c w h.seat h.spot shared (and_parts _ _ is.ready).1 (subst (λ j. HelpFacts c w j h.spot) (sym is.number_is) is.facts)
+
+-- and outside the heap each word is
+pub help_fits_outside : (c : Config) (seat : ℕ) (spot : HelpSpot) (got : ℕ) → is_within (help_standing spot) ≡ false → UnitGoesOn c seat spot got
+help_fits_outside c seat (Scanning at) got out = absurd (cc (out))
+help_fits_outside c seat (Evacuating cset at) got out = absurd (cc (out))
+help_fits_outside c seat _ got out = tt

@@ -21,6 +21,7 @@ pub mod Takes
 pub mod Fresh
 pub mod FreshRoot
 pub mod Places
+pub mod PartFits
 pub mod Facts
 pub mod Ordered
 pub mod Within
@@ -28,7 +29,6 @@ pub mod Images
 pub mod Alike
 pub mod Units
 pub mod Helpers
-pub mod Units
 pub mod Answers
 pub mod Quiet
 pub mod HelperSteps

@@ -1,6 +1,6 @@
 -- A mutator obeys the handshake, and counts itself off where it ends.
 use Rattle.std.proofs.Common.{◌≡◌, ℕ, Bool, true, false, refl, sym, ◌∙◌, arith, inl, inr}
-use Rattle.std.specs.Prelude.{nat_eq, if◌then◌else◌}
+use Rattle.std.specs.Prelude.{nat_eq, ◌&&◌, if◌then◌else◌}
 use Rattle.heap_words.specs.declared.config.Config.{Config}
 use Rattle.heap_words.specs.Words.{IsWord, is_word, is_image}
 use Rattle.heap_words.proofs.Stores.{is_word_true}
@@ -42,7 +42,7 @@ use Rattle.mutator.specs.declared.makes.MakeSpot.TheVariants as make
 use Rattle.mutator.specs.declared.waits.WaitSpot.{WaitSpot}
 use Rattle.mutator.specs.declared.waits.WaitSpot.TheVariants as wait
 use Rattle.mutator.specs.Orders.{takes_at}
-use Rattle.mutator.specs.Fit.{is_outside, numbers_fit, IsReady}
+use Rattle.mutator.specs.Fit.{is_outside, numbers_fit, stores_fit, IsReady}
 use Rattle.step_core.specs.Standing.{wait_standing, standing_at}
 use Rattle.step_core.proofs.Within.{goes_on_in}
 use Rattle.mutator.specs.WaitRows.{after_enter}
@@ -278,13 +278,13 @@ module _ (c : Config) (m : Mutating) (order : Order) where
 
 -- a mutator that is ready has its numbers in range, and makes an access of a word of the table
 pub ready_fits : (c : Config) (m : Mutating) → IsReady c m → numbers_fit c m.seat m.made m.kept m.spot ≡ true
-ready_fits c m ready = (and_parts (touch_fits c (touch_of c m Nothing)) (numbers_fit c m.seat m.made m.kept m.spot) ready).1
+ready_fits c m ready = (and_parts (is_word c (touch_of c m Nothing).word && stores_fit c m.seat m.made m.kept m.spot) (numbers_fit c m.seat m.made m.kept m.spot) ready).1
 
 pub ready_word : (c : Config) (m : Mutating) → IsReady c m → IsWord c (touch_of c m Nothing).word
 ready_word c m ready =
     is_word_true c (touch_of c m Nothing).word
-    (and_parts (is_word c (touch_of c m Nothing).word) (form_fits (touch_of c m Nothing).form)
-    (and_parts (touch_fits c (touch_of c m Nothing)) (numbers_fit c m.seat m.made m.kept m.spot) ready).0).0
+    (and_parts (is_word c (touch_of c m Nothing).word) (stores_fit c m.seat m.made m.kept m.spot)
+    (and_parts (is_word c (touch_of c m Nothing).word && stores_fit c m.seat m.made m.kept m.spot) (numbers_fit c m.seat m.made m.kept m.spot) ready).0).0
 
 -- the step of a mutator obeys the handshake
 pub mutator_obeys : (c : Config) (m : Mutating) (order : Order) → takes_at m.spot m.made order ≡ true → IsReady c m

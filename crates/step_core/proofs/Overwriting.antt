@@ -103,7 +103,7 @@ stepped_in_hand c u m got command fixed held step = record {
   settles = step.settles;
   shared = step.shared;
   mine = step.mine;
-  others = λ j d. rely_twice c j u (with_in_hand u m.seat got) step.world (held.others j d) (step.others j d);
+  others = λ j d. rely_twice c j u (with_in_hand u m.seat got) step.world held.own.phase (held.others j d) (step.others j d);
 }
 
 -- a mutator that can record an address still can after a store into an object

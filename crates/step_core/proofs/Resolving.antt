@@ -1,6 +1,6 @@
 -- A reference that a mutator has found in a field: it is resolved where it lies in the collection set, and then it is the current copy of
 -- its object, or can be used as it is.
-use Rattle.std.proofs.Common.{◌≡◌, ◌≢◌, ℕ, ◌+◌, ◌<◌, ◌⊎◌, inl, inr, ⊎_elim, Bool, true, false, Option, Some, None, refl, sym, ap, ◌∙◌, subst, arith}
+use Rattle.std.proofs.Common.{◌≡◌, ◌≢◌, ℕ, ◌+◌, ◌<◌, ◌≤◌, ◌⊎◌, inl, inr, ⊎_elim, Bool, true, false, Option, Some, None, refl, sym, ap, ◌∙◌, subst, arith}
 use Rattle.std.specs.Prelude.{◌==◌, ◌&&◌, nat_lt, if◌then◌else◌}
 use Rattle.std.proofs.lemmas.Bool.{and_from, and_parts, cases_Bool, cond-true, cond-false, eqb-true, eqb-false, eq-eqb, ne_eqb, ltb-false, ltb-true, lt-ltb, false≢true}
 use Rattle.std.proofs.lemmas.Bool.Decides.{nat_tests}
@@ -136,9 +136,9 @@ module _ (c : Config) (w : World) (seat made : ℕ) (kept : Kept) (command : Com
             hands = none;
             facts = (same.0, cas, same.1);
           })
-      by_comparison (inl no) =
-          let differs : same_reference v (w.graph.root (seat + 1) cas.expected) ≡ false = not_one c w shared found expect v _ stands cas.expect_is.stands no.1 in
-          rw (words ∙ differs) (subst (λ f. Mine c w (mutator_at seat made kept (Leave reply.No)) command f) (sym no.0)
+      by_comparison (inl other) =
+          let differs : same_reference v (w.graph.root (seat + 1) cas.expected) ≡ false = not_one c w shared found expect v _ stands cas.expect_is.stands other.1 in
+          rw (words ∙ differs) (subst (λ f. Mine c w (mutator_at seat made kept (Leave reply.No)) command f) (sym other.0)
           (leaving c w seat made kept command reply.No seated (marking.records, marking.scans, copying.copies_is, copying.works_none) roots none))
 
   -- the reference lies in the set: the mutator resolves it
@@ -214,7 +214,7 @@ module _ (c : Config) (w : World) (seat made : ℕ) (kept : Kept) (command : Com
       expected_mine fixed object expect value address answer (Some name.0) facts.is_cas facts.settled name.1 (ap name_at target.piece) (inr (name.0, body.0, body.1, target)) roots
     where
       compared_name : IsCompared w.block fixed address expect → (n : Name) × (name_at (w.block address) ≡ Some n)
-      compared_name (inl no) = (no.1.name, no.1.is)
+      compared_name (inl other) = (other.1.name, other.1.is)
       compared_name (inr same) = ⊎_elim (λ null. absurd (facts.some null.0)) (λ both. (both.0, both.1)) same.1
 
 module _ (c : Config) (u : World) (seat made : ℕ) (kept : Kept) (command : Command) (fixed : Option Reply) where
@@ -223,7 +223,7 @@ module _ (c : Config) (u : World) (seat made : ℕ) (kept : Kept) (command : Com
 
   module _ (before : ResolveSpot) (address : ℕ) (next : Loaded) (mine : Mine c u (at_spot (Resolving address before next)) command fixed) where
     -- it has not ended
-    going_now : resolves.is_resolved before ≡ false
+    pub going_now : resolves.is_resolved before ≡ false
     going_now =
         still (resolves.is_resolved before)
         (and_parts (load.is_ready c seat address before) (load.is_busy (resolves.is_resolved before))
@@ -235,7 +235,7 @@ module _ (c : Config) (u : World) (seat made : ℕ) (kept : Kept) (command : Com
         still false busy = refl
 
     -- the phase that it keeps is that in which objects are copied
-    phase_kept : kept.phase ≡ copy_phase
+    pub phase_kept : kept.phase ≡ copy_phase
     phase_kept = mine.marking.phase_is refl ∙ mine.facts.0.phase
 
     module _ (w : World) (shared : Shared c w) (keeps : Keeps c seat u w) where

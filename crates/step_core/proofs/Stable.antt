@@ -139,7 +139,7 @@ module _ (c : Config) (u w : World) (seat : ℕ) (keeps : Keeps c seat u w) wher
   }
 
   pub compared_stays : (fixed : Option Reply) (found expect : ℕ) → IsCompared u.block fixed found expect → IsCompared w.block fixed found expect
-  compared_stays fixed found expect (inl no) = inl (no.0, others_stay found expect no.1)
+  compared_stays fixed found expect (inl settled) = inl (settled.0, others_stay found expect settled.1)
   compared_stays fixed found expect (inr same) = inr (same.0, same_stays found expect same.1)
 
   -- what holds while a reference is resolved stays
@@ -293,7 +293,7 @@ module _ (c : Config) (u w : World) (seat : ℕ) (keeps : Keeps c seat u w) wher
   seated_stays made waiting seated = record {
     below = seated.below;
     counted = keeps.count ∙ seated.counted;
-    usable = λ i below. subst (λ word. IsUsable c (w.memory Cset) (w.memory Evac) w.block word) (sym (keeps.root_words i)) (usable_stays c u w keeps.targets _ (seated.usable i below));
+    usable = λ i below. subst (λ word. UsableIn c w word) (sym (keeps.root_words i)) (usable_stays c u w keeps.targets _ (seated.usable i below));
     unasked = λ calm. let was = seated.unasked calm in (keeps.wait ∙ was.0, keeps.answer ∙ was.1, unpromised_stays was.2);
   }
 

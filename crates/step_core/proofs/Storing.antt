@@ -153,9 +153,9 @@ module _ (change : Change) (c : Config) (words : List ℕ) (block : Plot) (ghost
     own_then : IsControl c words_then u (control_number c) control_then
     own_then = record {
       number_is = refl;
-      hands = stands.hands;
-      ready = stays_ready c phase seen (StoreWord index) raw ready tt;
+      ready = stays_ready c phase cset seen (StoreWord index) raw ready tt;
       phase_is = stands.phase_is;
+      set_is = stands.set_is;
       facts = facts_then (nat_lt (index + 1) (image_words c));
       aims = aims_then (nat_lt (index + 1) (image_words c));
     }
