@@ -11,12 +11,13 @@ use Rattle.heap_words.specs.Encoding.{is_forwarded, forwardee_in, refs_in}
 use Rattle.shen_graph.specs.declared.name.Name.{Name}
 use Rattle.shen_graph.specs.Graph.{Graph, Reference}
 use Rattle.heap_world.specs.World.{Plot, thing, name_at}
-use Rattle.heap_world.proofs.Pointing.{piece_inside, named_thing, named_if_not_0}
+use Rattle.heap_world.proofs.Pointing.{piece_inside, named_if_not_0}
 use Rattle.image_laws.specs.Held.{IsHeld, from_root, from_field, IsAmong, AreKept}
 use Rattle.image_laws.specs.Pack.{CanPack}
 use Rattle.image_laws.specs.Plot.{heap_end}
 use Rattle.image_laws.specs.Full.{now_in, root_words, copies_of, field_words, kept_in}
 use Rattle.image_laws.specs.Promised.{Promises, with_promised}
+use Rattle.image_laws.proofs.Named.{thing_at}
 use Rattle.image_laws.proofs.Reached.{held_is_reached, can_pack, refs_read}
 use Rattle.image_laws.proofs.Origin.{kept_inside, lie_apart}
 use Rattle.image_laws.proofs.Found.{has_at, found_held}
@@ -68,7 +69,7 @@ module _ (c : Config) (memory : Word → ℕ) (block : Plot) (owner : ℕ → Op
   -- a word that stands for a name is an address of the heap
   named_inside : (word : ℕ) (name : Name) → name_at (block word) ≡ Some name → (c.region_words ≤ word) × (word < heap_end c)
   named_inside word name is =
-      let piece = named_thing (block word) name is in
+      let piece = thing_at block holds.things word name is in
       let inside = piece_inside c top block holds.objects.plotted word (thing name piece.0 piece.1) piece.2 in
       (inside.0, omega (arith, inside.1))
 

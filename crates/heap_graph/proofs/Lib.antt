@@ -1,4 +1,5 @@
 pub mod Marks
+pub mod Copies
 pub mod Walks
 pub mod Objects
 pub mod Texts

@@ -15,8 +15,8 @@ use Rattle.shen_graph.specs.declared.name.Name.{Name}
 use Rattle.shen_graph.specs.Graph.{Graph, Reference, same_name}
 use Rattle.shen_graph.specs.GraphText.{Text, Row, row_in, names_of}
 use Rattle.shen_graph.specs.Reach.{IsReachable, InOrder}
-use Rattle.heap_graph.specs.Walk.{has, refs_at, words_at, Leads, from_root, from_field, IsWalkable, IsWalk}
-use Rattle.heap_graph.specs.Rows.{IsNamed, name_at, reference_in, row_at, root_word, root_rows}
+use Rattle.heap_graph.specs.Walk.{has, refs_at, words_at, IsNamed, IsWalkable, IsWalk}
+use Rattle.heap_graph.specs.Rows.{name_at, reference_in, row_at, root_word, root_rows}
 use Rattle.heap_graph.specs.Shows.{ShowsGraph, WordsStand}
 use Rattle.heap_graph.proofs.Sizes.{sizes_fit, same_functions}
 use Rattle.heap_graph.proofs.Standing.{facts, led_name, name_led, reference_same, row_same}
@@ -30,11 +30,8 @@ has-element : (xs : List ℕ) (i : ℕ) → i < length xs → has xs (get_or xs 
 has-element xs i h = list_any_at (nat_eq (get_or xs i 0)) xs i 0 h (eq-eqb (get_or xs i 0) (get_or xs i 0) refl)
 
 module _ (first : ℕ) (heap roots : List ℕ) (sound : IsWalkable first heap roots) where
-  named_from_led : (a : ℕ) → Leads first heap roots a → (first ≤ a) × (a + 3 ≤ first + length heap)
-  named_from_led a led = (sound.above a led, omega (arith, sound.below a led))
-
-  pub roots_named : All (IsNamed first (length heap)) roots
-  roots_named = all_from-has (IsNamed first (length heap)) roots (λ a h ne. named_from_led a (from_root a ne h))
+  pub roots_named : All (IsNamed first heap) roots
+  roots_named = all_from-has (IsNamed first heap) roots sound.roots_named
 
   module _ (order : List ℕ) (walk : IsWalk first heap roots order) where
     pub all_above : All (λ a. first ≤ a) order
@@ -44,11 +41,11 @@ module _ (first : ℕ) (heap roots : List ℕ) (sound : IsWalkable first heap ro
     all_below =
         all_from-has (λ a. a + words_at heap (a - first) ≤ first + length heap) order (λ a h. sound.below a (walk.led a h))
 
-    pub all_named : All (λ a. All (IsNamed first (length heap)) (refs_at heap (a - first))) order
+    pub all_named : All (λ a. All (IsNamed first heap) (refs_at heap (a - first))) order
     all_named =
-        all_from-has (λ a. All (IsNamed first (length heap)) (refs_at heap (a - first))) order
-        (λ m h. all_from-has (IsNamed first (length heap)) (refs_at heap (m - first))
-        (λ a field ne. named_from_led a (from_field m a (walk.led m h) ne field)))
+        all_from-has (λ a. All (IsNamed first heap) (refs_at heap (a - first))) order
+        (λ m h. all_from-has (IsNamed first heap) (refs_at heap (m - first))
+        (λ a field. sound.fields_named m a (walk.led m h) field))
 
     -- the objects take at most all words
     pub all_fit : sum_by (λ a. words_at heap (a - first)) order ≤ length heap
@@ -92,7 +89,7 @@ module _ (first : ℕ) (heap roots order : List ℕ) (at : ℕ → Option Name) 
           let e : u.0 ≡ v.0 =
           sym (facts first heap roots at g one s a u.0 u.1).name ∙ sym (read i d earlier)
           ∙ same_name-true _ _ is ∙ read j d low ∙ (facts first heap roots at g one s b v.0 v.1).name in
-          let same : a ≡ b = s.once a b v.0 (u.1 ∙ ap (λ n. Some n) e) v.1 in
+          let same : a ≡ b = sym u.1.1 ∙ s.once a b v.0 (u.1.0 ∙ ap (λ n. Some n) e) v.1.0 ∙ v.1.1 in
           eqb-false a b (apart_from_distinct nat_eq order i j 0 walk.once before low) same)
 
   -- a row is that of an object of the walk
@@ -104,7 +101,7 @@ module _ (first : ℕ) (heap roots order : List ℕ) (at : ℕ → Option Name) 
       All-map IsFound (row_at first heap) order
       (All-from_any nat_eq_equiv (λ a. IsFound (row_at first heap a)) order
       (λ a h. let u = led_name first heap roots at g one s a (walk.led a h) in
-      (a, u.0, h, u.1, u.2, row_same first heap roots at g one s a u.0 u.1)))
+      (a, u.0, h, u.1.0, u.2, row_same first heap roots at g one s a u.0 u.1)))
 
   module _ (text : Text) (moved : IsPermutation (map (row_at first heap) order) text.rows) where
     found_rows : All IsFound text.rows

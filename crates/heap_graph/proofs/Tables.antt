@@ -1,6 +1,6 @@
 -- The words of heap and roots in a table stand for the graph that the table stands for.
 use Rattle.std.proofs.Common.{ℕ, ◌≡◌, ◌+◌, ◌-◌, ◌*◌, ◌<◌, ◌≤◌, ◌^◌, ⊎_elim, true, false, Option, Some, List, length, get_or, drop, refl, sym, ap, ◌∙◌, subst, arith}
-use Rattle.std.specs.Prelude.{slice_index, slice_range, nat_le, nat_lt, ◌&&◌}
+use Rattle.std.specs.Prelude.{if◌then◌else◌, slice_index, slice_range, nat_le, nat_lt, ◌&&◌}
 use Rattle.std.proofs.lemmas.List.{get_or-take, get_or-drop, get_or_past, length-take-le, length-drop}
 use Rattle.std.proofs.lemmas.Option.{same_Some, slice_get_within}
 use Rattle.std.proofs.lemmas.Bool.{cases_Bool, cond-true, cond-false, and_parts, and_from, leb-true, ltb-true}
@@ -11,11 +11,13 @@ use Rattle.heap_words.proofs.Stores.{view_word}
 use Rattle.shen_graph.specs.declared.name.Name.{Name}
 use Rattle.shen_graph.specs.Graph.{Graph, Object}
 use Rattle.shen_graph.specs.Reach.{size}
-use Rattle.heap_world.specs.Objects.{Refers}
-use Rattle.heap_world.specs.World.{Ghost, Plot, Block, thing, words_of, name_at, Points, IsPlotted, IsThing, AreObjects, Shared}
+use Rattle.heap_world.specs.Objects.{Refers, IsObject}
+use Rattle.heap_world.specs.World.{Ghost, Plot, Block, thing, moved, words_of, name_at, body_of, Points, IsPlotted, Shared}
 use Rattle.heap_world.specs.Roots.{is_root_of, HasNoMore}
-use Rattle.heap_world.proofs.Pointing.{named_thing, piece_inside as words_inside}
-use Rattle.heap_graph.specs.Stands.{IsAt}
+use Rattle.heap_world.proofs.Pointing.{named_body, copy_cases, piece_inside as words_inside}
+use Rattle.heap_words.specs.Encoding.{is_forwarded, forwardee_in}
+use Rattle.heap_graph.specs.Stands.{current_of, IsCopyAt, IsAt}
+use Rattle.heap_graph.proofs.Copies.{plain_current, moved_current}
 use Rattle.heap_graph.specs.Rows.{root_word}
 use Rattle.heap_graph.specs.Shows.{WordsStand}
 
@@ -27,13 +29,19 @@ get_or-part xs a b i within = get_or-take (b - a) (drop a xs) i 0 within ∙ get
 length-part : (xs : List ℕ) (a b : ℕ) → b ≤ length xs → length (slice_range xs a b) ≡ b - a
 length-part xs a b within = length-take-le (b - a) (drop a xs) (omega (arith, length-drop a xs))
 
--- Pieces lie where they should and are objects of the graph, whose names are short. Other objects need no piece.
-pub record ArePieces (c : Config) (words : List ℕ) (block : Plot) (g : Graph) : Type 0 where
+-- Pieces lie where they should. Where a copy of an object stands for its name there is a piece, and the current copy, by the header
+-- there, stands for the name too and is the object as the graph has it; it is the only one. Names are short. Other objects need no piece.
+pub record AreCopies (c : Config) (words : List ℕ) (block : Plot) (at : ℕ → Option Name) (g : Graph) : Type 0 where
   pub plotted : IsPlotted c (λ r. view c words (Top r)) block
-  pub objects : AreObjects (λ a. view c words (Heap a)) block g.object
+  pub piece : (a : ℕ) (n : Name) → at a ≡ Some n → (x : Block) × (block a ≡ Some x) × (1 ≤ words_of x)
+  pub current : (a : ℕ) (n : Name) → at a ≡ Some n → at (current_of (λ x. view c words (Heap x)) a) ≡ Some n
+  pub object : (a : ℕ) (n : Name) → at a ≡ Some n
+      → (refs : ℕ) × (nums : ℕ) × (o : Object) × (block (current_of (λ x. view c words (Heap x)) a) ≡ Some (thing n refs nums)) × (g.object n ≡ Some o)
+      × IsObject (λ x. view c words (Heap x)) at (current_of (λ x. view c words (Heap x)) a) refs nums n o
+  pub once : (a b : ℕ) (n : Name) → at a ≡ Some n → at b ≡ Some n → current_of (λ x. view c words (Heap x)) a ≡ current_of (λ x. view c words (Heap x)) b
   pub small : (n : Name) (o : Object) → g.object n ≡ Some o → n.count < 2 ^ 32
 
-module _ (c : Config) (words : List ℕ) (block : Plot) (g : Graph) (long : length words ≡ table_words c) (pieces : ArePieces c words block g) where
+module _ (c : Config) (words : List ℕ) (block : Plot) (at : ℕ → Option Name) (g : Graph) (long : length words ≡ table_words c) (pieces : AreCopies c words block at g) where
   abbrev heap : List ℕ
   heap = heap_in c words
 
@@ -43,8 +51,8 @@ module _ (c : Config) (words : List ℕ) (block : Plot) (g : Graph) (long : leng
   abbrev first : ℕ
   first = c.region_words
 
-  abbrev at : ℕ → Option Name
-  at a = name_at (block a)
+  abbrev mem : ℕ → ℕ
+  mem a = view c words (Heap a)
 
   -- the length of the heap
   length-heap : length heap ≡ c.regions * c.region_words
@@ -66,7 +74,7 @@ module _ (c : Config) (words : List ℕ) (block : Plot) (g : Graph) (long : leng
 
   -- an object has the words that its piece has
   object_stands : (a refs nums : ℕ) (n : Name) (o : Object) → block a ≡ Some (thing n refs nums) → g.object n ≡ Some o
-      → IsThing (λ k. view c words (Heap k)) block a refs nums n o → n.count < 2 ^ 32
+      → IsObject mem at a refs nums n o → n.count < 2 ^ 32
       → IsAt first (first + length heap) (λ k. slice_index heap (k - first)) at g a n o
   object_stands a refs nums n o is object facts small =
       let inside : (first ≤ a) × (a + (3 + refs + nums) ≤ first + length heap) = piece_inside a (thing n refs nums) is in
@@ -94,37 +102,51 @@ module _ (c : Config) (words : List ℕ) (block : Plot) (g : Graph) (long : leng
         below = omega (arith, inside.1, facts.refs_are, facts.nums_are);
       }
 
-  -- so has each name that stands somewhere
-  each : (a : ℕ) (n : Name) → at a ≡ Some n → (o : Object) × IsAt first (first + length heap) (λ k. slice_index heap (k - first)) at g a n o
+  -- the words of the heap by their addresses
+  abbrev here : ℕ → ℕ
+  here a = slice_index heap (a - first)
+
+  -- the current copy by the words of the heap
+  now_same : (a : ℕ) (n : Name) → at a ≡ Some n → current_of here a ≡ current_of mem a
+  now_same a n is =
+      let x = pieces.piece a n is in
+      let inside = piece_inside a x.0 x.1 in
+      ap (λ word. if is_forwarded word then forwardee_in word else a) (heap_word a inside.0 (omega (arith, inside.1, x.2)))
+
+  each : (a : ℕ) (n : Name) → at a ≡ Some n → IsCopyAt first (first + length heap) here at a n
   each a n is =
-      let piece = named_thing (block a) n is in
-      let object = pieces.objects.each a piece.0 piece.1 n piece.2 in
-      (object.0, object_stands a piece.0 piece.1 n object.0 piece.2 object.1 object.2 (pieces.small n object.0 object.1))
+      let x = pieces.piece a n is in
+      let inside = piece_inside a x.0 x.1 in
+      record { above = inside.0; below = omega (arith, inside.1, x.2); current = ap at (now_same a n is) ∙ pieces.current a n is }
+
+  -- so the object of each name stands somewhere
+  object : (a : ℕ) (n : Name) → at a ≡ Some n → (o : Object) × IsAt first (first + length heap) here at g (current_of here a) n o
+  object a n is =
+      let x = pieces.object a n is in
+      (x.2, subst (λ k. IsAt first (first + length heap) here at g k n x.2) (sym (now_same a n is)) (object_stands (current_of mem a) x.0 x.1 n x.2 x.3 x.4 x.5 (pieces.small n x.2 x.4)))
 
   -- objects lie apart
-  apart : (a b : ℕ) (n m : Name) (o : Object) → at a ≡ Some n → at b ≡ Some m → g.object n ≡ Some o → a < b → a + size o ≤ b
-  apart a b n m o is_a is_b object before =
-      let one = named_thing (block a) n is_a in
-      let other = named_thing (block b) m is_b in
-      let found = pieces.objects.each a one.0 one.1 n one.2 in
-      let same : found.0 ≡ o = same_Some found.0 o (sym found.1 ∙ object) in
-      let behind : a + (3 + one.0 + one.1) ≤ b = pieces.plotted.apart a b (thing n one.0 one.1) (thing m other.0 other.1) one.2 other.2 before in
-      let refs : length o.refs ≡ one.0 = ap (λ x. length x.refs) (sym same) ∙ found.2.refs_are in
-      let nums : length o.nums ≡ one.1 = ap (λ x. length x.nums) (sym same) ∙ found.2.nums_are in
-      omega (arith, behind, refs, nums)
+  apart : (a b : ℕ) (n m : Name) (o : Object) → at a ≡ Some n → at b ≡ Some m → g.object n ≡ Some o → current_of here a < current_of here b → current_of here a + size o ≤ current_of here b
+  apart a b n m o is_a is_b known before =
+      let one = pieces.object a n is_a in
+      let other = pieces.object b m is_b in
+      let now_a = now_same a n is_a in
+      let now_b = now_same b m is_b in
+      let same : one.2 ≡ o = same_Some one.2 o (sym one.4 ∙ known) in
+      let behind = pieces.plotted.apart (current_of mem a) (current_of mem b) (thing n one.0 one.1) (thing m other.0 other.1) one.3 other.3 (omega (arith, before, now_a, now_b)) in
+      let refs : length o.refs ≡ one.0 = ap (λ x. length x.refs) (sym same) ∙ one.5.refs_are in
+      let nums : length o.nums ≡ one.1 = ap (λ x. length x.nums) (sym same) ∙ one.5.nums_are in
+      omega (arith, behind, refs, nums, now_a, now_b)
 
-  -- a name stands at one address
-  once : (a b : ℕ) (n : Name) → at a ≡ Some n → at b ≡ Some n → a ≡ b
-  once a b n is_a is_b =
-      let one = named_thing (block a) n is_a in
-      let other = named_thing (block b) n is_b in
-      pieces.objects.once a b one.0 one.1 other.0 other.1 n one.2 other.2
+  -- a name has one current copy
+  once : (a b : ℕ) (n : Name) → at a ≡ Some n → at b ≡ Some n → current_of here a ≡ current_of here b
+  once a b n is_a is_b = now_same a n is_a ∙ pieces.once a b n is_a is_b ∙ sym (now_same b n is_b)
 
   -- there are 16 roots for each mutator
   length-roots : length roots ≡ 16 * c.mutators
   length-roots = let e : length roots ≡ roots_start c + 16 * c.mutators - roots_start c = length-part words (roots_start c) (roots_start c + 16 * c.mutators) (omega (arith, long)) in omega (arith, e)
 
-  module _ (own : (t i : ℕ) → t < c.mutators → i < 16 → Points block (view c words (Root t i)) (g.root (t + 1) i)) (no_more : HasNoMore c.mutators g) where
+  module _ (own : (t i : ℕ) → t < c.mutators → i < 16 → Refers at (view c words (Root t i)) (g.root (t + 1) i)) (no_more : HasNoMore c.mutators g) where
     -- a root of a mutator
     own_root : (seat index : ℕ) → seat < c.mutators → index < 16 → Refers at (slice_index roots (16 * seat + index)) (g.root (seat + 1) index)
     own_root seat index below small =
@@ -159,20 +181,62 @@ module _ (c : Config) (words : List ℕ) (block : Plot) (g : Graph) (long : leng
         (cases_Bool (is_root_of c.mutators t i))
 
 -- the words stand for the graph
-pub pieces_stand : (c : Config) (words : List ℕ) (block : Plot) (g : Graph) → length words ≡ table_words c → ArePieces c words block g
-    → ((t i : ℕ) → t < c.mutators → i < 16 → Points block (view c words (Root t i)) (g.root (t + 1) i)) → HasNoMore c.mutators g
-    → WordsStand c.region_words (heap_in c words) (roots_in c words) (λ a. name_at (block a)) g
-pieces_stand c words block g long pieces own no_more = record {
-  each = each c words block g long pieces;
-  once = once c words block g long pieces;
-  apart = apart c words block g long pieces;
-  roots = root_stands c words block g long pieces own no_more;
+pub copies_stand : (c : Config) (words : List ℕ) (block : Plot) (at : ℕ → Option Name) (g : Graph) → length words ≡ table_words c → AreCopies c words block at g
+    → ((t i : ℕ) → t < c.mutators → i < 16 → Refers at (view c words (Root t i)) (g.root (t + 1) i)) → HasNoMore c.mutators g
+    → WordsStand c.region_words (heap_in c words) (roots_in c words) at g
+copies_stand c words block at g long pieces own no_more = record {
+  each = each c words block at g long pieces;
+  object = object c words block at g long pieces;
+  once = once c words block at g long pieces;
+  apart = apart c words block at g long pieces;
+  roots = root_stands c words block at g long pieces own no_more;
 }
+
+-- so do those of a running heap: each copy that is no old one is the current one
+module _ (c : Config) (words : List ℕ) (block : Plot) (ghost : Ghost) (g : Graph) (shared : Shared c (record { memory = view c words; block = block; ghost = ghost; graph = g })) where
+  abbrev memory : ℕ → ℕ
+  memory a = view c words (Heap a)
+
+  -- what a copy of an object is: so long a piece, whose current copy is the object
+  pub record IsCopied (a : ℕ) (n : Name) : Type 0 where
+    pub refs : ℕ
+    pub nums : ℕ
+    pub piece : Block
+    pub there : block a ≡ Some piece
+    pub some : 1 ≤ words_of piece
+    pub copy : block (current_of memory a) ≡ Some (thing n refs nums)
+
+  copied : (a : ℕ) (n : Name) → name_at (block a) ≡ Some n → IsCopied a n
+  copied a n is =
+      let body = named_body (block a) n is in
+      ⊎_elim
+      (λ (now : block a ≡ Some (thing n body.0 body.1)).
+      let o = shared.contents.objects.each a body.0 body.1 n now in
+      record { refs = body.0; nums = body.1; piece = thing n body.0 body.1; there = now; some = omega arith; copy = ap block (plain_current memory a o.2.header) ∙ now })
+      (λ (was : (to : ℕ) × (block a ≡ Some (moved n body.0 body.1 to))).
+      let old = shared.evacuated.moved.moveds a body.0 body.1 was.0 n was.1 in
+      record { refs = body.0; nums = body.1; piece = moved n body.0 body.1 was.0; there = was.1; some = omega arith; copy = ap block (moved_current memory a was.0 old.header) ∙ old.copy })
+      (copy_cases (block a) (body_of n body.0 body.1) body.2)
+
+  pub are_copies : AreCopies c words block (λ a. name_at (block a)) g
+  are_copies = record {
+    plotted = shared.parsable.plotted;
+    piece = λ a n is. (let x = copied a n is in (x.piece, x.there, x.some));
+    current = λ a n is. ap name_at (copied a n is).copy;
+    object = λ a n is.
+        let x = copied a n is in
+        let o = shared.contents.objects.each (current_of memory a) x.refs x.nums n x.copy in
+        (x.refs, x.nums, o.0, x.copy, o.1, o.2);
+    once = λ a b n is_a is_b.
+        let x = copied a n is_a in
+        let y = copied b n is_b in
+        shared.contents.objects.once (current_of memory a) (current_of memory b) x.refs x.nums y.refs y.nums n x.copy y.copy;
+    small = λ n o is. (shared.contents.given n o is).small;
+  }
 
 pub table_stands : (c : Config) (words : List ℕ) (block : Plot) (ghost : Ghost) (g : Graph) → length words ≡ table_words c
     → Shared c (record { memory = view c words; block = block; ghost = ghost; graph = g })
     → ((t i : ℕ) → t < c.mutators → i < 16 → Points block (view c words (Root t i)) (g.root (t + 1) i)) → HasNoMore c.mutators g
     → WordsStand c.region_words (heap_in c words) (roots_in c words) (λ a. name_at (block a)) g
 table_stands c words block ghost g long shared own no_more =
-    pieces_stand c words block g long
-    (record { plotted = shared.parsable.plotted; objects = shared.contents.objects; small = λ n o is. (shared.contents.given n o is).small }) own no_more
+    copies_stand c words block (λ a. name_at (block a)) g long (are_copies c words block ghost g shared) own no_more

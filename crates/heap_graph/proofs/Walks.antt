@@ -5,7 +5,7 @@ use Rattle.std.proofs.lemmas.List.Folds.{list_any_at}
 use Rattle.std.proofs.lemmas.Bool.{eq-eqb, false≢true, cases_lt}
 use Rattle.std.proofs.lemmas.Map.Keys.{IsDistinct-from_apart}
 use Rattle.std.proofs.lemmas.Map.Views.{Contains-from_any, exact_unsigned_eq}
-use Rattle.heap_graph.specs.Walk.{has, refs_at, Leads, from_root, from_field, IsWalkable, IsMarked, IsAmong, IsWalk, with_addresses}
+use Rattle.heap_graph.specs.Walk.{has, refs_at, currents, Leads, from_root, from_field, IsWalkable, IsMarked, IsAmong, IsWalk, with_addresses}
 use Rattle.heap_graph.proofs.Marks.{kept, new, only, prefix}
 
 -- with no flag set, the list without an address is marked
@@ -16,6 +16,10 @@ IsMarked-none first n marks order e none =
       among = λ a h. absurd (false≢true h);
       flags = λ k h. get_or-replicate n k false false (rw length-replicate at h);
     })
+
+-- what holds of each word that a list has
+pub all_named-in : (words : List ℕ) (P : ℕ → Type 0) → ((a : ℕ) → has words a ≡ true → P a) → All P words
+all_named-in words P h = λ k d below. h _ (list_any_at _ words k d below (eq-eqb _ _ refl))
 
 -- the address of an object that the roots lead to has a flag
 pub among_from_led : (first : ℕ) (heap roots : List ℕ) (n a : ℕ) → IsWalkable first heap roots → n ≡ length heap
@@ -40,7 +44,7 @@ led_step first heap roots order words before more a h =
 -- each reference of the first so many objects of the list is null or in the list
 abbrev pub IsClosed : ℕ → List ℕ → List ℕ → ℕ → Type 0
 IsClosed first heap order next =
-    (j a : ℕ) → j < next → a ≢ 0 → has (refs_at heap (get_or order j 0 - first)) a ≡ true → has order a ≡ true
+    (j a : ℕ) → j < next → a ≢ 0 → has (currents first heap (refs_at heap (get_or order j 0 - first))) a ≡ true → has order a ≡ true
 
 -- an element of the list stands where it stood
 stays : (order words : List ℕ) (j : ℕ) → j < length order → get_or (with_addresses order words) j 0 ≡ get_or order j 0
@@ -49,16 +53,16 @@ stays order words j h =
     ap (λ xs. get_or xs j 0) p.1 ∙ get_or_append_left order p.0 0 j h
 
 pub closed_step : (first : ℕ) (heap order words : List ℕ) (next : ℕ) → next < length order
-    → words ≡ refs_at heap (get_or order next 0 - first) → IsClosed first heap order next
+    → words ≡ currents first heap (refs_at heap (get_or order next 0 - first)) → IsClosed first heap order next
     → IsClosed first heap (with_addresses order words) (next + 1)
 closed_step first heap order words next low e closed j a h ne refers =
     let within : j < length order = omega arith in
-    let there : has (refs_at heap (get_or order j 0 - first)) a ≡ true =
-    subst (λ (x : ℕ). has (refs_at heap (x - first)) a ≡ true) (stays order words j within) refers in
+    let there : has (currents first heap (refs_at heap (get_or order j 0 - first))) a ≡ true =
+    subst (λ (x : ℕ). has (currents first heap (refs_at heap (x - first))) a ≡ true) (stays order words j within) refers in
     elim (cases_lt j next) [
       | inl before ↦ kept order words a (closed j a before ne there)
       | inr after ↦ (let at : j ≡ next = omega arith in
-          new order words a ne (ap (λ xs. has xs a) (e ∙ ap (λ i. refs_at heap (get_or order i 0 - first)) (sym at)) ∙ there))
+          new order words a ne (ap (λ xs. has xs a) (e ∙ ap (λ i. currents first heap (refs_at heap (get_or order i 0 - first))) (sym at)) ∙ there))
     ]
 
 -- what is read from a list is in it
@@ -67,18 +71,18 @@ has-read order i x h is = list_any_at (nat_eq x) order i x h (eq-eqb x (get_or o
 
 -- a list that has the roots, and with each object its references, has each address that the roots lead to
 pub all_found : (first : ℕ) (heap roots order : List ℕ)
-    → ((a : ℕ) → a ≢ 0 → has roots a ≡ true → has order a ≡ true)
+    → ((a : ℕ) → a ≢ 0 → has (currents first heap roots) a ≡ true → has order a ≡ true)
     → IsClosed first heap order (length order)
     → (a : ℕ) → Leads first heap roots a → has order a ≡ true
 all_found first heap roots order rooted closed a (from_root a' ne h) = rooted a ne h
 all_found first heap roots order rooted closed a (from_field m a' led ne h) =
     let at = Contains-from_any exact_unsigned_eq m order (all_found first heap roots order rooted closed m led) in
     let is : get_or order at.0 0 ≡ m = get_or_default order at.0 0 m at.1 ∙ at.2 in
-    closed at.0 a at.1 ne (subst (λ (x : ℕ). has (refs_at heap (x - first)) a ≡ true) (sym is) h)
+    closed at.0 a at.1 ne (subst (λ (x : ℕ). has (currents first heap (refs_at heap (x - first))) a ≡ true) (sym is) h)
 
 pub IsWalk-from : (first : ℕ) (heap roots order : List ℕ) (marks : List Bool) (next : ℕ) → IsMarked first marks order
     → ((a : ℕ) → has order a ≡ true → Leads first heap roots a)
-    → ((a : ℕ) → a ≢ 0 → has roots a ≡ true → has order a ≡ true)
+    → ((a : ℕ) → a ≢ 0 → has (currents first heap roots) a ≡ true → has order a ≡ true)
     → IsClosed first heap order next → length order ≤ next → IsWalk first heap roots order
 IsWalk-from first heap roots order marks next marked led rooted closed all = record {
   once = marked.once;

@@ -1,23 +1,19 @@
 -- The rows that objects are written as, by the words of the heap alone.
-use Rattle.std.specs.Prelude.{ℕ, ◌+◌, ◌-◌, ◌*◌, ◌≢◌, ◌≤◌, ◌==◌, ◌&&◌, nat_le, nat_lt, List, [], ◌∷◌, ◌++◌, Some, None, map, slice_index, length, if◌then◌else◌}
+use Rattle.std.specs.Prelude.{ℕ, ◌+◌, ◌-◌, ◌*◌, ◌==◌, ◌&&◌, nat_le, nat_lt, List, [], ◌∷◌, ◌++◌, Some, None, map, slice_index, length, if◌then◌else◌}
 use Rattle.std.specs.List.{range_with_len}
 use Rattle.heap_words.specs.Encoding.{thread_in, count_in}
 use Rattle.shen_graph.specs.declared.name.Name.{Name}
 use Rattle.shen_graph.specs.Graph.{Reference}
 use Rattle.shen_graph.specs.GraphText.{Text, Row, with_reference, with_number}
-use Rattle.heap_graph.specs.Walk.{refs_at, nums_at}
+use Rattle.heap_graph.specs.Walk.{refs_at, nums_at, current_at}
 
 -- the name of the object whose header is the word at an index of the heap
 abbrev pub name_at : List ℕ → ℕ → Name
 name_at heap k = record { thread = thread_in (slice_index heap (k + 2)); count = count_in (slice_index heap (k + 2)) }
 
--- a word is null, or the address of an object whose name is a word of the heap
-abbrev pub IsNamed : (first words : ℕ) → ℕ → Type 0
-IsNamed first words a = a ≢ 0 → (first ≤ a) × (a + 3 ≤ first + words)
-
--- the reference that a word stands for
+-- the reference that a word stands for, by the name of the current copy there
 abbrev pub reference_in : ℕ → List ℕ → ℕ → Reference
-reference_in first heap word = if word == 0 then None else Some (name_at heap (word - first))
+reference_in first heap word = if word == 0 then None else Some (name_at heap (current_at first heap word - first))
 
 -- the row of the object at an address
 abbrev pub row_at : ℕ → List ℕ → ℕ → Row

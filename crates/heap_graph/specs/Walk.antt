@@ -1,7 +1,7 @@
--- The addresses that roots lead to, by the words of the heap alone.
-use Rattle.std.specs.Prelude.{ℕ, ◌≡◌, ◌≢◌, ◌+◌, ◌-◌, ◌<◌, ◌≤◌, ◌==◌, ◌||◌, Bool, true, false, List, [], ◌∷◌, ◌++◌, length, nat_eq, slice_index, slice_index_or, slice_range, if◌then◌else◌}
+-- The addresses that roots lead to, by current copies, and by the words of the heap alone.
+use Rattle.std.specs.Prelude.{ℕ, ◌≡◌, ◌≢◌, ◌+◌, ◌-◌, ◌<◌, ◌≤◌, ◌==◌, ◌||◌, Bool, true, false, List, [], ◌∷◌, ◌++◌, length, map, nat_eq, slice_index, slice_index_or, slice_range, if◌then◌else◌}
 use Rattle.std.specs.List.{IsDistinct, list_any}
-use Rattle.heap_words.specs.Encoding.{refs_in, nums_in, object_words}
+use Rattle.heap_words.specs.Encoding.{is_forwarded, forwardee_in, refs_in, nums_in, object_words}
 
 -- whether a word is in a list
 abbrev pub has : List ℕ → ℕ → Bool
@@ -26,13 +26,29 @@ nums_at heap k =
 abbrev pub words_at : List ℕ → ℕ → ℕ
 words_at heap k = object_words (shape_at heap k)
 
--- an address that a root holds, or a reference of the object at such an address, and so on
-pub data Leads (first : ℕ) (heap roots : List ℕ) : ℕ → Type 0 where
-  from_root : (a : ℕ) → a ≢ 0 → has roots a ≡ true → Leads first heap roots a
-  from_field : (m a : ℕ) → Leads first heap roots m → a ≢ 0 → has (refs_at heap (m - first)) a ≡ true → Leads first heap roots a
+-- the address of the current copy of what a word names, by the header there; null stays null
+abbrev pub current_at : (first : ℕ) (heap : List ℕ) → ℕ → ℕ
+current_at first heap word =
+    if word == 0 then 0 else (if is_forwarded (slice_index heap (word - first)) then forwardee_in (slice_index heap (word - first)) else word)
 
--- each object that the roots lead to lies among the words, and no two of them share a word
+abbrev pub currents : (first : ℕ) (heap words : List ℕ) → List ℕ
+currents first heap words = map (current_at first heap) words
+
+-- the current copy of what a root names, or of what a reference of the object at such an address names, and so on
+pub data Leads (first : ℕ) (heap roots : List ℕ) : ℕ → Type 0 where
+  from_root : (a : ℕ) → a ≢ 0 → has (currents first heap roots) a ≡ true → Leads first heap roots a
+  from_field : (m a : ℕ) → Leads first heap roots m → a ≢ 0 → has (currents first heap (refs_at heap (m - first))) a ≡ true → Leads first heap roots a
+
+-- a word is null, or an address of the heap, and header, shape and name of the current copy there are words of the heap
+abbrev pub IsNamed : (first : ℕ) (heap : List ℕ) → ℕ → Type 0
+IsNamed first heap a =
+    a ≢ 0 → ((first ≤ a) × (a < first + length heap)) × ((first ≤ current_at first heap a) × (current_at first heap a + 3 ≤ first + length heap))
+
+-- Roots, and references of objects that these lead to, name objects among the words. Each object that the roots lead to lies among the
+-- words, and no two of them share a word.
 pub record IsWalkable (first : ℕ) (heap roots : List ℕ) : Type 0 where
+  pub roots_named : (a : ℕ) → has roots a ≡ true → IsNamed first heap a
+  pub fields_named : (m a : ℕ) → Leads first heap roots m → has (refs_at heap (m - first)) a ≡ true → IsNamed first heap a
   pub above : (a : ℕ) → Leads first heap roots a → first ≤ a
   pub below : (a : ℕ) → Leads first heap roots a → a + words_at heap (a - first) ≤ first + length heap
   pub apart : (a b : ℕ) → Leads first heap roots a → Leads first heap roots b → a < b → a + words_at heap (a - first) ≤ b

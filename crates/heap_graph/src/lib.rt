@@ -1,4 +1,4 @@
-//! The graph that the words of a heap stand for, while no object has a second copy.
+//! The graph that the words of a heap stand for, by the current copies of its objects.
 #![tactic(auto)]
 
 mod rows;

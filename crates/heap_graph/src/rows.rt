@@ -5,10 +5,10 @@ ghost use Rattle.std.specs.List.{IsDistinct};
 ghost use Rattle.shen_graph.specs.Graph.{same_name};
 ghost use Rattle.shen_graph.specs.Reach.{InOrder};
 ghost use Rattle.shen_graph.specs.GraphText.{names_of};
-ghost use Rattle.heap_graph.specs.Walk.{refs_at, nums_at, words_at};
-ghost use Rattle.heap_graph.specs.Rows.{name_at, IsNamed, reference_in, row_at, with_references, with_numbers, with_whole_row, root_word, root_rows};
+ghost use Rattle.heap_graph.specs.Walk.{refs_at, nums_at, words_at, IsNamed};
+ghost use Rattle.heap_graph.specs.Rows.{name_at, reference_in, row_at, with_references, with_numbers, with_whole_row, root_word, root_rows};
 
-use crate::walk::references;
+use crate::walk::{current, references};
 use heap_words::{count_of, nums_of, refs_of, thread_of};
 use shen_graph::{GraphText, Name};
 
@@ -24,15 +24,16 @@ fn name(heap: &[u64], index: usize) -> Name
     }
 }
 
-// The reference that a word stands for.
+// The reference that a word stands for, by the name of the current copy there.
 fn reference_to(first: u64, heap: &[u64], word: u64) -> Option<Name>
-    requires { IsNamed first (length heap.now) word }
+    requires { IsNamed first heap.now word }
     ensures { result ≡ reference_in first heap.now word }
 {
     if word == 0 {
         return None;
     }
-    Some(name(heap, (word - first) as usize))
+    let now = current(first, heap, word);
+    Some(name(heap, (now - first) as usize))
 }
 
 // The numbers of the object whose header is the word at an index.
@@ -47,7 +48,7 @@ fn numbers(heap: &[u64], index: usize) -> &[u64]
 
 // Adds the references that some words stand for to the last row.
 fn add_references(first: u64, heap: &[u64], words: &[u64], text: &mut GraphText)
-    requires named { All (IsNamed first (length heap.now)) words.now }
+    requires named { All (IsNamed first heap.now) words.now }
     requires row { 0 < length text.old.rows }
     requires room { length words.now ≤ text.old.spare }
     ensures { text.new ≡ with_references text.old (map (reference_in first heap.now) words.now) }
@@ -72,7 +73,7 @@ fn add_numbers(words: &[u64], text: &mut GraphText)
 fn add_object(first: u64, heap: &[u64], address: u64, text: &mut GraphText)
     requires above { first ≤ address }
     requires below { address + words_at heap.now (address - first) ≤ first + length heap.now }
-    requires named { All (IsNamed first (length heap.now)) (refs_at heap.now (address - first)) }
+    requires named { All (IsNamed first heap.now) (refs_at heap.now (address - first)) }
     requires room { words_at heap.now (address - first) ≤ text.old.spare }
     ensures { text.new ≡ with_whole_row text.old (row_at first heap.now address) }
 {
@@ -86,7 +87,7 @@ fn add_object(first: u64, heap: &[u64], address: u64, text: &mut GraphText)
 fn add_objects(first: u64, heap: &[u64], order: &[u64], text: &mut GraphText)
     requires above { All (λ a. first ≤ a) order.now }
     requires below { All (λ a. a + words_at heap.now (a - first) ≤ first + length heap.now) order.now }
-    requires named { All (λ a. All (IsNamed first (length heap.now)) (refs_at heap.now (a - first))) order.now }
+    requires named { All (λ a. All (IsNamed first heap.now) (refs_at heap.now (a - first))) order.now }
     requires room { sum_by (λ a. words_at heap.now (a - first)) order.now ≤ text.old.spare }
     ensures rows { text.new.rows ≡ text.old.rows ++ map (row_at first heap.now) order.now }
     ensures roots { text.new.roots ≡ text.old.roots }
@@ -102,7 +103,7 @@ fn add_objects(first: u64, heap: &[u64], order: &[u64], text: &mut GraphText)
 pub(crate) fn write_objects(first: u64, heap: &[u64], order: &[u64], text: &mut GraphText)
     requires above { All (λ a. first ≤ a) order.now }
     requires below { All (λ a. a + words_at heap.now (a - first) ≤ first + length heap.now) order.now }
-    requires named { All (λ a. All (IsNamed first (length heap.now)) (refs_at heap.now (a - first))) order.now }
+    requires named { All (λ a. All (IsNamed first heap.now) (refs_at heap.now (a - first))) order.now }
     requires room { sum_by (λ a. words_at heap.now (a - first)) order.now ≤ text.old.spare }
     requires differ { IsDistinct same_name (map (λ r. r.name) (text.old.rows ++ map (row_at first heap.now) order.now)) }
     ensures rows { IsPermutation (text.old.rows ++ map (row_at first heap.now) order.now) text.new.rows }
@@ -116,7 +117,7 @@ pub(crate) fn write_objects(first: u64, heap: &[u64], order: &[u64], text: &mut 
 
 /// Sets the roots of all threads, each 16 words of `roots`, to what these stand for.
 pub(crate) fn set_roots(first: u64, heap: &[u64], roots: &[u64], text: &mut GraphText)
-    requires named { All (IsNamed first (length heap.now)) roots.now }
+    requires named { All (IsNamed first heap.now) roots.now }
     requires threads { length roots.now ≡ 16 * length text.old.roots }
     requires few { length text.old.roots < 2 ^ 32 }
     requires lengths { All (λ row. length row ≡ 16) text.old.roots }

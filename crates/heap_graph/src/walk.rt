@@ -1,9 +1,9 @@
-//! Finds the addresses that roots lead to.
+//! Finds the addresses that roots lead to, by current copies.
 
 ghost use Rattle.std.specs.Prelude.{◌≡◌, ◌+◌, ◌≤◌, All, length, vec_capacity};
-ghost use Rattle.heap_graph.specs.Walk.{refs_at, words_at, IsWalkable, IsAmong, IsMarked, IsWalk, with_address, with_addresses};
+ghost use Rattle.heap_graph.specs.Walk.{refs_at, words_at, current_at, currents, IsNamed, IsWalkable, IsAmong, IsMarked, IsWalk, with_address, with_addresses};
 
-use heap_words::refs_of;
+use heap_words::{forwarded, forwardee, refs_of};
 
 /// Takes an address down, unless it is null or was taken down before. `marks` has a flag for each address from `first` on,
 /// and says which of them `order` has.
@@ -25,17 +25,33 @@ pub fn take_down(first: u64, address: u64, marks: &mut [bool], order: &mut Vec<u
     }
 }
 
-// Takes down the addresses that some words hold.
-fn take_each_down(first: u64, words: &[u64], marks: &mut [bool], order: &mut Vec<u64>)
+/// The address of the current copy of what a word names, by the header there; null stays null.
+pub(crate) fn current(first: u64, heap: &[u64], word: u64) -> u64
+    requires { IsNamed first heap.now word }
+    ensures { result ≡ current_at first heap.now word }
+{
+    if word == 0 {
+        return 0;
+    }
+    let header = heap[(word - first) as usize];
+    if forwarded(header) {
+        return forwardee(header);
+    }
+    word
+}
+
+// Takes down the current copies of what some words name.
+fn take_each_down(first: u64, heap: &[u64], words: &[u64], marks: &mut [bool], order: &mut Vec<u64>)
+    requires named { All (IsNamed first heap.now) words.now }
     requires marked { IsMarked first marks.old order.old.items }
-    requires among { All (IsAmong first (length marks.old)) words.now }
+    requires among { All (IsAmong first (length marks.old)) (currents first heap.now words.now) }
     requires room { length marks.old ≤ vec_capacity order.old }
     ensures marked { IsMarked first marks.new order.new.items }
     ensures room { vec_capacity order.new ≡ vec_capacity order.old }
-    ensures taken { order.new.items ≡ with_addresses order.old.items words.now }
+    ensures taken { order.new.items ≡ with_addresses order.old.items (currents first heap.now words.now) }
 {
     for word in words {
-        take_down(first, *word, marks, order);
+        take_down(first, current(first, heap, *word), marks, order);
     }
 }
 
@@ -48,7 +64,7 @@ pub(crate) fn references(heap: &[u64], index: usize) -> &[u64]
     &heap[index + 3..index + 3 + count]
 }
 
-/// Writes the address of each object that the roots lead to into `order`, each once. `heap` has a word for each address
+/// Writes the address of the current copy of each object that the roots lead to into `order`, each once. `heap` has a word for each address
 /// from `first` on, and `marks` a flag for each of them. No memory is taken.
 pub(crate) fn find_reachable(
     first: u64,
@@ -65,11 +81,11 @@ pub(crate) fn find_reachable(
 {
     marks.fill(false);
     order.clear();
-    take_each_down(first, roots, marks, order);
+    take_each_down(first, heap, roots, marks, order);
     let mut next = 0;
     while next < order.len() {
         let index = (order[next] - first) as usize;
-        take_each_down(first, references(heap, index), marks, order);
+        take_each_down(first, heap, references(heap, index), marks, order);
         next += 1;
     }
 }

@@ -9,8 +9,8 @@ use crate::rows::{set_roots, write_objects};
 use crate::walk::find_reachable;
 use shen_graph::GraphText;
 
-/// Writes the graph that a heap stands for: a row for each object that the roots lead to, in the order of names, and the
-/// roots of each thread. What the text held before is gone.
+/// Writes the graph that a heap stands for: a row for each object that the roots lead to, by its current copy, in the order of
+/// names, and the roots of each thread. What the text held before is gone.
 ///
 /// `heap[i]` is the word of the address `first + i`. `roots` has 16 words for each thread, from thread 1 on. `marks` and
 /// `order` are working memory, whatever they hold: a flag for each word of the heap, and room for as many addresses as it

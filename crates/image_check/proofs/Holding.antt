@@ -297,7 +297,7 @@ module _ (c : Config) (m : Word → ℕ) (objects : List ℕ) (laid : IsLaidOut 
     plotted = plotted;
     filled = filled;
     objects = objects_are;
-    things = λ a b is. (let at = piece_at a b is in (name_of a, ap (λ x. name_at (Some x)) (sym at.1)));
+    things = λ a b is. (let at = piece_at a b is in (name_of a, refs_at a, nums_at a, sym at.1));
     free_word = record {
       no_more = laid.free;
       empty = λ r within member. (laid.regions r within).empty member;

@@ -5,3 +5,4 @@ pub mod Turns
 pub mod Blank
 pub mod Packed
 pub mod Shown
+pub mod Parts

@@ -1,27 +1,27 @@
--- Where an image holds a graph and nothing has moved, the words of its heap and its roots stand for the graph: of the pieces those
--- count that the graph reaches.
+-- Where an image holds a graph, the words of its heap and its roots stand for the graph, by current copies: of the pieces those count
+-- that the graph reaches.
 use Rattle.std.proofs.Common.{◌≡◌, ℕ, ◌+◌, ◌<◌, ◌&&◌, true, false, nat_le, nat_lt, slice_get, length, List, Option, Some, None, ⊎_elim, refl, sym, ap, ◌∙◌, subst, arith}
 use Rattle.std.specs.Prelude.{if◌then◌else◌}
 use Rattle.std.proofs.lemmas.Bool.{cond-true, cond-false, cases_Bool, and_from, le-leb, lt-ltb, true≢false}
-use Rattle.std.proofs.lemmas.Nat.Bits.{bit_at-zero}
 use Rattle.std.proofs.lemmas.Option.{none-some, same_Some, slice_get_within}
 use Rattle.std.proofs.Math.Logic.{∥∥₁_map}
 use Rattle.heap_words.specs.declared.config.Config.{Config}
-use Rattle.heap_words.specs.Words.{Word, Cset, Top, Root, Heap, table_words, heap_in, roots_in, view}
-use Rattle.heap_words.specs.Encoding.{is_forwarded, forwardee_in, refs_in, object_words}
-use Rattle.std.specs.Int.{bit_at}
-use Rattle.regions.specs.Place.{region_with}
+use Rattle.heap_words.specs.Words.{Word, Top, Root, Heap, table_words, heap_in, roots_in, view}
+use Rattle.heap_words.specs.Encoding.{refs_in, object_words}
 use Rattle.shen_graph.specs.declared.name.Name.{Name}
 use Rattle.shen_graph.specs.Graph.{Graph, Object, Reference, blank, same_reference}
 use Rattle.shen_graph.proofs.PlainLemmas.{same_name-itself}
 use Rattle.shen_graph.specs.Reach.{IsReachable}
 use Rattle.shen_graph.specs.Reach as reach
 use Rattle.heap_world.specs.Roots.{is_root_of, HasNoMore}
-use Rattle.heap_world.specs.World.{Block, thing, hand, promised, filler, Plot, name_at, Points, IsPlotted, IsThing, AreObjects}
-use Rattle.heap_world.proofs.Pointing.{named_thing}
+use Rattle.heap_world.specs.World.{Block, thing, moved, spent, hand, promised, filler, Plot, name_at, Points, IsThing}
+use Rattle.image_laws.proofs.Named.{thing_at}
 use Rattle.heap_graph.specs.Walk.{has}
 use Rattle.heap_graph.specs.Shows.{WordsStand, StandForSome}
-use Rattle.heap_graph.proofs.Tables.{pieces_stand}
+use Rattle.heap_world.specs.Objects.{IsObject}
+use Rattle.heap_world.proofs.Pointing.{named_thing}
+use Rattle.image_laws.proofs.Standing.{own_copy}
+use Rattle.heap_graph.proofs.Tables.{AreCopies, copies_stand}
 use Rattle.image_laws.specs.Held.{IsHeld, from_root, from_field, IsAmong, AreKept}
 use Rattle.image_laws.specs.Full.{now_in, root_words, held_in, kept_in}
 use Rattle.image_laws.specs.Promised.{Promises, with_promised}
@@ -42,6 +42,8 @@ IsOld p o b = (n : Name) × (refs : ℕ) × (nums : ℕ) × (b ≡ thing n refs 
 
 old_from : (p : Promises) (o : Option Block) (b : Block) → old_piece p o ≡ Some b → IsOld p o b
 old_from p None b is = absurd (none-some b is)
+old_from p (Some (moved n refs nums to)) b is = absurd (none-some b is)
+old_from p (Some (spent words to)) b is = absurd (none-some b is)
 old_from p (Some (hand seat words)) b is = absurd (none-some b is)
 old_from p (Some (promised seat words)) b is = absurd (none-some b is)
 old_from p (Some (filler words)) b is = absurd (none-some b is)
@@ -52,7 +54,7 @@ old_from p (Some (thing n refs nums)) b is = ⊎_elim
     (n, refs, nums, sym same, refl, other))
     (cases_Bool (same_reference (p.ref n.thread) (Some n)))
 
-module _ (c : Config) (m : Word → ℕ) (block : Plot) (owner : ℕ → Option ℕ) (p : Promises) (g : Graph) (holds : HoldsBy c m block owner p g) (calm : m Cset ≡ 0) where
+module _ (c : Config) (m : Word → ℕ) (block : Plot) (owner : ℕ → Option ℕ) (p : Promises) (g : Graph) (holds : HoldsBy c m block owner p g) where
   abbrev heap : ℕ → ℕ
   heap a = m (Heap a)
 
@@ -65,9 +67,9 @@ module _ (c : Config) (m : Word → ℕ) (block : Plot) (owner : ℕ → Option 
   abbrev Held : ℕ → Type 0
   Held = IsHeld (now_in m) heap IsRoot
 
-  -- the pieces that are held and not promised
+  -- the pieces whose current copies are held, and that are not promised
   abbrev shown : Plot
-  shown a = if has (held_in c m) a then old_piece p (block a) else None
+  shown a = if has (held_in c m) (now_in m a) then old_piece p (block a) else None
 
   are : AreKept heap Held (kept_in c m)
   are = walk_keeps c m block more holds.objects
@@ -85,103 +87,116 @@ module _ (c : Config) (m : Word → ℕ) (block : Plot) (owner : ℕ → Option 
       absurd (omega (arith, are.words a held, none)))
       (cases_Bool (has (held_in c m) a))
 
-  -- what is shown is held, and an object that is not promised
-  shown_from : (a : ℕ) (b : Block) → shown a ≡ Some b → Held a × IsOld p (block a) b
+  -- the current copy of what is shown is held, and it is an object that is not promised
+  shown_from : (a : ℕ) (b : Block) → shown a ≡ Some b → Held (now_in m a) × IsOld p (block a) b
   shown_from a b is = ⊎_elim
-      (λ (yes : has (held_in c m) a ≡ true). (found_held a yes, old_from p (block a) b (sym (cond-true (has (held_in c m) a) (old_piece p (block a)) None yes) ∙ is)))
-      (λ (other : has (held_in c m) a ≡ false). absurd (none-some b (sym (cond-false (has (held_in c m) a) (old_piece p (block a)) None other) ∙ is)))
-      (cases_Bool (has (held_in c m) a))
+      (λ (yes : has (held_in c m) (now_in m a) ≡ true). (found_held (now_in m a) yes, old_from p (block a) b (sym (cond-true (has (held_in c m) (now_in m a)) (old_piece p (block a)) None yes) ∙ is)))
+      (λ (other : has (held_in c m) (now_in m a) ≡ false). absurd (none-some b (sym (cond-false (has (held_in c m) (now_in m a)) (old_piece p (block a)) None other) ∙ is)))
+      (cases_Bool (has (held_in c m) (now_in m a)))
 
-  shown_thing : (a refs nums : ℕ) (n : Name) → shown a ≡ Some (thing n refs nums) → Held a × (block a ≡ Some (thing n refs nums)) × (same_reference (p.ref n.thread) (Some n) ≡ false)
+  not_moved : (a refs nums to : ℕ) (n : Name) → shown a ≡ Some (moved n refs nums to) → ⊥
+  not_moved a refs nums to n is = let old = (shown_from a (moved n refs nums to) is).1.3 in cc
+
+  shown_thing : (a refs nums : ℕ) (n : Name) → shown a ≡ Some (thing n refs nums) → Held (now_in m a) × (block a ≡ Some (thing n refs nums)) × (same_reference (p.ref n.thread) (Some n) ≡ false)
   shown_thing a refs nums n is =
       let from = shown_from a (thing n refs nums) is in
       let old = from.1 in
       let same : old.0 ≡ n = sym (same_Some n old.0 (ap (λ b. name_at (Some b)) old.3)) in
       (from.0, old.4 ∙ ap Some (sym old.3), ap (λ k. same_reference (p.ref k.thread) (Some k)) (sym same) ∙ old.5)
 
-  -- nothing has moved
-  stays : (a refs nums : ℕ) (n : Name) → block a ≡ Some (thing n refs nums) → now_in m a ≡ a
-  stays a refs nums n is = ⊎_elim
-      (λ (yes : is_forwarded (heap a) ≡ true).
-      let moved = holds.moved a refs nums n is yes in
-      absurd (omega (arith, moved.in_set, ap (λ set. bit_at set (region_with c a)) calm, bit_at-zero (region_with c a))))
-      (λ (other : is_forwarded (heap a) ≡ false). cond-false (is_forwarded (heap a)) (forwardee_in (heap a)) a other)
-      (cases_Bool (is_forwarded (heap a)))
+  -- what shows a name is an object of that name
+  named : (a : ℕ) (n : Name) → name_at (shown a) ≡ Some n → (refs : ℕ) × (nums : ℕ) × (shown a ≡ Some (thing n refs nums))
+  named a n is = named_thing (shown a) n (λ refs nums to. not_moved a refs nums to n) is
+
+  -- an object with a name that is not promised is shown where its current copy is held
+  shows : (word refs nums : ℕ) (n : Name) → Held (now_in m word) → block word ≡ Some (thing n refs nums) → same_reference (p.ref n.thread) (Some n) ≡ false → shown word ≡ Some (thing n refs nums)
+  shows word refs nums n held is old =
+      cond-true (has (held_in c m) (now_in m word)) (old_piece p (block word)) None (held_found (now_in m word) held)
+      ∙ ap (old_piece p) is ∙ cond-false (same_reference (p.ref n.thread) (Some n)) None (Some (thing n refs nums)) old
+
+  -- what is held is its own current copy
+  held_own : (a refs nums : ℕ) (n : Name) → Held a → block a ≡ Some (thing n refs nums) → now_in m a ≡ a
+  held_own a refs nums n held is = own_copy m a (holds.objects.each a refs nums n held is).2.header
 
   -- a word that leads to an object that the graph reaches shows it
   shows_name : (word : ℕ) (n : Name) → IsReachable g n → Held (now_in m word) → name_at (block word) ≡ Some n → name_at (shown word) ≡ Some n
   shows_name word n reached held is =
-      let piece = named_thing (block word) n is in
-      let here : Held word = subst Held (stays word piece.0 piece.1 n piece.2) held in
+      let piece = thing_at block holds.things word n is in
       let old : same_reference (p.ref n.thread) (Some n) ≡ false = ⊎_elim
       (λ (yes : same_reference (p.ref n.thread) (Some n) ≡ true). absurd (holds.unreached.fresh n.thread n (same_reference-true (p.ref n.thread) n yes) reached))
       (λ (other : same_reference (p.ref n.thread) (Some n) ≡ false). other)
       (cases_Bool (same_reference (p.ref n.thread) (Some n)))
       in
-      ap name_at (cond-true (has (held_in c m) word) (old_piece p (block word)) None (held_found word here)
-      ∙ ap (old_piece p) piece.2 ∙ cond-false (same_reference (p.ref n.thread) (Some n)) None (Some (thing n piece.0 piece.1)) old)
+      ap name_at (shows word piece.0 piece.1 n held piece.2 old)
 
-  -- an object that is shown is one that the graph reaches
-  reached_of : (a refs nums : ℕ) (n : Name) → shown a ≡ Some (thing n refs nums) → IsReachable g n
-  reached_of a refs nums n is =
-      let at = shown_thing a refs nums n is in
-      let held = held_is_reached c (λ r. m (Top r)) heap block (now_in m) IsRoot more holds.objects a at.0 in
-      let same : held.0 ≡ n = same_Some held.0 n (ap name_at (sym held.3 ∙ at.1)) in
+  -- The current copy of what is shown: it is held, shown itself, and an object that the graph reaches.
+  record IsShown (a : ℕ) (n : Name) : Type 0 where
+    piece_refs : ℕ
+    piece_nums : ℕ
+    piece : block a ≡ Some (thing n piece_refs piece_nums)
+    refs : ℕ
+    nums : ℕ
+    held : Held (now_in m a)
+    copy : block (now_in m a) ≡ Some (thing n refs nums)
+    plain_name : same_reference (p.ref n.thread) (Some n) ≡ false
+
+  is_shown : (a : ℕ) (n : Name) → name_at (shown a) ≡ Some n → IsShown a n
+  is_shown a n is =
+      let x = named a n is in
+      let at = shown_thing a x.0 x.1 n x.2 in
+      let copy = holds.objects.current a n (ap name_at at.1) in
+      record { piece_refs = x.0; piece_nums = x.1; piece = at.1; refs = copy.0; nums = copy.1; held = at.0; copy = copy.2; plain_name = at.2 }
+
+  current_shown : (a : ℕ) (n : Name) → IsShown a n → name_at (shown (now_in m a)) ≡ Some n
+  current_shown a n x =
+      let own = held_own (now_in m a) x.refs x.nums n x.held x.copy in
+      ap name_at (shows (now_in m a) x.refs x.nums n (subst Held (sym own) x.held) x.copy x.plain_name)
+
+  -- an object that is held and not promised is one that the graph reaches
+  reached_of : (a refs nums : ℕ) (n : Name) → Held a → block a ≡ Some (thing n refs nums) → same_reference (p.ref n.thread) (Some n) ≡ false → IsReachable g n
+  reached_of a refs nums n here is other =
+      let held = held_is_reached c (λ r. m (Top r)) heap block (now_in m) IsRoot more holds.objects a here in
+      let same : held.0 ≡ n = same_Some held.0 n (ap name_at (sym held.3 ∙ is)) in
       ⊎_elim
       (λ (old : IsReachable g n). old)
       (λ (new : (t : ℕ) × (p.ref t ≡ Some n)).
       let own : n.thread ≡ new.0 = holds.unreached.own new.0 n new.1 in
       let yes : same_reference (p.ref n.thread) (Some n) ≡ true = ap (λ r. same_reference r (Some n)) (ap p.ref own ∙ new.1) ∙ same_name-itself n in
-      absurd (true≢false (sym yes ∙ at.2)))
+      absurd (true≢false (sym yes ∙ other)))
       (reaches_promised c.mutators g p holds.unreached n (subst (IsReachable more) same held.4))
 
-  plotted : IsPlotted c (λ r. m (Top r)) shown
-  plotted = record {
-    tops = holds.objects.plotted.tops;
-    in_use = λ a b is. let old = (shown_from a b is).1 in holds.objects.plotted.in_use a b (old.4 ∙ ap Some (sym old.3));
-    apart = λ a b x y is_x is_y before.
-        let one = (shown_from a x is_x).1 in
-        let other = (shown_from b y is_y).1 in
-        holds.objects.plotted.apart a b x y (one.4 ∙ ap Some (sym one.3)) (other.4 ∙ ap Some (sym other.3)) before;
-  }
+  -- it is the object that the graph has
+  abbrev IsGraphs : ℕ → Name → ℕ → ℕ → Type 0
+  IsGraphs a n refs nums = (o : Object) × (g.object n ≡ Some o) × IsObject heap (λ word. name_at (shown word)) a refs nums n o
 
-  objects : AreObjects heap shown g.object
-  objects = record {
-    each = λ a refs nums n is.
-        let at = shown_thing a refs nums n is in
-        let o = holds.objects.each a refs nums n at.0 at.1 in
-        let object : g.object n ≡ Some o.0 = sym (cond-false (same_reference (p.ref n.thread) (Some n)) (Some (blank (p.refs n.thread) (p.nums n.thread))) (g.object n) at.2) ∙ o.1 in (
-          o.0,
-          object,
-          record {
-            header = o.2.header;
-            shape = o.2.shape;
-            name_word = o.2.name_word;
-            few_refs = o.2.few_refs;
-            few_nums = o.2.few_nums;
-            refs_are = o.2.refs_are;
-            nums_are = o.2.nums_are;
-            references = λ i r there. field a refs nums n i r o.0 is object o.2 there;
-            numbers = o.2.numbers;
-          },
-        );
-    once = λ a b refs nums more_refs more_nums n is_a is_b.
-        let one = shown_thing a refs nums n is_a in
-        let other = shown_thing b more_refs more_nums n is_b in
-        holds.objects.once a b refs nums more_refs more_nums n one.0 other.0 one.1 other.1;
-  }
+  object_of : (a refs nums : ℕ) (n : Name) → Held a → block a ≡ Some (thing n refs nums) → same_reference (p.ref n.thread) (Some n) ≡ false → IsGraphs a n refs nums
+  object_of a refs nums n held is other =
+      let o = holds.objects.each a refs nums n held is in
+      let object : g.object n ≡ Some o.0 = sym (cond-false (same_reference (p.ref n.thread) (Some n)) (Some (blank (p.refs n.thread) (p.nums n.thread))) (g.object n) other) ∙ o.1 in (
+        o.0,
+        object,
+        record {
+          header = o.2.header;
+          shape = o.2.shape;
+          name_word = o.2.name_word;
+          few_refs = o.2.few_refs;
+          few_nums = o.2.few_nums;
+          refs_are = o.2.refs_are;
+          nums_are = o.2.nums_are;
+          references = λ i r there. field i r o.0 object o.2 there;
+          numbers = o.2.numbers;
+        },
+      )
     where
-      field : (a refs nums : ℕ) (n : Name) (i : ℕ) (r : Reference) (o : Object) → shown a ≡ Some (thing n refs nums) → g.object n ≡ Some o → IsThing heap block a refs nums n o
-          → slice_get o.refs i ≡ Some r → Points shown (heap (a + 3 + i)) r
-      field a refs nums n i None o is object facts there = facts.references i None there
-      field a refs nums n i (Some f) o is object facts there =
-          let at = shown_thing a refs nums n is in
+      field : (i : ℕ) (r : Reference) (o : Object) → g.object n ≡ Some o → IsThing heap block a refs nums n o → slice_get o.refs i ≡ Some r → Points shown (heap (a + 3 + i)) r
+      field i None o object facts there = facts.references i None there
+      field i (Some f) o object facts there =
           let word = heap (a + 3 + i) in
           let points : name_at (block word) ≡ Some f = facts.references i (Some f) there in
           let shape : refs_in (heap (a + 1)) ≡ refs = ap refs_in facts.shape ∙ refs_read refs nums facts.few_refs facts.few_nums in
           let few : i < refs_in (heap (a + 1)) = omega (arith, slice_get_within o.refs i (Some f) there, shape, facts.refs_are) in
-          let reached : IsReachable g f = reach.from_field n f i (reached_of a refs nums n is) (ap (λ (x : Object). slice_get x.refs i) (named_object g n o object) ∙ there) in
-          shows_name word f reached (from_field a i at.0 few (none_at_0 c (λ r. m (Top r)) block holds.objects.plotted word f points)) points
+          let reached : IsReachable g f = reach.from_field n f i (reached_of a refs nums n held is other) (ap (λ (x : Object). slice_get x.refs i) (named_object g n o object) ∙ there) in
+          shows_name word f reached (from_field a i held few (none_at_0 c (λ r. m (Top r)) block holds.objects.plotted word f points)) points
 
   roots : (t i : ℕ) → t < c.mutators → i < 16 → Points shown (m (Root t i)) (g.root (t + 1) i)
   roots t i inside few = by_root (g.root (t + 1) i) refl (holds.rooted.roots t i inside few)
@@ -207,22 +222,34 @@ module _ (c : Config) (m : Word → ℕ) (block : Plot) (owner : ℕ → Option 
           absurd (true≢false (sym one ∙ none))
 
 -- so the words of heap and roots stand for it
-pub holding_stands : (c : Config) (words : List ℕ) (block : Plot) (owner : ℕ → Option ℕ) (p : Promises) (g : Graph) → length words ≡ table_words c
-    → HoldsBy c (view c words) block owner p g → view c words Cset ≡ 0 → (at : ℕ → Option Name) × WordsStand c.region_words (heap_in c words) (roots_in c words) at g
-holding_stands c words block owner p g long holds calm =
-    let m : Word → ℕ = view c words in (
-      (λ a. name_at (shown c m block owner p g holds calm a)),
-      pieces_stand c words (shown c m block owner p g holds calm) g long
-          (record {
-            plotted = plotted c m block owner p g holds calm;
-            objects = objects c m block owner p g holds calm;
-            small = λ n o is. (holds.next.given n o is).small;
-          })
-          (roots c m block owner p g holds calm) (no_more c m block owner p g holds calm),
-    )
+module _ (c : Config) (words : List ℕ) (block : Plot) (owner : ℕ → Option ℕ) (p : Promises) (g : Graph) (long : length words ≡ table_words c) (holds : HoldsBy c (view c words) block owner p g) where
+  abbrev memory : Word → ℕ
+  memory = view c words
 
-pub holding_stands_some : (c : Config) (words : List ℕ) → length words ≡ table_words c → HoldsSome c (view c words) → view c words Cset ≡ 0
+  abbrev names : ℕ → Option Name
+  names a = name_at (shown c memory block owner p g holds a)
+
+  are_copies : AreCopies c words block names g
+  are_copies = record {
+    plotted = holds.objects.plotted;
+    piece = λ a n is. (let x = is_shown c memory block owner p g holds a n is in (thing n x.piece_refs x.piece_nums, x.piece, omega arith));
+    current = λ a n is. current_shown c memory block owner p g holds a n (is_shown c memory block owner p g holds a n is);
+    object = λ a n is.
+        let x = is_shown c memory block owner p g holds a n is in
+        let o = object_of c memory block owner p g holds (now_in memory a) x.refs x.nums n x.held x.copy x.plain_name in
+        (x.refs, x.nums, o.0, x.copy, o.1, o.2);
+    once = λ a b n is_a is_b.
+        let x = is_shown c memory block owner p g holds a n is_a in
+        let y = is_shown c memory block owner p g holds b n is_b in
+        holds.objects.once (now_in memory a) (now_in memory b) x.refs x.nums y.refs y.nums n x.held y.held x.copy y.copy;
+    small = λ n o is. (holds.next.given n o is).small;
+  }
+
+  pub holding_stands : (at : ℕ → Option Name) × WordsStand c.region_words (heap_in c words) (roots_in c words) at g
+  holding_stands = (names, copies_stand c words block names g long are_copies (roots c memory block owner p g holds) (no_more c memory block owner p g holds))
+
+pub holding_stands_some : (c : Config) (words : List ℕ) → length words ≡ table_words c → HoldsSome c (view c words)
     → StandForSome c.region_words (heap_in c words) (roots_in c words)
-holding_stands_some c words long holds calm = ∥∥₁_map holds (λ h.
-    let stands = holding_stands c words h.1.0 h.1.1 h.1.2 h.0 long h.1.3 calm in
+holding_stands_some c words long holds = ∥∥₁_map holds (λ h.
+    let stands = holding_stands c words h.1.0 h.1.1 h.1.2 h.0 long h.1.3 in
     (stands.0, (h.0, stands.1)))

@@ -1,13 +1,14 @@
 -- What serving leaves of requests, and of the graph, and what a text shows of it.
-use Rattle.std.specs.Prelude.{ℕ, ◌≢◌, ◌<◌, Option}
+use Rattle.std.specs.Prelude.{ℕ, ◌≡◌, ◌≢◌, ◌<◌, Option, List, length}
 use Rattle.heap_words.specs.declared.config.Config.{Config}
-use Rattle.heap_words.specs.Words.{Word, Wait}
+use Rattle.heap_words.specs.Words.{Word, Wait, view, table_words, heap_in, roots_in}
+use Rattle.shen_graph.specs.declared.name.Name.{Name}
 use Rattle.packing.specs.Rooms.{HasNoRoom}
 use Rattle.image_laws.specs.Full.{asked_in}
 use Rattle.image_laws.specs.Served.{tops_at_turn}
 use Rattle.shen_graph.specs.Graph.{Graph}
 use Rattle.shen_graph.specs.GraphText.{Text}
-use Rattle.heap_graph.specs.Shows.{ShowsGraph}
+use Rattle.heap_graph.specs.Shows.{WordsStand, StandForSome, ShowsGraph}
 use Rattle.heap_world.specs.World.{Plot}
 use Rattle.image_laws.specs.Promised.{Promises}
 use Rattle.image_laws.specs.Image.{ImageStands}
@@ -25,6 +26,15 @@ abbrev pub IsServedGraph : Config → (before after : Word → ℕ) → Type 0
 IsServedGraph c before after = (block : Plot) (g : Graph) (p : Promises) → ImageStands c before block g p → AreAsking c before g p 0
     → ImageStands c after (served_block c before block c.mutators) g (served_promises c before p c.mutators)
 
--- a text shows the graph that words hold, whichever and in whatever way: what the roots lead to, by current copies
-abbrev pub ShowsTheGraph : Config → (Word → ℕ) → Text → Type 0
-ShowsTheGraph c memory text = (block : Plot) (owner : ℕ → Option ℕ) (p : Promises) (g : Graph) → HoldsBy c memory block owner p g → ShowsGraph text c.mutators g
+-- the words of heap and roots of a table stand for some graph
+abbrev pub StandsForSome : Config → List ℕ → Type 0
+StandsForSome c words = StandForSome c.region_words (heap_in c words) (roots_in c words)
+
+-- a text shows the graph that they stand for, whichever: what the roots lead to, by current copies
+abbrev pub ShowsTheGraph : Config → List ℕ → Text → Type 0
+ShowsTheGraph c words text = (at : ℕ → Option Name) (g : Graph) → WordsStand c.region_words (heap_in c words) (roots_in c words) at g → ShowsGraph text c.mutators g
+
+-- The words of an image that holds a graph stand for it, in whatever way it holds it.
+abbrev pub HoldingStands : Type 0
+HoldingStands = (c : Config) (words : List ℕ) (block : Plot) (owner : ℕ → Option ℕ) (p : Promises) (g : Graph) → length words ≡ table_words c
+    → HoldsBy c (view c words) block owner p g → (at : ℕ → Option Name) × WordsStand c.region_words (heap_in c words) (roots_in c words) at g

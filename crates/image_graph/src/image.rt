@@ -23,11 +23,10 @@ pub struct Image {
 
 impl Image {
     ghost use Rattle.std.specs.Prelude.{ℕ, ◌<◌, true, false, slice_set, slice_index, Option, IfOk};
-    ghost use Rattle.heap_words.specs.Words.{Word, Cset, Top, Heap, IsWord, word_at, write};
+    ghost use Rattle.heap_words.specs.Words.{Word, Top, Heap, IsWord, word_at, write};
     ghost use Rattle.image_laws.specs.Full.{now_in};
     ghost use Rattle.image_graph.specs.State.{config_of, words_of, memory_of, marks_of, found_of, places_of, IsUnchanged, IsSomeSeats};
-    ghost use Rattle.image_graph.specs.Holds.{HoldsSome};
-    ghost use Rattle.image_graph.specs.Left.{ShowsTheGraph};
+    ghost use Rattle.image_graph.specs.Left.{StandsForSome, ShowsTheGraph};
 
     /// An image of this configuration whose words are all 0. The error is that memory was refused.
     pub fn open(alloc: Global, config: Config) -> Result<Image, NoMemory>
@@ -141,17 +140,16 @@ impl Image {
         ensures { IsUnchanged self.old self.new }
     {}
 
-    /// Writes the graph that the image holds: the objects that the roots lead to, in the order of their names, and the
-    /// roots of each mutator. Answers are no roots here: what is promised is of no graph yet. The image holds a graph, and
-    /// no region is in the collection set. What the text held before is gone. It was opened for at least as many words as
-    /// the heap has, and for the heap's mutators. No word of the image changes, and no memory is taken.
+    /// Writes the graph that the words of heap and roots stand for, as those of an image that holds a graph do: the objects
+    /// that the roots lead to, by their current copies, in the order of their names, and the roots of each mutator. Answers
+    /// are no roots here: what is promised is of no graph yet. What the text held before is gone. It was opened for at least
+    /// as many words as the heap has, and for the heap's mutators. No word of the image changes, and no memory is taken.
     pub fn answer_graph(&mut self, text: &mut GraphText)
         requires room { heap_size (config_of self.old) ≤ text.old.room }
         requires threads { length text.old.roots ≡ (config_of self.old).mutators }
-        requires holds { HoldsSome (config_of self.old) (memory_of self.old) }
-        requires calm { memory_of self.old Cset ≡ 0 }
+        requires stand { StandsForSome (config_of self.old) (words_of self.old) }
         ensures unchanged { IsUnchanged self.old self.new }
-        ensures shows { ShowsTheGraph (config_of self.old) (memory_of self.old) text.new }
+        ensures shows { ShowsTheGraph (config_of self.old) (words_of self.old) text.new }
 
         // The same text serves again.
         ensures same_room { text.new.room ≡ text.old.room }

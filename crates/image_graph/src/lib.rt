@@ -6,7 +6,14 @@ mod image;
 mod pack;
 mod serve;
 
+ghost use Rattle.image_graph.specs.Left.{HoldingStands};
+
 pub use image::Image;
+
+/// A law: the words of an image that holds a graph stand for it, by current copies, in whatever way it holds it.
+pub fn holding_stands()
+    ensures { HoldingStands }
+{}
 
 #[cfg(test)]
 mod tests;

@@ -1,6 +1,6 @@
 -- The image after packing stands for the same graph.
 use Rattle.std.proofs.Common.{◌≡◌, ℕ, Some, List, refl, sym, ap, ◌∙◌, arith}
-use Rattle.std.proofs.lemmas.Option.{none-some}
+use Rattle.std.proofs.lemmas.Option.{same_Some}
 use Rattle.heap_words.specs.declared.config.Config.{Config}
 use Rattle.heap_words.specs.Words.{Word, Top, Heap}
 use Rattle.packing.proofs.Tops.{tops_are_words}
@@ -8,14 +8,15 @@ use Rattle.sliding.specs.Slide.{renewed, slid}
 use Rattle.sliding.proofs.Slid.{slid_is}
 use Rattle.shen_graph.specs.declared.name.Name.{Name}
 use Rattle.shen_graph.specs.Graph.{Graph, Object}
-use Rattle.heap_world.proofs.Keeping.{none_copies}
+use Rattle.heap_world.proofs.Copies.{none_evacuated}
 use Rattle.heap_world.proofs.Unmarked.{none_marked}
-use Rattle.heap_world.specs.World.{Plot, hand, promised, filler, name_at, AreObjects, IsGiven, Shared}
+use Rattle.heap_world.specs.World.{Plot, thing, AreObjects, IsGiven, Shared}
 use Rattle.image_laws.specs.Held.{from_root, IsAmong}
 use Rattle.image_laws.specs.Plot.{AreThings, heap_end, packed_block, packed_top}
 use Rattle.image_laws.specs.Pack.{CanPack}
 use Rattle.image_laws.specs.Full.{packed}
 use Rattle.image_laws.specs.Laws.{packed_world, IsBeforePacking, KeepsGraph}
+use Rattle.image_laws.proofs.Named.{no_moved, no_spent, no_hand, no_promised, no_filler}
 use Rattle.image_laws.proofs.Reached.{can_pack}
 use Rattle.image_laws.proofs.Origin.{kept_inside, lie_apart, block_from}
 use Rattle.image_laws.proofs.Packed.{slid_is_plotted, slid_is_filled}
@@ -32,12 +33,15 @@ module _ (c : Config) (memory : Word → ℕ) (block : Plot) (g : Graph) (now ke
   can : CanPack c top heap block g.object now kept
   can = can_pack c top heap block now (IsAmong roots) g before.holds kept before.kept_are
 
+  abbrev new_block : Plot
+  new_block = packed_block c kept block
+
   -- each piece is an object
-  are_things : AreThings (packed_block c kept block)
+  are_things : AreThings new_block
   are_things a piece is =
       let from = block_from c top heap block g.object now kept can a piece is in
-      let thing = can.things from.0 from.1 in
-      (thing.0, ap name_at (sym from.4 ∙ thing.3))
+      let object = can.things from.0 from.1 in
+      (object.0, object.1, object.2, same_Some piece (thing object.0 object.1 object.2) (sym from.4 ∙ object.3))
 
   -- the pieces are the graph's objects
   objects_again : AreObjects (λ a. packed c now kept memory (Heap a)) (packed_block c kept block) g.object
@@ -52,22 +56,24 @@ module _ (c : Config) (memory : Word → ℕ) (block : Plot) (g : Graph) (now ke
     parsable = record {
       plotted = slid_is_plotted c top heap block g.object now kept can;
       filled = slid_is_filled c top heap block g.object now kept can;
-      promises = λ a seat words is. absurd (none-some _ (are_things a (promised seat words) is).1);
-      fillers = λ a words is. absurd (none-some _ (are_things a (filler words) is).1);
+      promises = λ a seat words is. absurd (no_promised new_block are_things a seat words is);
+      fillers = λ a words is. absurd (no_filler new_block are_things a words is);
+      spents = λ a words to is. absurd (no_spent new_block are_things a words to is);
     };
     contents = record { objects = objects_again; given = given };
     owned = record {
       free_word = free_again c (packed_top c kept);
       currents = record { within = λ seat r is. absurd (omega (arith, is)); own = λ seat r is. absurd (omega (arith, is)) };
-      rooms = λ a seat words is. absurd (none-some _ (are_things a (hand seat words) is).1);
+      rooms = λ a seat words is. absurd (no_hand new_block are_things a seat words is);
     };
-    calm = record { phase_is = omega arith; cset_is = refl; evac_is = refl };
-    uncopied = none_copies;
+    phased = record { phase_is = omega arith; cset_is = λ other. refl; evac_is = λ other. refl };
     unwritten = record {
-      blanks = λ a seat words is. absurd (none-some _ (are_things a (promised seat words) is).1);
-      headers = λ a words is. absurd (none-some _ (are_things a (filler words) is).1);
+      blanks = λ a seat words is. absurd (no_promised new_block are_things a seat words is);
+      headers = λ a words is. absurd (no_filler new_block are_things a words is);
+      lengths = λ a words is. absurd (no_filler new_block are_things a words is);
     };
     marked = none_marked c _ _ _ _ _ _ _ _ _ _ _ refl;
+    evacuated = none_evacuated c _ _ _ _ _ _ _ _ _ _ _ (λ on. omega (arith, on)) (no_moved new_block are_things) (no_spent new_block are_things) (λ seat inside. refl);
   }
 
   pub keeps_graph : KeepsGraph c memory block g now kept roots

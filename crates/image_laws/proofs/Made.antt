@@ -14,7 +14,7 @@ use Rattle.regions.specs.Sets.{all_but}
 use Rattle.shen_graph.specs.declared.name.Name.{Name}
 use Rattle.shen_graph.specs.Graph.{Graph, Object, Reference, blank, same_name, same_reference}
 use Rattle.shen_graph.proofs.PlainLemmas.{same_name-true, same_name-itself}
-use Rattle.heap_world.specs.World.{Block, thing, hand, promised, filler, words_of, Plot, name_at, Points, IsThing, AreObjects, IsFreeWord}
+use Rattle.heap_world.specs.World.{Block, thing, moved, spent, hand, promised, filler, words_of, Plot, name_at, Points, IsThing, AreObjects, IsFreeWord}
 use Rattle.heap_world.proofs.Updates.{updated, updated_else, updated_there}
 use Rattle.heap_world.proofs.Keeping.{points_stay}
 use Rattle.heap_world.proofs.Pieces.{beside, piece_cases, object_reads}
@@ -22,6 +22,7 @@ use Rattle.heap_world.proofs.FreeRegions.{free_without}
 use Rattle.heap_world.proofs.Joined as joined
 use Rattle.heap_world.proofs.Joined.{CanJoin}
 use Rattle.image_laws.specs.Plot.{AreThings}
+use Rattle.image_laws.proofs.Named.{no_spent, no_hand, no_promised, no_filler}
 use Rattle.image_laws.specs.Full.{fresh_word, made_in}
 use Rattle.image_laws.specs.Promised.{Promises, with_promised}
 use Rattle.image_laws.specs.Image.{AnswerStands, ImageStands}
@@ -120,9 +121,11 @@ module _ (c : Config) (m : Word → ℕ) (block : Plot) (g : Graph) (p : Promise
     where
       long : (a : ℕ) (b : Block) → block a ≡ Some b → 1 ≤ words_of b
       long a (thing name refs nums) is = omega arith
-      long a (hand seat words) is = absurd (none-some _ (stands.things a (hand seat words) is).1)
-      long a (promised seat words) is = absurd (none-some _ (stands.things a (promised seat words) is).1)
-      long a (filler words) is = absurd (none-some _ (stands.things a (filler words) is).1)
+      long a (moved name refs nums to) is = omega arith
+      long a (spent words to) is = absurd (no_spent block stands.things a words to is)
+      long a (hand seat words) is = absurd (no_hand block stands.things a seat words is)
+      long a (promised seat words) is = absurd (no_promised block stands.things a seat words is)
+      long a (filler words) is = absurd (no_filler block stands.things a words is)
 
   names_stay : (a : ℕ) (name : Name) → name_at (block a) ≡ Some name → name_at (new_block a) ≡ Some name
   names_stay = joined.names_stay c top block r (m (Top r)) piece can
@@ -248,7 +251,7 @@ module _ (c : Config) (m : Word → ℕ) (block : Plot) (g : Graph) (p : Promise
 
   are_things : AreThings new_block
   are_things a other is = ⊎_elim
-      (λ (made : (a ≡ address) × (piece ≡ other)). (new, ap (λ b. name_at (Some b)) (sym made.1)))
+      (λ (made : (a ≡ address) × (piece ≡ other)). (new, refs_in (asked_shape m t), nums_in (asked_shape m t), sym made.1))
       (λ (old : (a ≢ address) × (block a ≡ Some other)). stands.things a other old.1)
       (cases a other is)
 

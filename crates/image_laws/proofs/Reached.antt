@@ -8,7 +8,7 @@ use Rattle.shen_graph.specs.Graph.{Graph, Object, Reference, named}
 use Rattle.shen_graph.specs.Reach.{IsReachable}
 use Rattle.shen_graph.specs.Reach as reach
 use Rattle.heap_world.specs.World.{Plot, thing, name_at, IsPlotted}
-use Rattle.heap_world.proofs.Pointing.{piece_inside, named_thing, named_if_not_0}
+use Rattle.heap_world.proofs.Pointing.{piece_inside, named_piece, named_if_not_0}
 use Rattle.image_laws.specs.Held.{IsHeld, from_root, from_field, AreKept, HoldsGraph}
 use Rattle.image_laws.specs.Laws.{HeldAreReachable}
 use Rattle.image_laws.specs.Pack.{CanPack}
@@ -23,8 +23,8 @@ words_read refs nums few less = omega (arith, few, less)
 -- no piece is at 0
 pub none_at_0 : (c : Config) (top : ℕ → ℕ) (block : Plot) → IsPlotted c top block → (word : ℕ) (name : Name) → name_at (block word) ≡ Some name → word ≢ 0
 none_at_0 c top block plotted word name is zero' =
-    let piece = named_thing (block word) name is in
-    let inside = piece_inside c top block plotted word (thing name piece.0 piece.1) piece.2 in
+    let piece = named_piece (block word) name is in
+    let inside = piece_inside c top block plotted word piece.0 piece.1 in
     omega (arith, inside.0, zero', c.in_range.least_words)
 
 -- the object that a name names

@@ -10,13 +10,13 @@ use Rattle.sliding.specs.Slide.{renewed}
 use Rattle.shen_graph.specs.declared.name.Name.{Name}
 use Rattle.shen_graph.specs.Graph.{Graph}
 use Rattle.heap_world.specs.World.{Plot, name_at, Points, IsPlotted, AreObjects}
-use Rattle.heap_world.proofs.Pointing.{named_thing}
 use Rattle.image_laws.specs.Held.{IsAmong, HoldsGraph}
-use Rattle.image_laws.specs.Plot.{packed_block}
+use Rattle.image_laws.specs.Plot.{AreThings, packed_block}
 use Rattle.image_laws.specs.Full.{now_in, root_words, kept_in, packed, renewed_answer}
 use Rattle.image_laws.specs.Laws.{KeepsGraph}
 use Rattle.image_laws.specs.Promised.{Promises, with_promised}
 use Rattle.image_laws.specs.Image.{AnswerStands, RootsStand, ImageStands}
+use Rattle.image_laws.proofs.Named.{thing_at}
 use Rattle.image_laws.proofs.Reached.{can_pack}
 use Rattle.image_laws.proofs.Origin.{lie_apart}
 use Rattle.image_laws.proofs.Image.{keeps_graph}
@@ -28,13 +28,13 @@ pub own_copy : (memory : Word → ℕ) (a : ℕ) → memory (Heap a) ≡ plain_h
 own_copy memory a plain =
     cond-false (is_forwarded (memory (Heap a))) (forwardee_in (memory (Heap a))) a (ap is_forwarded plain)
 
-pub objects_hold : (c : Config) (memory : Word → ℕ) (block : Plot) (g : Graph) (p : Promises) → IsPlotted c (λ r. memory (Top r)) block
+pub objects_hold : (c : Config) (memory : Word → ℕ) (block : Plot) (g : Graph) (p : Promises) → IsPlotted c (λ r. memory (Top r)) block → AreThings block
     → AreObjects (λ a. memory (Heap a)) block (with_promised g p).object → RootsStand c memory block g p
     → HoldsGraph c (λ r. memory (Top r)) (λ a. memory (Heap a)) block (now_in memory) (IsAmong (root_words c memory)) (with_promised g p)
-objects_hold c memory block g p plotted objects rooted = record {
+objects_hold c memory block g p plotted things objects rooted = record {
   plotted = plotted;
   current = λ word name is.
-      let piece = named_thing (block word) name is in
+      let piece = thing_at block things word name is in
       let object = objects.each word piece.0 piece.1 name piece.2 in
       (piece.0, piece.1, ap block (own_copy memory word object.2.header) ∙ piece.2);
   each = λ a refs nums name held is. objects.each a refs nums name is;
@@ -45,7 +45,7 @@ objects_hold c memory block g p plotted objects rooted = record {
 
 pub standing_holds : (c : Config) (memory : Word → ℕ) (block : Plot) (g : Graph) (p : Promises) → ImageStands c memory block g p
     → HoldsGraph c (λ r. memory (Top r)) (λ a. memory (Heap a)) block (now_in memory) (IsAmong (root_words c memory)) (with_promised g p)
-standing_holds c memory block g p stands = objects_hold c memory block g p stands.plotted stands.objects stands.rooted
+standing_holds c memory block g p stands = objects_hold c memory block g p stands.plotted stands.things stands.objects stands.rooted
 
 module _ (c : Config) (memory : Word → ℕ) (block : Plot) (g : Graph) (p : Promises)
     (holds : HoldsGraph c (λ r. memory (Top r)) (λ a. memory (Heap a)) block (now_in memory) (IsAmong (root_words c memory)) (with_promised g p))

@@ -4,11 +4,11 @@ use Rattle.heap_words.specs.declared.config.Config.{Config}
 use Rattle.packing.specs.Places.{new_place}
 use Rattle.packing.specs.Tops.{top_before}
 use Rattle.shen_graph.specs.declared.name.Name.{Name}
-use Rattle.heap_world.specs.World.{Block, Plot, name_at}
+use Rattle.heap_world.specs.World.{Block, Plot, thing}
 
--- each piece is an object of a name: nobody has room in hand, and what a pause has made for a mutator counts as an object
+-- each piece is an object: nobody has room in hand, and old copies and what a pause has made for a mutator count as objects
 abbrev pub AreThings : Plot → Type 0
-AreThings block = (a : ℕ) (piece : Block) → block a ≡ Some piece → (name : Name) × (name_at (Some piece) ≡ Some name)
+AreThings block = (a : ℕ) (piece : Block) → block a ≡ Some piece → (name : Name) × (refs : ℕ) × (nums : ℕ) × (piece ≡ thing name refs nums)
 
 -- the address behind the last one of the heap
 abbrev pub heap_end : Config → ℕ

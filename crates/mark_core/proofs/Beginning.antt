@@ -12,7 +12,8 @@ use Rattle.shen_graph.specs.Graph.{Graph}
 use Rattle.heap_graph.specs.Walk.{has, with_addresses}
 use Rattle.heap_graph.proofs.Marks as found
 use Rattle.heap_world.specs.World.{Plot, thing}
-use Rattle.heap_world.proofs.Pointing.{piece_inside, named_thing}
+use Rattle.heap_world.proofs.Pointing.{piece_inside}
+use Rattle.image_laws.proofs.Named.{thing_at}
 use Rattle.image_laws.specs.Held.{IsAmong}
 use Rattle.image_laws.specs.Full.{root_words}
 use Rattle.image_laws.specs.Promised.{Promises}
@@ -47,7 +48,7 @@ module _ (c : Config) (m : Word → ℕ) (block : Plot) (owner : ℕ → Option 
   pub named_inside : (word : ℕ) → IsAmong (root_words c m) word → IsNullOrInside c word
   named_inside word among some =
       let named = holds.objects.root_named word among some in
-      let piece = named_thing (block word) named.2 named.4 in
+      let piece = thing_at block holds.things word named.2 named.4 in
       let inside = piece_inside c top block holds.objects.plotted word (thing named.2 piece.0 piece.1) piece.2 in
       (inside.0, omega (arith, inside.1))
 

@@ -14,7 +14,7 @@ use Rattle.regions.proofs.PlaceLemmas.{regions_tile}
 use Rattle.shen_graph.specs.declared.name.Name.{Name}
 use Rattle.shen_graph.specs.Graph.{Graph, Reference, Object}
 use Rattle.heap_world.specs.World.{Plot, Block, thing, hand, promised, filler, name_at, words_of, Points, IsPlotted, IsFilled, IsFreeWord, AreCurrent, IsThing}
-use Rattle.heap_world.proofs.Pointing.{named_thing}
+use Rattle.image_laws.proofs.Named.{thing_at}
 use Rattle.image_laws.specs.Held.{IsAmong, HoldsGraph}
 use Rattle.image_laws.specs.Full.{now_in, root_words}
 use Rattle.image_laws.specs.Promised.{Promises, with_promised}
@@ -48,11 +48,8 @@ no_more true n most few = omega arith
 no_more false n most few = few
 
 -- an object has some words
-some_words : (b : Block) → (name : Name) × (name_at (Some b) ≡ Some name) → 0 < words_of b
-some_words (thing name refs nums) is = omega arith
-some_words (hand seat words) is = absurd (none-some _ is.1)
-some_words (promised seat words) is = absurd (none-some _ is.1)
-some_words (filler words) is = absurd (none-some _ is.1)
+some_words : (b : Block) → (name : Name) × (refs : ℕ) × (nums : ℕ) × (b ≡ thing name refs nums) → 0 < words_of b
+some_words b is = let size = ap words_of is.3 in omega (arith, size)
 
 -- The set of free regions.
 module _ (c : Config) (out : ℕ → Bool) (m : Word → ℕ) where
@@ -191,7 +188,7 @@ module _ (c : Config) (out : ℕ → Bool) (m : Word → ℕ) (block : Plot) (ow
   objects = record {
     plotted = plotted;
     current = λ word name is.
-        let piece = named_thing (left word) name is in
+        let piece = thing_at left (λ a b here. holds.things a b (piece_was a b here).1) word name is in
         let was = piece_was word (thing name piece.0 piece.1) piece.2 in
         let own = own_copy c m block owner p g holds calm word piece.0 piece.1 name was.1 in
         (piece.0, piece.1, ap left own ∙ piece.2);

@@ -4,25 +4,22 @@ use Rattle.std.specs.Int.{bit_at}
 use Rattle.std.proofs.lemmas.Bool.{and_parts, and_from, le-leb, leb-true, eqb-true, eq-eqb, cases_Bool, cases_lt, true≢false}
 use Rattle.std.proofs.lemmas.Option.{none-some, slice_get-get_or}
 use Rattle.heap_words.specs.declared.config.Config.{Config}
-use Rattle.heap_words.specs.Words.{Word, Phase, Top, Tams, Current, Count, Buffer, Grey, Black, Heap}
+use Rattle.heap_words.specs.Words.{Word, Phase, Cset, Top, Tams, Current, Count, Buffer, Grey, Black, Heap}
 use Rattle.heap_words.specs.Encoding.{refs_in}
 use Rattle.regions.specs.Place.{base_of, region_with}
 use Rattle.shen_graph.specs.declared.name.Name.{Name}
 use Rattle.shen_graph.specs.Graph.{Graph, Reference}
 use Rattle.mark_bits.specs.Marks.{mark_word, mark_bit, HasMark}
-use Rattle.heap_world.specs.World.{Block, thing, promised, filler, Plot, Snapshot, IsMarkable, IsYoung, IsNoted, was_at, IsToScan, IsTracedAt, IsLed}
+use Rattle.heap_world.specs.World.{Block, thing, moved, spent, promised, filler, Snapshot, IsCollected, IsMarkable, IsYoung, IsNoted, was_at, IsToScan, IsTracedAt, IsLed, name_at}
 use Rattle.heap_world.specs.Asking.{Asking}
 use Rattle.heap_world.specs.Represents.{Represents}
 use Rattle.heap_world.proofs.Pointing.{piece_inside, named_thing, named_if_not_0}
 use Rattle.heap_world.proofs.Pieces.{some_words}
-use Rattle.image_laws.specs.Held.{IsAmong}
-use Rattle.image_laws.specs.Full.{now_in, root_words}
-use Rattle.image_laws.specs.Promised.{with_promised}
-use Rattle.image_laws.proofs.Reached.{held_is_reached, refs_read}
-use Rattle.pause_laws.proofs.Promises.{promises_of}
-use Rattle.pause_laws.proofs.Mapped.{mapped_at}
-use Rattle.pause_laws.proofs.Before.{as_object, live, live_objects, live_holds, kind_at}
-use Rattle.pause_laws.proofs.Dead.{as_dead, plain, IsPlain, is_live, is_dead, plain_at}
+use Rattle.heap_world.proofs.Copies.{none_in_0}
+use Rattle.image_laws.proofs.Reached.{refs_read}
+use Rattle.pause_laws.proofs.Before.{live, live_at, object_at}
+use Rattle.pause_laws.proofs.Current.{Kind, is_current, is_old, kind_at, held_current}
+use Rattle.pause_laws.proofs.Dead.{plain, IsPlain, is_live, is_dead, plain_at, plain_live}
 use Rattle.mark_laws.specs.Marks.{is_grey, is_black, IsNew, IsKept}
 use Rattle.mark_laws.specs.Facts.{IsObjectAt, IsReachable, IsOpen, IsEntry, IsChained, begins, goes_on, IsSafe, IsFollowed, from_grey, from_black, from_entry, from_new, from_field, IsMarking}
 use Rattle.mark_laws.proofs.Bits.{address_again}
@@ -39,9 +36,23 @@ pub is_mark : (c : Config) (marks : ℕ → ℕ) (a : ℕ) → c.region_words �
 is_mark c marks a high is =
     and_from (nat_le c.region_words a) (bit_at (marks (mark_word c a)) (mark_bit c a) == 1) (le-leb c.region_words a high) (eq-eqb (bit_at (marks (mark_word c a)) (mark_bit c a)) 1 is)
 
-module _ (c : Config) (m : Word → ℕ) (g : Graph) (asking : ℕ → Asking) (r : Represents c m g asking) where
+-- While there is no collection set, nothing has moved.
+module _ (c : Config) (m : Word → ℕ) (g : Graph) (asking : ℕ → Asking) (r : Represents c m g asking) (calm : m Cset ≡ 0) where
   abbrev heap : ℕ → ℕ
   heap a = m (Heap a)
+
+  uncollected : (a : ℕ) → IsCollected c (m Cset) a → ⊥
+  uncollected a is = none_in_0 c a (subst (λ set. IsCollected c set a) calm is)
+
+  pub no_moved : (a refs nums to : ℕ) (name : Name) → r.block a ≡ Some (moved name refs nums to) → ⊥
+  no_moved a refs nums to name is = uncollected a (r.shared.evacuated.moved.moveds a refs nums to name is).inside
+
+  pub no_spent : (a words to : ℕ) → r.block a ≡ Some (spent words to) → ⊥
+  no_spent a words to is = uncollected a (r.shared.evacuated.moved.spents a words to is).inside
+
+  -- so what stands for a name is an object
+  pub thing_at : (a : ℕ) (name : Name) → name_at (r.block a) ≡ Some name → (refs : ℕ) × (nums : ℕ) × (r.block a ≡ Some (thing name refs nums))
+  thing_at a name is = named_thing (r.block a) name (λ refs nums to. no_moved a refs nums to name) is
 
   -- a piece lies in the part of its region that is in use, and in the heap
   pub piece_below : (a : ℕ) (b : Block) → r.block a ≡ Some b
@@ -61,16 +72,15 @@ module _ (c : Config) (m : Word → ℕ) (g : Graph) (asking : ℕ → Asking) (
 
   -- what is an object of the larger graph can be marked
   pub live_markable : (a refs nums : ℕ) (name : Name) → live c m g asking r a ≡ Some (thing name refs nums) → IsMarkable r.block a
-  live_markable a refs nums name is = ⊎_elim
-      (λ (old : r.block a ≡ Some (thing name refs nums)). IsMarkable.object name refs nums old)
-      (λ new. IsMarkable.to_come new.0 new.1 new.2)
-      (kind_at c m g asking r a refs nums name is)
+  live_markable a refs nums name is = by_kind (kind_at c m g asking r a refs nums name is)
+    where
+      by_kind : Kind c m g asking r a refs nums name → IsMarkable r.block a
+      by_kind (is_current now) = now
+      by_kind (is_old to was) = absurd (uncollected a was.inside)
 
   -- what roots and answers lead to can be marked
   pub reached_markable : (a : ℕ) → IsReachable c m a → IsMarkable r.block a
-  reached_markable a held =
-      let at = held_is_reached c (λ q. m (Top q)) heap (live c m g asking r) (now_in m) (IsAmong (root_words c m)) (with_promised g (promises_of c g asking)) (live_holds c m g asking r) a held in
-      live_markable a at.1 at.2 at.0 at.3
+  reached_markable a held = held_current c m g asking r a held
 
   -- and so can what its fields name
   pub field_markable : (a i : ℕ) → IsMarkable r.block a → i < refs_in (heap (a + 1)) → heap (a + 3 + i) ≢ 0 → IsMarkable r.block (heap (a + 3 + i))
@@ -80,7 +90,7 @@ module _ (c : Config) (m : Word → ℕ) (g : Graph) (asking : ℕ → Asking) (
       let reference : Reference = get_or o.0.refs i None in
       let there : slice_get o.0.refs i ≡ Some reference = slice_get-get_or o.0.refs i None (omega (arith, few, shape, o.2.refs_are)) in
       let to = named_if_not_0 c (λ q. m (Top q)) r.block r.shared.parsable.plotted (heap (a + 3 + i)) reference (o.2.references i reference there) some in
-      let piece = named_thing (r.block (heap (a + 3 + i))) to.0 to.2 in
+      let piece = thing_at (heap (a + 3 + i)) to.0 to.2 in
       IsMarkable.object to.0 piece.0 piece.1 piece.2
   field_markable a i (IsMarkable.to_come seat words is) few some =
       let blank = r.shared.unwritten.blanks a seat words is in
@@ -88,17 +98,14 @@ module _ (c : Config) (m : Word → ℕ) (g : Graph) (asking : ℕ → Asking) (
       absurd (some (blank.nulls i (omega (arith, few, shape))))
 
   -- and it is an object
-  abbrev old : Plot
-  old = live c m g asking r
-
-  object_at : (a refs nums : ℕ) (name : Name) → old a ≡ Some (thing name refs nums) → IsObjectAt m (plain c m g asking r) a
-  object_at a refs nums name is =
-      let o = (live_objects c m g asking r).each a refs nums name is in
-      record { name = name; refs = refs; nums = nums; here = mapped_at as_dead old a (thing name refs nums) is; shape = o.2.shape; few_refs = o.2.few_refs; few_nums = o.2.few_nums }
+  is_object : (a refs nums : ℕ) (name : Name) → IsMarkable r.block a → live c m g asking r a ≡ Some (thing name refs nums) → IsObjectAt m (plain c m g asking r) a
+  is_object a refs nums name now is =
+      let o = object_at c m g asking r a refs nums name now is in
+      record { name = name; refs = refs; nums = nums; here = plain_live c m g asking r a refs nums name is; shape = o.2.shape; few_refs = o.2.few_refs; few_nums = o.2.few_nums }
 
   pub markable_object : (a : ℕ) → IsMarkable r.block a → IsObjectAt m (plain c m g asking r) a
-  markable_object a (IsMarkable.object name refs nums is) = object_at a refs nums name (mapped_at (as_object g asking) r.block a (thing name refs nums) is)
-  markable_object a (IsMarkable.to_come seat words is) = object_at a _ _ _ (mapped_at (as_object g asking) r.block a (promised seat words) is)
+  markable_object a (IsMarkable.object name refs nums is) = is_object a refs nums name (IsMarkable.object name refs nums is) (live_at c m g asking r a (thing name refs nums) is)
+  markable_object a (IsMarkable.to_come seat words is) = is_object a _ _ _ (IsMarkable.to_come seat words is) (live_at c m g asking r a (promised seat words) is)
 
   module _ (on : m Phase ≡ 1) where
     abbrev s : Snapshot
@@ -204,7 +211,7 @@ module _ (c : Config) (m : Word → ℕ) (g : Graph) (asking : ℕ → Asking) (
         (λ (black : is_black c m a ≡ true). black_markable a black)
         (λ (fresh : IsNew c m a). new_markable a refs nums name (plain_at c m g asking r a refs nums name is) fresh)
 
-    followed : (a : ℕ) → IsFollowed c m (plain c m g asking r) a → IsMarkable r.block a
+    pub followed : (a : ℕ) → IsFollowed c m (plain c m g asking r) a → IsMarkable r.block a
     followed _ (from_grey a is) = grey_markable a is
     followed _ (from_black a is) = black_markable a is
     followed _ (from_entry a is) = entry_markable a is
@@ -217,6 +224,6 @@ module _ (c : Config) (m : Word → ℕ) (g : Graph) (asking : ℕ → Asking) (
       fields = λ a i is kept few some. markable_safe (heap (a + 3 + i)) (field_markable a i (kept_markable a is.refs is.nums is.name is.here kept) few some);
       counts = λ t inside. (r.shared.marked.entries on).few t inside;
       tams = λ q inside. (let same = r.shared.marked.tams_are on q inside in let floor = r.shared.marked.floors q inside in omega (arith, same, floor));
-      uncollected = r.shared.calm.cset_is;
+      uncollected = calm;
       objects = λ a is. markable_object a (followed a is);
     }

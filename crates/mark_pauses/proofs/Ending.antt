@@ -1,5 +1,6 @@
--- The end of marking: each object is marked or new, so none lies in a dead region, and the words represent the same graph.
-use Rattle.std.proofs.Common.{◌≡◌, ℕ, ◌+◌, ◌<◌, ◌≤◌, max, Bool, true, false, Option, Some, None, ⊎_elim, refl, sym, ap, ◌∙◌, arith}
+-- The end of marking: each object is marked or new, so none lies in a dead region, and the words stand for the same graph.
+use Rattle.std.proofs.Common.{◌≡◌, ℕ, ◌+◌, ◌<◌, ◌≤◌, ◌⊎◌, max, Bool, true, false, Option, Some, None, inl, inr, ⊎_elim, refl, sym, ap, ◌∙◌, arith}
+use Rattle.std.specs.Prelude.{if◌then◌else◌}
 use Rattle.std.specs.Int.{bit_at}
 use Rattle.std.proofs.lemmas.Bool.{cond-true, cond-false, cases_Bool, cases_lt, true≢false}
 use Rattle.std.proofs.lemmas.Nat.{or_lt}
@@ -7,55 +8,78 @@ use Rattle.std.proofs.lemmas.Nat.Bits.{bit_at_or}
 use Rattle.std.proofs.lemmas.Option.{none-some}
 use Rattle.heap_words.specs.declared.config.Config.{Config}
 use Rattle.heap_words.specs.Ranges.{seat_count}
-use Rattle.heap_words.specs.Words.{Word, Phase, Free, Top, Tams, Current, Root, Count, Buffer, Grey, Black, Heap}
+use Rattle.heap_words.specs.Words.{Word, Phase, Cset, Free, Top, Tams, Current, Root, Black, Heap}
 use Rattle.regions.specs.Place.{base_of, region_with}
 use Rattle.regions.specs.Sets.{IsIn}
 use Rattle.regions.proofs.PlaceLemmas.{regions_tile}
 use Rattle.shen_graph.specs.declared.name.Name.{Name}
 use Rattle.shen_graph.specs.Graph.{Graph}
-use Rattle.heap_world.specs.World.{Block, thing, hand, promised, filler, words_of, Plot, Ghost, no_snapshot, name_at, IsInUse, IsPlotted, IsFilled, AreObjects, IsFreeWord, AreCurrent, IsMarkable}
-use Rattle.heap_world.specs.Asking.{Asking, asks, IsAsked}
+use Rattle.heap_world.specs.World.{Block, thing, moved, spent, hand, promised, filler, words_of, Plot, Ghost, no_snapshot, name_at, IsInUse, IsPlotted, IsFilled, AreObjects, IsFreeWord, AreCurrent, IsMarkable, IsYoung}
+use Rattle.heap_world.specs.Asking.{Asking, IsAsked}
 use Rattle.heap_world.specs.Represents.{Represents}
-use Rattle.heap_world.proofs.Pointing.{named_thing}
 use Rattle.heap_world.proofs.Pieces.{some_words, object_reads}
 use Rattle.heap_world.proofs.Keeping.{points_stay}
-use Rattle.heap_world.proofs.Unmarked.{none_marked}
+use Rattle.mark_bits.specs.Marks.{HasMark}
+use Rattle.image_laws.specs.Promised.{Promises}
+use Rattle.image_graph.specs.Holds.{HoldsBy}
+use Rattle.image_graph.specs.State.{IsSomeSeats}
 use Rattle.pause_laws.proofs.Promises.{promises_of}
 use Rattle.pause_laws.proofs.Dead.{plain}
 use Rattle.pause_laws.proofs.Holding.{holds_by}
 use Rattle.mark_laws.specs.Marks.{is_black, bits_of, IsNew, IsKept}
-use Rattle.mark_laws.specs.Close.{closed}
-use Rattle.mark_laws.specs.Final.{IsDead, dead_in, freed_block, freed_owner, mark_ended}
+use Rattle.mark_laws.specs.Close.{IsTraced, closed}
+use Rattle.mark_laws.specs.Final.{is_current, IsDead, dead_in, freed_block, freed_owner, final_marked}
+use Rattle.mark_laws.specs.Facts.{IsMarking}
 use Rattle.mark_laws.specs.Laws.{HasNoMoreSeats}
 use Rattle.mark_laws.proofs.Bits.{one, bits_small, bits_at}
-use Rattle.mark_laws.proofs.Closed.{safe_kept}
-use Rattle.mark_laws.proofs.Dead.{dead_is_dead}
+use Rattle.mark_laws.proofs.Closed.{are_closed, followed as traced_followed, safe_kept}
+use Rattle.mark_laws.proofs.Dead.{current_is, is_current_of, dead_is_dead}
 use Rattle.mark_laws.proofs.Plain.{below_top}
 use Rattle.mark_pauses.proofs.Asked.{asked_stays}
-use Rattle.mark_pauses.proofs.Chains.{piece_below, markable_piece, markable_safe, is_marking}
+use Rattle.mark_pauses.proofs.Chains.{mark_is, is_mark, no_moved, no_spent, thing_at, piece_below, markable_piece, black_markable, markable_safe, followed, is_marking}
+use Rattle.mark_pauses.specs.MarkedOut.{IsMarkedOut}
+
+-- nothing, if a test holds or not
+none_if : (b : Bool) (o : Option ℕ) → o ≡ None → (if b then o else None) ≡ None
+none_if true o is = is
+none_if false o is = refl
 
 module _ (c : Config) (m : Word → ℕ) (g : Graph) (asking : ℕ → Asking) (r : Represents c m g asking) (on : m Phase ≡ 1) where
   abbrev n : Word → ℕ
-  n = mark_ended c m
+  n = final_marked c m
+
+  calm : m Cset ≡ 0
+  calm = r.shared.phased.cset_is (λ evacuates. omega (arith, on, evacuates))
+
+  abbrev p : Promises
+  p = promises_of c g asking
+
+  abbrev old : Plot
+  old = plain c m g asking r
+
+  holds : HoldsBy c m old r.ghost.owner p g
+  holds = holds_by c m g asking r
+
+  marking : IsMarking c m old
+  marking = is_marking c m g asking r calm on
 
   abbrev out : ℕ → Bool
   out = dead_in c m
 
-  abbrev plot : Plot
+  abbrev pub plot : Plot
   plot = freed_block c out r.block
 
   -- once the marks are closed, an object is marked or new
   kept : (a : ℕ) → IsMarkable r.block a → IsKept c (closed c m) a
-  kept a is =
-      safe_kept c m (plain c m g asking r) r.ghost.owner (promises_of c g asking) g (holds_by c m g asking r) (is_marking c m g asking r on) a (markable_safe c m g asking r on a is)
+  kept a is = safe_kept c m old r.ghost.owner p g holds marking a (markable_safe c m g asking r calm on a is)
 
   -- so its region is not dead
   alive : (a : ℕ) → IsMarkable r.block a → out (region_with c a) ≡ false
   alive a is = ⊎_elim
       (λ (dead : out (region_with c a) ≡ true).
       let facts : IsDead c (closed c m) (region_with c a) = (dead_is_dead c (closed c m) (region_with c a)).0 dead in
-      let piece = markable_piece c m g asking r a is in
-      let at = piece_below c m g asking r a piece.0 piece.1 in
+      let piece = markable_piece c m g asking r calm a is in
+      let at = piece_below c m g asking r calm a piece.0 piece.1 in
       let most = r.shared.parsable.plotted.tops (region_with c a) at.0 in
       absurd (⊎_elim
       (λ (black : is_black c (closed c m) a ≡ true). true≢false (sym black ∙ facts.unmarked a (record { from = at.1; before = omega (arith, at.2, most) })))
@@ -81,7 +105,7 @@ module _ (c : Config) (m : Word → ℕ) (g : Graph) (asking : ℕ → Asking) (
   promised_stays a seat words is = stays a (alive a (IsMarkable.to_come seat words is)) ∙ is
 
   names_stay : (a : ℕ) (name : Name) → name_at (r.block a) ≡ Some name → name_at (plot a) ≡ Some name
-  names_stay a name is = let piece = named_thing (r.block a) name is in ap name_at (thing_stays a piece.0 piece.1 name piece.2)
+  names_stay a name is = let piece = thing_at c m g asking r calm a name is in ap name_at (thing_stays a piece.0 piece.1 name piece.2)
 
   -- tops afterwards
   top_out : (q : ℕ) → out q ≡ true → n (Top q) ≡ 0
@@ -154,13 +178,20 @@ module _ (c : Config) (m : Word → ℕ) (g : Graph) (asking : ℕ → Asking) (
       let bit : bit_at (n Free) q ≡ max (bit_at (m Free) q) 0 = free_bit q inside ∙ ap (λ b. max (bit_at (m Free) q) (one b)) other in
       omega (arith, bit, is)
 
+  -- a region is owned where it is some seat's current one
+  abbrev owner : ℕ → Option ℕ
+  owner q = if is_current c m q then freed_owner out r.ghost.owner q else None
+
   owner_out : (q : ℕ) → out q ≡ true → freed_owner out r.ghost.owner q ≡ None
   owner_out q dead = let none : Option ℕ = None in cond-true (out q) none (r.ghost.owner q) dead
 
   owner_stays : (q : ℕ) → out q ≡ false → freed_owner out r.ghost.owner q ≡ r.ghost.owner q
   owner_stays q other = let none : Option ℕ = None in cond-false (out q) none (r.ghost.owner q) other
 
-  free_again : IsFreeWord c (n Free) (λ q. n (Top q)) (freed_owner out r.ghost.owner)
+  none_owns : (q : ℕ) → freed_owner out r.ghost.owner q ≡ None → owner q ≡ None
+  none_owns q none = none_if (is_current c m q) (freed_owner out r.ghost.owner q) none
+
+  free_again : IsFreeWord c (n Free) (λ q. n (Top q)) owner
   free_again = record {
     no_more = or_lt c.regions (m Free) (bits_of out 0 c.regions) r.shared.owned.free_word.no_more (bits_small out 0 c.regions);
     empty = λ q inside is. ⊎_elim
@@ -168,36 +199,90 @@ module _ (c : Config) (m : Word → ℕ) (g : Graph) (asking : ℕ → Asking) (
         (λ (other : out q ≡ false). top_stays q other ∙ r.shared.owned.free_word.empty q inside (was_free q inside other is))
         (cases_Bool (out q));
     nobodys = λ q inside is. ⊎_elim
-        (λ (dead : out q ≡ true). owner_out q dead)
-        (λ (other : out q ≡ false). owner_stays q other ∙ r.shared.owned.free_word.nobodys q inside (was_free q inside other is))
+        (λ (dead : out q ≡ true). none_owns q (owner_out q dead))
+        (λ (other : out q ≡ false). none_owns q (owner_stays q other ∙ r.shared.owned.free_word.nobodys q inside (was_free q inside other is)))
         (cases_Bool (out q));
   }
 
   -- nobody's current region is dead
-  current_alive : HasNoMoreSeats c m → (seat q : ℕ) → m (Current seat) ≡ q + 1 → out q ≡ false
-  current_alive no_more seat q is = ⊎_elim
-      (λ (dead : out q ≡ true).
-      let facts : IsDead c (closed c m) q = (dead_is_dead c (closed c m) q).0 dead in
-      absurd (⊎_elim
-      (λ (seated : seat < seat_count c.mutators c.helpers). facts.nobodys (seat, seated, is))
-      (λ (past : seat_count c.mutators c.helpers ≤ seat). let none = no_more seat past in omega (arith, none, is))
-      (cases_lt seat (seat_count c.mutators c.helpers))))
-      (λ (other : out q ≡ false). other)
-      (cases_Bool (out q))
+  module _ (no_more : HasNoMoreSeats c m) where
+    seated : (seat q : ℕ) → m (Current seat) ≡ q + 1 → IsSomeSeats c m q
+    seated seat q is = ⊎_elim
+        (λ (inside : seat < seat_count c.mutators c.helpers). (seat, inside, is))
+        (λ (past : seat_count c.mutators c.helpers ≤ seat). absurd (let none = no_more seat past in omega (arith, none, is)))
+        (cases_lt seat (seat_count c.mutators c.helpers))
 
-  currents_again : HasNoMoreSeats c m → AreCurrent c (λ s. m (Current s)) (freed_owner out r.ghost.owner)
-  currents_again no_more = record {
-    within = r.shared.owned.currents.within;
-    own = λ seat q is. owner_stays q (current_alive no_more seat q is) ∙ r.shared.owned.currents.own seat q is;
-  }
+    current_alive : (seat q : ℕ) → m (Current seat) ≡ q + 1 → out q ≡ false
+    current_alive seat q is = ⊎_elim
+        (λ (dead : out q ≡ true).
+        let facts : IsDead c (closed c m) q = (dead_is_dead c (closed c m) q).0 dead in
+        absurd (facts.nobodys (seated seat q is)))
+        (λ (other : out q ≡ false). other)
+        (cases_Bool (out q))
+
+    owns : (seat q : ℕ) → m (Current seat) ≡ q + 1 → owner q ≡ Some seat
+    owns seat q is =
+        let none : Option ℕ = None in
+        cond-true (is_current c m q) (freed_owner out r.ghost.owner q) none (is_current_of c m q (seated seat q is))
+        ∙ owner_stays q (current_alive seat q is) ∙ r.shared.owned.currents.own seat q is
+
+    currents_again : AreCurrent c (λ s. m (Current s)) owner
+    currents_again = record { within = r.shared.owned.currents.within; own = owns }
+
+  seats_own : (q seat : ℕ) → owner q ≡ Some seat → IsSomeSeats c m q
+  seats_own q seat is = ⊎_elim
+      (λ (some : is_current c m q ≡ true). current_is c m q some)
+      (λ (other : is_current c m q ≡ false).
+      let none : Option ℕ = None in
+      absurd (none-some seat (sym (cond-false (is_current c m q) (freed_owner out r.ghost.owner q) none other) ∙ is)))
+      (cases_Bool (is_current c m q))
+
+  -- What is marked then is an object, and each object is marked or new.
+  tams_stays : (q : ℕ) → out q ≡ false → n (Tams q) ≡ m (Tams q)
+  tams_stays q other = cond-false (out q) 0 (m (Tams q)) other
+
+  was_markable : (a : ℕ) → IsMarkable plot a → IsMarkable r.block a
+  was_markable a (IsMarkable.object name refs nums is) = IsMarkable.object name refs nums (left a (thing name refs nums) is).1
+  was_markable a (IsMarkable.to_come seat words is) = IsMarkable.to_come seat words (left a (promised seat words) is).1
+
+  still_markable : (a : ℕ) → IsMarkable r.block a → IsMarkable plot a
+  still_markable a (IsMarkable.object name refs nums is) = IsMarkable.object name refs nums (thing_stays a refs nums name is)
+  still_markable a (IsMarkable.to_come seat words is) = IsMarkable.to_come seat words (promised_stays a seat words is)
+
+  black_or_young : (a : ℕ) → IsMarkable r.block a → HasMark c (λ k. n (Black k)) a ⊎ IsYoung c (λ q. n (Tams q)) a
+  black_or_young a is = ⊎_elim
+      (λ (black : is_black c (closed c m) a ≡ true). inl (mark_is c (λ k. n (Black k)) a black).1)
+      (λ (fresh : IsNew c (closed c m) a).
+      let piece = markable_piece c m g asking r calm a is in
+      let at = piece_below c m g asking r calm a piece.0 piece.1 in
+      let same = tams_stays (region_with c a) (alive a is) in
+      inr (omega (arith, fresh, same, at.1)))
+      (kept a is)
+
+  black_object : (a : ℕ) → is_black c (closed c m) a ≡ true → IsMarkable r.block a
+  black_object a is = ⊎_elim
+      (λ (was : is_black c m a ≡ true). black_markable c m g asking r calm on a was)
+      (λ (traced : IsTraced c m a). followed c m g asking r calm on a (traced_followed c m old r.ghost.owner p g holds marking a traced))
+      (((are_closed c m old r.ghost.owner p g holds marking).black a).0 is)
+
+  floors_again : (q : ℕ) → q < c.regions → n (Tams q) ≤ n (Top q)
+  floors_again q inside = ⊎_elim
+      (λ (dead : out q ≡ true). (let none = cond-true (out q) 0 (m (Tams q)) dead in omega (arith, none)))
+      (λ (other : out q ≡ false).
+      let top = top_stays q other in
+      let tams = tams_stays q other in
+      let same = r.shared.marked.tams_are on q inside in
+      let floor = r.shared.marked.floors q inside in
+      omega (arith, top, tams, same, floor))
+      (cases_Bool (out q))
 
   -- what is asked and promised stays
   asked_again : (t : ℕ) → IsAsked m r.block g.count t (asking t) → IsAsked n plot g.count t (asking t)
   asked_again t asked = asked_stays m n r.block plot g.count t refl refl (λ a. refl) (λ a words is. promised_stays a t words is) (λ a words is. (left a (promised t words) is).1) (asking t) asked
 
-  abbrev ghost : Ghost
+  abbrev pub ghost : Ghost
   ghost = record {
-    owner = freed_owner out r.ghost.owner;
+    owner = owner;
     snapshot = no_snapshot;
     recording = r.ghost.recording;
     scanning = r.ghost.scanning;
@@ -205,38 +290,47 @@ module _ (c : Config) (m : Word → ℕ) (g : Graph) (asking : ℕ → Asking) (
     working = r.ghost.working;
   }
 
-  -- so the words represent the graph, where nobody asks
-  pub ended : HasNoMoreSeats c m → ((t refs nums : ℕ) → t < c.mutators → asking t ≡ asks refs nums → ⊥) → Represents c n g asking
-  ended no_more nobody = record {
-    block = plot;
-    ghost = ghost;
-    shared = record {
-      parsable = record {
-        plotted = plotted_again;
-        filled = filled_again;
-        promises = λ a seat words is. r.shared.parsable.promises a seat words (left a (promised seat words) is).1;
-        fillers = λ a words is. r.shared.parsable.fillers a words (left a (filler words) is).1;
-      };
-      contents = record { objects = objects_again; given = r.shared.contents.given };
-      owned = record {
-        free_word = free_again;
-        currents = currents_again no_more;
-        rooms = λ a seat words is. absurd (r.none a seat words (left a (hand seat words) is).1);
-      };
-      calm = record { phase_is = omega arith; cset_is = refl; evac_is = r.shared.calm.evac_is };
-      uncopied = r.shared.uncopied;
-      unwritten = record {
-        blanks = λ a seat words is. r.shared.unwritten.blanks a seat words (left a (promised seat words) is).1;
-        headers = λ a words is. r.shared.unwritten.headers a words (left a (filler words) is).1;
-      };
-      marked = none_marked c (n Phase) (λ q. n (Grey q)) (λ q. n (Black q)) (λ t. n (Count t)) (λ t k. n (Buffer t k)) (λ q. n (Top q)) (λ q. n (Tams q)) (λ a. n (Heap a)) plot
-          r.ghost.recording r.ghost.scanning refl;
+  -- so marking has ended
+  pub marked_out : HasNoMoreSeats c m → IsMarkedOut c n plot ghost g asking
+  marked_out no_more = record {
+    phase_is = on;
+    cset_is = calm;
+    evac_is = r.shared.phased.evac_is (λ evacuates. omega (arith, on, evacuates));
+    parsable = record {
+      plotted = plotted_again;
+      filled = filled_again;
+      promises = λ a seat words is. r.shared.parsable.promises a seat words (left a (promised seat words) is).1;
+      fillers = λ a words is. r.shared.parsable.fillers a words (left a (filler words) is).1;
+      spents = λ a words to is. r.shared.parsable.spents a words to (left a (spent words to) is).1;
     };
-    roots = λ t i inside few. points_stay r.block plot names_stay (m (Root t i)) (g.root (t + 1) i) (r.roots t i inside few);
-    none = λ a seat words is. r.none a seat words (left a (hand seat words) is).1;
-    asked = λ t inside. asked_again t (r.asked t inside);
-    heard = λ t refs nums inside is. absurd (nobody t refs nums inside is);
-    promised_to = λ a seat words is. r.promised_to a seat words (left a (promised seat words) is).1;
+    contents = record { objects = objects_again; given = r.shared.contents.given };
+    owned = record {
+      free_word = free_again;
+      currents = currents_again no_more;
+      rooms = λ a seat words is. absurd (r.none a seat words (left a (hand seat words) is).1);
+    };
+    seats = seats_own;
+    unwritten = record {
+      blanks = λ a seat words is. r.shared.unwritten.blanks a seat words (left a (promised seat words) is).1;
+      headers = λ a words is. r.shared.unwritten.headers a words (left a (filler words) is).1;
+      lengths = λ a words is. r.shared.unwritten.lengths a words (left a (filler words) is).1;
+    };
+    unmoved = record {
+      no_moved = λ a refs nums to name is. no_moved c m g asking r calm a refs nums to name (left a (moved name refs nums to) is).1;
+      no_spent = λ a words to is. no_spent c m g asking r calm a words to (left a (spent words to) is).1;
+      no_hand = λ a seat words is. r.none a seat words (left a (hand seat words) is).1;
+    };
+    marked = record {
+      objects = λ a is. black_or_young a (was_markable a is);
+      only = λ a high mark. still_markable a (black_object a (is_mark c (λ k. n (Black k)) a high mark));
+      floors = floors_again;
+    };
+    snapshot_is = refl;
     unmarking = record { records_none = r.unmarking.records_none; scans_none = r.unmarking.scans_none };
+    uncopying = record { copies_none = r.uncopying.copies_none; works_none = r.uncopying.works_none };
+    roots = λ t i inside few. points_stay r.block plot names_stay (m (Root t i)) (g.root (t + 1) i) (r.roots t i inside few);
+    asked = λ t inside. asked_again t (r.asked t inside);
+    heard = r.heard;
+    promised_to = λ a seat words is. r.promised_to a seat words (left a (promised seat words) is).1;
     no_more = r.no_more;
   }

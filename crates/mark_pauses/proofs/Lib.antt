@@ -1,9 +1,7 @@
-pub mod Images
 pub mod Chains
-pub mod Standing
 pub mod Asked
 pub mod Pruned
 pub mod Beginning
 pub mod Ending
+pub mod Standing
 pub mod Outside
-pub mod Pauses

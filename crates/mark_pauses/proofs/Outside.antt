@@ -16,7 +16,7 @@ use Rattle.pause_laws.proofs.Outside.{IsZeroOutside}
 use Rattle.mark_laws.specs.Marks.{bits_of, mark_bits}
 use Rattle.mark_laws.specs.Init.{init_marked}
 use Rattle.mark_laws.specs.Close.{traced_in}
-use Rattle.mark_laws.specs.Final.{dead_in, mark_ended}
+use Rattle.mark_laws.specs.Final.{dead_in, final_marked}
 use Rattle.mark_laws.specs.Facts.{IsMarking}
 use Rattle.mark_laws.proofs.Bits.{one}
 use Rattle.mark_laws.proofs.Closed.{inside}
@@ -72,15 +72,12 @@ module _ (c : Config) (m : Word → ℕ) (block : Plot) (owner : ℕ → Option 
       let at = inside c m block owner p g holds marking a (listed_traced c m (c.regions * c.region_words) a is) in
       omega (arith, at.1)
 
-  pub end_outside : IsMarking c m block → IsZeroOutside c (mark_ended c m)
-  end_outside marking (Grey q) other = or_zero (m (Grey q)) (mark_bits c (has (traced_in c m)) q) (nothing (Grey q) other) (marks_outside c (has (traced_in c m)) (traced_within marking) q other)
-  end_outside marking (Black q) other = or_zero (m (Black q)) (mark_bits c (has (traced_in c m)) q) (nothing (Black q) other) (marks_outside c (has (traced_in c m)) (traced_within marking) q other)
-  end_outside marking (Count t) other = refl
-  end_outside marking (Top q) other = if_zero (dead_in c m q) (m (Top q)) (nothing (Top q) other)
-  end_outside marking (Tams q) other = if_zero (dead_in c m q) (m (Tams q)) (nothing (Tams q) other)
-  end_outside marking (Limit q) other = if_zero (dead_in c m q) (m (Limit q)) (nothing (Limit q) other)
-  end_outside marking Free other = absurd (true≢false other)
-  end_outside marking Phase other = refl
-  end_outside marking Claim other = refl
-  end_outside marking Cset other = refl
-  end_outside marking word other = nothing word other
+  pub final_outside : IsMarking c m block → IsZeroOutside c (final_marked c m)
+  final_outside marking (Grey q) other = or_zero (m (Grey q)) (mark_bits c (has (traced_in c m)) q) (nothing (Grey q) other) (marks_outside c (has (traced_in c m)) (traced_within marking) q other)
+  final_outside marking (Black q) other = or_zero (m (Black q)) (mark_bits c (has (traced_in c m)) q) (nothing (Black q) other) (marks_outside c (has (traced_in c m)) (traced_within marking) q other)
+  final_outside marking (Count t) other = refl
+  final_outside marking (Top q) other = if_zero (dead_in c m q) (m (Top q)) (nothing (Top q) other)
+  final_outside marking (Tams q) other = if_zero (dead_in c m q) (m (Tams q)) (nothing (Tams q) other)
+  final_outside marking (Limit q) other = if_zero (dead_in c m q) (m (Limit q)) (nothing (Limit q) other)
+  final_outside marking Free other = absurd (true≢false other)
+  final_outside marking word other = nothing word other

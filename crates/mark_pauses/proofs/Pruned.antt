@@ -6,12 +6,14 @@ use Rattle.std.proofs.lemmas.Bool.{cond-true}
 use Rattle.heap_words.specs.declared.config.Config.{Config}
 use Rattle.regions.specs.Place.{base_of}
 use Rattle.shen_graph.specs.declared.name.Name.{Name}
-use Rattle.heap_world.specs.World.{Block, thing, hand, promised, filler, words_of, Plot, IsInUse, IsPlotted, IsFilled}
+use Rattle.heap_world.specs.World.{Block, thing, moved, spent, hand, promised, filler, words_of, Plot, IsInUse, IsPlotted, IsFilled}
 use Rattle.pause_laws.proofs.Mapped.{from_option}
 
 -- a piece that stays, or of which only the words stay
 abbrev pub pruned_piece : Bool → Block → Block
 pruned_piece live (thing name refs nums) = if live then thing name refs nums else filler (3 + refs + nums)
+pruned_piece live (moved name refs nums to) = moved name refs nums to
+pruned_piece live (spent words to) = spent words to
 pruned_piece live (hand seat words) = hand seat words
 pruned_piece live (promised seat words) = promised seat words
 pruned_piece live (filler words) = filler words
@@ -22,6 +24,8 @@ pruned live block a = option_map (pruned_piece (live a)) (block a)
 pruned_words : (live : Bool) (b : Block) → words_of (pruned_piece live b) ≡ words_of b
 pruned_words true (thing name refs nums) = refl
 pruned_words false (thing name refs nums) = refl
+pruned_words live (moved name refs nums to) = refl
+pruned_words live (spent words to) = refl
 pruned_words live (hand seat words) = refl
 pruned_words live (promised seat words) = refl
 pruned_words live (filler words) = refl
@@ -30,6 +34,8 @@ pruned_words live (filler words) = refl
 thing_of : (live : Bool) (x : Block) (name : Name) (refs nums : ℕ) → pruned_piece live x ≡ thing name refs nums → (x ≡ thing name refs nums) × (live ≡ true)
 thing_of true (thing n more less) name refs nums is = (is, refl)
 thing_of false (thing n more less) name refs nums is = cc
+thing_of live (moved n more less to) name refs nums is = cc
+thing_of live (spent words to) name refs nums is = cc
 thing_of live (hand seat words) name refs nums is = cc
 thing_of live (promised seat words) name refs nums is = cc
 thing_of live (filler words) name refs nums is = cc
@@ -37,6 +43,8 @@ thing_of live (filler words) name refs nums is = cc
 hand_of : (live : Bool) (x : Block) (seat words : ℕ) → pruned_piece live x ≡ hand seat words → x ≡ hand seat words
 hand_of true (thing n more less) seat words is = cc
 hand_of false (thing n more less) seat words is = cc
+hand_of live (moved n more less to) seat words is = cc
+hand_of live (spent more to) seat words is = cc
 hand_of live (hand other more) seat words is = is
 hand_of live (promised other more) seat words is = cc
 hand_of live (filler more) seat words is = cc
@@ -44,9 +52,30 @@ hand_of live (filler more) seat words is = cc
 promised_of : (live : Bool) (x : Block) (seat words : ℕ) → pruned_piece live x ≡ promised seat words → x ≡ promised seat words
 promised_of true (thing n more less) seat words is = cc
 promised_of false (thing n more less) seat words is = cc
+promised_of live (moved n more less to) seat words is = cc
+promised_of live (spent more to) seat words is = cc
 promised_of live (hand other more) seat words is = cc
 promised_of live (promised other more) seat words is = is
 promised_of live (filler more) seat words is = cc
+
+-- an old copy was one
+moved_of : (live : Bool) (x : Block) (name : Name) (refs nums to : ℕ) → pruned_piece live x ≡ moved name refs nums to → x ≡ moved name refs nums to
+moved_of true (thing n more less) name refs nums to is = cc
+moved_of false (thing n more less) name refs nums to is = cc
+moved_of live (moved n more less at) name refs nums to is = is
+moved_of live (spent words at) name refs nums to is = cc
+moved_of live (hand seat words) name refs nums to is = cc
+moved_of live (promised seat words) name refs nums to is = cc
+moved_of live (filler words) name refs nums to is = cc
+
+spent_of : (live : Bool) (x : Block) (words to : ℕ) → pruned_piece live x ≡ spent words to → x ≡ spent words to
+spent_of true (thing n more less) words to is = cc
+spent_of false (thing n more less) words to is = cc
+spent_of live (moved n more less at) words to is = cc
+spent_of live (spent more at) words to is = is
+spent_of live (hand seat more) words to is = cc
+spent_of live (promised seat more) words to is = cc
+spent_of live (filler more) words to is = cc
 
 -- words that only fill did so before, or were an object
 pub data WasFiller (x : Block) (words : ℕ) : Type 0 where
@@ -56,6 +85,8 @@ pub data WasFiller (x : Block) (words : ℕ) : Type 0 where
 filler_of : (live : Bool) (x : Block) (words : ℕ) → pruned_piece live x ≡ filler words → WasFiller x words
 filler_of true (thing n more less) words is = cc
 filler_of false (thing n more less) words is = WasFiller.was_thing n more less refl cc
+filler_of live (moved n more less to) words is = cc
+filler_of live (spent more to) words is = cc
 filler_of live (hand other more) words is = cc
 filler_of live (promised other more) words is = cc
 filler_of live (filler more) words is = WasFiller.did is
@@ -90,6 +121,16 @@ module _ (live : ℕ → Bool) (block : Plot) where
   promised_was a seat words is =
       let was = from_option (pruned_piece (live a)) (block a) (promised seat words) is in
       was.1 ∙ ap Some (promised_of (live a) was.0 seat words was.2)
+
+  pub moved_was : (a refs nums to : ℕ) (name : Name) → pruned live block a ≡ Some (moved name refs nums to) → block a ≡ Some (moved name refs nums to)
+  moved_was a refs nums to name is =
+      let was = from_option (pruned_piece (live a)) (block a) (moved name refs nums to) is in
+      was.1 ∙ ap Some (moved_of (live a) was.0 name refs nums to was.2)
+
+  pub spent_was : (a words to : ℕ) → pruned live block a ≡ Some (spent words to) → block a ≡ Some (spent words to)
+  spent_was a words to is =
+      let was = from_option (pruned_piece (live a)) (block a) (spent words to) is in
+      was.1 ∙ ap Some (spent_of (live a) was.0 words to was.2)
 
   pub filler_was : (a words : ℕ) → pruned live block a ≡ Some (filler words) → (x : Block) × (block a ≡ Some x) × WasFiller x words
   filler_was a words is =

@@ -1,17 +1,19 @@
--- That what a pause makes of an image is what a pause owes.
-use Rattle.std.specs.Prelude.{ℕ, ◌≡◌, ◌++◌, List, length, replicate, Option}
+-- What the pauses that begin and end marking leave of the words.
+use Rattle.std.specs.Prelude.{ℕ, ◌≡◌, ◌<◌, Option}
 use Rattle.heap_words.specs.declared.config.Config.{Config}
-use Rattle.heap_words.specs.Words.{Word, Phase, image_start, table_words, view}
+use Rattle.heap_words.specs.Words.{Word, Phase}
 use Rattle.shen_graph.specs.Graph.{Graph}
-use Rattle.heap_world.specs.World.{Plot}
-use Rattle.heap_world.specs.Asking.{Asking}
+use Rattle.heap_world.specs.World.{Plot, Ghost}
+use Rattle.heap_world.specs.Asking.{Asking, asks}
 use Rattle.heap_world.specs.Represents.{Represents}
-use Rattle.heap_world.specs.Change.{image_words, image_view, IsPause}
 use Rattle.image_laws.specs.Promised.{Promises}
 use Rattle.image_graph.specs.Holds.{HoldsBy}
+use Rattle.mark_laws.specs.Init.{init_marked}
 use Rattle.mark_laws.specs.Close.{closed}
+use Rattle.mark_laws.specs.Final.{final_marked}
+use Rattle.mark_laws.specs.Laws.{HasNoMoreSeats}
 use Rattle.mark_laws.specs.Facts.{IsMarking, IsMarkedThrough}
-use Rattle.mark_pauses.specs.Collect.{collected, collect_image, CanPauseSome}
+use Rattle.mark_pauses.specs.MarkedOut.{IsMarkedOut}
 
 -- Words that represent a graph while objects are marked hold it, and marking comes to each object that can be reached.
 abbrev pub MarkingStands : Type 0
@@ -23,21 +25,16 @@ abbrev pub ReachableAreMarked : Type 0
 ReachableAreMarked = (c : Config) (memory : Word → ℕ) (g : Graph) (asking : ℕ → Asking) → Represents c memory g asking → memory Phase ≡ 1
     → (block : Plot) × (owner : ℕ → Option ℕ) × (p : Promises) × HoldsBy c (closed c memory) block owner p g × IsMarkedThrough c (closed c memory) block
 
--- Words that represent a graph are such that a pause can collect.
-abbrev pub RepresentingCanCollect : Type 0
-RepresentingCanCollect = (c : Config) (memory : Word → ℕ) (g : Graph) (asking : ℕ → Asking) → Represents c memory g asking → CanPauseSome c memory
+-- no mutator asks for an object
+abbrev pub NobodyAsks : Config → (ℕ → Asking) → Type 0
+NobodyAsks c asking = (t refs nums : ℕ) → t < c.mutators → asking t ≡ asks refs nums → ⊥
 
--- By their names the words of an image after a pause are those that the pause makes of its words.
-abbrev pub ImageIsCollected : Type 0
-ImageIsCollected = (c : Config) (image : List ℕ) → length image ≡ image_words c → CanPauseSome c (image_view c image)
-    → image_view c (collect_image c image) ≡ collected c (image_view c image)
+-- Where nothing runs and nobody asks, the beginning of marking keeps the graph.
+abbrev pub BeginningRepresents : Type 0
+BeginningRepresents = (c : Config) (memory : Word → ℕ) (g : Graph) (asking : ℕ → Asking) → Represents c memory g asking → memory Phase ≡ 0 → NobodyAsks c asking
+    → Represents c (init_marked c memory) g asking
 
--- So a table that reads as a pause makes of an image is that image after it, behind words that are 0.
-abbrev pub TableIsCollected : Type 0
-TableIsCollected = (c : Config) (image table : List ℕ) → length image ≡ image_words c → length table ≡ table_words c → CanPauseSome c (image_view c image)
-    → view c table ≡ collected c (image_view c image) → table ≡ replicate (image_start c) 0 ++ collect_image c image
-
--- Beginning and ending marking, and collecting in full where a mutator waits, is what a pause owes: it keeps the graph, answers each
--- mutator that asks, and refuses an object only where the heap is crowded.
-abbrev pub CollectIsPause : Type 0
-CollectIsPause = IsPause collect_image
+-- The end of marking keeps the graph too, and each object is marked then, or was allocated since mark start.
+abbrev pub EndGives : Type 0
+EndGives = (c : Config) (memory : Word → ℕ) (g : Graph) (asking : ℕ → Asking) → Represents c memory g asking → memory Phase ≡ 1 → HasNoMoreSeats c memory
+    → (block : Plot) × (ghost : Ghost) × IsMarkedOut c (final_marked c memory) block ghost g asking

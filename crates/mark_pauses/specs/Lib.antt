@@ -1,2 +1,2 @@
-pub mod Collect
+pub mod MarkedOut
 pub mod Laws

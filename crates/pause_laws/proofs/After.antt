@@ -1,20 +1,21 @@
 -- Words that stand for a graph with promised objects represent it: the promised objects are no objects of the graph any more.
-use Rattle.std.proofs.Common.{zero, suc, length, replicate, subst, ◌≡◌, ◌≢◌, ℕ, ◌+◌, ◌-◌, ◌<◌, Bool, true, false, slice_get, Some, None, ⊎_elim, refl, sym, ap, ◌∙◌, arith}
+use Rattle.std.proofs.Common.{zero, suc, length, replicate, subst, ◌≡◌, ℕ, ◌+◌, ◌-◌, ◌<◌, ◌⊎◌, Bool, true, false, slice_get, Some, None, inl, inr, ⊎_elim, refl, sym, ap, ◌∙◌, arith}
 use Rattle.std.specs.Prelude.{if◌then◌else◌}
 use Rattle.std.proofs.lemmas.Bool.{cond-true, cond-false, cases_Bool}
 use Rattle.std.proofs.lemmas.List.{length-replicate}
-use Rattle.std.proofs.lemmas.Option.{none-some, same_Some}
+use Rattle.std.proofs.lemmas.Option.{same_Some}
 use Rattle.heap_words.specs.declared.config.Config.{Config}
 use Rattle.heap_words.specs.Words.{Word, Free, Top, Root, Heap}
 use Rattle.shen_graph.specs.declared.name.Name.{Name}
 use Rattle.shen_graph.specs.Graph.{Graph, Object, Reference, blank, fresh, same_reference}
 use Rattle.shen_graph.proofs.PlainLemmas.{same_name-itself}
-use Rattle.heap_world.specs.World.{Block, thing, hand, promised, filler, no_ghost, words_of, Plot, name_at, Points, IsGiven, IsThing, AreObjects, IsBlank, SharedFacts}
-use Rattle.heap_world.proofs.Pointing.{named_thing}
-use Rattle.heap_world.proofs.Keeping.{none_copies}
+use Rattle.heap_world.specs.World.{Block, thing, moved, spent, hand, promised, filler, no_ghost, words_of, Plot, name_at, Points, IsGiven, IsThing, AreObjects, IsBlank, IsEvacuating, IsUsable, AreUsable, SharedFacts}
+use Rattle.heap_world.proofs.Keeping.{usable_now}
+use Rattle.heap_world.proofs.Copies.{none_evacuated}
 use Rattle.heap_world.proofs.Unmarked.{none_marked}
 use Rattle.image_laws.specs.Promised.{Promises, with_promised}
 use Rattle.image_laws.specs.Image.{ImageStands}
+use Rattle.image_laws.proofs.Named.{thing_at, no_moved, no_spent, no_hand, no_promised, no_filler}
 use Rattle.image_laws.proofs.Promised.{same_reference-true}
 use Rattle.pause_laws.proofs.Mapped.{mapped, mapped_at, mapped_from, plotted_alike, filled_alike}
 
@@ -31,6 +32,8 @@ is_promised p n = same_reference (p.ref n.thread) (Some n)
 -- an object of the larger graph as a piece: a promised one is of no graph
 abbrev pub as_promised : Promises → Block → Block
 as_promised p (thing name refs nums) = if is_promised p name then promised (name.thread - 1) (3 + refs + nums) else thing name refs nums
+as_promised p (moved name refs nums to) = moved name refs nums to
+as_promised p (spent words to) = spent words to
 as_promised p (hand seat words) = hand seat words
 as_promised p (promised seat words) = promised seat words
 as_promised p (filler words) = filler words
@@ -78,6 +81,8 @@ module _ (c : Config) (m : Word → ℕ) (block : Plot) (g : Graph) (p : Promise
       (λ (yes : is_promised p name ≡ true). ap words_of (cond-true (is_promised p name) (promised (name.thread - 1) (3 + refs + nums)) (thing name refs nums) yes))
       (λ (no : is_promised p name ≡ false). ap words_of (cond-false (is_promised p name) (promised (name.thread - 1) (3 + refs + nums)) (thing name refs nums) no))
       (cases_Bool (is_promised p name))
+  same_words a (moved name refs nums to) is = refl
+  same_words a (spent words to) is = refl
   same_words a (hand seat words) is = refl
   same_words a (promised seat words) is = refl
   same_words a (filler words) is = refl
@@ -96,7 +101,7 @@ module _ (c : Config) (m : Word → ℕ) (block : Plot) (g : Graph) (p : Promise
   -- it stands where it stood
   pub known_stays : (a : ℕ) (n : Name) → IsKnown g n → name_at (block a) ≡ Some n → name_at (taken a) ≡ Some n
   known_stays a n known is =
-      let was = named_thing (block a) n is in
+      let was = thing_at block stands.things a n is in
       ap name_at (mapped_at (as_promised p) block a (thing n was.0 was.1) was.2)
       ∙ ap (λ b. name_at (Some b)) (cond-false (is_promised p n) (promised (n.thread - 1) (3 + was.0 + was.1)) (thing n was.0 was.1) (not_promised n known))
 
@@ -118,9 +123,11 @@ module _ (c : Config) (m : Word → ℕ) (block : Plot) (g : Graph) (p : Promise
       let name_is : name ≡ n = same_Some name n (ap (λ b. name_at (Some b)) stays) in
       (is ∙ ap Some stays, ap (is_promised p) (sym name_is) ∙ no))
       (cases_Bool (is_promised p name))
-  left_of a refs nums n (hand seat words) is same = absurd (let named = stands.things a (hand seat words) is in none-some named.0 named.1)
-  left_of a refs nums n (promised seat words) is same = absurd (let named = stands.things a (promised seat words) is in none-some named.0 named.1)
-  left_of a refs nums n (filler words) is same = absurd (let named = stands.things a (filler words) is in none-some named.0 named.1)
+  left_of a refs nums n (moved name more_refs more_nums to) is same = absurd (no_moved block stands.things a more_refs more_nums to name is)
+  left_of a refs nums n (spent words to) is same = absurd (no_spent block stands.things a words to is)
+  left_of a refs nums n (hand seat words) is same = absurd (no_hand block stands.things a seat words is)
+  left_of a refs nums n (promised seat words) is same = absurd (no_promised block stands.things a seat words is)
+  left_of a refs nums n (filler words) is same = absurd (no_filler block stands.things a words is)
 
   pub left : (a refs nums : ℕ) (n : Name) → taken a ≡ Some (thing n refs nums) → IsOld block p a refs nums n
   left a refs nums n is = let was = mapped_from (as_promised p) block a (thing n refs nums) is in left_of a refs nums n was.0 was.1 was.2
@@ -137,34 +144,47 @@ module _ (c : Config) (m : Word → ℕ) (block : Plot) (g : Graph) (p : Promise
       sym (cond-false (is_promised p name) (promised (name.thread - 1) (3 + refs + nums)) (thing name refs nums) no) ∙ same in
       cc)
       (cases_Bool (is_promised p name))
-  gone_of a seat words (hand other more) is same = absurd (let named = stands.things a (hand other more) is in none-some named.0 named.1)
-  gone_of a seat words (promised other more) is same = absurd (let named = stands.things a (promised other more) is in none-some named.0 named.1)
-  gone_of a seat words (filler more) is same = absurd (let named = stands.things a (filler more) is in none-some named.0 named.1)
+  gone_of a seat words (moved name more_refs more_nums to) is same = absurd (no_moved block stands.things a more_refs more_nums to name is)
+  gone_of a seat words (spent more to) is same = absurd (no_spent block stands.things a more to is)
+  gone_of a seat words (hand other more) is same = absurd (no_hand block stands.things a other more is)
+  gone_of a seat words (promised other more) is same = absurd (no_promised block stands.things a other more is)
+  gone_of a seat words (filler more) is same = absurd (no_filler block stands.things a more is)
 
   pub gone : (a seat words : ℕ) → taken a ≡ Some (promised seat words) → IsPromisedThing block p a seat words
   gone a seat words is = let was = mapped_from (as_promised p) block a (promised seat words) is in gone_of a seat words was.0 was.1 was.2
 
   -- each piece is an object, or promised
-  only_of : (a : ℕ) (x b : Block) → name_at (Some x) ≡ None → ((seat words : ℕ) → promised seat words ≢ x) → block a ≡ Some b → as_promised p b ≡ x → ⊥
-  only_of a x (thing name refs nums) unnamed unpromised is same = ⊎_elim
-      (λ (yes : is_promised p name ≡ true).
-      unpromised (name.thread - 1) (3 + refs + nums) (sym (cond-true (is_promised p name) (promised (name.thread - 1) (3 + refs + nums)) (thing name refs nums) yes) ∙ same))
-      (λ (no : is_promised p name ≡ false).
-      none-some name (sym unnamed ∙ ap (λ y. name_at (Some y)) (sym same ∙ cond-false (is_promised p name) (promised (name.thread - 1) (3 + refs + nums)) (thing name refs nums) no)))
-      (cases_Bool (is_promised p name))
-  only_of a x (hand other more) unnamed unpromised is same = let named = stands.things a (hand other more) is in none-some named.0 named.1
-  only_of a x (promised other more) unnamed unpromised is same = let named = stands.things a (promised other more) is in none-some named.0 named.1
-  only_of a x (filler more) unnamed unpromised is same = let named = stands.things a (filler more) is in none-some named.0 named.1
+  either : (a : ℕ) (b x : Block) → block a ≡ Some b → as_promised p b ≡ x → ((name : Name) × (refs : ℕ) × (nums : ℕ) × (x ≡ thing name refs nums)) ⊎ ((seat : ℕ) × (words : ℕ) × (x ≡ promised seat words))
+  either a b x is same =
+      let found = stands.things a b is in
+      let here : as_promised p (thing found.0 found.1 found.2) ≡ x = ap (as_promised p) (sym found.3) ∙ same in
+      ⊎_elim
+      (λ (yes : is_promised p found.0 ≡ true).
+      inr (found.0.thread - 1, 3 + found.1 + found.2, sym here ∙ cond-true (is_promised p found.0) (promised (found.0.thread - 1) (3 + found.1 + found.2)) (thing found.0 found.1 found.2) yes))
+      (λ (no : is_promised p found.0 ≡ false).
+      inl (found.0, found.1, found.2, sym here ∙ cond-false (is_promised p found.0) (promised (found.0.thread - 1) (3 + found.1 + found.2)) (thing found.0 found.1 found.2) no))
+      (cases_Bool (is_promised p found.0))
 
-  -- none is room in hand
+  -- and of no other kind
+  no_other : (a : ℕ) (x : Block) → ((name : Name) (refs nums : ℕ) → x ≡ thing name refs nums → ⊥) → ((seat words : ℕ) → x ≡ promised seat words → ⊥) → taken a ≡ Some x → ⊥
+  no_other a x unlike unpromised is =
+      let was = mapped_from (as_promised p) block a x is in
+      ⊎_elim
+      (λ (one : (name : Name) × (refs : ℕ) × (nums : ℕ) × (x ≡ thing name refs nums)). unlike one.0 one.1 one.2 one.3)
+      (λ (one : (seat : ℕ) × (words : ℕ) × (x ≡ promised seat words)). unpromised one.0 one.1 one.2)
+      (either a was.0 x was.1 was.2)
+
   pub no_hands : (a seat words : ℕ) → taken a ≡ Some (hand seat words) → ⊥
-  no_hands a seat words is =
-      let was = mapped_from (as_promised p) block a (hand seat words) is in only_of a (hand seat words) was.0 refl (λ other more same. (let differ = same in cc)) was.1 was.2
+  no_hands a seat words = no_other a (hand seat words) (λ name refs nums wrong. (let differ = wrong in cc)) (λ other more wrong. (let differ = wrong in cc))
 
-  -- and none only fills
   no_fillers : (a words : ℕ) → taken a ≡ Some (filler words) → ⊥
-  no_fillers a words is =
-      let was = mapped_from (as_promised p) block a (filler words) is in only_of a (filler words) was.0 refl (λ other more same. (let differ = same in cc)) was.1 was.2
+  no_fillers a words = no_other a (filler words) (λ name refs nums wrong. (let differ = wrong in cc)) (λ other more wrong. (let differ = wrong in cc))
+
+  no_moveds : (a refs nums to : ℕ) (n : Name) → taken a ≡ Some (moved n refs nums to) → ⊥
+  no_moveds a refs nums to n = no_other a (moved n refs nums to) (λ name more less wrong. (let differ = wrong in cc)) (λ other more wrong. (let differ = wrong in cc))
+
+  no_spents : (a words to : ℕ) → taken a ≡ Some (spent words to) → ⊥
+  no_spents a words to = no_other a (spent words to) (λ name refs nums wrong. (let differ = wrong in cc)) (λ other more wrong. (let differ = wrong in cc))
 
   -- the object of an old name
   old_object : (n : Name) (o : Object) → is_promised p n ≡ false → (with_promised g p).object n ≡ Some o → g.object n ≡ Some o
@@ -223,15 +243,16 @@ module _ (c : Config) (m : Word → ℕ) (block : Plot) (g : Graph) (p : Promise
       (blank_of a x.refs x.nums (p.refs x.name.thread) (p.nums x.name.thread) x.name o.0 o.2 (same_Some o.0 (blank (p.refs x.name.thread) (p.nums x.name.thread)) new))
 
   -- what all machines share holds, where nothing is collected and no seat has a region
-  pub shared_facts : (phase cset evac : ℕ) (current grey black entries : ℕ → ℕ) (buffer : ℕ → ℕ → ℕ) (tams : ℕ → ℕ)
+  pub shared_facts : (phase cset evac claim : ℕ) (current grey black entries : ℕ → ℕ) (buffer : ℕ → ℕ → ℕ) (tams : ℕ → ℕ)
       → phase ≡ 0 → cset ≡ 0 → evac ≡ 0 → ((seat : ℕ) → current seat ≡ 0)
-      → SharedFacts c (λ q. m (Top q)) heap taken no_ghost g.object g.count phase cset evac (m Free) current grey black entries buffer tams
-  shared_facts phase cset evac current grey black entries buffer tams no_phase no_cset no_evac none = record {
+      → SharedFacts c (λ q. m (Top q)) heap taken no_ghost g.object g.count phase cset evac (m Free) current grey black entries buffer tams claim
+  shared_facts phase cset evac claim current grey black entries buffer tams no_phase no_cset no_evac none = record {
     parsable = record {
       plotted = plotted_alike c (λ q. m (Top q)) block (as_promised p) same_words stands.plotted;
       filled = filled_alike c (λ q. m (Top q)) block (as_promised p) same_words stands.filled;
       promises = λ a seat words is. (let at = gone a seat words is in omega (arith, at.words_are));
       fillers = λ a words is. absurd (no_fillers a words is);
+      spents = λ a words to is. absurd (no_spents a words to is);
     };
     contents = record { objects = objects_left; given = is_after.given };
     owned = record {
@@ -242,11 +263,19 @@ module _ (c : Config) (m : Word → ℕ) (block : Plot) (g : Graph) (p : Promise
       };
       rooms = λ a seat words is. absurd (no_hands a seat words is);
     };
-    calm = record { phase_is = omega (arith, no_phase); cset_is = no_cset; evac_is = no_evac };
-    uncopied = none_copies;
-    unwritten = record { blanks = blank_at; headers = λ a words is. absurd (no_fillers a words is) };
+    phased = record { phase_is = omega (arith, no_phase); cset_is = λ other. no_cset; evac_is = λ other. no_evac };
+    unwritten = record { blanks = blank_at; headers = λ a words is. absurd (no_fillers a words is); lengths = λ a words is. absurd (no_fillers a words is) };
     marked = none_marked c phase grey black entries buffer (λ q. m (Top q)) tams heap taken no_ghost.recording no_ghost.scanning no_phase;
+    evacuated =
+        subst (λ set. IsEvacuating c phase set evac claim (m Free) (λ q. m (Top q)) tams heap black taken no_ghost.owner no_ghost.copying no_ghost.working) (sym no_cset)
+        (subst (λ count. IsEvacuating c phase 0 count claim (m Free) (λ q. m (Top q)) tams heap black taken no_ghost.owner no_ghost.copying no_ghost.working) (sym no_evac)
+        (none_evacuated c phase claim (m Free) (λ q. m (Top q)) tams heap black taken no_ghost.owner no_ghost.copying no_ghost.working (λ on. omega (arith, on, no_phase)) no_moveds no_spents (λ seat inside. refl)));
   }
 
   pub roots_left : (t i : ℕ) → t < c.mutators → i < 16 → Points taken (m (Root t i)) (g.root (t + 1) i)
   roots_left t i inside few = points_on (m (Root t i)) (g.root (t + 1) i) (is_after.roots (t + 1) i) (stands.rooted.roots t i inside few)
+
+  -- each root may be used
+  pub roots_usable : (cset evac : ℕ) → cset ≡ 0 → AreUsable c cset evac taken (λ t i. m (Root t i))
+  roots_usable cset evac no_cset t i inside few =
+      subst (λ set. IsUsable c set evac taken (m (Root t i))) (sym no_cset) (usable_now c evac taken no_moveds (m (Root t i)) (g.root (t + 1) i) (roots_left t i inside few))

@@ -3,7 +3,7 @@ use Rattle.std.proofs.Common.{◌≡◌, ◌≢◌, ℕ, ◌+◌, ◌<◌, ◌�
 use Rattle.std.proofs.lemmas.Bool.{cond-true, cond-false, cases_eq, eq-eqb, ne_eqb}
 use Rattle.std.proofs.lemmas.Option.{none-some}
 use Rattle.heap_words.specs.declared.config.Config.{Config}
-use Rattle.heap_words.specs.Words.{Word, Phase, Cset, Evac, Tams, Current, Count, Buffer, Wait, Answer, Grey, Black}
+use Rattle.heap_words.specs.Words.{Word, Phase, Cset, Evac, Claim, Tams, Current, Count, Buffer, Wait, Answer, Grey, Black}
 use Rattle.heap_words.specs.Encoding.{request_shape_in, refs_in, nums_in}
 use Rattle.shen_graph.specs.Graph.{Graph, fresh}
 use Rattle.heap_world.specs.World.{no_ghost}
@@ -16,7 +16,7 @@ use Rattle.image_laws.specs.Serving.{served_promises}
 use Rattle.pause_laws.proofs.Promises.{promised_ref, promised_refs, promised_nums, promises_of, ref_of, refs_of, nums_of}
 use Rattle.pause_laws.proofs.Holding.{request_reads, waits_for}
 use Rattle.image_laws.proofs.Turned.{SamePromise, IsPromisedAsAsked, promise_after}
-use Rattle.pause_laws.proofs.After.{gone, no_hands, shared_facts, roots_left}
+use Rattle.pause_laws.proofs.After.{gone, no_hands, shared_facts, roots_left, roots_usable}
 use Rattle.pause_laws.proofs.Made.{promised_if_some, some_if_promised, no_promise, promise}
 use Rattle.image_laws.proofs.Still.{full_phase, full_cset, full_evac, full_current, full_wait, packed_wait}
 use Rattle.pause_laws.proofs.Paused.{then_of, packed_answer, asked_then, plot, is_after, plot_then, answer_left, answer_found}
@@ -119,9 +119,10 @@ module _ (c : Config) (m : Word → ℕ) (g : Graph) (asking : ℕ → Asking) (
       record {
         block = plot_then c m g asking r;
         ghost = no_ghost;
-        shared = shared_facts c (full c m) (plot c m g asking r) g q facts (full c m Phase) (full c m Cset) (full c m Evac) (λ s. full c m (Current s))
+        shared = shared_facts c (full c m) (plot c m g asking r) g q facts (full c m Phase) (full c m Cset) (full c m Evac) (full c m Claim) (λ s. full c m (Current s))
             (λ n. full c m (Grey n)) (λ n. full c m (Black n)) (λ t. full c m (Count t)) (λ t k. full c m (Buffer t k)) (λ q. full c m (Tams q)) (full_phase c m) (full_cset c m) (full_evac c m) (full_current c m);
         roots = roots_left c (full c m) (plot c m g asking r) g q facts;
+        usable = roots_usable c (full c m) (plot c m g asking r) g q facts (full c m Cset) (full c m Evac) (full_cset c m);
         none = no_hands c (full c m) (plot c m g asking r) g q facts;
         asked = λ t inside. asked_by t (asking t) inside refl (r.asked t inside);
         promised_to = λ a seat words is.
@@ -130,5 +131,6 @@ module _ (c : Config) (m : Word → ℕ) (g : Graph) (asking : ℕ → Asking) (
             omega (arith, x.seat_is, at.1, at.2);
         heard = λ t refs nums inside is. absurd (nobody_asks (asking t) (full c m (Answer t)) refs nums is);
         unmarking = record { records_none = λ t inside. refl; scans_none = λ seat inside. refl };
+        uncopying = record { copies_none = λ seat inside. refl; works_none = λ seat inside. refl };
         no_more = r.no_more;
       }

@@ -1,38 +1,41 @@
--- The words of an image before a pause: promised objects are objects of a larger graph, and the words hold it.
-use Rattle.std.proofs.Common.{◌≡◌, ℕ, ◌+◌, ◌-◌, ◌<◌, ◌⊎◌, ◌&&◌, inl, inr, true, false, nat_le, nat_lt, slice_get, Option, Some, ⊎_elim, refl, sym, ap, ◌∙◌, subst, arith}
+-- The words of an image before a pause: promised objects are objects of a larger graph, and an old copy is an object as its current
+-- copy is.
+use Rattle.std.proofs.Common.{◌≡◌, ℕ, ◌+◌, ◌-◌, ◌<◌, ◌⊎◌, ◌&&◌, inl, inr, true, false, nat_le, nat_lt, Option, Some, ⊎_elim, refl, sym, ap, ◌∙◌, subst, arith}
 use Rattle.std.proofs.lemmas.Bool.{cond-true, cond-false, cases_Bool, and_parts, leb-true, ltb-true}
 use Rattle.std.proofs.lemmas.Option.{none-some, same_Some}
 use Rattle.heap_words.specs.declared.config.Config.{Config}
 use Rattle.heap_words.specs.Words.{Word, Top, Root, Answer, Heap}
 use Rattle.shen_graph.specs.declared.name.Name.{Name}
 use Rattle.shen_graph.specs.Graph.{Graph, Object, blank, fresh, same_reference}
-use Rattle.shen_graph.specs.Reach.{IsReachable}
-use Rattle.shen_graph.specs.Reach as reach
 use Rattle.shen_graph.proofs.PlainLemmas.{same_name-itself}
-use Rattle.heap_world.specs.World.{Block, thing, hand, promised, filler, words_of, Plot, name_at, Points, IsPlotted, IsFilled, IsThing, AreObjects}
+use Rattle.heap_world.specs.World.{Block, thing, moved, spent, hand, promised, filler, words_of, Plot, name_at, body_of, IsPlotted, IsFilled, IsThing, IsMarkable}
 use Rattle.heap_world.specs.Asking.{Asking, nothing, asks, refused, given, IsPromise, IsAsked}
 use Rattle.heap_world.specs.Represents.{Represents}
 use Rattle.heap_world.specs.Roots.{is_root_of}
-use Rattle.heap_world.proofs.Pointing.{named_thing}
+use Rattle.heap_world.proofs.Pointing.{named_body, copy_cases}
 use Rattle.heap_world.proofs.Pieces.{object_reads}
 use Rattle.heap_world.proofs.Keeping.{points_stay}
 use Rattle.heap_world.proofs.NewObject.{new_object}
-use Rattle.image_laws.specs.Held.{IsAmong, HoldsGraph}
-use Rattle.image_laws.specs.Full.{now_in, root_words}
 use Rattle.image_laws.specs.Promised.{Promises, with_promised}
 use Rattle.image_laws.specs.Image.{AnswerStands, RootsStand}
 use Rattle.image_laws.proofs.Promised.{same_reference-true}
-use Rattle.image_laws.proofs.Reached.{named_object}
-use Rattle.image_laws.proofs.Standing.{objects_hold}
 use Rattle.pause_laws.proofs.Promises.{promised_ref, promised_refs, promised_nums, promises_of, ref_of, refs_of, nums_of, promised_one}
-use Rattle.pause_laws.proofs.Mapped.{mapped, mapped_at, mapped_from, plotted_alike, filled_alike}
+use Rattle.pause_laws.proofs.Mapped.{mapped, mapped_at, plotted_alike, filled_alike}
 
--- a promised object as an object of the larger graph, of its thread's next name
-abbrev pub as_object : Graph → (ℕ → Asking) → Block → Block
-as_object g asking (thing name refs nums) = thing name refs nums
-as_object g asking (hand seat words) = hand seat words
-as_object g asking (filler words) = filler words
-as_object g asking (promised seat words) = thing (fresh g (seat + 1)) (promised_refs (asking seat)) (promised_nums (asking seat))
+-- what is at the address of a current copy, as an object of the larger graph: a promised object has its thread's next name
+abbrev pub as_current : Graph → (ℕ → Asking) → Option Block → Block → Block
+as_current g asking (Some (thing name refs nums)) other = thing name refs nums
+as_current g asking (Some (promised seat words)) other = thing (fresh g (seat + 1)) (promised_refs (asking seat)) (promised_nums (asking seat))
+as_current g asking _ other = other
+
+-- a piece so, an old copy by what is at its current copy
+abbrev pub as_object : Graph → (ℕ → Asking) → Plot → Block → Block
+as_object g asking block (thing name refs nums) = thing name refs nums
+as_object g asking block (moved name refs nums to) = thing name refs nums
+as_object g asking block (spent words to) = as_current g asking (block to) (filler words)
+as_object g asking block (hand seat words) = hand seat words
+as_object g asking block (filler words) = filler words
+as_object g asking block (promised seat words) = thing (fresh g (seat + 1)) (promised_refs (asking seat)) (promised_nums (asking seat))
 
 -- what the words at an address are as a piece
 abbrev ObjectAt : (ℕ → ℕ) → Plot → (Name → Option Object) → ℕ → Block → Type 0
@@ -59,7 +62,7 @@ module _ (c : Config) (m : Word → ℕ) (g : Graph) (asking : ℕ → Asking) (
   p = promises_of c g asking
 
   abbrev pub live : Plot
-  live = mapped (as_object g asking) r.block
+  live = mapped (as_object g asking r.block) r.block
 
   -- what was promised was given
   by_asking : (a seat words : ℕ) (x : Asking) → asking seat ≡ x → IsAsked m r.block g.count seat x → r.block a ≡ Some (promised seat words) → IsPromisedAt c m r.block g asking a seat words
@@ -82,20 +85,53 @@ module _ (c : Config) (m : Word → ℕ) (g : Graph) (asking : ℕ → Asking) (
   pub promised_at : (a seat words : ℕ) → r.block a ≡ Some (promised seat words) → IsPromisedAt c m r.block g asking a seat words
   promised_at a seat words here = by_asking a seat words (asking seat) refl (r.asked seat (r.promised_to a seat words here)) here
 
-  -- a piece keeps its words
-  pub same_words : (a : ℕ) (b : Block) → r.block a ≡ Some b → words_of (as_object g asking b) ≡ words_of b
-  same_words a (thing name refs nums) is = refl
-  same_words a (hand seat words) is = refl
-  same_words a (filler words) is = refl
-  same_words a (promised seat words) is =
+  -- a promised object has its words
+  promised_words : (a seat words : ℕ) → r.block a ≡ Some (promised seat words) → 3 + promised_refs (asking seat) + promised_nums (asking seat) ≡ words
+  promised_words a seat words is =
       let at = promised_at a seat words is in
       let refs : promised_refs (asking seat) ≡ at.refs = ap promised_refs at.is_given in
       let nums : promised_nums (asking seat) ≡ at.nums = ap promised_nums at.is_given in
       omega (arith, refs, nums, at.long)
 
+  -- an old copy has as many words as the current one
+  spent_words : (to words : ℕ) → IsMarkable r.block to → ((b : Block) → r.block to ≡ Some b → words_of b ≡ words) → words_of (as_current g asking (r.block to) (filler words)) ≡ words
+  spent_words to words (IsMarkable.object name refs nums is) long = ap (λ o. words_of (as_current g asking o (filler words))) is ∙ long (thing name refs nums) is
+  spent_words to words (IsMarkable.to_come seat more is) long =
+      ap (λ o. words_of (as_current g asking o (filler words))) is ∙ promised_words to seat more is ∙ long (promised seat more) is
+
+  -- a piece keeps its words
+  pub same_words : (a : ℕ) (b : Block) → r.block a ≡ Some b → words_of (as_object g asking r.block b) ≡ words_of b
+  same_words a (thing name refs nums) is = refl
+  same_words a (moved name refs nums to) is = refl
+  same_words a (spent words to) is = let old = r.shared.evacuated.moved.spents a words to is in spent_words to words old.copy (λ b here. ap words_of (same_Some b old.piece (sym here ∙ old.there)) ∙ old.long)
+  same_words a (hand seat words) is = refl
+  same_words a (filler words) is = refl
+  same_words a (promised seat words) is = promised_words a seat words is
+
   -- objects stand where they stood
+  pub live_at : (a : ℕ) (b : Block) → r.block a ≡ Some b → live a ≡ Some (as_object g asking r.block b)
+  live_at a b is = mapped_at (as_object g asking r.block) r.block a b is
+
+  -- a piece that is no object of the larger graph only fills
+  pub pieces_are : (a : ℕ) (b : Block) → r.block a ≡ Some b → ((name : Name) × (refs : ℕ) × (nums : ℕ) × (as_object g asking r.block b ≡ thing name refs nums)) ⊎ ((words : ℕ) × (b ≡ filler words))
+  pieces_are a (thing name refs nums) is = inl (name, refs, nums, refl)
+  pieces_are a (moved name refs nums to) is = inl (name, refs, nums, refl)
+  pieces_are a (spent words to) is = inl (by_copy (r.shared.evacuated.moved.spents a words to is).copy)
+    where
+      by_copy : IsMarkable r.block to → (name : Name) × (refs : ℕ) × (nums : ℕ) × (as_current g asking (r.block to) (filler words) ≡ thing name refs nums)
+      by_copy (IsMarkable.object name refs nums here) = (name, refs, nums, ap (λ o. as_current g asking o (filler words)) here)
+      by_copy (IsMarkable.to_come seat more here) = (fresh g (seat + 1), promised_refs (asking seat), promised_nums (asking seat), ap (λ o. as_current g asking o (filler words)) here)
+  pieces_are a (hand seat words) is = absurd (r.none a seat words is)
+  pieces_are a (filler words) is = inr (words, refl)
+  pieces_are a (promised seat words) is = inl (fresh g (seat + 1), promised_refs (asking seat), promised_nums (asking seat), refl)
+
   pub names_stay : (a : ℕ) (n : Name) → name_at (r.block a) ≡ Some n → name_at (live a) ≡ Some n
-  names_stay a n is = let was = named_thing (r.block a) n is in ap name_at (mapped_at (as_object g asking) r.block a (thing n was.0 was.1) was.2)
+  names_stay a n is =
+      let body = named_body (r.block a) n is in
+      ⊎_elim
+      (λ (now : r.block a ≡ Some (thing n body.0 body.1)). ap name_at (live_at a (thing n body.0 body.1) now))
+      (λ (old : (to : ℕ) × (r.block a ≡ Some (moved n body.0 body.1 to))). ap name_at (live_at a (moved n body.0 body.1 old.0) old.1))
+      (copy_cases (r.block a) (body_of n body.0 body.1) body.2)
 
   -- a name that has an object is no thread's next one
   pub not_next : (n : Name) (o : Object) (t : ℕ) → g.object n ≡ Some o → n ≡ fresh g (t + 1) → ⊥
@@ -130,59 +166,50 @@ module _ (c : Config) (m : Word → ℕ) (g : Graph) (asking : ℕ → Asking) (
       cond-true (same_reference (p.ref (t + 1)) (Some n)) (Some (blank (p.refs (t + 1)) (p.nums (t + 1)))) (g.object n) (ap (λ k. same_reference k (Some n)) ref ∙ same_name-itself n)
       ∙ ap (λ k. Some (blank k (p.nums (t + 1)))) sizes ∙ ap (λ k. Some (blank refs k)) more
 
-  -- each piece is an object of the larger graph
-  object_at : (a : ℕ) (b : Block) → r.block a ≡ Some b → ObjectAt heap live (with_promised g p).object a (as_object g asking b)
-  object_at a (thing name refs nums) is =
+  -- each current copy is an object of the larger graph
+  pub current_object : (a : ℕ) → IsMarkable r.block a → (x : Block) × (live a ≡ Some x) × ObjectAt heap live (with_promised g p).object a x
+  current_object a (IsMarkable.object name refs nums is) =
       let o = r.shared.contents.objects.each a refs nums name is in
-      (o.0, larger_object name o.0 o.1, object_reads heap heap r.block live a refs nums name o.0 (λ k below. refl) names_stay o.2)
-  object_at a (hand seat words) is = tt
-  object_at a (filler words) is = tt
-  object_at a (promised seat words) is =
+      (thing name refs nums, live_at a (thing name refs nums) is, (o.0, larger_object name o.0 o.1, object_reads heap heap r.block live a refs nums name o.0 (λ k below. refl) names_stay o.2))
+  current_object a (IsMarkable.to_come seat words is) =
       let at = promised_at a seat words is in
-      let made = new_object heap live a seat (g.count (seat + 1)) at.refs at.nums at.promise.few_refs at.promise.few_nums at.promise.words in
-      subst (λ (x : Asking). ObjectAt heap live (with_promised g p).object a (thing (fresh g (seat + 1)) (promised_refs x) (promised_nums x))) (sym at.is_given)
-      (blank at.refs at.nums, promised_object seat at.refs at.nums at.inside at.is_given, made)
+      let made = new_object heap live a seat (g.count (seat + 1)) at.refs at.nums at.promise.few_refs at.promise.few_nums at.promise.words in (
+        thing (fresh g (seat + 1)) (promised_refs (asking seat)) (promised_nums (asking seat)),
+        live_at a (promised seat words) is,
+        subst (λ (x : Asking). ObjectAt heap live (with_promised g p).object a (thing (fresh g (seat + 1)) (promised_refs x) (promised_nums x))) (sym at.is_given)
+            (blank at.refs at.nums, promised_object seat at.refs at.nums at.inside at.is_given, made),
+      )
 
-  -- an object of the larger graph was an object or a promised one
-  kind_of : (a refs nums : ℕ) (name : Name) (b : Block) → r.block a ≡ Some b → as_object g asking b ≡ thing name refs nums
-      → (r.block a ≡ Some (thing name refs nums)) ⊎ ((seat : ℕ) × (words : ℕ) × (r.block a ≡ Some (promised seat words)) × (name ≡ fresh g (seat + 1)))
-  kind_of a refs nums name (thing n more_refs more_nums) is same = inl (is ∙ ap Some same)
-  kind_of a refs nums name (hand seat words) is same = absurd (r.none a seat words is)
-  kind_of a refs nums name (filler words) is same = cc
-  kind_of a refs nums name (promised seat words) is same = inr (seat, words, is, sym (same_Some (fresh g (seat + 1)) name (ap (λ b. name_at (Some b)) same)))
+  pub object_at : (a refs nums : ℕ) (name : Name) → IsMarkable r.block a → live a ≡ Some (thing name refs nums) → ObjectAt heap live (with_promised g p).object a (thing name refs nums)
+  object_at a refs nums name current is =
+      let x = current_object a current in
+      subst (ObjectAt heap live (with_promised g p).object a) (same_Some x.0 (thing name refs nums) (sym x.1 ∙ is)) x.2
 
-  pub kind_at : (a refs nums : ℕ) (name : Name) → live a ≡ Some (thing name refs nums)
+  -- it is an object of the graph, or a promised one
+  pub current_kind : (a refs nums : ℕ) (name : Name) → IsMarkable r.block a → live a ≡ Some (thing name refs nums)
       → (r.block a ≡ Some (thing name refs nums)) ⊎ ((seat : ℕ) × (words : ℕ) × (r.block a ≡ Some (promised seat words)) × (name ≡ fresh g (seat + 1)))
-  kind_at a refs nums name is =
-      let was = mapped_from (as_object g asking) r.block a (thing name refs nums) is in
-      kind_of a refs nums name was.0 was.1 was.2
+  current_kind a refs nums name (IsMarkable.object n more less here) is = inl (here ∙ sym (live_at a (thing n more less) here) ∙ is)
+  current_kind a refs nums name (IsMarkable.to_come seat words here) is =
+      inr (seat, words, here, same_Some name (fresh g (seat + 1)) (ap name_at (sym is) ∙ ap name_at (live_at a (promised seat words) here)))
 
   -- an object has another name than a promised one
   pub names_differ : (a refs nums seat : ℕ) (name : Name) → r.block a ≡ Some (thing name refs nums) → name ≡ fresh g (seat + 1) → ⊥
   names_differ a refs nums seat name is next = let o = r.shared.contents.objects.each a refs nums name is in not_next name o.0 seat o.1 next
 
   -- no two have one name
-  once_each : (a b refs nums more_refs more_nums : ℕ) (name : Name) → live a ≡ Some (thing name refs nums) → live b ≡ Some (thing name more_refs more_nums) → a ≡ b
-  once_each a b refs nums more_refs more_nums name is_a is_b = ⊎_elim
+  pub once_each : (a b refs nums more_refs more_nums : ℕ) (name : Name) → IsMarkable r.block a → IsMarkable r.block b → live a ≡ Some (thing name refs nums) → live b ≡ Some (thing name more_refs more_nums) → a ≡ b
+  once_each a b refs nums more_refs more_nums name now_a now_b is_a is_b = ⊎_elim
       (λ (old_a : r.block a ≡ Some (thing name refs nums)). ⊎_elim
       (λ (old_b : r.block b ≡ Some (thing name more_refs more_nums)). r.shared.contents.objects.once a b refs nums more_refs more_nums name old_a old_b)
       (λ (new_b : (seat : ℕ) × (words : ℕ) × (r.block b ≡ Some (promised seat words)) × (name ≡ fresh g (seat + 1))). absurd (names_differ a refs nums new_b.0 name old_a new_b.3))
-      (kind_at b more_refs more_nums name is_b))
+      (current_kind b more_refs more_nums name now_b is_b))
       (λ (new_a : (seat : ℕ) × (words : ℕ) × (r.block a ≡ Some (promised seat words)) × (name ≡ fresh g (seat + 1))). ⊎_elim
       (λ (old_b : r.block b ≡ Some (thing name more_refs more_nums)). absurd (names_differ b more_refs more_nums new_a.0 name old_b new_a.3))
       (λ (new_b : (seat : ℕ) × (words : ℕ) × (r.block b ≡ Some (promised seat words)) × (name ≡ fresh g (seat + 1))).
       let same : new_b.0 ≡ new_a.0 = (let threads : new_b.0 + 1 ≡ new_a.0 + 1 = ap (λ (k : Name). k.thread) (sym new_b.3 ∙ new_a.3) in omega (arith, threads)) in
       sym ((promised_at a new_a.0 new_a.1 new_a.2).promise.only b new_b.1 (new_b.2 ∙ ap (λ k. Some (promised k new_b.1)) same)))
-      (kind_at b more_refs more_nums name is_b))
-      (kind_at a refs nums name is_a)
-
-  pub live_objects : AreObjects heap live (with_promised g p).object
-  live_objects = record {
-    each = λ a refs nums name is.
-        let was = mapped_from (as_object g asking) r.block a (thing name refs nums) is in
-        subst (ObjectAt heap live (with_promised g p).object a) was.2 (object_at a was.0 was.1);
-    once = once_each;
-  }
+      (current_kind b more_refs more_nums name now_b is_b))
+      (current_kind a refs nums name now_a is_a)
 
   -- an answer stands for what was promised
   answer_of : (t : ℕ) (x : Asking) → asking t ≡ x → IsAsked m r.block g.count t x → AnswerStands live (m (Answer t)) (promised_ref g (t + 1) x)
@@ -190,7 +217,7 @@ module _ (c : Config) (m : Word → ℕ) (g : Graph) (asking : ℕ → Asking) (
   answer_of t (asks refs nums) is asked = inl (omega (arith, asked.1), refl)
   answer_of t refused is asked = inl (omega (arith, asked.1), refl)
   answer_of t (given refs nums) is asked =
-      inr (asked.1, fresh g (t + 1), refl, ap name_at (mapped_at (as_object g asking) r.block (m (Answer t)) (promised t (3 + refs + nums)) asked.2.here))
+      inr (asked.1, fresh g (t + 1), refl, ap name_at (live_at (m (Answer t)) (promised t (3 + refs + nums)) asked.2.here))
 
   pub live_rooted : RootsStand c m live g p
   live_rooted = record {
@@ -209,27 +236,7 @@ module _ (c : Config) (m : Word → ℕ) (g : Graph) (asking : ℕ → Asking) (
   }
 
   pub live_plotted : IsPlotted c (λ q. m (Top q)) live
-  live_plotted = plotted_alike c (λ q. m (Top q)) r.block (as_object g asking) same_words r.shared.parsable.plotted
+  live_plotted = plotted_alike c (λ q. m (Top q)) r.block (as_object g asking r.block) same_words r.shared.parsable.plotted
 
   pub live_filled : IsFilled c (λ q. m (Top q)) live
-  live_filled = filled_alike c (λ q. m (Top q)) r.block (as_object g asking) same_words r.shared.parsable.filled
-
-  -- so the words hold the graph with the promised objects
-  pub live_holds : HoldsGraph c (λ q. m (Top q)) heap live (now_in m) (IsAmong (root_words c m)) (with_promised g p)
-  live_holds = objects_hold c m live g p live_plotted live_objects live_rooted
-
-  -- An object that the graph reaches has an address.
-  pub reached_at : (n : Name) → IsReachable g n → (a : ℕ) × (refs : ℕ) × (nums : ℕ) × (r.block a ≡ Some (thing n refs nums))
-  reached_at n (reach.from_root t i _ is) =
-      let at = live_rooted.no_more_roots t i n is in
-      let points : name_at (r.block (m (Root at.0 i))) ≡ Some n =
-      subst (Points r.block (m (Root at.0 i))) (ap (λ k. g.root k i) (sym at.2) ∙ is) (r.roots at.0 i at.1 at.3) in
-      let piece = named_thing (r.block (m (Root at.0 i))) n points in
-      (m (Root at.0 i), piece.0, piece.1, piece.2)
-  reached_at n (reach.from_field k _ field reached is) =
-      let at = reached_at k reached in
-      let o = r.shared.contents.objects.each at.0 at.1 at.2 k at.3 in
-      let there : slice_get o.0.refs field ≡ Some (Some n) = sym (ap (λ (x : Object). slice_get x.refs field) (named_object g k o.0 o.1)) ∙ is in
-      let points : name_at (r.block (heap (at.0 + 3 + field))) ≡ Some n = o.2.references field (Some n) there in
-      let piece = named_thing (r.block (heap (at.0 + 3 + field))) n points in
-      (heap (at.0 + 3 + field), piece.0, piece.1, piece.2)
+  live_filled = filled_alike c (λ q. m (Top q)) r.block (as_object g asking r.block) same_words r.shared.parsable.filled

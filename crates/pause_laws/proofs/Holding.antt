@@ -1,20 +1,26 @@
 -- Words that represent a graph hold it: the condition of a full collection.
-use Rattle.std.proofs.Common.{◌≡◌, ◌≢◌, ℕ, ◌+◌, ◌<◌, ◌≤◌, Option, Some, None, refl, sym, ap, ◌∙◌, arith}
-use Rattle.std.proofs.lemmas.Bool.{cond-false, true≢false}
+use Rattle.std.proofs.Common.{◌≡◌, ◌≢◌, ℕ, ◌+◌, ◌<◌, ◌≤◌, true, ⊎_elim, Option, Some, None, refl, sym, ap, ◌∙◌, subst, arith}
+use Rattle.std.specs.Int.{bit_at}
+use Rattle.std.proofs.lemmas.Bool.{cond-false, cases_eq, true≢false}
 use Rattle.heap_words.specs.declared.config.Config.{Config}
-use Rattle.heap_words.specs.Words.{Word, Wait, Answer}
+use Rattle.heap_words.specs.Words.{Word, Cset, Wait, Answer, Heap}
 use Rattle.heap_words.specs.Encoding.{is_forwarded, shape_word, refs_in, nums_in, request_code, request_count_in, request_shape_in}
+use Rattle.regions.specs.Place.{region_with}
+use Rattle.regions.specs.Sets.{IsIn, IsOutside}
 use Rattle.heap_words.proofs.Shapes.{refs_in-shape_word, nums_in-shape_word}
 use Rattle.shen_graph.specs.declared.name.Name.{Name}
 use Rattle.shen_graph.specs.Graph.{Graph, Object, blank, fresh, same_reference}
+use Rattle.heap_world.specs.World.{IsCollected}
 use Rattle.heap_world.specs.Asking.{Asking, nothing, asks, refused, given, IsRequest, IsAsked}
 use Rattle.heap_world.specs.Represents.{Represents}
+use Rattle.image_laws.specs.Full.{now_in}
 use Rattle.image_laws.specs.Promised.{Promises, AreFresh}
 use Rattle.image_laws.specs.Serving.{asked_shape, asked_name, IsAsking}
-use Rattle.image_graph.specs.Holds.{HoldsBy, HoldsSome}
+use Rattle.image_graph.specs.Holds.{HasMoved, HoldsBy, HoldsSome}
 use Rattle.pause_laws.proofs.Promises.{promised_ref, promises_of, ref_of, promised_one}
-use Rattle.pause_laws.proofs.Before.{not_next, reached_at}
-use Rattle.pause_laws.proofs.Dead.{plain, plain_headers, plain_rooted, plain_holds, plain_filled, plain_things}
+use Rattle.pause_laws.proofs.Before.{not_next}
+use Rattle.pause_laws.proofs.Current.{led_to, header_of, Kind, is_current, is_old, kind_at, reached_at}
+use Rattle.pause_laws.proofs.Dead.{plain, IsPlain, is_live, is_dead, plain_at, plain_live, plain_rooted, plain_holds, plain_filled, plain_things}
 
 -- A request reads as what it was made of.
 pub record ReadsAs (memory : Word → ℕ) (t count refs nums : ℕ) : Type 0 where
@@ -44,6 +50,13 @@ pub waits_for : (memory : Word → ℕ) (count : ℕ → ℕ) (t refs nums : ℕ
 waits_for memory count t refs nums request none =
     let zero' : request_code (count (t + 1) + 1) (shape_word refs nums) ≡ 0 = sym request.wait_is ∙ none in
     omega (arith, zero')
+
+-- a region that is not in a set is outside
+not_in : (set region : ℕ) → (IsIn set region → ⊥) → IsOutside set region
+not_in set region out = ⊎_elim
+    (λ (none : bit_at set region ≡ 0). none)
+    (λ (some : bit_at set region ≢ 0). absurd (out (omega (arith, some))))
+    (cases_eq (bit_at set region) 0)
 
 -- who waits has asked, and is promised nothing
 pub record HasAsked (memory : Word → ℕ) (g : Graph) (asking : ℕ → Asking) (t : ℕ) : Type 0 where
@@ -110,12 +123,28 @@ module _ (c : Config) (m : Word → ℕ) (g : Graph) (asking : ℕ → Asking) (
         not_next c m g asking r n o.0 one.0 o.1 (one.4 ∙ ap (fresh g) one.2);
   }
 
+  -- where a header leads on, an old copy is
+  moved_live : (a refs nums : ℕ) (name : Name) → is_forwarded (m (Heap a)) ≡ true → Kind c m g asking r a refs nums name → HasMoved c m (plain c m g asking r) a refs nums name
+  moved_live a refs nums name forwarded (is_current here) = absurd (true≢false (sym forwarded ∙ ap is_forwarded (header_of c m g asking r a here)))
+  moved_live a refs nums name forwarded (is_old to was) =
+      let there = led_to m a to was.header in
+      record {
+        in_set = was.inside;
+        copy = ap (plain c m g asking r) there ∙ plain_live c m g asking r to refs nums name was.same;
+        outside = not_in (m Cset) (region_with c (now_in m a)) (λ inside. was.outside (subst (λ k. IsCollected c (m Cset) k) there inside));
+        current = ap (λ k. is_forwarded (m (Heap k))) there ∙ ap is_forwarded (header_of c m g asking r to was.copy);
+      }
+
+  moved_by : (a refs nums : ℕ) (name : Name) → is_forwarded (m (Heap a)) ≡ true → IsPlain c m g asking r a refs nums name → HasMoved c m (plain c m g asking r) a refs nums name
+  moved_by a refs nums name forwarded (is_live here) = moved_live a refs nums name forwarded (kind_at c m g asking r a refs nums name here)
+  moved_by a refs nums name forwarded (is_dead words here) = absurd (true≢false (sym forwarded ∙ ap is_forwarded (r.shared.unwritten.headers a words here)))
+
   -- so the image holds the graph
   pub holds_by : HoldsBy c m (plain c m g asking r) r.ghost.owner p g
   holds_by = record {
     objects = plain_holds c m g asking r;
     rooted = plain_rooted c m g asking r;
-    moved = λ a refs nums name is forwarded. absurd (true≢false (sym forwarded ∙ ap is_forwarded (plain_headers c m g asking r a refs nums name is)));
+    moved = λ a refs nums name is forwarded. moved_by a refs nums name forwarded (plain_at c m g asking r a refs nums name is);
     filled = plain_filled c m g asking r;
     things = plain_things c m g asking r;
     free_word = r.shared.owned.free_word;

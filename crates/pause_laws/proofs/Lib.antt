@@ -2,6 +2,7 @@ pub mod Sorted
 pub mod Promises
 pub mod Mapped
 pub mod Before
+pub mod Current
 pub mod Dead
 pub mod Holding
 pub mod After

@@ -12,7 +12,7 @@ use Rattle.shen_graph.specs.Graph.{Graph, Object, Reference, blank, fresh, same_
 use Rattle.shen_graph.proofs.PlainLemmas.{same_name-itself}
 use Rattle.heap_world.specs.World.{thing, promised, Plot, name_at, IsThing}
 use Rattle.heap_world.specs.Asking.{HasNoPromise, IsPromise}
-use Rattle.heap_world.proofs.Pointing.{named_thing}
+use Rattle.image_laws.proofs.Named.{thing_at}
 use Rattle.image_laws.specs.Promised.{Promises, with_promised}
 use Rattle.pause_laws.proofs.Mapped.{mapped_at}
 use Rattle.pause_laws.proofs.After.{is_promised, as_promised, IsAfter, IsPromisedThing, replicate_at, taken, gone}
@@ -105,7 +105,7 @@ module _ (c : Config) (m : Word → ℕ) (block : Plot) (g : Graph) (p : Promise
     -- it is at the answer, of that many words
     there : block a ≡ Some (thing n refs nums)
     there =
-        let was = named_thing (block a) n named_there in
+        let was = thing_at block is_after.stands.things a n named_there in
         let o = is_after.stands.objects.each a was.0 was.1 n was.2 in
         let same : o.0 ≡ blank refs nums = same_Some o.0 (blank refs nums) (sym o.1 ∙ object) in
         let null : Reference = None in

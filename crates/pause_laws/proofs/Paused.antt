@@ -15,7 +15,6 @@ use Rattle.shen_graph.specs.Reach as reach
 use Rattle.heap_world.specs.World.{thing, promised, Plot, name_at}
 use Rattle.heap_world.specs.Asking.{Asking, nothing, asks, refused, given}
 use Rattle.heap_world.specs.Represents.{Represents}
-use Rattle.heap_world.proofs.Pointing.{named_thing}
 use Rattle.image_laws.specs.Held.{IsHeld, IsAmong, AreKept}
 use Rattle.image_laws.specs.Pack.{CanPack}
 use Rattle.image_laws.specs.Plot.{packed_block}
@@ -30,7 +29,8 @@ use Rattle.image_laws.proofs.Served.{requests_are_answered}
 use Rattle.image_laws.proofs.Serving.{full_stands}
 use Rattle.image_laws.proofs.Walked.{walk_keeps}
 use Rattle.pause_laws.proofs.Promises.{promises_of, promised_one}
-use Rattle.pause_laws.proofs.Before.{not_next, kind_at, reached_at}
+use Rattle.pause_laws.proofs.Before.{not_next, current_kind}
+use Rattle.pause_laws.proofs.Current.{held_current, has_current, reached_at}
 use Rattle.pause_laws.proofs.Dead.{plain, held_live}
 use Rattle.pause_laws.proofs.Holding.{next_asked, holds_by}
 use Rattle.image_laws.proofs.Turned.{SamePromise, IsPromisedAsAsked, promise_after, piece_after}
@@ -106,15 +106,15 @@ module _ (c : Config) (m : Word → ℕ) (g : Graph) (asking : ℕ → Asking) (
       (λ (is : r.block from.0 ≡ Some (thing n refs nums)). (from.0, is))
       (λ (new : (seat : ℕ) × (words : ℕ) × (r.block from.0 ≡ Some (promised seat words)) × (n ≡ fresh g (seat + 1))).
       absurd (not_next c m g asking r n o new.0 object new.3))
-      (kind_at c m g asking r from.0 refs nums n (held_live c m g asking r from.0 refs nums n (kept_are.only from.0 from.1) from.4)))
+      (let held = kept_are.only from.0 from.1 in current_kind c m g asking r from.0 refs nums n (held_current c m g asking r from.0 held) (held_live c m g asking r from.0 refs nums n held from.4)))
       (λ (made : (t : ℕ) × (t < c.mutators) × (after (Wait t) ≢ 0) × (Some n ≡ Some (asked_name after t))).
       absurd (not_next c m g asking r n o made.0 object (same_Some n (asked_name after made.0) made.3 ∙ asked_next made.0 made.1 made.2)))
       (piece_after c after (packed_block c kept (plain c m g asking r)) c.mutators a (thing n refs nums) there)
 
   known_at : (a : ℕ) (n : Name) → name_at (r.block a) ≡ Some n → IsKnown g n
   known_at a n is =
-      let piece = named_thing (r.block a) n is in
-      let o = r.shared.contents.objects.each a piece.0 piece.1 n piece.2 in
+      let piece = has_current c m g asking r a n is in
+      let o = r.shared.contents.objects.each piece.0 piece.1 piece.2 n piece.3 in
       (o.0, o.1)
 
   pub is_after : IsAfter c (full c m) plot g q

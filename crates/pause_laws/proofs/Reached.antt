@@ -16,7 +16,6 @@ use Rattle.heap_graph.specs.Walk.{has}
 use Rattle.heap_world.specs.World.{thing, promised, Plot, name_at}
 use Rattle.heap_world.specs.Asking.{Asking}
 use Rattle.heap_world.specs.Represents.{Represents}
-use Rattle.heap_world.proofs.Pointing.{named_thing}
 use Rattle.image_laws.specs.Held.{IsHeld, IsAmong, AreKept, HoldsGraph}
 use Rattle.image_laws.specs.Full.{now_in, root_words, held_in, kept_in}
 use Rattle.image_laws.specs.Promised.{Promises, with_promised}
@@ -25,7 +24,8 @@ use Rattle.image_laws.proofs.Walked.{walk_keeps}
 use Rattle.image_laws.proofs.Promised.{old_object, reaches_promised}
 use Rattle.pause_laws.proofs.Sorted.{sorted_names}
 use Rattle.pause_laws.proofs.Promises.{promises_of, promised_one}
-use Rattle.pause_laws.proofs.Before.{live, live_holds, live_rooted, names_stay, kind_at, names_differ, reached_at}
+use Rattle.pause_laws.proofs.Before.{live, live_rooted, names_stay, current_kind, names_differ}
+use Rattle.pause_laws.proofs.Current.{held_current, live_holds, has_current, reached_at}
 use Rattle.pause_laws.proofs.Holding.{are_fresh}
 
 -- the names of the addresses of a list that have one
@@ -121,7 +121,7 @@ module _ (c : Config) (m : Word → ℕ) (g : Graph) (asking : ℕ → Asking) (
       (λ (new : (seat : ℕ) × (words : ℕ) × (r.block at.0 ≡ Some (promised seat words)) × (n ≡ fresh g (seat + 1))).
       let piece = reached_at c m g asking r n reached in
       absurd (names_differ c m g asking r piece.0 piece.1 piece.2 new.0 n piece.3 new.3))
-      (kind_at c m g asking r at.0 at.1 at.2 n at.4)
+      (current_kind c m g asking r at.0 at.1 at.2 n (held_current c m g asking r at.0 at.3) at.4)
       in
       name_there (λ a. name_at (r.block a)) (held_in c m) at.0 n (held_found at.0 at.3) (ap name_at old)
 
@@ -130,13 +130,13 @@ module _ (c : Config) (m : Word → ℕ) (g : Graph) (asking : ℕ → Asking) (
   only_found n there =
       let at = there_named (λ a. name_at (r.block a)) (held_in c m) n there in
       let held = held_is_reached c (λ s. m (Top s)) heap block (now_in m) IsRoot more holds at.0 (found_held at.0 at.1) in
-      let piece = named_thing (r.block at.0) n at.2 in
+      let piece = has_current c m g asking r at.0 n at.2 in
       let same : held.0 ≡ n = same_Some held.0 n (ap name_at (sym held.3) ∙ names_stay c m g asking r at.0 n at.2) in
       ⊎_elim
       (λ (old : IsReachable g n). old)
       (λ (new : (t : ℕ) × (p.ref t ≡ Some n)).
       let one = promised_one c g asking new.0 n new.1 in
-      absurd (names_differ c m g asking r at.0 piece.0 piece.1 one.0 n piece.2 (one.4 ∙ ap (fresh g) one.2)))
+      absurd (names_differ c m g asking r piece.0 piece.1 piece.2 one.0 n piece.3 (one.4 ∙ ap (fresh g) one.2)))
       (reaches_promised c.mutators g p (are_fresh c m g asking r) n (subst (IsReachable more) same held.4))
 
   -- so there is a list of them in their order

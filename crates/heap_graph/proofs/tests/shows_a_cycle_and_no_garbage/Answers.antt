@@ -6,13 +6,13 @@ use Rattle.std.proofs.lemmas.Bool.{cases_lt, cases_Bool, eqb-true, cond-true, co
 use Rattle.shen_graph.specs.declared.name.Name.{Name}
 use Rattle.shen_graph.specs.Graph.{Graph, Object, Reference, hub, same_name}
 use Rattle.shen_graph.specs.Reach.{size}
-use Rattle.heap_graph.specs.Stands.{IsAt}
+use Rattle.heap_graph.specs.Stands.{current_of, IsCopyAt, IsAt}
 use Rattle.heap_world.specs.Objects.{Refers}
 use Rattle.heap_graph.specs.Rows.{root_word}
 use Rattle.heap_graph.proofs.tests.shows_a_cycle_and_no_garbage.Goals as goal
 
 abbrev heap : List ℕ
-heap = 1 ∷ 65792 ∷ 1 ∷ 5 ∷ 1 ∷ 65793 ∷ 4294967297 ∷ 1 ∷ 42 ∷ 1 ∷ 65536 ∷ 4294967298 ∷ []
+heap = 1 ∷ 65792 ∷ 1 ∷ 13 ∷ 1 ∷ 65793 ∷ 4294967297 ∷ 1 ∷ 42 ∷ 1 ∷ 65536 ∷ 4294967298 ∷ 23 ∷ 65793 ∷ 4294967297 ∷ []
 
 abbrev roots : List ℕ
 roots = 5 ∷ replicate 15 0
@@ -30,7 +30,7 @@ abbrev second_object : Object
 second_object = record { refs = Some hub ∷ []; nums = 42 ∷ [] }
 
 abbrev at : ℕ → Option Name
-at a = cond (a == 1) (Some hub) (cond (a == 5) (Some second) None)
+at a = cond (a == 1) (Some hub) (cond (a == 5) (Some second) (cond (a == 13) (Some second) None))
 
 abbrev graph : Graph
 graph = record {
@@ -39,18 +39,32 @@ graph = record {
   count = λ t. 0;
 }
 
-cases_at : (a : ℕ) (n : Name) → at a ≡ Some n → ((a ≡ 1) × (hub ≡ n)) ⊎ ((a ≡ 5) × (second ≡ n))
+-- the addresses of the copies of the second object
+abbrev IsSecond : ℕ → Type 0
+IsSecond a = (a ≡ 5) ⊎ (a ≡ 13)
+
+cases_at : (a : ℕ) (n : Name) → at a ≡ Some n → ((a ≡ 1) × (hub ≡ n)) ⊎ (IsSecond a × (second ≡ n))
 cases_at a n h =
     elim (cases_Bool (a == 1)) [
-      | inl one ↦ (let e : Some hub ≡ Some n = sym (cond-true (a == 1) (Some hub) (cond (a == 5) (Some second) None) one) ∙ h in
+      | inl one ↦ (let e : Some hub ≡ Some n = sym (cond-true (a == 1) (Some hub) (cond (a == 5) (Some second) (cond (a == 13) (Some second) None)) one) ∙ h in
           inl (eqb-true a 1 one, cc))
-      | inr other ↦ (let rest = sym (cond-false (a == 1) (Some hub) (cond (a == 5) (Some second) None) other) ∙ h in
+      | inr other ↦ (let rest = sym (cond-false (a == 1) (Some hub) (cond (a == 5) (Some second) (cond (a == 13) (Some second) None)) other) ∙ h in
           elim (cases_Bool (a == 5)) [
-            | inl five ↦ (let e : Some second ≡ Some n = sym (cond-true (a == 5) (Some second) None five) ∙ rest in
-                inr (eqb-true a 5 five, cc))
-            | inr none ↦ (let e : None ≡ Some n = sym (cond-false (a == 5) (Some second) None none) ∙ rest in cc)
+            | inl five ↦ (let e : Some second ≡ Some n = sym (cond-true (a == 5) (Some second) (cond (a == 13) (Some second) None) five) ∙ rest in
+                inr (inl (eqb-true a 5 five), cc))
+            | inr none ↦ (let last = sym (cond-false (a == 5) (Some second) (cond (a == 13) (Some second) None) none) ∙ rest in
+                elim (cases_Bool (a == 13)) [
+                  | inl old ↦ (let e : Some second ≡ Some n = sym (cond-true (a == 13) (Some second) None old) ∙ last in
+                      inr (inr (eqb-true a 13 old), cc))
+                  | inr no_copy ↦ (let e : None ≡ Some n = sym (cond-false (a == 13) (Some second) None no_copy) ∙ last in cc)
+                ])
           ])
     ]
+
+-- the current copy of the second object is at 5
+second_now : (a : ℕ) → IsSecond a → current_of word a ≡ 5
+second_now a (inl five) = ap (current_of word) five
+second_now a (inr old) = ap (current_of word) old
 
 -- the one element of a list of one
 the_one : {A : Type 0} (x y : A) (i : ℕ) → slice_get (x ∷ []) i ≡ Some y → (i ≡ 0) × (x ≡ y)
@@ -63,7 +77,7 @@ refers a r q i h got =
     let e : a + 3 ≡ a + 3 + i = omega (arith, k.0) in
     subst (λ (s : Reference). Refers at (word (a + 3 + i)) s) k.1 (subst (λ (b : ℕ). Refers at (word b) r) e h)
 
-hub_there : IsAt 1 13 word at graph 1 hub hub_object
+hub_there : IsAt 1 16 word at graph 1 hub hub_object
 hub_there = record {
   object = refl;
   words = (record {
@@ -82,7 +96,7 @@ hub_there = record {
   below = omega arith;
 }
 
-second_there : IsAt 1 13 word at graph 5 second second_object
+second_there : IsAt 1 16 word at graph 5 second second_object
 second_there = record {
   object = refl;
   words = (record {
@@ -101,41 +115,58 @@ second_there = record {
   below = omega arith;
 }
 
-each : (a : ℕ) (n : Name) → at a ≡ Some n → (o : Object) × IsAt 1 13 word at graph a n o
+copy_at : (a : ℕ) (n : Name) → 1 ≤ a → a < 16 → at (current_of word a) ≡ Some n → IsCopyAt 1 16 word at a n
+copy_at a n above below current = record { above = above; below = below; current = current }
+
+second_copy : (a : ℕ) → IsSecond a → IsCopyAt 1 16 word at a second
+second_copy a (inl five) = subst (λ (b : ℕ). IsCopyAt 1 16 word at b second) (sym five) (copy_at 5 second (omega arith) (omega arith) refl)
+second_copy a (inr old) = subst (λ (b : ℕ). IsCopyAt 1 16 word at b second) (sym old) (copy_at 13 second (omega arith) (omega arith) refl)
+
+each : (a : ℕ) (n : Name) → at a ≡ Some n → IsCopyAt 1 16 word at a n
 each a n h =
+    elim (cases_at a n h) [
+      | inl e ↦ subst (λ (b : ℕ). IsCopyAt 1 16 word at b n) (sym e.0) (subst (λ (m : Name). IsCopyAt 1 16 word at 1 m) e.1 (copy_at 1 hub (omega arith) (omega arith) refl))
+      | inr e ↦ subst (λ (m : Name). IsCopyAt 1 16 word at a m) e.1 (second_copy a e.0)
+    ]
+
+object : (a : ℕ) (n : Name) → at a ≡ Some n → (o : Object) × IsAt 1 16 word at graph (current_of word a) n o
+object a n h =
     elim (cases_at a n h) [
       | inl e ↦ (
         hub_object,
-        subst (λ (b : ℕ). IsAt 1 13 word at graph b n hub_object) (sym e.0)
-            (subst (λ (m : Name). IsAt 1 13 word at graph 1 m hub_object) e.1 hub_there),
+        subst (λ (b : ℕ). IsAt 1 16 word at graph (current_of word b) n hub_object) (sym e.0)
+            (subst (λ (m : Name). IsAt 1 16 word at graph 1 m hub_object) e.1 hub_there),
       )
       | inr e ↦ (
         second_object,
-        subst (λ (b : ℕ). IsAt 1 13 word at graph b n second_object) (sym e.0)
-            (subst (λ (m : Name). IsAt 1 13 word at graph 5 m second_object) e.1 second_there),
+        subst (λ (b : ℕ). IsAt 1 16 word at graph b n second_object) (sym (second_now a e.0))
+            (subst (λ (m : Name). IsAt 1 16 word at graph 5 m second_object) e.1 second_there),
       )
     ]
 
 hub≢second : (n : Name) → hub ≡ n → second ≡ n → ⊥
 hub≢second n e f = absurd (omega (arith, ap (λ m. m.thread) (e ∙ sym f)))
 
-once : (a b : ℕ) (n : Name) → at a ≡ Some n → at b ≡ Some n → a ≡ b
+once : (a b : ℕ) (n : Name) → at a ≡ Some n → at b ≡ Some n → current_of word a ≡ current_of word b
 once a b n h k =
     elim (cases_at a n h) [
-      | inl e ↦ elim (cases_at b n k) [ inl f ↦ e.0 ∙ sym f.0 | inr f ↦ absurd (hub≢second n e.1 f.1) ]
-      | inr e ↦ elim (cases_at b n k) [ inl f ↦ absurd (hub≢second n f.1 e.1) | inr f ↦ e.0 ∙ sym f.0 ]
+      | inl e ↦ elim (cases_at b n k) [ inl f ↦ ap (current_of word) (e.0 ∙ sym f.0) | inr f ↦ absurd (hub≢second n e.1 f.1) ]
+      | inr e ↦ elim (cases_at b n k) [ inl f ↦ absurd (hub≢second n f.1 e.1) | inr f ↦ second_now a e.0 ∙ sym (second_now b f.0) ]
     ]
 
-apart : (a b : ℕ) (n m : Name) (o : Object) → at a ≡ Some n → at b ≡ Some m → graph.object n ≡ Some o → a < b → a + size o ≤ b
+hub_now : (a : ℕ) → a ≡ 1 → current_of word a ≡ 1
+hub_now a one = ap (current_of word) one
+
+apart : (a b : ℕ) (n m : Name) (o : Object) → at a ≡ Some n → at b ≡ Some m → graph.object n ≡ Some o → current_of word a < current_of word b → current_of word a + size o ≤ current_of word b
 apart a b n m o h k is low =
     elim (cases_at a n h) [
       | inl e ↦ elim (cases_at b m k) [
-        | inl f ↦ absurd (omega arith)
+        | inl f ↦ absurd (omega (arith, low, hub_now a e.0, hub_now b f.0))
         | inr f ↦ (let g : Some hub_object ≡ Some o = ap graph.object e.1 ∙ is in
             let same : hub_object ≡ o = cc in
-            omega (arith, e.0, f.0, ap size same))
+            omega (arith, hub_now a e.0, second_now b f.0, ap size same))
       ]
-      | inr e ↦ elim (cases_at b m k) [ inl f ↦ absurd (omega arith) | inr f ↦ absurd (omega arith) ]
+      | inr e ↦ elim (cases_at b m k) [ inl f ↦ absurd (omega (arith, low, second_now a e.0, hub_now b f.0)) | inr f ↦ absurd (omega (arith, low, second_now a e.0, second_now b f.0)) ]
     ]
 
 zeros : (k : ℕ) → k ≢ 0 → get_or roots k 0 ≡ 0
@@ -165,4 +196,4 @@ all_roots t i =
     ]
 
 pub write_graph-requires-clause-stand : goal.write_graph-requires-clause-stand
-write_graph-requires-clause-stand g c = ∣ (at, (graph, record { each = each; once = once; apart = apart; roots = all_roots })) ∣₁
+write_graph-requires-clause-stand g c = ∣ (at, (graph, record { each = each; object = object; once = once; apart = apart; roots = all_roots })) ∣₁

@@ -1,0 +1,43 @@
+-- Tables that have the same words from the image on have the same heap and roots.
+use Rattle.std.proofs.Common.{◌≡◌, ℕ, zero, suc, ◌+◌, ◌-◌, ◌*◌, ◌≤◌, List, [], ◌∷◌, take, drop, refl, sym, ap, ◌∙◌, subst, arith}
+use Rattle.std.specs.Prelude.{slice_range}
+use Rattle.std.proofs.Math.Logic.{∥∥₁_map}
+use Rattle.heap_words.specs.declared.config.Config.{Config}
+use Rattle.heap_words.specs.Words.{image_start, table_words, heap_start, roots_start, heap_in, roots_in}
+use Rattle.shen_graph.specs.GraphText.{Text}
+use Rattle.heap_graph.specs.Shows.{WordsStand}
+use Rattle.image_graph.specs.Left.{StandsForSome, ShowsTheGraph}
+
+drop_nothing : (n : ℕ) → drop {A = ℕ} n [] ≡ []
+drop_nothing zero = refl
+drop_nothing (suc n) = refl
+
+-- so many are left out in two turns
+drop_past : (s n : ℕ) (xs : List ℕ) → drop (s + n) xs ≡ drop n (drop s xs)
+drop_past zero n xs = ap (λ k. drop k xs) (omega arith)
+drop_past (suc s) n [] = drop_nothing (suc s + n) ∙ sym (drop_nothing n)
+drop_past (suc s) n (x ∷ xs) = let more : suc s + n ≡ suc (s + n) = omega arith in ap (λ k. drop k (x ∷ xs)) more ∙ drop_past s n xs
+
+same_range : (s a b : ℕ) (u w : List ℕ) → s ≤ a → drop s u ≡ drop s w → slice_range u a b ≡ slice_range w a b
+same_range s a b u w low same =
+    let place : a ≡ s + (a - s) = omega (arith, low) in
+    let both : drop a u ≡ drop a w =
+    ap (λ k. drop k u) place ∙ drop_past s (a - s) u ∙ ap (drop (a - s)) same ∙ sym (drop_past s (a - s) w) ∙ ap (λ k. drop k w) (sym place) in
+    ap (take (b - a)) both
+
+module _ (c : Config) (u w : List ℕ) (same : drop (image_start c) u ≡ drop (image_start c) w) where
+  same_heap : heap_in c u ≡ heap_in c w
+  same_heap = same_range (image_start c) (heap_start c) (table_words c) u w (omega arith) same
+
+  same_roots : roots_in c u ≡ roots_in c w
+  same_roots = same_range (image_start c) (roots_start c) (roots_start c + 16 * c.mutators) u w (omega arith) same
+
+  pub stands_same : StandsForSome c w → StandsForSome c u
+  stands_same some = ∥∥₁_map some (λ s. (
+    s.0,
+    (s.1.0, subst (λ heap. WordsStand c.region_words heap (roots_in c u) s.0 s.1.0) (sym same_heap) (subst (λ roots. WordsStand c.region_words (heap_in c w) roots s.0 s.1.0) (sym same_roots) s.1.1)),
+  ))
+
+  pub shows_same : (text : Text) → ShowsTheGraph c u text → ShowsTheGraph c w text
+  shows_same text shows at g stands =
+      shows at g (subst (λ heap. WordsStand c.region_words heap (roots_in c u) at g) (sym same_heap) (subst (λ roots. WordsStand c.region_words (heap_in c w) roots at g) (sym same_roots) stands))

@@ -1,5 +1,0 @@
-use Rattle.mark_pauses.proofs.Pauses.{collect_is_pause}
-use Rattle.mark_pauses.proofs.collect_is_pause.Goals as goal
-
-pub returns : goal.returns
-returns c = collect_is_pause
