@@ -9,3 +9,4 @@ pub mod Fits
 pub mod CopiedOut
 pub mod Turns
 pub mod Clearing
+pub mod Ready

@@ -1,0 +1,5 @@
+pub mod Live
+pub mod Choosing
+pub mod Copying
+pub mod Turns
+pub mod Beginning
