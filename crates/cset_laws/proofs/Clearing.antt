@@ -48,7 +48,7 @@ header_names : (to : ℕ) → forwardee_in (header_word to) ≡ to
 header_names to = omega arith
 
 -- where the header names a copy, that is the current one
-now_is : (m : Word → ℕ) (a to : ℕ) → m (Heap a) ≡ header_word to → now_in m a ≡ to
+pub now_is : (m : Word → ℕ) (a to : ℕ) → m (Heap a) ≡ header_word to → now_in m a ≡ to
 now_is m a to header =
     cond-true (is_forwarded (m (Heap a))) (forwardee_in (m (Heap a))) a (ap is_forwarded header ∙ header_forwarded to)
     ∙ ap forwardee_in header ∙ header_names to
