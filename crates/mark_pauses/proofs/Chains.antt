@@ -149,7 +149,7 @@ module _ (c : Config) (m : Word → ℕ) (g : Graph) (asking : ℕ → Asking) (
     noted_safe : (a : ℕ) → c.region_words ≤ a → Noted a → IsSafe c m a
     noted_safe a high (IsNoted.by_mark mark) = safe_if a (begins a (inl (is_mark c (λ n. m (Grey n)) a high mark)))
     noted_safe a high (IsNoted.by_entry t k inside below is) = safe_if a (begins a (inr (t, k, inside, below, is)))
-    noted_safe a high (IsNoted.by_hand t inside is) = absurd (none-some a (sym (r.unmarking.records_none t inside) ∙ is))
+    noted_safe a high (IsNoted.by_hand t inside is) = absurd (none-some a (sym (r.unmarking.records_none t (omega (arith, inside))) ∙ is))
 
     -- A field of an object of the snapshot that is safe: what it named then is safe.
     module _ (a refs nums k : ℕ) (name : Name) (here : s.block a ≡ Some (thing name refs nums)) (below : k < refs) (some : was_at s a k ≢ 0) (safe : IsSafe c m a) where
