@@ -16,9 +16,14 @@ PROGRAM = next((it for it in PLACES if os.access(it, os.X_OK)), None)
 
 # For each row of the table: the commands before the one that it is of, and that command; the heap, where it is not one of eight
 # regions without a reserve. PAUSE among the commands before stands for the pause that a `gc` has asked for; objects are marked then.
+# Behind the second one they are evacuated: an object of four words, which field 0 of the hub names, lies in the collection set.
 PAUSE = "pause"
 MARKING = ["set 0 0 0", "gc", PAUSE]
 FULL = [*MARKING, *["set 0 0 0"] * 8]
+EVACUATING = ["new 1 0 1", "set 0 0 1", *["new 2 16 16"] * 2, "drop 1", "drop 2", "gc", PAUSE, PAUSE]
+COPIED = [*EVACUATING, "get 1 0 0"]
+NO_ROOM = [*EVACUATING, "new 2 16 16", "new 2 16 7"]
+WORDS = 4
 RUNS = {
     ("`new`", "the thread has no current region yet"): ([], "new 1 1 2"),
     ("`new`", "its current region has room"): (["new 1 0 0"], "new 2 2 1"),
@@ -37,6 +42,10 @@ RUNS = {
     ),
     ("`get`", "the field has an object"): (["set 0 0 0"], "get 1 0 0"),
     ("`get`", "the field is null"): ([], "get 1 0 0"),
+    ("`get`", "the field has an object of the collection set, which was copied before"): (COPIED, "get 1 0 0"),
+    ("`get`", "the same, and the thread copies it into its current region"): (EVACUATING, "get 1 0 0"),
+    ("`get`", "the same, and there is no room for it"): (NO_ROOM, "get 1 0 0", "4 64 0"),
+    ("`get`", "the same, and there was no room for another one"): ([*NO_ROOM, "get 1 0 0"], "get 1 0 0", "4 64 0"),
     ("`set`", ""): ([], "set 0 0 1"),
     ("`set`", "objects are marked; the field is null"): (MARKING, "set 0 1 0"),
     ("`set`", "objects are marked; the field has an object"): (MARKING, "set 0 0 1"),
@@ -44,10 +53,13 @@ RUNS = {
     ("`cas`", "`yes`"): ([], "cas 0 0 1 0"),
     ("`cas`", "`yes`; objects are marked, and the field had an object"): (MARKING, "cas 0 0 0 1"),
     ("`cas`", "`yes`; objects are marked, the field had an object, and the buffer is full"): (FULL, "cas 0 0 0 1"),
+    ("`cas`", "`yes`; the field has an object of the collection set, which was copied before"): (COPIED, "cas 0 0 1 2"),
     ("`cas`", "`no`"): ([], "cas 0 0 0 0"),
+    ("`cas`", "`no`; the field has an object of the collection set, which was copied before"): (COPIED, "cas 0 0 2 1"),
     ("`xchg`", "the field has an object"): (["set 0 0 0"], "xchg 1 0 0 0"),
     ("`xchg`", "objects are marked; the field has an object"): (MARKING, "xchg 1 0 0 1"),
     ("`xchg`", "objects are marked; the field has an object, and the buffer is full"): (FULL, "xchg 1 0 0 1"),
+    ("`xchg`", "the field has an object of the collection set, which was copied before"): (COPIED, "xchg 1 0 0 2"),
     ("`xchg`", "the field is null"): ([], "xchg 1 0 0 0"),
     ("`rd`", ""): (["new 1 0 1"], "rd 1 0"),
     ("`wr`", ""): (["new 1 0 1"], "wr 1 0 7"),
@@ -97,7 +109,7 @@ def stands_at(before, command, heap, codes, number):
 def stops_before_store(before, command, heap, steps):
     """Whether these steps are exactly those of the command: then the next seven, or eight while objects are marked, leave a `set`
     before its store, and a second thread finds nothing stored."""
-    more = "1:8" if PAUSE in before else "1:7"
+    more = "1:8" if before.count(PAUSE) == 1 else "1:7"
     answer = answer_to(heap, [*before, command, "set 0 15 0"], "get 1 0 15", [*replies(before), *steps, more, "2=1"])
     return b"\n2 -\n" in answer
 
@@ -129,8 +141,10 @@ def main():
         before, line, heap = (*RUNS[command, where], "8 64 0")[:3]
         numbers = line.split()[2:]
         words = 3 + sum(map(int, numbers)) if line.startswith("new") else 0
-        codes = places.replace(", IW for each word,", " IW" * words).replace(", BL GO for each entry,", " BL GO" * 8).split()
-        wanted = sum(int(it) if it.isdigit() else int(numbers[it == "nums"]) for it in re.findall(r"\w+", steps))
+        codes = places.replace(", IW for each word,", " IW" * words).replace(", BL GO for each entry,", " BL GO" * 8)
+        codes = codes.replace(", CL CP for each word but the first,", " CL CP" * (WORDS - 1)).split()
+        terms = {"words": WORDS, **dict(zip(("refs", "nums"), map(int, numbers)))}
+        wanted = sum(int(it) if it.isdigit() else terms[it] for it in re.findall(r"\w+", steps))
         if len(codes) != wanted:
             print(f"{line}: {len(codes)} places, and {wanted} steps")
             failed += 1

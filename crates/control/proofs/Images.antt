@@ -9,8 +9,8 @@ use Rattle.heap_words.specs.Words.{Word, image_start, table_words, view}
 use Rattle.heap_world.specs.Change.{image_view, image_words}
 use Rattle.image_graph.specs.declared.image.Image.{Image}
 use Rattle.image_graph.specs.State.{config_of, words_of, memory_of}
-use Rattle.mark_pauses.specs.Collect.{collected, collect_image, CanPauseSome}
-use Rattle.mark_pauses.proofs.Images.{collected_table}
+use Rattle.evac_pauses.specs.Collect.{collected, collect_image, CanPauseSome}
+use Rattle.evac_pauses.proofs.Images.{table_is_collected}
 use Rattle.control.specs.Clear.{IsClear}
 use Rattle.control.specs.Image.{image_in, image_from}
 use Rattle.control.proofs.Clearing.{view-clear}
@@ -31,16 +31,16 @@ pub get_or-zeros : (n : ℕ) (xs : List ℕ) (at : ℕ) → at < n → get_or (r
 get_or-zeros n xs at below =
     get_or-append (replicate n 0) xs 0 at (omega (arith, below, length-replicate {A = ℕ} n 0)) ∙ get_or-replicate n at 0 0 below
 
-module _ (old new : Image) (clear : IsClear old) (config : config_of new ≡ config_of old) (words : memory_of new ≡ collected (config_of old) (memory_of old)) where
+module _ (old new : Image) (clear : IsClear old) (can : CanPauseSome (config_of old) (image_view (config_of old) (image_in old))) (config : config_of new ≡ config_of old)
+    (words : memory_of new ≡ collected (config_of old) (memory_of old)) where
   abbrev c : Config
   c = config_of old
 
   -- all words after a pause
   words-collected : words_of new ≡ replicate (image_start c) 0 ++ collect_image c (image_in old)
   words-collected =
-      collected_table c (image_in old) (words_of new) (new.all_words ∙ ap table_words config)
-      (λ word inside.
-      ap (λ (m : Word → ℕ). m word) (ap (λ d. view d (words_of new)) (sym config) ∙ words ∙ ap (collected c) (memory-image_in old clear)))
+      table_is_collected c (image_in old) (words_of new) (length-image_in old) (new.all_words ∙ ap table_words config) can
+      (ap (λ d. view d (words_of new)) (sym config) ∙ words ∙ ap (collected c) (memory-image_in old clear))
 
   -- the image is the collected one
   pub image-collected : image_in new ≡ collect_image c (image_in old)

@@ -29,10 +29,10 @@ impl Control {
     ghost use Rattle.heap_world.specs.Change.{image_view};
     ghost use Rattle.image_graph.specs.State.{memory_of};
     ghost use Rattle.image_graph.specs.Holds.{HoldsSome};
-    ghost use Rattle.image_graph.specs.Left.{ShowsTheGraph};
+    ghost use Rattle.image_graph.specs.Left.{StandsForSome, ShowsTheGraph};
     ghost use Rattle.control_steps.specs.Rows.{is_gone, control_place, control_access, control_next, control_says};
     ghost use Rattle.control_steps.specs.Waits.{WaitsAt};
-    ghost use Rattle.mark_pauses.specs.Collect.{collect_image};
+    ghost use Rattle.evac_pauses.specs.Collect.{collect_image};
     ghost use Rattle.control.specs.Fit.{IsFit};
     ghost use Rattle.control.specs.Image.{image_from, is_storing, IsLoadedFrom};
     ghost use Rattle.control.specs.Seen.{config_in, seen_control};
@@ -94,7 +94,8 @@ impl Control {
         self.spot.access(config, word)
     }
 
-    /// Goes on with the word that its access has found. A pause begins marking, ends it, or collects the whole heap.
+    /// Goes on with the word that its access has found. A pause begins marking, ends it and begins evacuation, or collects
+    /// the whole heap.
     pub fn took(&mut self, got: u64) -> Took
         requires busy { is_gone (seen_control self.old).spot ≡ false }
         requires fit { IsFit (config_in self.old) (seen_control self.old) got }
@@ -111,7 +112,7 @@ impl Control {
         said
     }
 
-    /// Writes the graph that the words of the heap's table hold, as `Image::answer_graph` does: it is the only place in a
+    /// Writes the graph that the words of the heap's table stand for, as `Image::answer_graph` does: it is the only place in a
     /// heap that has the memory for that. The control is not storing a new image, and what it has loaded in a pause so far
     /// are words of this table. As events see it, it stays as it is.
     pub fn answer_graph(&mut self, words: &[u64], text: &mut GraphText)
@@ -119,11 +120,10 @@ impl Control {
         requires loaded { IsLoadedFrom (image_from (config_in self.old) words.now) (seen_control self.old).spot (seen_control self.old).image }
         requires room { heap_size (config_in self.old) ≤ text.old.room }
         requires threads { length text.old.roots ≡ (config_in self.old).mutators }
-        requires holds { HoldsSome (config_in self.old) (image_view (config_in self.old) (image_from (config_in self.old) words.now)) }
-        requires calm { image_view (config_in self.old) (image_from (config_in self.old) words.now) Cset ≡ 0 }
+        requires stand { StandsForSome (config_in self.old) words.now }
         ensures config { config_in self.new ≡ config_in self.old }
         ensures same { seen_control self.new ≡ seen_control self.old }
-        ensures shows { ShowsTheGraph (config_in self.old) (image_view (config_in self.old) (image_from (config_in self.old) words.now)) text.new }
+        ensures shows { ShowsTheGraph (config_in self.old) words.now text.new }
         ensures same_room { text.new.room ≡ text.old.room }
         ensures same_threads { length text.new.roots ≡ length text.old.roots }
     {

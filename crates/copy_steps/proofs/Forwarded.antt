@@ -226,6 +226,7 @@ module _ (c : Config) (u : World) (seat a copy refs nums : ℕ) (name : Name) (s
   new_moved = record {
     header = updated_there (λ d. u.memory (Heap d)) a (header_word copy);
     shape = word_stays a 1 (thing name refs nums) object (omega arith) (inr (omega arith)) ∙ was_object.2.shape;
+    name_word = word_stays a 2 (thing name refs nums) object (omega arith) (inr (omega arith)) ∙ was_object.2.name_word;
     few_refs = was_object.2.few_refs;
     few_nums = was_object.2.few_nums;
     inside = inside;
@@ -240,6 +241,7 @@ module _ (c : Config) (u : World) (seat a copy refs nums : ℕ) (name : Name) (s
       record {
         header = first_stays b other ∙ was.header;
         shape = word_stays b 1 (moved n more_refs more_nums to) is (omega arith) (inl other) ∙ was.shape;
+        name_word = word_stays b 2 (moved n more_refs more_nums to) is (omega arith) (inl other) ∙ was.name_word;
         few_refs = was.few_refs;
         few_nums = was.few_nums;
         inside = was.inside;
@@ -322,7 +324,7 @@ module _ (c : Config) (u : World) (seat a copy refs nums : ℕ) (name : Name) (s
           (markable_was b is);
       young = λ still b j more is. shared.evacuated.kept.young still b j more (came b (hand j more) (λ same. (let differ = same in cc)) (λ same. (let differ = same in cc)) is).2;
       floors = shared.evacuated.kept.floors;
-      only = λ still b mark collected. copy_stays b (shared.evacuated.kept.only still b mark collected);
+      only = λ still b from mark collected. copy_stays b (shared.evacuated.kept.only still b from mark collected);
     };
     bodies = bodies;
     targets = λ b more_refs more_nums n is.

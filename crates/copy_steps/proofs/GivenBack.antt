@@ -228,6 +228,7 @@ module _ (c : Config) (u : World) (seat copy words : ℕ) (shared : Shared c u) 
           record {
             header = was.header;
             shape = was.shape;
+            name_word = was.name_word;
             few_refs = was.few_refs;
             few_nums = was.few_nums;
             inside = was.inside;
@@ -260,7 +261,7 @@ module _ (c : Config) (u : World) (seat copy words : ℕ) (shared : Shared c u) 
           omega (arith, end, floor))
           (λ (other : r ≢ region). let now = top_else r other in let floor = shared.evacuated.kept.floors still r inside in omega (arith, now, floor))
           (cases_eq r region);
-      only = λ still a mark collected. copy_stays a (shared.evacuated.kept.only still a mark collected);
+      only = λ still a from mark collected. copy_stays a (shared.evacuated.kept.only still a from mark collected);
     };
     bodies = bodies;
     targets = λ a refs nums n is. record { piece = stays a (thing n refs nums) (λ same. (let differ = same in cc)) is.piece; safe = is.safe };

@@ -1,25 +1,27 @@
 -- Resolving an address as a part: any machine that has a seat can have it inside.
-use Rattle.std.proofs.Common.{ℕ, ◌+◌, ◌<◌, Option, refl, ◌∙◌, arith}
-use Rattle.std.proofs.lemmas.Bool.{and_parts}
+use Rattle.std.proofs.Common.{◌≡◌, ◌≢◌, ◌⊎◌, ℕ, ◌+◌, ◌<◌, Option, Some, inl, inr, refl, ap, ◌∙◌, arith}
 use Rattle.heap_words.specs.declared.config.Config.{Config}
 use Rattle.heap_words.specs.Ranges.{seat_count}
-use Rattle.heap_words.specs.Words.{Heap, IsWord}
-use Rattle.heap_words.proofs.Stores.{is_word_true}
-use Rattle.alloc_buffers.specs.Rows as takes
-use Rattle.heap_world.specs.World.{World, hand, body_words, Shared}
+use Rattle.heap_words.specs.Words.{Top, Heap, IsWord}
+use Rattle.steps_base.specs.Touch.{loads}
+use Rattle.alloc_buffers.specs.declared.spot.TakeSpot.{TakeSpot}
+use Rattle.alloc_buffers.specs.declared.spot.TakeSpot.TheVariants as take
+use Rattle.heap_world.specs.World.{World, hand, Body, body_at, body_words, Shared}
 use Rattle.heap_world.specs.Part.{Part}
+use Rattle.heap_world.proofs.Apart.{far, one_piece}
 use Rattle.heap_world.proofs.Copies.{counted_one}
 use Rattle.heap_world.proofs.Pointing.{body_piece}
 use Rattle.load_barrier.specs.declared.copying.CopySpot.{CopySpot}
 use Rattle.load_barrier.specs.declared.copying.CopySpot.TheVariants.{LoadWord, StoreWord, StoreHeader, Publish, GiveBack}
 use Rattle.load_barrier.specs.declared.spot.ResolveSpot.{ResolveSpot}
 use Rattle.load_barrier.specs.declared.spot.ResolveSpot.TheVariants.{LoadHeader, Entering, LoadShape, Taking, Copying, Leaving, Stopping, LoadAgain, Resolved}
-use Rattle.load_barrier.specs.Rows.{touch_at, next_at, copy_touch, is_resolved}
+use Rattle.load_barrier.specs.Rows.{touch_at, next_at, is_resolved}
 use Rattle.load_barrier.specs.Fit.{LeavesFit}
 use Rattle.load_barrier.specs.UnitRows.{copy_phase}
+use Rattle.load_barrier.proofs.Inside.{resolve_inside}
 use Rattle.copy_steps.specs.Resolving.{CanResolve}
 use Rattle.copy_steps.specs.Laws.{CanResolveFor, ResolvingSteps}
-use Rattle.copy_steps.proofs.Bodies.{copy_piece, piece_word_is, piece_begins, room_within}
+use Rattle.copy_steps.proofs.Bodies.{copy_piece, piece_begins, room_no_copy}
 use Rattle.copy_steps.proofs.Stays.{can_resolve_stays}
 use Rattle.copy_steps.proofs.Ending.{each_resolve}
 
@@ -55,37 +57,64 @@ module _ (c : Config) (u : World) (seat a : ℕ) (shared : Shared c u) where
   leaves_fit LoadAgain can = tt
   leaves_fit (Resolved answer) can = tt
 
-  -- a word of the object is one of the table
-  object_inside : (at : ResolveSpot) (k : ℕ) → k < 3 → CanResolve c u seat a at → IsWord c (Heap (a + k))
-  object_inside at k below can = let piece = copy_piece c u shared a can.there in is_word_true c (Heap (a + k)) (piece_word_is c u shared a k piece.0 piece.1 (let long = piece.2 in omega (arith, long, below)))
-
-  -- so is its header
-  header_inside : (at : ResolveSpot) → CanResolve c u seat a at → IsWord c (Heap a)
-  header_inside at can = let piece = copy_piece c u shared a can.there in is_word_true c (Heap a) (piece_begins c u shared a piece.0 piece.1 (let long = piece.2 in omega (arith, long)))
-
-  copy_inside : (copy : ℕ) (at : CopySpot) → CanResolve c u seat a (Copying copy at) → IsWord c (copy_touch c a copy at).word
-  copy_inside copy (LoadWord words index) can =
-      let facts = can.facts in
-      let piece = body_piece (u.block a) facts.0 facts.1 in
-      is_word_true c (Heap (a + index)) (piece_word_is c u shared a index piece.0 piece.1 (let below = facts.2.2 in let long = facts.2.0 in let same = piece.2 in omega (arith, below, long, same)))
-  copy_inside copy (StoreWord words index found) can =
-      let facts = can.facts in
-      is_word_true c (Heap (copy + index)) (piece_word_is c u shared copy index (hand seat (body_words facts.0)) facts.2.3.room (let below = facts.2.2 in let long = facts.2.0 in omega (arith, below, long)))
-  copy_inside copy StoreHeader can = is_word_true c (Heap copy) can.ready
-  copy_inside copy Publish can = header_inside (Copying copy Publish) can
-  copy_inside copy (GiveBack answer) can = room_within c u shared copy seat (body_words can.facts.0) can.facts.2.0
-
   -- the next access is of the table
   inside_at : (at : ResolveSpot) → CanResolve c u seat a at → IsWord c (touch_at c seat a at).word
-  inside_at LoadHeader can = header_inside LoadHeader can
-  inside_at (Entering at) can = tt
-  inside_at LoadShape can = object_inside LoadShape 1 (omega arith) can
-  inside_at (Taking words at) can = is_word_true c (takes.touch_at seat words at).word (and_parts _ _ (and_parts _ _ can.facts.2.1.ready).0).0
-  inside_at (Copying copy at) can = copy_inside copy at can
-  inside_at (Leaving answer) can = tt
-  inside_at (Stopping at) can = tt
-  inside_at LoadAgain can = header_inside LoadAgain can
-  inside_at (Resolved answer) can = header_inside (Resolved answer) can
+  inside_at at can =
+      let piece = copy_piece c u shared a can.there in
+      resolve_inside c seat a at (piece_begins c u shared a piece.0 piece.1 (let long = piece.2 in omega (arith, long))) can.ready
+
+module _ (c : Config) (u : World) (seat a d k : ℕ) (b : Body) (shared : Shared c u) (is : body_at (u.block d) ≡ Some b) (below : k < body_words b) where
+  -- what it accesses of copies
+  abbrev IsSpared : ResolveSpot → Type 0
+  IsSpared at = (touch_at c seat a at).word ≡ Heap (d + k) → ((touch_at c seat a at).form ≡ loads) ⊎ ((copy : ℕ) × (at ≡ Copying copy Publish) × (d ≡ a) × (k ≡ 0))
+
+  -- no word of its room is one of a copy
+  room_far : (copy index words : ℕ) → u.block copy ≡ Some (hand seat words) → index < words → copy + index ≢ d + k
+  room_far copy index words room inside =
+      let piece = body_piece (u.block d) b is in
+      let long = piece.2 in
+      far c (λ r. u.memory (Top r)) u.block shared.parsable.plotted copy d index k (hand seat words) piece.0 room piece.1
+      (λ same. room_no_copy c u shared copy seat words room b (ap (λ x. body_at (u.block x)) same ∙ is)) inside (omega (arith, below, long))
+
+  -- one word of the heap has one address
+  one_address : (x y : ℕ) → Heap x ≡ Heap y → x ≡ y
+  one_address x y same = cc
+
+  copy_spares : (copy : ℕ) (at : CopySpot) → CanResolve c u seat a (Copying copy at) → IsSpared (Copying copy at)
+  copy_spares copy (LoadWord words index) can word = inl refl
+  copy_spares copy (StoreWord words index found) can word =
+      absurd (room_far copy index (body_words can.facts.0) can.facts.2.3.room (let less = can.facts.2.2 in let long = can.facts.2.0 in omega (arith, less, long)) (one_address _ _ word))
+  copy_spares copy StoreHeader can word =
+      absurd (room_far copy 0 (body_words can.facts.0) can.facts.2.room (omega arith) (let same = one_address copy (d + k) word in omega (arith, same)))
+  copy_spares copy Publish can word =
+      let there = copy_piece c u shared a can.there in
+      let piece = body_piece (u.block d) b is in
+      let long = piece.2 in
+      let same = one_address a (d + k) word in
+      let some = there.2 in
+      let one : d ≡ a = one_piece c (λ r. u.memory (Top r)) u.block shared.parsable.plotted d a a piece.0 there.0 piece.1 there.1 (omega (arith, same)) (omega (arith, same, below, long)) (omega arith) (omega (arith, some)) in
+      inr (copy, refl, one, omega (arith, same, one))
+  copy_spares copy (GiveBack answer) can word = absurd (cc (word))
+
+  take_spares : (words : ℕ) (at : TakeSpot) → IsSpared (Taking words at)
+  take_spares words take.LoadCurrent word = inl refl
+  take_spares words (take.LoadTop region) word = inl refl
+  take_spares words take.LoadFree word = inl refl
+  take_spares words (take.TakeRegion region) word = absurd (cc (word))
+  take_spares words (take.StoreCurrent region) word = absurd (cc (word))
+  take_spares words (take.StoreTop region top) word = absurd (cc (word))
+  take_spares words (take.Ended taken) word = inl refl
+
+  spares_at : (at : ResolveSpot) → CanResolve c u seat a at → IsSpared at
+  spares_at LoadHeader can word = inl refl
+  spares_at (Entering at) can word = absurd (cc (word))
+  spares_at LoadShape can word = inl refl
+  spares_at (Taking words at) can word = take_spares words at word
+  spares_at (Copying copy at) can word = copy_spares copy at can word
+  spares_at (Leaving answer) can word = absurd (cc (word))
+  spares_at (Stopping at) can word = absurd (cc (word))
+  spares_at LoadAgain can word = inl refl
+  spares_at (Resolved answer) can word = inl refl
 
 -- what the steps of resolving owe
 pub resolving_steps : ResolvingSteps
@@ -107,5 +136,6 @@ resolving_steps = record {
   fits = λ c u seat a at going shared can.
       ((each_resolve c u seat a (u.ghost.working seat) shared at going (record { resolves = can; working = refl })).own.resolves.ready, leaves_fit c u seat a shared at can);
   inside = λ c u seat a at shared can. inside_at c u seat a shared at can;
+  spares = λ c u seat a at d k b shared can is below word. spares_at c u seat a d k b shared is below at can word;
   answers = λ c u seat a answer can. can.facts;
 }

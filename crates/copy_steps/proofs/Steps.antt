@@ -139,4 +139,3 @@ module _ (c : Config) (u : World) (seat a : ℕ) (unit : Option ℕ) (shared : S
           };
           working = can.working;
         }))
-

@@ -39,9 +39,12 @@ module _ (c : Config) (u : World) (seat copy words at place value : ℕ) (shared
     parsable = shared.parsable;
     objects = record {
       each = λ a refs nums name is.
-          let o = shared.contents.objects.each a refs nums name is in
-          (o.0, o.1, object_reads (λ b. u.memory (Heap b)) heap_then u.block u.block a refs nums name o.0
-          (λ k inside. else_stays a k (thing name refs nums) is (elsewhere a (thing name refs nums) is (λ same. (let differ = same in cc))) inside) (λ b n there. there) o.2);
+          let o = shared.contents.objects.each a refs nums name is in (
+            o.0,
+            o.1,
+            object_reads (λ b. u.memory (Heap b)) heap_then u.block u.block a refs nums name o.0
+                (λ k inside. else_stays a k (thing name refs nums) is (elsewhere a (thing name refs nums) is (λ same. (let differ = same in cc))) inside) (λ b n there. there) o.2,
+          );
       once = shared.contents.objects.once;
     };
     owned = shared.owned;
@@ -52,6 +55,7 @@ module _ (c : Config) (u : World) (seat copy words at place value : ℕ) (shared
           record {
             header = first_stays a (moved name refs nums to) is other (omega arith) ∙ was.header;
             shape = else_stays a 1 (moved name refs nums to) is other (omega arith) ∙ was.shape;
+            name_word = else_stays a 2 (moved name refs nums to) is other (omega arith) ∙ was.name_word;
             few_refs = was.few_refs;
             few_nums = was.few_nums;
             inside = was.inside;

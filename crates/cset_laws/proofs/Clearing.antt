@@ -1,153 +1,41 @@
 -- Roots and answers are cleared one after the other.
-use Rattle.std.proofs.Common.{length-append, ◌≡◌, ◌≢◌, ℕ, ◌+◌, ◌*◌, ◌%◌, ◌<◌, ◌≤◌, ◌⊎◌, ◌==◌, ◌&&◌, if◌then◌else◌, nat_le, nat_eq, bit_and, true, false, zero, suc, List, [], ◌∷◌, ◌++◌, map, length, get_or, Option, Some, None, inl, inr, refl, sym, ap, ◌∙◌, subst, ⊎_elim, arith}
+use Rattle.std.proofs.Common.{length-append, ◌≡◌, ◌≢◌, ℕ, ◌+◌, ◌^◌, ◌%◌, ◌<◌, ◌≤◌, ◌⊎◌, ◌==◌, ◌&&◌, if◌then◌else◌, nat_le, nat_eq, true, false, suc, List, [], ◌∷◌, ◌++◌, length, get_or, None, inl, inr, refl, sym, ap, ◌∙◌, subst, ⊎_elim, arith}
 use Rattle.std.specs.Prelude.{Contains}
-use Rattle.std.specs.List.{IsDistinct, list_any, range_with_len}
+use Rattle.std.specs.List.{IsDistinct, list_any}
 use Rattle.std.specs.Int.{bit_at}
 use Rattle.std.proofs.Math.Path.{fun_ext}
-use Rattle.std.proofs.lemmas.Bool.{cases_eq, cases_Bool, cond-true, cond-false, eq-eqb, eqb-true, ne_eqb, leb-true, le-leb, and_parts, and_from, and_right, both_ways, false_from_ne_true}
+use Rattle.std.proofs.lemmas.Bool.{cases_eq, cases_Bool, cond-true, cond-false, eq-eqb, eqb-true, leb-true, le-leb, and_parts, and_from, both_ways, false_from_ne_true}
+use Rattle.std.proofs.lemmas.Option.{none-some}
 use Rattle.std.proofs.lemmas.Nat.{mod_below}
-use Rattle.std.proofs.lemmas.List.{get_or_append_left, get_or_push}
-use Rattle.std.proofs.lemmas.List.Elements.{Contains-push_cases, Contains-push, Contains-append_left, Contains-append_cases}
+use Rattle.std.proofs.lemmas.List.{get_or_push}
+use Rattle.std.proofs.lemmas.List.Elements.{Contains-push_cases, Contains-push, Contains-append_left}
 use Rattle.std.proofs.lemmas.Map.Keys.{IsDistinct-push}
 use Rattle.std.proofs.lemmas.Map.Views.{Contains-from_any, exact_unsigned_eq}
 use Rattle.std.proofs.lemmas.Cmp.{nat_eq_equiv}
 use Rattle.heap_words.specs.declared.config.Config.{Config}
-use Rattle.heap_words.specs.Words.{Word, Cset, Free, Top, Root, Answer, Black, Heap, same_word}
-use Rattle.heap_words.specs.Encoding.{header_word, is_forwarded, forwardee_in, object_words}
+use Rattle.heap_words.specs.Words.{Word, Cset, Top, Black, Heap, same_word}
+use Rattle.heap_words.specs.Encoding.{header_word, is_forwarded, object_words}
 use Rattle.heap_words.proofs.Stores.{same_word_refl, same_word_true}
 use Rattle.packing.specs.Places.{LieApart}
-use Rattle.packing.specs.Rooms.{lowest_room}
-use Rattle.regions.specs.Place.{base_of, region_with, IsOf}
-use Rattle.regions.specs.Sets.{IsIn, IsOutside, all_but}
+use Rattle.regions.specs.Place.{region_with, IsOf}
+use Rattle.regions.specs.Sets.{IsIn, IsOutside}
 use Rattle.regions.proofs.PlaceLemmas.{regions_tile}
 use Rattle.image_laws.specs.Full.{now_in}
+use Rattle.image_graph.specs.Make.{AreWithin}
 use Rattle.mark_bits.specs.Marks.{mark_word, mark_bit}
 use Rattle.mark_laws.specs.Marks.{is_black}
-use Rattle.cset_laws.specs.Live.{words_at, marked_words}
-use Rattle.cset_laws.specs.Choice.{chosen}
-use Rattle.cset_laws.specs.Copying.{tops_outside, AreToCopy}
-use Rattle.cset_laws.specs.Copied.{copy_room, top_address, copied_word, copied_in, copied_to, copied_out, copied_by, IsCopiedOut}
-use Rattle.cset_laws.specs.Begun.{root_places, naming_places, IsNaming, is_collected, moved_out, cleared_at, cleared_in_turn, with_set, IsCopyable, AreCleared}
-use Rattle.cset_laws.specs.Laws.{FreeAreEmpty, RootsAreCleared}
+use Rattle.cset_laws.specs.Live.{words_at, marked_words, live_words, is_candidate}
+use Rattle.cset_laws.specs.Choice.{chosen, copy_limit}
+use Rattle.cset_laws.specs.Copying.{AreToCopy}
+use Rattle.cset_laws.specs.Copied.{CanCopyOut, copy_room, top_address, copied_out, copied_by, IsCopiedOut}
+use Rattle.cset_laws.specs.Begun.{FreeAreEmpty, CanBegin, CanClear, CanClearInTurn, naming_places, IsNaming, is_collected, moved_out, cleared_at, cleared_in_turn, with_set, roots_cleared, IsCopyable, AreCleared}
+use Rattle.cset_laws.specs.Laws.{RootsAreCleared}
 use Rattle.cset_laws.proofs.Places.{some_words, of_its_region, regions_apart}
+use Rattle.cset_laws.proofs.Front.{front_is}
 use Rattle.cset_laws.proofs.Fits.{above_first}
 use Rattle.cset_laws.proofs.Turns.{each_is_copied}
-
--- a word that names objects is none of the others
-not_same : (place word : Word) → IsNaming place → (IsNaming word → ⊥) → same_word place word ≡ false
-not_same place word naming other = false_from_ne_true (same_word place word) (λ same. other (subst IsNaming (same_word_true place word same) naming))
-
--- a header that was written reads back
-header_forwarded : (to : ℕ) → is_forwarded (header_word to) ≡ true
-header_forwarded to = eq-eqb ((4 * to + 3) % 4) 3 (omega arith)
-
-header_names : (to : ℕ) → forwardee_in (header_word to) ≡ to
-header_names to = omega arith
-
--- where the header names a copy, that is the current one
-now_is : (m : Word → ℕ) (a to : ℕ) → m (Heap a) ≡ header_word to → now_in m a ≡ to
-now_is m a to header =
-    cond-true (is_forwarded (m (Heap a))) (forwardee_in (m (Heap a))) a (ap is_forwarded header ∙ header_forwarded to)
-    ∙ ap forwardee_in header ∙ header_names to
-
--- the current copy goes by the header
-now_same : (m n : Word → ℕ) (a : ℕ) → m (Heap a) ≡ n (Heap a) → now_in m a ≡ now_in n a
-now_same m n a same = ap (λ header. if is_forwarded header then forwardee_in header else a) same
-
--- what is outside of the set is not collected
-not_collected : (c : Config) (m : Word → ℕ) (a : ℕ) → IsOutside (m Cset) (region_with c a) → is_collected c m a ≡ false
-not_collected c m a outside =
-    and_right (nat_le c.region_words a) (bit_at (m Cset) (region_with c a) == 1) (ne_eqb (bit_at (m Cset) (region_with c a)) 1 (λ member. omega (arith, member, outside)))
-
--- the words of the heap by their addresses
-abbrev heap_of : (Word → ℕ) → ℕ → ℕ
-heap_of m y = m (Heap y)
-
--- copying goes by the words that name no objects
-module _ (c : Config) (m n : Word → ℕ) (a : ℕ) (same : (word : Word) → (IsNaming word → ⊥) → m word ≡ n word) where
-  same_words_at : words_at m a ≡ words_at n a
-  same_words_at = ap object_words (same (Heap (a + 1)) (λ never. never))
-
-  same_heap : heap_of m ≡ heap_of n
-  same_heap = fun_ext (λ y. same (Heap y) (λ never. never))
-
-  same_copy_room : copy_room c m a ≡ copy_room c n a
-  same_copy_room =
-      ap (λ s. lowest_room c.region_words (tops_outside c.region_words s (λ r. m (Top r))) (words_at m a) c.regions) (same Cset (λ never. never))
-      ∙ ap (λ (top : ℕ → ℕ). lowest_room c.region_words (tops_outside c.region_words (n Cset) top) (words_at m a) c.regions) (fun_ext (λ r. same (Top r) (λ never. never)))
-      ∙ ap (λ k. lowest_room c.region_words (tops_outside c.region_words (n Cset) (λ r. n (Top r))) k c.regions) same_words_at
-
-  same_copied_to : (r : ℕ) (word : Word) → (IsNaming word → ⊥) → copied_to c m a r word ≡ copied_to c n a r word
-  unfolding copied_to
-  same_copied_to r (Heap x) other =
-      ap (λ t. if a == x then header_word (base_of c r + t) else copied_word (λ y. m (Heap y)) a (base_of c r + t) (words_at m a) x) (same (Top r) (λ never. never))
-      ∙ ap (λ (heap : ℕ → ℕ). if a == x then header_word (top_address c n r) else copied_word heap a (top_address c n r) (words_at m a) x) same_heap
-      ∙ ap (λ k. if a == x then header_word (top_address c n r) else copied_word (λ y. n (Heap y)) a (top_address c n r) k x) same_words_at
-  same_copied_to r (Top q) other =
-      ap (λ t. if r == q then t + words_at m a else m (Top q)) (same (Top r) (λ never. never))
-      ∙ ap (λ k. if r == q then n (Top r) + k else m (Top q)) same_words_at
-      ∙ ap (λ t. if r == q then n (Top r) + words_at n a else t) (same (Top q) (λ never. never))
-  same_copied_to r Free other = ap (λ free. bit_and free (all_but r)) (same Free (λ never. never))
-  same_copied_to r word other = same word other
-
-  same_copied_in : (o : Option ℕ) (word : Word) → (IsNaming word → ⊥) → copied_in c m a o word ≡ copied_in c n a o word
-  same_copied_in None word other = same word other
-  same_copied_in (Some r) word other = same_copied_to r word other
-
-  pub same_copied_out : (word : Word) → (IsNaming word → ⊥) → copied_out c m a word ≡ copied_out c n a word
-  same_copied_out word other = same_copied_in (copy_room c m a) word other ∙ ap (λ o. copied_in c n a o word) same_copy_room
-
--- what names objects stays
-copied_naming : (c : Config) (m : Word → ℕ) (a : ℕ) (o : Option ℕ) (place : Word) → IsNaming place → copied_in c m a o place ≡ m place
-unfolding copied_to
-copied_naming c m a None place naming = refl
-copied_naming c m a (Some r) (Root t i) naming = refl
-copied_naming c m a (Some r) (Answer t) naming = refl
-copied_naming c m a (Some r) place naming = absurd naming
-
--- copies of the first objects of a longer list
-copied_front : (c : Config) (m : Word → ℕ) (objects more : List ℕ) (k : ℕ) → k ≤ length objects → copied_by c m (objects ++ more) k ≡ copied_by c m objects k
-unfolding copied_by
-copied_front c m objects more zero below = refl
-copied_front c m objects more (suc k) below =
-    ap (λ a. copied_out c (copied_by c m (objects ++ more) k) a) (get_or_append_left objects more 0 k (omega (arith, below)))
-    ∙ ap (λ n. copied_out c n (get_or objects k 0)) (copied_front c m objects more k (omega (arith, below)))
-
-copied_next : (c : Config) (m : Word → ℕ) (objects : List ℕ) (k : ℕ) → copied_by c m objects (suc k) ≡ copied_out c (copied_by c m objects k) (get_or objects k 0)
-unfolding copied_by
-copied_next c m objects k = refl
-
--- the parts of a list, and what is in it
-first_or_later : (first : Word) (later : List Word) (place : Word) (k : ℕ) → k < length (first ∷ later) → get_or (first ∷ later) k place ≡ place
-    → (first ≡ place) ⊎ Contains later place
-first_or_later first later place zero below same = inl same
-first_or_later first later place (suc k) below same = inr (k, omega (arith, below), same)
-
-is_later : (first : Word) (later : List Word) (place : Word) → Contains later place → Contains (first ∷ later) place
-is_later first later place has = (suc has.0, omega (arith, has.1), has.2)
-
-is_first : (first : Word) (later : List Word) → Contains (first ∷ later) first
-is_first first later = (zero, omega arith, refl)
-
-all_naming : (f : ℕ → Word) (each : (i : ℕ) → IsNaming (f i)) (xs : List ℕ) (place : Word) → Contains (map f xs) place → IsNaming place
-all_naming f each [] place has = absurd (omega (arith, has.1))
-all_naming f each (x ∷ xs) place has = ⊎_elim
-    (λ (here : f x ≡ place). subst IsNaming here (each x))
-    (λ (later : Contains (map f xs) place). all_naming f each xs place later)
-    (first_or_later (f x) (map f xs) place has.0 has.1 has.2)
-
-roots_name : (t : ℕ) (place : Word) → Contains (root_places t) place → IsNaming place
-roots_name zero place has = absurd (omega (arith, has.1))
-roots_name (suc t) place has = ⊎_elim
-    (λ (earlier : Contains (root_places t) place). roots_name t place earlier)
-    (λ (last : Contains (map (Root t) (range_with_len 0 16)) place). all_naming (Root t) (λ i. tt) (range_with_len 0 16) place last)
-    (Contains-append_cases (root_places t) (map (Root t) (range_with_len 0 16)) place has)
-
-places_name : (c : Config) (place : Word) → Contains (naming_places c) place → IsNaming place
-places_name c place has = ⊎_elim
-    (λ (root : Contains (root_places c.mutators) place). roots_name c.mutators place root)
-    (λ (answer : Contains (map Answer (range_with_len 0 c.mutators)) place). all_naming Answer (λ t. tt) (range_with_len 0 c.mutators) place answer)
-    (Contains-append_cases (root_places c.mutators) (map Answer (range_with_len 0 c.mutators)) place has)
+use Rattle.cset_laws.proofs.Naming.{not_same, copied_naming, first_or_later, is_later, is_first, places_name, set_apart}
+use Rattle.cset_laws.proofs.Copies.{header_forwarded, now_is, now_same, not_collected, same_copy_room, same_copied_out, copied_front, copied_next}
 
 none_distinct : IsDistinct nat_eq []
 unfolding IsDistinct
@@ -157,18 +45,27 @@ nothing_in_none : (x : ℕ) → Contains [] x → ⊥
 nothing_in_none x has = omega (arith, has.1)
 
 module _ (c : Config) (before : Word → ℕ) (empty : FreeAreEmpty c before) (lie : LieApart c.region_words (marked_words c before)) (set_is : before Cset ≡ chosen c before)
-    (unmoved : (a : ℕ) → is_black c before a ≡ true → is_forwarded (before (Heap a)) ≡ false)
+    (within : AreWithin c before) (unmoved : (a : ℕ) → is_black c before a ≡ true → is_forwarded (before (Heap a)) ≡ false)
     (copyable : (place : Word) → Contains (naming_places c) place → is_collected c before (before place) ≡ true → IsCopyable c before (before place)) where
   -- What holds after some places were cleared, for which these objects were copied out.
   record IsSoFar (m : Word → ℕ) (objects : List ℕ) : Type 0 where
     to_copy : AreToCopy c before (before Cset) objects
     only : (a : ℕ) → Contains objects a → (place : Word) × Contains (naming_places c) place × (before place ≡ a)
     same_set : m Cset ≡ before Cset
+    within_now : AreWithin c m
+    sized : (x : ℕ) → is_black c before x ≡ true → IsIn (before Cset) (region_with c x) → words_at m x ≡ words_at before x
     same : (word : Word) → (IsNaming word → ⊥) → m word ≡ copied_by c before objects (length objects) word
     named : (place : Word) → IsNaming place → (m place ≡ before place) ⊎ (Contains objects (before place) × (m place ≡ now_in m (before place)))
     moved : (a : ℕ) → Contains objects a → is_forwarded (m (Heap a)) ≡ true
     away : (a : ℕ) → Contains objects a → is_collected c before (now_in m a) ≡ false
     left : (a : ℕ) → is_black c before a ≡ true → IsIn (before Cset) (region_with c a) → is_forwarded (m (Heap a)) ≡ true → Contains objects a
+
+  -- what is marked is of the heap, and is counted
+  black_above : (x : ℕ) → is_black c before x ≡ true → c.region_words ≤ x
+  black_above x black = leb-true c.region_words x (and_parts (nat_le c.region_words x) (bit_at (before (Black (mark_word c x))) (mark_bit c x) == 1) black).0
+
+  all_black : (x : ℕ) → is_black c before x ≡ true → marked_words c before x ≡ words_at before x
+  all_black x black = cond-true (is_black c before x) (words_at before x) 0 black
 
   -- One more object is copied.
   module _ (m : Word → ℕ) (objects : List ℕ) (so_far : IsSoFar m objects) (a : ℕ) (above : c.region_words ≤ a) (member : IsIn (before Cset) (region_with c a))
@@ -222,18 +119,45 @@ module _ (c : Config) (before : Word → ℕ) (empty : FreeAreEmpty c before) (l
     now_by : (word : Word) → (IsNaming word → ⊥) → now word ≡ copied_out c by a word
     now_by word other = same_copied_out c m by a so_far.same word other
 
+    -- words of the regions of the set stay, but for the header of the object that is copied
+    stays_in_set : (x k : ℕ) → c.region_words ≤ x → IsIn (before Cset) (region_with c x) → x % c.region_words + k < c.region_words → x + k ≢ a → now (Heap (x + k)) ≡ m (Heap (x + k))
+    stays_in_set x k from in_set inside other =
+        let differ : region_with c x ≢ copied.region = λ same_region.
+        (let member_there : bit_at (before Cset) copied.region ≡ 1 = subst (IsIn (before Cset)) same_region in_set in
+        let set_now : by Cset ≡ before Cset = sym (so_far.same Cset (λ never. never)) ∙ so_far.same_set in
+        let outside : bit_at (before Cset) copied.region ≡ 0 = ap (λ s. bit_at s copied.region) (sym set_now) ∙ copied.outside in
+        omega (arith, member_there, outside)) in
+        let apart = regions_apart c (region_with c x) copied.region (x + k) (top_address c by copied.region) (words_at by a) differ
+        (of_its_region c x k from inside) (omega arith) (omega (arith, copied.room)) in
+        now_by (Heap (x + k)) (λ never. never) ∙ copied.copied.elsewhere (x + k) other apart ∙ sym (so_far.same (Heap (x + k)) (λ never. never))
+
     -- headers of other objects of the set stay
     header_stays : (x : ℕ) → c.region_words ≤ x → IsIn (before Cset) (region_with c x) → x ≢ a → now (Heap x) ≡ m (Heap x)
     header_stays x from in_set other =
-        let differ : region_with c x ≢ copied.region = λ same_region.
-        (let inside : bit_at (before Cset) copied.region ≡ 1 = subst (IsIn (before Cset)) same_region in_set in
-        let set_now : by Cset ≡ before Cset = sym (so_far.same Cset (λ never. never)) ∙ so_far.same_set in
-        let outside : bit_at (before Cset) copied.region ≡ 0 = ap (λ s. bit_at s copied.region) (sym set_now) ∙ copied.outside in
-        omega (arith, inside, outside)) in
         let plain_sum : x + 0 ≡ x = omega arith in
-        let apart = regions_apart c (region_with c x) copied.region x (top_address c by copied.region) (words_at by a) differ
-        (subst (IsOf c (region_with c x)) plain_sum (of_its_region c x 0 from (omega (arith, mod_below x c.region_words (some_words c))))) (omega arith) (omega (arith, copied.room)) in
-        now_by (Heap x) (λ never. never) ∙ copied.copied.elsewhere x other apart ∙ sym (so_far.same (Heap x) (λ never. never))
+        subst (λ y. now (Heap y) ≡ m (Heap y)) plain_sum
+        (stays_in_set x 0 from in_set (omega (arith, mod_below x c.region_words (some_words c))) (λ same. other (sym plain_sum ∙ same)))
+
+    -- and so do the shapes of all marked ones
+    shape_stays : (x : ℕ) → is_black c before x ≡ true → IsIn (before Cset) (region_with c x) → now (Heap (x + 1)) ≡ m (Heap (x + 1))
+    shape_stays x black in_set =
+        let all = all_black x black in
+        let all_here = all_black a can.marked in
+        let inside = lie.within x (omega (arith, all)) in
+        stays_in_set x 1 (black_above x black) in_set (omega (arith, inside, all))
+        (λ next. (let apart = lie.apart x a (omega (arith, all)) (omega (arith, all_here)) (omega (arith, next)) in omega (arith, apart, all, next)))
+
+    -- no region uses more words than it has
+    within_after : AreWithin c now
+    within_after q below = ⊎_elim
+        (λ (here : q ≡ copied.region).
+        let grown = now_by (Top copied.region) (λ never. never) ∙ copied.copied.top in
+        let there : now (Top q) ≡ now (Top copied.region) = ap (λ r. now (Top r)) here in
+        omega (arith, grown, there, copied.room))
+        (λ (other : q ≢ copied.region).
+        let same = now_by (Top q) (λ never. never) ∙ copied.copied.other_tops q other ∙ sym (so_far.same (Top q) (λ never. never)) in
+        omega (arith, same, so_far.within_now q below))
+        (cases_eq q copied.region)
 
     object_stays : (x : ℕ) → Contains objects x → now (Heap x) ≡ m (Heap x)
     object_stays x has =
@@ -260,6 +184,8 @@ module _ (c : Config) (before : Word → ℕ) (empty : FreeAreEmpty c before) (l
       to_copy = more_to_copy;
       only = each_more (λ x. (p : Word) × Contains (naming_places c) p × (before p ≡ x)) so_far.only (place, there, is);
       same_set = now_by Cset (λ never. never) ∙ copied.copied.others Cset (λ never. never) ∙ sym (so_far.same Cset (λ never. never)) ∙ so_far.same_set;
+      within_now = within_after;
+      sized = λ x black in_set. ap object_words (shape_stays x black in_set) ∙ so_far.sized x black in_set;
       same = λ word other. now_by word other ∙ ap (λ (n : Word → ℕ). n word) (sym by_next) ∙ ap (λ k. copied_by c before more k word) (sym longer);
       named = λ p naming. ⊎_elim
           (λ (old : m p ≡ before p). inl (naming_same p naming ∙ old))
@@ -273,9 +199,6 @@ module _ (c : Config) (before : Word → ℕ) (empty : FreeAreEmpty c before) (l
           (λ (other : x ≢ a). Contains-append_left objects (a ∷ []) x (so_far.left x black in_set (ap is_forwarded (sym (header_stays x (black_above x black) in_set other)) ∙ forwarded)))
           (cases_eq x a);
     }
-      where
-        black_above : (x : ℕ) → is_black c before x ≡ true → c.region_words ≤ x
-        black_above x black = leb-true c.region_words x (and_parts (nat_le c.region_words x) (bit_at (before (Black (mark_word c x))) (mark_bit c x) == 1) black).0
 
   -- A place that named an object of the set names the copy.
   module _ (m : Word → ℕ) (objects : List ℕ) (so_far : IsSoFar m objects) (place : Word) (naming : IsNaming place) (has : Contains objects (before place)) where
@@ -296,6 +219,8 @@ module _ (c : Config) (before : Word → ℕ) (empty : FreeAreEmpty c before) (l
       to_copy = so_far.to_copy;
       only = so_far.only;
       same_set = renamed_other Cset (λ never. never) ∙ so_far.same_set;
+      within_now = λ q below. (let same = renamed_other (Top q) (λ never. never) in omega (arith, same, so_far.within_now q below));
+      sized = λ x black in_set. ap object_words (renamed_other (Heap (x + 1)) (λ never. never)) ∙ so_far.sized x black in_set;
       same = λ word other. renamed_other word other ∙ so_far.same word other;
       named = λ p names. ⊎_elim
           (λ (here : same_word place p ≡ true).
@@ -379,16 +304,64 @@ module _ (c : Config) (before : Word → ℕ) (empty : FreeAreEmpty c before) (l
             },
           )
 
+      -- what a place names in the set it named at first
+      named_at_first : is_collected c m (m place) ≡ true → m place ≡ before place
+      named_at_first collected = ⊎_elim
+          (λ (is : m place ≡ before place). is)
+          (λ (new : Contains objects (before place) × (m place ≡ now_in m (before place))).
+          absurd (both_ways (is_collected c before (m place)) (ap (is_collected c before) new.1 ∙ so_far.away (before place) new.0)
+          (sym (collected_same (m place)) ∙ collected)))
+          (so_far.named place naming)
+
+      -- so it can be cleared
+      module _ (collected : is_collected c m (m place) ≡ true) (plain : is_forwarded (m (Heap (m place))) ≡ false) where
+        abbrev a : ℕ
+        a = m place
+
+        in_set : is_collected c before a ≡ true
+        in_set = sym (collected_same a) ∙ collected
+
+        above : c.region_words ≤ a
+        above = leb-true c.region_words a (and_parts (nat_le c.region_words a) (bit_at (before Cset) (region_with c a) == 1) in_set).0
+
+        member : IsIn (before Cset) (region_with c a)
+        member = eqb-true (bit_at (before Cset) (region_with c a)) 1 (and_parts (nat_le c.region_words a) (bit_at (before Cset) (region_with c a) == 1) in_set).1
+
+        can : IsCopyable c before a
+        can =
+            let old = named_at_first collected in
+            subst (IsCopyable c before) (sym old) (copyable place there (ap (is_collected c before) (sym old) ∙ in_set))
+
+        can_copy_out : CanCopyOut c m a
+        can_copy_out =
+            let all = all_black a can.marked in
+            let inside = lie.within a (omega (arith, all)) in
+            record {
+              above = above;
+              of_region = can.of_region;
+              in_set = subst (λ s. IsIn s (region_with c a)) (sym so_far.same_set) member;
+              lies = omega (arith, inside, all, so_far.sized a can.marked member);
+              tops = so_far.within_now;
+            }
+
+        has_room : copy_room c m a ≢ None
+        has_room none =
+            let found = copied m objects so_far a above member can place there (sym (named_at_first collected)) plain in
+            none-some found.region (sym none ∙ same_copy_room c m (copied_by c before objects (length objects)) a so_far.same ∙ found.found)
+
+      can_clear : before Cset < 2 ^ c.regions → CanClear c m (m place)
+      can_clear small = record {
+        set = subst (λ s. s < 2 ^ c.regions) (sym so_far.same_set) small;
+        object = can_copy_out;
+        room = has_room;
+      }
+
       clears : (next : Word → ℕ) → (is_collected c m (m place) ≡ false → next ≡ m) → (is_collected c m (m place) ≡ true → next ≡ clear_of (m place))
           → (objects' : List ℕ) × IsCleared m next place objects'
       clears next spared cleared = ⊎_elim
           (λ (collected : is_collected c m (m place) ≡ true).
           let in_set : is_collected c before (m place) ≡ true = sym (collected_same (m place)) ∙ collected in
-          let old : m place ≡ before place = ⊎_elim
-          (λ (is : m place ≡ before place). is)
-          (λ (new : Contains objects (before place) × (m place ≡ now_in m (before place))).
-          absurd (both_ways (is_collected c before (m place)) (ap (is_collected c before) new.1 ∙ so_far.away (before place) new.0) in_set))
-          (so_far.named place naming) in
+          let old = named_at_first collected in
           let result = cleared_by (ap (is_collected c before) (sym old) ∙ in_set) in
           (result.0, subst (λ n. IsCleared m n place result.0) (sym (cleared collected ∙ ap clear_of old)) result.1))
           (λ (outside : is_collected c m (m place) ≡ false).
@@ -425,6 +398,17 @@ module _ (c : Config) (before : Word → ℕ) (empty : FreeAreEmpty c before) (l
         },
       )
 
+  all_can_clear : before Cset < 2 ^ c.regions → (places : List Word) (m : Word → ℕ) (objects : List ℕ) → ((p : Word) → Contains places p → Contains (naming_places c) p) → IsSoFar m objects
+      → CanClearInTurn c m places
+  unfolding CanClearInTurn
+  all_can_clear small [] m objects are so_far = tt
+  all_can_clear small (place ∷ places) m objects are so_far =
+      let there = are place (is_first place places) in
+      let first = clears_here m objects so_far place there in (
+        can_clear m objects so_far place there small,
+        all_can_clear small places (cleared_at c m place) first.0 (λ p has. are p (is_later place places p has)) first.1.so_far,
+      )
+
   at_first : IsSoFar before []
   unfolding copied_by
   at_first = record {
@@ -437,6 +421,8 @@ module _ (c : Config) (before : Word → ℕ) (empty : FreeAreEmpty c before) (l
     };
     only = λ x has. absurd (nothing_in_none x has);
     same_set = refl;
+    within_now = within;
+    sized = λ x black in_set. refl;
     same = λ word other. refl;
     named = λ p names. inl refl;
     moved = λ x has. absurd (nothing_in_none x has);
@@ -470,17 +456,25 @@ module _ (c : Config) (before : Word → ℕ) (empty : FreeAreEmpty c before) (l
           (le-leb c.region_words a (above_first c before (before Cset) objects to_copy a (to_copy.marked a has)))
           (eq-eqb (bit_at (before Cset) (region_with c a)) 1 (to_copy.in_set a has))
 
--- a collection set changes nothing else
-set_apart : (m : Word → ℕ) (set : ℕ) (place : Word) → IsNaming place → with_set m set place ≡ m place
-set_apart m set (Root t i) naming = refl
-set_apart m set (Answer t) naming = refl
-set_apart m set place naming = absurd naming
+module _ (c : Config) (memory : Word → ℕ) (begin : CanBegin c memory) where
+  abbrev before : Word → ℕ
+  before = with_set memory (chosen c memory)
+
+  copyable_then : (place : Word) → Contains (naming_places c) place → is_collected c before (before place) ≡ true → IsCopyable c before (before place)
+  copyable_then place there collected =
+      let same = set_apart memory (chosen c memory) place (places_name c place there) in
+      let can = begin.copyable place there (ap (is_collected c before) (sym same) ∙ collected) in
+      let here = subst (IsCopyable c memory) (sym same) can in
+      record { marked = here.marked; of_region = here.of_region; short = here.short }
+
+  pub clears_roots : (objects : List ℕ) × AreCleared c before (roots_cleared c memory (chosen c memory)) objects
+  clears_roots = are_cleared c before begin.empty begin.apart refl begin.within begin.unmoved copyable_then
+
+  pub can_clear_in_turn : CanClearInTurn c before (naming_places c)
+  can_clear_in_turn =
+      let small : chosen c memory < 2 ^ c.regions = (front_is c.regions (copy_limit c memory) (live_words c memory) (is_candidate c memory)).in_heap in
+      all_can_clear c before begin.empty begin.apart refl begin.within begin.unmoved copyable_then small (naming_places c) before [] (λ p has. has)
+      (at_first c before begin.empty begin.apart refl begin.within begin.unmoved copyable_then)
 
 pub roots_are_cleared : RootsAreCleared
-roots_are_cleared c memory empty lie unmoved copyable =
-    let before = with_set memory (chosen c memory) in
-    are_cleared c before empty lie refl unmoved (λ place there collected.
-    let same = set_apart memory (chosen c memory) place (places_name c place there) in
-    let can = copyable place there (ap (is_collected c before) (sym same) ∙ collected) in
-    let here = subst (IsCopyable c memory) (sym same) can in
-    record { marked = here.marked; of_region = here.of_region; short = here.short })
+roots_are_cleared c memory can = clears_roots c memory can

@@ -21,7 +21,8 @@ use Rattle.cset_laws.specs.Live.{words_at, marked_words, live_words, is_candidat
 use Rattle.cset_laws.specs.Front.{live_in}
 use Rattle.cset_laws.specs.Choice.{copy_limit, chosen}
 use Rattle.cset_laws.specs.Copying.{tops_outside, AreToCopy, words_by_turn, tops_at_turn, FindsRoom}
-use Rattle.cset_laws.specs.Laws.{FreeAreEmpty, RoomIsFound}
+use Rattle.cset_laws.specs.Begun.{FreeAreEmpty}
+use Rattle.cset_laws.specs.Laws.{RoomIsFound}
 use Rattle.cset_laws.proofs.Sums.{sum_in_rows, sum_picked}
 use Rattle.cset_laws.proofs.Candidate.{candidate_is_candidate}
 use Rattle.cset_laws.proofs.Front.{front_is}

@@ -17,7 +17,8 @@ use Rattle.cset_laws.specs.Live.{words_at, marked_words}
 use Rattle.cset_laws.specs.Choice.{chosen}
 use Rattle.cset_laws.specs.Copying.{tops_outside, AreToCopy, words_by_turn, tops_at_turn, FindsRoom}
 use Rattle.cset_laws.specs.Copied.{copy_room, top_address, copied_out, copied_by, IsCopiedOut}
-use Rattle.cset_laws.specs.Laws.{FreeAreEmpty, EachIsCopied}
+use Rattle.cset_laws.specs.Begun.{FreeAreEmpty}
+use Rattle.cset_laws.specs.Laws.{EachIsCopied}
 use Rattle.cset_laws.proofs.Places.{of_its_region, regions_apart}
 use Rattle.cset_laws.proofs.Fits.{above_first, room_is_found}
 use Rattle.cset_laws.proofs.CopiedOut.{own_top, copying_copies}

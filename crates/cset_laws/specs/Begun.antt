@@ -1,17 +1,21 @@
 -- What the beginning of evacuation makes of the words of an image: what roots and answers name is copied out of the collection
 -- set, so that they name nothing there, and the rest is left to be evacuated beside the threads.
-use Rattle.std.specs.Prelude.{ℕ, ◌≡◌, ◌<◌, ◌≤◌, ◌==◌, ◌&&◌, nat_le, if◌then◌else◌, Bool, true, false, List, [], ◌∷◌, ◌++◌, map, length, Contains, ⊤, zero, suc}
+use Rattle.std.specs.Prelude.{ℕ, ◌≡◌, ◌≢◌, ◌^◌, ◌<◌, ◌≤◌, ◌==◌, ◌&&◌, None, nat_le, if◌then◌else◌, Bool, true, false, List, [], ◌∷◌, ◌++◌, map, length, Contains, ⊤, zero, suc}
 use Rattle.std.specs.List.{range_with_len}
 use Rattle.std.specs.Int.{bit_at}
 use Rattle.heap_words.specs.declared.config.Config.{Config}
-use Rattle.heap_words.specs.Words.{Word, Phase, Cset, Evac, Claim, Root, Answer, Heap, same_word}
+use Rattle.heap_words.specs.Words.{Word, Phase, Cset, Free, Evac, Claim, Top, Root, Answer, Heap, same_word}
 use Rattle.heap_words.specs.Encoding.{is_forwarded}
 use Rattle.regions.specs.Place.{region_with}
+use Rattle.regions.specs.Sets.{IsIn}
+use Rattle.packing.specs.Places.{LieApart}
 use Rattle.image_laws.specs.Full.{now_in}
+use Rattle.image_graph.specs.Make.{AreWithin}
 use Rattle.mark_laws.specs.Marks.{is_black}
-use Rattle.cset_laws.specs.Live.{words_at}
+use Rattle.cset_laws.specs.Live.{words_at, marked_words}
+use Rattle.cset_laws.specs.Choice.{chosen}
 use Rattle.cset_laws.specs.Copying.{AreToCopy}
-use Rattle.cset_laws.specs.Copied.{copied_out, copied_by}
+use Rattle.cset_laws.specs.Copied.{CanCopyOut, copy_room, copied_out, copied_by}
 
 -- the roots of so many mutators, and then their answers: the words that name objects, in the order in which they are cleared
 abbrev pub root_places : (mutators : ℕ) → List Word
@@ -78,6 +82,22 @@ pub record IsCopyable (c : Config) (memory : Word → ℕ) (a : ℕ) : Type 0 wh
   pub of_region : region_with c a < c.regions
   pub short : words_at memory a ≤ 35
 
+-- no word of a free region is in use
+abbrev pub FreeAreEmpty : Config → (Word → ℕ) → Type 0
+FreeAreEmpty c memory = (r : ℕ) → r < c.regions → IsIn (memory Free) r → memory (Top r) ≡ 0
+
+-- Evacuation can begin: only regions of the heap are free, and they are empty; no region uses more words than it has; marked
+-- objects lie apart, each in one region, and none has moved; and what roots and answers name in the chosen regions can be
+-- copied.
+pub record CanBegin (c : Config) (memory : Word → ℕ) : Type 0 where
+  pub free : memory Free < 2 ^ c.regions
+  pub empty : FreeAreEmpty c memory
+  pub within : AreWithin c memory
+  pub apart : LieApart c.region_words (marked_words c memory)
+  pub unmoved : (a : ℕ) → is_black c memory a ≡ true → is_forwarded (memory (Heap a)) ≡ false
+  pub copyable : (place : Word) → Contains (naming_places c) place → is_collected c (with_set memory (chosen c memory)) (memory place) ≡ true
+      → IsCopyable c memory (memory place)
+
 -- Roots and answers were cleared, and for that these objects were copied out.
 pub record AreCleared (c : Config) (before after : Word → ℕ) (objects : List ℕ) : Type 0 where
   pub to_copy : AreToCopy c before (before Cset) objects
@@ -88,3 +108,15 @@ pub record AreCleared (c : Config) (before after : Word → ℕ) (objects : List
   -- what named something in the collection set names its copy, which is outside; else it is as it was
   pub renewed : (place : Word) → Contains (naming_places c) place → after place ≡ (if is_collected c before (before place) then now_in after (before place) else before place)
   pub cleared : (place : Word) → Contains (naming_places c) place → is_collected c before (after place) ≡ false
+
+-- what an address names can be cleared: if it is an object of the collection set that has not moved, it can be copied out, and
+-- some region has room for it
+pub record CanClear (c : Config) (memory : Word → ℕ) (a : ℕ) : Type 0 where
+  pub set : memory Cset < 2 ^ c.regions
+  pub object : is_collected c memory a ≡ true → is_forwarded (memory (Heap a)) ≡ false → CanCopyOut c memory a
+  pub room : is_collected c memory a ≡ true → is_forwarded (memory (Heap a)) ≡ false → copy_room c memory a ≢ None
+
+-- what these places name can be cleared, one after the other
+unfoldable pub CanClearInTurn : Config → (Word → ℕ) → List Word → Type 0
+CanClearInTurn c memory [] = ⊤
+CanClearInTurn c memory (place ∷ places) = CanClear c memory (memory place) × CanClearInTurn c (cleared_at c memory place) places

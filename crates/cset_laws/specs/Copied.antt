@@ -1,12 +1,13 @@
 -- What copying objects out of the collection set makes of the words of an image.
-use Rattle.std.specs.Prelude.{ℕ, ◌≡◌, ◌≢◌, ◌+◌, ◌-◌, ◌<◌, ◌≤◌, ◌⊎◌, ◌==◌, ◌&&◌, nat_lt, if◌then◌else◌, bit_and, List, slice_index, Option, Some, None, zero, suc, ⊤}
+use Rattle.std.specs.Prelude.{ℕ, ◌≡◌, ◌≢◌, ◌+◌, ◌-◌, ◌%◌, ◌<◌, ◌≤◌, ◌⊎◌, ◌==◌, ◌&&◌, nat_lt, if◌then◌else◌, bit_and, List, slice_index, Option, Some, None, zero, suc, ⊤}
 use Rattle.std.specs.Int.{bit_at}
 use Rattle.heap_words.specs.declared.config.Config.{Config}
 use Rattle.heap_words.specs.Words.{Word, Cset, Free, Top, Heap}
 use Rattle.heap_words.specs.Encoding.{header_word, plain_header}
-use Rattle.regions.specs.Place.{base_of}
-use Rattle.regions.specs.Sets.{IsOutside, all_but}
+use Rattle.regions.specs.Place.{base_of, region_with}
+use Rattle.regions.specs.Sets.{IsIn, IsOutside, all_but}
 use Rattle.packing.specs.Rooms.{lowest_room}
+use Rattle.image_graph.specs.Make.{AreWithin}
 use Rattle.cset_laws.specs.Live.{words_at}
 use Rattle.cset_laws.specs.Copying.{tops_outside}
 
@@ -14,9 +15,26 @@ use Rattle.cset_laws.specs.Copying.{tops_outside}
 abbrev pub copy_room : Config → (Word → ℕ) → ℕ → Option ℕ
 copy_room c memory a = lowest_room c.region_words (tops_outside c.region_words (memory Cset) (λ r. memory (Top r))) (words_at memory a) c.regions
 
+-- An object can be copied out: it lies in one region, which is of the collection set, and no region uses more words than it
+-- has.
+pub record CanCopyOut (c : Config) (memory : Word → ℕ) (a : ℕ) : Type 0 where
+  pub above : c.region_words ≤ a
+  pub of_region : region_with c a < c.regions
+  pub in_set : IsIn (memory Cset) (region_with c a)
+  pub lies : a % c.region_words + words_at memory a ≤ c.region_words
+  pub tops : AreWithin c memory
+
 -- the address behind all that is in use in a region
 abbrev pub top_address : Config → (Word → ℕ) → ℕ → ℕ
 top_address c memory r = base_of c r + memory (Top r)
+
+-- the address of the copy, if some region has room
+abbrev pub copy_in : Config → (Word → ℕ) → Option ℕ → Option ℕ
+copy_in c memory None = None
+copy_in c memory (Some r) = Some (top_address c memory r)
+
+abbrev pub copy_address : Config → (Word → ℕ) → ℕ → Option ℕ
+copy_address c memory a = copy_in c memory (copy_room c memory a)
 
 -- the word at an address after so many words were copied from one address to another; the header of the copy is plain
 abbrev pub copied_word : (heap : ℕ → ℕ) (from to words : ℕ) → ℕ → ℕ

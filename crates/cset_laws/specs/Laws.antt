@@ -1,18 +1,23 @@
 -- That the choice is exactly the longest front of the candidates that fits, and that what it has can be copied.
-use Rattle.std.specs.Prelude.{ℕ, ◌≡◌, ◌+◌, ◌<◌, ◌≤◌, ◌↔◌, true, false, Bool, List, length, Contains, slice_index, Some}
+use Rattle.std.specs.Prelude.{ℕ, ◌≡◌, ◌+◌, ◌<◌, ◌≤◌, ◌↔◌, Option, true, Bool, List, length, slice_index, Some}
 use Rattle.heap_words.specs.declared.config.Config.{Config}
-use Rattle.heap_words.specs.Words.{Word, Cset, Free, Top, Heap}
-use Rattle.heap_words.specs.Encoding.{is_forwarded}
+use Rattle.heap_words.specs.Words.{Word, Cset}
 use Rattle.packing.specs.Places.{LieApart}
+use Rattle.shen_graph.specs.Graph.{Graph}
+use Rattle.heap_world.specs.World.{Plot}
+use Rattle.image_laws.specs.Promised.{Promises}
+use Rattle.image_graph.specs.Holds.{HoldsBy}
+use Rattle.mark_laws.specs.Facts.{IsMarking}
+use Rattle.mark_laws.specs.Final.{final_marked}
+use Rattle.mark_laws.specs.Laws.{HasNoMoreSeats}
 use Rattle.regions.specs.Place.{region_with}
 use Rattle.regions.specs.Sets.{IsIn}
-use Rattle.mark_laws.specs.Marks.{is_black}
 use Rattle.cset_laws.specs.Live.{marked_words, is_candidate, IsCandidate}
 use Rattle.cset_laws.specs.Front.{FrontsAreTaken}
 use Rattle.cset_laws.specs.Choice.{IsChoice, chosen}
 use Rattle.cset_laws.specs.Copying.{AreToCopy, FindsRoom}
 use Rattle.cset_laws.specs.Copied.{copy_room, copied_out, copied_by, IsCopiedOut}
-use Rattle.cset_laws.specs.Begun.{naming_places, is_collected, with_set, roots_cleared, IsCopyable, AreCleared}
+use Rattle.cset_laws.specs.Begun.{with_set, roots_cleared, FreeAreEmpty, CanBegin, AreCleared}
 
 -- The test of a candidate says what it is to be one.
 abbrev pub CandidateIsCandidate : Type 0
@@ -26,10 +31,6 @@ pub record ChosenIsTheChoice : Type 0 where
 -- It is what is taken candidate by candidate while it fits.
 abbrev pub ChoiceIsTaken : Type 0
 ChoiceIsTaken = (regions limit : ℕ) (live : ℕ → ℕ) (candidate : ℕ → Bool) → FrontsAreTaken regions limit live candidate
-
--- no word of a free region is in use
-abbrev pub FreeAreEmpty : Config → (Word → ℕ) → Type 0
-FreeAreEmpty c memory = (r : ℕ) → r < c.regions → IsIn (memory Free) r → memory (Top r) ≡ 0
 
 -- Whichever marked objects of the chosen regions are copied, and in whatever order: each finds room at its turn. Else each
 -- region that was free would hold more than may be copied to it.
@@ -50,10 +51,13 @@ EachIsCopied = (c : Config) (memory : Word → ℕ) (objects : List ℕ) → Fre
     → (turn : ℕ) → turn < length objects
     → IsCopiedOut c (copied_by c memory objects turn) (copied_by c memory objects (turn + 1)) (slice_index objects turn)
 
--- In the beginning of evacuation roots and answers are cleared, where nothing marked has moved yet, and what they name in the
--- chosen regions can be copied.
+-- In the beginning of evacuation roots and answers are cleared.
 abbrev pub RootsAreCleared : Type 0
-RootsAreCleared = (c : Config) (memory : Word → ℕ) → FreeAreEmpty c memory → LieApart c.region_words (marked_words c memory)
-    → ((a : ℕ) → is_black c memory a ≡ true → is_forwarded (memory (Heap a)) ≡ false)
-    → ((place : Word) → Contains (naming_places c) place → is_collected c (with_set memory (chosen c memory)) (memory place) ≡ true → IsCopyable c memory (memory place))
+RootsAreCleared = (c : Config) (memory : Word → ℕ) → CanBegin c memory
     → (objects : List ℕ) × AreCleared c (with_set memory (chosen c memory)) (roots_cleared c memory (chosen c memory)) objects
+
+-- Where marking has run, evacuation can begin once it is ended: what is marked are objects, and what roots and answers name is
+-- marked, or new, and no chosen region has a new object.
+abbrev pub EvacuationCanBegin : Type 0
+EvacuationCanBegin = (c : Config) (memory : Word → ℕ) (block : Plot) (owner : ℕ → Option ℕ) (p : Promises) (g : Graph)
+    → HoldsBy c memory block owner p g → IsMarking c memory block → HasNoMoreSeats c memory → CanBegin c (final_marked c memory)

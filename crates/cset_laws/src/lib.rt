@@ -2,7 +2,7 @@
 //! these are chosen, and that there is room for all that lives in them. Laws, as theorems and no code.
 #![tactic(auto)]
 
-ghost use Rattle.cset_laws.specs.Laws.{CandidateIsCandidate, ChosenIsTheChoice, ChoiceIsTaken, RoomIsFound, CopyingCopies, EachIsCopied, RootsAreCleared};
+ghost use Rattle.cset_laws.specs.Laws.{CandidateIsCandidate, ChosenIsTheChoice, ChoiceIsTaken, RoomIsFound, CopyingCopies, EachIsCopied, RootsAreCleared, EvacuationCanBegin};
 
 /// A law: the test of candidates tells a region that is in use, nobody's current one, without an object that is new, and
 /// with garbage of a quarter of its words; and it tells each such region.
@@ -43,4 +43,9 @@ pub fn each_is_copied()
 /// the root or answer names the copy then, so that none of them names an object of those regions.
 pub fn roots_are_cleared()
     ensures { RootsAreCleared }
+{}
+
+/// A law: where marking has run and is ended, what beginning evacuation asks for holds.
+pub fn evacuation_can_begin()
+    ensures { EvacuationCanBegin }
 {}

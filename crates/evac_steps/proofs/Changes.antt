@@ -1,10 +1,9 @@
 -- What a step owes that changes what is claimed, and on which unit a machine works.
-use Rattle.std.proofs.Common.{◌≡◌, ◌≢◌, ℕ, ◌+◌, ◌<◌, ◌⊎◌, Option, Some, None, ⊎_elim, inl, inr, refl, sym, ap, ◌∙◌, subst}
+use Rattle.std.proofs.Common.{◌≡◌, ◌≢◌, ℕ, ◌+◌, ◌<◌, ◌⊎◌, Option, Some, ⊎_elim, inl, inr, sym, ap, ◌∙◌, subst}
 use Rattle.std.proofs.lemmas.Bool.{cases_eq}
 use Rattle.heap_words.specs.declared.config.Config.{Config}
 use Rattle.heap_words.specs.Ranges.{seat_count}
-use Rattle.heap_words.specs.Words.{Word, Phase, Cset, Evac, Claim, write}
-use Rattle.regions.specs.Sets.{IsIn}
+use Rattle.heap_words.specs.Words.{Phase, Cset, Evac, Claim, write}
 use Rattle.steps_base.specs.Touch.{Touch, touched}
 use Rattle.heap_world.specs.World.{World, Plot, with_working, IsCaredFor, AreCaredFor, IsSweptTo, Shared}
 use Rattle.heap_world.specs.Rely.{Keeps, Rely}

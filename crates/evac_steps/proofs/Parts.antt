@@ -1,18 +1,16 @@
 -- Working on a unit of evacuation as a part: any machine that has a seat can have it inside. And what all units come to.
-use Rattle.std.proofs.Common.{◌≡◌, ◌≢◌, ℕ, ◌+◌, ◌*◌, ◌%◌, ◌<◌, ◌≤◌, nat_lt, nat_le, true, false, Option, Some, None, ⊎_elim, inl, inr, ◌⊎◌, refl, sym, ap, ◌∙◌, subst, arith}
-use Rattle.std.specs.Prelude.{◌==◌, ⊤}
+use Rattle.std.proofs.Common.{◌≡◌, ℕ, ◌+◌, ◌*◌, ◌%◌, ◌<◌, nat_lt, true, false, Some, None, ⊎_elim, inl, inr, ◌⊎◌, refl, sym, ap, ◌∙◌, subst, arith}
 use Rattle.std.proofs.lemmas.Bool.{cases_Bool, cond-true, cond-false, eq-eqb, and_from, false≢true, le-leb, lt-ltb, ltb-true}
 use Rattle.heap_words.specs.declared.config.Config.{Config}
 use Rattle.heap_words.specs.Encoding.{header_word, is_forwarded}
 use Rattle.heap_words.specs.Ranges.{seat_count}
-use Rattle.heap_words.specs.Words.{Word, Phase, Cset, Evac, Claim, Top, Black, Heap, IsWord, is_word}
+use Rattle.heap_words.specs.Words.{Evac, Top, Heap, IsWord, is_word}
+use Rattle.steps_base.specs.Touch.{loads}
 use Rattle.regions.specs.Place.{base_of, region_with}
 use Rattle.regions.specs.Sets.{IsIn}
-use Rattle.mark_bits.specs.Marks.{HasMark}
 use Rattle.mark_bits.proofs.Marking.{word_inside}
-use Rattle.evac_room.specs.Counter.{is_out_of_room}
 use Rattle.shen_graph.specs.declared.name.Name.{Name}
-use Rattle.heap_world.specs.World.{World, Block, thing, moved, spent, words_of, Body, HasCopy, IsCollected, IsCaredFor, Shared}
+use Rattle.heap_world.specs.World.{World, Block, thing, moved, Body, body_at, body_words, HasCopy, IsCaredFor, Shared}
 use Rattle.heap_world.specs.Rely.{Rely}
 use Rattle.heap_world.specs.Part.{Part}
 use Rattle.heap_world.proofs.Pointing.{piece_inside, copy_cases}
@@ -20,7 +18,7 @@ use Rattle.load_barrier.specs.declared.evac_spot.EvacSpot.{EvacSpot}
 use Rattle.load_barrier.specs.declared.evac_spot.EvacSpot.TheVariants.{LoadClaim, ClaimUnit, LoadTop, LoadShape, LoadMark, Resolving, Ended}
 use Rattle.load_barrier.specs.UnitRows.{touch_at, next_at, is_ended}
 use Rattle.load_barrier.specs.Fit as resolve
-use Rattle.load_barrier.specs.UnitFit.{has_shape, is_walkable, is_ready, PartFit, IsFit}
+use Rattle.load_barrier.specs.UnitFit.{has_shape, is_walkable, is_ready, PartFit}
 use Rattle.copy_steps.specs.Laws.{ResolvingSteps}
 use Rattle.copy_steps.proofs.Parts.{resolving_steps}
 use Rattle.evac_steps.specs.Evacuating.{IsSwept, IsMeasured, HasNothing, WorkFacts, CanEvacuate}
@@ -114,6 +112,14 @@ unit_inside resolving c u seat cset (LoadMark address end next) shared can = wor
 unit_inside resolving c u seat cset (Resolving address end next at) shared can = resolving.inside c u seat address at shared can.facts.1
 unit_inside resolving c u seat cset (Ended unit) shared can = tt
 
+-- of the words of copies only headers are accessed by more than loads
+unit_spares : (resolving : ResolvingSteps) (c : Config) (u : World) (seat cset : ℕ) (at : EvacSpot) (d k : ℕ) (b : Body) → Shared c u → CanEvacuate c u seat cset at → body_at (u.block d) ≡ Some b → k < body_words b
+    → (touch_at c seat at).word ≡ Heap (d + k) → ((touch_at c seat at).form ≡ loads) ⊎ (k ≡ 0)
+unit_spares resolving c u seat cset (ClaimUnit unit) d k b shared can is below word = absurd (cc (word))
+unit_spares resolving c u seat cset (Resolving address end next at) d k b shared can is below word =
+    ⊎_elim (λ loaded. inl loaded) (λ published. inr published.3) (resolving.spares c u seat address at d k b shared can.facts.1 is below word)
+unit_spares resolving c u seat cset _ d k b shared can is below word = inl refl
+
 -- the word that it finds is fit for the part
 part_fits : (resolving : ResolvingSteps) (c : Config) (u : World) (seat cset : ℕ) (at : EvacSpot) → Shared c u → CanEvacuate c u seat cset at → PartFit c seat at (u.memory (touch_at c seat at).word)
 part_fits resolving c u seat cset (LoadTop region) shared can = le-leb _ _ (shared.parsable.plotted.tops region (shared.evacuated.aside.in_heap region can.facts.1))
@@ -142,6 +148,7 @@ module _ (resolving : ResolvingSteps) where
     fits = λ c u seat cset at going shared can.
         let step = each_step resolving c u seat cset at going shared can in
         (ready_there c step.world seat step.shared (spot_then c u seat cset at) step.own.can.facts, part_fits resolving c u seat cset at shared can);
+    spares = unit_spares resolving;
     inside = λ c u seat cset at shared can. unit_inside resolving c u seat cset at shared can;
   }
 

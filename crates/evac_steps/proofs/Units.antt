@@ -1,37 +1,36 @@
 -- The steps by which a machine works on a unit of evacuation.
-use Rattle.std.proofs.Common.{◌≡◌, ◌≢◌, ℕ, ◌+◌, ◌*◌, ◌<◌, ◌≤◌, nat_lt, true, false, Option, Some, None, ⊎_elim, inl, inr, ◌⊎◌, refl, sym, ap, ◌∙◌, subst, arith}
+use Rattle.std.proofs.Common.{◌≡◌, ◌≢◌, ℕ, ◌+◌, ◌<◌, ◌≤◌, nat_lt, true, false, Some, None, ⊎_elim, inl, inr, refl, sym, ap, ◌∙◌, subst, arith}
 use Rattle.std.specs.Prelude.{◌==◌}
 use Rattle.std.specs.Int.{bit_at}
-use Rattle.std.proofs.lemmas.Bool.{cases_eq, cases_lt, cases_Bool, cond-true, cond-false, eq-eqb, eqb-true, ne_eqb, false≢true, ltb-true, ltb-false}
+use Rattle.std.proofs.lemmas.Bool.{cases_eq, cases_Bool, cond-true, cond-false, eq-eqb, eqb-true, false≢true, ltb-true, ltb-false}
 use Rattle.std.proofs.lemmas.Option.{same_Some}
 use Rattle.heap_words.specs.declared.config.Config.{Config}
 use Rattle.heap_words.specs.declared.access.Unit.{Unit as Done}
 use Rattle.heap_words.specs.declared.access.Unit.TheVariants.{Worked, NoneLeft}
 use Rattle.heap_words.specs.Encoding.{object_words}
-use Rattle.heap_words.specs.Ranges.{seat_count}
 use Rattle.heap_words.specs.Words.{Word, Phase, Cset, Evac, Claim, Top, Tams, Black, Heap, write}
 use Rattle.regions.specs.Place.{base_of, region_with}
 use Rattle.regions.specs.Sets.{IsIn}
 use Rattle.steps_base.specs.Touch.{touched}
 use Rattle.mark_bits.specs.Marks.{mark_word, mark_bit, HasMark}
 use Rattle.shen_graph.specs.declared.name.Name.{Name}
-use Rattle.heap_world.specs.World.{World, Block, thing, words_of, IsCollected, IsMarkable, IsYoung, IsSweptTo, Shared}
+use Rattle.heap_world.specs.World.{World, Block, thing, IsCollected, IsMarkable, IsYoung, IsSweptTo, Shared}
 use Rattle.heap_world.specs.Rely.{Keeps, Rely}
 use Rattle.heap_world.specs.Part.{PartStep}
 use Rattle.heap_world.proofs.Pointing.{piece_inside}
 use Rattle.heap_world.proofs.Keeping.{load_keeps, rely_same, keeps_of}
-use Rattle.heap_world.proofs.Updates.{updated, updated_there, updated_else}
+use Rattle.heap_world.proofs.Updates.{updated_there}
 use Rattle.load_barrier.specs.declared.spot.ResolveSpot.{ResolveSpot}
 use Rattle.load_barrier.specs.declared.spot.ResolveSpot.TheVariants.{LoadHeader, Resolved}
 use Rattle.load_barrier.specs.Rows as resolves
 use Rattle.load_barrier.specs.declared.evac_spot.EvacSpot.{EvacSpot}
 use Rattle.load_barrier.specs.declared.evac_spot.EvacSpot.TheVariants.{LoadClaim, ClaimUnit, LoadTop, LoadShape, LoadMark, Resolving, Ended}
-use Rattle.load_barrier.specs.UnitRows.{copy_phase, touch_at, next_at, is_ended, walk_on, after_claim, after_resolve, is_in_set, lies_in_set}
-use Rattle.copy_steps.specs.Resolving.{IsAnswer, CanResolve}
-use Rattle.copy_steps.specs.Laws.{ResolvingSteps, CanResolveFor}
+use Rattle.load_barrier.specs.UnitRows.{copy_phase, touch_at, is_ended, walk_on, after_claim, after_resolve, is_in_set, lies_in_set}
+use Rattle.copy_steps.specs.Resolving.{CanResolve}
+use Rattle.copy_steps.specs.Laws.{ResolvingSteps}
 use Rattle.evac_steps.specs.Evacuating.{working_of, IsSwept, IsWalkedTo, IsMeasured, HasNothing, WorkFacts, CanEvacuate}
 use Rattle.evac_steps.specs.Laws.{spot_then}
-use Rattle.evac_steps.proofs.Walks.{before_end, region_is, next_base, placed, words_there, swept_past, swept_whole, measured_stays}
+use Rattle.evac_steps.proofs.Walks.{region_is, placed, words_there, swept_past, swept_whole, measured_stays}
 use Rattle.evac_steps.proofs.Changes.{world_then, cared_still, step_then, nothing_then}
 
 -- what a machine counts on once it has made a step, and that a unit that it ended is swept

@@ -1,14 +1,15 @@
 -- What the steps by which machines evacuate the collection set owe, and what all claimed units come to.
-use Rattle.std.specs.Prelude.{ℕ, ◌≡◌, ◌<◌, ◌≤◌, true, false, Some, None}
+use Rattle.std.specs.Prelude.{ℕ, ◌≡◌, ◌⊎◌, ◌+◌, ◌<◌, ◌≤◌, true, false, Some, None}
 use Rattle.heap_words.specs.declared.config.Config.{Config}
 use Rattle.heap_words.specs.Encoding.{is_forwarded}
 use Rattle.heap_words.specs.Ranges.{seat_count}
 use Rattle.heap_words.specs.Words.{Phase, Cset, Evac, Claim, Black, Heap, IsWord}
+use Rattle.steps_base.specs.Touch.{loads}
 use Rattle.regions.specs.Place.{region_with}
 use Rattle.regions.specs.Sets.{IsIn}
 use Rattle.mark_bits.specs.Marks.{HasMark}
 use Rattle.evac_room.specs.Counter.{is_out_of_room}
-use Rattle.heap_world.specs.World.{World, Shared, IsCollected}
+use Rattle.heap_world.specs.World.{World, Body, body_at, body_words, Shared, IsCollected}
 use Rattle.heap_world.specs.Rely.{KeepsCopies, Rely}
 use Rattle.heap_world.specs.Part.{PartStep}
 use Rattle.load_barrier.specs.declared.evac_spot.EvacSpot.{EvacSpot}
@@ -31,7 +32,7 @@ SweptStep c u seat cset at = PartStep c u seat (touch_at c seat at)
     (λ w. (region : ℕ) → working_of c at ≡ Some region → is_ended (spot_then c u seat cset at) ≡ true → IsSwept c w region)
 
 -- A machine that evacuates claims regions of the collection set, and sees to it that their objects are copied: a region on which it has
--- worked is swept, and stays so.
+-- worked is swept, and stays so. Of the words of copies only headers are accessed by more than loads.
 pub record EvacuatingSteps : Type 0 where
   pub begins : (c : Config) (u : World) (seat : ℕ) → seat < seat_count c.mutators c.helpers → u.memory Phase ≡ 2 → u.ghost.working seat ≡ None → HasNothing u seat
       → CanEvacuate c u seat (u.memory Cset) LoadClaim
@@ -41,6 +42,8 @@ pub record EvacuatingSteps : Type 0 where
   pub stays : (c : Config) (u w : World) (seat cset : ℕ) (at : EvacSpot) → Shared c u → Rely c seat u w → CanEvacuate c u seat cset at → CanEvacuate c w seat cset at
   pub fits : (c : Config) (u : World) (seat cset : ℕ) (at : EvacSpot) → is_ended at ≡ false → Shared c u → CanEvacuate c u seat cset at → IsFit c seat cset at (u.memory (touch_at c seat at).word)
   pub inside : (c : Config) (u : World) (seat cset : ℕ) (at : EvacSpot) → Shared c u → CanEvacuate c u seat cset at → IsWord c (touch_at c seat at).word
+  pub spares : (c : Config) (u : World) (seat cset : ℕ) (at : EvacSpot) (d k : ℕ) (b : Body) → Shared c u → CanEvacuate c u seat cset at → body_at (u.block d) ≡ Some b → k < body_words b
+      → (touch_at c seat at).word ≡ Heap (d + k) → ((touch_at c seat at).form ≡ loads) ⊎ (k ≡ 0)
 
 -- In a region that is swept each marked object is forwarded, if there was always room.
 abbrev pub SweptIsForwarded : Type 0

@@ -16,7 +16,7 @@ use Rattle.mutator.specs.declared.spot.Spot.{Spot}
 use Rattle.satb_barrier.specs.declared.spot.RememberSpot.{RememberSpot}
 use Rattle.satb_barrier.specs.declared.spot.RememberSpot.TheVariants.{LoadCount, Recorded}
 use Rattle.satb_barrier.specs.Rows as satb
-use Rattle.mutator.specs.declared.spot.Spot.TheVariants.{Rest, Ended, Entering, LoadPhase, LoadSet, Loading, OnField, Recording, OnNumber, Showing, StoreRoot, Making, AskCycle, Waiting, Leave, Gone}
+use Rattle.mutator.specs.declared.spot.Spot.TheVariants.{Rest, Ended, Entering, LoadPhase, LoadSet, Loading, OnField, Resolving, Recording, OnNumber, Showing, StoreRoot, Making, AskCycle, Waiting, Leave, Gone}
 use Rattle.mutator.specs.declared.spot.Entered.{Entered}
 use Rattle.mutator.specs.declared.spot.Entered.TheVariants.{Call, Waited}
 use Rattle.mutator.specs.declared.loads.LoadSpot.{LoadSpot}
@@ -25,6 +25,12 @@ use Rattle.mutator.specs.declared.fields.FieldSpot.{FieldSpot}
 use Rattle.mutator.specs.declared.fields.FieldSpot.TheVariants as fields
 use Rattle.mutator.specs.declared.overwrites.Overwritten.{Overwritten}
 use Rattle.mutator.specs.declared.overwrites.Overwritten.TheVariants as overwrites
+use Rattle.mutator.specs.declared.resolves.Loaded.{Loaded}
+use Rattle.mutator.specs.declared.resolves.Loaded.TheVariants.{ForRoot, ToCompare}
+use Rattle.load_barrier.specs.declared.spot.ResolveSpot.{ResolveSpot}
+use Rattle.load_barrier.specs.declared.spot.ResolveSpot.TheVariants.{LoadHeader, Resolved}
+use Rattle.load_barrier.specs.Rows as resolves
+use Rattle.load_barrier.specs.UnitRows.{must_resolve}
 use Rattle.mutator.specs.declared.numbers.NumberSpot.{NumberSpot}
 use Rattle.mutator.specs.declared.numbers.NumberSpot.TheVariants as number
 use Rattle.mutator.specs.declared.shows.ShowSpot.{ShowSpot}
@@ -36,7 +42,7 @@ use Rattle.mutator.specs.declared.waits.WaitSpot.TheVariants as wait
 use Rattle.mutator.specs.Commands.{roots_of, lacks_object, has_part}
 use Rattle.mutator.specs.Orders.{is_between_calls}
 use Rattle.mutator.specs.WaitRows.{after_enter, wait_next}
-use Rattle.mutator.specs.Rows.{Mutating, given_at, next_at, first_spot, after_roots, after_first, after_second, after_root, on_number, with_part, after_shape, after_take, is_to_record, after_recording, overwritten, after_remember, take_next, load_next, field_next, number_next, show_next, make_next}
+use Rattle.mutator.specs.Rows.{Mutating, given_at, next_at, first_spot, after_roots, after_first, after_second, after_root, on_number, with_part, after_shape, after_take, is_to_record, after_recording, overwritten, after_remember, after_expected, after_resolved, with_loaded, after_resolve, after_swap, take_next, load_next, field_next, number_next, show_next, make_next}
 
 -- a call is in progress
 abbrev InCall : Spot → Type 0
@@ -110,12 +116,31 @@ in_remember : (address : ℕ) (next : Overwritten) (at : RememberSpot) → InCal
 in_remember address next Recorded = in_recording address next
 in_remember address next _ = refl
 
-in_field : (phase object : ℕ) (at : FieldSpot) (got : ℕ) → InCall (field_next phase object at got)
-in_field phase object (fields.LoadExpected expect value) got = either (got == expect) (OnField object (fields.Exchange got expect value)) (Leave reply.No) refl refl
-in_field phase object (fields.LoadOld value) got = in_overwritten phase got (overwrites.Set object value)
-in_field phase object (fields.Swap value) got = in_overwritten phase got overwrites.Xchg
-in_field phase object (fields.Exchange found expect value) got = either (got == found) (overwritten phase found overwrites.Cas) (OnField object (fields.LoadExpected expect value)) (in_overwritten phase found overwrites.Cas) refl
-in_field phase object _ got = refl
+in_expected : (object expect value found answer : ℕ) → InCall (after_expected object expect value found answer)
+in_expected object expect value found answer = either (answer == expect) (OnField object (fields.Exchange found expect value)) (Leave reply.No) refl refl
+
+in_resolved : (found answer : ℕ) (next : Loaded) → InCall (after_resolved found answer next)
+in_resolved found answer ForRoot = refl
+in_resolved found answer (ToCompare object expect value) = in_expected object expect value found answer
+
+in_loaded : (c : Config) (phase cset found : ℕ) (next : Loaded) → InCall (with_loaded c phase cset found next)
+in_loaded c phase cset found next = either (must_resolve c phase cset found) (Resolving found LoadHeader next) (after_resolved found found next) refl (in_resolved found found next)
+
+in_resolve : (found : ℕ) (next : Loaded) (at : ResolveSpot) → InCall (after_resolve found next at)
+in_resolve found next (Resolved answer) = in_resolved found answer next
+in_resolve found next _ = refl
+
+in_swap : (c : Config) (phase cset found : ℕ) → InCall (after_swap c phase cset found)
+in_swap c phase cset found = either (is_to_record phase found) (Recording LoadCount found overwrites.Xchg) (with_loaded c phase cset found ForRoot) refl (in_loaded c phase cset found ForRoot)
+
+in_field : (c : Config) (phase cset object : ℕ) (at : FieldSpot) (got : ℕ) → InCall (field_next c phase cset object at got)
+in_field c phase cset object fields.Load got = in_loaded c phase cset got ForRoot
+in_field c phase cset object (fields.LoadExpected expect value) got = in_loaded c phase cset got (ToCompare object expect value)
+in_field c phase cset object (fields.LoadOld value) got = in_overwritten phase got (overwrites.Set object value)
+in_field c phase cset object (fields.Swap value) got = in_swap c phase cset got
+in_field c phase cset object (fields.Exchange found expect value) got =
+    either (got == found) (overwritten phase found overwrites.Cas) (OnField object (fields.LoadExpected expect value)) (in_overwritten phase found overwrites.Cas) refl
+in_field c phase cset object _ got = refl
 
 in_numbers : (at : NumberSpot) (got : ℕ) → InCall (number_next at got)
 in_numbers number.Load got = refl
@@ -143,7 +168,8 @@ call_goes_on c m got (Entering at next) busy none = in_enter next (enter_next at
 call_goes_on c m got LoadPhase busy none = refl
 call_goes_on c m got LoadSet busy none = in_first_spot m.kept.command
 call_goes_on c m got (Loading at) busy none = in_load m.kept.phase m.kept.command at got
-call_goes_on c m got (OnField object at) busy none = in_field m.kept.phase object at got
+call_goes_on c m got (OnField object at) busy none = in_field c m.kept.phase m.kept.cset object at got
+call_goes_on c m got (Resolving address at next) busy none = in_resolve address next (resolves.next_at c address m.kept.phase at got)
 call_goes_on c m got (Recording at address next) busy none = in_remember address next (satb.next_at at got)
 call_goes_on c m got (OnNumber object refs at) busy none = in_numbers at got
 call_goes_on c m got (Showing value at) busy none = in_show value at got

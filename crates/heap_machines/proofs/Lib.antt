@@ -4,7 +4,6 @@ pub mod Replies
 pub mod Names
 pub mod OnScript
 pub mod Openings
-pub mod Quiet
 pub mod Standing
 pub mod Pauses
 pub mod Fit

@@ -19,8 +19,6 @@ use Rattle.mutator.specs.Rows.{Mutating}
 use Rattle.heap_world.specs.World.{World, Shared, name_at, Points, hand}
 use Rattle.heap_world.specs.Asking.{Asking, nothing, IsAsked}
 use Rattle.heap_world.specs.Change.{image_view, image_words}
-use Rattle.heap_world.specs.Represents.{Represents}
-use Rattle.image_graph.specs.Holds.{Holds}
 use Rattle.control_steps.specs.declared.spot.ControlSpot.{ControlSpot}
 use Rattle.control_steps.specs.declared.spot.ControlSpot.TheVariants.{LoadWord, StoreWord}
 use Rattle.control_steps.specs.Ready.{is_ready}
@@ -36,10 +34,7 @@ use Rattle.step_core.specs.Sound.{world_of, is_clearing, IsSound}
 use Rattle.step_core.specs.Begins.{Run, ending, history_in, graph_after}
 use Rattle.heap_machines.specs.Pause.{pause_image}
 use Rattle.heap_machines.proofs.Pauses.{heap_pauses}
-use Rattle.heap_machines.proofs.Quiet.{quiet, unmarked, nobody_marks, quiet_shared, quiet_holds}
-use Rattle.step_core.proofs.Asked.{asked_same}
 use Rattle.step_core.proofs.Facts.{IsAim}
-use Rattle.step_core.proofs.Images.{mixed_whole}
 use Rattle.step_core.proofs.Theorem.{run_sound, run_aims}
 
 -- a machine that rests is a mutator between two calls
@@ -61,20 +56,6 @@ entries_at_rest c run t a here rest =
     let parts = rest_parts a.machine rest in
     let thread = (run_sound pause_image heap_pauses c run).threads t a parts.0 (record { here = here; is = parts.1 }) in
     thread.entries_are ∙ ap (λ (o : Option Reply). a.calls ++ entries_of t a.command o) (thread.between_calls parts.2) ∙ append-nil a.calls
-
--- it is not about to clear an answer
-not_clearing : (spot : Spot) → is_between_calls spot ≡ true → is_clearing spot ≡ false
-not_clearing Rest rest = refl
-not_clearing (Ended reply) rest = refl
-not_clearing Gone rest = refl
-not_clearing _ rest = absurd cc
-
--- and has no room in hand
-none_at_rest : (kept : Kept) (spot : Spot) (a words : ℕ) → is_between_calls spot ≡ true → IsInHand kept spot a words → ⊥
-none_at_rest kept Rest a words rest is = is
-none_at_rest kept (Ended reply) a words rest is = is
-none_at_rest kept Gone a words rest is = is
-none_at_rest kept _ a words rest is = absurd cc
 
 module _ (c : Config) (run : Run c) (rest : (t : ℕ) (a : Actor) → t < c.mutators → slice_get (ending pause_image c run).machines t ≡ Some a → is_resting a.machine ≡ true)
     (calm : image_of (slice_get (ending pause_image c run).machines (control_number c)) ≡ None) where
@@ -113,78 +94,9 @@ module _ (c : Config) (run : Run c) (rest : (t : ℕ) (a : Actor) → t < c.muta
       (λ t i below small. subst (λ (memory : Word → ℕ). Points sound.stands.block (memory (Root t i)) (graph.root (t + 1) i)) table_counts (own_roots t i below small))
       sound.no_more
 
-  -- A mutator that rests has asked for something, or for nothing.
-  abbrev HasAskedFor : ℕ → Asking → Type 0
-  HasAskedFor t x = IsAsked (view c (ending pause_image c run).words) sound.stands.block graph.count t x
-
-  asked_one : (t : ℕ) → t < c.mutators → (x : Asking) × HasAskedFor t x
-  asked_one t below =
-      let some = sound.of_heap.mutators t below in
-      let m = some.mutator in
-      let seat : m.seat ≡ t = (sound.of_heap.numbers t some.actor m some.here).0 in
-      let at_rest : is_between_calls m.spot ≡ true = subst (λ machine. is_resting machine ≡ true) some.here.is (rest t some.actor below some.here.here) in
-      let asked = sound.stands.asked t some.actor m some.here (not_clearing m.spot at_rest) in (
-        asked.asking,
-        subst (λ (memory : Word → ℕ). IsAsked memory sound.stands.block graph.count t asked.asking) table_counts
-            (subst (λ k. IsAsked (settled c (ending pause_image c run)) sound.stands.block graph.count k asked.asking) seat asked.is),
-      )
-
-  asking_by : (t : ℕ) → (t < c.mutators) ⊎ (c.mutators ≤ t) → Asking
-  asking_by t (inl below) = (asked_one t below).0
-  asking_by t (inr past) = nothing
-
-  asked_by : (t : ℕ) (either : (t < c.mutators) ⊎ (c.mutators ≤ t)) → t < c.mutators → HasAskedFor t (asking_by t either)
-  unfolding asking_by asked_one
-  asked_by t (inl below) less = (asked_one t below).1
-  asked_by t (inr past) less = absurd (omega arith)
-
-  abbrev asking : ℕ → Asking
-  asking t = asking_by t (cases_lt t c.mutators)
-
-  -- nobody has room in hand
-  no_hands : (a seat more : ℕ) → sound.stands.block a ≡ Some (hand seat more) → ⊥
-  no_hands a t more is =
-      let below = sound.stands.in_hand a t more is in
-      let some = sound.of_heap.mutators t below in
-      let m = some.mutator in
-      let seat : m.seat ≡ t = (sound.of_heap.numbers t some.actor m some.here).0 in
-      let at_rest : is_between_calls m.spot ≡ true = subst (λ machine. is_resting machine ≡ true) some.here.is (rest t some.actor below some.here.here) in
-      none_at_rest m.kept m.spot a more at_rest
-      ((sound.stands.mutators t some.actor m some.here).hands a more (subst (λ k. sound.stands.block a ≡ Some (hand k more)) (sym seat) is))
-
   -- the words of the image, as the table has them
   abbrev image : List ℕ
   image = image_from c (ending pause_image c run).words
-
-  whole : view c (ending pause_image c run).words ≡ mixed c (ending pause_image c run).words image
-  whole = sym (mixed_whole c (ending pause_image c run).words image (λ i below. get_or-drop (image_start c) (ending pause_image c run).words i 0))
-
-  -- what all machines share holds of them
-  image_shared : Shared c (record { memory = image_view c image; block = sound.stands.block; ghost = sound.stands.ghost; graph = graph })
-  image_shared = subst (λ (memory : Word → ℕ). Shared c (record { memory = memory; block = sound.stands.block; ghost = sound.stands.ghost; graph = graph })) (table_counts ∙ whole) sound.stands.shared
-
-  -- outside of marking they would represent the graph
-  represents : Represents c (quiet (image_view c image)) graph asking
-  represents = record {
-    block = sound.stands.block;
-    ghost = unmarked sound.stands.ghost;
-    shared = quiet_shared c (record { memory = image_view c image; block = sound.stands.block; ghost = sound.stands.ghost; graph = graph }) image_shared;
-    roots = λ t i below small. subst (λ (memory : Word → ℕ). Points sound.stands.block (memory (Root t i)) (graph.root (t + 1) i)) (table_counts ∙ whole) (own_roots t i below small);
-    none = no_hands;
-    asked = λ t below. asked_same (mixed c (ending pause_image c run).words image) (quiet (image_view c image)) sound.stands.block graph.count t (asking t) refl refl (λ a. refl)
-        (subst (λ memory. IsAsked memory sound.stands.block graph.count t (asking t)) whole (asked_by t (cases_lt t c.mutators) below));
-    heard = λ t refs nums below is. refl;
-    promised_to = sound.stands.promised_to;
-    unmarking = nobody_marks c sound.stands.ghost;
-    no_more = sound.no_more;
-  }
-
-  -- so they hold it, with no region in the collection set
-  pub image_holds : Holds c (image_view c image) graph
-  image_holds = quiet_holds c (image_view c image) graph asking represents
-
-  pub image_calm : image_view c image Cset ≡ 0
-  image_calm = image_shared.calm.cset_is
 
   -- what the control has loaded are words of the image
   loaded_by : (spot : ControlSpot) (some : List ℕ) → stored_image spot some ≡ None → is_ready c spot ≡ true → IsAim c (ending pause_image c run).words spot some → IsLoadedFrom image spot some

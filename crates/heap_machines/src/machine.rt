@@ -30,7 +30,7 @@ impl Machine {
     ghost use Rattle.heap_words.specs.Words.{Cset, table_words, heap_size};
     ghost use Rattle.heap_world.specs.Change.{image_view};
     ghost use Rattle.image_graph.specs.Holds.{HoldsSome};
-    ghost use Rattle.image_graph.specs.Left.{ShowsTheGraph};
+    ghost use Rattle.image_graph.specs.Left.{StandsForSome, ShowsTheGraph};
     ghost use Rattle.control.specs.Image.{image_from};
     ghost use Rattle.shen_graph.specs.Valid.{IsValid};
     ghost use Rattle.shen_graph.specs.declared.command.Command.{Command as Commands};
@@ -147,8 +147,8 @@ impl Machine {
         }
     }
 
-    /// Goes on with the word that its access has found. A pause of the control begins marking, ends it or collects
-    /// in full.
+    /// Goes on with the word that its access has found. A pause of the control begins marking, ends it and begins
+    /// evacuation, or collects in full.
     pub fn took(&mut self, got: u64) -> Took
         requires busy { has_turn self.old ≡ true }
         requires fit { IsFitFor (heap_of self.old) (order_of self.old) got (shown self.old) }
@@ -249,19 +249,18 @@ impl Machine {
         }
     }
 
-    /// Writes the graph that the words of the heap's table hold. Of the control, while it is not storing a new image; what
+    /// Writes the graph that the words of the heap's table stand for. Of the control, while it is not storing a new image; what
     /// it has loaded in a pause so far are words of this table. As events see it, it stays as it is. No memory is taken.
     pub fn answer_graph(&mut self, words: &[u64], text: &mut GraphText)
         requires control { CanShow (image_from (heap_of self.old) words.now) (shown self.old) }
         requires words { length words.now ≡ table_words (heap_of self.old) }
         requires room { heap_size (heap_of self.old) ≤ text.old.room }
         requires threads { length text.old.roots ≡ (heap_of self.old).mutators }
-        requires holds { HoldsSome (heap_of self.old) (image_view (heap_of self.old) (image_from (heap_of self.old) words.now)) }
-        requires calm { image_view (heap_of self.old) (image_from (heap_of self.old) words.now) Cset ≡ 0 }
+        requires stand { StandsForSome (heap_of self.old) words.now }
         ensures shown { shown self.new ≡ shown self.old }
         ensures order { order_of self.new ≡ order_of self.old }
         ensures heap { heap_of self.new ≡ heap_of self.old }
-        ensures shows { ShowsTheGraph (heap_of self.old) (image_view (heap_of self.old) (image_from (heap_of self.old) words.now)) text.new }
+        ensures shows { ShowsTheGraph (heap_of self.old) words.now text.new }
         ensures same_room { text.new.room ≡ text.old.room }
         ensures same_threads { length text.new.roots ≡ length text.old.roots }
     {

@@ -113,18 +113,3 @@ fn evacuates_a_region(rt: HostRuntime) -> Result<(), Fail> {
     assert!(rt; helper.place() == Place::LV);
     Ok(())
 }
-
-// No region is left in phase 2.
-#[test]
-fn finds_no_region(rt: HostRuntime) -> Result<(), Fail> {
-    let config = Config::new(4, 64, 1, 1, 0)?;
-    let mut helper = Helper::new(config, 0);
-    assert!(rt; helper.took(0) == Took::More);
-    assert!(rt; helper.took(0) == Took::More);
-    assert!(rt; helper.took(0) == Took::More);
-    assert!(rt; helper.took(2) == Took::More);
-    assert!(rt; helper.took(2) == Took::More);
-    assert!(rt; helper.took(4) == Took::Again);
-    assert!(rt; helper.place() == Place::LV);
-    Ok(())
-}

@@ -19,7 +19,7 @@ recording_steps = record {
 -- and those of scanning
 pub scanning_steps : ScanningSteps
 scanning_steps = record {
-  begins = λ c u seat seated marking idle roomless. record { seated = seated; phase = marking; scanning = idle; ready = refl; hands = roomless; facts = tt };
+  begins = λ c u seat seated marking unrecorded idle roomless. record { seated = seated; phase = marking; scanning = idle; records_none = unrecorded; ready = refl; hands = roomless; facts = tt };
   each = λ c u seat at going shared can. each_scans c u seat at going shared can;
   stays = λ c u w seat at rely can. can_scan_stays c u w seat rely at can;
   fits = λ c u seat at going shared can. (each_scans c u seat at going shared can).own.0.ready;

@@ -132,6 +132,7 @@ module _ (c : Config) (u : World) (seat : ℕ) where
         seated = can.seated;
         phase = can.phase;
         scanning = updated_there u.ghost.scanning seat (scanning_of next);
+        records_none = can.records_none;
         ready = ready;
         hands = can.hands;
         facts = facts;
@@ -385,6 +386,7 @@ module _ (c : Config) (u w : World) (seat : ℕ) (rely : Rely c seat u w) where
     seated = can.seated;
     phase = rely.marks.keeps.phase ∙ can.phase;
     scanning = rely.marks.scanning ∙ can.scanning;
+    records_none = rely.marks.recording ∙ can.records_none;
     ready = can.ready;
     hands = λ a words is. can.hands a words (rely.no_hands a words is);
     facts = facts_stay can.phase at can.facts;

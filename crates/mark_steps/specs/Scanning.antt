@@ -48,11 +48,12 @@ ScanFacts c w (LoadField address field refs) = IsAtField w address field refs
 ScanFacts c w (SetGrey address field refs found) = IsAtField w address field refs × IsMarkable w.block found × IsDoneOrFound c w address field found
 ScanFacts c w _ = ⊤
 
--- Objects are marked, and the machine is in the scan of which its spot tells. It has no room in hand.
+-- Objects are marked, and the machine is in the scan of which its spot tells. It records nothing, and has no room in hand.
 pub record CanScan (c : Config) (w : World) (seat : ℕ) (at : ScanSpot) : Type 0 where
   pub seated : seat < seat_count c.mutators c.helpers
   pub phase : w.memory Phase ≡ 1
   pub scanning : w.ghost.scanning seat ≡ scanning_of at
+  pub records_none : w.ghost.recording seat ≡ None
   pub ready : is_ready c at ≡ true
   pub hands : (a words : ℕ) → w.block a ≡ Some (hand seat words) → ⊥
   pub facts : ScanFacts c w at

@@ -1,3 +1,4 @@
 pub mod Done
 pub mod Again
 pub mod Orders
+pub mod Making

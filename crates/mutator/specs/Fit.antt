@@ -2,7 +2,7 @@
 use Rattle.std.specs.Prelude.{ℕ, ◌≡◌, ◌≢◌, Bool, true, false, ◌&&◌, ◌==◌, nat_lt, if◌then◌else◌}
 use Rattle.heap_words.specs.declared.config.Config.{Config}
 use Rattle.heap_words.specs.Words.{Heap, is_word}
-use Rattle.steps_base.specs.Fits.{touch_fits}
+use Rattle.steps_base.specs.Fits.{form_fits}
 use Rattle.shen_graph.specs.declared.order.Order.{Order}
 use Rattle.shen_graph.specs.declared.order.Order.TheVariants.{Nothing, End}
 use Rattle.shen_graph.specs.declared.command.Command.{Command}
@@ -79,10 +79,15 @@ numbers_fit c seat made kept (Making at) = can_make made kept.command && make_fi
 numbers_fit c seat made kept (Waiting at) = wait_fits made kept.command at
 numbers_fit c seat made kept _ = true
 
+-- whether the numbers of the next access are words: what is stored into a copy of an object was found in a word
+abbrev pub stores_fit : Config → ℕ → ℕ → Kept → Spot → Bool
+stores_fit c seat made kept (Resolving address at next) = true
+stores_fit c seat made kept spot = form_fits (touch_at c seat made kept Nothing spot).form
+
 -- Whether the next access can be made from a spot. Between two calls it is that of the begin of a call; the one by which a
 -- mutator ends can always be made.
 abbrev pub is_ready : Config → ℕ → ℕ → Kept → Spot → Bool
-is_ready c seat made kept spot = touch_fits c (touch_at c seat made kept Nothing spot) && numbers_fit c seat made kept spot
+is_ready c seat made kept spot = (is_word c (touch_at c seat made kept Nothing spot).word && stores_fit c seat made kept spot) && numbers_fit c seat made kept spot
 
 -- the mutator's next access can be made
 abbrev pub IsReady : Config → Mutating → Type 0

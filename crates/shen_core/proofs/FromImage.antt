@@ -10,7 +10,7 @@ use Rattle.std.proofs.lemmas.Option.{slice_get_within, get_or_from_slice_get}
 use Rattle.std.proofs.lemmas.Simd.{map-map}
 use Rattle.heap_words.specs.declared.config.Config.{Config}
 use Rattle.heap_words.specs.Ranges.{seat_count}
-use Rattle.heap_words.specs.Words.{Word, Phase, view, table_words}
+use Rattle.heap_words.specs.Words.{Word, Phase, Cset, view, table_words}
 use Rattle.shen_graph.specs.declared.order.Order.{Order}
 use Rattle.shen_graph.specs.declared.order.Order.TheVariants.{Nothing}
 use Rattle.steps_base.specs.Steps.{Stage}
@@ -77,15 +77,15 @@ stage_actor c words counts k a here =
 
 -- each machine is new
 machine_new : (c : Config) (counts : List ℕ) (memory : Word → ℕ) (g : Graph) → ((t : ℕ) → t < c.mutators → g.count (t + 1) ≡ slice_index counts t) → (k : ℕ) → k < seat_count c.mutators c.helpers
-    → HasNumber c k (machine_from c counts memory k) × IsIdle (memory Phase) g k (machine_from c counts memory k)
+    → HasNumber c k (machine_from c counts memory k) × IsIdle (memory Phase) (memory Cset) g k (machine_from c counts memory k)
 machine_new c counts memory g count k below = by_role (nat_lt k c.mutators) refl (nat_lt k (c.mutators + c.helpers)) refl
   where
     by_role : (b : Bool) → nat_lt k c.mutators ≡ b → (d : Bool) → nat_lt k (c.mutators + c.helpers) ≡ d
         → HasNumber c k (if b then mutating (mutator_after k (slice_index counts k)) else (if d then fresh_helper k else control_from memory))
-        × IsIdle (memory Phase) g k (if b then mutating (mutator_after k (slice_index counts k)) else (if d then fresh_helper k else control_from memory))
+        × IsIdle (memory Phase) (memory Cset) g k (if b then mutating (mutator_after k (slice_index counts k)) else (if d then fresh_helper k else control_from memory))
     by_role true is d other = let small : k < c.mutators = ltb-true k c.mutators is in ((refl, small), (count k small, refl))
     by_role false is true other = ((refl, ltb-false k c.mutators is, ltb-true k (c.mutators + c.helpers) other), refl)
-    by_role false is false other = ((let above = ltb-false k (c.mutators + c.helpers) other in omega arith), (refl, refl, refl))
+    by_role false is false other = ((let above = ltb-false k (c.mutators + c.helpers) other in omega arith), (refl, refl, refl, refl))
 
 -- the stage begins each graph with which the words can begin
 pub begins_from : (c : Config) (words counts : List ℕ) → length words ≡ table_words c → (g : Graph) → CanBegin c (view c words) counts g → Begins c (stage_from c words counts) g
@@ -98,7 +98,7 @@ begins_from c words counts long g can = record {
   machines = λ k a here.
       let is = stage_actor c words counts k a here in
       let new = machine_new c counts (view c words) g can.counts_are k is.0 in
-      subst (λ (x : Actor). IsNew c (view c words Phase) g k x) is.1 (record { number_is = new.0; idle = new.1; calls = refl; valid = refl });
+      subst (λ (x : Actor). IsNew c (view c words Phase) (view c words Cset) g k x) is.1 (record { number_is = new.0; idle = new.1; calls = refl; valid = refl });
 }
 
 -- memory shows the stage

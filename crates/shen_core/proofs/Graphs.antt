@@ -4,13 +4,13 @@ use Rattle.heap_machines.specs.Pause.{pause_image}
 use Rattle.std.specs.Prelude.{slice_get, slice_index_or}
 use Rattle.std.specs.Option.{option_map}
 use mathlib.Core.List.{is_set}
-use Rattle.std.proofs.Math.Nat.{ℕ_set}
 use Rattle.std.proofs.Math.Logic.{∥∥₁_map, ∥∥₁_elim}
 use Rattle.std.proofs.lemmas.Option.{slice_get-map, get_or_from_slice_get}
 use Rattle.heap_words.specs.declared.config.Config.{Config}
-use Rattle.heap_words.specs.Words.{Cset}
-use Rattle.heap_world.specs.Change.{image_view}
-use Rattle.image_graph.specs.Holds.{Holds, HoldsSome}
+use Rattle.heap_words.specs.Words.{heap_in, roots_in}
+use Rattle.image_graph.specs.Left.{StandsForSome}
+use Rattle.heap_graph.specs.Shows.{WordsStand}
+use Rattle.shen_graph.specs.declared.name.Name.{Name}
 use Rattle.control_steps.specs.declared.spot.ControlSpot.{ControlSpot}
 use Rattle.control_steps.specs.declared.spot.ControlSpot.TheVariants.{LoadWord, StoreWord}
 use Rattle.control.specs.Image.{image_from, IsLoadedFrom}
@@ -62,13 +62,12 @@ module _ (c : Config) (words : List ℕ) (machines : List Machine) (rest : (numb
       let found = shown_actor words machines (ending pause_image c run) (control_number c) machine shows here in
       subst (λ ws. CanShow (image_from c ws) machine) shows.words_are (subst (CanShow (image_from c (ending pause_image c run).words)) found.2 (standing.can_show c run at_rest is_calm found.0 found.1))
 
-  -- they hold the graph after the run
-  pub holds : Holds c (image_view c (image_from c words)) (graph_after pause_image c run)
-  holds = subst (λ ws. Holds c (image_view c (image_from c ws)) (graph_after pause_image c run)) shows.words_are (standing.image_holds c run at_rest is_calm)
+  -- they stand for the graph after the run
+  abbrev pub names : ℕ → Option Name
+  names = standing.names c run at_rest is_calm
 
-  -- with no region in the collection set
-  pub calm_set : image_view c (image_from c words) Cset ≡ 0
-  calm_set = subst (λ ws. image_view c (image_from c ws) Cset ≡ 0) shows.words_are (standing.image_calm c run at_rest is_calm)
+  pub stand : WordsStand c.region_words (heap_in c words) (roots_in c words) names (graph_after pause_image c run)
+  stand = subst (λ ws. WordsStand c.region_words (heap_in c ws) (roots_in c ws) names (graph_after pause_image c run)) shows.words_are (standing.words_stand c run at_rest is_calm)
 
 -- so it is of those that led to the words
 module _ (c : Config) (words : List ℕ) (machines : List Machine) (rest : (number : ℕ) → number < c.mutators → is_resting (slice_index_or machines number no_machine) ≡ true)
@@ -76,8 +75,5 @@ module _ (c : Config) (words : List ℕ) (machines : List Machine) (rest : (numb
   pub some_can_show : (machine : Machine) → slice_get machines (control_number c) ≡ Some machine → CanShow (image_from c words) machine
   some_can_show machine here = ∥∥₁_elim some (can_show_is_prop (image_from c words) machine) (λ s. can_show c words machines rest calm s.run s.shows machine here)
 
-  pub some_hold : HoldsSome c (image_view c (image_from c words))
-  some_hold = ∥∥₁_map some (λ s. (graph_after pause_image c s.run, holds c words machines rest calm s.run s.shows))
-
-  pub some_calm : image_view c (image_from c words) Cset ≡ 0
-  some_calm = let prop : IsProp (image_view c (image_from c words) Cset ≡ 0) = ℕ_set (image_view c (image_from c words) Cset) 0 in ∥∥₁_elim some prop (λ s. calm_set c words machines rest calm s.run s.shows)
+  pub some_stand : StandsForSome c words
+  some_stand = ∥∥₁_map some (λ s. (names c words machines rest calm s.run s.shows, (graph_after pause_image c s.run, stand c words machines rest calm s.run s.shows)))

@@ -9,4 +9,3 @@ pub mod Rounds
 pub mod Fresh
 mod Graphs
 mod FromImage
-mod Rested

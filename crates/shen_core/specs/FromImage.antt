@@ -3,7 +3,7 @@ use Rattle.std.specs.Prelude.{ℕ, ◌≡◌, ◌+◌, ◌<◌, List, [], map, n
 use Rattle.std.specs.List.{range_with_len}
 use Rattle.heap_words.specs.declared.config.Config.{Config}
 use Rattle.heap_words.specs.Ranges.{seat_count}
-use Rattle.heap_words.specs.Words.{Word, Phase, Free, view}
+use Rattle.heap_words.specs.Words.{Word, Phase, Cset, Free, view}
 use Rattle.steps_base.specs.Steps.{Stage}
 use Rattle.shen_graph.specs.declared.command.Command.TheVariants.{Gc}
 use Rattle.shen_graph.specs.Graph.{Graph}
@@ -14,9 +14,9 @@ use Rattle.heap_world.specs.Represents.{Represents}
 use Rattle.step_core.specs.Actor.{Machine, mutating, fresh_helper, controlling, Actor}
 use Rattle.step_core.specs.Begins.{IsCalmOutside}
 
--- a control that knows the phase of these words and has seen their free word
+-- a control that knows the phase and the collection set of these words and has seen their free word
 abbrev pub control_from : (Word → ℕ) → Machine
-control_from memory = controlling (record { spot = LookLeft; seen = memory Free; phase = memory Phase; image = [] })
+control_from memory = controlling (record { spot = LookLeft; seen = memory Free; phase = memory Phase; cset = memory Cset; image = [] })
 
 -- The machine of a number in a heap of these words: the mutators come first, whose threads have made so many objects, then the
 -- helpers, then the control.

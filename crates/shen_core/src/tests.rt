@@ -2,16 +2,13 @@ ghost use Rattle.std.specs.Prelude.{◌≡◌, ◌+◌, ◌<◌, ◌≤◌, ℕ,
 ghost use Rattle.shen_graph.specs.Valid.{IsValid};
 ghost use Rattle.shen_graph.specs.Work.{HasScript};
 ghost use Rattle.shen_core.specs.Progress.{CanRun, IsRunnable, AllRest};
-ghost use Rattle.shen_core.specs.FromImage.{CanBegin};
-ghost use Rattle.shen_graph.specs.Graph.{Graph};
-ghost use Rattle.heap_words.specs.Words.{Pause, State, Wait, Answer, heap_size};
+ghost use Rattle.heap_words.specs.Words.{heap_size};
 ghost use Rattle.shen_core.specs.State.{config_of, words_of, seats_of, machine_at};
 ghost use Rattle.image_graph.specs.State as images;
 ghost use Rattle.step_core.specs.Opening.{opening_words};
 ghost use Rattle.step_core.specs.Machines.{may_begin, made_of_machine, reply_in};
 
 use crate::{Plain, Ran, Stepped};
-use full_cycle::full;
 use heap_words::{Config, Item, Place, Schedule};
 use image_graph::Image;
 use shen_graph::{Command, GraphText, Name, Reply, Script, Work};
@@ -418,122 +415,4 @@ pub(crate) fn single(
     let plain = Plain::open(alloc, config)?;
     let work = Work::open(alloc, &scripts)?;
     Ok((plain, work))
-}
-
-// The image of a heap's words.
-fn image_of(alloc: Global, config: Config, plain: &Plain) -> Result<Image, Fail>
-    requires { config_of plain.now ≡ config }
-    ensures config { IfOk result (λ image. images.config_of image ≡ config) }
-    ensures words { IfOk result (λ image. images.words_of image ≡ words_of plain.now) }
-{
-    let mut image = Image::open(alloc, config)?;
-    for at in 0..config.table_words() {
-        image.set_word(at, plain.word(at));
-    }
-    Ok(image)
-}
-
-// Whether the words of an image say that the first mutator has asked for nothing.
-fn asks_nothing(image: &Image) -> bool
-    ensures { IsTrue result → (images.memory_of image.now (Wait 0) ≡ 0) × (images.memory_of image.now (Answer 0) ≡ 0) }
-{
-    let config = image.config();
-    image.word(config.wait_at(0)) == 0 && image.word(config.answer_at(0)) == 0
-}
-
-// Whether they say that no pause is wanted, and the first mutator is out.
-fn is_calm(image: &Image) -> bool
-    ensures { IsTrue result → (images.memory_of image.now Pause ≡ 0) × (images.memory_of image.now (State 0) ≡ 0) }
-{
-    let config = image.config();
-    image.word(config.pause_at()) == 0 && image.word(config.state_at(0)) == 0
-}
-
-// The image of a heap after a full collection, in which its one mutator counts again; or none, where it has asked for room, or is
-// not out.
-fn collected(alloc: Global, config: Config, plain: &Plain) -> Result<Option<Image>, Fail>
-    requires config { config_of plain.now ≡ config }
-    requires mutators { config.mutators ≡ 1 }
-    requires helpers { config.helpers ≡ 0 }
-    requires rest { AllRest plain.now }
-    ensures config { IfOk result (λ some. IfSome some (λ image. images.config_of image ≡ config)) }
-    ensures begins { IfOk result (λ some. IfSome some (λ image. ∥ ((g : Graph) × CanBegin config (images.memory_of image) (made_of_machine (machine_at plain.now 0) ∷ []) g) ∥₁)) }
-{
-    let mut image = image_of(alloc, config, plain)?;
-    if !asks_nothing(&image) {
-        return Ok(None);
-    }
-    full(&mut image);
-    image.set_word(config.left_at(), 1);
-    image.set_word(config.end_at(), 0);
-    if !is_calm(&image) {
-        return Ok(None);
-    }
-    Ok(Some(image))
-}
-
-// A heap that goes on from there, if its mutator had made one object.
-fn gone_on(alloc: Global, config: Config, plain: &Plain) -> Result<Option<Plain>, Fail>
-    requires config { config_of plain.now ≡ config }
-    requires mutators { config.mutators ≡ 1 }
-    requires helpers { config.helpers ≡ 0 }
-    requires rest { AllRest plain.now }
-    ensures config { IfOk result (λ some. IfSome some (λ again. config_of again ≡ config)) }
-    ensures rest { IfOk result (λ some. IfSome some (λ again. may_begin (machine_at again 0) ≡ true)) }
-    ensures made { IfOk result (λ some. IfSome some (λ again. made_of_machine (machine_at again 0) ≡ 1)) }
-{
-    let count = plain.made(0);
-    if count != 1 {
-        return Ok(None);
-    }
-    let Some(image) = collected(alloc, config, plain)? else {
-        return Ok(None);
-    };
-    let again = Plain::open_from(alloc, image, &[count])?;
-    Ok(Some(again))
-}
-
-// A heap goes on from what a full collection makes of its words: the object that lives is moved, and the next one has the next
-// name.
-#[test]
-fn goes_on_after_a_full_collection(rt: HostRuntime) -> Result<(), Fail> {
-    let alloc = rt.alloc();
-    let store = Command::Set {
-        obj: 0,
-        field: 3,
-        val: 1,
-    };
-    let load = Command::Get {
-        dst: 2,
-        src: 0,
-        field: 3,
-    };
-    let make = Command::New {
-        dst: 1,
-        refs: 1,
-        nums: 1,
-    };
-    let config = Config::new(4, 64, 1, 0, 0)?;
-    let (mut plain, mut work) = single(alloc, config, &[make, store, load])?;
-    let schedule = Schedule::open(alloc)?;
-    let ran = plain.run(&mut work, &schedule, 1000);
-    assert!(rt; ran == Ran::Finished);
-    assert!(rt; plain.all_rest());
-    let Some(mut again) = gone_on(alloc, config, &plain)? else {
-        panic!(rt; "the heap does not go on");
-    };
-    let next = Name {
-        thread: 1,
-        count: 2,
-    };
-    assert!(rt; call(&mut again, 0, make, 100) == Some(Reply::Ref(next)));
-    let mut text = GraphText::open(alloc, 256, 1)?;
-    assert!(rt; again.all_rest());
-    again.graph(&mut text);
-    assert_eq!(rt; text.rows(), 3);
-    assert_eq!(rt; text.refs_at(0), 16);
-    assert_eq!(rt; text.reference_at(0, 3), Some(name(1)));
-    assert_eq!(rt; text.root_at(1, 1), Some(next));
-    assert_eq!(rt; text.root_at(1, 2), Some(name(1)));
-    Ok(())
 }

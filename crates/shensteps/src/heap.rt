@@ -2,8 +2,8 @@
 
 use crate::row::Row;
 use crate::terms::{put_machine, put_name, put_reference};
-use crate::view::{base, name_at, size_at, top, word};
-use heap_words::Config;
+use crate::view::{base, heap_word, name_at, size_at, top, word};
+use heap_words::{Config, forwarded};
 use regions::is_in;
 use shen_base::Sink;
 use shen_core::Plain;
@@ -32,7 +32,8 @@ fn object_columns(bars: bool) -> (usize, usize) {
     if bars { (45, 110) } else { (25, 68) }
 }
 
-// Puts the objects of a region, each with its words; the room of a machine, where it has some here, is their end.
+// Puts the objects of a region, each with its words, and old copies as such; the room of a machine, where it has some here, is
+// their end.
 fn put_objects<K: Sink>(
     row: &mut Row,
     block: &mut Block,
@@ -61,6 +62,9 @@ fn put_objects<K: Sink>(
             row.put(b")");
             return;
         }
+        if forwarded(heap_word(plain, at)) {
+            row.put(b"old ");
+        }
         put_name(row, name_at(plain, at));
         row.put(b"(");
         row.put_number(next.saturating_sub(at));
@@ -71,7 +75,7 @@ fn put_objects<K: Sink>(
 
 // Puts whose current region a region is.
 fn put_owner(row: &mut Row, plain: &Plain, config: Config, region: usize) {
-    for seat in 0..config.mutators() + config.helpers() {
+    for seat in 0..config.seats() {
         if word(plain, config.cur_at(seat)) == (region as u64).saturating_add(1) {
             row.put(b" ");
             put_machine(row, config, seat);

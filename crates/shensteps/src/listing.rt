@@ -154,11 +154,13 @@ impl Listing {
         match seen.place {
             Place::PS => Within::Elsewhere,
             Place::IW if room > 0 => Within::Room(room),
+            Place::CP | Place::HI if room > 0 => Within::Copy(room),
             _ => look_within(plain, seen.access.at()),
         }
     }
 
     // Takes down where the machine has room in hand: from the step that raises the top on, to the last that stores a word.
+    // Between two of these it loads the words that it copies.
     fn note_room(&mut self, plain: &Plain, seen: &Seen) {
         let config = plain.config();
         let slot = seen.number % MACHINES;
@@ -168,7 +170,7 @@ impl Listing {
                     self.rooms[slot] = base(plain, region).saturating_add(seen.found);
                 }
             }
-        } else if seen.place != Place::IW {
+        } else if !matches!(seen.place, Place::IW | Place::CL | Place::CP | Place::HI) {
             self.rooms[slot] = 0;
         }
     }

@@ -3,7 +3,7 @@
 use crate::row::Row;
 use crate::view::{Kind, Part, kind_of, kind_of_part, name_at, object_with, part_of, region_of};
 use heap_words::{
-    Access, Config, Item, WordName, count_of, forwarded, nums_of, refs_of, request_count,
+    Access, Config, Item, WordName, count_of, forwarded, forwardee, nums_of, refs_of, request_count,
     request_shape, thread_of,
 };
 use shen_core::Plain;
@@ -76,6 +76,27 @@ fn put_marks(row: &mut Row, plain: &Plain, first: u64, marks: u64) {
     row.put(b"}");
 }
 
+// Puts a header: of an old copy the address of the object's current one.
+fn put_header(row: &mut Row, header: u64) {
+    if forwarded(header) {
+        row.put(b"copy ");
+        row.put_number(forwardee(header));
+    } else {
+        row.put_number(header);
+    }
+}
+
+// The bit of the copiers' word that says that one has found no room.
+const NO_ROOM: u64 = 9223372036854775808;
+
+// Puts how many machines copy, and whether one has found no room.
+fn put_copiers(row: &mut Row, word: u64) {
+    row.put_number(word % NO_ROOM);
+    if word >= NO_ROOM {
+        row.put(b", no room");
+    }
+}
+
 // Puts what is asked for.
 fn put_ask(row: &mut Row, word: u64) {
     row.put(match word % 4 {
@@ -118,6 +139,8 @@ fn put_answer(row: &mut Row, plain: &Plain, answer: u64) {
 pub fn put_value(row: &mut Row, plain: &Plain, kind: Kind, word: u64) {
     match kind {
         Kind::Number => row.put_number(word),
+        Kind::Header => put_header(row, word),
+        Kind::Copiers => put_copiers(row, word),
         Kind::Reference => put_reference(row, plain, word),
         Kind::Answer => put_answer(row, plain, word),
         Kind::Regions => put_regions(row, plain.config(), word),
@@ -222,6 +245,8 @@ pub enum Within {
     Object(u64),
     /// In the room at this address, which is to become an object.
     Room(u64),
+    /// In the room at this address, which is to become a copy of an object.
+    Copy(u64),
     /// In no object, or that is not told.
     Elsewhere,
 }
@@ -245,6 +270,12 @@ pub fn put_word_at(row: &mut Row, plain: &Plain, at: usize, within: Within) -> K
             let part = part_of(plain, room, address);
             put_part(row, part);
             row.put(b" of the new object");
+            kind_of_part(part)
+        }
+        (WordName::Heap { address }, Within::Copy(room)) => {
+            let part = part_of(plain, room, address);
+            put_part(row, part);
+            row.put(b" of the copy");
             kind_of_part(part)
         }
         (name, _) => {

@@ -118,6 +118,10 @@ pub fn part_of(plain: &Plain, object: u64, address: u64) -> Part {
 pub enum Kind {
     /// As a number.
     Number,
+    /// As a header.
+    Header,
+    /// As how many machines copy.
+    Copiers,
     /// As a reference.
     Reference,
     /// As an answer: none, full, or a reference.
@@ -146,7 +150,7 @@ pub enum Kind {
 /// How a word of an object is to be read.
 pub fn kind_of_part(part: Part) -> Kind {
     match part {
-        Part::Header => Kind::Number,
+        Part::Header => Kind::Header,
         Part::Shape => Kind::Shape,
         Part::Name => Kind::Name,
         Part::Field(_) => Kind::Reference,
@@ -166,6 +170,7 @@ pub fn kind_of(config: Config, name: WordName) -> Kind {
         WordName::State { .. } => Kind::State,
         WordName::Cset | WordName::Free => Kind::Regions,
         WordName::Ask => Kind::Ask,
+        WordName::Evac => Kind::Copiers,
         WordName::Current { .. } => Kind::Current,
         WordName::Root { .. } | WordName::Buffer { .. } => Kind::Reference,
         WordName::Wait { .. } => Kind::Request,

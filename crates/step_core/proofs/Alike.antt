@@ -2,18 +2,21 @@
 use Rattle.std.proofs.Common.{◌≡◌, ◌≢◌, ℕ, ◌+◌, Bool, true, false, refl, sym, subst}
 use Rattle.std.specs.Int.{bit_at}
 use Rattle.heap_words.specs.declared.config.Config.{Config}
-use Rattle.heap_words.specs.Words.{Word, Pause, Left, End, Phase, Cset, Ask, State, Top, Current, Root, Count, Buffer, Wait, Answer, Grey, Heap, write}
+use Rattle.heap_words.specs.Words.{Word, Pause, Left, End, Phase, Cset, Evac, Ask, State, Top, Current, Root, Count, Buffer, Wait, Answer, Grey, Heap, write}
 use Rattle.steps_base.specs.Touch.{touch, loads, stores}
-use Rattle.heap_world.specs.World.{World, Shared}
+use Rattle.heap_world.specs.World.{World, IsCollected, TargetIn, Shared}
+use Rattle.evac_room.specs.Counter.{IsQuiet}
+use Rattle.shen_graph.specs.declared.name.Name.{Name}
 use Rattle.heap_world.specs.Rely.{Keeps, Rely}
 use Rattle.heap_world.specs.Part.{PartStep}
 use Rattle.heap_world.proofs.Keeping.{load_keeps, rely_same, keeps_of}
-use Rattle.step_core.proofs.Marking.{world_with, marks_in}
+use Rattle.step_core.proofs.Marking.{world_with, marks_in, copies_in}
 
 -- two memories are alike in the words that facts of all machines speak of
 pub record AreAlike (u w : Word → ℕ) : Type 0 where
   pub phase : w Phase ≡ u Phase
   pub cset : w Cset ≡ u Cset
+  pub evac : w Evac ≡ u Evac
   pub ask : w Ask ≡ u Ask
   pub tops : (r : ℕ) → w (Top r) ≡ u (Top r)
   pub currents : (seat : ℕ) → w (Current seat) ≡ u (Current seat)
@@ -38,6 +41,7 @@ alike_written : (memory : Word → ℕ) (word : Word) (value : ℕ) → is_of_ha
 alike_written memory Pause value is = record {
   phase = refl;
   cset = refl;
+  evac = refl;
   ask = refl;
   tops = λ r. refl;
   currents = λ seat. refl;
@@ -52,6 +56,7 @@ alike_written memory Pause value is = record {
 alike_written memory Left value is = record {
   phase = refl;
   cset = refl;
+  evac = refl;
   ask = refl;
   tops = λ r. refl;
   currents = λ seat. refl;
@@ -66,6 +71,7 @@ alike_written memory Left value is = record {
 alike_written memory End value is = record {
   phase = refl;
   cset = refl;
+  evac = refl;
   ask = refl;
   tops = λ r. refl;
   currents = λ seat. refl;
@@ -80,6 +86,7 @@ alike_written memory End value is = record {
 alike_written memory (State other) value is = record {
   phase = refl;
   cset = refl;
+  evac = refl;
   ask = refl;
   tops = λ r. refl;
   currents = λ seat. refl;
@@ -94,13 +101,18 @@ alike_written memory (State other) value is = record {
 alike_written memory _ value is = absurd (cc (is))
 
 module _ (c : Config) (u : World) (memory : Word → ℕ) (seat : ℕ) (alike : AreAlike u.memory memory) where
-  -- so what the facts of a seat stand on stays
+  -- so current copies stay
+  targets_alike : (a refs nums : ℕ) (name : Name) → TargetIn c u a refs nums name → TargetIn c (world_with u memory u.graph) a refs nums name
+  targets_alike a refs nums name is = record {
+    piece = is.piece;
+    safe = λ inside. subst IsQuiet (sym alike.evac) (is.safe (subst (λ set. IsCollected c set a) alike.cset inside));
+  }
+
+  -- and what the facts of a seat stand on
   keeps_alike : Keeps c seat u (world_with u memory u.graph)
   keeps_alike = record {
     names = λ a name is. is;
-    targets = λ a refs nums name is. is;
-    hands = λ a words is. is;
-    hand_words = λ a words k is below. alike.heap (a + k);
+    targets = λ a refs nums name is. targets_alike a refs nums name is;
     promises = λ a words is. is;
     no_promises = λ a words is. is;
     promise_words = λ a words k is below. alike.heap (a + k);
@@ -110,13 +122,14 @@ module _ (c : Config) (u : World) (memory : Word → ℕ) (seat : ℕ) (alike : 
     wait = alike.waits seat;
     answer = alike.answers seat;
     marks = (marks_in c u memory u.graph seat alike.phase alike.greys alike.counts alike.buffers alike.heap).keeps;
+    copies = (copies_in c u memory u.graph seat alike.cset alike.evac alike.tops alike.heap).keeps;
   }
 
   -- and all that it relies on, where its state word does
   rely_alike : memory (State seat) ≡ u.memory (State seat) → Rely c seat u (world_with u memory u.graph)
   rely_alike state = record {
     names = λ a name is. is;
-    targets = λ a refs nums name is. is;
+    targets = λ a refs nums name is. targets_alike a refs nums name is;
     hands = λ a words is. is;
     no_hands = λ a words is. is;
     hand_words = λ a words k is below. alike.heap (a + k);
@@ -132,9 +145,9 @@ module _ (c : Config) (u : World) (memory : Word → ℕ) (seat : ℕ) (alike : 
     wait = alike.waits seat;
     answer = alike.answers seat;
     state = state;
-    cset = alike.cset;
     asked = λ is. subst (λ n. bit_at n 1 ≡ 1) (sym alike.ask) is;
     marks = marks_in c u memory u.graph seat alike.phase alike.greys alike.counts alike.buffers alike.heap;
+    copies = copies_in c u memory u.graph seat alike.cset alike.evac alike.tops alike.heap;
   }
 
 -- the step of a load

@@ -3,7 +3,7 @@ use Rattle.std.proofs.Common.{◌≡◌, ℕ, [], None, Some, refl, sym, ap, ◌
 use Rattle.std.specs.Prelude.{slice_get}
 use Rattle.std.proofs.lemmas.List.Elements.{All-nil}
 use Rattle.heap_words.specs.declared.config.Config.{Config}
-use Rattle.heap_words.specs.Words.{Phase, view}
+use Rattle.heap_words.specs.Words.{Phase, Cset, view}
 use Rattle.steps_base.specs.Steps.{Stage}
 use Rattle.shen_graph.specs.Graph.{Graph}
 use Rattle.heap_world.specs.World.{Shared}
@@ -19,10 +19,10 @@ use Rattle.step_core.proofs.Induction.{Goes}
 use Rattle.step_core.proofs.Roles.{machine_there, machine_begins}
 
 -- an idle control holds no image
-idle_holds : (c : Config) (phase : ℕ) (g : Graph) (machine : Machine) → HasNumber c (control_number c) machine → IsIdle phase g (control_number c) machine → image_in machine ≡ None
-idle_holds c phase g (mutating m) number calm = absurd (let below = number.1 in omega (arith, below))
-idle_holds c phase g (helping h) number calm = absurd (let below = number.2 in omega (arith, below))
-idle_holds c phase g (controlling h) number calm = ap (λ spot. stored_image spot h.image) calm.0
+idle_holds : (c : Config) (phase cset : ℕ) (g : Graph) (machine : Machine) → HasNumber c (control_number c) machine → IsIdle phase cset g (control_number c) machine → image_in machine ≡ None
+idle_holds c phase cset g (mutating m) number calm = absurd (let below = number.1 in omega (arith, below))
+idle_holds c phase cset g (helping h) number calm = absurd (let below = number.2 in omega (arith, below))
+idle_holds c phase cset g (controlling h) number calm = ap (λ spot. stored_image spot h.image) calm.0
 
 -- What holds of a stage that begins a graph.
 module _ (c : Config) (s : Stage Actor) (g : Graph) (begins : Begins c s g) where
@@ -34,7 +34,7 @@ module _ (c : Config) (s : Stage Actor) (g : Graph) (begins : Begins c s g) wher
   pub whole_begins : settled c s ≡ view c s.words
   whole_begins =
       let new = begins.machines (control_number c) there.0 there.1 in
-      ap (settled_by c s.words) (ap image_of there.1 ∙ idle_holds c (view c s.words Phase) g there.0.machine new.number_is new.idle)
+      ap (settled_by c s.words) (ap image_of there.1 ∙ idle_holds c (view c s.words Phase) (view c s.words Cset) g there.0.machine new.number_is new.idle)
 
   pub follows_begins : Follows c g s []
   follows_begins = record {
@@ -51,7 +51,7 @@ module _ (c : Config) (s : Stage Actor) (g : Graph) (begins : Begins c s g) wher
         let new = begins.machines k a is in
         subst (λ memory. IsMachine c s.words (record { memory = memory; block = begins.stands.block; ghost = begins.stands.ghost; graph = g }) [] k a a.machine) (sym whole_begins)
         (machine_begins c s.words (record { memory = view c s.words; block = begins.stands.block; ghost = begins.stands.ghost; graph = g }) k a a.machine refl new.number_is new.idle new.calls new.valid
-        (record { roots = begins.stands.roots; none = begins.stands.none; asked = begins.stands.asked; unmarking = begins.stands.unmarking }));
+        (record { roots = begins.stands.roots; none = begins.stands.none; asked = begins.stands.asked; unmarking = begins.stands.unmarking; uncopying = begins.stands.uncopying; usable = begins.stands.usable }));
   }
 
   pub goes_begins : Goes c g s []

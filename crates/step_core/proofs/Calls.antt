@@ -16,9 +16,9 @@ use Rattle.mutator.specs.Rows.{Mutating, begun}
 use Rattle.mutator.specs.Orders.{is_next}
 use Rattle.heap_world.specs.World.{World, hand, Points}
 use Rattle.step_core.specs.Actor.{command_by}
-use Rattle.step_core.specs.Stepped.{IsSeatedIn, HasMarkingBy, Mine, Row, OrderedRow}
+use Rattle.step_core.specs.Stepped.{IsSeatedIn, HasMarkingBy, HasCopyingBy, Mine, Row, OrderedRow}
 use Rattle.step_core.proofs.Spots.{mutator_at, accessed_by, accessed}
-use Rattle.step_core.proofs.Marking.{marks_in, still_waits}
+use Rattle.step_core.proofs.Marking.{marks_in, still_waits, copies_in}
 use Rattle.step_core.proofs.Ready.{leaving, rest_ready}
 use Rattle.step_core.proofs.Settling.{legal_answer, graph_answer}
 
@@ -30,14 +30,14 @@ module _ (c : Config) (u : World) (seat made : ℕ) (kept : Kept) (command : Com
   abbrev MineBegun : Order → Type 0
   MineBegun order = Mine c (accessed_by c u (at_spot Rest) order) (begun order (at_spot Rest)) (command_by order command) fixed
 
-  begins : (k : Command) → IsSeatedIn c u seat made false → HasMarkingBy u seat None kept.phase false → ((i : ℕ) → i < 16 → Points u.block (u.memory (Root seat i)) (u.graph.root (seat + 1) i)) → ((a words : ℕ) → u.block a ≡ Some (hand seat words) → ⊥)
+  begins : (k : Command) → IsSeatedIn c u seat made false → HasMarkingBy u seat None kept.phase false → HasCopyingBy u seat false kept.cset false → ((i : ℕ) → i < 16 → Points u.block (u.memory (Root seat i)) (u.graph.root (seat + 1) i)) → ((a words : ℕ) → u.block a ≡ Some (hand seat words) → ⊥)
       → fixed ≡ None → is_next made k ≡ true → MineBegun (Begin k)
-  begins k seated marking roots hands unsettled next =
-      record { seated = seated; ready = refl; marking = marking; roots = roots; hands = hands; facts = record { unsettled = unsettled; is = refl; next = next } }
+  begins k seated marking copying roots hands unsettled next =
+      record { seated = seated; ready = refl; marking = marking; copying = copying; roots = roots; hands = hands; facts = record { unsettled = unsettled; is = refl; next = next } }
 
-  ends : IsSeatedIn c u seat made false → HasMarkingBy u seat None kept.phase false → ((i : ℕ) → i < 16 → Points u.block (u.memory (Root seat i)) (u.graph.root (seat + 1) i)) → ((a words : ℕ) → u.block a ≡ Some (hand seat words) → ⊥)
+  ends : IsSeatedIn c u seat made false → HasMarkingBy u seat None kept.phase false → HasCopyingBy u seat false kept.cset false → ((i : ℕ) → i < 16 → Points u.block (u.memory (Root seat i)) (u.graph.root (seat + 1) i)) → ((a words : ℕ) → u.block a ≡ Some (hand seat words) → ⊥)
       → fixed ≡ None → MineBegun End
-  ends seated marking roots hands unsettled = record { seated = seated; ready = refl; marking = marking; roots = roots; hands = hands; facts = unsettled }
+  ends seated marking copying roots hands unsettled = record { seated = seated; ready = refl; marking = marking; copying = copying; roots = roots; hands = hands; facts = unsettled }
 
   -- a mutator that has not begun a call begins one, or ends
   pub at_rest : (order : Order) → OrderedRow c u (at_spot Rest) command order fixed
@@ -49,8 +49,8 @@ module _ (c : Config) (u : World) (seat made : ℕ) (kept : Kept) (command : Com
     legal = tt;
     settles = λ r e. cc;
     shared = shared;
-    mine = begins k mine.seated mine.marking mine.roots mine.hands mine.facts takes;
-    others = λ j d. let marks = marks_in c u (accessed_by c u (at_spot Rest) (Begin k)).memory u.graph j refl (λ n. refl) (λ t. refl) (λ t k. refl) (λ a. refl) in search (arith, nat_tests, marks);
+    mine = begins k mine.seated mine.marking mine.copying mine.roots mine.hands mine.facts takes;
+    others = λ j d. let marks = marks_in c u (accessed_by c u (at_spot Rest) (Begin k)).memory u.graph j refl (λ n. refl) (λ t. refl) (λ t k. refl) (λ a. refl) in let copies = copies_in c u (accessed_by c u (at_spot Rest) (Begin k)).memory u.graph j refl refl (λ r. refl) (λ a. refl) in search (arith, nat_tests, marks, copies);
   }
   at_rest End shared mine takes = record {
     world = accessed_by c u (at_spot Rest) End;
@@ -59,8 +59,8 @@ module _ (c : Config) (u : World) (seat made : ℕ) (kept : Kept) (command : Com
     legal = tt;
     settles = λ r e. cc;
     shared = shared;
-    mine = ends mine.seated mine.marking mine.roots mine.hands mine.facts;
-    others = λ j d. let marks = marks_in c u (accessed_by c u (at_spot Rest) End).memory u.graph j refl (λ n. refl) (λ t. refl) (λ t k. refl) (λ a. refl) in search (arith, nat_tests, marks);
+    mine = ends mine.seated mine.marking mine.copying mine.roots mine.hands mine.facts;
+    others = λ j d. let marks = marks_in c u (accessed_by c u (at_spot Rest) End).memory u.graph j refl (λ n. refl) (λ t. refl) (λ t k. refl) (λ a. refl) in let copies = copies_in c u (accessed_by c u (at_spot Rest) End).memory u.graph j refl refl (λ r. refl) (λ a. refl) in search (arith, nat_tests, marks, copies);
   }
 
   -- so does one that has ended a call
@@ -73,8 +73,8 @@ module _ (c : Config) (u : World) (seat made : ℕ) (kept : Kept) (command : Com
     legal = tt;
     settles = λ q e. cc;
     shared = shared;
-    mine = begins k mine.seated mine.marking mine.roots mine.hands mine.facts takes;
-    others = λ j d. let marks = marks_in c u (accessed_by c u (at_spot (Ended r)) (Begin k)).memory u.graph j refl (λ n. refl) (λ t. refl) (λ t k. refl) (λ a. refl) in search (arith, nat_tests, marks);
+    mine = begins k mine.seated mine.marking mine.copying mine.roots mine.hands mine.facts takes;
+    others = λ j d. let marks = marks_in c u (accessed_by c u (at_spot (Ended r)) (Begin k)).memory u.graph j refl (λ n. refl) (λ t. refl) (λ t k. refl) (λ a. refl) in let copies = copies_in c u (accessed_by c u (at_spot (Ended r)) (Begin k)).memory u.graph j refl refl (λ r. refl) (λ a. refl) in search (arith, nat_tests, marks, copies);
   }
   at_ended r End shared mine takes = record {
     world = accessed_by c u (at_spot (Ended r)) End;
@@ -83,8 +83,8 @@ module _ (c : Config) (u : World) (seat made : ℕ) (kept : Kept) (command : Com
     legal = tt;
     settles = λ q e. cc;
     shared = shared;
-    mine = ends mine.seated mine.marking mine.roots mine.hands mine.facts;
-    others = λ j d. let marks = marks_in c u (accessed_by c u (at_spot (Ended r)) End).memory u.graph j refl (λ n. refl) (λ t. refl) (λ t k. refl) (λ a. refl) in search (arith, nat_tests, marks);
+    mine = ends mine.seated mine.marking mine.copying mine.roots mine.hands mine.facts;
+    others = λ j d. let marks = marks_in c u (accessed_by c u (at_spot (Ended r)) End).memory u.graph j refl (λ n. refl) (λ t. refl) (λ t k. refl) (λ a. refl) in let copies = copies_in c u (accessed_by c u (at_spot (Ended r)) End).memory u.graph j refl refl (λ r. refl) (λ a. refl) in search (arith, nat_tests, marks, copies);
   }
 
   -- the step that asks for a cycle settles Ok
@@ -98,8 +98,8 @@ module _ (c : Config) (u : World) (seat made : ℕ) (kept : Kept) (command : Com
         legal = legal_answer u.graph seat command reply.Ok refl gc;
         settles = λ r e. (mine.facts.0, refl);
         shared = shared;
-        mine = leaving c _ seat made kept command reply.Ok mine.seated (mine.marking.records, mine.marking.scans) mine.roots mine.hands;
-        others = λ j d. let marks = marks_in c u (accessed c u (at_spot AskCycle)).memory u.graph j refl (λ n. refl) (λ t. refl) (λ t k. refl) (λ a. refl) in let waits = still_waits (u.memory Ask) in search (arith, nat_tests, marks, waits);
+        mine = leaving c _ seat made kept command reply.Ok mine.seated (mine.marking.records, mine.marking.scans, mine.copying.copies_is, mine.copying.works_none) mine.roots mine.hands;
+        others = λ j d. let marks = marks_in c u (accessed c u (at_spot AskCycle)).memory u.graph j refl (λ n. refl) (λ t. refl) (λ t k. refl) (λ a. refl) in let copies = copies_in c u (accessed c u (at_spot AskCycle)).memory u.graph j refl refl (λ r. refl) (λ a. refl) in let waits = still_waits (u.memory Ask) in search (arith, nat_tests, marks, copies, waits);
       }
 
   -- the last step of a call gives its reply
@@ -111,6 +111,6 @@ module _ (c : Config) (u : World) (seat made : ℕ) (kept : Kept) (command : Com
     legal = tt;
     settles = λ q e. cc;
     shared = shared;
-    mine = record { seated = mine.seated; ready = rest_ready c seat made kept (Ended r) refl mine.seated.below; marking = mine.marking; roots = mine.roots; hands = mine.hands; facts = refl };
-    others = λ j d. let marks = marks_in c u (accessed c u (at_spot (Leave r))).memory u.graph j refl (λ n. refl) (λ t. refl) (λ t k. refl) (λ a. refl) in search (arith, nat_tests, marks);
+    mine = record { seated = mine.seated; ready = rest_ready c seat made kept (Ended r) refl mine.seated.below; marking = mine.marking; copying = mine.copying; roots = mine.roots; hands = mine.hands; facts = refl };
+    others = λ j d. let marks = marks_in c u (accessed c u (at_spot (Leave r))).memory u.graph j refl (λ n. refl) (λ t. refl) (λ t k. refl) (λ a. refl) in let copies = copies_in c u (accessed c u (at_spot (Leave r))).memory u.graph j refl refl (λ r. refl) (λ a. refl) in search (arith, nat_tests, marks, copies);
   }

@@ -7,7 +7,7 @@ use Rattle.std.proofs.lemmas.Bool.{and_parts, ltb-true, ltb-false}
 use Rattle.heap_words.specs.declared.config.Config.{Config}
 use Rattle.heap_words.specs.Access.{table_index}
 use Rattle.heap_words.specs.Ranges.{seat_count}
-use Rattle.heap_words.specs.Words.{Phase, image_start, view}
+use Rattle.heap_words.specs.Words.{Phase, Cset, image_start, view}
 use Rattle.heap_words.proofs.Stores.{is_word_from}
 use Rattle.steps_base.specs.Steps.{Stage, accessed, moved}
 use Rattle.steps_base.proofs.Places.{slice_get-set_same}
@@ -25,8 +25,12 @@ use Rattle.scan_steps.specs.Seen as scan
 use Rattle.mark_steps.proofs.Scans.{scan_inside}
 use Rattle.mark_steps.proofs.Parts.{scanning_steps}
 use Rattle.heap_world.specs.Change.{Change, IsPause, image_view, image_words}
+use Rattle.load_barrier.specs.declared.evac_spot.EvacSpot.{EvacSpot}
+use Rattle.load_barrier.specs.UnitRows as evacs
+use Rattle.load_barrier.specs.UnitFit as evac
+use Rattle.evac_steps.proofs.Parts.{evacuating_steps}
 use Rattle.control_steps.specs.declared.spot.ControlSpot.{ControlSpot}
-use Rattle.control_steps.specs.declared.spot.ControlSpot.TheVariants.{LookLeft, StoreEnd, LookAsked, LookFree, Scanning, Stopping, LoadWord, StoreWord, Go, Gone}
+use Rattle.control_steps.specs.declared.spot.ControlSpot.TheVariants.{LookLeft, StoreEnd, LookAsked, LookFree, Scanning, Evacuating, Stopping, LoadWord, StoreWord, Go, Gone}
 use Rattle.control_steps.specs.Rows.{Controlling, control_access, seen_after, is_gone}
 use Rattle.control_steps.specs.Ready.{is_ready}
 use Rattle.step_core.specs.Actor.{controlling, Actor}
@@ -35,7 +39,7 @@ use Rattle.step_core.specs.Settled.{stored_image, settled_by, image_in, image_of
 use Rattle.step_core.specs.Sound.{world_of}
 use Rattle.step_core.specs.Fit.{StandsForSome}
 use Rattle.step_core.specs.Standing.{standing_of}
-use Rattle.step_core.proofs.Facts.{IsControl, IsMachine, Follows, Owes, AreRead}
+use Rattle.step_core.proofs.Facts.{IsResting, IsControl, IsMachine, Follows, Owes, AreRead}
 use Rattle.step_core.proofs.Images.{words_after, found-placed, image_grows}
 use Rattle.step_core.proofs.Helpers.{is_off}
 use Rattle.step_core.proofs.Owing.{follows_owes}
@@ -107,10 +111,10 @@ module _ (change : Change) (law : IsPause change) (c : Config) (g : Graph) (s : 
       pause_empty c (λ a. standing_of a.machine) s shaken (ap (λ a. is_pausing (standing_of a.machine)) (sym same) ∙ pausing) j b (omega (arith, less, other)) there
 
 -- by its spot
-module _ (change : Change) (law : IsPause change) (c : Config) (g : Graph) (s : Stage Actor) (past : List Entry) (number seen phase : ℕ) (image : List ℕ) (command : Command) (calls : List Entry)
+module _ (change : Change) (law : IsPause change) (c : Config) (g : Graph) (s : Stage Actor) (past : List Entry) (number seen phase cset : ℕ) (image : List ℕ) (command : Command) (calls : List Entry)
     (follows : Follows c g s past) (shaken : IsKept c s) where
   abbrev control_at : ControlSpot → Controlling
-  control_at spot = record { spot = spot; seen = seen; phase = phase; image = image }
+  control_at spot = record { spot = spot; seen = seen; phase = phase; cset = cset; image = image }
 
   abbrev Here : ControlSpot → Type 0
   Here spot = slice_get s.machines number ≡ Some (record { machine = controlling (control_at spot); command = command; calls = calls })
@@ -153,8 +157,8 @@ module _ (change : Change) (law : IsPause change) (c : Config) (g : Graph) (s : 
   abbrev loaded : ℕ → ℕ
   loaded index = slice_index s.words (image_start c + index)
 
-  -- while it loads the image it scans nothing
-  idle_at : (index : ℕ) → Here (LoadWord index) → follows.ghost.scanning (control_number c) ≡ None
+  -- while it loads the image it rests
+  idle_at : (index : ℕ) → Here (LoadWord index) → IsResting open_now (control_number c)
   idle_at index here = (control_held change law c g s past number (control_at (LoadWord index)) command calls follows shaken here).facts
 
   -- The last word of the image is loaded: the image stands for the graph.
@@ -164,11 +168,11 @@ module _ (change : Change) (law : IsPause change) (c : Config) (g : Graph) (s : 
       let read : AreRead c s.words (image ++ loaded index ∷ []) (image_words c) = λ i below. image_grows c s.words image index known.aims.0 known.aims.1 i (omega (arith, below, last)) in
       ∣ (
         after g past,
-        asking c s.words follows.block follows.ghost (after g past) past s.machines (image ++ loaded index ∷ []) read follows.seats,
-        image_stands c s.words follows.block follows.ghost (after g past) past s.machines (image ++ loaded index ∷ []) read follows.seats
+        asking c s.words follows.block follows.ghost (after g past) past s.machines (image ++ loaded index ∷ []) read follows.seats (idle_at index here),
+        image_stands c s.words follows.block follows.ghost (after g past) past s.machines (image ++ loaded index ∷ []) read follows.seats (idle_at index here)
             (shared_held change law c g s past number (control_at (LoadWord index)) command calls follows shaken here) follows.promised_to follows.no_more
             (known_held change law c g s past number (control_at (LoadWord index)) command calls follows shaken here)
-            (all_outside change law c g s past number (control_at (LoadWord index)) command calls follows shaken here refl) (idle_at index here),
+            (all_outside change law c g s past number (control_at (LoadWord index)) command calls follows shaken here refl),
       ) ∣₁
 
   -- the control after it loaded a word: it loads the next one, or it was the last one
@@ -178,6 +182,7 @@ module _ (change : Change) (law : IsPause change) (c : Config) (g : Graph) (s : 
       spot = if more then LoadWord (index + 1) else StoreWord 0;
       seen = if more then seen else seen_after seen (image_view c (change c (image ++ loaded index ∷ [])));
       phase = if more then phase else image_view c (change c (image ++ loaded index ∷ [])) Phase;
+      cset = if more then cset else image_view c (change c (image ++ loaded index ∷ [])) Cset;
       image = if more then image ++ loaded index ∷ [] else change c (image ++ loaded index ∷ []);
     });
     command = command;
@@ -189,22 +194,22 @@ module _ (change : Change) (law : IsPause change) (c : Config) (g : Graph) (s : 
       → Owes c s.words s.words open_now past (control_number c) s.machines (settled_by c s.words (image_in (after_word index more).machine)) [] (after_word index more)
   loaded_owes index here shared known true more =
       read_owes c s.words follows.block follows.ghost (after g past) past s.machines command calls
-      (record { spot = LoadWord (index + 1); seen = seen; phase = phase; image = image ++ loaded index ∷ [] }) shared follows.promised_to
+      (record { spot = LoadWord (index + 1); seen = seen; phase = phase; cset = cset; image = image ++ loaded index ∷ [] }) shared follows.promised_to
       (record {
         number_is = refl;
-        hands = known.hands;
         ready = more;
         phase_is = known.phase_is;
+        set_is = known.set_is;
         facts = known.facts;
         aims = (length-snoc image (loaded index) ∙ ap (λ n. n + 1) known.aims.0, image_grows c s.words image index known.aims.0 known.aims.1);
       }) refl
   loaded_owes index here shared known false all =
       let less : index + 1 ≡ image_words c = (let last = ltb-false _ _ all in let ready = ltb-true _ _ (ready_at (LoadWord index) here) in omega (arith, last, ready)) in
       paused_owes c s.words follows.block follows.ghost (after g past) past s.machines (image ++ loaded index ∷ [])
-      (λ i below. image_grows c s.words image index known.aims.0 known.aims.1 i (omega (arith, below, less))) follows.seats change law
+      (λ i below. image_grows c s.words image index known.aims.0 known.aims.1 i (omega (arith, below, less))) follows.seats (idle_at index here) change law
       (length-snoc image (loaded index) ∙ ap (λ n. n + 1) known.aims.0 ∙ less) shared follows.promised_to follows.no_more
       (known_held change law c g s past number (control_at (LoadWord index)) command calls follows shaken here)
-      (all_outside change law c g s past number (control_at (LoadWord index)) command calls follows shaken here refl) (idle_at index here)
+      (all_outside change law c g s past number (control_at (LoadWord index)) command calls follows shaken here refl)
       (seen_after seen (image_view c (change c (image ++ loaded index ∷ [])))) command calls
 
   -- a word of the image that is loaded
@@ -223,7 +228,7 @@ module _ (change : Change) (law : IsPause change) (c : Config) (g : Graph) (s : 
       let k = control_at (StoreWord index) in
       let known = facts change law c g s past number k command calls follows shaken here in
       from_owes change law c g s past number k command calls follows shaken here (told_storing c s (StoreWord index) image)
-      (stored_owes change c s.words follows.block follows.ghost (after g past) past s.machines image index seen phase command calls known.ready follows.words known.aims.0 known.aims.1 follows.seats
+      (stored_owes change c s.words follows.block follows.ghost (after g past) past s.machines image index seen phase cset command calls known.ready follows.words known.aims.0 known.aims.1 follows.seats
       (shared_held change law c g s past number k command calls follows shaken here) follows.promised_to (control_held change law c g s past number k command calls follows shaken here)
       (known_held change law c g s past number k command calls follows shaken here))
 
@@ -234,7 +239,7 @@ module _ (change : Change) (law : IsPause change) (c : Config) (g : Graph) (s : 
       let ready = and_parts _ _ known.ready in
       let found : got (Scanning at) ≡ view c s.words (scans.touch_at c at).word = found-placed c s.words (scans.touch_at c at) (is_word_from c _ (scan_inside c at ready.0)) in
       subst (λ n. scan.IsFit c at n) (sym found)
-      (scanning_steps.fits c open_now (control_number c) at (is_off (scans.is_ended at) ready.1) (shared_held change law c g s past number (control_at (Scanning at)) command calls follows shaken here) known.facts)
+      (scanning_steps.fits c open_now (control_number c) at (is_off (scans.is_ended at) ready.1) (shared_held change law c g s past number (control_at (Scanning at)) command calls follows shaken here) known.facts.0)
 
   -- a step of a scan
   scan_word : (at : ScanSpot) → Here (Scanning at) → ControlGoal (Scanning at)
@@ -245,26 +250,52 @@ module _ (change : Change) (law : IsPause change) (c : Config) (g : Graph) (s : 
       (λ n. Owes c s.words (words_after c s.words (scans.touch_at c at)) open_now past (control_number c) s.machines
       (settled_by c (words_after c s.words (scans.touch_at c at)) (image_in (took_of change c (record { machine = controlling (control_at (Scanning at)); command = command; calls = calls }) Nothing n (controlling (control_at (Scanning at)))).machine)) []
       (took_of change c (record { machine = controlling (control_at (Scanning at)); command = command; calls = calls }) Nothing n (controlling (control_at (Scanning at))))) (sym found)
-      (pauses.scan_unit c s.words follows.block follows.ghost (after g past) past s.machines command calls change seen phase image follows.words shared follows.promised_to at (is_off (scans.is_ended at) ready.1) known))
+      (pauses.scan_unit c s.words follows.block follows.ghost (after g past) past s.machines command calls change seen phase cset image follows.words shared follows.promised_to at (is_off (scans.is_ended at) ready.1) known))
+
+  -- a word that it finds while it evacuates is fit
+  evac_found : (kept : ℕ) (at : EvacSpot) → Here (Evacuating kept at) → got (Evacuating kept at) ≡ view c s.words (evacs.touch_at c (control_number c) at).word
+  evac_found kept at here =
+      let known = control_held change law c g s past number (control_at (Evacuating kept at)) command calls follows shaken here in
+      found-placed c s.words (evacs.touch_at c (control_number c) at)
+      (is_word_from c _ (evacuating_steps.inside c open_now (control_number c) kept at (shared_held change law c g s past number (control_at (Evacuating kept at)) command calls follows shaken here) known.facts))
+
+  pub evac_fit : (kept : ℕ) (at : EvacSpot) → Here (Evacuating kept at) → evac.IsFit c (control_number c) kept at (got (Evacuating kept at))
+  evac_fit kept at here =
+      let known = control_held change law c g s past number (control_at (Evacuating kept at)) command calls follows shaken here in
+      let ready = and_parts _ _ known.ready in
+      subst (λ n. evac.IsFit c (control_number c) kept at n) (sym (evac_found kept at here))
+      (evacuating_steps.fits c open_now (control_number c) kept at (is_off (evacs.is_ended at) ready.1)
+      (shared_held change law c g s past number (control_at (Evacuating kept at)) command calls follows shaken here) known.facts)
+
+  -- a step of a unit of evacuation
+  evac_word : (kept : ℕ) (at : EvacSpot) → Here (Evacuating kept at) → ControlGoal (Evacuating kept at)
+  evac_word kept at here = quiet (Evacuating kept at) here refl refl (λ shared known.
+      let ready = and_parts _ _ known.ready in
+      subst
+      (λ n. Owes c s.words (words_after c s.words (evacs.touch_at c (control_number c) at)) open_now past (control_number c) s.machines
+      (settled_by c (words_after c s.words (evacs.touch_at c (control_number c) at)) (image_in (took_of change c (record { machine = controlling (control_at (Evacuating kept at)); command = command; calls = calls }) Nothing n (controlling (control_at (Evacuating kept at)))).machine)) []
+      (took_of change c (record { machine = controlling (control_at (Evacuating kept at)); command = command; calls = calls }) Nothing n (controlling (control_at (Evacuating kept at))))) (sym (evac_found kept at here))
+      (pauses.evac_unit c s.words follows.block follows.ghost (after g past) past s.machines command calls change seen phase cset image follows.words shared follows.promised_to kept at (is_off (evacs.is_ended at) ready.1) known))
 
   -- wherever it stands
   pub by_spot : (spot : ControlSpot) → is_gone spot ≡ false → Here spot → ControlGoal spot
   by_spot LookLeft going here = quiet LookLeft here refl refl (λ shared known.
-      pauses.look_left c s.words follows.block follows.ghost (after g past) past s.machines command calls change seen phase image follows.words shared follows.promised_to (got LookLeft) known)
+      pauses.look_left c s.words follows.block follows.ghost (after g past) past s.machines command calls change seen phase cset image follows.words shared follows.promised_to (got LookLeft) known)
   by_spot StoreEnd going here = quiet StoreEnd here refl refl (λ shared known.
-      pauses.store_end c s.words follows.block follows.ghost (after g past) past s.machines command calls change seen phase image follows.words shared follows.promised_to (got StoreEnd) known)
+      pauses.store_end c s.words follows.block follows.ghost (after g past) past s.machines command calls change seen phase cset image follows.words shared follows.promised_to (got StoreEnd) known)
   by_spot LookAsked going here = quiet LookAsked here refl refl (λ shared known.
-      pauses.look_asked c s.words follows.block follows.ghost (after g past) past s.machines command calls change seen phase image follows.words shared follows.promised_to (got LookAsked) known)
+      pauses.look_asked c s.words follows.block follows.ghost (after g past) past s.machines command calls change seen phase cset image follows.words shared follows.promised_to (got LookAsked) known)
   by_spot LookFree going here = quiet LookFree here refl refl (λ shared known.
-      pauses.look_free c s.words follows.block follows.ghost (after g past) past s.machines command calls change seen phase image follows.words shared follows.promised_to (got LookFree) known)
+      pauses.look_free c s.words follows.block follows.ghost (after g past) past s.machines command calls change seen phase cset image follows.words shared follows.promised_to (got LookFree) known)
   by_spot (Scanning at) going here = scan_word at here
+  by_spot (Evacuating kept at) going here = evac_word kept at here
   by_spot (Stopping stop.Raise) going here = quiet (Stopping stop.Raise) here refl refl (λ shared known.
-      pauses.raise_pause c s.words follows.block follows.ghost (after g past) past s.machines command calls change seen phase image follows.words shared follows.promised_to (got (Stopping stop.Raise)) known)
+      pauses.raise_pause c s.words follows.block follows.ghost (after g past) past s.machines command calls change seen phase cset image follows.words shared follows.promised_to (got (Stopping stop.Raise)) known)
   by_spot (Stopping (stop.Check seat)) going here = quiet (Stopping (stop.Check seat)) here refl refl (λ shared known.
-      pauses.check_seat c s.words follows.block follows.ghost (after g past) past s.machines command calls change seen phase image follows.words shared follows.promised_to seat (got (Stopping (stop.Check seat))) known)
+      pauses.check_seat c s.words follows.block follows.ghost (after g past) past s.machines command calls change seen phase cset image follows.words shared follows.promised_to seat (got (Stopping (stop.Check seat))) known)
   by_spot (Stopping stop.Stopped) going here = absurd (let ready = ready_at (Stopping stop.Stopped) here in cc (ready))
   by_spot (LoadWord index) going here = load_word index here
   by_spot (StoreWord index) going here = store_word index here
   by_spot Go going here = quiet Go here refl refl (λ shared known.
-      pauses.let_go c s.words follows.block follows.ghost (after g past) past s.machines command calls change seen phase image follows.words shared follows.promised_to (got Go) known)
+      pauses.let_go c s.words follows.block follows.ghost (after g past) past s.machines command calls change seen phase cset image follows.words shared follows.promised_to (got Go) known)
   by_spot Gone going here = absurd (cc (going))

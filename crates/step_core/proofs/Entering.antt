@@ -20,12 +20,13 @@ use Rattle.mutator.specs.Rows.{Mutating}
 use Rattle.mutator.specs.WaitRows.{after_enter}
 use Rattle.mutator.specs.Fit.{is_ready, is_outside}
 use Rattle.heap_world.specs.World.{World}
-use Rattle.heap_world.specs.Rely.{Keeps, RelyMarks}
+use Rattle.heap_world.specs.Rely.{Keeps, RelyCopies, RelyMarks}
 use Rattle.heap_world.proofs.Keeping.{rely_same, keeps_of}
 use Rattle.heap_world.proofs.Marked.{same_marks}
 use Rattle.step_core.specs.Stepped.{Mine, Row}
 use Rattle.step_core.proofs.Spots.{mutator_at}
-use Rattle.step_core.proofs.Marking.{marks_in, marking_relied}
+use Rattle.step_core.proofs.Marking.{marks_in, marking_relied, copies_in, copying_relied}
+use Rattle.heap_world.proofs.Copies.{same_copies}
 use Rattle.step_core.proofs.Stable.{root_stays, enter_stays, seated_stays}
 use Rattle.step_core.proofs.Loading.{looks}
 use Rattle.step_core.proofs.Ready.{ready_of, state_word}
@@ -38,8 +39,12 @@ state_world u seat value = record { memory = touched u.memory (touch (State seat
 pub state_marks : (c : Config) (u : World) (seat j value : ℕ) → RelyMarks c j u (state_world u seat value)
 state_marks c u seat j value = marks_in c u (state_world u seat value).memory u.graph j refl (λ n. refl) (λ t. refl) (λ t k. refl) (λ a. refl)
 
+-- nor is it one of evacuation
+state_copies : (c : Config) (u : World) (seat j value : ℕ) → RelyCopies c j u (state_world u seat value)
+state_copies c u seat j value = copies_in c u (state_world u seat value).memory u.graph j refl refl (λ r. refl) (λ a. refl)
+
 pub state_keeps : (c : Config) (u : World) (seat j value : ℕ) → Keeps c j u (state_world u seat value)
-state_keeps c u seat j value = let marks = state_marks c u seat j value in let kept = marks.keeps in search (arith, nat_tests, kept)
+state_keeps c u seat j value = let marks = state_marks c u seat j value in let kept = marks.keeps in let copies = state_copies c u seat j value in let kept_copies = copies.keeps in search (arith, nat_tests, kept, kept_copies)
 
 -- an entering that goes on stays one
 still_enters : (next : Entered) (at : EnterSpot) → is_outside at ≡ true → after_enter next at ≡ Entering at next
@@ -62,11 +67,12 @@ module _ (c : Config) (u : World) (seat made : ℕ) (kept : Kept) (command : Com
 
   module _ (before : EnterSpot) (next : Entered) (mine : Mine c u (at_spot (Entering before next)) command fixed) where
     -- what it counts on where it goes on entering
-    mine_at : (w : World) → Keeps c seat u w → RelyMarks c seat u w → w.block ≡ u.block → (at : EnterSpot) → is_outside at ≡ true → Mine c w (at_spot (after_enter next at)) command fixed
-    mine_at w keeps marks same at outside = subst (λ spot. Mine c w (at_spot spot) command fixed) (sym (still_enters next at outside)) (record {
+    mine_at : (w : World) → Keeps c seat u w → RelyMarks c seat u w → RelyCopies c seat u w → w.block ≡ u.block → (at : EnterSpot) → is_outside at ≡ true → Mine c w (at_spot (after_enter next at)) command fixed
+    mine_at w keeps marks copies same at outside = subst (λ spot. Mine c w (at_spot spot) command fixed) (sym (still_enters next at outside)) (record {
       seated = seated_stays c u w seat keeps made (is_waiting (Entering before next)) mine.seated;
       ready = enter_ready at next outside mine.seated.below;
       marking = marking_relied c u w seat None kept.phase false marks mine.marking;
+      copying = copying_relied c u w seat false kept.cset false copies mine.copying;
       roots = λ i below. rw (keeps.root_words i) (root_stays c u w seat keeps _ i (mine.roots i below));
       hands = λ a words is. mine.hands a words (ap (λ plot. plot a) (sym same) ∙ is);
       facts = enter_stays c u w seat keeps made kept.command command fixed next mine.facts;
@@ -74,16 +80,16 @@ module _ (c : Config) (u : World) (seat made : ℕ) (kept : Kept) (command : Com
 
     -- in the same world
     mine_on : (at : EnterSpot) → is_outside at ≡ true → Mine c u (at_spot (after_enter next at)) command fixed
-    mine_on = mine_at u (keeps_of c seat u u (rely_same c seat u)) (same_marks c u seat) refl
+    mine_on = mine_at u (keeps_of c seat u u (rely_same c seat u)) (same_marks c u seat) (same_copies c u seat) refl
 
     -- after a store into its state word
     mine_stored : (value : ℕ) (at : EnterSpot) → is_outside at ≡ true → Mine c (state_world u seat value) (at_spot (after_enter next at)) command fixed
-    mine_stored value = mine_at (state_world u seat value) (state_keeps c u seat seat value) (state_marks c u seat seat value) refl
+    mine_stored value = mine_at (state_world u seat value) (state_keeps c u seat seat value) (state_marks c u seat seat value) (state_copies c u seat seat value) refl
 
   -- and once it is inside: a call begins with the phase, and one that has waited has its answer
   mine_inside : (next : Entered) → Mine c u (at_spot (Entering Look next)) command fixed → Mine c u (at_spot (after_enter next Inside)) command fixed
-  mine_inside Call mine = record { seated = mine.seated; ready = refl; marking = mine.marking; roots = mine.roots; hands = mine.hands; facts = mine.facts }
-  mine_inside Waited mine = record { seated = mine.seated; ready = ready_of _ true (lt-ltb _ _ mine.seated.below) refl; marking = mine.marking; roots = mine.roots; hands = mine.hands; facts = mine.facts }
+  mine_inside Call mine = record { seated = mine.seated; ready = refl; marking = mine.marking; copying = mine.copying; roots = mine.roots; hands = mine.hands; facts = mine.facts }
+  mine_inside Waited mine = record { seated = mine.seated; ready = ready_of _ true (lt-ltb _ _ mine.seated.below) refl; marking = mine.marking; copying = mine.copying; roots = mine.roots; hands = mine.hands; facts = mine.facts }
 
   -- the steps of an entering
   pub at_enter : (at : EnterSpot) (next : Entered) → Row c u (at_spot (Entering at next)) command fixed
@@ -95,7 +101,7 @@ module _ (c : Config) (u : World) (seat made : ℕ) (kept : Kept) (command : Com
     settles = λ r e. cc;
     shared = shared;
     mine = mine_stored Raise next mine 1 Look refl;
-    others = λ j d. let marks = state_marks c u seat j 1 in search (arith, nat_tests, marks);
+    others = λ j d. let marks = state_marks c u seat j 1 in let copies = state_copies c u seat j 1 in search (arith, nat_tests, marks, copies);
   }
   at_enter Look next shared mine = looks c u (at_spot (Entering Look next)) Pause command fixed refl refl refl shared (by_pause (u.memory Pause == 0))
     where
@@ -110,7 +116,7 @@ module _ (c : Config) (u : World) (seat made : ℕ) (kept : Kept) (command : Com
     settles = λ r e. cc;
     shared = shared;
     mine = mine_stored Lower next mine 0 Await refl;
-    others = λ j d. let marks = state_marks c u seat j 0 in search (arith, nat_tests, marks);
+    others = λ j d. let marks = state_marks c u seat j 0 in let copies = state_copies c u seat j 0 in search (arith, nat_tests, marks, copies);
   }
   at_enter Await next shared mine = looks c u (at_spot (Entering Await next)) Pause command fixed refl refl refl shared (by_pause (u.memory Pause == 0))
     where
@@ -125,8 +131,9 @@ module _ (c : Config) (u : World) (seat made : ℕ) (kept : Kept) (command : Com
       looks c u (at_spot LoadPhase) Phase command fixed refl refl refl shared
       (record {
         seated = mine.seated;
-        ready = and_from _ _ refl (lt-ltb _ _ (let calm = shared.calm.phase_is in omega (arith, calm)));
+        ready = and_from _ _ refl (lt-ltb _ _ (let most = shared.phased.phase_is in omega (arith, most)));
         marking = record { records = mine.marking.records; scans = mine.marking.scans; phase_is = λ on. refl };
+        copying = mine.copying;
         roots = mine.roots;
         hands = mine.hands;
         facts = mine.facts;

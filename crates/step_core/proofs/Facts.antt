@@ -1,9 +1,9 @@
 -- What holds of the machines of a stage, and what an event owes.
-use Rattle.std.specs.Prelude.{ℕ, ◌≡◌, ◌≢◌, ◌+◌, ◌-◌, ◌*◌, ◌<◌, ◌≤◌, ◌==◌, ◌⊎◌, nat_le, true, List, ◌++◌, length, Option, Some, None, slice_get, slice_index, sum_by, if◌then◌else◌, All}
+use Rattle.std.specs.Prelude.{ℕ, ◌≡◌, ◌≢◌, ◌+◌, ◌-◌, ◌*◌, ◌<◌, ◌≤◌, ◌==◌, ◌⊎◌, nat_le, true, false, List, ◌++◌, length, Option, Some, None, slice_get, slice_index, sum_by, if◌then◌else◌, All}
 use Rattle.heap_words.specs.declared.config.Config.{Config}
 use Rattle.heap_words.specs.Encoding.{object_words}
 use Rattle.heap_words.specs.Ranges.{seat_count}
-use Rattle.heap_words.specs.Words.{Word, Phase, Answer, Heap, view, image_start, table_words}
+use Rattle.heap_words.specs.Words.{Word, Phase, Cset, Answer, Heap, view, image_start, table_words}
 use Rattle.packing.specs.Tops.{sum_below}
 use Rattle.steps_base.specs.Steps.{Stage}
 use Rattle.shen_graph.specs.declared.name.Name.{Name}
@@ -19,14 +19,16 @@ use Rattle.heap_world.specs.World.{Ghost, World, Plot, hand, promised, Shared}
 use Rattle.heap_world.specs.Change.{image_words}
 use Rattle.heap_world.specs.Roots.{HasNoMore}
 use Rattle.control_steps.specs.declared.spot.ControlSpot.{ControlSpot}
-use Rattle.control_steps.specs.declared.spot.ControlSpot.TheVariants.{Scanning, LoadWord, StoreWord}
+use Rattle.control_steps.specs.declared.spot.ControlSpot.TheVariants.{Scanning, Evacuating, LoadWord, StoreWord}
 use Rattle.control_steps.specs.Rows.{Controlling}
 use Rattle.control_steps.specs.Ready.{is_ready}
 use Rattle.helper.specs.declared.spot.HelpSpot.{HelpSpot}
 use Rattle.helper.specs.declared.spot.HelpSpot.TheVariants as help
 use Rattle.helper.specs.Rows.{Helping}
 use Rattle.helper.specs.Ready.{help_ready}
+use Rattle.scan_steps.specs.declared.spot.ScanSpot.{ScanSpot}
 use Rattle.mark_steps.specs.Scanning.{CanScan}
+use Rattle.evac_steps.specs.Evacuating.{CanEvacuate}
 use Rattle.step_core.specs.Actor.{Machine, mutating, helping, controlling, Actor, entries_of}
 use Rattle.step_core.specs.Threads.{IsSettled}
 use Rattle.step_core.specs.Stepped.{Mine}
@@ -60,21 +62,36 @@ pub record IsThread (c : Config) (words : List ℕ) (w : World) (entries : List 
   pub short : w.memory (Answer number) ≡ 1 → fixed ≡ None → IsShort c w.memory w.graph number (words_asked (Some a.command))
   pub entries_are : entries ≡ a.calls ++ entries_of number a.command fixed
 
--- What a helper counts on by where it stands: between the two loads it knows the phase, which is not 0, and in a unit it can go on;
--- elsewhere it scans nothing.
-abbrev pub HelpFacts : Config → World → ℕ → (phase : ℕ) → HelpSpot → Type 0
-HelpFacts c w seat phase (help.Scanning at) = CanScan c w seat at
-HelpFacts c w seat phase help.LoadSet = (w.ghost.scanning seat ≡ None) × (phase ≢ 0) × (phase ≡ w.memory Phase)
-HelpFacts c w seat phase _ = w.ghost.scanning seat ≡ None
+-- the machine of a seat has no room in hand, and neither marks nor copies, nor does it work on a unit
+pub record Rests (ghost : Ghost) (block : Plot) (seat : ℕ) : Type 0 where
+  pub records_none : ghost.recording seat ≡ None
+  pub scans_none : ghost.scanning seat ≡ None
+  pub copies_none : ghost.copying seat ≡ false
+  pub works_none : ghost.working seat ≡ None
+  pub hands : (a words : ℕ) → block a ≡ Some (hand seat words) → ⊥
 
--- what holds of a helper: it has its number as its seat, no room in hand, and can make its next access
+abbrev pub IsResting : World → ℕ → Type 0
+IsResting w seat = Rests w.ghost w.block seat
+
+-- it scans a unit of marking, and neither copies nor works on a unit of evacuation
+abbrev pub Scans : Config → World → ℕ → ScanSpot → Type 0
+Scans c w seat at = CanScan c w seat at × (w.ghost.copying seat ≡ false) × (w.ghost.working seat ≡ None)
+
+-- What a helper counts on by where it stands: between the two loads it knows the phase, which is not 0, and in a unit it can go on;
+-- elsewhere it rests.
+abbrev pub HelpFacts : Config → World → ℕ → HelpSpot → Type 0
+HelpFacts c w seat (help.Scanning at) = Scans c w seat at
+HelpFacts c w seat (help.Evacuating cset at) = CanEvacuate c w seat cset at
+HelpFacts c w seat (help.LoadSet phase) = IsResting w seat × (phase ≢ 0) × (phase ≡ w.memory Phase)
+HelpFacts c w seat _ = IsResting w seat
+
+-- what holds of a helper: it has its number as its seat, and can make its next access
 pub record IsHelper (c : Config) (w : World) (number : ℕ) (h : Helping) : Type 0 where
   pub number_is : h.seat ≡ number
   pub ready : help_ready c h ≡ true
-  pub facts : HelpFacts c w number h.phase h.spot
+  pub facts : HelpFacts c w number h.spot
   pub least : c.mutators ≤ number
   pub below : number < c.mutators + c.helpers
-  pub hands : (a words : ℕ) → w.block a ≡ Some (hand number words) → ⊥
 
 -- the first words of an image are those of the table
 abbrev pub AreRead : Config → List ℕ → List ℕ → ℕ → Type 0
@@ -86,17 +103,18 @@ IsAim c words (LoadWord index) image = (length image ≡ index) × AreRead c wor
 IsAim c words (StoreWord index) image = (length image ≡ image_words c) × AreRead c words image index
 IsAim c words _ image = Unit {0}
 
--- what the control counts on by where it stands: in a unit it can go on, and elsewhere it scans nothing
+-- what the control counts on by where it stands: in a unit it can go on, and elsewhere it rests
 abbrev pub ControlFacts : Config → World → ℕ → ControlSpot → Type 0
-ControlFacts c w number (Scanning at) = CanScan c w number at
-ControlFacts c w number _ = w.ghost.scanning number ≡ None
+ControlFacts c w number (Scanning at) = Scans c w number at
+ControlFacts c w number (Evacuating cset at) = CanEvacuate c w number cset at
+ControlFacts c w number _ = IsResting w number
 
--- what holds of the control: it knows the phase, has no room in hand, and can make its next access
+-- what holds of the control: it knows the phase and the collection set, and can make its next access
 pub record IsControl (c : Config) (words : List ℕ) (w : World) (number : ℕ) (k : Controlling) : Type 0 where
   pub number_is : number ≡ c.mutators + c.helpers
-  pub hands : (a words : ℕ) → w.block a ≡ Some (hand number words) → ⊥
   pub ready : is_ready c k.spot ≡ true
   pub phase_is : k.phase ≡ w.memory Phase
+  pub set_is : k.cset ≡ w.memory Cset
   pub facts : ControlFacts c w number k.spot
   pub aims : IsAim c words k.spot k.image
 

@@ -15,21 +15,22 @@ use Rattle.std.specs.Prelude.{List}
 use Rattle.steps_base.specs.Steps.{Event}
 use Rattle.shen_graph.specs.declared.order.Order.{Order}
 use Rattle.regions.specs.Place.{base_of}
-use Rattle.heap_words.specs.Words.{Word, same_word, Pause, State, Top, Tams, Root, Heap, Phase, Cset, Free, Evac, Current, Count, Buffer, Wait, Answer, Grey, Black, view}
+use Rattle.heap_words.specs.Words.{Word, same_word, Pause, State, Top, Tams, Root, Heap, Phase, Cset, Free, Evac, Claim, Current, Count, Buffer, Wait, Answer, Grey, Black, view}
 use Rattle.shen_graph.specs.declared.name.Name.{Name}
 use Rattle.shen_graph.specs.declared.command.Command.TheVariants.{Gc}
 use Rattle.shen_graph.specs.Graph.{Object, hub, same_name, blank}
 use Rattle.mutator.specs.Rows.{fresh_mutator}
 use Rattle.step_core.specs.Actor.{mutating, fresh_helper, fresh_control}
 use Rattle.step_core.specs.Opening.{opening_actor, opening, first_free}
-use Rattle.heap_world.specs.World.{World, Plot, Block, thing, hand, promised, filler, no_ghost, words_of, name_at, Points, IsInUse, IsPlotted, IsFilled, IsThing, IsGiven, AreObjects, IsFreeWord, Shared}
+use Rattle.heap_world.specs.World.{World, Plot, Block, thing, moved, spent, hand, promised, filler, no_ghost, words_of, name_at, Points, IsInUse, IsPlotted, IsFilled, IsThing, IsGiven, AreObjects, IsFreeWord, IsUsable, IsEvacuating, Shared}
 use Rattle.heap_world.specs.Asking.{nothing}
 use Rattle.heap_world.specs.Represents.{Represents}
 use Rattle.step_core.specs.Begins.{IsNew, IsCalmOutside, Begins, Run, first_graph}
 use Rattle.step_core.proofs.Roots.{no_more_opening}
 use Rattle.shen_graph.proofs.PlainLemmas.{same_name-true}
 use Rattle.heap_world.proofs.NewObject.{all_alike}
-use Rattle.heap_world.proofs.Keeping.{none_copies}
+use Rattle.heap_world.proofs.Keeping.{usable_now}
+use Rattle.heap_world.proofs.Copies.{none_evacuated}
 use Rattle.heap_world.proofs.Unmarked.{none_marked}
 use Rattle.step_core.proofs.OpeningStands.{rooted_memory, first_memory, view-opening, length-opening}
 
@@ -197,6 +198,31 @@ first_phase c = rooted_else c Phase (λ k. refl) c.mutators
 none_promised : (c : Config) (a seat words : ℕ) → first_block c a ≡ Some (promised seat words) → ⊥
 none_promised c a seat words is = let no = (block_only c a (promised seat words) is).1 in cc
 
+-- no copy is old
+none_moved : (c : Config) (a refs nums to : ℕ) (name : Name) → first_block c a ≡ Some (moved name refs nums to) → ⊥
+none_moved c a refs nums to name is = let no = (block_only c a (moved name refs nums to) is).1 in cc
+
+none_spent : (c : Config) (a words to : ℕ) → first_block c a ≡ Some (spent words to) → ⊥
+none_spent c a words to is = let no = (block_only c a (spent words to) is).1 in cc
+
+-- the collection set is empty, and nobody copies
+first_set : (c : Config) → first_memory c Cset ≡ 0
+first_set c = rooted_else c Cset (λ k. refl) c.mutators
+
+first_counter : (c : Config) → first_memory c Evac ≡ 0
+first_counter c = rooted_else c Evac (λ k. refl) c.mutators
+
+first_evacuated : (c : Config)
+    → IsEvacuating c (first_memory c Phase) (first_memory c Cset) (first_memory c Evac) (first_memory c Claim) (first_memory c Free) (λ r. first_memory c (Top r)) (λ r. first_memory c (Tams r)) (λ a. first_memory c (Heap a)) (λ n. first_memory c (Black n))
+    (first_block c) (λ r. None) (λ seat. false) (λ seat. None)
+first_evacuated c =
+    subst (λ set. IsEvacuating c (first_memory c Phase) set (first_memory c Evac) (first_memory c Claim) (first_memory c Free) (λ r. first_memory c (Top r)) (λ r. first_memory c (Tams r)) (λ a. first_memory c (Heap a)) (λ n. first_memory c (Black n))
+    (first_block c) (λ r. None) (λ seat. false) (λ seat. None)) (sym (first_set c))
+    (subst (λ evac. IsEvacuating c (first_memory c Phase) 0 evac (first_memory c Claim) (first_memory c Free) (λ r. first_memory c (Top r)) (λ r. first_memory c (Tams r)) (λ a. first_memory c (Heap a)) (λ n. first_memory c (Black n))
+    (first_block c) (λ r. None) (λ seat. false) (λ seat. None)) (sym (first_counter c))
+    (none_evacuated c (first_memory c Phase) (first_memory c Claim) (first_memory c Free) (λ r. first_memory c (Top r)) (λ r. first_memory c (Tams r)) (λ a. first_memory c (Heap a)) (λ n. first_memory c (Black n))
+    (first_block c) (λ r. None) (λ seat. false) (λ seat. None) (λ two. (let none = first_phase c in omega (arith, none, two))) (none_moved c) (none_spent c) (λ seat below. refl)))
+
 -- what machines share holds of the opening
 first_shared : (c : Config) → Shared c (first_world c)
 first_shared c = record {
@@ -205,6 +231,7 @@ first_shared c = record {
     filled = first_filled c;
     promises = λ a seat words is. absurd (none_promised c a seat words is);
     fillers = λ a words is. absurd (let no = (block_only c a (filler words) is).1 in cc);
+    spents = λ a words to is. absurd (none_spent c a words to is);
   };
   contents = record {
     objects = first_objects c;
@@ -220,11 +247,11 @@ first_shared c = record {
     };
     rooms = λ a seat words is. absurd (let no = (block_only c a (hand seat words) is).1 in cc);
   };
-  calm = record { phase_is = (let none = first_phase c in omega (arith, none)); cset_is = rooted_else c Cset (λ k. refl) c.mutators; evac_is = rooted_else c Evac (λ k. refl) c.mutators };
-  uncopied = none_copies;
-  unwritten = record { blanks = λ a seat words is. absurd (none_promised c a seat words is); headers = λ a words is. absurd (let no = (block_only c a (filler words) is).1 in cc) };
+  phased = record { phase_is = (let none = first_phase c in omega (arith, none)); cset_is = λ other. rooted_else c Cset (λ k. refl) c.mutators; evac_is = λ other. rooted_else c Evac (λ k. refl) c.mutators };
+  unwritten = record { blanks = λ a seat words is. absurd (none_promised c a seat words is); headers = λ a words is. absurd (let no = (block_only c a (filler words) is).1 in cc); lengths = λ a words is. absurd (let no = (block_only c a (filler words) is).1 in cc) };
   marked = none_marked c (first_memory c Phase) (λ n. first_memory c (Grey n)) (λ n. first_memory c (Black n)) (λ t. first_memory c (Count t)) (λ t k. first_memory c (Buffer t k)) (λ r. first_memory c (Top r))
       (λ r. first_memory c (Tams r)) (λ a. first_memory c (Heap a)) (first_block c) (λ seat. None) (λ seat. None) (first_phase c);
+  evacuated = first_evacuated c;
 }
 
 -- the words of the roots stand for the graph's
@@ -251,11 +278,13 @@ first_stands c = record {
   ghost = no_ghost;
   shared = first_shared c;
   roots = λ t i below small. first_roots c t i below;
+  usable = λ t i below small. subst (λ set. IsUsable c set (first_memory c Evac) (first_block c) (first_memory c (Root t i))) (sym (first_set c)) (usable_now c (first_memory c Evac) (first_block c) (none_moved c) _ _ (first_roots c t i below));
   none = λ a seat words is. (let no = (block_only c a (hand seat words) is).1 in cc);
   asked = λ t below. (rooted_else c (Wait t) (λ k. refl) c.mutators, rooted_else c (Answer t) (λ k. refl) c.mutators, λ a words is. none_promised c a t words is);
   heard = λ t refs nums below is. absurd (cc (is));
   promised_to = λ a seat words is. absurd (none_promised c a seat words is);
-  unmarking = record { records_none = λ t below. refl; scans_none = λ seat below. refl };
+  unmarking = record { records_none = λ seat below. refl; scans_none = λ seat below. refl };
+  uncopying = record { copies_none = λ seat below. refl; works_none = λ seat below. refl };
   no_more = no_more_opening c.mutators;
 }
 
@@ -268,14 +297,14 @@ first_outside c = record {
 }
 
 -- each machine of the opening is idle
-first_new : (c : Config) (k : ℕ) → k < seat_count c.mutators c.helpers → IsNew c 0 (first_graph c) k (opening_actor c k)
+first_new : (c : Config) (k : ℕ) → k < seat_count c.mutators c.helpers → IsNew c 0 0 (first_graph c) k (opening_actor c k)
 first_new c k within = by_test (nat_lt k c.mutators) (nat_lt k (c.mutators + c.helpers)) refl refl
   where
     by_test : (b d : Bool) → nat_lt k c.mutators ≡ b → nat_lt k (c.mutators + c.helpers) ≡ d
-        → IsNew c 0 (first_graph c) k (record { machine = if b then mutating (fresh_mutator k) else (if d then fresh_helper k else fresh_control (first_free c.regions)); command = Gc; calls = [] })
+        → IsNew c 0 0 (first_graph c) k (record { machine = if b then mutating (fresh_mutator k) else (if d then fresh_helper k else fresh_control (first_free c.regions)); command = Gc; calls = [] })
     by_test true d is more = record { number_is = (refl, ltb-true _ _ is); idle = (refl, refl); calls = refl; valid = refl }
     by_test false true is more = record { number_is = (refl, ltb-false _ _ is, ltb-true _ _ more); idle = refl; calls = refl; valid = refl }
-    by_test false false is more = record { number_is = (let past = ltb-false _ _ more in omega (arith, past, within)); idle = (refl, refl, refl); calls = refl; valid = refl }
+    by_test false false is more = record { number_is = (let past = ltb-false _ _ more in omega (arith, past, within)); idle = (refl, refl, refl, refl); calls = refl; valid = refl }
 
 -- the opening begins its graph
 pub opening_begins : (c : Config) → Begins c (opening c) (first_graph c)
@@ -292,8 +321,9 @@ opening_begins c = record {
       let is : opening_actor c k ≡ a =
       sym (get_or-map-range_with_len (opening_actor c) 0 (seat_count c.mutators c.helpers) k k a below (omega arith))
       ∙ get_or_from_slice_get (opening c).machines k a a there in
-      subst (λ b. IsNew c (view c (opening c).words Phase) (first_graph c) k b) is
-      (subst (λ phase. IsNew c phase (first_graph c) k (opening_actor c k)) (sym (ap (λ m. m Phase) (view-opening c) ∙ first_phase c)) (first_new c k below));
+      subst (λ b. IsNew c (view c (opening c).words Phase) (view c (opening c).words Cset) (first_graph c) k b) is
+      (subst (λ phase. IsNew c phase (view c (opening c).words Cset) (first_graph c) k (opening_actor c k)) (sym (ap (λ m. m Phase) (view-opening c) ∙ first_phase c))
+      (subst (λ set. IsNew c 0 set (first_graph c) k (opening_actor c k)) (sym (ap (λ m. m Cset) (view-opening c) ∙ first_set c)) (first_new c k below)));
 }
 
 -- a run from the opening

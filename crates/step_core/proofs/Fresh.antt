@@ -4,7 +4,7 @@ use Rattle.std.specs.Prelude.{◌==◌, nat_lt, if◌then◌else◌}
 use Rattle.std.proofs.lemmas.Bool.{cases_eq, cond-true, cond-false, eq-eqb, ne_eqb, ltb-true, ltb-false}
 use Rattle.heap_words.specs.declared.config.Config.{Config}
 use Rattle.heap_words.specs.Encoding.{fresh_word}
-use Rattle.heap_words.specs.Words.{Phase, Top, Tams, Count, Buffer, Grey, Black, Heap}
+use Rattle.heap_words.specs.Words.{Phase, Cset, Evac, Claim, Free, Top, Tams, Count, Buffer, Grey, Black, Heap}
 use Rattle.shen_graph.specs.declared.command.Command.{Command}
 use Rattle.shen_graph.specs.declared.command.Reply.{Reply}
 use Rattle.mutator.specs.declared.spot.Spot.{Spot}
@@ -13,16 +13,20 @@ use Rattle.mutator.specs.declared.makes.MakeSpot.TheVariants as make
 use Rattle.mutator.specs.declared.spot.Kept.{Kept}
 use Rattle.mutator.specs.Commands.{dst_of, refs_of, nums_of}
 use Rattle.mutator.specs.Rows.{Mutating}
-use Rattle.heap_world.specs.World.{World, Block, thing, hand, promised, filler, words_of, IsMarkable, Shared}
+use Rattle.heap_world.specs.World.{World, Block, thing, moved, spent, hand, promised, filler, words_of, Body, body_at, IsMarkable, Shared}
 use Rattle.step_core.specs.Stepped.{IsFilling, Mine, Row}
 use Rattle.heap_world.specs.Rely.{Rely}
 use Rattle.step_core.proofs.Spots.{mutator_at, accessed}
 use Rattle.step_core.proofs.Ready.{leaving, word_ready, fresh_ready}
 use Rattle.step_core.proofs.FreshRoot.{usable_made, HasNew, made_world, made_reply, hand_before, promise_before, roots_made, count_made, legal_made, graph_made, shared_made, others_made}
 use Rattle.heap_world.proofs.Apart.{far}
+use Rattle.heap_world.proofs.Copies.{same_plot, rely_copies}
+use Rattle.heap_world.proofs.Evacuated.{evacuated_words}
+use Rattle.copy_steps.proofs.Bodies.{room_outside}
+use Rattle.heap_world.proofs.Pointing.{body_piece}
 use Rattle.heap_world.proofs.Marked.{rely_marks, marked_elsewhere}
 use Rattle.heap_world.proofs.Unwritten.{unwritten_stays}
-use Rattle.std.proofs.lemmas.Option.{same_Some}
+use Rattle.std.proofs.lemmas.Option.{same_Some, none-some}
 use Rattle.heap_world.proofs.Pieces.{object_reads}
 
 module _ (c : Config) (u : World) (seat made : ℕ) (kept : Kept) (command : Command) (fixed : Option Reply) where
@@ -57,6 +61,12 @@ module _ (c : Config) (u : World) (seat made : ℕ) (kept : Kept) (command : Com
     not_room : (a : ℕ) (b : Block) → u.block a ≡ Some b → (hand seat (3 + refs + nums) ≡ b → ⊥) → a ≢ address
     not_room a b is differs same = differs (same_Some (hand seat (3 + refs + nums)) b (sym mine.facts.1.room ∙ ap u.block (sym same) ∙ is))
 
+    -- its first word stays
+    head_stays : (a : ℕ) (b : Block) → u.block a ≡ Some b → (hand seat (3 + refs + nums) ≡ b → ⊥) → 0 < words_of b → stored_world.memory (Heap a) ≡ u.memory (Heap a)
+    head_stays a b is differs some =
+        let header : a + 0 ≡ a = omega arith in
+        ap (λ x. stored_world.memory (Heap x)) (sym header) ∙ else_stays a 0 b is (not_room a b is differs) some ∙ ap (λ x. u.memory (Heap x)) header
+
     -- machines share what they shared
     shared_stored : Shared c stored_world
     shared_stored = record {
@@ -73,16 +83,13 @@ module _ (c : Config) (u : World) (seat made : ℕ) (kept : Kept) (command : Com
         given = shared.contents.given;
       };
       owned = shared.owned;
-      calm = shared.calm;
-      uncopied = shared.uncopied;
+      phased = shared.phased;
       unwritten = unwritten_stays (λ a. u.memory (Heap a)) (λ a. stored_world.memory (Heap a)) u.block u.block
           (λ a seat_then words is. (is, λ k below. else_stays a k (promised seat_then words) is (not_room a (promised seat_then words) is (λ differ. cc)) below))
           (λ a words is. (
             is,
-            let header : a + 0 ≡ a = omega arith in
-                ap (λ b. stored_world.memory (Heap b)) (sym header)
-                ∙ else_stays a 0 (filler words) is (not_room a (filler words) is (λ differ. cc)) (let long = shared.parsable.fillers a words is in omega (arith, long))
-                ∙ ap (λ b. u.memory (Heap b)) header,
+            head_stays a (filler words) is (λ differ. cc) (let long = shared.parsable.fillers a words is in omega (arith, long)),
+            else_stays a 1 (filler words) is (not_room a (filler words) is (λ differ. cc)) (let long = shared.parsable.fillers a words is in omega (arith, long)),
           ))
           shared.unwritten;
       marked = marked_elsewhere c (u.memory Phase) (λ n. u.memory (Grey n)) (λ n. u.memory (Black n)) (λ t. u.memory (Count t)) (λ t k. u.memory (Buffer t k)) (λ r. u.memory (Top r)) (λ r. u.memory (Tams r))
@@ -92,6 +99,17 @@ module _ (c : Config) (u : World) (seat made : ℕ) (kept : Kept) (command : Com
           ap (λ b. stored_world.memory (Heap b)) (sym there)
           ∙ else_stays a (3 + k) (thing n more_refs more_nums) is (not_room a (thing n more_refs more_nums) is (λ differ. cc)) (omega (arith, below))
           ∙ ap (λ b. u.memory (Heap b)) there);
+      evacuated = evacuated_words c (u.memory Phase) (u.memory Cset) (u.memory Evac) (u.memory Claim) (u.memory Free) (λ r. u.memory (Top r)) (λ r. u.memory (Tams r)) (λ a. u.memory (Heap a)) (λ n. u.memory (Black n))
+          u.block u.ghost.owner u.ghost.copying u.ghost.working shared.evacuated (λ a. stored_world.memory (Heap a))
+          (λ a more_refs more_nums to n is. (
+            head_stays a (moved n more_refs more_nums to) is (λ differ. cc) (omega arith),
+            else_stays a 1 (moved n more_refs more_nums to) is (not_room a (moved n more_refs more_nums to) is (λ differ. cc)) (omega arith),
+            else_stays a 2 (moved n more_refs more_nums to) is (not_room a (moved n more_refs more_nums to) is (λ differ. cc)) (omega arith),
+          ))
+          (λ a words to is. let long = shared.parsable.spents a words to is in (
+            head_stays a (spent words to) is (λ differ. cc) (omega (arith, long)),
+            else_stays a 1 (spent words to) is (not_room a (spent words to) is (λ differ. cc)) (omega (arith, long)),
+          ));
     }
 
     -- one word more of the new object stands in the room
@@ -116,6 +134,7 @@ module _ (c : Config) (u : World) (seat made : ℕ) (kept : Kept) (command : Com
       seated = mine.seated;
       ready = word_ready c seat made kept command fixed mine.facts.0 (λ r. u.memory (Top r)) u.block shared.parsable.plotted address mine.facts.1.room mine.seated.below (done + 1) (ltb-true _ _ more);
       marking = mine.marking;
+      copying = mine.copying;
       roots = mine.roots;
       hands = mine.hands;
       facts = (mine.facts.0, filling, ltb-true _ _ more);
@@ -124,6 +143,7 @@ module _ (c : Config) (u : World) (seat made : ℕ) (kept : Kept) (command : Com
       seated = mine.seated;
       ready = fresh_ready c seat made kept command fixed mine.facts.0 (λ r. u.memory (Top r)) u.block shared.parsable.plotted address mine.facts.1.room mine.seated.below;
       marking = mine.marking;
+      copying = mine.copying;
       roots = mine.roots;
       hands = mine.hands;
       facts = (
@@ -138,11 +158,15 @@ module _ (c : Config) (u : World) (seat made : ℕ) (kept : Kept) (command : Com
     shape_stays a (IsMarkable.to_come other words is) =
         else_stays a 1 (promised other words) is (not_room a (promised other words) is (λ differ. cc)) (let long = shared.parsable.promises a other words is in omega (arith, long))
 
+    -- room in hand is no copy of an object
+    not_body : (a : ℕ) (b : Body) (x : Block) → body_at (u.block a) ≡ Some b → u.block a ≡ Some x → hand seat (3 + refs + nums) ≡ x → ⊥
+    not_body a b x is there same = none-some b (ap (λ (y : Block). body_at (Some y)) same ∙ ap body_at (sym there) ∙ is)
+
     -- others can rely on what they knew
     others_stored : (j : ℕ) → j ≢ seat → Rely c j u stored_world
     others_stored j differs = record {
       names = λ a n is. is;
-      targets = λ a more_refs more_nums n has. record { piece = has.piece };
+      targets = λ a more_refs more_nums n has. record { piece = has.piece; safe = has.safe };
       hands = λ a words is. is;
       no_hands = λ a words is. is;
       hand_words = λ a words k is below.
@@ -162,9 +186,12 @@ module _ (c : Config) (u : World) (seat made : ℕ) (kept : Kept) (command : Com
       wait = refl;
       answer = refl;
       state = refl;
-      cset = refl;
       asked = λ is. is;
       marks = rely_marks c u stored_world j refl (λ n. refl) (λ t. refl) (λ t k. refl) refl (λ t. refl) refl (λ a is. is) shape_stays;
+      copies = rely_copies c u stored_world j (same_plot c u stored_world refl refl refl (λ r is. refl)) refl refl
+          (λ a k b seated copies inside is from below.
+          let piece = body_piece (u.block a) b is in
+          else_stays a k piece.0 piece.1 (not_room a piece.0 piece.1 (λ same. not_body a b piece.0 is piece.1 same)) (let long = piece.2 in omega (arith, below, long)));
     }
 
   -- the step that stores a word of a new object
@@ -193,6 +220,8 @@ module _ (c : Config) (u : World) (seat made : ℕ) (kept : Kept) (command : Com
       long = refl;
       own = record { no_hand = λ j words differs same. (let seats : j ≡ seat = cc in differs seats); no_promise = λ j words differs same. cc };
       known = λ on. inr (shared.marked.young on address seat (3 + refs + nums) mine.facts.1.room);
+      outside = room_outside c u shared address seat (3 + refs + nums) mine.facts.1.room;
+      kept = λ on. inr (shared.evacuated.kept.young on address seat (3 + refs + nums) mine.facts.1.room);
       stored = mine.facts.1.stored;
       shared = shared;
     }
@@ -202,7 +231,7 @@ module _ (c : Config) (u : World) (seat made : ℕ) (kept : Kept) (command : Com
     mine_made =
         leaving c (made_world has) seat (made + 1) kept command (made_reply has)
         (record { below = mine.seated.below; counted = count_made has; usable = usable_made has mine.seated.usable; unasked = λ calm. let was = mine.seated.unasked calm in (was.0, was.1, λ a words is. was.2 a words (promise_before has a seat words is).1) })
-        (mine.marking.records, mine.marking.scans)
+        (mine.marking.records, mine.marking.scans, mine.copying.copies_is, mine.copying.works_none)
         (roots_made has mine.roots)
         (λ a words is. let old = hand_before has a seat words is in old.0 (mine.hands a words old.1).0)
 

@@ -5,7 +5,7 @@ use Rattle.std.specs.Prelude.{◌==◌, ◌&&◌}
 use Rattle.std.proofs.lemmas.Bool.{cond-false, ne_eqb, and_left}
 use Rattle.heap_words.specs.declared.config.Config.{Config}
 use Rattle.heap_words.specs.Encoding.{fresh_word}
-use Rattle.heap_words.specs.Words.{Free, Phase, Root, Top, Tams, Heap, Current, Count, Buffer, Grey, Black}
+use Rattle.heap_words.specs.Words.{Free, Claim, Cset, Evac, Phase, Root, Top, Tams, Heap, Current, Count, Buffer, Grey, Black}
 use Rattle.steps_base.specs.Touch.{touch, stores, touched}
 use Rattle.shen_graph.specs.declared.name.Name.{Name}
 use Rattle.shen_graph.specs.declared.command.Command.{Command}
@@ -15,12 +15,15 @@ use Rattle.shen_graph.specs.Graph.{Object, blank, fresh, with_root, with_fresh}
 use Rattle.shen_graph.specs.Step.{outcome}
 use Rattle.mutator.specs.Commands.{dst_of, refs_of, nums_of}
 use Rattle.mutator.specs.WaitRows.{next_name}
-use Rattle.heap_world.specs.World.{World, Block, thing, hand, promised, words_of, name_at, Points, Target, IsUsable, IsThing, IsGiven, IsYoung, Shared}
+use Rattle.heap_world.specs.World.{World, Block, thing, moved, hand, promised, words_of, name_at, Points, IsCollected, TargetIn, UsableIn, IsThing, IsGiven, IsYoung, Shared}
 use Rattle.heap_world.specs.Rely.{Rely}
-use Rattle.heap_world.proofs.Updates.{updated, updated_there}
+use Rattle.heap_world.proofs.Updates.{updated, updated_there, updated_else}
 use Rattle.heap_world.proofs.Keeping.{points_stay, usable_stays}
+use Rattle.mark_bits.specs.Marks.{HasMark}
+use Rattle.std.proofs.lemmas.Option.{none-some}
+use Rattle.heap_world.proofs.Copies.{CopiesStay, rely_copies}
 use Rattle.heap_world.proofs.Marked.{rely_marks}
-use Rattle.heap_world.proofs.NewObject.{new_object, stays, names_stay, things_stay, old_hand, old_promise, parsable_again, objects_again, owned_again, unwritten_again, markable_again, marking_again, given_again, with_count, count_own}
+use Rattle.heap_world.proofs.NewObject.{new_object, stays, names_stay, things_stay, old_hand, old_promise, parsable_again, objects_again, owned_again, unwritten_again, markable_again, marking_again, evacuating_again, given_again, with_count, count_own}
 use Rattle.step_core.specs.Stepped.{IsMaking, LegalBy, graph_by}
 use Rattle.step_core.proofs.Settling.{legal_answer, graph_answer}
 use Rattle.heap_world.proofs.RootChanges.{roots_written, usable_written}
@@ -42,6 +45,8 @@ pub record HasNew (c : Config) (u : World) (seat made : ℕ) (command k : Comman
   pub long : words_of piece ≡ 3 + refs_of k + nums_of k
   pub own : IsOwn seat piece
   pub known : u.memory Phase ≡ 1 → (u.ghost.snapshot.starts address ≡ true) ⊎ IsYoung c u.ghost.snapshot.top address
+  pub outside : IsCollected c (u.memory Cset) address → ⊥
+  pub kept : u.memory Phase ≡ 2 → HasMark c (λ n. u.memory (Black n)) address ⊎ IsYoung c (λ r. u.memory (Tams r)) address
   pub stored : (i : ℕ) → i < 3 + refs_of k + nums_of k → u.memory (Heap (address + i)) ≡ fresh_word seat made (refs_of k) (nums_of k) i
   pub shared : Shared c u
 
@@ -76,9 +81,9 @@ module _ {c : Config} {u : World} {seat made : ℕ} {command k : Command} {fixed
   names = names_stay c top u.block address refs nums name has.piece has.unnamed has.long has.here
 
   -- each object stands where it stood
-  targets : (a more_refs more_nums : ℕ) (n : Name) → Target u.block a more_refs more_nums n → Target made_world.block a more_refs more_nums n
+  targets : (a more_refs more_nums : ℕ) (n : Name) → TargetIn c u a more_refs more_nums n → TargetIn c made_world a more_refs more_nums n
   targets a more_refs more_nums n there =
-      record { piece = things_stay c top u.block address refs nums name has.piece has.unnamed has.long has.here a more_refs more_nums n there.piece }
+      record { piece = things_stay c top u.block address refs nums name has.piece has.unnamed has.long has.here a more_refs more_nums n there.piece; safe = there.safe }
 
   -- the thread's fresh name is the one that the mutator writes
   name_is : name ≡ next_name seat made
@@ -112,11 +117,12 @@ module _ {c : Config} {u : World} {seat made : ℕ} {command k : Command} {fixed
       given = given_again c u.graph.count u.graph.object name (blank refs nums) has.shared.contents.given is_given;
     };
     owned = owned_again c top u.block address refs nums name has.piece has.unnamed has.long has.here (u.memory Free) (λ s. u.memory (Current s)) u.ghost.owner has.shared.owned;
-    calm = has.shared.calm;
-    uncopied = has.shared.uncopied;
+    phased = has.shared.phased;
     unwritten = unwritten_again c top u.block address refs nums name has.piece has.unnamed has.long has.here (λ a. u.memory (Heap a)) has.shared.unwritten;
     marked = marking_again c top u.block address refs nums name has.piece has.unnamed has.long has.here (u.memory Phase) (λ n. u.memory (Grey n)) (λ n. u.memory (Black n)) (λ t. u.memory (Count t)) (λ t i. u.memory (Buffer t i))
         (λ r. u.memory (Tams r)) (λ a. u.memory (Heap a)) u.ghost.snapshot u.ghost.recording u.ghost.scanning has.known has.shared.marked;
+    evacuated = evacuating_again c top u.block address refs nums name has.piece has.unnamed has.long has.here (u.memory Phase) (u.memory Cset) (u.memory Evac) (u.memory Claim) (u.memory Free) (λ r. u.memory (Tams r))
+        (λ a. u.memory (Heap a)) (λ n. u.memory (Black n)) u.ghost.owner u.ghost.copying u.ghost.working has.outside has.kept has.shared.evacuated;
   }
 
   -- room in hand was in hand before, elsewhere
@@ -136,11 +142,11 @@ module _ {c : Config} {u : World} {seat made : ℕ} {command k : Command} {fixed
       (ap name_at (updated_there u.block address (Some (thing name refs nums))))
 
   -- and may be used
-  pub usable_made : ((i : ℕ) → i < 16 → IsUsable u.block (u.memory (Root seat i))) → (i : ℕ) → i < 16 → IsUsable made_world.block (made_world.memory (Root seat i))
+  pub usable_made : ((i : ℕ) → i < 16 → UsableIn c u (u.memory (Root seat i))) → (i : ℕ) → i < 16 → UsableIn c made_world (made_world.memory (Root seat i))
   usable_made usable =
-      usable_written made_world.block u.memory seat (dst_of k) address
-      (λ i below. usable_stays u made_world targets (u.memory (Root seat i)) (usable i below))
-      (inr (name, refs, nums, record { piece = updated_there u.block address (Some (thing name refs nums)) }))
+      usable_written c (u.memory Cset) (u.memory Evac) made_world.block u.memory seat (dst_of k) address
+      (λ i below. usable_stays c u made_world targets (u.memory (Root seat i)) (usable i below))
+      (inr (name, refs, nums, record { piece = updated_there u.block address (Some (thing name refs nums)); safe = λ inside. absurd (has.outside inside) }))
 
   -- it has made one object more
   pub count_made : made_world.graph.count (seat + 1) ≡ made + 1
@@ -157,6 +163,23 @@ module _ {c : Config} {u : World} {seat made : ℕ} {command k : Command} {fixed
   -- and it leads to the graph with the new object
   pub graph_made : made_world.graph ≡ graph_by u.graph seat command (Some made_reply)
   graph_made = sym (graph_answer u.graph seat command made_reply refl ∙ ap (λ x. (outcome u.graph (seat + 1) x).graph) has.making.is)
+
+  -- a piece of the collection set is another, and stays
+  not_here : (a : ℕ) → IsCollected c (u.memory Cset) a → a ≢ address
+  not_here a inside same = has.outside (subst (λ b. IsCollected c (u.memory Cset) b) same inside)
+
+  copies_stay : CopiesStay c u made_world
+  copies_stay = record {
+    cset = refl;
+    evac = refl;
+    things = things_stay c top u.block address refs nums name has.piece has.unnamed has.long has.here;
+    moveds = λ a more_refs more_nums to n is. stays c top u.block address refs nums name has.piece has.unnamed has.long has.here a (moved n more_refs more_nums to) is
+        (λ same. none-some n (sym has.unnamed ∙ ap (λ b. name_at (Some b)) same));
+    spents = λ a words to is. updated_else u.block address (Some (thing name refs nums)) a (λ e. not_here a (has.shared.evacuated.moved.spents a words to is).inside (sym e)) ∙ is;
+    pieces = λ a x inside is. (x, updated_else u.block address (Some (thing name refs nums)) a (λ e. not_here a inside (sym e)) ∙ is, refl);
+    no_new = λ a more_refs more_nums n inside is. sym (updated_else u.block address (Some (thing name refs nums)) a (λ e. not_here a inside (sym e))) ∙ is;
+    tops = λ r is. refl;
+  }
 
   -- others can rely on what they knew
   pub others_made : (j : ℕ) → j ≢ seat → Rely c j u made_world
@@ -178,7 +201,7 @@ module _ {c : Config} {u : World} {seat made : ℕ} {command k : Command} {fixed
     wait = refl;
     answer = refl;
     state = refl;
-    cset = refl;
     asked = λ is. is;
     marks = rely_marks c u made_world j refl (λ n. refl) (λ t. refl) (λ t i. refl) refl (λ t. refl) refl (markable_again c top u.block address refs nums name has.piece has.unnamed has.long has.here) (λ a is. refl);
+    copies = rely_copies c u made_world j copies_stay refl refl (λ a i b seated copies inside is from below. refl);
   }

@@ -19,7 +19,7 @@ use Rattle.handshake.specs.declared.enter_spot.EnterSpot.TheVariants.{Inside}
 use Rattle.handshake.specs.Rows.{enter_next}
 use Rattle.handshake.specs.Standing.{inside}
 use Rattle.mutator.specs.declared.spot.Spot.{Spot}
-use Rattle.mutator.specs.declared.spot.Spot.TheVariants.{Rest, Ended, Entering, LoadPhase, LoadSet, Loading, OnField, Recording, OnNumber, Showing, StoreRoot, Making, AskCycle, Waiting, Leave, Gone}
+use Rattle.mutator.specs.declared.spot.Spot.TheVariants.{Rest, Ended, Entering, LoadPhase, LoadSet, Loading, OnField, Resolving, Recording, OnNumber, Showing, StoreRoot, Making, AskCycle, Waiting, Leave, Gone}
 use Rattle.mutator.specs.declared.spot.Entered.{Entered}
 use Rattle.mutator.specs.declared.spot.Entered.TheVariants.{Call, Waited}
 use Rattle.mutator.specs.declared.waits.WaitSpot.{WaitSpot}
@@ -110,6 +110,7 @@ module _ (c : Config) (m : Mutating) (order : Order) (got : ℕ) (command : Comm
   grows_at LoadSet takes = call_grows LoadSet refl takes (stays_in_call LoadSet refl)
   grows_at (Loading at) takes = call_grows (Loading at) refl takes (stays_in_call (Loading at) refl)
   grows_at (OnField object at) takes = call_grows (OnField object at) refl takes (stays_in_call (OnField object at) refl)
+  grows_at (Resolving address at next) takes = call_grows (Resolving address at next) refl takes (stays_in_call (Resolving address at next) refl)
   grows_at (Recording at address next) takes = call_grows (Recording at address next) refl takes (stays_in_call (Recording at address next) refl)
   grows_at (OnNumber object refs at) takes = call_grows (OnNumber object refs at) refl takes (stays_in_call (OnNumber object refs at) refl)
   grows_at (Showing value at) takes = call_grows (Showing value at) refl takes (stays_in_call (Showing value at) refl)

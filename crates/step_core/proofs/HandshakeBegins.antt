@@ -1,7 +1,7 @@
 -- The handshake and the count where runs begin.
 use Rattle.std.proofs.Common.{◌≡◌, ℕ, ◌<◌, ◌≤◌, true, false, refl, ap, arith}
 use Rattle.heap_words.specs.declared.config.Config.{Config}
-use Rattle.heap_words.specs.Words.{Phase, view}
+use Rattle.heap_words.specs.Words.{Phase, Cset, view}
 use Rattle.steps_base.specs.Steps.{Stage}
 use Rattle.shen_graph.specs.Graph.{Graph}
 use Rattle.handshake.specs.Standing.{outside, idle, control_seat}
@@ -29,21 +29,21 @@ rests_left (Ended reply) takes = refl
 rests_left _ takes = absurd (cc (takes))
 
 -- an idle machine of a seat is outside, and the control's is idle
-idle_outside : (c : Config) (phase : ℕ) (g : Graph) (number : ℕ) (machine : Machine) → HasNumber c number machine → IsIdle phase g number machine → number < control_seat c → standing_of machine ≡ outside
-idle_outside c phase g number (mutating m) has is below = rests_outside m.spot is.1
-idle_outside c phase g number (helping h) has is below = ap help_standing is
-idle_outside c phase g number (controlling k) has is below = absurd (omega (arith, has, below))
+idle_outside : (c : Config) (phase cset : ℕ) (g : Graph) (number : ℕ) (machine : Machine) → HasNumber c number machine → IsIdle phase cset g number machine → number < control_seat c → standing_of machine ≡ outside
+idle_outside c phase cset g number (mutating m) has is below = rests_outside m.spot is.1
+idle_outside c phase cset g number (helping h) has is below = ap help_standing is
+idle_outside c phase cset g number (controlling k) has is below = absurd (omega (arith, has, below))
 
-control_idle : (c : Config) (phase : ℕ) (g : Graph) (number : ℕ) (machine : Machine) → HasNumber c number machine → IsIdle phase g number machine → number ≡ control_seat c → standing_of machine ≡ idle
-control_idle c phase g number (mutating m) has is e = absurd (omega (arith, has.1, e))
-control_idle c phase g number (helping h) has is e = absurd (omega (arith, has.2, e))
-control_idle c phase g number (controlling k) has is e = ap control_standing is.0
+control_idle : (c : Config) (phase cset : ℕ) (g : Graph) (number : ℕ) (machine : Machine) → HasNumber c number machine → IsIdle phase cset g number machine → number ≡ control_seat c → standing_of machine ≡ idle
+control_idle c phase cset g number (mutating m) has is e = absurd (omega (arith, has.1, e))
+control_idle c phase cset g number (helping h) has is e = absurd (omega (arith, has.2, e))
+control_idle c phase cset g number (controlling k) has is e = ap control_standing is.0
 
 -- the mutators have not ended, and no other machine is counted
-mutator_left : (c : Config) (phase : ℕ) (g : Graph) (number : ℕ) (machine : Machine) → HasNumber c number machine → IsIdle phase g number machine → number < c.mutators → is_left_of machine ≡ true
-mutator_left c phase g number (mutating m) has is below = rests_left m.spot is.1
-mutator_left c phase g number (helping h) has is below = absurd (omega (arith, has.1, below))
-mutator_left c phase g number (controlling k) has is below = absurd (omega (arith, has, below))
+mutator_left : (c : Config) (phase cset : ℕ) (g : Graph) (number : ℕ) (machine : Machine) → HasNumber c number machine → IsIdle phase cset g number machine → number < c.mutators → is_left_of machine ≡ true
+mutator_left c phase cset g number (mutating m) has is below = rests_left m.spot is.1
+mutator_left c phase cset g number (helping h) has is below = absurd (omega (arith, has.1, below))
+mutator_left c phase cset g number (controlling k) has is below = absurd (omega (arith, has, below))
 
 other_left : (c : Config) (number : ℕ) (machine : Machine) → HasNumber c number machine → c.mutators ≤ number → is_left_of machine ≡ false
 other_left c number (mutating m) has above = absurd (omega (arith, has.1, above))
@@ -55,12 +55,12 @@ module _ (c : Config) (s : Stage Actor) (g : Graph) (begins : Begins c s g) wher
   begins_shaken =
       let control = there_is s.machines (control_seat c) (omega (arith, begins.seats)) in
       shaken_begins c standing s control.0 begins.words begins.seats control.1
-      (let new = begins.machines (control_seat c) control.0 control.1 in control_idle c (view c s.words Phase) g (control_seat c) (control.0).machine new.number_is new.idle refl)
-      (λ seat a below here. let new = begins.machines seat a here in idle_outside c (view c s.words Phase) g seat a.machine new.number_is new.idle below)
+      (let new = begins.machines (control_seat c) control.0 control.1 in control_idle c (view c s.words Phase) (view c s.words Cset) g (control_seat c) (control.0).machine new.number_is new.idle refl)
+      (λ seat a below here. let new = begins.machines seat a here in idle_outside c (view c s.words Phase) (view c s.words Cset) g seat a.machine new.number_is new.idle below)
       begins.outside.pause begins.outside.states
 
   pub begins_counted : IsCounted c is_left s
   begins_counted = counted_begins c is_left s begins.words begins.seats
-      (λ number a below here. let new = begins.machines number a here in mutator_left c (view c s.words Phase) g number a.machine new.number_is new.idle below)
+      (λ number a below here. let new = begins.machines number a here in mutator_left c (view c s.words Phase) (view c s.words Cset) g number a.machine new.number_is new.idle below)
       (λ number a above here. let new = begins.machines number a here in other_left c number a.machine new.number_is above)
       begins.outside.left

@@ -51,7 +51,7 @@ module _ (change : Change) (c : Config) (g : Graph) (s : Stage Actor) (past : Li
   not_control = λ e. (let less = below in omega (arith, less, e))
 
   word : is_word c t.word ≡ true
-  word = is_word_from c t.word (help_word c u number h helper)
+  word = is_word_from c t.word (help_word c u number h follows.shared helper)
 
   -- while an image counts it is outside, and its access is of no word of the image
   left_image : (image : List ℕ) → held_image c s ≡ Some image → is_image t.word ≡ false

@@ -18,8 +18,12 @@ use Rattle.scan_steps.specs.declared.spot.ScanSpot.TheVariants as scan
 use Rattle.scan_steps.specs.Rows as scans
 use Rattle.mark_steps.proofs.Scans.{scan_inside}
 use Rattle.helper.specs.declared.spot.HelpSpot.{HelpSpot}
-use Rattle.helper.specs.declared.spot.HelpSpot.TheVariants.{LoadEnd, Entering, LoadPhase, LoadSet, Scanning, Leave, Gone}
-use Rattle.helper.specs.Rows.{is_gone, touch_at, after_enter, after_scan, next_spot}
+use Rattle.load_barrier.specs.declared.evac_spot.EvacSpot.{EvacSpot}
+use Rattle.load_barrier.specs.declared.evac_spot.EvacSpot.TheVariants as evac
+use Rattle.load_barrier.specs.UnitRows as evacs
+use Rattle.load_barrier.proofs.Inside.{evacuation_inside, evacuation_image}
+use Rattle.helper.specs.declared.spot.HelpSpot.TheVariants.{Evacuating, LoadEnd, Entering, LoadPhase, LoadSet, Scanning, Leave, Gone}
+use Rattle.helper.specs.Rows.{is_gone, touch_at, after_enter, after_scan, after_evacuation, next_spot}
 use Rattle.helper.specs.Ready.{spot_fits}
 use Rattle.step_core.specs.Standing.{help_standing}
 use Rattle.step_core.proofs.ControlObeys.{scan_image}
@@ -29,6 +33,11 @@ use Rattle.step_core.proofs.Helpers.{is_off}
 enter_same : (at : EnterSpot) → help_standing (after_enter at) ≡ enter_standing at
 enter_same enter.Inside = refl
 enter_same _ = refl
+
+-- where it evacuates, or has evacuated a unit, it is in the heap
+evac_within : (cset : ℕ) (at : EvacSpot) → is_within (help_standing (after_evacuation cset at)) ≡ true
+evac_within cset (evac.Ended unit) = refl
+evac_within cset _ = refl
 
 -- where it scans, or has scanned a unit, it is in the heap
 scan_within : (at : ScanSpot) → is_within (help_standing (after_scan at)) ≡ true
@@ -40,39 +49,50 @@ module _ (c : Config) (seat : ℕ) where
   outside_both true = refl
   outside_both false = refl
 
-  within_both : (b : Bool) → is_within (help_standing (if b then Leave else LoadSet)) ≡ true
-  within_both true = refl
-  within_both false = refl
+  within_both : (b : Bool) (phase : ℕ) → is_within (help_standing (if b then Leave else LoadSet phase)) ≡ true
+  within_both true phase = refl
+  within_both false phase = refl
+
+  unit_within : (b : Bool) (cset : ℕ) → is_within (help_standing (if b then Scanning scan.LoadClaim else Evacuating cset evac.LoadClaim)) ≡ true
+  unit_within true cset = refl
+  unit_within false cset = refl
+
+  -- the access of a unit of evacuation is of a word of the image
+  evac_above : (cset : ℕ) (at : EvacSpot) → spot_fits c seat (Evacuating cset at) ≡ true → image_start c ≤ table_index (placed c (evacs.touch_at c seat at))
+  evac_above cset at fits = placed_above c (evacs.touch_at c seat at) (evacuation_inside c seat at (and_parts _ _ fits).0) (evacuation_image c seat at)
 
   -- the access of a scan is of a word of the image
-  scan_above : (at : ScanSpot) → spot_fits c (Scanning at) ≡ true → image_start c ≤ table_index (placed c (scans.touch_at c at))
+  scan_above : (at : ScanSpot) → spot_fits c seat (Scanning at) ≡ true → image_start c ≤ table_index (placed c (scans.touch_at c at))
   scan_above at fits = placed_above c (scans.touch_at c at) (scan_inside c at (and_parts _ _ fits).0) (scan_image c at)
 
   -- a helper that has not ended obeys
-  pub help_obeys : (spot : HelpSpot) → spot_fits c spot ≡ true → is_gone spot ≡ false → Obeys c seat (help_standing spot) (placed c (touch_at c seat spot)) (λ got. help_standing (next_spot c spot got))
+  pub help_obeys : (spot : HelpSpot) → spot_fits c seat spot ≡ true → is_gone spot ≡ false → Obeys c seat (help_standing spot) (placed c (touch_at c seat spot)) (λ got. help_standing (next_spot c spot got))
   help_obeys LoadEnd fits going = inr (record { harmless = inl refl; next_is = λ got. outside_both (nat_eq got 1) })
   help_obeys (Entering at) fits going =
       obeys_same c seat (enter_standing at) _ (λ got. enter_standing (enter_next at got)) _ (λ got. enter_same (enter_next at got)) (enter_obeys c seat at (is_off (is_entered at) fits))
-  help_obeys LoadPhase fits going = record { elsewhere = placed_elsewhere c (touch Phase loads) tt refl; goes_on = λ got. within_both (nat_eq got 0) }
-  help_obeys LoadSet fits going = record { elsewhere = placed_elsewhere c (touch Cset loads) tt refl; goes_on = λ got. refl }
+  help_obeys LoadPhase fits going = record { elsewhere = placed_elsewhere c (touch Phase loads) tt refl; goes_on = λ got. within_both (nat_eq got 0) got }
+  help_obeys (LoadSet phase) fits going = record { elsewhere = placed_elsewhere c (touch Cset loads) tt refl; goes_on = λ got. unit_within (nat_eq phase 1) got }
   help_obeys (Scanning at) fits going = record { elsewhere = image_elsewhere c (placed c (scans.touch_at c at)) (scan_above at fits); goes_on = λ got. scan_within (scans.next_at c at got) }
+  help_obeys (Evacuating cset at) fits going = record { elsewhere = image_elsewhere c (placed c (evacs.touch_at c seat at)) (evac_above cset at fits); goes_on = λ got. evac_within cset (evacs.next_at c cset at got) }
   help_obeys Leave fits going = leave_obeys c seat
   help_obeys Gone fits going = absurd (cc (going))
 
   -- its steps leave the count of the mutators as it is
-  pub help_counts : (spot : HelpSpot) → spot_fits c spot ≡ true → Counts c false (placed c (touch_at c seat spot)) (λ got. false)
+  pub help_counts : (spot : HelpSpot) → spot_fits c seat spot ≡ true → Counts c false (placed c (touch_at c seat spot)) (λ got. false)
   help_counts (Entering enter.Raise) fits = inr (record { not_written = inr (λ e. omega (arith, e)); same = λ got. refl })
   help_counts (Entering enter.Lower) fits = inr (record { not_written = inr (λ e. omega (arith, e)); same = λ got. refl })
   help_counts (Entering _) fits = inr (record { not_written = inl refl; same = λ got. refl })
   help_counts (Scanning at) fits = inr (record { not_written = inr (image_not_left c (placed c (scans.touch_at c at)) (scan_above at fits)); same = λ got. refl })
+  help_counts (Evacuating cset at) fits = inr (record { not_written = inr (image_not_left c (placed c (evacs.touch_at c seat at)) (evac_above cset at fits)); same = λ got. refl })
   help_counts Leave fits = inr (record { not_written = inr (λ e. omega (arith, e)); same = λ got. refl })
   help_counts _ fits = inr (record { not_written = inl refl; same = λ got. refl })
 
   -- and the word of the end
-  pub help_not_end : (spot : HelpSpot) → spot_fits c spot ≡ true → (is_load (placed c (touch_at c seat spot)) ≡ true) ⊎ (table_index (placed c (touch_at c seat spot)) ≢ word_at c End)
+  pub help_not_end : (spot : HelpSpot) → spot_fits c seat spot ≡ true → (is_load (placed c (touch_at c seat spot)) ≡ true) ⊎ (table_index (placed c (touch_at c seat spot)) ≢ word_at c End)
   help_not_end (Entering enter.Raise) fits = inr (λ e. omega (arith, e))
   help_not_end (Entering enter.Lower) fits = inr (λ e. omega (arith, e))
   help_not_end (Entering _) fits = inl refl
   help_not_end (Scanning at) fits = inr (λ e. (let above = scan_above at fits in omega (arith, e, above)))
+  help_not_end (Evacuating cset at) fits = inr (λ e. (let above = evac_above cset at fits in omega (arith, e, above)))
   help_not_end Leave fits = inr (λ e. omega (arith, e))
   help_not_end _ fits = inl refl

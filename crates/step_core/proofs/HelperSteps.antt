@@ -1,8 +1,9 @@
 -- What the steps of a helper owe.
-use Rattle.std.proofs.Common.{◌≡◌, ◌≢◌, ℕ, Bool, true, false, Some, None, refl, sym, ◌∙◌, subst, arith}
+use Rattle.std.proofs.Common.{◌≡◌, ◌≢◌, ℕ, ◌<◌, Bool, true, false, refl, sym, ◌∙◌, subst, arith}
 use Rattle.std.specs.Prelude.{◌==◌, if◌then◌else◌}
-use Rattle.std.proofs.lemmas.Bool.{and_parts, eqb-false, cond-false, ne_eqb}
+use Rattle.std.proofs.lemmas.Bool.{and_parts, eqb-false, eqb-true, cond-false, ne_eqb}
 use Rattle.heap_words.specs.declared.config.Config.{Config}
+use Rattle.heap_words.specs.Ranges.{seat_count}
 use Rattle.heap_words.specs.Words.{End, Phase, Pause, Cset, State, write}
 use Rattle.handshake.specs.declared.enter_spot.EnterSpot.{EnterSpot}
 use Rattle.handshake.specs.declared.enter_spot.EnterSpot.TheVariants as enter
@@ -11,23 +12,28 @@ use Rattle.scan_steps.specs.declared.spot.ScanSpot.{ScanSpot}
 use Rattle.scan_steps.specs.declared.spot.ScanSpot.TheVariants as scan
 use Rattle.scan_steps.specs.Rows as scans
 use Rattle.helper.specs.declared.spot.HelpSpot.{HelpSpot}
-use Rattle.helper.specs.declared.spot.HelpSpot.TheVariants.{LoadEnd, Entering, LoadPhase, LoadSet, Scanning, Leave, Gone}
-use Rattle.helper.specs.Rows.{Helping, is_gone, touch_at, help_touch, after_enter, after_scan, next_spot, next_phase, help_next}
-use Rattle.helper.specs.Ready.{ScanGoesOn}
+use Rattle.helper.specs.declared.spot.HelpSpot.TheVariants.{LoadEnd, Entering, LoadPhase, LoadSet, Scanning, Evacuating, Leave, Gone}
+use Rattle.helper.specs.Rows.{Helping, is_gone, touch_at, help_touch, after_enter, after_scan, after_evacuation, next_spot, help_next}
+use Rattle.helper.specs.Ready.{UnitGoesOn}
 use Rattle.helper.proofs.Ready.{stays_ready}
-use Rattle.mark_steps.specs.Scanning.{CanScan}
+use Rattle.load_barrier.specs.declared.evac_spot.EvacSpot.{EvacSpot}
+use Rattle.load_barrier.specs.declared.evac_spot.EvacSpot.TheVariants as evac
+use Rattle.load_barrier.specs.UnitRows as evacs
+use Rattle.evac_steps.specs.Evacuating.{CanEvacuate}
+use Rattle.evac_steps.proofs.Parts.{evacuating_steps}
 use Rattle.mark_steps.proofs.Parts.{scanning_steps}
-use Rattle.heap_world.specs.World.{World, hand, Shared}
+use Rattle.heap_world.specs.World.{World, Shared}
 use Rattle.heap_world.specs.Part.{PartStep}
 use Rattle.step_core.proofs.Alike.{load_step, store_step}
-use Rattle.step_core.proofs.Facts.{HelpFacts, IsHelper}
-use Rattle.step_core.proofs.Helpers.{is_off, phase_one}
+use Rattle.step_core.proofs.Facts.{IsResting, Scans, HelpFacts, IsHelper}
+use Rattle.step_core.proofs.Helpers.{is_off, phase_two}
+use Rattle.step_core.proofs.Units.{scans_from, scans_step, scanned_rests, evacuates_from, evacuated_rests}
 use Rattle.step_core.proofs.Marking.{world_with}
 
-module _ (c : Config) (u : World) (seat phase cset : ℕ) (shared : Shared c u) where
+module _ (c : Config) (u : World) (seat : ℕ) (shared : Shared c u) where
   -- the helper at a spot
   abbrev helper_at : HelpSpot → Helping
-  helper_at spot = record { seat = seat; phase = phase; cset = cset; spot = spot }
+  helper_at spot = record { seat = seat; spot = spot }
 
   -- the word that it finds
   abbrev got : HelpSpot → ℕ
@@ -39,30 +45,37 @@ module _ (c : Config) (u : World) (seat phase cset : ℕ) (shared : Shared c u) 
 
   -- what it counts on next, in a world
   abbrev FactsThen : World → HelpSpot → Type 0
-  FactsThen w spot = HelpFacts c w seat (next_phase spot phase (got spot)) (next_spot c spot (got spot))
+  FactsThen w spot = HelpFacts c w seat (next_spot c spot (got spot))
 
-  -- where it knows what it counts on, and has no room in hand, it is where it should be
-  stands_then : (w : World) (spot : HelpSpot) → IsHelper c u seat (helper_at spot) → ScanGoesOn c spot (got spot) → ((a words : ℕ) → w.block a ≡ Some (hand seat words) → ⊥) → FactsThen w spot
-      → IsHelper c w seat (help_next c (helper_at spot) (got spot))
-  stands_then w spot is goes hands facts =
-      record { number_is = refl; ready = stays_ready c (helper_at spot) (got spot) is.ready goes; facts = facts; least = is.least; below = is.below; hands = hands }
+  -- where it knows what it counts on, it is where it should be
+  stands_then : (w : World) (spot : HelpSpot) → IsHelper c u seat (helper_at spot) → UnitGoesOn c seat spot (got spot) → FactsThen w spot → IsHelper c w seat (help_next c (helper_at spot) (got spot))
+  stands_then w spot is goes facts =
+      record { number_is = refl; ready = stays_ready c (helper_at spot) (got spot) is.ready goes; facts = facts; least = is.least; below = is.below }
 
   -- one of two spots
-  of_two : (w : World) (kept : ℕ) (b : Bool) (x y : HelpSpot) → HelpFacts c w seat kept x → (b ≡ false → HelpFacts c w seat kept y) → HelpFacts c w seat kept (if b then x else y)
-  of_two w kept true x y one other = one
-  of_two w kept false x y one other = other refl
+  of_two : (w : World) (b : Bool) (x y : HelpSpot) → (b ≡ true → HelpFacts c w seat x) → (b ≡ false → HelpFacts c w seat y) → HelpFacts c w seat (if b then x else y)
+  of_two w true x y one other = one refl
+  of_two w false x y one other = other refl
 
-  enters_at : (w : World) (at : EnterSpot) → w.ghost.scanning seat ≡ None → HelpFacts c w seat phase (after_enter at)
-  enters_at w enter.Inside none = none
-  enters_at w _ none = none
+  enters_at : (w : World) (at : EnterSpot) → IsResting w seat → HelpFacts c w seat (after_enter at)
+  enters_at w enter.Inside rests = rests
+  enters_at w _ rests = rests
 
-  scans_at : (w : World) (at : ScanSpot) → CanScan c w seat at → HelpFacts c w seat phase (after_scan at)
-  scans_at w (scan.Ended unit) can = can.scanning
-  scans_at w _ can = can
+  scans_at : (w : World) (at : ScanSpot) → Scans c w seat at → HelpFacts c w seat (after_scan at)
+  scans_at w (scan.Ended unit) scans = scanned_rests c w seat unit scans
+  scans_at w _ scans = scans
+
+  evacuates_at : (w : World) (cset : ℕ) (at : EvacSpot) → CanEvacuate c w seat cset at → HelpFacts c w seat (after_evacuation cset at)
+  evacuates_at w cset (evac.Ended unit) can = evacuated_rests c w seat cset unit can
+  evacuates_at w cset _ can = can
+
+  -- its seat is one of the heap's
+  seated : (spot : HelpSpot) → IsHelper c u seat (helper_at spot) → seat < seat_count c.mutators c.helpers
+  seated spot is = let below = is.below in omega (arith, below)
 
   -- it looks whether the control has ended
   load_end : IsHelper c u seat (helper_at LoadEnd) → Step LoadEnd
-  load_end is = load_step c u seat End _ shared (stands_then u LoadEnd is tt is.hands (of_two u phase (got LoadEnd == 1) Gone (Entering enter.Raise) is.facts (λ no. is.facts)))
+  load_end is = load_step c u seat End _ shared (stands_then u LoadEnd is tt (of_two u (got LoadEnd == 1) Gone (Entering enter.Raise) (λ yes. is.facts) (λ no. is.facts)))
 
   states : (value k : ℕ) → k ≢ seat → write u.memory (State seat) value (State k) ≡ u.memory (State k)
   states value k differs = cond-false (seat == k) _ _ (ne_eqb seat k (λ e. differs (sym e)))
@@ -70,53 +83,70 @@ module _ (c : Config) (u : World) (seat phase cset : ℕ) (shared : Shared c u) 
   -- it enters
   enter_step : (at : EnterSpot) → IsHelper c u seat (helper_at (Entering at)) → Step (Entering at)
   enter_step enter.Raise is =
-      store_step c u seat (State seat) 1 _ refl (states 1) shared (stands_then (world_with u (write u.memory (State seat) 1) u.graph) (Entering enter.Raise) is tt is.hands is.facts)
-  enter_step enter.Look is = load_step c u seat Pause _ shared (stands_then u (Entering enter.Look) is tt is.hands (enters_at u (enter_next enter.Look (got (Entering enter.Look))) is.facts))
+      store_step c u seat (State seat) 1 _ refl (states 1) shared (stands_then (world_with u (write u.memory (State seat) 1) u.graph) (Entering enter.Raise) is tt is.facts)
+  enter_step enter.Look is = load_step c u seat Pause _ shared (stands_then u (Entering enter.Look) is tt (enters_at u (enter_next enter.Look (got (Entering enter.Look))) is.facts))
   enter_step enter.Lower is =
-      store_step c u seat (State seat) 0 _ refl (states 0) shared (stands_then (world_with u (write u.memory (State seat) 0) u.graph) (Entering enter.Lower) is tt is.hands is.facts)
-  enter_step enter.Await is = load_step c u seat Pause _ shared (stands_then u (Entering enter.Await) is tt is.hands (enters_at u (enter_next enter.Await (got (Entering enter.Await))) is.facts))
-  enter_step enter.Inside is = load_step c u seat Pause _ shared (stands_then u (Entering enter.Inside) is tt is.hands is.facts)
+      store_step c u seat (State seat) 0 _ refl (states 0) shared (stands_then (world_with u (write u.memory (State seat) 0) u.graph) (Entering enter.Lower) is tt is.facts)
+  enter_step enter.Await is = load_step c u seat Pause _ shared (stands_then u (Entering enter.Await) is tt (enters_at u (enter_next enter.Await (got (Entering enter.Await))) is.facts))
+  enter_step enter.Inside is = load_step c u seat Pause _ shared (stands_then u (Entering enter.Inside) is tt is.facts)
 
   -- it loads the phase, and the collection set
   load_phase : IsHelper c u seat (helper_at LoadPhase) → Step LoadPhase
   load_phase is =
       load_step c u seat Phase _ shared
-      (stands_then u LoadPhase is tt is.hands (of_two u (u.memory Phase) (u.memory Phase == 0) Leave LoadSet is.facts (λ some. (is.facts, eqb-false _ _ some, refl))))
+      (stands_then u LoadPhase is tt (of_two u (u.memory Phase == 0) Leave (LoadSet (u.memory Phase)) (λ none. is.facts) (λ some. (is.facts, eqb-false _ _ some, refl))))
 
-  load_set : IsHelper c u seat (helper_at LoadSet) → Step LoadSet
-  load_set is =
+  load_set : (phase : ℕ) → IsHelper c u seat (helper_at (LoadSet phase)) → Step (LoadSet phase)
+  load_set phase is =
       let some = is.facts.1 in
       let same = is.facts.2 in
-      let calm = shared.calm.phase_is in
-      let on : u.memory Phase ≡ 1 = phase_one _ calm (λ none. some (same ∙ none)) in
       load_step c u seat Cset _ shared
-      (stands_then u LoadSet is tt is.hands (scanning_steps.begins c u seat (let below = is.below in omega (arith, below)) on is.facts.0 is.hands))
+      (stands_then u (LoadSet phase) is tt
+      (of_two u (phase == 1) (Scanning scan.LoadClaim) (Evacuating (u.memory Cset) evac.LoadClaim)
+      (λ one. scans_from c u seat (seated (LoadSet phase) is) (sym same ∙ eqb-true _ _ one) is.facts.0)
+      (λ other. evacuates_from c u seat (seated (LoadSet phase) is)
+      (phase_two _ shared.phased.phase_is (λ none. some (same ∙ none)) (λ one. eqb-false _ _ other (same ∙ one))) is.facts.0)))
 
   -- it scans
   scan_step : (at : ScanSpot) → scans.is_ended at ≡ false → IsHelper c u seat (helper_at (Scanning at)) → Step (Scanning at)
   scan_step at going is =
-      let step = scanning_steps.each c u seat at going shared is.facts in
+      let step = scans_step c u seat at going shared is.facts in
       record {
         world = step.world;
         memory = step.memory;
         graph = step.graph;
         shared = step.shared;
-        own = stands_then step.world (Scanning at) is (scanning_steps.fits c u seat at going shared is.facts) step.own.hands (scans_at step.world _ step.own);
+        own = stands_then step.world (Scanning at) is (scanning_steps.fits c u seat at going shared is.facts.0) (scans_at step.world _ step.own);
+        keeps = step.keeps;
+        others = step.others;
+      }
+
+  -- it evacuates
+  evacuate_step : (cset : ℕ) (at : EvacSpot) → evacs.is_ended at ≡ false → IsHelper c u seat (helper_at (Evacuating cset at)) → Step (Evacuating cset at)
+  evacuate_step cset at going is =
+      let step = evacuating_steps.each c u seat cset at going shared is.facts in
+      record {
+        world = step.world;
+        memory = step.memory;
+        graph = step.graph;
+        shared = step.shared;
+        own = stands_then step.world (Evacuating cset at) is (evacuating_steps.fits c u seat cset at going shared is.facts) (evacuates_at step.world cset _ step.own);
         keeps = step.keeps;
         others = step.others;
       }
 
   -- it leaves
   leave_step : IsHelper c u seat (helper_at Leave) → Step Leave
-  leave_step is = store_step c u seat (State seat) 0 _ refl (states 0) shared (stands_then (world_with u (write u.memory (State seat) 0) u.graph) Leave is tt is.hands is.facts)
+  leave_step is = store_step c u seat (State seat) 0 _ refl (states 0) shared (stands_then (world_with u (write u.memory (State seat) 0) u.graph) Leave is tt is.facts)
 
   -- wherever it stands
   by_spot : (spot : HelpSpot) → is_gone spot ≡ false → IsHelper c u seat (helper_at spot) → Step spot
   by_spot LoadEnd going is = load_end is
   by_spot (Entering at) going is = enter_step at is
   by_spot LoadPhase going is = load_phase is
-  by_spot LoadSet going is = load_set is
+  by_spot (LoadSet phase) going is = load_set phase is
   by_spot (Scanning at) going is = scan_step at (is_off (scans.is_ended at) (and_parts _ _ (and_parts _ _ is.ready).1).1) is
+  by_spot (Evacuating cset at) going is = evacuate_step cset at (is_off (evacs.is_ended at) (and_parts _ _ (and_parts _ _ is.ready).1).1) is
   by_spot Leave going is = leave_step is
   by_spot Gone going is = absurd (cc (going))
 
@@ -125,4 +155,4 @@ pub help_step : (c : Config) (u : World) (number : ℕ) (h : Helping) → Shared
     → PartStep c u number (help_touch c h) (λ w. IsHelper c w number (help_next c h (u.memory (help_touch c h).word)))
 help_step c u number h shared is going =
     subst (λ j. PartStep c u j (help_touch c h) (λ w. IsHelper c w j (help_next c h (u.memory (help_touch c h).word)))) is.number_is
-    (by_spot c u h.seat h.phase h.cset shared h.spot going (subst (λ j. IsHelper c u j h) (sym is.number_is) is))
+    (by_spot c u h.seat shared h.spot going (subst (λ j. IsHelper c u j h) (sym is.number_is) is))

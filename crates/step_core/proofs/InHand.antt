@@ -12,10 +12,10 @@ use Rattle.shen_graph.specs.Step.{shown}
 use Rattle.shen_graph.specs.History.{is_full}
 use Rattle.mutator.specs.Rows.{after_field}
 use Rattle.mutator.specs.Commands.{dst_of}
-use Rattle.heap_world.specs.World.{World, hand, thing, Points, Shared}
-use Rattle.step_core.specs.Stepped.{IsSeatedIn, HasMarkingBy, Mine}
+use Rattle.heap_world.specs.World.{World, hand, body_of, Points, UsableIn, Shared}
+use Rattle.step_core.specs.Stepped.{IsSeatedIn, HasMarkingBy, HasCopyingBy, Mine}
 use Rattle.step_core.proofs.Spots.{mutator_at}
-use Rattle.heap_world.proofs.Pointing.{named_thing, piece_word, points_small, null_if_0, named_if_not_0}
+use Rattle.heap_world.proofs.Pointing.{named_body, body_piece, piece_word, points_small, null_if_0, named_if_not_0}
 use Rattle.step_core.proofs.Ready.{ready_of, number_small}
 use Rattle.mutator.specs.declared.spot.Kept.{Kept}
 
@@ -26,12 +26,12 @@ shown_not_full (Some n) = refl
 
 -- With the reference of a field in hand for a root, and settled, a call goes on: it stores null, or loads the name first.
 pub field_mine : (c : Config) (w : World) (seat made : ℕ) (kept : Kept) (command : Command) (got : ℕ) (v : Reference)
-    → Shared c w → IsSeatedIn c w seat made false → HasMarkingBy w seat None kept.phase true → dst_of kept.command < 16
+    → Shared c w → IsSeatedIn c w seat made false → HasMarkingBy w seat None kept.phase true → HasCopyingBy w seat false kept.cset true → dst_of kept.command < 16
     → ((i : ℕ) → i < 16 → Points w.block (if i == dst_of kept.command then got else w.memory (Root seat i)) (w.graph.root (seat + 1) i))
     → ((a words : ℕ) → w.block a ≡ Some (hand seat words) → ⊥)
-    → Points w.block got v
+    → Points w.block got v → UsableIn c w got
     → Mine c w (mutator_at seat made kept (after_field got)) command (Some (shown v))
-field_mine c w seat made kept command got v shared seated marking small roots hands is = ⊎_elim
+field_mine c w seat made kept command got v shared seated marking copying small roots hands is usable = ⊎_elim
     (λ (none : (got == 0) ≡ true).
     let below = seated.below in
     let zero_got : got ≡ 0 = eqb-true _ _ none in
@@ -39,19 +39,22 @@ field_mine c w seat made kept command got v shared seated marking small roots ha
       seated = seated;
       ready = ready_of (is_word c (Root seat (dst_of kept.command))) (is_number got) (grind (arith, nat_tests)) (number_small got (points_small c _ w.block shared.parsable.plotted got v is));
       marking = marking;
+      copying = copying;
       roots = roots;
       hands = hands;
-      facts = (ap (λ r. Some (shown r)) (null_if_0 c _ w.block shared.parsable.plotted got v is zero_got), small);
+      facts = (ap (λ r. Some (shown r)) (null_if_0 c _ w.block shared.parsable.plotted got v is zero_got), small, usable);
     }))
     (λ (some : (got == 0) ≡ false).
     let named = named_if_not_0 c _ w.block shared.parsable.plotted got v is (eqb-false _ _ some) in
-    let piece = named_thing (w.block got) named.0 named.2 in
+    let body = named_body (w.block got) named.0 named.2 in
+    let there = body_piece (w.block got) (body_of named.0 body.0 body.1) body.2 in
     rw some (record {
       seated = seated;
-      ready = ready_of _ true (piece_word c _ w.block shared.parsable.plotted got 2 (thing named.0 piece.0 piece.1) piece.2 (omega arith)) refl;
+      ready = ready_of _ true (piece_word c _ w.block shared.parsable.plotted got 2 there.0 there.1 (let long = there.2 in omega (arith, long))) refl;
       marking = marking;
+      copying = copying;
       roots = roots;
       hands = hands;
-      facts = record { name = named.0; settled = ap (λ r. Some (shown r)) named.1; is = named.2; small = small };
+      facts = (record { name = named.0; settled = ap (λ r. Some (shown r)) named.1; is = named.2; small = small }, usable);
     }))
     (cases_Bool (got == 0))

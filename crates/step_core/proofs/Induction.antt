@@ -42,7 +42,7 @@ follows_order change law c g s past number Nothing command calls (helping h) her
 follows_order change law c g s past number (Begin begun) command calls (helping h) here takes follows shaken = absurd (cc (takes))
 follows_order change law c g s past number End command calls (helping h) here takes follows shaken = absurd (cc (takes))
 follows_order change law c g s past number Nothing command calls (controlling k) here takes follows shaken =
-    by_spot change law c g s past number k.seen k.phase k.image command calls follows shaken k.spot (is_off (is_gone k.spot) takes) here
+    by_spot change law c g s past number k.seen k.phase k.cset k.image command calls follows shaken k.spot (is_off (is_gone k.spot) takes) here
 follows_order change law c g s past number (Begin begun) command calls (controlling k) here takes follows shaken = absurd (cc (takes))
 follows_order change law c g s past number End command calls (controlling k) here takes follows shaken = absurd (cc (takes))
 

@@ -1,6 +1,8 @@
 pub mod Spots
 pub mod Settling
 pub mod Marking
+pub mod Copying
+pub mod Resolving
 pub mod Overwriting
 pub mod Naming
 pub mod Loading
@@ -19,11 +21,13 @@ pub mod Takes
 pub mod Fresh
 pub mod FreshRoot
 pub mod Places
+pub mod PartFits
 pub mod Facts
 pub mod Ordered
 pub mod Within
 pub mod Images
 pub mod Alike
+pub mod Units
 pub mod Helpers
 pub mod Answers
 pub mod Quiet

@@ -11,6 +11,7 @@ use Rattle.shen_graph.specs.declared.command.Command.{Command}
 use Rattle.shen_graph.specs.declared.command.Command.TheVariants.{New, Get, Set, Cas, Xchg, Rd, Wr, Copy, Drop, Same, Gc}
 use Rattle.shen_graph.specs.declared.command.Reply.{Reply}
 use Rattle.shen_graph.specs.declared.command.Reply.TheVariants as reply
+use Rattle.shen_graph.specs.Graph.{same_reference}
 use Rattle.shen_graph.specs.Step.{yes_or_no, answers, outcome}
 use Rattle.shen_graph.specs.History.{is_full}
 use Rattle.mutator.specs.declared.spot.Spot.{Spot}
@@ -23,7 +24,7 @@ use Rattle.mutator.specs.Commands.{roots_of, root_of, is_on_object, lacks_object
 use Rattle.mutator.specs.Rows.{Mutating, first_spot, after_first, first_of_set, with_part}
 use Rattle.mutator.specs.Told.{name_the_same}
 use Rattle.heap_world.specs.World.{World, hand, name_at, Points, Shared}
-use Rattle.step_core.specs.Stepped.{IsRootWord, HasRoot, HasObject, HasFirst, HasRoots, IsBegun, IsSet, IsSeatedIn, HasMarkingBy, Mine, Stepped, Row}
+use Rattle.step_core.specs.Stepped.{IsRootWord, HasRoot, HasObject, HasFirst, HasRoots, IsBegun, IsSet, IsSeatedIn, HasMarkingBy, HasCopyingBy, Mine, Stepped, Row}
 use Rattle.step_core.proofs.Spots.{mutator_at}
 use Rattle.step_core.proofs.Marking.{covered_unmarked}
 use Rattle.step_core.proofs.Ready.{leaving, ready_of, number_small}
@@ -57,7 +58,7 @@ root_small made (Same a b) (suc (suc i)) next below = absurd (omega arith)
 root_small made _ i next below = absurd (omega arith)
 
 -- the object of a command whose first root is not null
-abbrev object_of : (c : Config) (u : World) (seat : ℕ) (k : Command) (object : ℕ) → Shared c u → is_on_object k ≡ true → HasFirst u seat k object → HasObject u seat (root_of k 0) object
+abbrev object_of : (c : Config) (u : World) (seat : ℕ) (k : Command) (object : ℕ) → Shared c u → is_on_object k ≡ true → HasFirst c u seat k object → HasObject c u seat (root_of k 0) object
 object_of c u seat k object shared on first =
     let is = first.first_is first.some in
     let named = named_if_not_0 c _ u.block shared.parsable.plotted object _ is.stands (first.not_null on) in
@@ -67,9 +68,10 @@ object_of c u seat k object shared on first =
     is.usable
 
 -- a call of a command has begun: what a mutator counts on that has no root in hand
-record IsUnderWay (c : Config) (u : World) (seat made phase : ℕ) (command : Command) (fixed : Option Reply) (k : Command) : Type 0 where
+record IsUnderWay (c : Config) (u : World) (seat made phase cset : ℕ) (command : Command) (fixed : Option Reply) (k : Command) : Type 0 where
   seated : IsSeatedIn c u seat made false
   marking : HasMarkingBy u seat None phase true
+  copying : HasCopyingBy u seat false cset true
   roots : (i : ℕ) → i < 16 → Points u.block (u.memory (Root seat i)) (u.graph.root (seat + 1) i)
   hands : (a words : ℕ) → u.block a ≡ Some (hand seat words) → ⊥
   facts : IsBegun made command fixed k
@@ -95,19 +97,22 @@ module _ (c : Config) (u : World) (seat made : ℕ) (kept : Kept) (command : Com
   abbrev HasSpot : Command → ℕ → Option Reply → Spot → Type 0
   HasSpot k now settled spot = Mine c u (mutator_at seat made (keeping k now) spot) command settled
 
-  -- a call of a command has begun, and no root is in hand
+  -- a call of a command has begun, which has loaded this collection set, and no root is in hand
+  abbrev HasBegunWith : Command → ℕ → Type 0
+  HasBegunWith k now = IsUnderWay c u seat made kept.phase now command fixed k
+
   abbrev HasBegun : Command → Type 0
-  HasBegun k = IsUnderWay c u seat made kept.phase command fixed k
+  HasBegun k = HasBegunWith k kept.cset
 
   -- it can go on with the command's first root
-  root_mine : (k : Command) (now : ℕ) → 0 < length (roots_of k) → HasBegun k → HasSpot k now fixed (Loading load.First)
+  root_mine : (k : Command) (now : ℕ) → 0 < length (roots_of k) → HasBegunWith k now → HasSpot k now fixed (Loading load.First)
   root_mine k now some mine =
       let below = mine.seated.below in
       let small = root_small made k 0 mine.facts.next some in
-      record { seated = mine.seated; ready = grind (arith, nat_tests); marking = mine.marking; roots = mine.roots; hands = mine.hands; facts = (mine.facts, some) }
+      record { seated = mine.seated; ready = grind (arith, nat_tests); marking = mine.marking; copying = mine.copying; roots = mine.roots; hands = mine.hands; facts = (mine.facts, some) }
 
   -- where it goes on after the collection set
-  set_mine : (k : Command) (now : ℕ) → HasBegun k → HasSpot k now fixed (first_spot k)
+  set_mine : (k : Command) (now : ℕ) → HasBegunWith k now → HasSpot k now fixed (first_spot k)
   set_mine (New dst refs nums) now mine =
       let below = mine.seated.below in
       let next = mine.facts.next in
@@ -115,6 +120,7 @@ module _ (c : Config) (u : World) (seat made : ℕ) (kept : Kept) (command : Com
         seated = mine.seated;
         ready = grind (arith, nat_tests);
         marking = mine.marking;
+        copying = mine.copying;
         roots = mine.roots;
         hands = mine.hands;
         facts = (
@@ -137,11 +143,12 @@ module _ (c : Config) (u : World) (seat made : ℕ) (kept : Kept) (command : Com
         seated = mine.seated;
         ready = grind (arith, nat_tests);
         marking = mine.marking;
+        copying = mine.copying;
         roots = mine.roots;
         hands = mine.hands;
         facts = (mine.facts.unsettled, small, inr (record { is = mine.facts.is; value_is = refl }));
       }
-  set_mine Gc now mine = record { seated = mine.seated; ready = refl; marking = mine.marking; roots = mine.roots; hands = mine.hands; facts = (mine.facts.unsettled, mine.facts.is) }
+  set_mine Gc now mine = record { seated = mine.seated; ready = refl; marking = mine.marking; copying = mine.copying; roots = mine.roots; hands = mine.hands; facts = (mine.facts.unsettled, mine.facts.is) }
   set_mine (Get dst src field) now mine = root_mine (Get dst src field) now (omega arith) mine
   set_mine (Set obj field val) now mine = root_mine (Set obj field val) now (omega arith) mine
   set_mine (Cas obj field expect val) now mine = root_mine (Cas obj field expect val) now (omega arith) mine
@@ -153,43 +160,44 @@ module _ (c : Config) (u : World) (seat made : ℕ) (kept : Kept) (command : Com
 
   -- it leaves with the reply that is settled
   leave_mine : (k : Command) (r : Reply) → HasBegun k → HasSpot k kept.cset (Some r) (Leave r)
-  leave_mine k r mine = leaving c _ seat made (keeping k kept.cset) command r mine.seated (mine.marking.records, mine.marking.scans) mine.roots mine.hands
+  leave_mine k r mine = leaving c _ seat made (keeping k kept.cset) command r mine.seated (mine.marking.records, mine.marking.scans, mine.copying.copies_is, mine.copying.works_none) mine.roots mine.hands
 
   -- it can go on with the shape of the command's object
-  shape_mine : (k : Command) (object second third : ℕ) → Shared c u → HasBegun k → is_on_object k ≡ true → HasRoots u seat k object second third → HasSpot k kept.cset fixed (Loading (load.Shape object second third))
+  shape_mine : (k : Command) (object second third : ℕ) → Shared c u → HasBegun k → is_on_object k ≡ true → HasRoots c u seat k object second third → HasSpot k kept.cset fixed (Loading (load.Shape object second third))
   shape_mine k object second third shared mine on has =
-      let of : HasObject u seat (root_of k 0) object = object_of c u seat k object shared on has.first_is in
+      let of : HasObject c u seat (root_of k 0) object = object_of c u seat k object shared on has.first_is in
       record {
         seated = mine.seated;
         ready = ready_of _ true (word_in c u shared seat (root_of k 0) object (object + 1) 1 of (omega arith) refl) refl;
         marking = mine.marking;
+        copying = mine.copying;
         roots = mine.roots;
         hands = mine.hands;
         facts = (mine.facts, on, has);
       }
 
   -- the word of a root of the command stands for the root
-  root_has : (k : Command) (i : ℕ) → HasBegun k → HasRoot u seat k i (u.memory (Root seat (root_of k i)))
+  root_has : (k : Command) (i : ℕ) → HasBegun k → HasRoot c u seat k i (u.memory (Root seat (root_of k i)))
   root_has k i mine below =
       let small = root_small made k i mine.facts.next below in
       record { stands = mine.roots (root_of k i) small; usable = mine.seated.usable (root_of k i) small }
 
   -- it can go on with the second root, and with the third
-  second_mine : (k : Command) (first : ℕ) → HasBegun k → 1 < length (roots_of k) → HasFirst u seat k first → HasSpot k kept.cset fixed (Loading (load.Second first))
+  second_mine : (k : Command) (first : ℕ) → HasBegun k → 1 < length (roots_of k) → HasFirst c u seat k first → HasSpot k kept.cset fixed (Loading (load.Second first))
   second_mine k first mine more has =
       let below = mine.seated.below in
       let small = root_small made k 1 mine.facts.next more in
-      record { seated = mine.seated; ready = grind (arith, nat_tests); marking = mine.marking; roots = mine.roots; hands = mine.hands; facts = (mine.facts, more, has) }
+      record { seated = mine.seated; ready = grind (arith, nat_tests); marking = mine.marking; copying = mine.copying; roots = mine.roots; hands = mine.hands; facts = (mine.facts, more, has) }
 
   -- it can go on with the third root
-  third_mine : (k : Command) (first second : ℕ) → HasBegun k → 2 < length (roots_of k) → HasFirst u seat k first → HasRoot u seat k 1 second → HasSpot k kept.cset fixed (Loading (load.Third first second))
+  third_mine : (k : Command) (first second : ℕ) → HasBegun k → 2 < length (roots_of k) → HasFirst c u seat k first → HasRoot c u seat k 1 second → HasSpot k kept.cset fixed (Loading (load.Third first second))
   third_mine k first second mine more has has_second =
       let below = mine.seated.below in
       let small = root_small made k 2 mine.facts.next more in
-      record { seated = mine.seated; ready = grind (arith, nat_tests); marking = mine.marking; roots = mine.roots; hands = mine.hands; facts = (mine.facts, more, has, has_second) }
+      record { seated = mine.seated; ready = grind (arith, nat_tests); marking = mine.marking; copying = mine.copying; roots = mine.roots; hands = mine.hands; facts = (mine.facts, more, has, has_second) }
 
   -- where it goes on after the first root
-  first_mine : (k : Command) (first : ℕ) → Shared c u → HasBegun k → HasFirst u seat k first → HasSpot k kept.cset fixed (after_first k first)
+  first_mine : (k : Command) (first : ℕ) → Shared c u → HasBegun k → HasFirst c u seat k first → HasSpot k kept.cset fixed (after_first k first)
   first_mine (Get dst src field) first shared mine has =
       shape_mine (Get dst src field) first 0 0 shared mine refl (record { first_is = has; second_is = λ below. absurd (omega arith); third_is = λ below. absurd (omega arith) })
   first_mine (Rd obj index) first shared mine has =
@@ -204,11 +212,12 @@ module _ (c : Config) (u : World) (seat made : ℕ) (kept : Kept) (command : Com
       let below = mine.seated.below in
       let next = mine.facts.next in
       let small : dst < 16 = grind (arith, nat_tests) in
-      let value_is : IsRootWord u seat src first = has.first_is has.some in
+      let value_is : IsRootWord c u seat src first = has.first_is has.some in
       record {
         seated = mine.seated;
         ready = ready_of _ _ (grind (arith, nat_tests)) (number_small first (points_small c _ u.block shared.parsable.plotted first _ value_is.stands));
         marking = mine.marking;
+        copying = mine.copying;
         roots = mine.roots;
         hands = mine.hands;
         facts = (mine.facts.unsettled, small, inl (record { src = src; is = mine.facts.is; value_is = value_is }));
@@ -218,7 +227,7 @@ module _ (c : Config) (u : World) (seat made : ℕ) (kept : Kept) (command : Com
   -- the load of the collection set
   pub at_load_set : Row c u (at_spot LoadSet) command fixed
   at_load_set shared mine =
-      let begun : HasBegun kept.command = record { seated = mine.seated; marking = mine.marking; roots = mine.roots; hands = mine.hands; facts = mine.facts } in
+      let begun : HasBegunWith kept.command (u.memory Cset) = record { seated = mine.seated; marking = mine.marking; copying = record { copies_is = mine.copying.copies_is; works_none = mine.copying.works_none; set_is = λ on. refl }; roots = mine.roots; hands = mine.hands; facts = mine.facts } in
       looks c u (at_spot LoadSet) Cset command fixed refl refl refl shared (set_mine kept.command (u.memory Cset) begun)
 
   -- the first root of a command is null, and there is no object
@@ -245,11 +254,11 @@ module _ (c : Config) (u : World) (seat made : ℕ) (kept : Kept) (command : Com
   pub at_load_root : Row c u (at_spot (Loading load.First)) command fixed
   at_load_root shared mine =
       let k : Command = kept.command in
-      let base : HasBegun k = record { seated = mine.seated; marking = mine.marking; roots = mine.roots; hands = mine.hands; facts = mine.facts.0 } in
+      let base : HasBegun k = record { seated = mine.seated; marking = mine.marking; copying = mine.copying; roots = mine.roots; hands = mine.hands; facts = mine.facts.0 } in
       ⊎_elim (root_lacks k shared base mine.facts.1) (root_goes k shared base mine.facts.1) (cases_Bool (lacks_object k (u.memory (Root seat (root_of k 0)))))
 
   -- where it goes on after the second root; for a Same it is settled here whether the roots are the same
-  second_step : (k : Command) (first : ℕ) → Shared c u → HasBegun k → 1 < length (roots_of k) → HasFirst u seat k first → Stepped c u (at_call k (Loading (load.Second first))) command Nothing fixed
+  second_step : (k : Command) (first : ℕ) → Shared c u → HasBegun k → 1 < length (roots_of k) → HasFirst c u seat k first → Stepped c u (at_call k (Loading (load.Second first))) command Nothing fixed
   second_step (Set obj field val) first shared mine more has =
       looks c u (at_call (Set obj field val) (Loading (load.Second first))) (Root seat val) command fixed refl refl refl shared
       (shape_mine (Set obj field val) first (u.memory (Root seat val)) 0 shared mine refl (record { first_is = has; second_is = root_has (Set obj field val) 1 mine; third_is = λ below. absurd (omega arith) }))
@@ -263,10 +272,11 @@ module _ (c : Config) (u : World) (seat made : ℕ) (kept : Kept) (command : Com
       let got : ℕ = u.memory (Root seat b) in
       let is_first = has.first_is has.some in
       let is_second = root_has (Same a b) 1 mine more in
-      let agree : name_the_same u.memory first got ≡ (first == got) = names_agree c u shared first got _ _ is_first.stands is_second.stands in
+      let stand : name_the_same u.memory first got ≡ same_reference (u.graph.root (seat + 1) a) (u.graph.root (seat + 1) b) = names_agree c u shared first got _ _ is_first.stands is_second.stands in
+      let agree : name_the_same u.memory first got ≡ (first == got) = stand ∙ sym (same_words c u shared first got _ _ is_first.usable is_second.usable is_first.stands is_second.stands) in
       replies c u (at_call (Same a b) (Loading (load.Second first))) (Root seat b) command fixed (yes_or_no (name_the_same u.memory first got)) refl refl refl mine.facts.unsettled
       (full_no (name_the_same u.memory first got))
-      (ap (λ x. outcome u.graph (seat + 1) x) mine.facts.is ∙ ap (λ x. answers (yes_or_no x) u.graph) (sym (agree ∙ same_words c u shared first got _ _ is_first.stands is_second.stands)))
+      (ap (λ x. outcome u.graph (seat + 1) x) mine.facts.is ∙ ap (λ x. answers (yes_or_no x) u.graph) (sym stand))
       shared
       (subst (λ f. HasSpot (Same a b) kept.cset f (Leave (yes_or_no (first == got)))) (ap (λ x. Some (yes_or_no x)) (sym agree)) (leave_mine (Same a b) (yes_or_no (first == got)) mine))
   second_step _ first shared mine more has = absurd (omega arith)
@@ -274,10 +284,10 @@ module _ (c : Config) (u : World) (seat made : ℕ) (kept : Kept) (command : Com
   -- the load of the second root
   pub at_load_second : (first : ℕ) → Row c u (at_spot (Loading (load.Second first))) command fixed
   at_load_second first shared mine =
-      second_step kept.command first shared (record { seated = mine.seated; marking = mine.marking; roots = mine.roots; hands = mine.hands; facts = mine.facts.0 }) mine.facts.1 mine.facts.2
+      second_step kept.command first shared (record { seated = mine.seated; marking = mine.marking; copying = mine.copying; roots = mine.roots; hands = mine.hands; facts = mine.facts.0 }) mine.facts.1 mine.facts.2
 
   -- where it goes on after the third root: only a Cas has one
-  third_step : (k : Command) (first second : ℕ) → Shared c u → HasBegun k → 2 < length (roots_of k) → HasFirst u seat k first → HasRoot u seat k 1 second → Stepped c u (at_call k (Loading (load.Third first second))) command Nothing fixed
+  third_step : (k : Command) (first second : ℕ) → Shared c u → HasBegun k → 2 < length (roots_of k) → HasFirst c u seat k first → HasRoot c u seat k 1 second → Stepped c u (at_call k (Loading (load.Third first second))) command Nothing fixed
   third_step (Cas obj field expect val) first second shared mine more has has_second =
       looks c u (at_call (Cas obj field expect val) (Loading (load.Third first second))) (Root seat val) command fixed refl refl refl shared
       (shape_mine (Cas obj field expect val) first second (u.memory (Root seat val)) shared mine refl (record { first_is = has; second_is = has_second; third_is = root_has (Cas obj field expect val) 2 mine }))
@@ -286,16 +296,17 @@ module _ (c : Config) (u : World) (seat made : ℕ) (kept : Kept) (command : Com
   -- the load of the third root
   pub at_load_third : (first second : ℕ) → Row c u (at_spot (Loading (load.Third first second))) command fixed
   at_load_third first second shared mine =
-      third_step kept.command first second shared (record { seated = mine.seated; marking = mine.marking; roots = mine.roots; hands = mine.hands; facts = mine.facts.0 }) mine.facts.1 mine.facts.2 mine.facts.3
+      third_step kept.command first second shared (record { seated = mine.seated; marking = mine.marking; copying = mine.copying; roots = mine.roots; hands = mine.hands; facts = mine.facts.0 }) mine.facts.1 mine.facts.2 mine.facts.3
 
   -- A Set goes on with its field: while objects are marked it looks first what it will overwrite.
-  set_part : (obj field val object value : ℕ) → Shared c u → HasBegun (Set obj field val) → IsSet u seat command object field value
+  set_part : (obj field val object value : ℕ) → Shared c u → HasBegun (Set obj field val) → IsSet c u seat command object field value
       → HasSpot (Set obj field val) kept.cset fixed (OnField object (first_of_set kept.phase value))
   set_part obj field val object value shared mine is = ⊎_elim
       (λ (marks : (kept.phase == 1) ≡ true). rw marks (record {
         seated = mine.seated;
         ready = ready_of _ true there refl;
         marking = mine.marking;
+        copying = mine.copying;
         roots = mine.roots;
         hands = mine.hands;
         facts = (mine.facts.unsettled, is);
@@ -304,6 +315,7 @@ module _ (c : Config) (u : World) (seat made : ℕ) (kept : Kept) (command : Com
         seated = mine.seated;
         ready = ready_of _ _ there (number_small value (points_small c _ u.block shared.parsable.plotted value _ is.value_is.stands));
         marking = mine.marking;
+        copying = mine.copying;
         roots = mine.roots;
         hands = mine.hands;
         facts = (mine.facts.unsettled, is, covered_unmarked c u object field shared (λ on. eqb-false _ _ off (mine.marking.phase_is refl ∙ on)));
@@ -314,7 +326,7 @@ module _ (c : Config) (u : World) (seat made : ℕ) (kept : Kept) (command : Com
       there = word_in c u shared seat is.obj object (object + 3 + field) (3 + field) is.of (let below = is.below in omega (arith, below)) (omega arith)
 
   -- where it goes on with a part of the object that there is
-  part_mine : (k : Command) (object second third shape : ℕ) → Shared c u → HasBegun k → HasRoots u seat k object second third → (of : HasObject u seat (root_of k 0) object)
+  part_mine : (k : Command) (object second third shape : ℕ) → Shared c u → HasBegun k → HasRoots c u seat k object second third → (of : HasObject c u seat (root_of k 0) object)
       → refs_in shape ≡ of.refs → nums_in shape ≡ of.nums → is_on_object k ≡ true → has_part k shape ≡ true → HasSpot k kept.cset fixed (with_part kept.phase k object second third shape)
   part_mine (Get dst src field) object second third shape shared mine has of refs nums on part =
       let next = mine.facts.next in
@@ -323,6 +335,7 @@ module _ (c : Config) (u : World) (seat made : ℕ) (kept : Kept) (command : Com
         seated = mine.seated;
         ready = ready_of _ true (word_in c u shared seat src object (object + 3 + field) (3 + field) of (omega arith) (omega arith)) refl;
         marking = mine.marking;
+        copying = mine.copying;
         roots = mine.roots;
         hands = mine.hands;
         facts = (mine.facts.unsettled, record { src = src; is = mine.facts.is; small = grind (arith, nat_tests); of = of; below = below });
@@ -336,6 +349,7 @@ module _ (c : Config) (u : World) (seat made : ℕ) (kept : Kept) (command : Com
         seated = mine.seated;
         ready = ready_of _ true (word_in c u shared seat obj object (object + 3 + field) (3 + field) of (omega arith) (omega arith)) refl;
         marking = mine.marking;
+        copying = mine.copying;
         roots = mine.roots;
         hands = mine.hands;
         facts = (
@@ -346,11 +360,12 @@ module _ (c : Config) (u : World) (seat made : ℕ) (kept : Kept) (command : Com
   part_mine (Xchg dst obj field val) object second third shape shared mine has of refs nums on part =
       let next = mine.facts.next in
       let below : field < of.refs = let lt = ltb-true _ _ part in omega arith in
-      let value_is : IsRootWord u seat val second = has.second_is (omega arith) in
+      let value_is : IsRootWord c u seat val second = has.second_is (omega arith) in
       record {
         seated = mine.seated;
         ready = ready_of _ _ (word_in c u shared seat obj object (object + 3 + field) (3 + field) of (omega arith) (omega arith)) (number_small second (points_small c _ u.block shared.parsable.plotted second _ value_is.stands));
         marking = mine.marking;
+        copying = mine.copying;
         roots = mine.roots;
         hands = mine.hands;
         facts = (mine.facts.unsettled, record { obj = obj; val = val; is = mine.facts.is; small = grind (arith, nat_tests); of = of; below = below; value_is = value_is });
@@ -361,6 +376,7 @@ module _ (c : Config) (u : World) (seat made : ℕ) (kept : Kept) (command : Com
         seated = mine.seated;
         ready = ready_of _ true (word_in c u shared seat obj object (object + 3 + refs_in shape + index) (3 + refs_in shape + index) of (omega arith) (omega arith)) refl;
         marking = mine.marking;
+        copying = mine.copying;
         roots = mine.roots;
         hands = mine.hands;
         facts = (mine.facts.unsettled, record { obj = obj; is = mine.facts.is; of = of; refs_are = refs; below = below });
@@ -373,6 +389,7 @@ module _ (c : Config) (u : World) (seat made : ℕ) (kept : Kept) (command : Com
         seated = mine.seated;
         ready = ready_of _ _ (word_in c u shared seat obj object (object + 3 + refs_in shape + index) (3 + refs_in shape + index) of (omega arith) (omega arith)) small;
         marking = mine.marking;
+        copying = mine.copying;
         roots = mine.roots;
         hands = mine.hands;
         facts = (mine.facts.unsettled, record { obj = obj; is = mine.facts.is; of = of; refs_are = refs; below = below });
@@ -383,8 +400,8 @@ module _ (c : Config) (u : World) (seat made : ℕ) (kept : Kept) (command : Com
   pub at_load_shape : (object second third : ℕ) → Row c u (at_spot (Loading (load.Shape object second third))) command fixed
   at_load_shape object second third shared mine =
       let k : Command = kept.command in
-      let base : HasBegun k = record { seated = mine.seated; marking = mine.marking; roots = mine.roots; hands = mine.hands; facts = mine.facts.0 } in
-      let of : HasObject u seat (root_of k 0) object = object_of c u seat k object shared mine.facts.1 mine.facts.2.first_is in
+      let base : HasBegun k = record { seated = mine.seated; marking = mine.marking; copying = mine.copying; roots = mine.roots; hands = mine.hands; facts = mine.facts.0 } in
+      let of : HasObject c u seat (root_of k 0) object = object_of c u seat k object shared mine.facts.1 mine.facts.2.first_is in
       let sizes = shape_in c u shared seat (root_of k 0) object of in
       ⊎_elim
       (λ (part : has_part k (u.memory (Heap (object + 1))) ≡ true).

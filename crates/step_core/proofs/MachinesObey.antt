@@ -50,7 +50,7 @@ module _ (change : Change) (c : Config) (number : ℕ) (order : Order) where
   machine_obeys (helping h) has takes can =
       subst (λ seat. Obeys c seat (standing_of (helping h)) (plan_of c order (helping h)) (λ got. standing_of (machine_after change c order got (helping h)))) has.0
       (help_obeys c h.seat h.spot (and_parts _ _ can).1 (is_off (is_gone h.spot) (and_parts _ _ takes).1))
-  machine_obeys (controlling k) has takes can = control_obeys c number k.phase k.seen (word_stored k.spot k.image) k.spot can
+  machine_obeys (controlling k) has takes can = control_obeys c number k.phase k.cset k.seen (word_stored k.spot k.image) k.spot can
 
   pub machine_counts : (machine : Machine) → takes_of machine order ≡ true → CanGo c machine
       → Counts c (is_left_of machine) (plan_of c order machine) (λ got. is_left_of (machine_after change c order got machine))

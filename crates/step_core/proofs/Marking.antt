@@ -4,12 +4,14 @@ use Rattle.std.specs.Prelude.{bit_or}
 use Rattle.std.specs.Int.{bit_at}
 use Rattle.std.proofs.lemmas.Nat.Bits.{bit_at_set_same, bit_at_set_other}
 use Rattle.heap_words.specs.declared.config.Config.{Config}
-use Rattle.heap_words.specs.Words.{Word, Phase, Count, Buffer, Grey, Black, Heap}
+use Rattle.heap_words.specs.Words.{Word, Phase, Cset, Evac, Top, Count, Buffer, Grey, Black, Heap}
 use Rattle.shen_graph.specs.Graph.{Graph}
-use Rattle.heap_world.specs.World.{World, thing, Snapshot, NotedIn, was_at, NeedsNoMarking, IsTracedAt, IsCovered, Shared}
-use Rattle.heap_world.specs.Rely.{KeepsMarks, RelyMarks, Rely}
+use Rattle.heap_world.specs.World.{World, thing, Snapshot, NotedIn, was_at, NeedsNoMarking, IsTracedAt, IsCovered, IsCollected, Shared}
+use Rattle.regions.specs.Sets.{IsIn}
+use Rattle.heap_world.specs.Rely.{KeepsMarks, RelyMarks, RelyCopies, Rely}
 use Rattle.heap_world.proofs.Marked.{rely_marks}
-use Rattle.step_core.specs.Stepped.{HasMarkingBy}
+use Rattle.heap_world.proofs.Copies.{same_plot, rely_copies}
+use Rattle.step_core.specs.Stepped.{HasMarkingBy, HasCopyingBy}
 
 -- another memory and another graph
 abbrev pub world_with : World → (Word → ℕ) → Graph → World
@@ -21,12 +23,26 @@ pub marks_in : (c : Config) (u : World) (memory : Word → ℕ) (g : Graph) (sea
 marks_in c u memory g seat phase greys counts buffers heap =
     rely_marks c u (world_with u memory g) seat phase greys counts buffers refl (λ t. refl) refl (λ a is. is) (λ a is. heap (a + 1))
 
+-- nor does anything of evacuation
+pub copies_in : (c : Config) (u : World) (memory : Word → ℕ) (g : Graph) (seat : ℕ) → memory Cset ≡ u.memory Cset → memory Evac ≡ u.memory Evac → ((r : ℕ) → memory (Top r) ≡ u.memory (Top r))
+    → ((a : ℕ) → memory (Heap a) ≡ u.memory (Heap a)) → RelyCopies c seat u (world_with u memory g)
+copies_in c u memory g seat cset evac tops heap =
+    rely_copies c u (world_with u memory g) seat (same_plot c u (world_with u memory g) refl cset evac (λ r is. tops r)) refl refl (λ a k b seated counted inside is from below. heap (a + k))
+
 -- what a mutator counts on of marking stays while others step
 pub marking_relied : (c : Config) (u w : World) (seat : ℕ) (in_hand : Option ℕ) (loaded : ℕ) (knows : Bool) → RelyMarks c seat u w → HasMarkingBy u seat in_hand loaded knows → HasMarkingBy w seat in_hand loaded knows
 marking_relied c u w seat in_hand loaded knows marks marking = record {
   records = marks.recording ∙ marking.records;
   scans = marks.scanning ∙ marking.scans;
   phase_is = λ on. marking.phase_is on ∙ sym marks.keeps.phase;
+}
+
+-- and so does what it counts on of evacuation
+pub copying_relied : (c : Config) (u w : World) (seat : ℕ) (copies : Bool) (loaded : ℕ) (knows : Bool) → RelyCopies c seat u w → HasCopyingBy u seat copies loaded knows → HasCopyingBy w seat copies loaded knows
+copying_relied c u w seat copies loaded knows copied copying = record {
+  copies_is = copied.copying ∙ copying.copies_is;
+  works_none = copied.working ∙ copying.works_none;
+  set_is = λ on. copying.set_is on ∙ sym copied.keeps.cset;
 }
 
 -- a field that marking needs no more stays one
@@ -65,13 +81,13 @@ pub now_waits : (n : ℕ) → bit_at (bit_or n 2) 1 ≡ 1
 now_waits n = bit_at_set_same w64 n 1 (omega arith)
 
 -- what is relied on twice
-marks_twice : (c : Config) (seat : ℕ) (u v w : World) → RelyMarks c seat u v → RelyMarks c seat v w → RelyMarks c seat u w
-marks_twice c seat u v w first second = record {
+marks_twice : (c : Config) (seat : ℕ) (u v w : World) → u.memory Phase ≡ 1 → RelyMarks c seat u v → RelyMarks c seat v w → RelyMarks c seat u w
+marks_twice c seat u v w marking first second = record {
   keeps = record {
     phase = second.keeps.phase ∙ first.keeps.phase;
     snapshot = second.keeps.snapshot ∙ first.keeps.snapshot;
-    markable = λ a is. second.keeps.markable a (first.keeps.markable a is);
-    shapes = λ a is. second.keeps.shapes a (first.keeps.markable a is) ∙ first.keeps.shapes a is;
+    markable = λ on a is. second.keeps.markable (first.keeps.phase ∙ on) a (first.keeps.markable on a is);
+    shapes = λ a is. second.keeps.shapes a (first.keeps.markable marking a is) ∙ first.keeps.shapes a is;
     noted = λ a is. second.keeps.noted a (first.keeps.noted a is);
   };
   recording = second.recording ∙ first.recording;
@@ -81,8 +97,33 @@ marks_twice c seat u v w first second = record {
   greys = λ a mark. second.greys a (first.greys a mark);
 }
 
-pub rely_twice : (c : Config) (seat : ℕ) (u v w : World) → Rely c seat u v → Rely c seat v w → Rely c seat u w
-rely_twice c seat u v w first second = record {
+copies_twice : (c : Config) (seat : ℕ) (u v w : World) → RelyCopies c seat u v → RelyCopies c seat v w → RelyCopies c seat u w
+copies_twice c seat u v w first second =
+    let set_then : (a : ℕ) → IsCollected c (u.memory Cset) a → IsCollected c (v.memory Cset) a = λ a is. subst (λ set. IsCollected c set a) (sym first.keeps.cset) is in
+    record {
+      keeps = record {
+        cset = second.keeps.cset ∙ first.keeps.cset;
+        bodies = λ a b is. second.keeps.bodies a b (first.keeps.bodies a b is);
+        moveds = λ a refs nums to name is. second.keeps.moveds a refs nums to name (first.keeps.moveds a refs nums to name is);
+        spents = λ a words to is. second.keeps.spents a words to (first.keeps.spents a words to is);
+        pieces = λ a x inside is.
+            let one = first.keeps.pieces a x inside is in
+            let two = second.keeps.pieces a one.0 (set_then a inside) one.1 in
+            (two.0, two.1, two.2 ∙ one.2);
+        no_new = λ a refs nums name inside is. first.keeps.no_new a refs nums name inside (second.keeps.no_new a refs nums name (set_then a inside) is);
+        tops = λ r is. second.keeps.tops r (subst (λ set. IsIn set r) (sym first.keeps.cset) is) ∙ first.keeps.tops r is;
+        out = λ is. second.keeps.out (first.keeps.out is);
+        quiet = λ is. second.keeps.quiet (first.keeps.quiet is);
+      };
+      copying = second.copying ∙ first.copying;
+      working = second.working ∙ first.working;
+      words = λ a k b seated counted inside is from below.
+          second.words a k b seated (first.copying ∙ counted) (set_then a inside) (first.keeps.bodies a b is) from below ∙ first.words a k b seated counted inside is from below;
+    }
+
+-- where objects are marked
+pub rely_twice : (c : Config) (seat : ℕ) (u v w : World) → u.memory Phase ≡ 1 → Rely c seat u v → Rely c seat v w → Rely c seat u w
+rely_twice c seat u v w marking first second = record {
   names = λ a name is. second.names a name (first.names a name is);
   targets = λ a refs nums name is. second.targets a refs nums name (first.targets a refs nums name is);
   hands = λ a words is. second.hands a words (first.hands a words is);
@@ -100,7 +141,7 @@ rely_twice c seat u v w first second = record {
   wait = second.wait ∙ first.wait;
   answer = second.answer ∙ first.answer;
   state = second.state ∙ first.state;
-  cset = second.cset ∙ first.cset;
   asked = λ is. second.asked (first.asked is);
-  marks = marks_twice c seat u v w first.marks second.marks;
+  marks = marks_twice c seat u v w marking first.marks second.marks;
+  copies = copies_twice c seat u v w first.copies second.copies;
 }

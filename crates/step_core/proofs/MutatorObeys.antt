@@ -1,11 +1,10 @@
 -- A mutator obeys the handshake, and counts itself off where it ends.
 use Rattle.std.proofs.Common.{◌≡◌, ℕ, Bool, true, false, refl, sym, ◌∙◌, arith, inl, inr}
-use Rattle.std.specs.Prelude.{nat_eq, if◌then◌else◌}
+use Rattle.std.specs.Prelude.{nat_eq, ◌&&◌, if◌then◌else◌}
 use Rattle.heap_words.specs.declared.config.Config.{Config}
 use Rattle.heap_words.specs.Words.{IsWord, is_word, is_image}
 use Rattle.heap_words.proofs.Stores.{is_word_true}
 use Rattle.std.proofs.lemmas.Bool.{and_parts}
-use Rattle.steps_base.specs.Fits.{touch_fits, form_fits}
 use Rattle.steps_base.specs.Touch.{placed}
 use Rattle.shen_graph.specs.declared.order.Order.{Order}
 use Rattle.shen_graph.specs.declared.order.Order.TheVariants.{Nothing, Begin, End}
@@ -26,7 +25,8 @@ use Rattle.mutator.specs.declared.spot.Kept.{Kept}
 use Rattle.mutator.specs.declared.spot.Entered.{Entered}
 use Rattle.mutator.specs.declared.spot.Entered.TheVariants.{Call, Waited}
 use Rattle.mutator.specs.declared.spot.Spot.{Spot}
-use Rattle.mutator.specs.declared.spot.Spot.TheVariants.{Rest, Ended, Entering, LoadPhase, LoadSet, Loading, OnField, Recording, OnNumber, Showing, StoreRoot, Making, AskCycle, Waiting, Leave, Gone}
+use Rattle.load_barrier.proofs.Inside.{resolve_image}
+use Rattle.mutator.specs.declared.spot.Spot.TheVariants.{Rest, Ended, Entering, LoadPhase, LoadSet, Loading, OnField, Resolving, Recording, OnNumber, Showing, StoreRoot, Making, AskCycle, Waiting, Leave, Gone}
 use Rattle.mutator.specs.declared.loads.LoadSpot.{LoadSpot}
 use Rattle.mutator.specs.declared.loads.LoadSpot.TheVariants as load
 use Rattle.mutator.specs.declared.fields.FieldSpot.{FieldSpot}
@@ -41,7 +41,7 @@ use Rattle.mutator.specs.declared.makes.MakeSpot.TheVariants as make
 use Rattle.mutator.specs.declared.waits.WaitSpot.{WaitSpot}
 use Rattle.mutator.specs.declared.waits.WaitSpot.TheVariants as wait
 use Rattle.mutator.specs.Orders.{takes_at}
-use Rattle.mutator.specs.Fit.{is_outside, numbers_fit, IsReady}
+use Rattle.mutator.specs.Fit.{is_outside, numbers_fit, stores_fit, IsReady}
 use Rattle.step_core.specs.Standing.{wait_standing, standing_at}
 use Rattle.step_core.proofs.Within.{goes_on_in}
 use Rattle.mutator.specs.WaitRows.{after_enter}
@@ -157,11 +157,12 @@ module _ (c : Config) (m : Mutating) (order : Order) where
   not_inside Lower on is = cc
   not_inside Await on is = cc
 
-  pub stays_in : (spot : Spot) → numbers_fit c m.made m.kept spot ≡ true → standing_at spot ≡ inside → StaysIn spot
+  pub stays_in : (spot : Spot) → numbers_fit c m.seat m.made m.kept spot ≡ true → standing_at spot ≡ inside → StaysIn spot
   stays_in LoadPhase on is = record { image = refl; next = λ got. goes_on_in c m order got LoadPhase is }
   stays_in LoadSet on is = record { image = refl; next = λ got. goes_on_in c m order got LoadSet is }
   stays_in (Loading at) on is = record { image = load_image c m.seat m.made m.kept order at; next = λ got. goes_on_in c m order got (Loading at) is }
   stays_in (OnField object at) on is = record { image = field_image c m.seat m.made object m.kept order at; next = λ got. goes_on_in c m order got (OnField object at) is }
+  stays_in (Resolving address at next) on is = record { image = resolve_image c m.seat address at; next = λ got. goes_on_in c m order got (Resolving address at next) is }
   stays_in (Recording at address next) on is = record { image = record_image c m.seat m.made address m.kept order at next; next = λ got. goes_on_in c m order got (Recording at address next) is }
   stays_in (OnNumber object refs at) on is = record { image = number_image c m.seat m.made object refs m.kept order at; next = λ got. goes_on_in c m order got (OnNumber object refs at) is }
   stays_in (Showing value at) on is = record { image = show_image c m.seat m.made value m.kept order at; next = λ got. goes_on_in c m order got (Showing value at) is }
@@ -203,7 +204,7 @@ module _ (c : Config) (m : Mutating) (order : Order) where
   given_ended reply (Begin command) takes is = cc
   given_ended reply End takes is = cc
 
-  spot_obeys : (spot : Spot) → takes_at spot m.made order ≡ true → numbers_fit c m.made m.kept spot ≡ true → IsWord c (touch_at c m.seat m.made m.kept Nothing spot).word → ObeysAt spot
+  spot_obeys : (spot : Spot) → takes_at spot m.made order ≡ true → numbers_fit c m.seat m.made m.kept spot ≡ true → IsWord c (touch_at c m.seat m.made m.kept Nothing spot).word → ObeysAt spot
   spot_obeys Rest takes going word = begins c (record m { spot = Rest }) order (given_order order takes)
   spot_obeys (Ended reply) takes going word = begins c (record m { spot = Ended reply }) order (given_ended reply order takes)
   spot_obeys Gone takes going word = absurd (cc (takes))
@@ -216,6 +217,7 @@ module _ (c : Config) (m : Mutating) (order : Order) where
   spot_obeys LoadSet takes going word = on LoadSet (stays_in LoadSet going refl) word
   spot_obeys (Loading at) takes going word = on (Loading at) (stays_in (Loading at) going refl) word
   spot_obeys (OnField object at) takes going word = on (OnField object at) (stays_in (OnField object at) going refl) word
+  spot_obeys (Resolving address at next) takes going word = on (Resolving address at next) (stays_in (Resolving address at next) going refl) word
   spot_obeys (Recording at address next) takes going word = on (Recording at address next) (stays_in (Recording at address next) going refl) word
   spot_obeys (OnNumber object refs at) takes going word = on (OnNumber object refs at) (stays_in (OnNumber object refs at) going refl) word
   spot_obeys (Showing value at) takes going word = on (Showing value at) (stays_in (Showing value at) going refl) word
@@ -254,7 +256,7 @@ module _ (c : Config) (m : Mutating) (order : Order) where
   waits_count (wait.StoreRoot address) word = counts_in (Waiting (wait.StoreRoot address)) (waits_in (wait.StoreRoot address) refl) refl word
   waits_count (wait.ClearAnswer reply) word = counts_in (Waiting (wait.ClearAnswer reply)) (waits_in (wait.ClearAnswer reply) refl) refl word
 
-  spot_counts : (spot : Spot) → takes_at spot m.made order ≡ true → numbers_fit c m.made m.kept spot ≡ true → IsWord c (touch_at c m.seat m.made m.kept Nothing spot).word → CountsAt spot
+  spot_counts : (spot : Spot) → takes_at spot m.made order ≡ true → numbers_fit c m.seat m.made m.kept spot ≡ true → IsWord c (touch_at c m.seat m.made m.kept Nothing spot).word → CountsAt spot
   spot_counts Rest takes going word = begins_count c (record m { spot = Rest }) order (given_order order takes)
   spot_counts (Ended reply) takes going word = begins_count c (record m { spot = Ended reply }) order (given_ended reply order takes)
   spot_counts Gone takes going word = absurd (cc (takes))
@@ -265,6 +267,7 @@ module _ (c : Config) (m : Mutating) (order : Order) where
   spot_counts LoadSet takes going word = counts_in LoadSet (stays_in LoadSet going refl) refl word
   spot_counts (Loading at) takes going word = counts_in (Loading at) (stays_in (Loading at) going refl) refl word
   spot_counts (OnField object at) takes going word = counts_in (OnField object at) (stays_in (OnField object at) going refl) refl word
+  spot_counts (Resolving address at next) takes going word = counts_in (Resolving address at next) (stays_in (Resolving address at next) going refl) refl word
   spot_counts (Recording at address next) takes going word = counts_in (Recording at address next) (stays_in (Recording at address next) going refl) refl word
   spot_counts (OnNumber object refs at) takes going word = counts_in (OnNumber object refs at) (stays_in (OnNumber object refs at) going refl) refl word
   spot_counts (Showing value at) takes going word = counts_in (Showing value at) (stays_in (Showing value at) going refl) refl word
@@ -273,14 +276,14 @@ module _ (c : Config) (m : Mutating) (order : Order) where
   spot_counts AskCycle takes going word = counts_in AskCycle (stays_in AskCycle going refl) refl word
 
 -- a mutator that is ready has its numbers in range, and makes an access of a word of the table
-pub ready_fits : (c : Config) (m : Mutating) → IsReady c m → numbers_fit c m.made m.kept m.spot ≡ true
-ready_fits c m ready = (and_parts (touch_fits c (touch_of c m Nothing)) (numbers_fit c m.made m.kept m.spot) ready).1
+pub ready_fits : (c : Config) (m : Mutating) → IsReady c m → numbers_fit c m.seat m.made m.kept m.spot ≡ true
+ready_fits c m ready = (and_parts (is_word c (touch_of c m Nothing).word && stores_fit c m.seat m.made m.kept m.spot) (numbers_fit c m.seat m.made m.kept m.spot) ready).1
 
 pub ready_word : (c : Config) (m : Mutating) → IsReady c m → IsWord c (touch_of c m Nothing).word
 ready_word c m ready =
     is_word_true c (touch_of c m Nothing).word
-    (and_parts (is_word c (touch_of c m Nothing).word) (form_fits (touch_of c m Nothing).form)
-    (and_parts (touch_fits c (touch_of c m Nothing)) (numbers_fit c m.made m.kept m.spot) ready).0).0
+    (and_parts (is_word c (touch_of c m Nothing).word) (stores_fit c m.seat m.made m.kept m.spot)
+    (and_parts (is_word c (touch_of c m Nothing).word && stores_fit c m.seat m.made m.kept m.spot) (numbers_fit c m.seat m.made m.kept m.spot) ready).0).0
 
 -- the step of a mutator obeys the handshake
 pub mutator_obeys : (c : Config) (m : Mutating) (order : Order) → takes_at m.spot m.made order ≡ true → IsReady c m

@@ -10,13 +10,20 @@ use Rattle.handshake.specs.declared.enter_spot.EnterSpot.TheVariants as enter
 use Rattle.handshake.specs.Standing.{is_within}
 use Rattle.mutator.specs.declared.spot.Kept.{Kept}
 use Rattle.mutator.specs.declared.spot.Spot.{Spot}
-use Rattle.mutator.specs.declared.spot.Spot.TheVariants.{Rest, Ended, Entering, Loading, OnField, Recording, OnNumber, Showing, Making, Waiting, Gone}
+use Rattle.mutator.specs.declared.spot.Spot.TheVariants.{Rest, Ended, Entering, Loading, OnField, Resolving, Recording, OnNumber, Showing, Making, Waiting, Gone}
 use Rattle.mutator.specs.declared.loads.LoadSpot.TheVariants as load
 use Rattle.mutator.specs.declared.fields.FieldSpot.TheVariants as fields
 use Rattle.mutator.specs.declared.numbers.NumberSpot.TheVariants as numbers
 use Rattle.mutator.specs.declared.shows.ShowSpot.TheVariants as show
 use Rattle.mutator.specs.declared.makes.MakeSpot.TheVariants as make
 use Rattle.alloc_buffers.specs.declared.spot.TakeSpot.TheVariants as take
+use Rattle.alloc_buffers.specs.declared.spot.TakeSpot.{TakeSpot}
+use Rattle.alloc_buffers.specs.Rows as takes
+use Rattle.load_barrier.specs.declared.copying.CopySpot.{CopySpot}
+use Rattle.load_barrier.specs.declared.copying.CopySpot.TheVariants as copying
+use Rattle.load_barrier.specs.declared.spot.ResolveSpot.{ResolveSpot}
+use Rattle.load_barrier.specs.declared.spot.ResolveSpot.TheVariants as resolve
+use Rattle.load_barrier.specs.Rows as resolves
 use Rattle.mutator.specs.declared.waits.WaitSpot.TheVariants as wait
 use Rattle.satb_barrier.specs.declared.spot.RememberSpot.TheVariants as remember
 use Rattle.mutator.specs.Orders.{takes_at}
@@ -83,6 +90,34 @@ outside_given (Waiting at) out = refl
 outside_given Gone out = refl
 outside_given _ out = cc
 
+-- no step of a resolving is of an answer
+take_answer : (memory : Word → ℕ) (seat words t : ℕ) (at : TakeSpot) → touched memory (takes.touch_at seat words at) (Answer t) ≡ memory (Answer t)
+take_answer memory seat words t take.LoadCurrent = refl
+take_answer memory seat words t (take.LoadTop region) = refl
+take_answer memory seat words t take.LoadFree = refl
+take_answer memory seat words t (take.TakeRegion region) = refl
+take_answer memory seat words t (take.StoreCurrent region) = refl
+take_answer memory seat words t (take.StoreTop region top) = refl
+take_answer memory seat words t (take.Ended taken) = refl
+
+copy_answer : (c : Config) (memory : Word → ℕ) (address copy t : ℕ) (at : CopySpot) → touched memory (resolves.copy_touch c address copy at) (Answer t) ≡ memory (Answer t)
+copy_answer c memory address copy t (copying.LoadWord words index) = refl
+copy_answer c memory address copy t (copying.StoreWord words index found) = refl
+copy_answer c memory address copy t copying.StoreHeader = refl
+copy_answer c memory address copy t copying.Publish = refl
+copy_answer c memory address copy t (copying.GiveBack answer) = refl
+
+resolve_answer : (c : Config) (memory : Word → ℕ) (seat address t : ℕ) (at : ResolveSpot) → touched memory (resolves.touch_at c seat address at) (Answer t) ≡ memory (Answer t)
+resolve_answer c memory seat address t resolve.LoadHeader = refl
+resolve_answer c memory seat address t (resolve.Entering at) = refl
+resolve_answer c memory seat address t resolve.LoadShape = refl
+resolve_answer c memory seat address t (resolve.Taking words at) = take_answer memory seat words t at
+resolve_answer c memory seat address t (resolve.Copying copy at) = copy_answer c memory address copy t at
+resolve_answer c memory seat address t (resolve.Leaving answer) = refl
+resolve_answer c memory seat address t (resolve.Stopping at) = refl
+resolve_answer c memory seat address t resolve.LoadAgain = refl
+resolve_answer c memory seat address t (resolve.Resolved answer) = refl
+
 -- a step of a mutator never writes into its answer that the heap is full
 pub answer_before : (c : Config) (memory : Word → ℕ) (seat made : ℕ) (kept : Kept) (order : Order) (spot : Spot) → touched memory (touch_at c seat made kept order spot) (Answer seat) ≡ 1 → memory (Answer seat) ≡ 1
 answer_before c memory seat made kept Nothing Rest now = now
@@ -133,6 +168,7 @@ answer_before c memory seat made kept order (Waiting wait.Poll) now = sym (cond_
 answer_before c memory seat made kept order (Waiting wait.LoadAnswer) now = sym (cond_same (seat == seat) (memory (Answer seat))) ∙ now
 answer_before c memory seat made kept order (Waiting (wait.StoreRoot address)) now = now
 answer_before c memory seat made kept order (Waiting (wait.ClearAnswer reply)) now = absurd (let cleared = cond-true (seat == seat) 0 (memory (Answer seat)) (eq-eqb seat seat refl) in omega (arith, now, cleared))
+answer_before c memory seat made kept order (Resolving address at next) now = sym (resolve_answer c memory seat address seat at) ∙ now
 answer_before c memory seat made kept order _ now = now
 
 -- who is refused settles and gives nothing until it has cleared its answer

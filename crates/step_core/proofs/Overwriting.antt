@@ -5,7 +5,7 @@ use Rattle.std.specs.Prelude.{◌==◌, nat_lt, if◌then◌else◌}
 use Rattle.std.proofs.lemmas.Bool.{and_from, and_parts, cases_Bool, eqb-true, eqb-false, lt-ltb, ltb-true}
 use Rattle.std.proofs.lemmas.Bool.Decides.{nat_tests}
 use Rattle.heap_words.specs.declared.config.Config.{Config}
-use Rattle.heap_words.specs.Words.{Top, Heap}
+use Rattle.heap_words.specs.Words.{Phase, Top, Heap}
 use Rattle.heap_words.proofs.Stores.{is_word_from}
 use Rattle.steps_base.specs.Fits.{form_fits}
 use Rattle.shen_graph.specs.declared.command.Command.{Command}
@@ -27,6 +27,7 @@ use Rattle.mutator.specs.Rows.{Mutating, is_to_record}
 use Rattle.heap_world.specs.World.{World, thing, hand, promised, Points, IsMarkable, IsCovered, Shared}
 use Rattle.heap_world.proofs.Marked.{same_marks}
 use Rattle.heap_world.proofs.Objects.{stored}
+use Rattle.heap_world.proofs.Unmoved.{unmoved}
 use Rattle.heap_world.proofs.Pointing.{named_thing, named_if_not_0, piece_small}
 use Rattle.step_core.specs.Stepped.{HasMarkingBy, Stepped}
 use Rattle.step_core.proofs.Marking.{covered_found, covered_unmarked, rely_twice}
@@ -81,8 +82,9 @@ overwrites_of c u seat phase object field v below shared marking none stands = l
     (λ (records : is_to_record phase got ≡ true).
     let some = recorded_some phase got records in
     let named = named_if_not_0 c (λ r. u.memory (Top r)) u.block shared.parsable.plotted got v stands some.1 in
-    let piece = named_thing (u.block got) named.0 named.2 in
-    let held = recording_steps.begins c u seat got below (sym (marking.phase_is refl) ∙ some.0) (IsMarkable.object named.0 piece.0 piece.1 piece.2) marking.records marking.scans none shared in
+    let on : u.memory Phase ≡ 1 = sym (marking.phase_is refl) ∙ some.0 in
+    let piece = named_thing (u.block got) named.0 (λ refs nums to is. unmoved c u shared (λ two. omega (arith, on, two)) got refs nums to named.0 is) named.2 in
+    let held = recording_steps.begins c u seat got below on (IsMarkable.object named.0 piece.0 piece.1 piece.2) marking.records marking.scans none shared in
     Overwrites.takes records held (covered_found c u (with_in_hand u seat got) object field shared held.keeps.marks (inr held.noted)))
     (λ (other : is_to_record phase got ≡ false). Overwrites.leaves other (⊎_elim
     (λ (on : (phase == 1) ≡ true). covered_found c u u object field shared (same_marks c u seat).keeps (inl (null_unrecorded phase got other on)))
@@ -101,7 +103,7 @@ stepped_in_hand c u m got command fixed held step = record {
   settles = step.settles;
   shared = step.shared;
   mine = step.mine;
-  others = λ j d. rely_twice c j u (with_in_hand u m.seat got) step.world (held.others j d) (step.others j d);
+  others = λ j d. rely_twice c j u (with_in_hand u m.seat got) step.world held.own.phase (held.others j d) (step.others j d);
 }
 
 -- a mutator that can record an address still can after a store into an object

@@ -8,7 +8,7 @@ use Rattle.std.proofs.lemmas.List.Elements.{All-nil}
 use Rattle.heap_words.specs.declared.config.Config.{Config}
 use Rattle.heap_words.specs.Ranges.{seat_count}
 use Rattle.std.specs.Int.{bit_at}
-use Rattle.heap_words.specs.Words.{Phase, Ask, Root, Answer, view}
+use Rattle.heap_words.specs.Words.{Phase, Cset, Evac, Ask, Root, Answer, view}
 use Rattle.packing.specs.Tops.{sum_below}
 use Rattle.packing.proofs.Sums.{sum_same}
 use Rattle.shen_graph.specs.declared.command.Command.{Command}
@@ -27,26 +27,25 @@ use Rattle.mutator.specs.declared.waits.WaitSpot.TheVariants as wait
 use Rattle.mutator.specs.Commands.{dst_of, refs_of, nums_of}
 use Rattle.mutator.specs.Orders.{is_waiting}
 use Rattle.mutator.specs.Rows.{Mutating}
-use Rattle.heap_world.proofs.Keeping.{usable_now}
-use Rattle.heap_world.specs.World.{Ghost, World, Plot, hand, Points, Shared}
+use Rattle.heap_world.specs.World.{Ghost, World, Plot, hand, Points, IsUsable, UsableIn, Shared}
 use Rattle.heap_world.specs.Asking.{Asking, nothing, asks, refused, given, IsAsked}
 use Rattle.heap_world.specs.Change.{Change, Answers, IsPause, IsPaused, image_view, image_words, words_given}
-use Rattle.heap_world.specs.Represents.{NobodyMarks, Represents}
+use Rattle.heap_world.specs.Represents.{NobodyMarks, NobodyCopies, Represents}
 use Rattle.heap_world.specs.Roots.{HasNoMore}
 use Rattle.control_steps.specs.declared.spot.ControlSpot.TheVariants.{StoreWord}
 use Rattle.step_core.specs.Actor.{Machine, mutating, helping, controlling, Actor}
 use Rattle.step_core.specs.Settled.{mixed, settled_by, control_number}
 use Rattle.step_core.specs.Own.{root_now, IsInHand}
 use Rattle.step_core.specs.Standing.{standing_at, standing_of}
-use Rattle.step_core.specs.Stepped.{recording_of, has_phase, HasMarkingBy, IsMaking, IsPolling, IsAnswered, SpotFacts, Mine}
+use Rattle.step_core.specs.Stepped.{recording_of, has_phase, has_set, copies_at, HasMarkingBy, HasCopyingBy, IsMaking, IsPolling, IsAnswered, SpotFacts, Mine}
 use Rattle.step_core.specs.Threads.{IsSettled}
-use Rattle.step_core.proofs.Facts.{IsSeen, IsShort, AreRead, IsThread, IsMachine, PromisedToMutators, Owes, words_promised}
+use Rattle.step_core.proofs.Facts.{IsSeen, IsShort, AreRead, IsThread, IsResting, IsMachine, PromisedToMutators, Owes, words_promised}
 use Rattle.step_core.proofs.Asked.{asking_by, asking_asks, asking_refused, asking_given, asking_at, asking_in, asking_of, asked_same, polling_asked, answered_asked, nothing_then, refused_then, given_then, asks_then, promised_given}
 use Rattle.step_core.proofs.Images.{mixed_whole}
-use Rattle.step_core.proofs.Helpers.{scans_none_outside, help_outside}
+use Rattle.step_core.proofs.Helpers.{rests_outside, help_outside}
 use Rattle.step_core.proofs.Pauses.{open_world}
 use Rattle.step_core.proofs.Replies.{answered_polls}
-use Rattle.step_core.proofs.Roles.{full_settled, machine_there, mutator_there, unmarking_by}
+use Rattle.step_core.proofs.Roles.{full_settled, machine_there, mutator_there, unmarking_by, uncopying_by, rests_by}
 use Rattle.step_core.proofs.Spots.{mutator_at}
 
 -- an image has words
@@ -95,6 +94,29 @@ marking_outside c w seat loaded spot out unmarking below =
     subst (λ in_hand. HasMarkingBy w seat in_hand loaded (has_phase spot)) (sym (records_outside spot out))
     (subst (λ knows. HasMarkingBy w seat None loaded knows) (sym (phase_outside spot out)) (unmarking_by c w seat loaded unmarking below))
 
+-- it copies nothing, and its call has not loaded the collection set, or knows it no more
+copies_outside : (spot : Spot) → is_within (standing_at spot) ≡ false → copies_at spot ≡ false
+copies_outside Rest out = refl
+copies_outside (Ended reply) out = refl
+copies_outside (Entering at then_on) out = refl
+copies_outside (Waiting at) out = refl
+copies_outside Gone out = refl
+copies_outside _ out = absurd (cc (out))
+
+set_outside : (spot : Spot) → is_within (standing_at spot) ≡ false → has_set spot ≡ false
+set_outside Rest out = refl
+set_outside (Ended reply) out = refl
+set_outside (Entering at then_on) out = refl
+set_outside (Waiting at) out = refl
+set_outside Gone out = refl
+set_outside _ out = absurd (cc (out))
+
+-- so where nobody copies, what it counts on of evacuation holds
+copying_outside : (c : Config) (w : World) (seat loaded : ℕ) (spot : Spot) → is_within (standing_at spot) ≡ false → NobodyCopies c w.ghost → seat < c.mutators → HasCopyingBy w seat (copies_at spot) loaded (has_set spot)
+copying_outside c w seat loaded spot out uncopying below =
+    subst (λ copies. HasCopyingBy w seat copies loaded (has_set spot)) (sym (copies_outside spot out))
+    (subst (λ knows. HasCopyingBy w seat false loaded knows) (sym (set_outside spot out)) (uncopying_by c w seat loaded uncopying below))
+
 -- what it has asked for stands in the words
 asked_outside : (c : Config) (w : World) (seat made : ℕ) (kept : Kept) (spot : Spot) (command : Command) (fixed : Option Reply) → is_within (standing_at spot) ≡ false
     → Mine c w (mutator_at seat made kept spot) command fixed → IsAsked w.memory w.block w.graph.count seat (asking_at spot (w.memory (Answer seat)) kept.command)
@@ -126,10 +148,11 @@ heard_outside c w seat made refs nums kept (Waiting wait.Poll) command fixed out
 heard_outside c w seat made refs nums kept (Waiting at) command fixed out mine is = absurd (cc (out))
 heard_outside c w seat made refs nums kept _ command fixed out mine is = absurd (cc (is))
 
--- The mutators in a new image: it stands for the same graph, nobody marks in it, and it answers who asks.
+-- The mutators in a new image: it stands for the same graph, nobody marks or copies in it, and it answers who asks.
 module _ (c : Config) (words : List ℕ) (u w : World) (t made : ℕ) (kept : Kept) (b : Actor) (x : Asking)
     (asked : IsAsked w.memory w.block w.graph.count t x) (graph : w.graph ≡ u.graph)
-    (roots : (i : ℕ) → i < 16 → Points w.block (w.memory (Root t i)) (w.graph.root (t + 1) i)) (none : (a more : ℕ) → w.block a ≡ Some (hand t more) → ⊥) (unmarking : NobodyMarks c w.ghost) where
+    (roots : (i : ℕ) → i < 16 → Points w.block (w.memory (Root t i)) (w.graph.root (t + 1) i)) (none : (a more : ℕ) → w.block a ≡ Some (hand t more) → ⊥) (unmarking : NobodyMarks c w.ghost)
+    (uncopying : NobodyCopies c w.ghost) (usable : (i : ℕ) → i < 16 → UsableIn c w (w.memory (Root t i))) where
   -- what it counts on then, where it is outside
   mine_outside : (spot : Spot) (fixed : Option Reply) → is_within (standing_at spot) ≡ false → Mine c u (mutator_at t made kept spot) b.command fixed
       → (is_waiting spot ≡ false → IsAsked w.memory w.block w.graph.count t nothing) → SpotFacts c w t made kept b.command fixed spot → Mine c w (mutator_at t made kept spot) b.command fixed
@@ -137,11 +160,12 @@ module _ (c : Config) (words : List ℕ) (u w : World) (t made : ℕ) (kept : Ke
     seated = record {
       below = mine.seated.below;
       counted = ap (λ g. g.count (t + 1)) graph ∙ mine.seated.counted;
-      usable = λ i small. usable_now w.block _ _ (roots i small);
+      usable = usable;
       unasked = unasked;
     };
     ready = mine.ready;
     marking = marking_outside c w t kept.phase spot out unmarking mine.seated.below;
+    copying = copying_outside c w t kept.cset spot out uncopying mine.seated.below;
     roots = λ i small. subst (λ word. Points w.block word (w.graph.root (t + 1) i)) (sym (root_outside w t kept spot i out)) (roots i small);
     hands = λ a more is. absurd (none a more is);
     facts = facts;
@@ -259,9 +283,9 @@ module _ (c : Config) (words : List ℕ) (u w : World) (t made : ℕ) (kept : Ke
     thread_then (Waiting (wait.ClearAnswer reply)) out short answers old = cc
     thread_then _ out short answers old = cc
 
--- A stage in which the control works in a pause, and every machine but it is outside.
+-- A stage in which the control works in a pause and rests, and every machine but it is outside.
 module _ (c : Config) (words : List ℕ) (block : Plot) (ghost : Ghost) (g : Graph) (past : List Entry) (machines : List Actor) (image : List ℕ)
-    (read : AreRead c words image (image_words c)) (seats : length machines ≡ seat_count c.mutators c.helpers) where
+    (read : AreRead c words image (image_words c)) (seats : length machines ≡ seat_count c.mutators c.helpers) (still : IsResting (open_world c words block ghost g) (control_number c)) where
   abbrev before : World
   before = open_world c words block ghost g
 
@@ -285,14 +309,21 @@ module _ (c : Config) (words : List ℕ) (block : Plot) (ghost : Ghost) (g : Gra
   mutator_asks : (t : ℕ) (b : Actor) (m : Mutating) → slice_get machines t ≡ Some b → b.machine ≡ mutating m → asking t ≡ asking_at m.spot (view c words (Answer t)) m.kept.command
   mutator_asks t b m there is = ap (λ o. asking_of o (view c words (Answer t))) there ∙ ap (λ machine. asking_in machine (view c words (Answer t))) is
 
+  -- the machine of a seat neither marks nor copies, nor does it work on a unit
+  record IsIdleSeat (seat : ℕ) : Type 0 where
+    pub records_none : ghost.recording seat ≡ None
+    pub scans_none : ghost.scanning seat ≡ None
+    pub copies_none : ghost.copying seat ≡ false
+    pub works_none : ghost.working seat ≡ None
+
   -- nobody has room in hand
   none_of : (k : ℕ) (b : Actor) (machine : Machine) → (k ≢ control_number c → is_within (standing_of machine) ≡ false) → IsMachine c words before (of_thread past (k + 1)) k b machine
       → (a more : ℕ) → block a ≡ Some (hand k more) → ⊥
   none_of k b (mutating m) outside is a more here =
       let below : k < c.mutators = subst (λ j. j < c.mutators) is.number_is is.mine.seated.below in
       none_outside m.kept m.spot a more (outside (λ e. omega (arith, below, e))) (is.mine.hands a more (subst (λ j. block a ≡ Some (hand j more)) (sym is.number_is) here))
-  none_of k b (helping h) outside is a more here = is.hands a more here
-  none_of k b (controlling h) outside is a more here = is.hands a more here
+  none_of k b (helping h) outside is a more here = (rests_outside c before k h.spot (outside (λ e. (let below = is.below in omega (arith, below, e)))) is.facts).hands a more here
+  none_of k b (controlling h) outside is a more here = still.hands a more (subst (λ j. block a ≡ Some (hand j more)) is.number_is here)
 
   pub no_hands : Shared c before → AllKnown → AllOutside → (a seat more : ℕ) → block a ≡ Some (hand seat more) → ⊥
   no_hands shared known outside a seat more here =
@@ -321,27 +352,45 @@ module _ (c : Config) (words : List ℕ) (block : Plot) (ghost : Ghost) (g : Gra
       ap (λ j. asking_at m.spot (view c words (Answer j)) m.kept.command) thread.number_is ∙ sym (mutator_asks t there.0 m there.2 there.3) ∙ is in
       heard_outside c before m.seat m.made refs nums m.kept m.spot there.0.command thread.fixed out thread.mine asks_so
 
-  -- nobody marks, where the control does not
-  scans_none_of : ghost.scanning (control_number c) ≡ None → (k : ℕ) (b : Actor) (machine : Machine) → (k ≢ control_number c → is_within (standing_of machine) ≡ false)
-      → IsMachine c words before (of_thread past (k + 1)) k b machine → ghost.scanning k ≡ None
-  scans_none_of still k b (mutating m) outside is = subst (λ j. ghost.scanning j ≡ None) is.number_is is.mine.marking.scans
-  scans_none_of still k b (helping h) outside is = scans_none_outside c before k h.phase h.spot (outside (λ e. (let below = is.below in omega (arith, below, e)))) is.facts
-  scans_none_of still k b (controlling h) outside is = subst (λ j. ghost.scanning j ≡ None) (sym is.number_is) still
+  -- every machine rests
+  rests_of : (k : ℕ) (b : Actor) (machine : Machine) → (k ≢ control_number c → is_within (standing_of machine) ≡ false) → IsMachine c words before (of_thread past (k + 1)) k b machine → IsIdleSeat k
+  rests_of k b (mutating m) outside is =
+      let below : k < c.mutators = subst (λ j. j < c.mutators) is.number_is is.mine.seated.below in
+      let out = outside (λ e. omega (arith, below, e)) in
+      subst IsIdleSeat is.number_is
+      (record {
+        records_none = is.mine.marking.records ∙ records_outside m.spot out;
+        scans_none = is.mine.marking.scans;
+        copies_none = is.mine.copying.copies_is ∙ copies_outside m.spot out;
+        works_none = is.mine.copying.works_none;
+      })
+  rests_of k b (helping h) outside is =
+      let rests = rests_outside c before k h.spot (outside (λ e. (let below = is.below in omega (arith, below, e)))) is.facts in
+      record { records_none = rests.records_none; scans_none = rests.scans_none; copies_none = rests.copies_none; works_none = rests.works_none }
+  rests_of k b (controlling h) outside is =
+      subst IsIdleSeat (sym is.number_is)
+      (record { records_none = still.records_none; scans_none = still.scans_none; copies_none = still.copies_none; works_none = still.works_none })
 
-  nobody_marks : AllKnown → AllOutside → ghost.scanning (control_number c) ≡ None → NobodyMarks c ghost
-  nobody_marks known outside still = record {
-    records_none = λ t below.
-        let there = mutator_there c words before past machines seats known t below in
-        let thread = there.4 in
-        subst (λ j. ghost.recording j ≡ None) thread.number_is (thread.mine.marking.records ∙ records_outside there.1.spot (mutator_out outside t there.0 there.1 below there.2 there.3));
-    scans_none = λ seat below.
-        let there = machine_there c words before past machines seats seat below in
-        scans_none_of still seat there.0 there.0.machine (outside seat there.0 there.1) (known seat there.0 there.1);
+  all_rest : AllKnown → AllOutside → (seat : ℕ) → seat < seat_count c.mutators c.helpers → IsIdleSeat seat
+  all_rest known outside seat below =
+      let there = machine_there c words before past machines seats seat below in
+      rests_of seat there.0 there.0.machine (outside seat there.0 there.1) (known seat there.0 there.1)
+
+  nobody_marks : AllKnown → AllOutside → NobodyMarks c ghost
+  nobody_marks known outside = record {
+    records_none = λ seat below. (all_rest known outside seat below).records_none;
+    scans_none = λ seat below. (all_rest known outside seat below).scans_none;
+  }
+
+  nobody_copies : AllKnown → AllOutside → NobodyCopies c ghost
+  nobody_copies known outside = record {
+    copies_none = λ seat below. (all_rest known outside seat below).copies_none;
+    works_none = λ seat below. (all_rest known outside seat below).works_none;
   }
 
   -- The image that was read stands for the graph.
-  pub image_stands : Shared c before → PromisedToMutators c block → HasNoMore c.mutators g → AllKnown → AllOutside → ghost.scanning (control_number c) ≡ None → Represents c (image_view c image) g asking
-  image_stands shared promised_to no_more known outside still =
+  pub image_stands : Shared c before → PromisedToMutators c block → HasNoMore c.mutators g → AllKnown → AllOutside → Represents c (image_view c image) g asking
+  image_stands shared promised_to no_more known outside =
       let whole : view c words ≡ mixed c words image = sym (mixed_whole c words image read) in
       record {
         block = block;
@@ -355,19 +404,25 @@ module _ (c : Config) (words : List ℕ) (block : Plot) (ghost : Ghost) (g : Gra
             subst (λ memory. Points block (memory (Root t i)) (g.root (t + 1) i)) whole
             (subst (λ j. Points block (view c words (Root j i)) (g.root (j + 1) i)) thread.number_is
             (subst (λ word. Points block word (g.root (m.seat + 1) i)) (root_outside before m.seat m.kept m.spot i out) (thread.mine.roots i small)));
+        usable = λ t i below small.
+            let there = mutator_there c words before past machines seats known t below in
+            let thread = there.4 in
+            subst (λ memory. IsUsable c (memory Cset) (memory Evac) block (memory (Root t i))) whole
+            (subst (λ j. IsUsable c (view c words Cset) (view c words Evac) block (view c words (Root j i))) thread.number_is (thread.mine.seated.usable i small));
         none = no_hands shared known outside;
         asked = λ t below. asked_same (mixed c words image) (image_view c image) block g.count t (asking t) refl refl (λ a. refl) (subst (λ memory. IsAsked memory block g.count t (asking t)) whole (asked_there known outside t below));
         heard = λ t refs nums below is. subst (λ memory. bit_at (memory Ask) 1 ≡ 1) whole (heard_there known outside t refs nums below is);
         promised_to = promised_to;
-        unmarking = nobody_marks known outside still;
+        unmarking = nobody_marks known outside;
+        uncopying = nobody_copies known outside;
         no_more = no_more;
       }
 
   -- The new image counts: what the step owes.
   module _ (change : Change) (law : IsPause change) (long : length image ≡ image_words c) (shared : Shared c before) (promised_to : PromisedToMutators c block) (no_more : HasNoMore c.mutators g)
-      (known : AllKnown) (outside : AllOutside) (still : ghost.scanning (control_number c) ≡ None) where
+      (known : AllKnown) (outside : AllOutside) where
     paused : IsPaused c (image_view c image) (image_view c (change c image)) g asking
-    paused = law.pauses c image g asking long (image_stands shared promised_to no_more known outside still)
+    paused = law.pauses c image g asking long (image_stands shared promised_to no_more known outside)
 
     -- the world then
     abbrev then_world : World
@@ -397,7 +452,7 @@ module _ (c : Config) (words : List ℕ) (block : Plot) (ghost : Ghost) (g : Gra
         let asks_so = mutator_asks k b m there is in
         subst (λ j. IsThread c words then_world (of_thread past (k + 1)) k b (mutator_at j m.made m.kept m.spot)) (sym thread.number_is)
         (thread_then c words before then_world k m.made m.kept b (paused.asked_then k) (asked_in_it k below) refl (λ i small. paused.stands.roots k i below small) (λ a more. paused.stands.none a k more) paused.stands.unmarking
-        (of_thread past (k + 1)) refl m.spot out (λ refs nums asks_by. crowded_then k below refs nums (asks_so ∙ asks_by))
+        paused.stands.uncopying (λ i small. paused.stands.usable k i below small) (of_thread past (k + 1)) refl m.spot out (λ refs nums asks_by. crowded_then k below refs nums (asks_so ∙ asks_by))
         (subst (λ y. Answers y (paused.asked_then k)) asks_so (paused.answers k below))
         (subst (λ j. IsThread c words before (of_thread past (k + 1)) k b (mutator_at j m.made m.kept m.spot)) thread.number_is thread))
 
@@ -408,16 +463,15 @@ module _ (c : Config) (words : List ℕ) (block : Plot) (ghost : Ghost) (g : Gra
     machine_then k b (helping h) there is other out thread = record {
       number_is = thread.number_is;
       ready = thread.ready;
-      facts = help_outside c then_world k h.phase h.spot out (paused.stands.unmarking.scans_none k (let below = thread.below in omega (arith, below)));
+      facts = help_outside c then_world k h.spot out (rests_by c then_world k paused.stands.unmarking paused.stands.uncopying (λ a more. paused.stands.none a k more) (let below = thread.below in omega (arith, below)));
       least = thread.least;
       below = thread.below;
-      hands = λ a more. paused.stands.none a k more;
     }
     machine_then k b (controlling h) there is other out thread = absurd (other thread.number_is)
 
     -- what the control owes
     pub paused_owes : (seen : ℕ) (command : Command) (calls : List Entry) → Owes c words words before past (control_number c) machines (settled_by c words (Some (change c image))) []
-        (record { machine = controlling (record { spot = StoreWord 0; seen = seen; phase = image_view c (change c image) Phase; image = change c image }); command = command; calls = calls ++ [] })
+        (record { machine = controlling (record { spot = StoreWord 0; seen = seen; phase = image_view c (change c image) Phase; cset = image_view c (change c image) Cset; image = change c image }); command = command; calls = calls ++ [] })
     paused_owes seen command calls = record {
       world = then_world;
       memory_is = refl;
@@ -428,10 +482,10 @@ module _ (c : Config) (words : List ℕ) (block : Plot) (ghost : Ghost) (g : Gra
       promised_to = paused.stands.promised_to;
       own = record {
         number_is = refl;
-        hands = λ a more. paused.stands.none a (control_number c) more;
         ready = lt-ltb _ _ (some_words c);
         phase_is = refl;
-        facts = paused.stands.unmarking.scans_none (control_number c) (omega arith);
+        set_is = refl;
+        facts = rests_by c then_world (control_number c) paused.stands.unmarking paused.stands.uncopying (λ a more. paused.stands.none a (control_number c) more) (omega arith);
         aims = (law.long c image long, λ i below. absurd (omega (arith, below)));
       };
       others = λ k b other there is.

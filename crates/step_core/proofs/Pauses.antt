@@ -1,7 +1,7 @@
 -- The steps of the control outside the words of an image: it looks, scans, stops the other machines, and lets them go.
 use Rattle.std.proofs.Common.{◌≡◌, ◌≢◌, ℕ, ◌+◌, Bool, true, false, List, [], ◌++◌, length, None, refl, sym, ap, ◌∙◌, subst, arith}
 use Rattle.std.specs.Prelude.{◌==◌, if◌then◌else◌}
-use Rattle.std.proofs.lemmas.Bool.{and_parts, eqb-false}
+use Rattle.std.proofs.lemmas.Bool.{and_parts, eqb-false, eqb-true}
 use Rattle.heap_words.specs.declared.config.Config.{Config}
 use Rattle.heap_words.specs.declared.access.Unit.TheVariants.{Worked, NoneLeft}
 use Rattle.heap_words.specs.Words.{Word, Pause, Left, End, Ask, Free, State, is_word, view, write, table_words}
@@ -16,22 +16,27 @@ use Rattle.handshake.specs.Rows.{stop_next}
 use Rattle.scan_steps.specs.declared.spot.ScanSpot.{ScanSpot}
 use Rattle.scan_steps.specs.declared.spot.ScanSpot.TheVariants as scan
 use Rattle.scan_steps.specs.Rows as scans
-use Rattle.mark_steps.specs.Scanning.{CanScan}
+use Rattle.load_barrier.specs.declared.evac_spot.EvacSpot.{EvacSpot}
+use Rattle.load_barrier.specs.declared.evac_spot.EvacSpot.TheVariants as evac
+use Rattle.load_barrier.specs.UnitRows as evacs
+use Rattle.evac_steps.specs.Evacuating.{CanEvacuate}
+use Rattle.evac_steps.proofs.Parts.{evacuating_steps}
 use Rattle.mark_steps.proofs.Parts.{scanning_steps}
 use Rattle.heap_world.specs.World.{Ghost, World, Plot, Shared}
 use Rattle.heap_world.specs.Change.{Change}
 use Rattle.heap_world.specs.Part.{PartStep}
 use Rattle.control_steps.specs.declared.spot.ControlSpot.{ControlSpot}
-use Rattle.control_steps.specs.declared.spot.ControlSpot.TheVariants.{LookLeft, StoreEnd, LookAsked, LookFree, Scanning, Stopping, Go}
-use Rattle.control_steps.specs.Rows.{Controlling, control_touch, control_next, stopping, after_scan, begins_pause, unasked, wants_pause}
+use Rattle.control_steps.specs.declared.spot.ControlSpot.TheVariants.{LookLeft, StoreEnd, LookAsked, LookFree, Scanning, Evacuating, Stopping, Go}
+use Rattle.control_steps.specs.Rows.{Controlling, control_touch, control_next, stopping, after_scan, after_evacuation, begins_pause, begins_unit, unasked, wants_pause}
 use Rattle.control_steps.proofs.Ready.{stays_ready}
 use Rattle.step_core.specs.Actor.{Machine, mutating, helping, controlling, Actor}
 use Rattle.step_core.specs.Settled.{stored_image, settled_by, control_number}
-use Rattle.step_core.proofs.Facts.{ControlFacts, IsAim, IsControl, IsMachine, PromisedToMutators, Owes}
+use Rattle.step_core.proofs.Facts.{IsResting, Scans, ControlFacts, IsAim, IsControl, IsMachine, PromisedToMutators, Owes}
 use Rattle.step_core.proofs.Images.{words_after, view-placed}
 use Rattle.step_core.proofs.Alike.{is_of_handshake, load_step, store_step}
 use Rattle.step_core.proofs.Marking.{world_with}
-use Rattle.step_core.proofs.Helpers.{phase_one}
+use Rattle.step_core.proofs.Helpers.{phase_two}
+use Rattle.step_core.proofs.Units.{scans_from, scans_step, scanned_rests, evacuates_from, evacuated_rests}
 use Rattle.step_core.proofs.Quiet.{quiet_owes}
 
 -- another machine is no control
@@ -71,8 +76,8 @@ module _ (c : Config) (words : List ℕ) (block : Plot) (ghost : Ghost) (g : Gra
   plain_aim false x y ws image one other = other
 
   -- what it counts on at one of two spots
-  plain_facts : (w : World) (b : Bool) (x y : ControlSpot) → ControlFacts c w (control_number c) x → (b ≡ false → ControlFacts c w (control_number c) y) → ControlFacts c w (control_number c) (if b then x else y)
-  plain_facts w true x y one other = one
+  plain_facts : (w : World) (b : Bool) (x y : ControlSpot) → (b ≡ true → ControlFacts c w (control_number c) x) → (b ≡ false → ControlFacts c w (control_number c) y) → ControlFacts c w (control_number c) (if b then x else y)
+  plain_facts w true x y one other = one refl
   plain_facts w false x y one other = other refl
 
   -- once all others are stopped it loads the first word
@@ -86,10 +91,10 @@ module _ (c : Config) (words : List ℕ) (block : Plot) (ghost : Ghost) (g : Gra
   stopping_aim (stop.Check seat) ws = tt
   stopping_aim stop.Stopped ws = (refl, λ i below. absurd (omega (arith, below)))
 
-  stopping_facts : (w : World) (at : StopSpot) → w.ghost.scanning (control_number c) ≡ None → ControlFacts c w (control_number c) (stopping at)
-  stopping_facts w stop.Raise none = none
-  stopping_facts w (stop.Check seat) none = none
-  stopping_facts w stop.Stopped none = none
+  stopping_facts : (w : World) (at : StopSpot) → IsResting w (control_number c) → ControlFacts c w (control_number c) (stopping at)
+  stopping_facts w stop.Raise rests = rests
+  stopping_facts w (stop.Check seat) rests = rests
+  stopping_facts w stop.Stopped rests = rests
 
   -- where it scans, or has scanned a unit
   scan_spot : (at : ScanSpot) → stored_image (after_scan at) [] ≡ None
@@ -102,15 +107,31 @@ module _ (c : Config) (words : List ℕ) (block : Plot) (ghost : Ghost) (g : Gra
   scan_aim (scan.Ended NoneLeft) ws = tt
   scan_aim _ ws = tt
 
-  scan_facts : (w : World) (at : ScanSpot) → CanScan c w (control_number c) at → ControlFacts c w (control_number c) (after_scan at)
-  scan_facts w (scan.Ended Worked) can = can.scanning
-  scan_facts w (scan.Ended NoneLeft) can = can.scanning
-  scan_facts w _ can = can
+  scan_facts : (w : World) (at : ScanSpot) → Scans c w (control_number c) at → ControlFacts c w (control_number c) (after_scan at)
+  scan_facts w (scan.Ended Worked) scans = scanned_rests c w (control_number c) Worked scans
+  scan_facts w (scan.Ended NoneLeft) scans = scanned_rests c w (control_number c) NoneLeft scans
+  scan_facts w _ scans = scans
+
+  -- where it evacuates, or has evacuated a unit
+  evac_spot : (cset : ℕ) (at : EvacSpot) → stored_image (after_evacuation cset at) [] ≡ None
+  evac_spot cset (evac.Ended Worked) = refl
+  evac_spot cset (evac.Ended NoneLeft) = refl
+  evac_spot cset _ = refl
+
+  evac_aim : (cset : ℕ) (at : EvacSpot) (ws : List ℕ) → IsAim c ws (after_evacuation cset at) []
+  evac_aim cset (evac.Ended Worked) ws = tt
+  evac_aim cset (evac.Ended NoneLeft) ws = tt
+  evac_aim cset _ ws = tt
+
+  evac_facts : (w : World) (cset : ℕ) (at : EvacSpot) → CanEvacuate c w (control_number c) cset at → ControlFacts c w (control_number c) (after_evacuation cset at)
+  evac_facts w cset (evac.Ended Worked) can = evacuated_rests c w (control_number c) cset Worked can
+  evac_facts w cset (evac.Ended NoneLeft) can = evacuated_rests c w (control_number c) cset NoneLeft can
+  evac_facts w cset _ can = can
 
   -- What it owes that stands at a spot outside the image, and finds a word.
-  module _ (change : Change) (seen phase : ℕ) (image : List ℕ) (long : length words ≡ table_words c) (shared : Shared c u) (promised_to : PromisedToMutators c block) where
+  module _ (change : Change) (seen phase cset : ℕ) (image : List ℕ) (long : length words ≡ table_words c) (shared : Shared c u) (promised_to : PromisedToMutators c block) where
     abbrev at_spot : ControlSpot → Controlling
-    at_spot spot = record { spot = spot; seen = seen; phase = phase; image = image }
+    at_spot spot = record { spot = spot; seen = seen; phase = phase; cset = cset; image = image }
 
     abbrev then_at : ControlSpot → ℕ → Controlling
     then_at spot got = control_next change c (at_spot spot) got
@@ -142,10 +163,10 @@ module _ (c : Config) (words : List ℕ) (block : Plot) (ghost : Ghost) (g : Gra
         loads_word Left (then_at LookLeft got) refl
         (record {
           number_is = refl;
-          hands = known.hands;
-          ready = stays_ready c phase seen LookLeft got known.ready tt;
+          ready = stays_ready c phase cset seen LookLeft got known.ready tt;
           phase_is = known.phase_is;
-          facts = plain_facts u (got == 0) StoreEnd LookAsked known.facts (λ no. known.facts);
+          set_is = known.set_is;
+          facts = plain_facts u (got == 0) StoreEnd LookAsked (λ yes. known.facts) (λ no. known.facts);
           aims = plain_aim (got == 0) StoreEnd LookAsked _ [] tt tt;
         })
         (plain_spot (got == 0) StoreEnd LookAsked [] refl refl)
@@ -154,15 +175,24 @@ module _ (c : Config) (words : List ℕ) (block : Plot) (ghost : Ghost) (g : Gra
     pub store_end : (got : ℕ) → Quiet StoreEnd got
     store_end got known =
         stores_word End 1 (then_at StoreEnd got) refl refl (λ k differs. refl) shared
-        (record { number_is = refl; hands = known.hands; ready = stays_ready c phase seen StoreEnd got known.ready tt; phase_is = known.phase_is; facts = known.facts; aims = tt }) refl
+        (record { number_is = refl; ready = stays_ready c phase cset seen StoreEnd got known.ready tt; phase_is = known.phase_is; set_is = known.set_is; facts = known.facts; aims = tt }) refl
 
-    -- while objects are marked it claims a unit
-    claims : IsControl c words u (control_number c) (at_spot LookAsked) → (phase == 0) ≡ false → CanScan c u (control_number c) scan.LoadClaim
-    claims known some =
-        let calm = shared.calm.phase_is in
+    -- while objects are marked or evacuated it claims a unit
+    begins_facts : IsControl c words u (control_number c) (at_spot LookAsked) → (phase == 0) ≡ false → ControlFacts c u (control_number c) (begins_unit phase cset)
+    begins_facts known some =
         let other = eqb-false _ _ some in
         let same = known.phase_is in
-        scanning_steps.begins c u (control_number c) (omega arith) (phase_one _ calm (λ none. other (same ∙ none))) known.facts known.hands
+        plain_facts u (phase == 1) (Scanning scan.LoadClaim) (Evacuating cset evac.LoadClaim)
+        (λ one. scans_from c u (control_number c) (omega arith) (sym same ∙ eqb-true _ _ one) known.facts)
+        (λ no. subst (λ set. CanEvacuate c u (control_number c) set evac.LoadClaim) (sym known.set_is)
+        (evacuates_from c u (control_number c) (omega arith) (phase_two _ shared.phased.phase_is (λ none. other (same ∙ none)) (λ one. eqb-false _ _ no (same ∙ one))) known.facts))
+
+    -- no image counts at one of these spots
+    unit_spot : stored_image (begins_unit phase cset) [] ≡ None
+    unit_spot = plain_spot (phase == 1) (Scanning scan.LoadClaim) (Evacuating cset evac.LoadClaim) [] refl refl
+
+    unit_aim : (ws : List ℕ) → IsAim c ws (begins_unit phase cset) []
+    unit_aim ws = plain_aim (phase == 1) (Scanning scan.LoadClaim) (Evacuating cset evac.LoadClaim) ws [] tt tt
 
     -- it looks what is asked for
     pub look_asked : (got : ℕ) → Quiet LookAsked got
@@ -170,14 +200,14 @@ module _ (c : Config) (words : List ℕ) (block : Plot) (ghost : Ghost) (g : Gra
         loads_word Ask (then_at LookAsked got) refl
         (record {
           number_is = refl;
-          hands = known.hands;
-          ready = stays_ready c phase seen LookAsked got known.ready tt;
+          ready = stays_ready c phase cset seen LookAsked got known.ready tt;
           phase_is = known.phase_is;
-          facts = plain_facts u (begins_pause phase got) (Stopping stop.Raise) (unasked phase) known.facts
-              (λ no. plain_facts u (phase == 0) LookFree (Scanning scan.LoadClaim) known.facts (λ some. claims known some));
-          aims = plain_aim (begins_pause phase got) (Stopping stop.Raise) (unasked phase) _ [] tt (plain_aim (phase == 0) LookFree (Scanning scan.LoadClaim) _ [] tt tt);
+          set_is = known.set_is;
+          facts = plain_facts u (begins_pause phase got) (Stopping stop.Raise) (unasked phase cset) (λ yes. known.facts)
+              (λ no. plain_facts u (phase == 0) LookFree (begins_unit phase cset) (λ yes. known.facts) (λ some. begins_facts known some));
+          aims = plain_aim (begins_pause phase got) (Stopping stop.Raise) (unasked phase cset) _ [] tt (plain_aim (phase == 0) LookFree (begins_unit phase cset) _ [] tt (unit_aim _));
         })
-        (plain_spot (begins_pause phase got) (Stopping stop.Raise) (unasked phase) [] refl (plain_spot (phase == 0) LookFree (Scanning scan.LoadClaim) [] refl refl))
+        (plain_spot (begins_pause phase got) (Stopping stop.Raise) (unasked phase cset) [] refl (plain_spot (phase == 0) LookFree (begins_unit phase cset) [] refl unit_spot))
 
     -- it looks how many regions are free
     pub look_free : (got : ℕ) → Quiet LookFree got
@@ -185,10 +215,10 @@ module _ (c : Config) (words : List ℕ) (block : Plot) (ghost : Ghost) (g : Gra
         loads_word Free (then_at LookFree got) refl
         (record {
           number_is = refl;
-          hands = known.hands;
-          ready = stays_ready c phase seen LookFree got known.ready tt;
+          ready = stays_ready c phase cset seen LookFree got known.ready tt;
           phase_is = known.phase_is;
-          facts = plain_facts u (wants_pause c seen got) (Stopping stop.Raise) LookLeft known.facts (λ no. known.facts);
+          set_is = known.set_is;
+          facts = plain_facts u (wants_pause c seen got) (Stopping stop.Raise) LookLeft (λ yes. known.facts) (λ no. known.facts);
           aims = plain_aim (wants_pause c seen got) (Stopping stop.Raise) LookLeft _ [] tt tt;
         })
         (plain_spot (wants_pause c seen got) (Stopping stop.Raise) LookLeft [] refl refl)
@@ -197,8 +227,8 @@ module _ (c : Config) (words : List ℕ) (block : Plot) (ghost : Ghost) (g : Gra
     pub scan_unit : (at : ScanSpot) → scans.is_ended at ≡ false → Quiet (Scanning at) (view c words (scans.touch_at c at).word)
     scan_unit at going known =
         let got : ℕ = view c words (scans.touch_at c at).word in
-        let step = scanning_steps.each c u (control_number c) at going shared known.facts in
-        step_owes (scans.touch_at c at) (then_at (Scanning at) got) (is_word_from c _ (scanning_steps.inside c u (control_number c) at known.facts))
+        let step = scans_step c u (control_number c) at going shared known.facts in
+        step_owes (scans.touch_at c at) (then_at (Scanning at) got) (is_word_from c _ (scanning_steps.inside c u (control_number c) at known.facts.0))
         (record {
           world = step.world;
           memory = step.memory;
@@ -206,9 +236,9 @@ module _ (c : Config) (words : List ℕ) (block : Plot) (ghost : Ghost) (g : Gra
           shared = step.shared;
           own = record {
             number_is = refl;
-            hands = step.own.hands;
-            ready = stays_ready c phase seen (Scanning at) got known.ready (scanning_steps.fits c u (control_number c) at going shared known.facts);
+            ready = stays_ready c phase cset seen (Scanning at) got known.ready (scanning_steps.fits c u (control_number c) at going shared known.facts.0);
             phase_is = known.phase_is ∙ sym step.keeps.marks.phase;
+            set_is = known.set_is ∙ sym step.keeps.copies.cset;
             facts = scan_facts step.world (scans.next_at c at got) step.own;
             aims = scan_aim (scans.next_at c at got) _;
           };
@@ -217,11 +247,35 @@ module _ (c : Config) (words : List ℕ) (block : Plot) (ghost : Ghost) (g : Gra
         })
         (scan_spot (scans.next_at c at got))
 
+    -- it evacuates
+    pub evac_unit : (kept : ℕ) (at : EvacSpot) → evacs.is_ended at ≡ false → Quiet (Evacuating kept at) (view c words (evacs.touch_at c (control_number c) at).word)
+    evac_unit kept at going known =
+        let got : ℕ = view c words (evacs.touch_at c (control_number c) at).word in
+        let step = evacuating_steps.each c u (control_number c) kept at going shared known.facts in
+        step_owes (evacs.touch_at c (control_number c) at) (then_at (Evacuating kept at) got) (is_word_from c _ (evacuating_steps.inside c u (control_number c) kept at shared known.facts))
+        (record {
+          world = step.world;
+          memory = step.memory;
+          graph = step.graph;
+          shared = step.shared;
+          own = record {
+            number_is = refl;
+            ready = stays_ready c phase cset seen (Evacuating kept at) got known.ready (evacuating_steps.fits c u (control_number c) kept at going shared known.facts);
+            phase_is = known.phase_is ∙ sym step.keeps.marks.phase;
+            set_is = known.set_is ∙ sym step.keeps.copies.cset;
+            facts = evac_facts step.world kept (evacs.next_at c kept at got) step.own;
+            aims = evac_aim kept (evacs.next_at c kept at got) _;
+          };
+          keeps = step.keeps;
+          others = step.others;
+        })
+        (evac_spot kept (evacs.next_at c kept at got))
+
     -- it wants a pause
     pub raise_pause : (got : ℕ) → Quiet (Stopping stop.Raise) got
     raise_pause got known =
         stores_word Pause 1 (then_at (Stopping stop.Raise) got) refl refl (λ k differs. refl) shared
-        (record { number_is = refl; hands = known.hands; ready = stays_ready c phase seen (Stopping stop.Raise) got known.ready tt; phase_is = known.phase_is; facts = known.facts; aims = tt }) refl
+        (record { number_is = refl; ready = stays_ready c phase cset seen (Stopping stop.Raise) got known.ready tt; phase_is = known.phase_is; set_is = known.set_is; facts = known.facts; aims = tt }) refl
 
     -- it looks whether a seat is out
     pub check_seat : (seat got : ℕ) → Quiet (Stopping (stop.Check seat)) got
@@ -229,9 +283,9 @@ module _ (c : Config) (words : List ℕ) (block : Plot) (ghost : Ghost) (g : Gra
         loads_word (State seat) (then_at (Stopping (stop.Check seat)) got) (and_parts _ _ (and_parts _ _ known.ready).0).0
         (record {
           number_is = refl;
-          hands = known.hands;
-          ready = stays_ready c phase seen (Stopping (stop.Check seat)) got known.ready tt;
+          ready = stays_ready c phase cset seen (Stopping (stop.Check seat)) got known.ready tt;
           phase_is = known.phase_is;
+          set_is = known.set_is;
           facts = stopping_facts u (stop_next c (stop.Check seat) got) known.facts;
           aims = stopping_aim (stop_next c (stop.Check seat) got) _;
         })
@@ -241,4 +295,4 @@ module _ (c : Config) (words : List ℕ) (block : Plot) (ghost : Ghost) (g : Gra
     pub let_go : (got : ℕ) → Quiet Go got
     let_go got known =
         stores_word Pause 0 (then_at Go got) refl refl (λ k differs. refl) shared
-        (record { number_is = refl; hands = known.hands; ready = stays_ready c phase seen Go got known.ready tt; phase_is = known.phase_is; facts = known.facts; aims = tt }) refl
+        (record { number_is = refl; ready = stays_ready c phase cset seen Go got known.ready tt; phase_is = known.phase_is; set_is = known.set_is; facts = known.facts; aims = tt }) refl

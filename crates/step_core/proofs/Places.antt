@@ -8,7 +8,7 @@ use Rattle.std.proofs.Common.{◌≡◌, ℕ, false, Option, Some, refl, sym, ap
 use Rattle.shen_graph.specs.declared.order.Order.{Order}
 use Rattle.mutator.specs.declared.spot.Kept.{Kept}
 use Rattle.mutator.specs.declared.spot.Spot.{Spot}
-use Rattle.mutator.specs.declared.spot.Spot.TheVariants.{Rest, Ended, Entering, LoadPhase, LoadSet, Loading, OnField, Recording, OnNumber, Showing, StoreRoot, Making, AskCycle, Waiting, Leave, Gone}
+use Rattle.mutator.specs.declared.spot.Spot.TheVariants.{Rest, Ended, Entering, LoadPhase, LoadSet, Loading, OnField, Resolving, Recording, OnNumber, Showing, StoreRoot, Making, AskCycle, Waiting, Leave, Gone}
 use Rattle.mutator.specs.declared.loads.LoadSpot.{LoadSpot}
 use Rattle.mutator.specs.declared.loads.LoadSpot.TheVariants as load
 use Rattle.mutator.specs.declared.fields.FieldSpot.{FieldSpot}
@@ -33,6 +33,7 @@ use Rattle.step_core.proofs.Fields.{at_load_field, at_load_old, at_load_expected
 use Rattle.step_core.proofs.RootStores.{at_store_loaded, at_store_root}
 use Rattle.step_core.proofs.Stores.{at_store_field, at_swap_field, at_exchange_field, at_store_number}
 use Rattle.step_core.proofs.Recording.{at_record}
+use Rattle.step_core.proofs.Resolving.{at_resolve}
 use Rattle.step_core.proofs.Takes.{at_taking}
 use Rattle.step_core.proofs.Fresh.{at_store_word, at_store_fresh}
 use Rattle.step_core.proofs.Spots.{mutator_at}
@@ -80,6 +81,7 @@ module _ (c : Config) (u : World) (seat made : ℕ) (kept : Kept) (command : Com
   each_call LoadSet told busy = at_load_set c u seat made kept command fixed
   each_call (Loading at) told busy = each_load at
   each_call (OnField object at) told busy = each_field object at
+  each_call (Resolving address at next) told busy = at_resolve c u seat made kept command fixed at address next
   each_call (Recording at address next) told busy = at_record c u seat made kept command fixed at address next
   each_call (OnNumber object refs at) told busy = each_number object refs at
   each_call (Showing value at) told busy = each_show value at

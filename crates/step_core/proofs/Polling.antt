@@ -86,6 +86,7 @@ module _ (c : Config) (words image : List ℕ) (block : Plot) (ghost : Ghost) (g
       seated = record { below = thread.mine.seated.below; counted = thread.mine.seated.counted; usable = thread.mine.seated.usable; unasked = λ e. absurd (cc (e)) };
       ready = raise_ready c seat made kept thread.mine.seated.below;
       marking = thread.mine.marking;
+      copying = thread.mine.copying;
       roots = thread.mine.roots;
       hands = thread.mine.hands;
       facts = answered_by u seat made raw kept.command command thread.fixed (eqb-false _ _ some) thread.seen thread.mine.facts;

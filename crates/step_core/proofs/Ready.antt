@@ -52,13 +52,15 @@ leave_ready : (c : Config) (seat made : ℕ) (kept : Kept) (reply : Reply) → s
 leave_ready c seat made kept reply below = grind (arith, nat_tests)
 
 -- with its reply settled, a mutator has only to leave
-pub leaving : (c : Config) (w : World) (seat made : ℕ) (kept : Kept) (command : Command) (r : Reply) → IsSeatedIn c w seat made false → (w.ghost.recording seat ≡ None) × (w.ghost.scanning seat ≡ None)
+pub leaving : (c : Config) (w : World) (seat made : ℕ) (kept : Kept) (command : Command) (r : Reply) → IsSeatedIn c w seat made false
+    → (w.ghost.recording seat ≡ None) × (w.ghost.scanning seat ≡ None) × (w.ghost.copying seat ≡ false) × (w.ghost.working seat ≡ None)
     → ((i : ℕ) → i < 16 → Points w.block (w.memory (Root seat i)) (w.graph.root (seat + 1) i)) → ((a words : ℕ) → w.block a ≡ Some (hand seat words) → ⊥)
     → Mine c w (mutator_at seat made kept (Leave r)) command (Some r)
 leaving c w seat made kept command r seated idle roots hands = record {
   seated = seated;
   ready = leave_ready c seat made kept r seated.below;
   marking = record { records = idle.0; scans = idle.1; phase_is = λ no. absurd (cc (no)) };
+  copying = record { copies_is = idle.2; works_none = idle.3; set_is = λ no. absurd (cc (no)) };
   roots = roots;
   hands = hands;
   facts = refl;

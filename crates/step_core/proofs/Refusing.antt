@@ -57,6 +57,7 @@ module _ (c : Config) (w : World) (seat made : ℕ) (kept : Kept) (command : Com
         seated = mine.seated;
         ready = mine.ready;
         marking = mine.marking;
+        copying = mine.copying;
         roots = mine.roots;
         hands = mine.hands;
         facts = subst (λ s. SpotFacts c w seat made kept command (Some Full) s) (sym is.0)

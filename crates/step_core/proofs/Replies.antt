@@ -1,5 +1,5 @@
 -- Which reply the history has for a call in progress, by where its mutator stands and by its answer in the table.
-use Rattle.std.proofs.Common.{◌≡◌, ◌≢◌, ℕ, ◌⊎◌, inl, inr, ⊎_elim, true, false, Option, Some, None, sym, ◌∙◌, arith}
+use Rattle.std.proofs.Common.{◌≡◌, ◌≢◌, ℕ, ◌+◌, ◌⊎◌, inl, inr, ⊎_elim, true, false, Option, Some, None, sym, ◌∙◌, arith}
 use Rattle.std.specs.Prelude.{◌==◌}
 use Rattle.std.proofs.lemmas.Bool.{eqb-true, eqb-false}
 use Rattle.heap_words.specs.declared.config.Config.{Config}
@@ -9,19 +9,23 @@ use Rattle.shen_graph.specs.declared.command.Reply.{Reply}
 use Rattle.shen_graph.specs.declared.command.Reply.TheVariants.{Full}
 use Rattle.mutator.specs.declared.spot.Kept.{Kept}
 use Rattle.mutator.specs.declared.spot.Spot.{Spot}
-use Rattle.mutator.specs.declared.spot.Spot.TheVariants.{Rest, Ended, Entering, LoadPhase, LoadSet, Loading, OnField, Recording, OnNumber, Showing, StoreRoot, Making, AskCycle, Waiting, Leave, Gone}
+use Rattle.mutator.specs.declared.spot.Spot.TheVariants.{Rest, Ended, Entering, LoadPhase, LoadSet, Loading, OnField, Resolving, Recording, OnNumber, Showing, StoreRoot, Making, AskCycle, Waiting, Leave, Gone}
 use Rattle.mutator.specs.declared.spot.Entered.TheVariants.{Call, Waited}
 use Rattle.mutator.specs.declared.makes.MakeSpot.TheVariants as make
 use Rattle.mutator.specs.declared.loads.LoadSpot.TheVariants as load
 use Rattle.mutator.specs.declared.fields.FieldSpot.TheVariants as fields
 use Rattle.mutator.specs.declared.overwrites.Overwritten.TheVariants as overwrites
+use Rattle.mutator.specs.declared.resolves.Loaded.TheVariants.{ForRoot, ToCompare}
 use Rattle.mutator.specs.declared.numbers.NumberSpot.TheVariants as numbers
 use Rattle.mutator.specs.declared.shows.ShowSpot.TheVariants as show
 use Rattle.mutator.specs.declared.waits.WaitSpot.TheVariants as wait
 use Rattle.mutator.specs.Orders.{is_between_calls}
-use Rattle.heap_world.specs.World.{World}
+use Rattle.heap_world.specs.World.{World, Shared}
+use Rattle.mutator.specs.Commands.{index_of}
+use Rattle.mutator.specs.Told.{name_the_same}
+use Rattle.step_core.proofs.Naming.{names_agree, not_one, one_reference}
 use Rattle.step_core.specs.Sound.{has_settled}
-use Rattle.step_core.specs.Stepped.{IsPolling, IsAnswered, SpotFacts}
+use Rattle.step_core.specs.Stepped.{IsCas, NameTheSame, NameOthers, IsPolling, IsAnswered, SpotFacts}
 use Rattle.step_core.proofs.Facts.{IsSeen}
 
 -- between two calls no reply is settled that is not given
@@ -59,9 +63,21 @@ module _ (w : World) (seat made : ℕ) (k command : Command) (fixed : Option Rep
       (λ (neither : (raw ≢ 1) × (fixed ≡ None)). neither.0 (eqb-true _ _ behind))
       (full_or_none polls)
 
-module _ (c : Config) (w : World) (seat made : ℕ) (kept : Kept) (command : Command) (fixed : Option Reply) (raw : ℕ) (seen : IsSeen raw (w.memory (Answer seat)) fixed) where
+module _ (c : Config) (w : World) (seat made : ℕ) (kept : Kept) (command : Command) (fixed : Option Reply) (raw : ℕ) (seen : IsSeen raw (w.memory (Answer seat)) fixed) (shared : Shared c w) where
+  -- by their name words two words name the same, or do not
+  others_apart : (found object expect value : ℕ) → IsCas c w seat command object (index_of kept.command) expect value → NameOthers w.block found expect → name_the_same w.memory found expect ≡ false
+  others_apart found object expect value cas others =
+      names_agree c w shared found expect (Some others.name) (w.graph.root (seat + 1) cas.expected) others.is cas.expect_is.stands
+      ∙ not_one c w shared found expect (Some others.name) (w.graph.root (seat + 1) cas.expected) others.is cas.expect_is.stands others
+
+  same_name_words : (found object expect value : ℕ) → IsCas c w seat command object (index_of kept.command) expect value → found ≢ 0 → NameTheSame w.block found expect → name_the_same w.memory found expect ≡ true
+  same_name_words found object expect value cas some (inl null) = absurd (some null.0)
+  same_name_words found object expect value cas some (inr both) =
+      names_agree c w shared found expect (Some both.0) (w.graph.root (seat + 1) cas.expected) both.1 cas.expect_is.stands
+      ∙ one_reference c w shared found expect (Some both.0) (w.graph.root (seat + 1) cas.expected) both.1 cas.expect_is.stands (inr both)
+
   -- before the access that settles the reply there is none
-  pub unsettled_before : (spot : Spot) → has_settled raw spot ≡ false → SpotFacts c w seat made kept command fixed spot → fixed ≡ None
+  pub unsettled_before : (spot : Spot) → has_settled w.memory raw spot ≡ false → SpotFacts c w seat made kept command fixed spot → fixed ≡ None
   unsettled_before Rest before facts = facts
   unsettled_before (Ended reply) before facts = facts
   unsettled_before Gone before facts = facts
@@ -79,6 +95,11 @@ module _ (c : Config) (w : World) (seat made : ℕ) (kept : Kept) (command : Com
   unsettled_before (OnField object (fields.Store value)) before facts = facts.0
   unsettled_before (OnField object (fields.Swap value)) before facts = facts.0
   unsettled_before (OnField object (fields.Exchange found expect value)) before facts = facts.0
+  unsettled_before (Resolving address at ForRoot) before facts = absurd (cc (before))
+  unsettled_before (Resolving address at (ToCompare object expect value)) before facts = ⊎_elim
+      (λ no. let apart = others_apart address object expect value facts.1.is_cas no.1 in absurd (cc (before, apart)))
+      (λ same. same.0)
+      facts.1.settled
   unsettled_before (Recording at address (overwrites.Set object value)) before facts = facts.1.0
   unsettled_before (Recording at address overwrites.Xchg) before facts = absurd (cc (before))
   unsettled_before (Recording at address overwrites.Cas) before facts = absurd (cc (before))
@@ -100,8 +121,13 @@ module _ (c : Config) (w : World) (seat made : ℕ) (kept : Kept) (command : Com
   unsettled_before (Leave reply) before facts = absurd (cc (before))
 
   -- and behind it there is one
-  pub settled_after : (spot : Spot) → has_settled raw spot ≡ true → SpotFacts c w seat made kept command fixed spot → fixed ≢ None
-  settled_after (Showing value show.LoadName) behind facts = λ none. absurd (let it = facts.settled in cc)
+  pub settled_after : (spot : Spot) → has_settled w.memory raw spot ≡ true → SpotFacts c w seat made kept command fixed spot → fixed ≢ None
+  settled_after (Resolving address at ForRoot) behind facts = λ none. absurd (let it = facts.1.settled in cc)
+  settled_after (Resolving address at (ToCompare object expect value)) behind facts = λ none. ⊎_elim
+      (λ no. absurd (let it = no.0 in cc (it, none)))
+      (λ same. let one = same_name_words address object expect value facts.1.is_cas facts.1.some same.1 in absurd (cc (behind, one)))
+      facts.1.settled
+  settled_after (Showing value show.LoadName) behind facts = λ none. absurd (let it = facts.0.settled in cc)
   settled_after (Showing value (show.StoreRoot reply)) behind facts = λ none. absurd (let it = facts.0 in cc)
   settled_after (Recording at address (overwrites.Set object value)) behind facts = absurd (cc (behind))
   settled_after (Recording at address overwrites.Xchg) behind facts = λ none. absurd (let it = facts.1.settled in cc)

@@ -5,7 +5,7 @@ use Rattle.shen_graph.specs.declared.command.Command.{Command}
 use Rattle.shen_graph.specs.declared.command.Reply.{Reply}
 use Rattle.mutator.specs.declared.spot.Kept.{Kept}
 use Rattle.mutator.specs.declared.spot.Spot.{Spot}
-use Rattle.mutator.specs.declared.spot.Spot.TheVariants.{Rest, Ended, Entering, LoadPhase, LoadSet, Loading, OnField, Recording, OnNumber, Showing, StoreRoot, Making, AskCycle, Waiting, Leave, Gone}
+use Rattle.mutator.specs.declared.spot.Spot.TheVariants.{Rest, Ended, Entering, LoadPhase, LoadSet, Loading, OnField, Resolving, Recording, OnNumber, Showing, StoreRoot, Making, AskCycle, Waiting, Leave, Gone}
 use Rattle.mutator.specs.declared.spot.Entered.TheVariants.{Call, Waited}
 use Rattle.mutator.specs.declared.waits.WaitSpot.TheVariants as wait
 use Rattle.mutator.specs.Commands.{dst_of, refs_of, nums_of}
@@ -58,6 +58,7 @@ module _ (c : Config) (w : World) (seat made : ℕ) (kept : Kept) (command : Com
   has_asked LoadSet going mine = not_asked LoadSet refl mine
   has_asked (Loading at) going mine = not_asked (Loading at) refl mine
   has_asked (OnField object at) going mine = not_asked (OnField object at) refl mine
+  has_asked (Resolving address at next) going mine = not_asked (Resolving address at next) refl mine
   has_asked (Recording at address next) going mine = not_asked (Recording at address next) refl mine
   has_asked (OnNumber object refs at) going mine = not_asked (OnNumber object refs at) refl mine
   has_asked (Showing value at) going mine = not_asked (Showing value at) refl mine

@@ -6,7 +6,7 @@ use Rattle.std.proofs.lemmas.Option.{slice_get-get_or}
 use Rattle.std.proofs.Math.Path.{fun_ext}
 use Rattle.std.proofs.lemmas.List.{append-nil}
 use Rattle.heap_words.specs.declared.config.Config.{Config}
-use Rattle.heap_words.specs.Words.{Phase, Root, Answer, view}
+use Rattle.heap_words.specs.Words.{Phase, Cset, Evac, Root, Answer, view}
 use Rattle.heap_words.specs.Ranges.{seat_count}
 use Rattle.shen_graph.specs.declared.command.Command.{Command}
 use Rattle.shen_graph.specs.declared.command.Command.TheVariants.{Gc}
@@ -20,18 +20,17 @@ use Rattle.mutator.specs.declared.spot.Spot.{Spot}
 use Rattle.mutator.specs.declared.spot.Spot.TheVariants.{Rest, Ended}
 use Rattle.mutator.specs.Orders.{takes_commands, is_valid}
 use Rattle.mutator.specs.Rows.{Mutating}
-use Rattle.heap_world.specs.World.{World, hand, Points, Shared}
-use Rattle.heap_world.proofs.Keeping.{usable_now}
+use Rattle.heap_world.specs.World.{World, hand, Points, UsableIn, AreUsable, Shared}
 use Rattle.heap_world.specs.Asking.{IsAsked, nothing}
-use Rattle.heap_world.specs.Represents.{NobodyMarks}
+use Rattle.heap_world.specs.Represents.{NobodyMarks, NobodyCopies}
 use Rattle.heap_world.specs.Rely.{Rely}
 use Rattle.helper.specs.Ready.{spot_fits}
 use Rattle.control_steps.specs.Rows.{Controlling}
 use Rattle.control_steps.specs.Ready.{is_ready}
 use Rattle.step_core.specs.Actor.{Machine, mutating, helping, controlling, Actor, fresh_helper}
 use Rattle.step_core.specs.Machines.{HasNumber, IsIdle}
-use Rattle.step_core.specs.Stepped.{HasMarkingBy, Mine}
-use Rattle.step_core.proofs.Facts.{IsSeen, IsShort, IsThread, HelpFacts, ControlFacts, IsAim, IsMachine, words_promised}
+use Rattle.step_core.specs.Stepped.{HasMarkingBy, HasCopyingBy, Mine}
+use Rattle.step_core.proofs.Facts.{IsSeen, IsShort, IsThread, IsResting, HelpFacts, ControlFacts, IsAim, IsMachine, words_promised}
 use Rattle.step_core.proofs.Helpers.{help_stays, control_stays}
 use Rattle.step_core.proofs.Spots.{mutator_at}
 use Rattle.step_core.proofs.Ready.{rest_ready}
@@ -86,18 +85,17 @@ machine_stays c words words_then u w entries more k b (helping h) shared stays s
     record {
       number_is = is.number_is;
       ready = is.ready;
-      facts = help_stays c u w k h.phase h.spot stays.rely is.facts;
+      facts = help_stays c u w k h.spot shared stays.rely is.facts;
       least = is.least;
       below = is.below;
-      hands = λ a more is_hand. is.hands a more (stays.rely.no_hands a more is_hand);
     }
 machine_stays c words words_then u w entries more k b (controlling h) shared stays same is =
     record {
       number_is = is.number_is;
-      hands = λ a more is_hand. is.hands a more (stays.rely.no_hands a more is_hand);
       ready = is.ready;
       phase_is = is.phase_is ∙ sym stays.rely.marks.keeps.phase;
-      facts = control_stays c u w k h.spot stays.rely is.facts;
+      set_is = is.set_is ∙ sym stays.rely.copies.keeps.cset;
+      facts = control_stays c u w k h.spot shared stays.rely is.facts;
       aims = stays.aims h refl is.aims;
     }
 
@@ -116,38 +114,57 @@ mutator_of c k (controlling h) number below = absurd (omega (arith, number, belo
 -- what a mutator counts on that takes commands
 rest_mine : (c : Config) (w : World) (seat made : ℕ) (kept : Kept) (command : Command) (spot : Spot) → takes_commands spot ≡ true → seat < c.mutators → w.graph.count (seat + 1) ≡ made
     → ((i : ℕ) → i < 16 → Points w.block (w.memory (Root seat i)) (w.graph.root (seat + 1) i)) → ((a words : ℕ) → w.block a ≡ Some (hand seat words) → ⊥)
-    → IsAsked w.memory w.block w.graph.count seat nothing → HasMarkingBy w seat None kept.phase false → Mine c w (mutator_at seat made kept spot) command None
-rest_mine c w seat made kept command Rest rest below counted roots none asked marking = record {
-  seated = record { below = below; counted = counted; usable = λ i small. usable_now w.block _ _ (roots i small); unasked = λ no. asked };
+    → IsAsked w.memory w.block w.graph.count seat nothing → HasMarkingBy w seat None kept.phase false → HasCopyingBy w seat false kept.cset false → ((i : ℕ) → i < 16 → UsableIn c w (w.memory (Root seat i))) → Mine c w (mutator_at seat made kept spot) command None
+rest_mine c w seat made kept command Rest rest below counted roots none asked marking copying usable = record {
+  seated = record { below = below; counted = counted; usable = usable; unasked = λ no. asked };
   ready = rest_ready c seat made kept Rest rest below;
   marking = marking;
+  copying = copying;
   roots = roots;
   hands = none;
   facts = refl;
 }
-rest_mine c w seat made kept command (Ended r) rest below counted roots none asked marking = record {
-  seated = record { below = below; counted = counted; usable = λ i small. usable_now w.block _ _ (roots i small); unasked = λ no. asked };
+rest_mine c w seat made kept command (Ended r) rest below counted roots none asked marking copying usable = record {
+  seated = record { below = below; counted = counted; usable = usable; unasked = λ no. asked };
   ready = rest_ready c seat made kept (Ended r) rest below;
   marking = marking;
+  copying = copying;
   roots = roots;
   hands = none;
   facts = refl;
 }
-rest_mine c w seat made kept command _ rest below counted roots none asked marking = absurd cc
+rest_mine c w seat made kept command _ rest below counted roots none asked marking copying usable = absurd cc
 
--- A world in which nobody has room in hand, waits or marks.
+-- A world in which nobody has room in hand, waits, marks or copies.
 pub record IsAtRest (c : Config) (w : World) : Type 0 where
   pub roots : (t i : ℕ) → t < c.mutators → i < 16 → Points w.block (w.memory (Root t i)) (w.graph.root (t + 1) i)
   pub none : (a seat words : ℕ) → w.block a ≡ Some (hand seat words) → ⊥
   pub asked : (t : ℕ) → t < c.mutators → IsAsked w.memory w.block w.graph.count t nothing
   pub unmarking : NobodyMarks c w.ghost
+  pub uncopying : NobodyCopies c w.ghost
+  pub usable : AreUsable c (w.memory Cset) (w.memory Evac) w.block (λ t i. w.memory (Root t i))
 
 -- in it a mutator counts on this of marking, while its call has not loaded the phase
 pub unmarking_by : (c : Config) (w : World) (seat loaded : ℕ) → NobodyMarks c w.ghost → seat < c.mutators → HasMarkingBy w seat None loaded false
-unmarking_by c w seat loaded unmarking below = record { records = unmarking.records_none seat below; scans = unmarking.scans_none seat (omega (arith, below)); phase_is = λ no. absurd (cc (no)) }
+unmarking_by c w seat loaded unmarking below = record { records = unmarking.records_none seat (omega (arith, below)); scans = unmarking.scans_none seat (omega (arith, below)); phase_is = λ no. absurd (cc (no)) }
+
+-- and this of evacuation, while it has not loaded the collection set
+pub uncopying_by : (c : Config) (w : World) (seat loaded : ℕ) → NobodyCopies c w.ghost → seat < c.mutators → HasCopyingBy w seat false loaded false
+uncopying_by c w seat loaded uncopying below =
+    record { copies_is = uncopying.copies_none seat (omega (arith, below)); works_none = uncopying.works_none seat (omega (arith, below)); set_is = λ no. absurd (cc (no)) }
+
+-- any machine rests there
+pub rests_by : (c : Config) (w : World) (seat : ℕ) → NobodyMarks c w.ghost → NobodyCopies c w.ghost → ((a words : ℕ) → w.block a ≡ Some (hand seat words) → ⊥) → seat < seat_count c.mutators c.helpers → IsResting w seat
+rests_by c w seat unmarking uncopying none seated = record {
+  records_none = unmarking.records_none seat seated;
+  scans_none = unmarking.scans_none seat seated;
+  copies_none = uncopying.copies_none seat seated;
+  works_none = uncopying.works_none seat seated;
+  hands = none;
+}
 
 -- an idle machine that has ended no call, in such a world
-pub machine_begins : (c : Config) (words : List ℕ) (w : World) (k : ℕ) (b : Actor) (machine : Machine) → view c words ≡ w.memory → HasNumber c k machine → IsIdle (w.memory Phase) w.graph k machine → b.calls ≡ []
+pub machine_begins : (c : Config) (words : List ℕ) (w : World) (k : ℕ) (b : Actor) (machine : Machine) → view c words ≡ w.memory → HasNumber c k machine → IsIdle (w.memory Phase) (w.memory Cset) w.graph k machine → b.calls ≡ []
     → is_valid b.command ≡ true → IsAtRest c w → IsMachine c words w [] k b machine
 machine_begins c words w k b (mutating m) whole number idle calls valid rests =
     let below : m.seat < c.mutators = subst (λ j. j < c.mutators) (sym number.0) number.1 in
@@ -157,7 +174,8 @@ machine_begins c words w k b (mutating m) whole number idle calls valid rests =
       number_is = number.0;
       valid = valid;
       mine = rest_mine c w m.seat m.made m.kept b.command m.spot idle.1 below (subst (λ j. w.graph.count (j + 1) ≡ m.made) (sym number.0) idle.0)
-          (λ i small. rests.roots m.seat i below small) (λ a words is. rests.none a m.seat words is) (rests.asked m.seat below) (unmarking_by c w m.seat m.kept.phase rests.unmarking below);
+          (λ i small. rests.roots m.seat i below small) (λ a words is. rests.none a m.seat words is) (rests.asked m.seat below) (unmarking_by c w m.seat m.kept.phase rests.unmarking below)
+          (uncopying_by c w m.seat m.kept.cset rests.uncopying below) (λ i small. rests.usable m.seat i below small);
       seen = record {
         null = λ now. ap (λ memory. memory (Answer k)) whole ∙ now;
         full = λ now. absurd (let answer = unasked.1 in omega (arith, now, answer));
@@ -168,18 +186,17 @@ machine_begins c words w k b (mutating m) whole number idle calls valid rests =
     }
 machine_begins c words w k b (helping h) whole number idle calls valid rests = record {
   number_is = number.0;
-  ready = and_from _ _ (lt-ltb _ _ (subst (λ j. j < c.mutators + c.helpers) (sym number.0) number.2)) (subst (λ spot. spot_fits c spot ≡ true) (sym idle) refl);
-  facts = subst (λ spot. HelpFacts c w k h.phase spot) (sym idle) (rests.unmarking.scans_none k (let below = number.2 in omega (arith, below)));
+  ready = and_from _ _ (lt-ltb _ _ (subst (λ j. j < c.mutators + c.helpers) (sym number.0) number.2)) (subst (λ spot. spot_fits c h.seat spot ≡ true) (sym idle) refl);
+  facts = subst (λ spot. HelpFacts c w k spot) (sym idle) (rests_by c w k rests.unmarking rests.uncopying (λ a more is. rests.none a k more is) (let below = number.2 in omega (arith, below)));
   least = number.1;
   below = number.2;
-  hands = λ a more is. rests.none a k more is;
 }
 machine_begins c words w k b (controlling h) whole number idle calls valid rests = record {
   number_is = number;
-  hands = λ a more is. rests.none a k more is;
   ready = subst (λ spot. is_ready c spot ≡ true) (sym idle.0) refl;
   phase_is = idle.2;
-  facts = subst (λ spot. ControlFacts c w k spot) (sym idle.0) (rests.unmarking.scans_none k (omega (arith, number)));
+  set_is = idle.3;
+  facts = subst (λ spot. ControlFacts c w k spot) (sym idle.0) (rests_by c w k rests.unmarking rests.uncopying (λ a more is. rests.none a k more is) (omega (arith, number)));
   aims = subst (λ spot. IsAim c words spot h.image) (sym idle.0) tt;
 }
 

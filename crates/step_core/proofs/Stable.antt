@@ -8,7 +8,7 @@ use Rattle.shen_graph.specs.declared.command.Reply.{Reply}
 use Rattle.alloc_buffers.specs.declared.spot.TakeSpot.{TakeSpot}
 use Rattle.mutator.specs.declared.spot.Kept.{Kept}
 use Rattle.mutator.specs.declared.spot.Spot.{Spot}
-use Rattle.mutator.specs.declared.spot.Spot.TheVariants.{Rest, Ended, Entering, LoadPhase, LoadSet, Loading, OnField, Recording, OnNumber, Showing, StoreRoot, Making, AskCycle, Waiting, Leave, Gone}
+use Rattle.mutator.specs.declared.spot.Spot.TheVariants.{Rest, Ended, Entering, LoadPhase, LoadSet, Loading, OnField, Resolving, Recording, OnNumber, Showing, StoreRoot, Making, AskCycle, Waiting, Leave, Gone}
 use Rattle.mutator.specs.declared.spot.Entered.{Entered}
 use Rattle.mutator.specs.declared.spot.Entered.TheVariants.{Call, Waited}
 use Rattle.mutator.specs.declared.loads.LoadSpot.{LoadSpot}
@@ -17,6 +17,11 @@ use Rattle.mutator.specs.declared.fields.FieldSpot.{FieldSpot}
 use Rattle.mutator.specs.declared.fields.FieldSpot.TheVariants as fields
 use Rattle.mutator.specs.declared.overwrites.Overwritten.{Overwritten}
 use Rattle.mutator.specs.declared.overwrites.Overwritten.TheVariants as overwrites
+use Rattle.mutator.specs.declared.resolves.Loaded.{Loaded}
+use Rattle.mutator.specs.declared.resolves.Loaded.TheVariants.{ForRoot, ToCompare}
+use Rattle.load_barrier.specs.declared.spot.ResolveSpot.{ResolveSpot}
+use Rattle.copy_steps.specs.Resolving.{CanResolve}
+use Rattle.copy_steps.proofs.Parts.{resolving_steps}
 use Rattle.mutator.specs.declared.numbers.NumberSpot.{NumberSpot}
 use Rattle.mutator.specs.declared.numbers.NumberSpot.TheVariants as numbers
 use Rattle.mutator.specs.declared.shows.ShowSpot.{ShowSpot}
@@ -28,9 +33,9 @@ use Rattle.mutator.specs.declared.waits.WaitSpot.TheVariants as wait
 use Rattle.mutator.specs.Orders.{is_waiting}
 use Rattle.mutator.specs.Commands.{root_of, dst_of, index_of, number_of, refs_of, nums_of}
 use Rattle.mutator.specs.Rows.{Mutating, words_of}
-use Rattle.heap_world.specs.World.{World, Points, IsUsable, Shared}
-use Rattle.step_core.specs.Stepped.{IsRootWord, HasRoot, HasObject, HasFirst, IsGet, IsSet, IsCas, IsXchg, IsRd, IsWr, IsFound, IsCopy, IsFilling, IsAsking, IsHeard, IsPolling, IsAnswered, LoadFacts, FieldFacts, RecordFacts, NumberFacts, ShowFacts, MakeFacts, EnterFacts, WaitFacts, SpotFacts, IsSeatedIn, recording_of, has_phase, Mine}
-use Rattle.step_core.specs.Own.{root_now, root_recording}
+use Rattle.heap_world.specs.World.{World, Points, UsableIn, Shared}
+use Rattle.step_core.specs.Stepped.{IsRootWord, HasRoot, HasObject, HasFirst, IsGet, IsSet, IsCas, IsXchg, IsRd, IsWr, IsFound, NameTheSame, NameOthers, IsCompared, LoadedFacts, IsCopy, IsFilling, IsAsking, IsHeard, IsPolling, IsAnswered, LoadFacts, FieldFacts, RecordFacts, NumberFacts, ShowFacts, MakeFacts, EnterFacts, WaitFacts, SpotFacts, IsSeatedIn, recording_of, has_phase, has_set, copies_at, Mine}
+use Rattle.step_core.specs.Own.{root_now, root_recording, root_resolving}
 use Rattle.heap_world.specs.Asking as asking
 use Rattle.heap_world.specs.Asking.{Asking, HasNoPromise, IsAsked}
 use Rattle.heap_world.specs.Rely.{Keeps, Rely}
@@ -39,7 +44,7 @@ use Rattle.alloc_buffers.proofs.TakeStays.{take_stays}
 use Rattle.satb_barrier.specs.declared.spot.RememberSpot.{RememberSpot}
 use Rattle.mark_steps.specs.Recording.{CanRecord}
 use Rattle.mark_steps.proofs.Parts.{recording_steps}
-use Rattle.step_core.proofs.Marking.{covered_stays, marking_relied}
+use Rattle.step_core.proofs.Marking.{covered_stays, marking_relied, copying_relied}
 use Rattle.heap_world.proofs.Keeping.{points_stay, usable_stays, keeps_of}
 
 module _ (c : Config) (u w : World) (seat : ℕ) (keeps : Keeps c seat u w) where
@@ -48,19 +53,19 @@ module _ (c : Config) (u w : World) (seat : ℕ) (keeps : Keeps c seat u w) wher
   root_stays word index is = rw (keeps.roots index) (points_stay u.block w.block keeps.names word _ is)
 
   -- so does the word of a root that was loaded
-  root_word_stays : (word index : ℕ) → IsRootWord u seat index word → IsRootWord w seat index word
-  root_word_stays word index is = record { stands = root_stays word index is.stands; usable = usable_stays u w keeps.targets word is.usable }
+  root_word_stays : (word index : ℕ) → IsRootWord c u seat index word → IsRootWord c w seat index word
+  root_word_stays word index is = record { stands = root_stays word index is.stands; usable = usable_stays c u w keeps.targets word is.usable }
 
   -- also of a command
-  loaded_stays : (k : Command) (i word : ℕ) → HasRoot u seat k i word → HasRoot w seat k i word
+  loaded_stays : (k : Command) (i word : ℕ) → HasRoot c u seat k i word → HasRoot c w seat k i word
   loaded_stays k i word has below = root_word_stays word (root_of k i) (has below)
 
   -- and that of the first one
-  first_stays : (k : Command) (first : ℕ) → HasFirst u seat k first → HasFirst w seat k first
+  first_stays : (k : Command) (first : ℕ) → HasFirst c u seat k first → HasFirst c w seat k first
   first_stays k first has = record { some = has.some; first_is = loaded_stays k 0 first has.first_is; not_null = has.not_null }
 
   -- an object in hand stays
-  abbrev object_stays : (root object : ℕ) → HasObject u seat root object → HasObject w seat root object
+  abbrev object_stays : (root object : ℕ) → HasObject c u seat root object → HasObject c w seat root object
   object_stays root object has = record {
     name = has.name;
     refs = has.refs;
@@ -69,20 +74,12 @@ module _ (c : Config) (u w : World) (seat : ℕ) (keeps : Keeps c seat u w) wher
     target = keeps.targets object has.refs has.nums has.name has.target;
   }
 
-  -- the words of a new object stay
-  filling_stays : (made refs nums address done : ℕ) → IsFilling u seat made refs nums address done → IsFilling w seat made refs nums address done
-  filling_stays made refs nums address done facts = record {
-    room = keeps.hands address (3 + refs + nums) facts.room;
-    within = facts.within;
-    stored = λ k below. keeps.hand_words address (3 + refs + nums) k facts.room (let within = facts.within in omega arith) ∙ facts.stored k below;
-  }
-
   -- what a Get counts on stays
-  pub get_stays : (command : Command) (object field dst : ℕ) → IsGet u seat command object field dst → IsGet w seat command object field dst
+  pub get_stays : (command : Command) (object field dst : ℕ) → IsGet c u seat command object field dst → IsGet c w seat command object field dst
   get_stays command object field dst is = record { src = is.src; is = is.is; small = is.small; of = object_stays is.src object is.of; below = is.below }
 
   -- what a Set counts on stays
-  pub set_stays : (command : Command) (object field value : ℕ) → IsSet u seat command object field value → IsSet w seat command object field value
+  pub set_stays : (command : Command) (object field value : ℕ) → IsSet c u seat command object field value → IsSet c w seat command object field value
   set_stays command object field value is = record {
     obj = is.obj;
     val = is.val;
@@ -93,7 +90,7 @@ module _ (c : Config) (u w : World) (seat : ℕ) (keeps : Keeps c seat u w) wher
   }
 
   -- what a Cas counts on stays
-  pub cas_stays : (command : Command) (object field expect value : ℕ) → IsCas u seat command object field expect value → IsCas w seat command object field expect value
+  pub cas_stays : (command : Command) (object field expect value : ℕ) → IsCas c u seat command object field expect value → IsCas c w seat command object field expect value
   cas_stays command object field expect value is = record {
     obj = is.obj;
     expected = is.expected;
@@ -106,7 +103,7 @@ module _ (c : Config) (u w : World) (seat : ℕ) (keeps : Keeps c seat u w) wher
   }
 
   -- what an Xchg counts on stays
-  pub xchg_stays : (command : Command) (object field value dst : ℕ) → IsXchg u seat command object field value dst → IsXchg w seat command object field value dst
+  pub xchg_stays : (command : Command) (object field value dst : ℕ) → IsXchg c u seat command object field value dst → IsXchg c w seat command object field value dst
   xchg_stays command object field value dst is = record {
     obj = is.obj;
     val = is.val;
@@ -118,19 +115,44 @@ module _ (c : Config) (u w : World) (seat : ℕ) (keeps : Keeps c seat u w) wher
   }
 
   -- what an Rd counts on stays
-  rd_stays : (command : Command) (object refs index : ℕ) → IsRd u seat command object refs index → IsRd w seat command object refs index
+  rd_stays : (command : Command) (object refs index : ℕ) → IsRd c u seat command object refs index → IsRd c w seat command object refs index
   rd_stays command object refs index is = record { obj = is.obj; is = is.is; of = object_stays is.obj object is.of; refs_are = is.refs_are; below = is.below }
 
   -- what a Wr counts on stays
-  wr_stays : (command : Command) (object refs index value : ℕ) → IsWr u seat command object refs index value → IsWr w seat command object refs index value
+  wr_stays : (command : Command) (object refs index value : ℕ) → IsWr c u seat command object refs index value → IsWr c w seat command object refs index value
   wr_stays command object refs index value is = record { obj = is.obj; is = is.is; of = object_stays is.obj object is.of; refs_are = is.refs_are; below = is.below }
 
   -- a reference that was found stays
-  found_stays : (fixed : Option Reply) (value dst : ℕ) → IsFound u fixed value dst → IsFound w fixed value dst
+  pub found_stays : (fixed : Option Reply) (value dst : ℕ) → IsFound u fixed value dst → IsFound w fixed value dst
   found_stays fixed value dst is = record { name = is.name; settled = is.settled; is = keeps.names value is.name is.is; small = is.small }
 
+  -- that two words name the same stays, and that they name others
+  pub same_stays : (a b : ℕ) → NameTheSame u.block a b → NameTheSame w.block a b
+  same_stays a b (inl null) = inl null
+  same_stays a b (inr both) = inr (both.0, keeps.names a both.0 both.1, keeps.names b both.0 both.2)
+
+  others_stay : (a b : ℕ) → NameOthers u.block a b → NameOthers w.block a b
+  others_stay a b others = record {
+    name = others.name;
+    is = keeps.names a others.name others.is;
+    other = ⊎_elim (λ null. inl null) (λ more. inr (more.0, keeps.names b more.0 more.1, more.2)) others.other;
+  }
+
+  pub compared_stays : (fixed : Option Reply) (found expect : ℕ) → IsCompared u.block fixed found expect → IsCompared w.block fixed found expect
+  compared_stays fixed found expect (inl settled) = inl (settled.0, others_stay found expect settled.1)
+  compared_stays fixed found expect (inr same) = inr (same.0, same_stays found expect same.1)
+
+  -- what holds while a reference is resolved stays
+  pub resolved_stays : (k command : Command) (fixed : Option Reply) (found : ℕ) (next : Loaded) → LoadedFacts c u seat k command fixed found next → LoadedFacts c w seat k command fixed found next
+  resolved_stays k command fixed found ForRoot facts = found_stays fixed found (dst_of k) facts
+  resolved_stays k command fixed found (ToCompare object expect value) facts = record {
+    some = facts.some;
+    is_cas = cas_stays command object (index_of k) expect value facts.is_cas;
+    settled = compared_stays fixed found expect facts.settled;
+  }
+
   -- what a Copy counts on stays
-  copy_stays : (command : Command) (dst value : ℕ) → IsCopy u seat command dst value → IsCopy w seat command dst value
+  copy_stays : (command : Command) (dst value : ℕ) → IsCopy c u seat command dst value → IsCopy c w seat command dst value
   copy_stays command dst value is = record { src = is.src; is = is.is; value_is = root_word_stays value is.src is.value_is }
 
   -- that nothing is promised to it stays
@@ -190,7 +212,7 @@ module _ (c : Config) (u w : World) (seat : ℕ) (keeps : Keeps c seat u w) wher
       is
 
   -- what a mutator counts on in each part of a call stays
-  load_stays : (made : ℕ) (k command : Command) (fixed : Option Reply) (at : LoadSpot) → LoadFacts u seat made k command fixed at → LoadFacts w seat made k command fixed at
+  load_stays : (made : ℕ) (k command : Command) (fixed : Option Reply) (at : LoadSpot) → LoadFacts c u seat made k command fixed at → LoadFacts c w seat made k command fixed at
   load_stays made k command fixed load.First facts = facts
   load_stays made k command fixed (load.Second first) facts = (facts.0, facts.1, first_stays k first facts.2)
   load_stays made k command fixed (load.Third first second) facts = (facts.0, facts.1, first_stays k first facts.2, loaded_stays k 1 second facts.3)
@@ -206,26 +228,27 @@ module _ (c : Config) (u w : World) (seat : ℕ) (keeps : Keeps c seat u w) wher
   field_stays k command fixed object (fields.LoadOld value) facts = (facts.0, set_stays command object (index_of k) value facts.1)
   field_stays k command fixed object (fields.Store value) facts = (facts.0, set_stays command object (index_of k) value facts.1, covered_stays c u w object (index_of k) keeps.marks facts.2)
   field_stays k command fixed object (fields.Swap value) facts = (facts.0, xchg_stays command object (index_of k) value (dst_of k) facts.1)
-  field_stays k command fixed object (fields.Exchange found expect value) facts = (facts.0, cas_stays command object (index_of k) expect value facts.1, facts.2)
+  field_stays k command fixed object (fields.Exchange found expect value) facts = (facts.0, cas_stays command object (index_of k) expect value facts.1, same_stays found expect facts.2)
 
   pub record_stays : (k command : Command) (fixed : Option Reply) (address : ℕ) (next : Overwritten) → RecordFacts c u seat k command fixed address next → RecordFacts c w seat k command fixed address next
   record_stays k command fixed address (overwrites.Set object value) facts = field_stays k command fixed object (fields.Store value) facts
   record_stays k command fixed address overwrites.Xchg facts = found_stays fixed address (dst_of k) facts
   record_stays k command fixed address overwrites.Cas facts = facts
 
-  number_stays : (k command : Command) (fixed : Option Reply) (object refs : ℕ) (at : NumberSpot) → NumberFacts u seat k command fixed object refs at → NumberFacts w seat k command fixed object refs at
+  number_stays : (k command : Command) (fixed : Option Reply) (object refs : ℕ) (at : NumberSpot) → NumberFacts c u seat k command fixed object refs at → NumberFacts c w seat k command fixed object refs at
   number_stays k command fixed object refs numbers.Load facts = (facts.0, rd_stays command object refs (index_of k) facts.1)
   number_stays k command fixed object refs numbers.Store facts = (facts.0, wr_stays command object refs (index_of k) (number_of k) facts.1)
 
-  show_stays : (k : Command) (fixed : Option Reply) (value : ℕ) (at : ShowSpot) → ShowFacts u k fixed value at → ShowFacts w k fixed value at
-  show_stays k fixed value show.LoadName facts = found_stays fixed value (dst_of k) facts
-  show_stays k fixed value (show.StoreRoot reply) facts = facts
+  show_stays : (k : Command) (fixed : Option Reply) (value : ℕ) (at : ShowSpot) → ShowFacts c u k fixed value at → ShowFacts c w k fixed value at
+  show_stays k fixed value show.LoadName facts = (found_stays fixed value (dst_of k) facts.0, usable_stays c u w keeps.targets value facts.1)
+  show_stays k fixed value (show.StoreRoot reply) facts = (facts.0, facts.1, usable_stays c u w keeps.targets value facts.2)
 
-  make_stays : (made : ℕ) (k command : Command) (fixed : Option Reply) → ((words : ℕ) (take : TakeSpot) → TakeFacts c u seat words take → TakeFacts c w seat words take) → (at : MakeSpot)
+  make_stays : (made : ℕ) (k command : Command) (fixed : Option Reply) → ((words : ℕ) (take : TakeSpot) → TakeFacts c u seat words take → TakeFacts c w seat words take)
+      → ((refs nums address done : ℕ) → IsFilling u seat made refs nums address done → IsFilling w seat made refs nums address done) → (at : MakeSpot)
       → MakeFacts c u seat made k command fixed at → MakeFacts c w seat made k command fixed at
-  make_stays made k command fixed taking (make.Taking take) facts = (facts.0, taking (words_of k) take facts.1)
-  make_stays made k command fixed taking (make.StoreWord address done) facts = (facts.0, filling_stays made (refs_of k) (nums_of k) address done facts.1, facts.2)
-  make_stays made k command fixed taking (make.StoreRoot address) facts = (facts.0, filling_stays made (refs_of k) (nums_of k) address (words_of k) facts.1)
+  make_stays made k command fixed taking filling (make.Taking take) facts = (facts.0, taking (words_of k) take facts.1)
+  make_stays made k command fixed taking filling (make.StoreWord address done) facts = (facts.0, filling (refs_of k) (nums_of k) address done facts.1, facts.2)
+  make_stays made k command fixed taking filling (make.StoreRoot address) facts = (facts.0, filling (refs_of k) (nums_of k) address (words_of k) facts.1)
 
   pub enter_stays : (made : ℕ) (k command : Command) (fixed : Option Reply) (next : Entered) → EnterFacts u seat made k command fixed next → EnterFacts w seat made k command fixed next
   enter_stays made k command fixed Call facts = facts
@@ -240,33 +263,37 @@ module _ (c : Config) (u w : World) (seat : ℕ) (keeps : Keeps c seat u w) wher
   wait_stays bit made k command fixed (wait.StoreRoot address) facts = (asking_stays made k command fixed (asking.given (refs_of k) (nums_of k)) facts.0, keeps.answer ∙ facts.1)
   wait_stays bit made k command fixed (wait.ClearAnswer reply) facts = (facts.0, keeps.wait ∙ facts.1, unpromised_stays facts.2)
 
-  -- and at its spot, if that of a taking does, that of a recording, and the bit that a mutator waits
+  -- and at its spot, if that of a taking does, that of the words of a new object, of a resolving and of a recording, and the bit that a
+  -- mutator waits
   facts_stay : (made : ℕ) (kept : Kept) (command : Command) (fixed : Option Reply) → ((words : ℕ) (take : TakeSpot) → TakeFacts c u seat words take → TakeFacts c w seat words take)
+      → ((refs nums address done : ℕ) → IsFilling u seat made refs nums address done → IsFilling w seat made refs nums address done)
+      → ((address : ℕ) (at : ResolveSpot) → CanResolve c u seat address at → CanResolve c w seat address at)
       → ((address : ℕ) (at : RememberSpot) → CanRecord c u seat address at → CanRecord c w seat address at) → (bit_at (u.memory Ask) 1 ≡ 1 → bit_at (w.memory Ask) 1 ≡ 1) → (spot : Spot)
       → SpotFacts c u seat made kept command fixed spot → SpotFacts c w seat made kept command fixed spot
-  facts_stay made kept command fixed taking recording bit Rest facts = facts
-  facts_stay made kept command fixed taking recording bit (Ended reply) facts = facts
-  facts_stay made kept command fixed taking recording bit (Entering at next) facts = enter_stays made kept.command command fixed next facts
-  facts_stay made kept command fixed taking recording bit LoadPhase facts = facts
-  facts_stay made kept command fixed taking recording bit LoadSet facts = facts
-  facts_stay made kept command fixed taking recording bit (Loading at) facts = load_stays made kept.command command fixed at facts
-  facts_stay made kept command fixed taking recording bit (OnField object at) facts = field_stays kept.command command fixed object at facts
-  facts_stay made kept command fixed taking recording bit (Recording at address next) facts = (recording address at facts.0, record_stays kept.command command fixed address next facts.1)
-  facts_stay made kept command fixed taking recording bit (OnNumber object refs at) facts = number_stays kept.command command fixed object refs at facts
-  facts_stay made kept command fixed taking recording bit (Showing value at) facts = show_stays kept.command fixed value at facts
-  facts_stay made kept command fixed taking recording bit (StoreRoot value) facts = (facts.0, facts.1, ⊎_elim (λ is. inl (copy_stays command (dst_of kept.command) value is)) (λ is. inr is) facts.2)
-  facts_stay made kept command fixed taking recording bit (Making at) facts = make_stays made kept.command command fixed taking at facts
-  facts_stay made kept command fixed taking recording bit AskCycle facts = facts
-  facts_stay made kept command fixed taking recording bit (Waiting at) facts = wait_stays bit made kept.command command fixed at facts
-  facts_stay made kept command fixed taking recording bit (Leave reply) facts = facts
-  facts_stay made kept command fixed taking recording bit Gone facts = facts
+  facts_stay made kept command fixed taking filling resolving recording bit Rest facts = facts
+  facts_stay made kept command fixed taking filling resolving recording bit (Ended reply) facts = facts
+  facts_stay made kept command fixed taking filling resolving recording bit (Entering at next) facts = enter_stays made kept.command command fixed next facts
+  facts_stay made kept command fixed taking filling resolving recording bit LoadPhase facts = facts
+  facts_stay made kept command fixed taking filling resolving recording bit LoadSet facts = facts
+  facts_stay made kept command fixed taking filling resolving recording bit (Loading at) facts = load_stays made kept.command command fixed at facts
+  facts_stay made kept command fixed taking filling resolving recording bit (OnField object at) facts = field_stays kept.command command fixed object at facts
+  facts_stay made kept command fixed taking filling resolving recording bit (Resolving address at next) facts = (resolving address at facts.0, resolved_stays kept.command command fixed address next facts.1)
+  facts_stay made kept command fixed taking filling resolving recording bit (Recording at address next) facts = (recording address at facts.0, record_stays kept.command command fixed address next facts.1)
+  facts_stay made kept command fixed taking filling resolving recording bit (OnNumber object refs at) facts = number_stays kept.command command fixed object refs at facts
+  facts_stay made kept command fixed taking filling resolving recording bit (Showing value at) facts = show_stays kept.command fixed value at facts
+  facts_stay made kept command fixed taking filling resolving recording bit (StoreRoot value) facts = (facts.0, facts.1, ⊎_elim (λ is. inl (copy_stays command (dst_of kept.command) value is)) (λ is. inr is) facts.2)
+  facts_stay made kept command fixed taking filling resolving recording bit (Making at) facts = make_stays made kept.command command fixed taking filling at facts
+  facts_stay made kept command fixed taking filling resolving recording bit AskCycle facts = facts
+  facts_stay made kept command fixed taking filling resolving recording bit (Waiting at) facts = wait_stays bit made kept.command command fixed at facts
+  facts_stay made kept command fixed taking filling resolving recording bit (Leave reply) facts = facts
+  facts_stay made kept command fixed taking filling resolving recording bit Gone facts = facts
 
   -- what a mutator knows of its seat stays
   pub seated_stays : (made : ℕ) (waiting : Bool) → IsSeatedIn c u seat made waiting → IsSeatedIn c w seat made waiting
   seated_stays made waiting seated = record {
     below = seated.below;
     counted = keeps.count ∙ seated.counted;
-    usable = λ i below. subst (λ word. IsUsable w.block word) (sym (keeps.root_words i)) (usable_stays u w keeps.targets _ (seated.usable i below));
+    usable = λ i below. subst (λ word. UsableIn c w word) (sym (keeps.root_words i)) (usable_stays c u w keeps.targets _ (seated.usable i below));
     unasked = λ calm. let was = seated.unasked calm in (keeps.wait ∙ was.0, keeps.answer ∙ was.1, unpromised_stays was.2);
   }
 
@@ -275,10 +302,23 @@ module _ (c : Config) (u w : World) (seat : ℕ) (keeps : Keeps c seat u w) wher
   recording_stays dst value overwrites.Xchg index = rw (keeps.root_words index) refl
   recording_stays dst value _ index = keeps.root_words index
 
+  resolving_stays : (dst value : ℕ) (next : Loaded) (index : ℕ) → root_resolving w seat dst value next index ≡ root_resolving u seat dst value next index
+  resolving_stays dst value ForRoot index = rw (keeps.root_words index) refl
+  resolving_stays dst value (ToCompare object expect more) index = keeps.root_words index
+
   pub now_stays : (kept : Kept) (spot : Spot) (index : ℕ) → root_now w seat kept spot index ≡ root_now u seat kept spot index
   now_stays kept (Showing value at) index = rw (keeps.root_words index) refl
+  now_stays kept (Resolving address at next) index = resolving_stays (dst_of kept.command) address next index
   now_stays kept (Recording at address next) index = recording_stays (dst_of kept.command) address next index
   now_stays kept _ index = keeps.root_words index
+
+-- the words of a new object stay
+filling_stays : (c : Config) (u w : World) (seat : ℕ) → Rely c seat u w → (made refs nums address done : ℕ) → IsFilling u seat made refs nums address done → IsFilling w seat made refs nums address done
+filling_stays c u w seat rely made refs nums address done facts = record {
+  room = rely.hands address (3 + refs + nums) facts.room;
+  within = facts.within;
+  stored = λ k below. rely.hand_words address (3 + refs + nums) k facts.room (let within = facts.within in omega arith) ∙ facts.stored k below;
+}
 
 -- all that it knows stays
 pub mine_stays : (c : Config) (u w : World) (m : Mutating) (command : Command) (fixed : Option Reply) → Shared c u → Rely c m.seat u w → Mine c u m command fixed → Mine c w m command fixed
@@ -286,8 +326,11 @@ mine_stays c u w m command fixed shared rely mine = let keeps : Keeps c m.seat u
   seated = seated_stays c u w m.seat keeps m.made (is_waiting m.spot) mine.seated;
   ready = mine.ready;
   marking = marking_relied c u w m.seat (recording_of m.spot) m.kept.phase (has_phase m.spot) rely.marks mine.marking;
+  copying = copying_relied c u w m.seat (copies_at m.spot) m.kept.cset (has_set m.spot) rely.copies mine.copying;
   roots = λ i below. rw (now_stays c u w m.seat keeps m.kept m.spot i) (root_stays c u w m.seat keeps _ i (mine.roots i below));
   hands = λ a words is. mine.hands a words (rely.no_hands a words is);
   facts = facts_stay c u w m.seat keeps m.made m.kept command fixed (take_stays c u w m.seat rely (λ r is. shared.owned.currents.own m.seat r is))
+      (filling_stays c u w m.seat rely m.made)
+      (λ address at can. resolving_steps.stays c u w m.seat address at shared rely can)
       (λ address at can. recording_steps.stays c u w m.seat address at rely can) rely.asked m.spot mine.facts;
 }

@@ -24,20 +24,21 @@ use Rattle.mark_steps.specs.Laws.{with_in_hand}
 use Rattle.mutator.specs.declared.spot.Kept.{Kept}
 use Rattle.shen_graph.specs.declared.order.Order.TheVariants.{Nothing}
 use Rattle.mutator.specs.Commands.{dst_of, index_of, number_of}
-use Rattle.mutator.specs.Rows.{Mutating, touch_of, next_of, given_at, overwritten}
+use Rattle.mutator.specs.Rows.{Mutating, touch_of, next_of, given_at, overwritten, after_swap}
 use Rattle.mutator.specs.Told.{told_of}
-use Rattle.heap_world.specs.World.{World, Points, Target, IsThing, IsCovered, Shared}
-use Rattle.step_core.specs.Stepped.{HasObject, IsCas, IsXchg, Mine, Stepped, Row}
+use Rattle.heap_world.specs.World.{World, Points, TargetIn, IsThing, IsCovered, Shared}
+use Rattle.step_core.specs.Stepped.{HasObject, NameTheSame, IsCas, IsXchg, Mine, Stepped, Row}
 use Rattle.heap_world.proofs.Updates.{updated}
 use Rattle.step_core.proofs.Ready.{leaving}
-use Rattle.step_core.proofs.Naming.{object_in, field_in, number_in, same_words, shown_is}
+use Rattle.step_core.proofs.Naming.{object_in, field_in, number_in, one_reference, shown_is}
 use Rattle.heap_world.proofs.Objects.{field_stored, number_stored, stored, changed, shared_stored, rely_stored}
 use Rattle.step_core.proofs.Settling.{legal_answer, graph_answer}
 use Rattle.step_core.proofs.Spots.{mutator_at}
 use Rattle.heap_world.proofs.Pointing.{named_if_not_0}
 use Rattle.step_core.proofs.Stable.{cas_stays, xchg_stays}
 use Rattle.step_core.proofs.Overwriting.{record_ready, recorded_some, Overwrites, overwrites_of, stepped_in_hand, can_stored}
-use Rattle.step_core.proofs.InHand.{shown_not_full, field_mine}
+use Rattle.step_core.proofs.InHand.{shown_not_full}
+use Rattle.step_core.proofs.Resolving.{found_mine}
 use Rattle.heap_world.proofs.RootChanges.{roots_then}
 use Rattle.heap_world.proofs.Keeping.{load_keeps, rely_same}
 
@@ -77,7 +78,7 @@ module _ (g : Graph) (t obj : ℕ) (name : Name) (o : Object) (root_is : g.root 
 module _ (c : Config) (u : World) (m : Mutating) (object refs nums at value : ℕ) (name : Name) (o : Object) (root : ℕ → ℕ → Reference) (command : Command) (fixed : Option Reply) (r : Reply) where
   -- the step is as it should be
   store_settles : touched u.memory (touch_of c m Nothing) ≡ write u.memory (Heap at) value → told_of u.memory m ≡ Some r → given_at m.spot ≡ None → fixed ≡ None → is_full r ≡ false
-      → Shared c u → Target u.block object refs nums name → object + 3 ≤ at → at < object + (3 + refs + nums) → ((i : ℕ) → i < refs → at ≡ object + 3 + i → IsCovered c u object i)
+      → Shared c u → TargetIn c u object refs nums name → object + 3 ≤ at → at < object + (3 + refs + nums) → ((i : ℕ) → i < refs → at ≡ object + 3 + i → IsCovered c u object i)
       → IsThing (updated (λ a. u.memory (Heap a)) at value) u.block object refs nums name o
       → outcome u.graph (m.seat + 1) command ≡ answers r (changed u.graph name o root)
       → ((seat i : ℕ) → seat ≢ m.seat → root (seat + 1) i ≡ u.graph.root (seat + 1) i)
@@ -95,7 +96,7 @@ module _ (c : Config) (u : World) (m : Mutating) (object refs nums at value : �
   }
 
 -- A step that makes a reference field of an object in hand that of a root of the mutator.
-module _ (c : Config) (u : World) (m : Mutating) (object field value obj val : ℕ) (shared : Shared c u) (of : HasObject u m.seat obj object) (below : field < of.refs) (value_is : Points u.block value (u.graph.root (m.seat + 1) val)) (covered : IsCovered c u object field) (root : ℕ → ℕ → Reference) where
+module _ (c : Config) (u : World) (m : Mutating) (object field value obj val : ℕ) (shared : Shared c u) (of : HasObject c u m.seat obj object) (below : field < of.refs) (value_is : Points u.block value (u.graph.root (m.seat + 1) val)) (covered : IsCovered c u object field) (root : ℕ → ℕ → Reference) where
   -- the object after the store
   abbrev object_then : Object
   object_then = with_reference (object_in c u shared m.seat obj object of).0 field (u.graph.root (m.seat + 1) val)
@@ -151,14 +152,14 @@ module _ (c : Config) (u : World) (seat made : ℕ) (kept : Kept) (command : Com
       let answered = set_outcome u.graph (seat + 1) is.obj is.of.name o.0 is.of.root_is o.1 field is.val v.0 v.1 in
       field_settles c u (at_spot (OnField object (fields.Store value))) object field value is.obj is.val shared is.of is.below is.value_is.stands mine.facts.2 u.graph.root command fixed reply.Ok
       refl refl refl mine.facts.0 refl (ap (λ k. outcome u.graph (seat + 1) k) is.is ∙ answered) (λ j i d. refl)
-      (leaving c _ seat made kept command reply.Ok mine.seated (mine.marking.records, mine.marking.scans) mine.roots mine.hands)
+      (leaving c _ seat made kept command reply.Ok mine.seated (mine.marking.records, mine.marking.scans, mine.copying.copies_is, mine.copying.works_none) mine.roots mine.hands)
 
   -- The swap of a field settles the reference that it had. In a world in which marking needs the field no more:
-  swap_settles : (w : World) (object value : ℕ) → (shared : Shared c w) → fixed ≡ None → (is : IsXchg w seat command object field value dst) → (covered : IsCovered c w object field)
+  swap_settles : (w : World) (object value : ℕ) → (shared : Shared c w) → fixed ≡ None → (is : IsXchg c w seat command object field value dst) → (covered : IsCovered c w object field)
       → ((v : Reference) → Points w.block (w.memory (Heap (object + 3 + field))) v → let root : ℕ → ℕ → Reference = (with_root w.graph (seat + 1) dst v).root in
       Shared c (world_then c w (at_spot (OnField object (fields.Swap value))) object field value is.obj is.val shared is.of is.below is.value_is.stands covered root)
       → Mine c (world_then c w (at_spot (OnField object (fields.Swap value))) object field value is.obj is.val shared is.of is.below is.value_is.stands covered root)
-      (at_spot (overwritten kept.phase (w.memory (Heap (object + 3 + field))) overwrites.Xchg)) command (Some (shown v)))
+      (at_spot (after_swap c kept.phase kept.cset (w.memory (Heap (object + 3 + field))))) command (Some (shown v)))
       → Stepped c w (at_spot (OnField object (fields.Swap value))) command Nothing fixed
   swap_settles w object value shared unsettled is covered mine =
       let o = object_in c w shared seat is.obj object is.of in
@@ -178,7 +179,7 @@ module _ (c : Config) (u : World) (seat made : ℕ) (kept : Kept) (command : Com
       let got : ℕ = u.memory (Heap (object + 3 + field)) in
       swap_settles u object value shared mine.facts.0 mine.facts.1 covered
       (λ v stands shared_now. rw other
-      (field_mine c _ seat made kept command got v shared_now mine.seated mine.marking mine.facts.1.small (roots_then u.block (λ i. u.memory (Root seat i)) u.graph.root (seat + 1) dst got v mine.roots stands) mine.hands stands))
+      (found_mine c _ seat made kept command shared_now mine.seated mine.marking mine.copying mine.hands got v mine.facts.1.small (roots_then u.block (λ i. u.memory (Root seat i)) u.graph.root (seat + 1) dst got v mine.roots stands) stands))
   swap_field object value shared mine (Overwrites.takes records held covered) =
       let got : ℕ = u.memory (Heap (object + 3 + field)) in
       stepped_in_hand c u (at_spot (OnField object (fields.Swap value))) got command fixed held
@@ -190,6 +191,7 @@ module _ (c : Config) (u : World) (seat made : ℕ) (kept : Kept) (command : Com
         seated = mine.seated;
         ready = record_ready c _ seat made kept LoadCount got overwrites.Xchg refl shared_now can;
         marking = record { records = held.own.recording; scans = held.own.scanning; phase_is = mine.marking.phase_is };
+        copying = mine.copying;
         roots = roots_then u.block (λ i. u.memory (Root seat i)) u.graph.root (seat + 1) dst got v mine.roots stands;
         hands = mine.hands;
         facts = (can, record { name = named.0; settled = ap (λ r. Some (shown r)) named.1; is = named.2; small = mine.facts.1.small });
@@ -203,7 +205,7 @@ module _ (c : Config) (u : World) (seat made : ℕ) (kept : Kept) (command : Com
 
   -- The field has the word that was found in it: it changes. In a world in which marking needs the field no more:
   exchange_settles : (w : World) (object found expect value : ℕ) → (w.memory (Heap (object + 3 + field)) == found) ≡ true → (shared : Shared c w) → fixed ≡ None
-      → (is : IsCas w seat command object field expect value) → found ≡ expect → (covered : IsCovered c w object field)
+      → (is : IsCas c w seat command object field expect value) → NameTheSame w.block found expect → (covered : IsCovered c w object field)
       → (Shared c (world_then c w (at_spot (OnField object (fields.Exchange found expect value))) object field value is.obj is.val shared is.of is.below is.value_is.stands covered w.graph.root)
       → Mine c (world_then c w (at_spot (OnField object (fields.Exchange found expect value))) object field value is.obj is.val shared is.of is.below is.value_is.stands covered w.graph.root)
       (at_spot (overwritten kept.phase found overwrites.Cas)) command (Some reply.Yes))
@@ -212,8 +214,8 @@ module _ (c : Config) (u : World) (seat made : ℕ) (kept : Kept) (command : Com
       let o = object_in c w shared seat is.obj object is.of in
       let v = field_in c w shared seat is.obj object field is.of is.below in
       let got = w.memory (Heap (object + 3 + field)) in
-      let expected : (got == expect) ≡ true = ap (λ x. got == x) (sym as_expected) ∙ same in
-      let references : same_reference v.0 (w.graph.root (seat + 1) is.expected) ≡ true = sym (same_words c w shared got expect v.0 _ v.2 is.expect_is.stands) ∙ expected in
+      let references : same_reference v.0 (w.graph.root (seat + 1) is.expected) ≡ true =
+      one_reference c w shared got expect v.0 _ v.2 is.expect_is.stands (subst (λ x. NameTheSame w.block x expect) (sym (eqb-true _ _ same)) as_expected) in
       let answered = cas_outcome w.graph (seat + 1) is.obj is.of.name o.0 is.of.root_is o.1 field is.expected is.val v.0 v.1 references in
       field_settles c w (at_spot (OnField object (fields.Exchange found expect value))) object field value is.obj is.val shared is.of is.below is.value_is.stands covered w.graph.root command fixed reply.Yes
       (rw same refl) (rw same refl) refl unsettled refl (ap (λ k. outcome w.graph (seat + 1) k) is.is ∙ answered) (λ j i d. refl)
@@ -224,7 +226,7 @@ module _ (c : Config) (u : World) (seat made : ℕ) (kept : Kept) (command : Com
       → Overwrites c u seat kept.phase object field found → Stepped c u (at_spot (OnField object (fields.Exchange found expect value))) command Nothing fixed
   exchange_field object found expect value same shared mine (Overwrites.leaves other covered) =
       exchange_settles u object found expect value same shared mine.facts.0 mine.facts.1 mine.facts.2 covered
-      (λ shared_now. rw other (leaving c _ seat made kept command reply.Yes mine.seated (mine.marking.records, mine.marking.scans) mine.roots mine.hands))
+      (λ shared_now. rw other (leaving c _ seat made kept command reply.Yes mine.seated (mine.marking.records, mine.marking.scans, mine.copying.copies_is, mine.copying.works_none) mine.roots mine.hands))
   exchange_field object found expect value same shared mine (Overwrites.takes records held covered) =
       stepped_in_hand c u (at_spot (OnField object (fields.Exchange found expect value))) found command fixed held
       (exchange_settles (with_in_hand u seat found) object found expect value same held.shared mine.facts.0 (cas_stays c u (with_in_hand u seat found) seat held.keeps command object field expect value mine.facts.1) mine.facts.2 covered
@@ -234,6 +236,7 @@ module _ (c : Config) (u : World) (seat made : ℕ) (kept : Kept) (command : Com
         seated = mine.seated;
         ready = record_ready c _ seat made kept LoadCount found overwrites.Cas refl shared_now can;
         marking = record { records = held.own.recording; scans = held.own.scanning; phase_is = mine.marking.phase_is };
+        copying = mine.copying;
         roots = mine.roots;
         hands = mine.hands;
         facts = (can, refl);
@@ -259,6 +262,7 @@ module _ (c : Config) (u : World) (seat made : ℕ) (kept : Kept) (command : Com
       seated = mine.seated;
       ready = let ready = mine.ready in grind (arith, nat_tests);
       marking = mine.marking;
+      copying = mine.copying;
       roots = mine.roots;
       hands = mine.hands;
       facts = (mine.facts.0, mine.facts.1);
@@ -287,4 +291,4 @@ module _ (c : Config) (u : World) (seat made : ℕ) (kept : Kept) (command : Com
       refl refl refl mine.facts.0 refl shared is.of.target (omega arith) (omega (arith, is.below, is.refs_are)) (λ i small same. absurd (let refs_are = is.refs_are in omega (arith, small, same, refs_are)))
       (subst (λ (x : ℕ). IsThing (updated (λ a. u.memory (Heap a)) (object + 3 + x + index) value) u.block object is.of.refs is.of.nums is.of.name (with_value o.0 index value)) (sym is.refs_are) stands)
       (ap (λ k. outcome u.graph (seat + 1) k) is.is ∙ answered) (λ j i d. refl)
-      (leaving c _ seat made kept command reply.Ok mine.seated (mine.marking.records, mine.marking.scans) mine.roots mine.hands)
+      (leaving c _ seat made kept command reply.Ok mine.seated (mine.marking.records, mine.marking.scans, mine.copying.copies_is, mine.copying.works_none) mine.roots mine.hands)

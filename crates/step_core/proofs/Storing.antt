@@ -37,7 +37,7 @@ use Rattle.step_core.proofs.Pauses.{no_other_control}
 use Rattle.step_core.proofs.Refusing.{refused_new, refused_mine}
 use Rattle.step_core.proofs.Roles.{machine_stays, mutator_there}
 
-module _ (change : Change) (c : Config) (words : List ℕ) (block : Plot) (ghost : Ghost) (g : Graph) (past : List Entry) (machines : List Actor) (image : List ℕ) (index seen phase : ℕ) (command : Command) (calls : List Entry)
+module _ (change : Change) (c : Config) (words : List ℕ) (block : Plot) (ghost : Ghost) (g : Graph) (past : List Entry) (machines : List Actor) (image : List ℕ) (index seen phase cset : ℕ) (command : Command) (calls : List Entry)
     (ready : is_ready c (StoreWord index) ≡ true) (long : length words ≡ table_words c) (image_long : length image ≡ image_words c) (read : AreRead c words image index)
     (seats : length machines ≡ seat_count c.mutators c.helpers) where
   -- where the word stands, what was there, and what is stored
@@ -60,7 +60,7 @@ module _ (change : Change) (c : Config) (words : List ℕ) (block : Plot) (ghost
 
   -- the control, and the control then
   abbrev pub storing : Controlling
-  storing = record { spot = StoreWord index; seen = seen; phase = phase; image = image }
+  storing = record { spot = StoreWord index; seen = seen; phase = phase; cset = cset; image = image }
 
   abbrev control_then : Controlling
   control_then = control_next change c storing raw
@@ -153,9 +153,9 @@ module _ (change : Change) (c : Config) (words : List ℕ) (block : Plot) (ghost
     own_then : IsControl c words_then u (control_number c) control_then
     own_then = record {
       number_is = refl;
-      hands = stands.hands;
-      ready = stays_ready c phase seen (StoreWord index) raw ready tt;
+      ready = stays_ready c phase cset seen (StoreWord index) raw ready tt;
       phase_is = stands.phase_is;
+      set_is = stands.set_is;
       facts = facts_then (nat_lt (index + 1) (image_words c));
       aims = aims_then (nat_lt (index + 1) (image_words c));
     }

@@ -10,14 +10,14 @@ use Rattle.shen_graph.specs.declared.command.Reply.{Reply}
 use Rattle.heap_world.specs.World.{World, hand, Shared}
 use Rattle.heap_world.specs.Asking.{nothing}
 use Rattle.heap_world.specs.Rely.{Keeps}
+use Rattle.heap_world.specs.Part.{SameWork}
 use Rattle.alloc_buffers.specs.declared.spot.TakeSpot.{TakeSpot}
 use Rattle.alloc_buffers.specs.declared.spot.TakeSpot.TheVariants.{Ended}
 use Rattle.alloc_buffers.specs.declared.spot.Taken.TheVariants.{At, NoRoom}
 use Rattle.alloc_buffers.specs.declared.spot.Kind.TheVariants.{Fresh}
 use Rattle.alloc_buffers.specs.Rows as takes
 use Rattle.alloc_buffers.specs.Facts.{CanTake}
-use Rattle.alloc_buffers.proofs.Takes.{TakeStep}
-use Rattle.alloc_buffers.proofs.TakePart.{take_part}
+use Rattle.alloc_buffers.proofs.Takes.{TakeStep, each_take}
 use Rattle.mutator.specs.declared.spot.Spot.{Spot}
 use Rattle.mutator.specs.declared.spot.Spot.TheVariants.{Ended, Making}
 use Rattle.mutator.specs.declared.makes.MakeSpot.TheVariants as make
@@ -26,7 +26,7 @@ use Rattle.shen_graph.specs.declared.order.Order.TheVariants.{Nothing}
 use Rattle.mutator.specs.Commands.{refs_of, nums_of}
 use Rattle.mutator.specs.Rows.{Mutating, after_take}
 use Rattle.mutator.specs.Fit.{is_next_object, is_going}
-use Rattle.step_core.specs.Stepped.{HasMarkingBy, Mine, Row, Stepped}
+use Rattle.step_core.specs.Stepped.{HasMarkingBy, HasCopyingBy, Mine, Row, Stepped}
 use Rattle.step_core.proofs.Stable.{root_stays, asked_stays, seated_stays}
 use Rattle.step_core.proofs.Spots.{mutator_at}
 use Rattle.step_core.proofs.Ready.{seated_waiting, taking_ready, word_ready, request_ready}
@@ -80,13 +80,22 @@ module _ (c : Config) (u : World) (seat made : ℕ) (kept : Kept) (command : Com
     marking_at : (next : TakeSpot) (w : World) (knows : Bool) → Keeps c seat u w → CanTake c w seat words next → HasMarkingBy w seat None kept.phase knows
     marking_at next w knows keeps can = record { records = can.records_none; scans = can.scans_none; phase_is = λ on. mine.marking.phase_is refl ∙ sym keeps.marks.phase }
 
+    -- and of evacuation
+    copying_at : (w : World) (knows : Bool) → Keeps c seat u w → SameWork u w seat → HasCopyingBy w seat false kept.cset knows
+    copying_at w knows keeps work = record {
+      copies_is = work.copying ∙ mine.copying.copies_is;
+      works_none = work.working ∙ mine.copying.works_none;
+      set_is = λ on. mine.copying.set_is refl ∙ sym keeps.copies.cset;
+    }
+
     -- what it counts on at another spot of the taking
-    mine_at : (next : TakeSpot) (w : World) → is_going next ≡ true → Keeps c seat u w → CanTake c w seat words next → ((a more : ℕ) → w.block a ≡ Some (hand seat more) → ⊥)
+    mine_at : (next : TakeSpot) (w : World) → is_going next ≡ true → Keeps c seat u w → SameWork u w seat → CanTake c w seat words next → ((a more : ℕ) → w.block a ≡ Some (hand seat more) → ⊥)
         → Mine c w (at_spot (Making (make.Taking next))) command fixed
-    mine_at next w going keeps can none = record {
+    mine_at next w going keeps work can none = record {
       seated = seated_stays c u w seat keeps made false mine.seated;
       ready = (let both = and_parts _ _ can.ready in taking_ready c seat made kept command fixed mine.facts.0 next both.0 going both.1);
       marking = marking_at next w true keeps can;
+      copying = copying_at w true keeps work;
       roots = λ i below. rw (keeps.root_words i) (root_stays c u w seat keeps _ i (mine.roots i below));
       hands = none;
       facts = (mine.facts.0, can.facts);
@@ -94,24 +103,26 @@ module _ (c : Config) (u : World) (seat made : ℕ) (kept : Kept) (command : Com
 
     -- what it counts on after a step of the taking: with room in hand it goes on with the object's words, and without room it asks
     -- for the object
-    mine_then : (next : TakeSpot) (w : World) → Shared c w → Keeps c seat u w → CanTake c w seat words next → Mine c w (at_spot (after_take next)) command fixed
-    mine_then (Ended NoRoom) w shared keeps can = record {
+    mine_then : (next : TakeSpot) (w : World) → Shared c w → Keeps c seat u w → SameWork u w seat → CanTake c w seat words next → Mine c w (at_spot (after_take next)) command fixed
+    mine_then (Ended NoRoom) w shared keeps work can = record {
       seated = seated_waiting c w seat made false (seated_stays c u w seat keeps made false mine.seated);
       ready = request_ready c seat made kept command fixed mine.facts.0 mine.seated.below;
       marking = marking_at (Ended NoRoom) w false keeps can;
+      copying = copying_at w false keeps work;
       roots = λ i below. rw (keeps.root_words i) (root_stays c u w seat keeps _ i (mine.roots i below));
       hands = can.hands;
       facts = (mine.facts.0, asked_stays c u w seat keeps nothing (mine.seated.unasked refl));
     }
-    mine_then (Ended (At address)) w shared keeps can = record {
+    mine_then (Ended (At address)) w shared keeps work can = record {
       seated = seated_stays c u w seat keeps made false mine.seated;
       ready = word_ready c seat made kept command fixed mine.facts.0 (λ r. w.memory (Top r)) w.block shared.parsable.plotted address can.facts mine.seated.below 0 (omega arith);
       marking = marking_at (Ended (At address)) w true keeps can;
+      copying = copying_at w true keeps work;
       roots = λ i below. rw (keeps.root_words i) (root_stays c u w seat keeps _ i (mine.roots i below));
       hands = can.hands;
       facts = (mine.facts.0, record { room = can.facts; within = omega arith; stored = λ k below. absurd (omega arith) }, omega arith);
     }
-    mine_then next w shared keeps can = mine_at next w refl keeps can can.hands
+    mine_then next w shared keeps work can = mine_at next w refl keeps work can can.hands
 
     -- the step of the taking is a step of the mutator
     lifted : TakeStep c u seat words Fresh take → Stepped c u (at_spot (Making (make.Taking take))) command Nothing fixed
@@ -122,7 +133,7 @@ module _ (c : Config) (u : World) (seat made : ℕ) (kept : Kept) (command : Com
       legal = tt;
       settles = λ r e. cc;
       shared = step.shared;
-      mine = mine_then (takes.next_at c words Fresh take (u.memory (takes.touch_at seat words take).word)) step.world step.shared step.keeps step.own;
+      mine = mine_then (takes.next_at c words Fresh take (u.memory (takes.touch_at seat words take).word)) step.world step.shared step.keeps step.own.1 step.own.0;
       others = step.others;
     }
 
@@ -130,4 +141,4 @@ module _ (c : Config) (u : World) (seat made : ℕ) (kept : Kept) (command : Com
   pub at_taking : (take : TakeSpot) → Row c u (at_spot (Making (make.Taking take))) command fixed
   at_taking take shared mine =
       lifted take mine
-      (take_part.step c u seat (record { words = 3 + refs + nums; kind = Fresh }) take (going_now take mine) shared (can_take take mine))
+      (each_take c u seat (3 + refs + nums) Fresh take (going_now take mine) shared (can_take take mine))

@@ -1,11 +1,13 @@
 -- The theorem over every list of events.
-use Rattle.std.proofs.Common.{◌≡◌, ◌≢◌, ℕ, ◌+◌, ◌<◌, Bool, true, false, List, [], ◌++◌, Some, refl, sym, ap, ◌∙◌, subst, arith}
+use Rattle.std.proofs.Common.{◌≡◌, ◌≢◌, ℕ, ◌+◌, ◌<◌, Bool, true, false, List, [], ◌++◌, ⊎_elim, Some, refl, sym, ap, ◌∙◌, subst, arith}
 use Rattle.std.specs.Prelude.{◌&&◌, slice_get, slice_index}
 use Rattle.std.proofs.lemmas.Option.{same_Some}
+use Rattle.std.proofs.lemmas.Bool.{cases_Bool, false≢true}
 use Rattle.heap_words.specs.declared.config.Config.{Config}
+use Rattle.heap_words.specs.Ranges.{seat_count}
 use Rattle.heap_words.specs.Access.{table_index}
 use Rattle.heap_words.specs.Words.{Left, Answer, word_at, view, table_words}
-use Rattle.heap_words.proofs.Stores.{is_word_true}
+use Rattle.heap_words.proofs.Stores.{is_word_true, is_word_from}
 use Rattle.heap_words.proofs.Rows.{word_inside}
 use Rattle.steps_base.specs.Touch.{touch, subtracts, placed}
 use Rattle.steps_base.specs.Steps.{Stage, Event, act, go, HasReached, Finds}
@@ -28,14 +30,14 @@ use Rattle.mutator.specs.declared.spot.Spot.TheVariants.{Rest, Ended, Making}
 use Rattle.mutator.specs.declared.makes.MakeSpot.TheVariants.{Taking}
 use Rattle.mutator.specs.Orders.{takes_at}
 use Rattle.mutator.specs.Rows.{Mutating, touch_at, touch_of, next_of, words_of}
-use Rattle.mutator.specs.Fit.{IsReady, EndsFit, IsFit}
+use Rattle.mutator.specs.Fit.{IsReady, PartFit, EndsFit, IsFit}
 use Rattle.alloc_buffers.specs.declared.spot.TakeSpot.TheVariants.{LoadFree}
 use Rattle.alloc_buffers.specs.Facts.{HasLess}
 use Rattle.heap_world.specs.World.{World, hand}
 use Rattle.heap_world.specs.Change.{Change, IsPause}
 use Rattle.control_steps.specs.declared.spot.ControlSpot.{ControlSpot}
-use Rattle.control_steps.specs.declared.spot.ControlSpot.TheVariants.{Scanning, LoadWord}
-use Rattle.control_steps.specs.Ready.{is_ready, ScanGoesOn}
+use Rattle.control_steps.specs.declared.spot.ControlSpot.TheVariants.{Scanning, Evacuating, LoadWord}
+use Rattle.control_steps.specs.Ready.{is_ready, UnitGoesOn}
 use Rattle.helper.specs.Rows.{Helping, help_touch}
 use Rattle.helper.specs.Ready as help
 use Rattle.control_steps.specs.Rows.{Controlling, control_access, word_stored}
@@ -56,8 +58,12 @@ use Rattle.step_core.proofs.Crowding.{run_crowded}
 use Rattle.step_core.proofs.Facts.{IsSeen, IsThread, IsAim, IsMachine}
 use Rattle.step_core.proofs.FirstFacts.{opening_run}
 use Rattle.step_core.proofs.Images.{found-placed}
-use Rattle.step_core.proofs.ControlEvents.{whole_stands, scan_fit}
-use Rattle.step_core.proofs.Helpers.{help_leaves_image, help_word}
+use Rattle.step_core.proofs.ControlEvents.{whole_stands, scan_fit, evac_fit}
+use Rattle.step_core.proofs.Helpers.{help_leaves_image, help_word, help_fits, help_fits_outside}
+use Rattle.step_core.proofs.PartFits.{part_fits, part_outside, within_call}
+use Rattle.step_core.proofs.Held.{held_image, outside_held}
+use Rattle.step_core.proofs.Images.{settled_found}
+use Rattle.mutator.proofs.Orders.{in_call}
 use Rattle.step_core.proofs.Induction.{Goes, goes_event, goes_run}
 use Rattle.step_core.proofs.MachinesObey.{standing, is_left}
 use Rattle.step_core.proofs.MutatorObeys.{has_not_ended}
@@ -67,13 +73,6 @@ use Rattle.step_core.specs.Standing.{standing_at, help_standing, standing_of}
 use Rattle.step_core.proofs.Replies.{unsettled_at_rest, unsettled_before, settled_after}
 use Rattle.step_core.proofs.Requests.{has_asked}
 use Rattle.step_core.proofs.Roles.{number_of, mutator_of, machine_there}
-
--- only a mutator has room in hand
-hand_of : (c : Config) (words : List ℕ) (w : World) (entries : List Entry) (number : ℕ) (actor : Actor) (machine : Machine) → IsMachine c words w entries number actor machine
-    → (a more : ℕ) → w.block a ≡ Some (hand number more) → number < c.mutators
-hand_of c words w es number actor (mutating m) is a more there = subst (λ k. k < c.mutators) is.number_is is.mine.seated.below
-hand_of c words w es number actor (helping h) is a more there = absurd (is.hands a more there)
-hand_of c words w es number actor (controlling k) is a more there = absurd (is.hands a more there)
 
 -- a mutator that ends has not ended, and its access is of the count
 ends_left : (spot : Spot) (made : ℕ) → takes_at spot made End ≡ true → has_not_ended spot ≡ true
@@ -122,10 +121,17 @@ module _ (change : Change) (law : IsPause change) (c : Config) (g : Graph) (s : 
         next.follows.machines number _ there,
       )
 
+  -- a mutator is outside while an image counts
+  mutator_outside : (number : ℕ) (a : Actor) (m : Mutating) → IsMutator s number a m → (image : List ℕ) → held_image c s ≡ Some image → is_within (standing_at m.spot) ≡ false
+  mutator_outside number a m here image held =
+      let thread = thread_of number a m here in
+      let below : number < control_number c = (let less = subst (λ k. k < c.mutators) thread.number_is thread.mine.seated.below in omega (arith, less)) in
+      ap (λ machine. is_within (standing_of machine)) (sym here.is) ∙ outside_held c s goes.shaken image held number a below here.here
+
   -- a word that a mutator finds is fit
   fit_mutator : (number : ℕ) (a : Actor) (m : Mutating) (order : Order) → slice_get s.machines number ≡ Some a → a.machine ≡ mutating m → takes_at m.spot m.made order ≡ true
       → IsFit c m order (slice_index s.words (table_index (placed c (touch_of c m order))))
-  fit_mutator number a m order here is takes = (ready, ends order takes)
+  fit_mutator number a m order here is takes = (ready, part order takes, ends order takes)
     where
       ready : IsReady c (next_of c m order (slice_index s.words (table_index (placed c (touch_of c m order)))))
       ready =
@@ -133,6 +139,19 @@ module _ (change : Change) (law : IsPause change) (c : Config) (g : Graph) (s : 
           let thread = subst (λ machine. IsMachine c next.1 next.0 next.2 number (took_of change c a order (slice_index s.words (table_index (plan_of c order a.machine))) a.machine)
           (machine_after change c order (slice_index s.words (table_index (plan_of c order machine))) machine)) is next.3 in
           thread.mine.ready
+
+      part : (o : Order) → takes_at m.spot m.made o ≡ true → PartFit c m.seat m.kept m.spot (slice_index s.words (table_index (placed c (touch_of c m o))))
+      part o takes_it = ⊎_elim
+          (λ (within : is_within (standing_at m.spot) ≡ true).
+          let thread = thread_of number a m (record { here = here; is = is }) in
+          let called : o ≡ Nothing = in_call m.spot m.made o (within_call m.spot within) takes_it in
+          subst (λ x. PartFit c m.seat m.kept m.spot (slice_index s.words (table_index (placed c (touch_of c m x))))) (sym called)
+          (subst (λ got. PartFit c m.seat m.kept m.spot got) (sym (settled_found c s.words (touch_of c m Nothing) (held_image c s)
+          (order_word c m.seat m.made m.kept Nothing m.spot thread.mine.seated.below thread.mine.ready (subst (λ x. takes_at m.spot m.made x ≡ true) called takes_it))
+          (λ image held. absurd (false≢true (sym (mutator_outside number a m (record { here = here; is = is }) image held) ∙ within)))))
+          (part_fits c the_world goes.follows.shared m.seat m.made m.kept a.command thread.fixed m.spot thread.mine)))
+          (λ (out : is_within (standing_at m.spot) ≡ false). part_outside c m.seat m.kept m.spot _ out)
+          (cases_Bool (is_within (standing_at m.spot)))
 
       ends : (o : Order) → takes_at m.spot m.made o ≡ true → EndsFit o (slice_index s.words (table_index (placed c (touch_of c m o))))
       ends Nothing takes_it = tt
@@ -142,28 +161,38 @@ module _ (change : Change) (law : IsPause change) (c : Config) (g : Graph) (s : 
           (left_some c is_left s number a goes.counted here (ap (λ machine. is_left (record { machine = machine; command = a.command; calls = a.calls })) is ∙ ends_left m.spot m.made takes_it)))
 
   -- so is one that a helper finds
-  fit_helper : (number : ℕ) (a : Actor) (m : Helping) → slice_get s.machines number ≡ Some a → a.machine ≡ helping m → takes_of (helping m) Nothing ≡ true
-      → help.IsFit c m (slice_index s.words (table_index (placed c (help_touch c m))))
-  fit_helper number a m here is takes =
-      let next = machine_next number a Nothing here (ap (λ machine. takes_of machine Nothing) is ∙ takes) in
-      (subst (λ machine. IsMachine c next.1 next.0 next.2 number (took_of change c a Nothing (slice_index s.words (table_index (plan_of c Nothing a.machine))) a.machine)
-      (machine_after change c Nothing (slice_index s.words (table_index (plan_of c Nothing machine))) machine)) is next.3).ready
+  fit_helper : (number : ℕ) (a : Actor) (m : Helping) → slice_get s.machines number ≡ Some a → a.machine ≡ helping m → help.IsFit c m (slice_index s.words (table_index (placed c (help_touch c m))))
+  fit_helper number a m here is =
+      let facts = subst (λ machine. IsMachine c s.words the_world (of_thread h (number + 1)) number a machine) is (known number a here) in
+      ⊎_elim
+      (λ (within : is_within (help_standing m.spot) ≡ true).
+      subst (λ got. help.IsFit c m got) (sym (settled_found c s.words (help_touch c m) (held_image c s) (is_word_from c (help_touch c m).word (help_word c the_world number m goes.follows.shared facts))
+      (λ image held. absurd (false≢true (sym (sym (ap standing_within is) ∙ outside_held c s goes.shaken image held number a facts.below here) ∙ within)))))
+      (help_fits c the_world number m goes.follows.shared facts))
+      (λ (out : is_within (help_standing m.spot) ≡ false). help_fits_outside c m.seat m.spot _ out)
+      (cases_Bool (is_within (help_standing m.spot)))
+    where
+      standing_within : Machine → Bool
+      standing_within machine = is_within (standing_of machine)
 
   -- and one that the control finds
-  fit_control : (number seen phase : ℕ) (image : List ℕ) (a : Actor) (spot : ControlSpot) → slice_get s.machines number ≡ Some a → a.machine ≡ controlling (record { spot = spot; seen = seen; phase = phase; image = image })
-      → IsWhole c spot image (slice_index s.words (table_index (control_access c (record { spot = spot; seen = seen; phase = phase; image = image }))))
-  fit_control number seen phase image a (LoadWord index) here is =
-      λ last. whole_stands change law c g s h number seen phase image a.command a.calls goes.follows goes.shaken index
+  fit_control : (number seen phase cset : ℕ) (image : List ℕ) (a : Actor) (spot : ControlSpot) → slice_get s.machines number ≡ Some a → a.machine ≡ controlling (record { spot = spot; seen = seen; phase = phase; cset = cset; image = image })
+      → IsWhole c spot image (slice_index s.words (table_index (control_access c (record { spot = spot; seen = seen; phase = phase; cset = cset; image = image }))))
+  fit_control number seen phase cset image a (LoadWord index) here is =
+      λ last. whole_stands change law c g s h number seen phase cset image a.command a.calls goes.follows goes.shaken index
       (here ∙ ap (λ machine. Some (record { machine = machine; command = a.command; calls = a.calls })) is) last
-  fit_control number seen phase image a _ here is = tt
+  fit_control number seen phase cset image a _ here is = tt
 
-  -- also while it scans
-  fit_scan : (number seen phase : ℕ) (image : List ℕ) (a : Actor) (spot : ControlSpot) → slice_get s.machines number ≡ Some a → a.machine ≡ controlling (record { spot = spot; seen = seen; phase = phase; image = image })
-      → ScanGoesOn c spot (slice_index s.words (table_index (control_access c (record { spot = spot; seen = seen; phase = phase; image = image }))))
-  fit_scan number seen phase image a (Scanning at) here is =
-      scan_fit change law c g s h number seen phase image a.command a.calls goes.follows goes.shaken at
+  -- also while it works on a unit
+  fit_unit : (number seen phase cset : ℕ) (image : List ℕ) (a : Actor) (spot : ControlSpot) → slice_get s.machines number ≡ Some a → a.machine ≡ controlling (record { spot = spot; seen = seen; phase = phase; cset = cset; image = image })
+      → UnitGoesOn c spot (slice_index s.words (table_index (control_access c (record { spot = spot; seen = seen; phase = phase; cset = cset; image = image }))))
+  fit_unit number seen phase cset image a (Scanning at) here is =
+      scan_fit change law c g s h number seen phase cset image a.command a.calls goes.follows goes.shaken at
       (here ∙ ap (λ machine. Some (record { machine = machine; command = a.command; calls = a.calls })) is)
-  fit_scan number seen phase image a _ here is = tt
+  fit_unit number seen phase cset image a (Evacuating kept at) here is =
+      evac_fit change law c g s h number seen phase cset image a.command a.calls goes.follows goes.shaken kept at
+      (here ∙ ap (λ machine. Some (record { machine = machine; command = a.command; calls = a.calls })) is)
+  fit_unit number seen phase cset image a _ here is = tt
 
   -- a machine finds a fit word
   finds_fit : (number : ℕ) (a : Actor) → slice_get s.machines number ≡ Some a → FindsFit c s a
@@ -187,10 +216,10 @@ module _ (change : Change) (law : IsPause change) (c : Config) (g : Graph) (s : 
           record {
             inside = λ order takes.
                 subst (λ machine. table_index (plan_of c order machine) < table_words c) (sym is)
-                (subst (λ k. k < table_words c) (sym (table_index-access_at (word_at c (help_touch c m).word) (help_touch c m).form)) (word_inside c (help_touch c m).word (help_word c the_world number m facts)));
+                (subst (λ k. k < table_words c) (sym (table_index-access_at (word_at c (help_touch c m).word) (help_touch c m).form)) (word_inside c (help_touch c m).word (help_word c the_world number m goes.follows.shared facts)));
             fit = λ order takes.
                 subst (λ machine. IsFitFor c order (slice_index s.words (table_index (plan_of c order machine))) machine) (sym is)
-                (fit_helper number a m here is (unordered order _ (ap (λ machine. takes_of machine order) (sym is) ∙ takes)));
+                (fit_helper number a m here is);
           }
       by_machine (controlling k) is =
           let facts = subst (λ machine. IsMachine c s.words the_world (of_thread h (number + 1)) number a machine) is (known number a here) in
@@ -199,7 +228,7 @@ module _ (change : Change) (law : IsPause change) (c : Config) (g : Graph) (s : 
                 subst (λ machine. table_index (plan_of c order machine) < table_words c) (sym is) (accesses_inside c k.spot (word_stored k.spot k.image) facts.ready);
             fit = λ order takes.
                 subst (λ machine. IsFitFor c order (slice_index s.words (table_index (plan_of c order machine))) machine) (sym is)
-                (fit_control number k.seen k.phase k.image a k.spot here is, fit_scan number k.seen k.phase k.image a k.spot here is);
+                (fit_control number k.seen k.phase k.cset k.image a k.spot here is, fit_unit number k.seen k.phase k.cset k.image a k.spot here is);
           }
 
   -- of its machines
@@ -216,10 +245,8 @@ module _ (change : Change) (law : IsPause change) (c : Config) (g : Graph) (s : 
   }
 
   -- of room in hand
-  in_hand : (a seat more : ℕ) → goes.follows.block a ≡ Some (hand seat more) → seat < c.mutators
-  in_hand a seat more is =
-      let there = machine_there c s.words the_world h s.machines goes.follows.seats seat (goes.follows.shared.owned.rooms a seat more is).seated in
-      hand_of c s.words the_world (of_thread h (seat + 1)) seat there.0 there.0.machine (known seat there.0 there.1) a more is
+  in_hand : (a seat more : ℕ) → goes.follows.block a ≡ Some (hand seat more) → seat < seat_count c.mutators c.helpers
+  in_hand a seat more is = (goes.follows.shared.owned.rooms a seat more is).seated
 
   -- of all: it is sound
   sound : AreCrowded c.regions c.region_words g (begun c s) h → IsSound c g s h
@@ -245,8 +272,8 @@ module _ (change : Change) (law : IsPause change) (c : Config) (g : Graph) (s : 
           fixed = thread.fixed;
           entries_are = thread.entries_are;
           between_calls = λ rest. unsettled_at_rest c the_world m.seat m.made m.kept a.command thread.fixed m.spot rest thread.mine.facts;
-          before_it = λ before. unsettled_before c the_world m.seat m.made m.kept a.command thread.fixed (view c s.words (Answer number)) seen m.spot before thread.mine.facts;
-          after_it = λ behind. settled_after c the_world m.seat m.made m.kept a.command thread.fixed (view c s.words (Answer number)) seen m.spot behind thread.mine.facts;
+          before_it = λ before. unsettled_before c the_world m.seat m.made m.kept a.command thread.fixed (view c s.words (Answer number)) seen goes.follows.shared m.spot before thread.mine.facts;
+          after_it = λ behind. settled_after c the_world m.seat m.made m.kept a.command thread.fixed (view c s.words (Answer number)) seen goes.follows.shared m.spot behind thread.mine.facts;
           gives = λ reply is. gives_settled c the_world m.seat m.kept a.command thread.fixed m.spot m.made reply thread.mine.facts is;
         };
     fit = finds_fit;

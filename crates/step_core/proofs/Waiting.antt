@@ -18,13 +18,13 @@ use Rattle.mutator.specs.declared.waits.WaitSpot.{WaitSpot}
 use Rattle.mutator.specs.declared.waits.WaitSpot.TheVariants as wait
 use Rattle.mutator.specs.Commands.{refs_of, nums_of}
 use Rattle.mutator.specs.Rows.{Mutating}
-use Rattle.heap_world.specs.World.{World, Shared, promised}
+use Rattle.heap_world.specs.World.{World, Shared, promised, IsMarkable}
 use Rattle.heap_world.specs.Asking as asking
 use Rattle.heap_world.specs.Asking.{IsPromise}
-use Rattle.heap_world.specs.Rely.{Keeps, RelyMarks}
+use Rattle.heap_world.specs.Rely.{Keeps, RelyCopies, RelyMarks}
 use Rattle.step_core.specs.Stepped.{IsAnswered, Mine, Row}
 use Rattle.step_core.proofs.Spots.{mutator_at, accessed}
-use Rattle.step_core.proofs.Marking.{marks_in, now_waits}
+use Rattle.step_core.proofs.Marking.{marks_in, now_waits, copies_in}
 use Rattle.step_core.proofs.Stable.{asking_stays, heard_stays}
 use Rattle.step_core.proofs.Loading.{looks}
 use Rattle.step_core.proofs.Entering.{state_keeps}
@@ -56,6 +56,7 @@ module _ (c : Config) (u : World) (seat made : ℕ) (kept : Kept) (command : Com
       seated = record { below = mine.seated.below; counted = mine.seated.counted; usable = mine.seated.usable; unasked = λ no. absurd (cc (no)) };
       ready = refl;
       marking = mine.marking;
+      copying = mine.copying;
       roots = mine.roots;
       hands = mine.hands;
       facts = (
@@ -72,15 +73,18 @@ module _ (c : Config) (u : World) (seat made : ℕ) (kept : Kept) (command : Com
         ),
       );
     };
-    others = λ j d. let marks = marks_in c u (accessed c u (at_spot wait.StoreRequest)).memory u.graph j refl (λ n. refl) (λ t. refl) (λ t k. refl) (λ a. refl) in search (arith, nat_tests, marks);
+    others = λ j d. let marks = marks_in c u (accessed c u (at_spot wait.StoreRequest)).memory u.graph j refl (λ n. refl) (λ t. refl) (λ t k. refl) (λ a. refl) in let copies = copies_in c u (accessed c u (at_spot wait.StoreRequest)).memory u.graph j refl refl (λ r. refl) (λ a. refl) in search (arith, nat_tests, marks, copies);
   }
 
   -- the word by which it asks for a pause is no word that its facts speak of
   ask_marks : (j : ℕ) → RelyMarks c j u (accessed c u (at_spot wait.AskRoom))
   ask_marks j = marks_in c u (accessed c u (at_spot wait.AskRoom)).memory u.graph j refl (λ n. refl) (λ t. refl) (λ t k. refl) (λ a. refl)
 
+  ask_copies : (j : ℕ) → RelyCopies c j u (accessed c u (at_spot wait.AskRoom))
+  ask_copies j = copies_in c u (accessed c u (at_spot wait.AskRoom)).memory u.graph j refl refl (λ r. refl) (λ a. refl)
+
   ask_keeps : Keeps c seat u (accessed c u (at_spot wait.AskRoom))
-  ask_keeps = let marks = ask_marks seat in let kept_marks = marks.keeps in search (arith, nat_tests, kept_marks)
+  ask_keeps = let marks = ask_marks seat in let kept_marks = marks.keeps in let copies = ask_copies seat in let kept_copies = copies.keeps in search (arith, nat_tests, kept_marks, kept_copies)
 
   -- the step that asks for a pause
   pub at_ask_room : Row c u (at_spot wait.AskRoom) command fixed
@@ -95,11 +99,12 @@ module _ (c : Config) (u : World) (seat made : ℕ) (kept : Kept) (command : Com
       seated = mine.seated;
       ready = ready_of _ true (state_word c seat mine.seated.below) refl;
       marking = mine.marking;
+      copying = mine.copying;
       roots = mine.roots;
       hands = mine.hands;
       facts = (asking_stays c u (accessed c u (at_spot wait.AskRoom)) seat ask_keeps made kept.command command fixed (asking.asks refs nums) mine.facts, now_waits (u.memory Ask));
     };
-    others = λ j d. let marks = ask_marks j in let waits : bit_at (u.memory Ask) 1 ≡ 1 → bit_at (bit_or (u.memory Ask) 2) 1 ≡ 1 = λ is. now_waits (u.memory Ask) in search (arith, nat_tests, marks, waits);
+    others = λ j d. let marks = ask_marks j in let copies = ask_copies j in let waits : bit_at (u.memory Ask) 1 ≡ 1 → bit_at (bit_or (u.memory Ask) 2) 1 ≡ 1 = λ is. now_waits (u.memory Ask) in search (arith, nat_tests, marks, copies, waits);
   }
 
   -- the step by which it leaves the heap, to wait
@@ -115,11 +120,12 @@ module _ (c : Config) (u : World) (seat made : ℕ) (kept : Kept) (command : Com
       seated = mine.seated;
       ready = ready_of _ true (lt-ltb _ _ mine.seated.below) refl;
       marking = mine.marking;
+      copying = mine.copying;
       roots = mine.roots;
       hands = mine.hands;
       facts = inl (heard_stays c u (accessed c u (at_spot wait.StepOut)) seat (state_keeps c u seat seat 0) (λ is. is) made kept.command command fixed mine.facts);
     };
-    others = λ j d. let marks = marks_in c u (accessed c u (at_spot wait.StepOut)).memory u.graph j refl (λ n. refl) (λ t. refl) (λ t k. refl) (λ a. refl) in search (arith, nat_tests, marks);
+    others = λ j d. let marks = marks_in c u (accessed c u (at_spot wait.StepOut)).memory u.graph j refl (λ n. refl) (λ t. refl) (λ t k. refl) (λ a. refl) in let copies = copies_in c u (accessed c u (at_spot wait.StepOut)).memory u.graph j refl refl (λ r. refl) (λ a. refl) in search (arith, nat_tests, marks, copies);
   }
 
   -- What it finds where it polls: its word as it counts, or 0, where the control has not stored the word yet. It goes on with an
@@ -145,6 +151,7 @@ module _ (c : Config) (u : World) (seat made : ℕ) (kept : Kept) (command : Com
         seated = mine.seated;
         ready = ready_of _ true (state_word c seat mine.seated.below) refl;
         marking = mine.marking;
+        copying = mine.copying;
         roots = mine.roots;
         hands = mine.hands;
         facts = answered some;
@@ -163,6 +170,7 @@ module _ (c : Config) (u : World) (seat made : ℕ) (kept : Kept) (command : Com
         seated = mine.seated;
         ready = ready_of _ true (lt-ltb _ _ mine.seated.below) refl;
         marking = mine.marking;
+        copying = mine.copying;
         roots = mine.roots;
         hands = mine.hands;
         facts = ⊎_elim
@@ -175,6 +183,7 @@ module _ (c : Config) (u : World) (seat made : ℕ) (kept : Kept) (command : Com
             seated = mine.seated;
             ready = given_ready c seat made kept command fixed given.0 (λ r. u.memory (Top r)) u.block (u.memory (Answer seat)) shared.parsable.plotted given.1.2.here mine.seated.below;
             marking = mine.marking;
+            copying = mine.copying;
             roots = mine.roots;
             hands = mine.hands;
             facts = (given, refl);
@@ -199,6 +208,8 @@ module _ (c : Config) (u : World) (seat made : ℕ) (kept : Kept) (command : Com
       long = refl;
       own = record { no_hand = λ j words differs same. cc; no_promise = λ j words differs same. (let seats : j ≡ seat = cc in differs seats) };
       known = λ on. inl (shared.marked.promises on address seat (3 + refs + nums) promise.here);
+      outside = λ inside. shared.evacuated.aside.no_promises address seat (3 + refs + nums) promise.here inside;
+      kept = λ on. shared.evacuated.kept.objects on address (IsMarkable.to_come seat (3 + refs + nums) promise.here);
       stored = λ i below. promise.words i below ∙ ap (λ n. fresh_word seat n refs nums i) mine.seated.counted;
       shared = shared;
     }
@@ -209,6 +220,7 @@ module _ (c : Config) (u : World) (seat made : ℕ) (kept : Kept) (command : Com
       seated = record { below = mine.seated.below; counted = count_made has; usable = usable_made has mine.seated.usable; unasked = λ no. absurd (cc (no)) };
       ready = ready_of _ true (lt-ltb _ _ mine.seated.below) refl;
       marking = mine.marking;
+      copying = mine.copying;
       roots = roots_made has mine.roots;
       hands = λ a words is. mine.hands a words (hand_before has a seat words is).1;
       facts = (refl, mine.facts.0.1.0, λ a words is. let old = promise_before has a seat words is in old.0 (promise.only a words old.1));
@@ -239,8 +251,8 @@ module _ (c : Config) (u : World) (seat made : ℕ) (kept : Kept) (command : Com
     mine = rw mine.facts.0
         (leaving c (accessed c u (at_spot (wait.ClearAnswer r))) seat made kept command r
         (record { below = mine.seated.below; counted = mine.seated.counted; usable = mine.seated.usable; unasked = λ calm. (mine.facts.1, cond-true (seat == seat) _ _ (eq-eqb seat seat refl), mine.facts.2) })
-        (mine.marking.records, mine.marking.scans) mine.roots mine.hands);
-    others = λ j d. let marks = marks_in c u (accessed c u (at_spot (wait.ClearAnswer r))).memory u.graph j refl (λ n. refl) (λ t. refl) (λ t k. refl) (λ a. refl) in search (arith, nat_tests, marks);
+        (mine.marking.records, mine.marking.scans, mine.copying.copies_is, mine.copying.works_none) mine.roots mine.hands);
+    others = λ j d. let marks = marks_in c u (accessed c u (at_spot (wait.ClearAnswer r))).memory u.graph j refl (λ n. refl) (λ t. refl) (λ t k. refl) (λ a. refl) in let copies = copies_in c u (accessed c u (at_spot (wait.ClearAnswer r))).memory u.graph j refl refl (λ r. refl) (λ a. refl) in search (arith, nat_tests, marks, copies);
   }
 
   -- by the spot, but for the polling

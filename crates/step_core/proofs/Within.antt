@@ -15,11 +15,17 @@ use Rattle.satb_barrier.specs.declared.spot.RememberSpot.{RememberSpot}
 use Rattle.satb_barrier.specs.declared.spot.RememberSpot.TheVariants.{LoadCount, Recorded}
 use Rattle.satb_barrier.specs.Rows as satb
 use Rattle.mutator.specs.declared.spot.Spot.{Spot}
-use Rattle.mutator.specs.declared.spot.Spot.TheVariants.{Entering, LoadPhase, LoadSet, Loading, OnField, Recording, OnNumber, Showing, StoreRoot, Making, AskCycle, Waiting, Leave}
+use Rattle.mutator.specs.declared.spot.Spot.TheVariants.{Entering, LoadPhase, LoadSet, Loading, OnField, Resolving, Recording, OnNumber, Showing, StoreRoot, Making, AskCycle, Waiting, Leave}
 use Rattle.mutator.specs.declared.spot.Entered.{Entered}
 use Rattle.mutator.specs.declared.spot.Entered.TheVariants.{Call, Waited}
 use Rattle.mutator.specs.declared.loads.LoadSpot.TheVariants as load
 use Rattle.mutator.specs.declared.fields.FieldSpot.TheVariants as fields
+use Rattle.load_barrier.specs.Rows as resolves
+use Rattle.load_barrier.specs.UnitRows.{must_resolve}
+use Rattle.load_barrier.specs.declared.spot.ResolveSpot.{ResolveSpot}
+use Rattle.load_barrier.specs.declared.spot.ResolveSpot.TheVariants.{LoadHeader, Resolved}
+use Rattle.mutator.specs.declared.resolves.Loaded.{Loaded}
+use Rattle.mutator.specs.declared.resolves.Loaded.TheVariants.{ForRoot, ToCompare}
 use Rattle.mutator.specs.declared.overwrites.Overwritten.{Overwritten}
 use Rattle.mutator.specs.declared.overwrites.Overwritten.TheVariants as overwrites
 use Rattle.mutator.specs.declared.numbers.NumberSpot.TheVariants as numbers
@@ -28,7 +34,7 @@ use Rattle.mutator.specs.declared.makes.MakeSpot.TheVariants as make
 use Rattle.mutator.specs.declared.waits.WaitSpot.{WaitSpot}
 use Rattle.mutator.specs.declared.waits.WaitSpot.TheVariants as wait
 use Rattle.mutator.specs.Commands.{roots_of, lacks_object, has_part}
-use Rattle.mutator.specs.Rows.{Mutating, first_spot, after_roots, after_first, with_part, is_to_record, overwritten, after_recording, after_remember, after_take, take_next, next_at}
+use Rattle.mutator.specs.Rows.{Mutating, first_spot, after_roots, after_first, with_part, is_to_record, overwritten, after_recording, after_remember, after_resolved, after_resolve, with_loaded, after_take, take_next, next_at}
 use Rattle.mutator.specs.WaitRows.{after_enter}
 use Rattle.step_core.specs.Standing.{standing_at, wait_standing}
 
@@ -79,6 +85,18 @@ remember_in : (address : ℕ) (next : Overwritten) (at : RememberSpot) → IsIn 
 remember_in address next Recorded = recorded_in address next
 remember_in address next _ = refl
 
+-- where it goes on with a reference that is resolved, or resolves it
+resolved_in : (found answer : ℕ) (next : Loaded) → IsIn (after_resolved found answer next)
+resolved_in found answer ForRoot = refl
+resolved_in found answer (ToCompare object expect value) = either_in (answer == expect) (OnField object (fields.Exchange found expect value)) (Leave reply.No) refl refl
+
+loaded_in : (c : Config) (phase cset found : ℕ) (next : Loaded) → IsIn (with_loaded c phase cset found next)
+loaded_in c phase cset found next = either_in (must_resolve c phase cset found) (Resolving found LoadHeader next) (after_resolved found found next) refl (resolved_in found found next)
+
+resolve_in : (found : ℕ) (next : Loaded) (at : ResolveSpot) → IsIn (after_resolve found next at)
+resolve_in found next (Resolved answer) = resolved_in found answer next
+resolve_in found next _ = refl
+
 take_in : (at : TakeSpot) → IsIn (after_take at)
 take_in (take.Ended (At address)) = refl
 take_in (take.Ended NoRoom) = refl
@@ -96,13 +114,15 @@ goes_on_in c m order got (Loading (load.Second first)) is =
 goes_on_in c m order got (Loading (load.Third first second)) is = roots_in_heap m.kept.command first second got
 goes_on_in c m order got (Loading (load.Shape object second third)) is =
     either_in (has_part m.kept.command got) (with_part m.kept.phase m.kept.command object second third got) (Leave reply.Bad) (part_in m.kept.phase m.kept.command object second third got) refl
-goes_on_in c m order got (OnField object fields.Load) is = refl
-goes_on_in c m order got (OnField object (fields.LoadExpected expect value)) is = either_in (got == expect) (OnField object (fields.Exchange got expect value)) (Leave reply.No) refl refl
+goes_on_in c m order got (OnField object fields.Load) is = loaded_in c m.kept.phase m.kept.cset got ForRoot
+goes_on_in c m order got (OnField object (fields.LoadExpected expect value)) is = loaded_in c m.kept.phase m.kept.cset got (ToCompare object expect value)
 goes_on_in c m order got (OnField object (fields.LoadOld value)) is = overwritten_in m.kept.phase got (overwrites.Set object value)
 goes_on_in c m order got (OnField object (fields.Store value)) is = refl
-goes_on_in c m order got (OnField object (fields.Swap value)) is = overwritten_in m.kept.phase got overwrites.Xchg
+goes_on_in c m order got (OnField object (fields.Swap value)) is =
+    either_in (is_to_record m.kept.phase got) (Recording LoadCount got overwrites.Xchg) (with_loaded c m.kept.phase m.kept.cset got ForRoot) refl (loaded_in c m.kept.phase m.kept.cset got ForRoot)
 goes_on_in c m order got (OnField object (fields.Exchange found expect value)) is =
     either_in (got == found) (overwritten m.kept.phase found overwrites.Cas) (OnField object (fields.LoadExpected expect value)) (overwritten_in m.kept.phase found overwrites.Cas) refl
+goes_on_in c m order got (Resolving address at next) is = resolve_in address next (resolves.next_at c address m.kept.phase at got)
 goes_on_in c m order got (Recording at address next) is = remember_in address next (satb.next_at at got)
 goes_on_in c m order got (OnNumber object refs numbers.Load) is = refl
 goes_on_in c m order got (OnNumber object refs numbers.Store) is = refl

@@ -30,7 +30,7 @@ fresh_helper seat = helping (helpers.fresh_helper seat)
 
 -- and a control that has seen this free word
 abbrev pub fresh_control : ℕ → Machine
-fresh_control free = controlling (record { spot = LookLeft; seen = free; phase = 0; image = [] })
+fresh_control free = controlling (record { spot = LookLeft; seen = free; phase = 0; cset = 0; image = [] })
 
 -- the entry of a command of a seat, once its reply is settled
 abbrev pub entry_of : ℕ → Command → Reply → Entry

@@ -2,7 +2,7 @@
 use Rattle.std.specs.Prelude.{ℕ, ◌≡◌, ◌+◌, ◌<◌, true, List, [], length, Some, slice_get}
 use Rattle.heap_words.specs.declared.config.Config.{Config}
 use Rattle.heap_words.specs.Ranges.{seat_count}
-use Rattle.heap_words.specs.Words.{Word, Pause, Left, State, Phase, view, table_words}
+use Rattle.heap_words.specs.Words.{Word, Pause, Left, State, Phase, Cset, view, table_words}
 use Rattle.steps_base.specs.Steps.{Stage, Event, go}
 use Rattle.shen_graph.specs.declared.order.Order.{Order}
 use Rattle.shen_graph.specs.Graph as graphs
@@ -18,9 +18,9 @@ use Rattle.step_core.specs.Opening.{opening}
 use Rattle.step_core.specs.History.{history}
 
 -- the machine of a number is idle and has ended no call yet
-pub record IsNew (c : Config) (phase : ℕ) (g : Graph) (number : ℕ) (a : Actor) : Type 0 where
+pub record IsNew (c : Config) (phase cset : ℕ) (g : Graph) (number : ℕ) (a : Actor) : Type 0 where
   pub number_is : HasNumber c number a.machine
-  pub idle : IsIdle phase g number a.machine
+  pub idle : IsIdle phase cset g number a.machine
   pub calls : a.calls ≡ []
   pub valid : is_valid a.command ≡ true
 
@@ -36,7 +36,7 @@ pub record Begins (c : Config) (s : Stage Actor) (g : Graph) : Type 0 where
   pub seats : length s.machines ≡ seat_count c.mutators c.helpers
   pub stands : Represents c (view c s.words) g (λ t. nothing)
   pub outside : IsCalmOutside c (view c s.words)
-  pub machines : (number : ℕ) (a : Actor) → slice_get s.machines number ≡ Some a → IsNew c (view c s.words Phase) g number a
+  pub machines : (number : ℕ) (a : Actor) → slice_get s.machines number ≡ Some a → IsNew c (view c s.words Phase) (view c s.words Cset) g number a
 
 -- a run: a stage that begins a graph, and what happens from there
 pub record Run (c : Config) : Type 0 where

@@ -8,7 +8,7 @@ use Rattle.heap_world.specs.Represents.{Represents}
 use Rattle.heap_world.specs.Change.{image_view, image_words}
 use Rattle.mutator.specs.Fit.{IsFit}
 use Rattle.helper.specs.Ready as help
-use Rattle.control_steps.specs.Ready.{ScanGoesOn}
+use Rattle.control_steps.specs.Ready.{UnitGoesOn}
 use Rattle.control_steps.specs.declared.spot.ControlSpot.{ControlSpot}
 use Rattle.control_steps.specs.declared.spot.ControlSpot.TheVariants.{LoadWord}
 use Rattle.step_core.specs.Actor.{Machine, mutating, helping, controlling}
@@ -26,4 +26,4 @@ IsWhole c _ image got = Unit {0}
 abbrev pub IsFitFor : Config → Order → ℕ → Machine → Type 0
 IsFitFor c order got (mutating m) = IsFit c m order got
 IsFitFor c order got (helping h) = help.IsFit c h got
-IsFitFor c order got (controlling k) = IsWhole c k.spot k.image got × ScanGoesOn c k.spot got
+IsFitFor c order got (controlling k) = IsWhole c k.spot k.image got × UnitGoesOn c k.spot got

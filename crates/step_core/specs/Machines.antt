@@ -162,10 +162,10 @@ HasNumber c number (controlling k) = number ≡ c.mutators + c.helpers
 
 -- It is idle, and may go on: a mutator takes commands, and the graph has as many objects of its thread as it has made; a helper is
 -- between two rounds; the control is in no pause and no unit, and knows the phase.
-abbrev pub IsIdle : (phase : ℕ) → Graph → ℕ → Machine → Type 0
-IsIdle phase g number (mutating m) = (g.count (number + 1) ≡ m.made) × (takes_commands m.spot ≡ true)
-IsIdle phase g number (helping h) = h.spot ≡ LoadEnd
-IsIdle phase g number (controlling k) = (k.spot ≡ LookLeft) × (k.image ≡ []) × (k.phase ≡ phase)
+abbrev pub IsIdle : (phase cset : ℕ) → Graph → ℕ → Machine → Type 0
+IsIdle phase cset g number (mutating m) = (g.count (number + 1) ≡ m.made) × (takes_commands m.spot ≡ true)
+IsIdle phase cset g number (helping h) = h.spot ≡ LoadEnd
+IsIdle phase cset g number (controlling k) = (k.spot ≡ LookLeft) × (k.image ≡ []) × (k.phase ≡ phase) × (k.cset ≡ cset)
 
 -- whether a step says that it waits
 abbrev pub is_again : Took → Bool

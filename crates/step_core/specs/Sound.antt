@@ -1,9 +1,9 @@
 -- The theorem over every list of events: what holds of each stage that events lead to, and of its history.
-use Rattle.std.specs.Prelude.{ℕ, ◌≡◌, ◌≢◌, ◌+◌, ◌<◌, ◌==◌, Bool, true, false, List, ◌++◌, length, Option, Some, None, slice_get, slice_index, All}
+use Rattle.std.specs.Prelude.{ℕ, ◌≡◌, ◌≢◌, ◌+◌, ◌<◌, ◌==◌, not, Bool, true, false, List, ◌++◌, length, Option, Some, None, slice_get, slice_index, All}
 use Rattle.heap_words.specs.declared.config.Config.{Config}
 use Rattle.heap_words.specs.Access.{table_index}
 use Rattle.heap_words.specs.Ranges.{seat_count}
-use Rattle.heap_words.specs.Words.{Answer, view, table_words}
+use Rattle.heap_words.specs.Words.{Word, Answer, view, table_words}
 use Rattle.steps_base.specs.Steps.{Stage}
 use Rattle.shen_graph.specs.declared.command.Command.{Command}
 use Rattle.shen_graph.specs.declared.command.Reply.{Reply}
@@ -12,7 +12,10 @@ use Rattle.shen_graph.specs.Graph.{Graph}
 use Rattle.shen_graph.specs.History.{Entry, after, EachIsLegal, of_thread}
 use Rattle.shen_graph.specs.Crowd.{AreCrowded}
 use Rattle.mutator.specs.declared.spot.Spot.{Spot}
-use Rattle.mutator.specs.declared.spot.Spot.TheVariants.{Recording, Showing, Leave, Entering, Waiting}
+use Rattle.mutator.specs.declared.spot.Spot.TheVariants.{Resolving, Recording, Showing, Leave, Entering, Waiting}
+use Rattle.mutator.specs.declared.resolves.Loaded.{Loaded}
+use Rattle.mutator.specs.declared.resolves.Loaded.TheVariants.{ForRoot, ToCompare}
+use Rattle.mutator.specs.Told.{name_the_same}
 use Rattle.mutator.specs.declared.overwrites.Overwritten.{Overwritten}
 use Rattle.mutator.specs.declared.overwrites.Overwritten.TheVariants as overwrites
 use Rattle.mutator.specs.declared.spot.Entered.TheVariants.{Waited}
@@ -80,7 +83,7 @@ pub record StandsFor (c : Config) (s : Stage Actor) (g : Graph) : Type 0 where
   pub block : Plot
   pub ghost : Ghost
   pub shared : Shared c (world_of c s block ghost g)
-  pub in_hand : (a seat words : ℕ) → block a ≡ Some (hand seat words) → seat < c.mutators
+  pub in_hand : (a seat words : ℕ) → block a ≡ Some (hand seat words) → seat < seat_count c.mutators c.helpers
   pub promised_to : (a seat words : ℕ) → block a ≡ Some (promised seat words) → seat < c.mutators
   pub mutators : (number : ℕ) (a : Actor) (m : Mutating) → IsMutator s number a m → HasItsOwn (world_of c s block ghost g) m
   pub asked : (number : ℕ) (a : Actor) (m : Mutating) → IsMutator s number a m → is_clearing m.spot ≡ false → HasAsked (world_of c s block ghost g) a.command m
@@ -98,23 +101,30 @@ abbrev pub has_overwritten : Overwritten → Bool
 has_overwritten (overwrites.Set object value) = false
 has_overwritten _ = true
 
-abbrev pub has_settled : ℕ → Spot → Bool
-has_settled answer (Recording at address next) = has_overwritten next
-has_settled answer (Showing value at) = true
-has_settled answer (Leave reply) = true
-has_settled answer (Entering at Waited) = answer == 1
-has_settled answer (Waiting at) = has_waited answer at
-has_settled answer _ = false
+-- of who resolves what it has found in a field: for a root it is, and to exchange the field where it names another object than is to be
+-- there
+abbrev pub has_loaded : (Word → ℕ) → (found : ℕ) → Loaded → Bool
+has_loaded memory found ForRoot = true
+has_loaded memory found (ToCompare object expect value) = not (name_the_same memory found expect)
+
+abbrev pub has_settled : (Word → ℕ) → ℕ → Spot → Bool
+has_settled memory answer (Resolving address at next) = has_loaded memory address next
+has_settled memory answer (Recording at address next) = has_overwritten next
+has_settled memory answer (Showing value at) = true
+has_settled memory answer (Leave reply) = true
+has_settled memory answer (Entering at Waited) = answer == 1
+has_settled memory answer (Waiting at) = has_waited answer at
+has_settled memory answer _ = false
 
 -- The entries of a mutator in the history are the calls that it has ended and, where the reply of its call in progress is
 -- settled, one more, of that call. Between two calls there is no more, and the reply that ends a call is the settled one.
--- `answer` is the mutator's answer word in the table.
-pub record AreCalls (answer : ℕ) (entries : List Entry) (number : ℕ) (a : Actor) (m : Mutating) : Type 0 where
+-- `memory` has the words that count, and `answer` is the mutator's answer word in the table.
+pub record AreCalls (memory : Word → ℕ) (answer : ℕ) (entries : List Entry) (number : ℕ) (a : Actor) (m : Mutating) : Type 0 where
   pub fixed : Option Reply
   pub entries_are : entries ≡ a.calls ++ entries_of number a.command fixed
   pub between_calls : is_between_calls m.spot ≡ true → fixed ≡ None
-  pub before_it : has_settled answer m.spot ≡ false → fixed ≡ None
-  pub after_it : has_settled answer m.spot ≡ true → fixed ≢ None
+  pub before_it : has_settled memory answer m.spot ≡ false → fixed ≡ None
+  pub after_it : has_settled memory answer m.spot ≡ true → fixed ≢ None
   pub gives : (reply : Reply) → given_at m.spot ≡ Some reply → fixed ≡ Some reply
 
 -- a machine's next access is of a word of the table, and the word that it finds there is fit
@@ -135,6 +145,6 @@ pub record IsSound (c : Config) (g : Graph) (s : Stage Actor) (past : List Entry
   pub entries : All (IsSettled c.mutators) past
   pub no_more : HasNoMore c.mutators (after g past)
   -- the entries of each mutator are its calls, and one more where the call in progress is settled
-  pub threads : (number : ℕ) (a : Actor) (m : Mutating) → IsMutator s number a m → AreCalls (view c s.words (Answer number)) (of_thread past (number + 1)) number a m
+  pub threads : (number : ℕ) (a : Actor) (m : Mutating) → IsMutator s number a m → AreCalls (settled c s) (view c s.words (Answer number)) (of_thread past (number + 1)) number a m
   -- each machine finds a fit word
   pub fit : (number : ℕ) (a : Actor) → slice_get s.machines number ≡ Some a → FindsFit c s a

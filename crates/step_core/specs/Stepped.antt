@@ -147,12 +147,21 @@ pub record IsFound (w : World) (fixed : Option Reply) (value dst : ℕ) : Type 0
 abbrev pub NameTheSame : Plot → ℕ → ℕ → Type 0
 NameTheSame block a b = ((a ≡ 0) × (b ≡ 0)) ⊎ ((name : Name) × (name_at (block a) ≡ Some name) × (name_at (block b) ≡ Some name))
 
+-- a word names an object, and another word is null or names another
+pub record NameOthers (block : Plot) (a b : ℕ) : Type 0 where
+  pub name : Name
+  pub is : name_at (block a) ≡ Some name
+  pub other : (b ≡ 0) ⊎ ((more : Name) × (name_at (block b) ≡ Some more) × (name ≢ more))
+
 -- what was found in the field that a Cas is about to exchange is compared with what is to be there: it is settled that they differ, or
 -- they name the same and nothing is settled
+abbrev pub IsCompared : Plot → Option Reply → (found expect : ℕ) → Type 0
+IsCompared block fixed found expect = ((fixed ≡ Some reply.No) × NameOthers block found expect) ⊎ ((fixed ≡ None) × NameTheSame block found expect)
+
 pub record IsComparing (c : Config) (w : World) (seat : ℕ) (k command : Command) (fixed : Option Reply) (object found expect value : ℕ) : Type 0 where
   pub some : found ≢ 0
   pub is_cas : IsCas c w seat command object (index_of k) expect value
-  pub settled : ((fixed ≡ Some reply.No) × (NameTheSame w.block found expect → ⊥)) ⊎ ((fixed ≡ None) × NameTheSame w.block found expect)
+  pub settled : IsCompared w.block fixed found expect
 
 -- what holds while a reference that was found in a field is resolved
 abbrev pub LoadedFacts : Config → World → ℕ → Command → Command → Option Reply → (found : ℕ) → Loaded → Type 0

@@ -1,6 +1,6 @@
 use Rattle.std.proofs.Common.{ℕ, ◌≡◌, [], sym, ap, ◌∙◌}
 use Rattle.heap_words.specs.declared.config.Config.{Config}
-use Rattle.heap_words.specs.Words.{Word, Free, Phase, word_at}
+use Rattle.heap_words.specs.Words.{Word, Free, Phase, Cset, word_at}
 use Rattle.image_graph.specs.State.{memory_of}
 use Rattle.control_steps.specs.declared.spot.ControlSpot.TheVariants.{LookLeft}
 use Rattle.step_core.specs.Opening.{first_free}
@@ -13,6 +13,8 @@ returns-clause-shown c =
     let free : memory_of c.set_word.new.self Free ≡ first_free c.args.config.regions =
     ap (λ (m : Word → ℕ). m Free) named ∙ c.first_free.ensures ∙ ap first_free c.regions.ensures in
     let phase : memory_of c.set_word.new.self Phase ≡ 0 = ap (λ (m : Word → ℕ). m Phase) named ∙ c.in_ok-image.ensures.words Phase in
+    let cset : memory_of c.set_word.new.self Cset ≡ 0 = ap (λ (m : Word → ℕ). m Cset) named ∙ c.in_ok-image.ensures.words Cset in
     ap controlling c.new.ensures.seen
-    ∙ ap (λ (n : ℕ). controlling (record { spot = LookLeft; seen = n; phase = memory_of c.set_word.new.self Phase; image = [] })) free
-    ∙ ap (λ (n : ℕ). controlling (record { spot = LookLeft; seen = first_free c.args.config.regions; phase = n; image = [] })) phase
+    ∙ ap (λ (n : ℕ). controlling (record { spot = LookLeft; seen = n; phase = memory_of c.set_word.new.self Phase; cset = memory_of c.set_word.new.self Cset; image = [] })) free
+    ∙ ap (λ (n : ℕ). controlling (record { spot = LookLeft; seen = first_free c.args.config.regions; phase = n; cset = memory_of c.set_word.new.self Cset; image = [] })) phase
+    ∙ ap (λ (n : ℕ). controlling (record { spot = LookLeft; seen = first_free c.args.config.regions; phase = 0; cset = n; image = [] })) cset

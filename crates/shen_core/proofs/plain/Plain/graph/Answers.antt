@@ -3,17 +3,14 @@ use Rattle.std.specs.Prelude.{slice_get, ◌-◌}
 use Rattle.std.proofs.lemmas.List.{length-set}
 use Rattle.std.proofs.Math.Logic.{∥∥₁_map}
 use Rattle.heap_words.specs.declared.config.Config.{Config}
-use Rattle.heap_words.specs.Words.{Cset}
-use Rattle.heap_world.specs.Change.{image_view}
-use Rattle.image_graph.specs.Holds.{HoldsSome}
-use Rattle.image_graph.specs.Left.{ShowsTheGraph}
+use Rattle.image_graph.specs.Left.{StandsForSome, ShowsTheGraph}
 use Rattle.control.specs.Image.{image_from}
 use Rattle.heap_machines.specs.Pause.{pause_image}
 use Rattle.step_core.specs.Begins.{graph_after}
 use Rattle.heap_machines.specs.Shown.{shown}
 use Rattle.shen_core.specs.Runs.{IsShownBySome}
 use Rattle.shen_core.proofs.Memory.{from_read, heap_here, shown_here, ordered_machines, ordered_none, ordered_heap}
-use Rattle.shen_core.proofs.Graphs.{holds, some_can_show, some_hold, some_calm}
+use Rattle.shen_core.proofs.Graphs.{names, stand, some_can_show, some_stand}
 use Rattle.step_core.specs.Settled.{control_number}
 use Rattle.heap_machines.specs.Roles.{CanShow}
 use Rattle.shen_core.proofs.plain.Plain.graph.Goals as goal
@@ -30,23 +27,14 @@ answer_graph-requires-clause-control c =
     (subst (λ ws. CanShow (image_from p.config ws) (shown m)) (sym c.deref.ensures.value)
     (some_can_show p.config p.words.items (map shown p.machines.items) c.requires.rest.mutators c.requires.rest.control p.reached (shown m) at))
 
-pub answer_graph-requires-clause-holds : goal.answer_graph-requires-clause-holds
-answer_graph-requires-clause-holds c =
+pub answer_graph-requires-clause-stand : goal.answer_graph-requires-clause-stand
+answer_graph-requires-clause-stand c =
     let p = c.args.self.now in
     let m = c.index_mut.result.now in
     let here = from_read p.machines.items (c.seats-control.result - 1) m (omega (arith, p.all_machines, c.seats-control.ensures)) c.index_mut.ensures.value in
-    subst (λ (e : Config). HoldsSome e (image_view e (image_from e c.deref.result.now))) (sym (heap_here p.config p.machines.items (c.seats-control.result - 1) m p.one_heap here))
-    (subst (λ ws. HoldsSome p.config (image_view p.config (image_from p.config ws))) (sym c.deref.ensures.value)
-    (some_hold p.config p.words.items (map shown p.machines.items) c.requires.rest.mutators c.requires.rest.control p.reached))
-
-pub answer_graph-requires-clause-calm : goal.answer_graph-requires-clause-calm
-answer_graph-requires-clause-calm c =
-    let p = c.args.self.now in
-    let m = c.index_mut.result.now in
-    let here = from_read p.machines.items (c.seats-control.result - 1) m (omega (arith, p.all_machines, c.seats-control.ensures)) c.index_mut.ensures.value in
-    subst (λ (e : Config). image_view e (image_from e c.deref.result.now) Cset ≡ 0) (sym (heap_here p.config p.machines.items (c.seats-control.result - 1) m p.one_heap here))
-    (subst (λ ws. image_view p.config (image_from p.config ws) Cset ≡ 0) (sym c.deref.ensures.value)
-    (some_calm p.config p.words.items (map shown p.machines.items) c.requires.rest.mutators c.requires.rest.control p.reached))
+    subst (λ (e : Config). StandsForSome e c.deref.result.now) (sym (heap_here p.config p.machines.items (c.seats-control.result - 1) m p.one_heap here))
+    (subst (λ ws. StandsForSome p.config ws) (sym c.deref.ensures.value)
+    (some_stand p.config p.words.items (map shown p.machines.items) c.requires.rest.mutators c.requires.rest.control p.reached))
 
 pub invariant_of-self : goal.invariant_of-self
 invariant_of-self c =
@@ -78,9 +66,8 @@ returns-clause-shows c run shown_by =
     let p = c.args.self.now in
     let m = c.index_mut.result.now in
     let here = from_read p.machines.items (c.seats-control.result - 1) m (omega (arith, p.all_machines, c.seats-control.ensures)) c.index_mut.ensures.value in
-    let graph = graph_after pause_image p.config run in
-    let held = holds p.config p.words.items (map shown p.machines.items) c.requires.rest.mutators c.requires.rest.control run shown_by in
-    let shows = subst (λ ws. ShowsTheGraph p.config (image_view p.config (image_from p.config ws)) c.answer_graph.new.text) c.deref.ensures.value
-    (subst (λ (e : Config). ShowsTheGraph e (image_view e (image_from e c.deref.result.now)) c.answer_graph.new.text) (heap_here p.config p.machines.items (c.seats-control.result - 1) m p.one_heap here)
+    let shows = subst (λ ws. ShowsTheGraph p.config ws c.answer_graph.new.text) c.deref.ensures.value
+    (subst (λ (e : Config). ShowsTheGraph e c.deref.result.now c.answer_graph.new.text) (heap_here p.config p.machines.items (c.seats-control.result - 1) m p.one_heap here)
     c.answer_graph.ensures.shows) in
-    shows held.0 held.1 held.2 graph held.3
+    shows (names p.config p.words.items (map shown p.machines.items) c.requires.rest.mutators c.requires.rest.control run shown_by) (graph_after pause_image p.config run)
+    (stand p.config p.words.items (map shown p.machines.items) c.requires.rest.mutators c.requires.rest.control run shown_by)

@@ -1,0 +1,22 @@
+-- How much lives in each region, as a table.
+use Rattle.std.specs.Prelude.{ℕ, ◌≡◌, ◌<◌, ◌≤◌, ◌==◌, ◌&&◌, not, if◌then◌else◌, List, length, slice_index}
+use Rattle.std.specs.Int.{bit_at}
+use Rattle.heap_words.specs.declared.config.Config.{Config}
+use Rattle.heap_words.specs.Words.{Word}
+use Rattle.packing.specs.Tops.{sum_below}
+use Rattle.cset_laws.specs.Live.{live_words}
+use Rattle.cset_laws.specs.Front.{comes_before}
+
+-- a table of 64 numbers has the live words of each region
+pub record AreLive (c : Config) (memory : Word → ℕ) (live : List ℕ) : Type 0 where
+  pub long : length live ≡ 64
+  pub small : (r : ℕ) → r < 64 → slice_index live r ≤ 525312
+  pub is : (r : ℕ) → r < c.regions → slice_index live r ≡ live_words c memory r
+
+-- what a region adds to what lives, by a table, in the regions of a set up to another one, in the order of the choice
+abbrev pub adds : (live : List ℕ) (set : ℕ) → ℕ → ℕ → ℕ
+adds live set r q = if (bit_at set q == 1) && not (comes_before (slice_index live) r q) then slice_index live q else 0
+
+-- what lives in all of them
+abbrev pub up_to : (live : List ℕ) (set regions : ℕ) → ℕ → ℕ
+up_to live set regions r = sum_below (adds live set r) regions

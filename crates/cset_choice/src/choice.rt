@@ -1,0 +1,156 @@
+//! The choice of the collection set.
+
+ghost use Rattle.std.specs.Prelude.{ℕ, ◌≡◌, ◌+◌, ◌*◌, ◌^◌, ◌<◌, ◌≤◌, ◌==◌, ◌&&◌, nat_le, if◌then◌else◌, length, slice_index};
+ghost use Rattle.std.specs.Int.{bit_at};
+ghost use Rattle.heap_words.specs.Words.{Free};
+ghost use Rattle.image_graph.specs.State.{config_of, memory_of};
+ghost use Rattle.mark_laws.specs.Marks.{bits_of};
+ghost use Rattle.packing.specs.Places.{LieApart};
+ghost use Rattle.cset_laws.specs.Live as lives;
+ghost use Rattle.cset_laws.specs.Front as front;
+ghost use Rattle.cset_laws.specs.Choice as choices;
+ghost use Rattle.cset_laws.specs.Begun.{CanBegin};
+ghost use Rattle.cset_choice.specs.Tables.{AreLive, adds, up_to};
+
+use crate::live::live_words;
+use heap_words::Config;
+use image_graph::Image;
+use regions::{is_in, size};
+
+// A set of regions below one, with that one besides if it is to be a member.
+fn with_if(set: u64, region: usize, member: bool) -> u64
+    requires region { region < 64 }
+    requires below { set < 2 ^ region }
+    ensures { result ≡ (if member then 1 else 0) * 2 ^ region + set }
+{
+    if member { set | 1 << region } else { set }
+}
+
+// How much lives in each region.
+fn live_of_all(image: &Image) -> [u64; 64]
+    requires { LieApart (config_of image.now).region_words (lives.marked_words (config_of image.now) (memory_of image.now)) }
+    ensures { AreLive (config_of image.now) (memory_of image.now) result }
+{
+    let mut live = [0; 64];
+    for region in 0..image.config().regions() {
+        let words = live_words(image, region);
+        live[region] = words;
+    }
+    live
+}
+
+// Whether a region with so many live words is a candidate: it is in use, nobody's current one, nothing was allocated in it
+// since marking began, and a quarter of a region in it is garbage.
+fn is_candidate(image: &Image, region: usize, live: u64) -> bool
+    requires region { region < (config_of image.now).regions }
+    requires live { live ≡ lives.live_words (config_of image.now) (memory_of image.now) region }
+    ensures { result ≡ lives.is_candidate (config_of image.now) (memory_of image.now) region }
+{
+    let config = image.config();
+    if is_in(image.word(config.free_at()), region) || image.is_current(region) {
+        return false;
+    }
+    let top = image.edge(region);
+    if top != image.word(config.tams_at(region)) {
+        return false;
+    }
+    config.region_words() as u64 / 4 <= top.saturating_sub(live)
+}
+
+// The set of the candidates.
+fn candidates(image: &Image, live: &[u64]) -> u64
+    requires { AreLive (config_of image.now) (memory_of image.now) live.now }
+    ensures { result ≡ bits_of (lives.is_candidate (config_of image.now) (memory_of image.now)) 0 (config_of image.now).regions }
+{
+    let mut set = 0;
+    for region in 0..image.config().regions() {
+        set = with_if(set, region, is_candidate(image, region, live[region]));
+    }
+    set
+}
+
+// How many words may be copied.
+fn copy_limit(image: &Image) -> u64
+    requires { memory_of image.now Free < 2 ^ (config_of image.now).regions }
+    ensures { result ≡ choices.copy_limit (config_of image.now) (memory_of image.now) }
+{
+    let config = image.config();
+    let free = size(image.word(config.free_at())) as u64;
+    free * (config.region_words() as u64 - 35)
+}
+
+// Whether one region comes before another in the order of the choice: less lives in it, or as much, and its number is lower.
+fn comes_before(live: &[u64], region: usize, other: usize) -> bool
+    requires region { region < length live.now }
+    requires other { other < length live.now }
+    ensures { result ≡ front.comes_before (slice_index live.now) region other }
+{
+    live[region] < live[other] || live[region] == live[other] && region < other
+}
+
+// What a region adds to what lives in all candidates up to another one, in their order.
+fn added(live: &[u64], candidates: u64, region: usize, other: usize) -> u64
+    requires region { region < 64 }
+    requires other { other < 64 }
+    requires long { length live.now ≡ 64 }
+    ensures { result ≡ adds live.now candidates region other }
+{
+    if !is_in(candidates, other) {
+        return 0;
+    }
+    if comes_before(live, region, other) {
+        return 0;
+    }
+    live[other]
+}
+
+// What lives in all candidates up to a region, in their order.
+fn live_up_to(config: Config, live: &[u64], candidates: u64, region: usize) -> u64
+    requires region { region < config.regions }
+    requires long { length live.now ≡ 64 }
+    requires small { (r : ℕ) → r < 64 → slice_index live.now r ≤ 525312 }
+    ensures { result ≡ up_to live.now candidates config.regions region }
+{
+    let mut words = 0;
+    for other in 0..config.regions() {
+        words += added(live, candidates, region, other);
+    }
+    words
+}
+
+// Whether a region is a candidate, and what lives in all candidates up to it is within a limit.
+fn is_taken(config: Config, live: &[u64], candidates: u64, limit: u64, region: usize) -> bool
+    requires region { region < config.regions }
+    requires long { length live.now ≡ 64 }
+    requires small { (r : ℕ) → r < 64 → slice_index live.now r ≤ 525312 }
+    ensures { result ≡ ((bit_at candidates region == 1) && nat_le (up_to live.now candidates config.regions region) limit) }
+{
+    if !is_in(candidates, region) {
+        return false;
+    }
+    live_up_to(config, live, candidates, region) <= limit
+}
+
+/// The collection set: of the candidates, in the order of their live words and then of their numbers, as many from the first
+/// one on as can be copied to the free regions together. Candidates are in use, nobody's current region, without a new
+/// object, and have garbage of a quarter of a region. No word changes. Takes time linear in the words of the heap, and
+/// quadratic in the number of regions.
+pub fn choose(image: &Image) -> u64
+    requires { CanBegin (config_of image.now) (memory_of image.now) }
+    ensures value { result ≡ choices.chosen (config_of image.now) (memory_of image.now) }
+    ensures choice { choices.IsChoice (config_of image.now) (memory_of image.now) result }
+{
+    let config = image.config();
+    let live = live_of_all(image);
+    let candidates = candidates(image, &live);
+    let limit = copy_limit(image);
+    let mut set = 0;
+    for region in 0..config.regions() {
+        set = with_if(
+            set,
+            region,
+            is_taken(config, &live, candidates, limit, region),
+        );
+    }
+    set
+}

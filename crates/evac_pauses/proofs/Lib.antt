@@ -1,0 +1,12 @@
+pub mod Replaced
+pub mod Copied
+pub mod Between
+pub mod CopiedOut
+pub mod Asked
+pub mod Places
+pub mod Turns
+pub mod Started
+pub mod Outside
+pub mod Begun
+pub mod Images
+pub mod Pauses
