@@ -1,6 +1,5 @@
 -- The beginning of evacuation makes the words that it says.
-use Rattle.std.proofs.Common.{◌≡◌, ◌≢◌, ℕ, ◌==◌, ◌<◌, ◌&&◌, nat_le, Bool, true, false, Option, Some, None, if◌then◌else◌, refl, sym, ap, ◌∙◌, arith}
-use Rattle.std.specs.Int.{bit_at}
+use Rattle.std.proofs.Common.{◌≡◌, ◌≢◌, ℕ, ◌==◌, true, false, refl, sym}
 use Rattle.std.proofs.lemmas.Bool.{cond-true, cond-false, eq-eqb, ne_eqb}
 use Rattle.std.proofs.Math.Path.{fun_ext}
 use Rattle.heap_words.specs.declared.config.Config.{Config}
@@ -25,24 +24,24 @@ started_at m Evac = refl
 started_at m Claim = refl
 started_at m _ = refl
 
-pub started : (c : Config) (m : Word → ℕ) (set : ℕ) → set ≢ 0
-    → write (write (write (roots_cleared c m set) Evac 0) Claim 0) Phase 2 ≡ evac_begun c m set
-started c m set some = fun_ext (λ w.
-    started_at (roots_cleared c m set) w
-    ∙ sym (cond-false (set == 0) (evac_spared m w) (evac_started (roots_cleared c m set) w) (ne_eqb set 0 some)))
+pub started : (m : Word → ℕ) → write (write (write m Evac 0) Claim 0) Phase 2 ≡ evac_started m
+started m = fun_ext (started_at m)
+
+pub begun : (c : Config) (m : Word → ℕ) (set : ℕ) → set ≢ 0 → evac_started (roots_cleared c m set) ≡ evac_begun c m set
+begun c m set some = fun_ext (λ w. sym (cond-false (set == 0) (evac_spared m w) (evac_started (roots_cleared c m set) w) (ne_eqb set 0 some)))
 
 -- or is spared
-spared_at : (m : Word → ℕ) (w : Word) → write (write (with_set m 0) Claim 0) Phase 0 w ≡ evac_spared m w
+spared_at : (m : Word → ℕ) (w : Word) → write (write (write m Cset 0) Claim 0) Phase 0 w ≡ evac_spared m w
 spared_at m Phase = refl
 spared_at m Cset = refl
 spared_at m Claim = refl
 spared_at m _ = refl
 
-pub spared : (c : Config) (m : Word → ℕ) (set : ℕ) → set ≡ 0
-    → write (write (with_set m set) Claim 0) Phase 0 ≡ evac_begun c m set
-spared c m set none =
-    ap (λ s. write (write (with_set m s) Claim 0) Phase 0) none
-    ∙ fun_ext (λ w. spared_at m w ∙ sym (cond-true (set == 0) (evac_spared m w) (evac_started (roots_cleared c m set) w) (eq-eqb set 0 none)))
+pub spared : (m : Word → ℕ) → write (write (write m Cset 0) Claim 0) Phase 0 ≡ evac_spared m
+spared m = fun_ext (spared_at m)
+
+pub not_begun : (c : Config) (m : Word → ℕ) (set : ℕ) → set ≡ 0 → evac_spared m ≡ evac_begun c m set
+not_begun c m set none = fun_ext (λ w. sym (cond-true (set == 0) (evac_spared m w) (evac_started (roots_cleared c m set) w) (eq-eqb set 0 none)))
 
 -- one place
 pub not_cleared : (c : Config) (m : Word → ℕ) (place : Word) → is_collected c m (m place) ≡ false → m ≡ cleared_at c m place

@@ -1,16 +1,22 @@
 -- The choice from a table of what lives in each region.
-use Rattle.std.proofs.Common.{◌≡◌, ℕ, ◌+◌, ◌*◌, ◌^◌, ◌<◌, ◌≤◌, ◌==◌, ◌&&◌, ◌||◌, nat_lt, nat_le, not, cond, if◌then◌else◌, Bool, true, false, zero, suc, List, slice_index, refl, sym, ap, ◌∙◌, arith}
+use Rattle.std.proofs.Common.{◌≡◌, ◌≢◌, ℕ, ◌+◌, ◌-◌, ◌*◌, ◌/◌, ◌%◌, ◌^◌, ◌<◌, ◌≤◌, ◌==◌, ◌&&◌, ◌||◌, nat_lt, nat_le, not, cond, if◌then◌else◌, Bool, true, false, zero, suc, List, length, slice_index, slice_set, replicate, IsTrue, ◌↔◌, ⊎_elim, refl, sym, ap, ◌∙◌, arith}
 use Rattle.std.specs.Int.{bit_at}
+use Rattle.std.specs.Int.RustNames.{bit_or}
+use Rattle.std.proofs.lemmas.Bool.{cond_both, cases_eq, eq-eqb, ne_eqb, true≢false}
+use Rattle.std.proofs.Math.ListN.{length-set, length-replicate}
+use Rattle.std.proofs.lemmas.List.{get_or-replicate, get_or-set_same, get_or-set_other}
+use Rattle.std.proofs.lemmas.Nat.{or_comm, or_shifted, one_shl}
 use Rattle.std.proofs.lemmas.Nat.Bits.{bit_at_above, bit_at-lt}
 use Rattle.heap_words.specs.declared.config.Config.{Config}
-use Rattle.heap_words.specs.Words.{Word}
+use Rattle.heap_words.specs.Words.{Word, Free, Top, Tams}
 use Rattle.packing.proofs.Sums.{sum_same}
-use Rattle.regions.specs.Sets.{members_below}
+use Rattle.regions.specs.Sets.{IsIn, members_below}
 use Rattle.mark_laws.specs.Marks.{bits_of}
 use Rattle.mark_laws.proofs.Bits.{one, bits_at}
-use Rattle.cset_laws.specs.Live.{live_words, is_candidate}
-use Rattle.cset_laws.specs.Front.{comes_before, live_up_to, is_in_front, longest_front}
-use Rattle.cset_choice.specs.Tables.{AreLive, up_to}
+use Rattle.mark_laws.specs.Final.{is_current}
+use Rattle.cset_laws.specs.Live.{live_words, garbage, is_candidate}
+use Rattle.cset_laws.specs.Front.{comes_before, live_up_to, is_in_front}
+use Rattle.cset_choice.specs.Tables.{AreLive, adds, up_to}
 
 -- a set of regions below a number has no others
 pub members_past : (set n k : ℕ) → set < 2 ^ n → members_below set (n + k) ≡ members_below set n
@@ -47,6 +53,65 @@ pub bits_none_yet : (test : ℕ → Bool) → 0 ≡ bits_of test 0 0
 unfolding bits_of
 bits_none_yet test = refl
 
+-- a region above those of a set joins it
+pub bit_joined : (set r : ℕ) → r < 64 → set < 2 ^ r → bit_or set (1 * 2 ^ r % 2 ^ 64) ≡ 1 * 2 ^ r + set
+bit_joined set r few small =
+    let mask : 1 * 2 ^ r % 2 ^ 64 ≡ 1 * 2 ^ r = one_shl r 64 few ∙ once (2 ^ r) in
+    ap (bit_or set) mask ∙ or_comm set (1 * 2 ^ r) ∙ or_shifted 1 r set small
+  where
+    once : (y : ℕ) → y ≡ 1 * y
+    once y = omega arith
+
+-- what the answer of a test for members says
+pub not_a_member : (answer : Bool) (set r : ℕ) → (IsTrue answer ↔ IsIn set r) → answer ≡ false → (bit_at set r == 1) ≡ false
+not_a_member answer set r tells denied = ne_eqb (bit_at set r) 1 (λ is. true≢false (sym (tells.1 is) ∙ denied))
+
+pub a_member : (answer : Bool) (set r : ℕ) → (IsTrue answer ↔ IsIn set r) → answer ≡ true → (bit_at set r == 1) ≡ true
+a_member answer set r tells told = eq-eqb (bit_at set r) 1 (tells.0 told)
+
+-- where all else of a candidate holds, its garbage decides
+pub garbage_decides : (c : Config) (m : Word → ℕ) (r : ℕ) → bit_at (m Free) r ≡ 0 → is_current c m r ≡ false → m (Top r) ≡ m (Tams r)
+    → is_candidate c m r ≡ nat_le (c.region_words / 4) (garbage c m r)
+garbage_decides c m r free seat top =
+    let enough = nat_le (c.region_words / 4) (garbage c m r) in
+    ap (λ b. b && not (is_current c m r) && (m (Top r) == m (Tams r)) && enough) (eq-eqb (bit_at (m Free) r) 0 free)
+    ∙ ap (λ b. not b && (m (Top r) == m (Tams r)) && enough) seat
+    ∙ ap (λ b. b && enough) (eq-eqb (m (Top r)) (m (Tams r)) top)
+
+-- what a region adds is at most what lives in it
+pub adds_few : (live : List ℕ) (set r q bound : ℕ) → slice_index live q ≤ bound → adds live set r q ≤ bound
+adds_few live set r q bound few =
+    cond_both ((bit_at set q == 1) && not (comes_before (slice_index live) r q)) (slice_index live q) 0 (λ x. x ≤ bound) (λ _. few) (λ _. omega arith)
+
+-- a table with one entry more
+pub record AreLiveBelow (c : Config) (m : Word → ℕ) (live : List ℕ) (n : ℕ) : Type 0 where
+  pub long : length live ≡ 64
+  pub small : (r : ℕ) → r < 64 → slice_index live r ≤ 525312
+  pub is : (r : ℕ) → r < n → slice_index live r ≡ live_words c m r
+
+pub live_none : (c : Config) (m : Word → ℕ) → AreLiveBelow c m (replicate 64 0) 0
+live_none c m = record {
+  long = length-replicate {A = ℕ} 64 0;
+  small = λ r below. (let none = get_or-replicate {A = ℕ} 64 r 0 0 below in omega (arith, none));
+  is = λ r below. absurd (omega (arith, below));
+}
+
+pub live_more : (c : Config) (m : Word → ℕ) (live : List ℕ) (n words : ℕ) → n < 64 → words ≡ live_words c m n → words ≤ 525312 → AreLiveBelow c m live n
+    → AreLiveBelow c m (slice_set live n words) (n + 1)
+live_more c m live n words few is bound before =
+    let inside : n < length live = omega (arith, few, before.long) in
+    record {
+      long = length-set live n words ∙ before.long;
+      small = λ r below. ⊎_elim
+          (λ (here : r ≡ n). (let there : slice_index (slice_set live n words) r ≡ words = ap (slice_index (slice_set live n words)) here ∙ get_or-set_same live n words 0 inside in omega (arith, there, bound)))
+          (λ (other : r ≢ n). (let there : slice_index (slice_set live n words) r ≡ slice_index live r = get_or-set_other live n r words 0 other in omega (arith, there, before.small r below)))
+          (cases_eq r n);
+      is = λ r below. ⊎_elim
+          (λ (here : r ≡ n). ap (slice_index (slice_set live n words)) here ∙ get_or-set_same live n words 0 inside ∙ is ∙ ap (live_words c m) (sym here))
+          (λ (other : r ≢ n). get_or-set_other live n r words 0 other ∙ before.is r (omega (arith, below, other)))
+          (cases_eq r n);
+    }
+
 -- the digit of a region tells whether the test does
 digit_tells : (b : Bool) → (one b == 1) ≡ b
 digit_tells true = refl
@@ -74,7 +139,7 @@ module _ (c : Config) (m : Word → ℕ) (live : List ℕ) (are : AreLive c m li
 
   pub up_to_is : (r : ℕ) → r < c.regions → up_to live candidates c.regions r ≡ live_up_to c.regions lives candidate r
   up_to_is r below =
-      sum_same (λ q. if (bit_at candidates q == 1) && not (comes_before (slice_index live) r q) then slice_index live q else 0)
+      sum_same (adds live candidates r)
       (λ q. if candidate q && not (comes_before lives r q) then lives q else 0) c.regions
       (λ q inside.
       ap (λ b. if b && not (comes_before (slice_index live) r q) then slice_index live q else 0) (member_tells candidate c.regions q inside)

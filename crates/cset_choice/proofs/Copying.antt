@@ -1,16 +1,23 @@
 -- What the stores of copying make.
-use Rattle.std.proofs.Common.{◌≡◌, ◌≢◌, ℕ, ◌+◌, ◌-◌, ◌<◌, ◌≤◌, ◌⊎◌, ◌==◌, ◌&&◌, nat_le, nat_lt, cond, bit_and, Option, Some, None, refl, sym, ap, ◌∙◌, ⊎_elim, arith}
+use Rattle.std.proofs.Common.{◌≡◌, ◌≢◌, ℕ, ◌+◌, ◌-◌, ◌<◌, ◌≤◌, ◌⊎◌, ◌==◌, ◌&&◌, nat_le, nat_lt, cond, bit_and, Option, Some, None, false, inl, inr, refl, sym, ap, ◌∙◌, subst, ⊎_elim, arith}
 use Rattle.std.specs.Int.{bit_at}
-use Rattle.std.proofs.lemmas.Bool.{cases_eq, cond-true, cond-false, eq-eqb, ne_eqb, and_from, and_left, and_right, lt-ltb, le-ltb, le-leb, lt-leb}
+use Rattle.std.proofs.lemmas.Bool.{cases_eq, cond-true, cond-false, eq-eqb}
 use Rattle.std.proofs.lemmas.Bool.Decides.{nat_tests}
+use Rattle.std.proofs.lemmas.Option.{none-some, same_Some}
 use Rattle.std.proofs.Math.Path.{fun_ext}
 use Rattle.heap_words.specs.declared.config.Config.{Config}
 use Rattle.heap_words.specs.Words.{Word, Cset, Free, Top, Heap, write}
 use Rattle.heap_words.specs.Encoding.{header_word, plain_header}
 use Rattle.regions.specs.Sets.{IsIn, IsOutside, all_but}
+use Rattle.packing.proofs.Rooms.{has_room}
+use Rattle.regions.specs.Place.{region_with}
+use Rattle.image_laws.specs.Full.{now_in}
 use Rattle.cset_laws.specs.Live.{words_at}
 use Rattle.cset_laws.specs.Copying.{tops_outside}
-use Rattle.cset_laws.specs.Copied.{top_address, copied_to}
+use Rattle.cset_laws.specs.Copied.{CanCopyOut, copy_room, copy_in, copy_address, top_address, copied_in, copied_out, copied_to}
+use Rattle.cset_laws.proofs.Places.{of_its_region, regions_apart}
+use Rattle.cset_laws.proofs.CopiedOut.{outside_with_room, own_top}
+use Rattle.cset_laws.proofs.Copies.{now_is}
 use Rattle.cset_choice.specs.Steps.{words_copied}
 
 -- nothing is copied yet
@@ -107,3 +114,58 @@ pub full_in_set : (w set : ℕ) (top : ℕ → ℕ) (r n : ℕ) → 0 < n → Is
 full_in_set w set top r n some member =
     let full : tops_outside w set top r ≡ w = cond-true (bit_at set r == 1) w (top r) (eq-eqb (bit_at set r) 1 member) in
     omega (arith, full, some)
+
+-- room outside the set
+pub room_tells : (w set : ℕ) (top : ℕ → ℕ) (r n : ℕ) → top r ≤ w → (bit_at set r == 1) ≡ false → nat_le n (w - top r) ≡ nat_le (tops_outside w set top r + n) w
+room_tells w set top r n within outside =
+    let own : tops_outside w set top r ≡ top r = cond-false (bit_at set r == 1) w (top r) outside in
+    plain (top r) within ∙ ap (λ t. nat_le (t + n) w) (sym own)
+  where
+    plain : (t : ℕ) → t ≤ w → nat_le n (w - t) ≡ nat_le (t + n) w
+    plain t below = grind (arith, nat_tests)
+
+-- the region that is found
+pub found_room : (c : Config) (m : Word → ℕ) (a r : ℕ) → copy_room c m a ≡ Some r
+    → (r < c.regions) × IsOutside (m Cset) r × (m (Top r) + words_at m a ≤ c.region_words)
+found_room c m a r found =
+    let lowest = has_room c.region_words (tops_outside c.region_words (m Cset) (λ q. m (Top q))) (words_at m a) c.regions r found in
+    let outside = outside_with_room c.region_words (m Cset) (λ q. m (Top q)) r (words_at m a) (omega arith) lowest.room in
+    let own = own_top c.region_words (m Cset) (λ q. m (Top q)) r outside in
+    (lowest.below, outside, omega (arith, lowest.room, own))
+
+-- the copy lies apart from the old one
+pub copies_apart : (c : Config) (m : Word → ℕ) (a r : ℕ) → CanCopyOut c m a → IsOutside (m Cset) r → m (Top r) + words_at m a ≤ c.region_words
+    → (a + words_at m a ≤ top_address c m r) ⊎ (top_address c m r + words_at m a ≤ a)
+copies_apart c m a r can outside room =
+    let size = words_at m a in
+    let to = top_address c m r in
+    let lies = can.lies in
+    let member = can.in_set in
+    let differ : region_with c a ≢ r = λ same. (let inside : bit_at (m Cset) r ≡ 1 = subst (IsIn (m Cset)) same member in omega (arith, inside, outside)) in
+    let first = regions_apart c (region_with c a) r (a + 0) to size differ (of_its_region c a 0 can.above (omega (arith, lies))) (omega arith) (omega (arith, room)) in
+    let last = regions_apart c (region_with c a) r (a + (size - 1)) to size differ (of_its_region c a (size - 1) can.above (omega (arith, lies))) (omega arith) (omega (arith, room)) in
+    ⊎_elim
+    (λ (begins : a + 0 < to). ⊎_elim
+    (λ (ends : a + (size - 1) < to). inl (omega (arith, ends)))
+    (λ (behind : to + size ≤ a + (size - 1)). absurd (omega (arith, behind, begins)))
+    last)
+    (λ (behind : to + size ≤ a + 0). inr (omega (arith, behind)))
+    first
+
+-- the address of the copy is that of the current copy then
+pub copy_is_now : (c : Config) (m : Word → ℕ) (a copy : ℕ) → copy_address c m a ≡ Some copy → copy ≡ now_in (copied_out c m a) a
+copy_is_now c m a copy found = by_room (copy_room c m a) found
+  where
+    by_room : (o : Option ℕ) → copy_in c m o ≡ Some copy → copy ≡ now_in (copied_in c m a o) a
+    by_room None is = absurd (none-some copy is)
+    by_room (Some r) is =
+        let at : top_address c m r ≡ copy = same_Some (top_address c m r) copy is in
+        sym at ∙ sym (now_is (copied_to c m a r) a (top_address c m r) (header_names_copy c m a r))
+
+-- and there is one where some region has room
+pub some_copy : (c : Config) (m : Word → ℕ) (a : ℕ) → copy_room c m a ≢ None → copy_address c m a ≡ None → ⊥
+some_copy c m a room none = by_room (copy_room c m a) room none
+  where
+    by_room : (o : Option ℕ) → o ≢ None → copy_in c m o ≡ None → ⊥
+    by_room None some is = some refl
+    by_room (Some r) some is = none-some (top_address c m r) (sym is)

@@ -1,5 +1,6 @@
-pub mod Live
+pub mod Objects
 pub mod Choosing
 pub mod Copying
 pub mod Turns
 pub mod Beginning
+pub mod Ready

@@ -10,9 +10,13 @@ use Rattle.cset_laws.specs.Front.{comes_before}
 -- a table of 64 numbers has the live words of each region
 pub record AreLive (c : Config) (memory : Word → ℕ) (live : List ℕ) : Type 0 where
   pub long : length live ≡ 64
-  pub small : (r : ℕ) → slice_index live r ≤ 525312
+  pub small : (r : ℕ) → r < 64 → slice_index live r ≤ 525312
   pub is : (r : ℕ) → r < c.regions → slice_index live r ≡ live_words c memory r
 
--- what lives by a table in the regions of a set up to a region, in the order of the choice
+-- what a region adds to what lives, by a table, in the regions of a set up to another one, in the order of the choice
+abbrev pub adds : (live : List ℕ) (set : ℕ) → ℕ → ℕ → ℕ
+adds live set r q = if (bit_at set q == 1) && not (comes_before (slice_index live) r q) then slice_index live q else 0
+
+-- what lives in all of them
 abbrev pub up_to : (live : List ℕ) (set regions : ℕ) → ℕ → ℕ
-up_to live set regions r = sum_below (λ q. if (bit_at set q == 1) && not (comes_before (slice_index live) r q) then slice_index live q else 0) regions
+up_to live set regions r = sum_below (adds live set r) regions

@@ -1,19 +1,26 @@
 //! The beginning of evacuation.
 
-ghost use Rattle.std.specs.Prelude.{ℕ, ◌≡◌, ◌^◌, ◌<◌, true, false, map, slice_index};
+ghost use Rattle.std.specs.Prelude.{ℕ, ◌≡◌, ◌^◌, ◌<◌, ◌↔◌, IsTrue, true, map, slice_index};
 ghost use Rattle.std.specs.List.{range_with_len};
 ghost use Rattle.heap_words.specs.Words.{Word, Cset, Root, Answer, Heap, IsWord, word_at, table_words};
-ghost use Rattle.heap_words.specs.Encoding as encoding;
 ghost use Rattle.image_laws.specs.Full.{now_in};
 ghost use Rattle.image_graph.specs.State.{config_of, words_of, memory_of};
 ghost use Rattle.cset_laws.specs.Choice.{chosen};
 ghost use Rattle.cset_laws.specs.Begun as begun;
-ghost use Rattle.cset_laws.specs.Begun.{CanBegin, CanClear, CanClearInTurn, moved_out, cleared_at, cleared_in_turn, root_places, naming_places, evac_begun};
+ghost use Rattle.cset_laws.specs.Begun.{CanBegin, CanClear, CanClearInTurn, moved_out, cleared_at, cleared_in_turn, root_places, evac_started, evac_spared, evac_begun};
 
 use crate::copy::copy_out;
-use heap_words::{forwarded, forwardee};
+use heap_words::{Config, forwarded, forwardee};
 use image_graph::Image;
 use regions::{is_in, region_of};
+
+// Whether a word is an address of the heap.
+fn is_address(config: Config, word: u64) -> bool
+    ensures { IsTrue result ↔ IsWord config (Heap word) }
+{
+    let first = config.region_words() as u64;
+    first <= word && word < first + config.heap_size() as u64
+}
 
 // Whether a word is an address of a region of the collection set.
 fn is_collected(image: &Image, word: u64) -> bool
@@ -21,8 +28,7 @@ fn is_collected(image: &Image, word: u64) -> bool
     ensures { result ≡ begun.is_collected (config_of image.now) (memory_of image.now) word }
 {
     let config = image.config();
-    let first = config.region_words() as u64;
-    if word < first || word >= first + config.heap_size() as u64 {
+    if !is_address(config, word) {
         return false;
     }
     is_in(image.word(config.cset_at()), region_of(config, word))
@@ -95,6 +101,28 @@ fn clear_answers(image: &mut Image)
     }
 }
 
+// Evacuation runs: no copier is counted, and no unit is claimed.
+fn start(image: &mut Image)
+    ensures config { config_of image.new ≡ config_of image.old }
+    ensures words { memory_of image.new ≡ evac_started (memory_of image.old) }
+{
+    let config = image.config();
+    image.set_word(config.evac_at(), 0);
+    image.set_word(config.claim_at(), 0);
+    image.set_word(config.phase_at(), 2);
+}
+
+// Without a region to evacuate the cycle ends.
+fn spare(image: &mut Image)
+    ensures config { config_of image.new ≡ config_of image.old }
+    ensures words { memory_of image.new ≡ evac_spared (memory_of image.old) }
+{
+    let config = image.config();
+    image.set_word(config.cset_at(), 0);
+    image.set_word(config.claim_at(), 0);
+    image.set_word(config.phase_at(), 0);
+}
+
 /// Begins evacuation: the regions of a set are to be evacuated, and each object in them that a root or an answer names is
 /// copied out, so that none of these names an object there. No copier is counted and no unit claimed. Without a region to
 /// evacuate the cycle ends. The set is what `choose` gives, and there is room for each object that is copied. Takes no
@@ -105,16 +133,12 @@ pub fn begin_evac(image: &mut Image, set: u64)
     ensures config { config_of image.new ≡ config_of image.old }
     ensures words { memory_of image.new ≡ evac_begun (config_of image.old) (memory_of image.old) set }
 {
-    let config = image.config();
-    image.set_word(config.cset_at(), set);
     if set == 0 {
-        image.set_word(config.claim_at(), 0);
-        image.set_word(config.phase_at(), 0);
+        spare(image);
         return;
     }
+    image.set_word(image.config().cset_at(), set);
     clear_all_roots(image);
     clear_answers(image);
-    image.set_word(config.evac_at(), 0);
-    image.set_word(config.claim_at(), 0);
-    image.set_word(config.phase_at(), 2);
+    start(image);
 }

@@ -1,6 +1,6 @@
 //! Copying an object out of the collection set.
 
-ghost use Rattle.std.specs.Prelude.{ℕ, ◌≡◌, ◌+◌, ◌<◌, ◌≤◌, ◌⊎◌};
+ghost use Rattle.std.specs.Prelude.{ℕ, ◌≡◌, ◌+◌, ◌<◌, ◌≤◌, ◌⊎◌, nat_le};
 ghost use Rattle.heap_words.specs.Words.{Cset, Top};
 ghost use Rattle.packing.specs.Rooms.{lowest_room};
 ghost use Rattle.image_graph.specs.State.{config_of, memory_of};
@@ -15,16 +15,28 @@ use heap_words::{header_to, words_of};
 use image_graph::Image;
 use regions::{all_but, base, is_in};
 
+// Whether a region is outside the collection set and has room for so many words.
+fn has_room(image: &Image, region: usize, words: u64) -> bool
+    requires region { region < (config_of image.now).regions }
+    requires within { AreWithin (config_of image.now) (memory_of image.now) }
+    requires some { 0 < words }
+    ensures { result ≡ nat_le (tops_outside (config_of image.now).region_words (memory_of image.now Cset) (λ r. memory_of image.now (Top r)) region + words) (config_of image.now).region_words }
+{
+    let config = image.config();
+    if is_in(image.word(config.cset_at()), region) {
+        return false;
+    }
+    words <= config.region_words() as u64 - image.edge(region)
+}
+
 // The lowest region outside the collection set that has room for so many words, or nothing where each has less.
 fn room_outside(image: &Image, words: u64) -> Option<usize>
     requires within { AreWithin (config_of image.now) (memory_of image.now) }
     requires some { 0 < words }
     ensures { result ≡ lowest_room (config_of image.now).region_words (tops_outside (config_of image.now).region_words (memory_of image.now Cset) (λ r. memory_of image.now (Top r))) words (config_of image.now).regions }
 {
-    let config = image.config();
-    let cset = image.word(config.cset_at());
-    for region in 0..config.regions() {
-        if !is_in(cset, region) && words <= config.region_words() as u64 - image.edge(region) {
+    for region in 0..image.config().regions() {
+        if has_room(image, region, words) {
             return Some(region);
         }
     }

@@ -3,12 +3,12 @@
 #![tactic(auto)]
 
 mod begin;
-mod choose;
+mod choice;
 mod copy;
 mod live;
 
 pub use begin::begin_evac;
-pub use choose::choose;
+pub use choice::choose;
 pub use copy::copy_out;
 pub use live::live_words;
 

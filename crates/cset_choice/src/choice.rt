@@ -1,15 +1,16 @@
 //! The choice of the collection set.
 
-ghost use Rattle.std.specs.Prelude.{ℕ, ◌≡◌, ◌+◌, ◌*◌, ◌^◌, ◌<◌, ◌≤◌, if◌then◌else◌, length, slice_index};
+ghost use Rattle.std.specs.Prelude.{ℕ, ◌≡◌, ◌+◌, ◌*◌, ◌^◌, ◌<◌, ◌≤◌, ◌==◌, ◌&&◌, nat_le, if◌then◌else◌, length, slice_index};
+ghost use Rattle.std.specs.Int.{bit_at};
 ghost use Rattle.heap_words.specs.Words.{Free};
 ghost use Rattle.image_graph.specs.State.{config_of, memory_of};
 ghost use Rattle.mark_laws.specs.Marks.{bits_of};
 ghost use Rattle.packing.specs.Places.{LieApart};
 ghost use Rattle.cset_laws.specs.Live as lives;
 ghost use Rattle.cset_laws.specs.Front as front;
-ghost use Rattle.cset_laws.specs.Choice as choice;
+ghost use Rattle.cset_laws.specs.Choice as choices;
 ghost use Rattle.cset_laws.specs.Begun.{CanBegin};
-ghost use Rattle.cset_choice.specs.Tables.{AreLive, up_to};
+ghost use Rattle.cset_choice.specs.Tables.{AreLive, adds, up_to};
 
 use crate::live::live_words;
 use heap_words::Config;
@@ -32,7 +33,8 @@ fn live_of_all(image: &Image) -> [u64; 64]
 {
     let mut live = [0; 64];
     for region in 0..image.config().regions() {
-        live[region] = live_words(image, region);
+        let words = live_words(image, region);
+        live[region] = words;
     }
     live
 }
@@ -70,7 +72,7 @@ fn candidates(image: &Image, live: &[u64]) -> u64
 // How many words may be copied.
 fn copy_limit(image: &Image) -> u64
     requires { memory_of image.now Free < 2 ^ (config_of image.now).regions }
-    ensures { result ≡ choice.copy_limit (config_of image.now) (memory_of image.now) }
+    ensures { result ≡ choices.copy_limit (config_of image.now) (memory_of image.now) }
 {
     let config = image.config();
     let free = size(image.word(config.free_at())) as u64;
@@ -86,20 +88,47 @@ fn comes_before(live: &[u64], region: usize, other: usize) -> bool
     live[region] < live[other] || live[region] == live[other] && region < other
 }
 
+// What a region adds to what lives in all candidates up to another one, in their order.
+fn added(live: &[u64], candidates: u64, region: usize, other: usize) -> u64
+    requires region { region < 64 }
+    requires other { other < 64 }
+    requires long { length live.now ≡ 64 }
+    ensures { result ≡ adds live.now candidates region other }
+{
+    if !is_in(candidates, other) {
+        return 0;
+    }
+    if comes_before(live, region, other) {
+        return 0;
+    }
+    live[other]
+}
+
 // What lives in all candidates up to a region, in their order.
 fn live_up_to(config: Config, live: &[u64], candidates: u64, region: usize) -> u64
     requires region { region < config.regions }
     requires long { length live.now ≡ 64 }
-    requires small { (r : ℕ) → slice_index live.now r ≤ 525312 }
+    requires small { (r : ℕ) → r < 64 → slice_index live.now r ≤ 525312 }
     ensures { result ≡ up_to live.now candidates config.regions region }
 {
     let mut words = 0;
     for other in 0..config.regions() {
-        if is_in(candidates, other) && !comes_before(live, region, other) {
-            words += live[other];
-        }
+        words += added(live, candidates, region, other);
     }
     words
+}
+
+// Whether a region is a candidate, and what lives in all candidates up to it is within a limit.
+fn is_taken(config: Config, live: &[u64], candidates: u64, limit: u64, region: usize) -> bool
+    requires region { region < config.regions }
+    requires long { length live.now ≡ 64 }
+    requires small { (r : ℕ) → r < 64 → slice_index live.now r ≤ 525312 }
+    ensures { result ≡ ((bit_at candidates region == 1) && nat_le (up_to live.now candidates config.regions region) limit) }
+{
+    if !is_in(candidates, region) {
+        return false;
+    }
+    live_up_to(config, live, candidates, region) <= limit
 }
 
 /// The collection set: of the candidates, in the order of their live words and then of their numbers, as many from the first
@@ -108,8 +137,8 @@ fn live_up_to(config: Config, live: &[u64], candidates: u64, region: usize) -> u
 /// quadratic in the number of regions.
 pub fn choose(image: &Image) -> u64
     requires { CanBegin (config_of image.now) (memory_of image.now) }
-    ensures value { result ≡ choice.chosen (config_of image.now) (memory_of image.now) }
-    ensures choice { choice.IsChoice (config_of image.now) (memory_of image.now) result }
+    ensures value { result ≡ choices.chosen (config_of image.now) (memory_of image.now) }
+    ensures choice { choices.IsChoice (config_of image.now) (memory_of image.now) result }
 {
     let config = image.config();
     let live = live_of_all(image);
@@ -117,8 +146,11 @@ pub fn choose(image: &Image) -> u64
     let limit = copy_limit(image);
     let mut set = 0;
     for region in 0..config.regions() {
-        let fits = is_in(candidates, region) && live_up_to(config, &live, candidates, region) <= limit;
-        set = with_if(set, region, fits);
+        set = with_if(
+            set,
+            region,
+            is_taken(config, &live, candidates, limit, region),
+        );
     }
     set
 }

@@ -1,0 +1,69 @@
+use Rattle.std.proofs.Common.{◌≡◌, ◌++◌, ℕ, map, List, sym, ap, ◌∙◌, subst}
+use Rattle.std.specs.List.{range_with_len}
+use Rattle.heap_words.specs.declared.config.Config.{Config}
+use Rattle.heap_words.specs.Words.{Word, Cset, Answer}
+use Rattle.image_graph.specs.State.{config_of, memory_of}
+use Rattle.image_graph.proofs.Steps.{stored}
+use Rattle.cset_laws.specs.Choice.{chosen}
+use Rattle.cset_laws.specs.Begun.{CanClearInTurn, with_set, cleared_in_turn, root_places, evac_started}
+use Rattle.cset_laws.proofs.Clearing.{can_clear_in_turn}
+use Rattle.cset_choice.proofs.Turns.{can_front, can_back, turn_both}
+use Rattle.cset_choice.proofs.Beginning.{set_stored, begun, not_begun}
+use Rattle.cset_choice.proofs.begin.begin_evac.Goals as goal
+
+abbrev answers : Config → List Word
+answers g = map Answer (range_with_len 0 g.mutators)
+
+pub returns-then-set-eq0-clause-words : goal.returns-then-set-eq0-clause-words
+returns-then-set-eq0-clause-words c =
+    c.spare.ensures.words ∙ not_begun (config_of c.args.image.now) (memory_of c.args.image.now) c.args.set c.if-set-eq0.true
+
+pub clear_all_roots-requires : goal.clear_all_roots-requires
+clear_all_roots-requires c =
+    let g = config_of c.args.image.now in
+    let m : Word → ℕ = memory_of c.args.image.now in
+    let one = c.set_word.new.self in
+    let stored_is : memory_of one ≡ with_set m (chosen g m) =
+    stored g c.config.result m (memory_of one) Cset c.cset_at.result c.args.set (sym c.config.ensures) tt c.cset_at.ensures c.set_word.ensures.named
+    ∙ set_stored m c.args.set ∙ ap (with_set m) c.requires.set in
+    subst (λ (k : Config). CanClearInTurn k (memory_of one) (root_places k.mutators)) (sym c.set_word.ensures.config)
+    (subst (λ (n : Word → ℕ). CanClearInTurn g n (root_places g.mutators)) (sym stored_is)
+    (can_front g (root_places g.mutators) (answers g) (with_set m (chosen g m)) (can_clear_in_turn g m c.requires.can)))
+
+pub clear_answers-requires : goal.clear_answers-requires
+clear_answers-requires c =
+    let g = config_of c.args.image.now in
+    let m : Word → ℕ = memory_of c.args.image.now in
+    let one = c.set_word.new.self in
+    let two = c.clear_all_roots.new.image in
+    let stored_is : memory_of one ≡ with_set m (chosen g m) =
+    stored g c.config.result m (memory_of one) Cset c.cset_at.result c.args.set (sym c.config.ensures) tt c.cset_at.ensures c.set_word.ensures.named
+    ∙ set_stored m c.args.set ∙ ap (with_set m) c.requires.set in
+    let cleared_is : memory_of two ≡ cleared_in_turn g (with_set m (chosen g m)) (root_places g.mutators) =
+    c.clear_all_roots.ensures.words
+    ∙ ap (λ (k : Config). cleared_in_turn k (memory_of one) (root_places k.mutators)) c.set_word.ensures.config
+    ∙ ap (λ (n : Word → ℕ). cleared_in_turn g n (root_places g.mutators)) stored_is in
+    subst (λ (k : Config). CanClearInTurn k (memory_of two) (answers k)) (sym (c.clear_all_roots.ensures.config ∙ c.set_word.ensures.config))
+    (subst (λ (n : Word → ℕ). CanClearInTurn g n (answers g)) (sym cleared_is)
+    (can_back g (root_places g.mutators) (answers g) (with_set m (chosen g m)) (can_clear_in_turn g m c.requires.can)))
+
+pub returns-clause-words : goal.returns-clause-words
+returns-clause-words c =
+    let g = config_of c.args.image.now in
+    let m : Word → ℕ = memory_of c.args.image.now in
+    let one = c.set_word.new.self in
+    let two = c.clear_all_roots.new.image in
+    let three = c.clear_answers.new.image in
+    let set = c.args.set in
+    let stored_is : memory_of one ≡ with_set m set =
+    stored g c.config.result m (memory_of one) Cset c.cset_at.result set (sym c.config.ensures) tt c.cset_at.ensures c.set_word.ensures.named ∙ set_stored m set in
+    let roots : memory_of two ≡ cleared_in_turn g (with_set m set) (root_places g.mutators) =
+    c.clear_all_roots.ensures.words
+    ∙ ap (λ (k : Config). cleared_in_turn k (memory_of one) (root_places k.mutators)) c.set_word.ensures.config
+    ∙ ap (λ (n : Word → ℕ). cleared_in_turn g n (root_places g.mutators)) stored_is in
+    let all : memory_of three ≡ cleared_in_turn g (with_set m set) (root_places g.mutators ++ answers g) =
+    c.clear_answers.ensures.words
+    ∙ ap (λ (k : Config). cleared_in_turn k (memory_of two) (answers k)) (c.clear_all_roots.ensures.config ∙ c.set_word.ensures.config)
+    ∙ ap (λ (n : Word → ℕ). cleared_in_turn g n (answers g)) roots
+    ∙ sym (turn_both g (root_places g.mutators) (answers g) (with_set m set)) in
+    c.start.ensures.words ∙ ap evac_started all ∙ begun g m set c.if-set-eq0.false

@@ -1,0 +1,28 @@
+use Rattle.std.proofs.Common.{◌≡◌, ℕ, true, sym, ap, ◌∙◌}
+use Rattle.heap_words.specs.Words.{Word, write}
+use Rattle.image_laws.specs.Full.{now_in}
+use Rattle.image_graph.specs.State.{config_of, memory_of}
+use Rattle.image_graph.proofs.Steps.{stored}
+use Rattle.cset_laws.specs.Begun.{is_collected, moved_out}
+use Rattle.cset_choice.proofs.Beginning.{not_cleared, cleared}
+use Rattle.cset_choice.proofs.begin.clear.Goals as goal
+
+pub returns-then-not-is_collected-clause-words : goal.returns-then-not-is_collected-clause-words
+returns-then-not-is_collected-clause-words c = λ place is at.
+    let g = config_of c.args.image.now in
+    let m : Word → ℕ = memory_of c.args.image.now in
+    let value : c.word-address.result ≡ m place = c.word-address.ensures.named place is at in
+    not_cleared g m place (ap (is_collected g m) (sym value) ∙ sym c.is_collected.ensures ∙ c.if-not-is_collected.true)
+
+pub returns-clause-words : goal.returns-clause-words
+returns-clause-words c = λ place is at.
+    let g = config_of c.args.image.now in
+    let m : Word → ℕ = memory_of c.args.image.now in
+    let value : c.word-address.result ≡ m place = c.word-address.ensures.named place is at in
+    let collected : is_collected g m (m place) ≡ true = ap (is_collected g m) (sym value) ∙ sym c.is_collected.ensures ∙ c.if-not-is_collected.false in
+    let next = c.move_out-copy.new.image in
+    let moved : memory_of next ≡ moved_out g m (m place) = c.move_out-copy.ensures.words ∙ ap (moved_out g m) value in
+    let copy : c.move_out-copy.result ≡ now_in (moved_out g m (m place)) (m place) =
+    c.move_out-copy.ensures.copy ∙ ap (λ (n : Word → ℕ). now_in n c.word-address.result) moved ∙ ap (now_in (moved_out g m (m place))) value in
+    let one = stored (config_of next) g (memory_of next) (memory_of c.set_word.new.self) place c.args.at c.move_out-copy.result c.move_out-copy.ensures.config is (sym at) c.set_word.ensures.named in
+    one ∙ ap (λ n. write n place c.move_out-copy.result) moved ∙ ap (write (moved_out g m (m place)) place) copy ∙ cleared g m place collected

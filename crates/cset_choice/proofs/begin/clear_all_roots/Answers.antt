@@ -1,0 +1,36 @@
+use Rattle.std.proofs.Common.{◌<◌, ℕ, map, refl, sym, ap, ◌∙◌, subst, arith}
+use Rattle.std.specs.List.{range_with_len}
+use Rattle.heap_words.specs.declared.config.Config.{Config}
+use Rattle.heap_words.specs.Words.{Word, Root}
+use Rattle.image_graph.specs.State.{config_of, memory_of}
+use Rattle.cset_laws.specs.Begun.{CanClearInTurn, cleared_in_turn}
+use Rattle.cset_choice.proofs.Turns.{rows_none, rows_next, rows_can}
+use Rattle.cset_choice.proofs.begin.clear_all_roots.Goals as goal
+
+pub loop-mutator-init : goal.loop-mutator-init
+loop-mutator-init c = record { config = refl; words = rows_none (config_of c.args.image.now) (memory_of c.args.image.now) }
+
+pub clear_roots-requires-clause-can : goal.clear_roots-requires-clause-can
+clear_roots-requires-clause-can c =
+    let g = config_of c.args.image.now in
+    let m : Word → ℕ = memory_of c.args.image.now in
+    let t = c.loop-mutator.mutator in
+    let is = c.loop-mutator.invariant in
+    let below : t < g.mutators = omega (arith, c.loop-mutator-test.true, c.mutators-mutator-end.ensures, ap (λ (k : Config). k.mutators) c.config-config.ensures) in
+    subst (λ (k : Config). CanClearInTurn k (memory_of c.loop-mutator.image) (map (Root t) (range_with_len 0 16))) (sym is.config)
+    (subst (λ (n : Word → ℕ). CanClearInTurn g n (map (Root t) (range_with_len 0 16))) (sym is.words) (rows_can g m g.mutators t below c.requires))
+
+pub loop-mutator-preserved : goal.loop-mutator-preserved
+loop-mutator-preserved c =
+    let g = config_of c.args.image.now in
+    let m : Word → ℕ = memory_of c.args.image.now in
+    let t = c.loop-mutator.mutator in
+    let is = c.loop-mutator.invariant in
+    let places = map (Root t) (range_with_len 0 16) in
+    record {
+      config = c.clear_roots.ensures.config ∙ is.config;
+      words = c.clear_roots.ensures.words
+          ∙ ap (λ (k : Config). cleared_in_turn k (memory_of c.loop-mutator.image) places) is.config
+          ∙ ap (λ (n : Word → ℕ). cleared_in_turn g n places) is.words
+          ∙ rows_next g m t;
+    }

@@ -1,0 +1,11 @@
+use Rattle.std.proofs.Common.{◌≡◌}
+use Rattle.heap_words.specs.Words.{Answer}
+use Rattle.image_graph.specs.State.{config_of, memory_of}
+use Rattle.cset_choice.proofs.Turns.{row}
+use Rattle.cset_choice.proofs.begin.clear_answers.Given as goal
+
+abbrev pub invariant-loop-mutator : goal.invariant-loop-mutator
+invariant-loop-mutator l = record {
+  config : config_of l.image ≡ config_of l.fn.image;
+  words : memory_of l.image ≡ row (config_of l.fn.image) (memory_of l.fn.image) Answer l.mutator;
+}

@@ -1,0 +1,36 @@
+use Rattle.std.proofs.Common.{◌≡◌, ℕ, false, sym, ap, ◌∙◌, subst}
+use Rattle.heap_words.specs.declared.config.Config.{Config}
+use Rattle.heap_words.specs.Words.{Word, Heap, IsWord, word_at}
+use Rattle.heap_words.specs.Encoding.{is_forwarded}
+use Rattle.image_laws.specs.Full.{now_in}
+use Rattle.image_graph.specs.State.{config_of, memory_of}
+use Rattle.image_graph.proofs.Steps.{placed_inside}
+use Rattle.cset_choice.proofs.Objects.{collected_of_heap}
+use Rattle.cset_choice.proofs.Copying.{copy_is_now}
+use Rattle.cset_choice.proofs.Beginning.{moved_now}
+use Rattle.cset_choice.proofs.begin.move_out.Goals as goal
+
+pub word-header-requires : goal.word-header-requires
+word-header-requires c =
+    let g = config_of c.args.image.now in
+    let m : Word → ℕ = memory_of c.args.image.now in
+    let a = c.args.address in
+    placed_inside g c.config.result (Heap a) c.heap_at.result (sym c.config.ensures)
+    (subst (λ (k : Config). IsWord k (Heap a)) (sym c.config.ensures) (collected_of_heap g m a c.requires.can.set c.requires.collected)) c.heap_at.ensures
+
+pub returns-clause-words : goal.returns-clause-words
+returns-clause-words c =
+    let g = config_of c.args.image.now in
+    let m : Word → ℕ = memory_of c.args.image.now in
+    let a = c.args.address in
+    let header : c.word-header.result ≡ m (Heap a) =
+    c.word-header.ensures.named (Heap a) (collected_of_heap g m a c.requires.can.set c.requires.collected) (ap (λ (k : Config). word_at k (Heap a)) (sym c.config.ensures) ∙ sym c.heap_at.ensures) in
+    let plain : is_forwarded (m (Heap a)) ≡ false = ap is_forwarded (sym header) ∙ sym c.forwarded.ensures ∙ c.if-forwarded.false in
+    c.copy_out.ensures.words ∙ moved_now g m a plain
+
+pub returns-clause-copy : goal.returns-clause-copy
+returns-clause-copy c =
+    let g = config_of c.args.image.now in
+    let m : Word → ℕ = memory_of c.args.image.now in
+    let a = c.args.address in
+    copy_is_now g m a c.unwrap.result (sym c.copy_out.ensures.copy ∙ c.unwrap.ensures) ∙ ap (λ (n : Word → ℕ). now_in n a) (sym c.copy_out.ensures.words)

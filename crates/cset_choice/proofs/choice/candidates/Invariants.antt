@@ -1,0 +1,8 @@
+use Rattle.std.proofs.Common.{◌≡◌}
+use Rattle.image_graph.specs.State.{config_of, memory_of}
+use Rattle.mark_laws.specs.Marks.{bits_of}
+use Rattle.cset_laws.specs.Live.{is_candidate}
+use Rattle.cset_choice.proofs.choice.candidates.Given as goal
+
+abbrev pub invariant-loop-region : goal.invariant-loop-region
+invariant-loop-region l = l.set ≡ bits_of (is_candidate (config_of l.image) (memory_of l.image)) 0 l.region

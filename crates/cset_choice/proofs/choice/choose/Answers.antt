@@ -1,0 +1,51 @@
+use Rattle.std.proofs.Common.{◌≡◌, ◌<◌, ◌==◌, ◌&&◌, nat_le, Bool, ℕ, sym, ap, ◌∙◌, subst, arith}
+use Rattle.std.specs.Int.{bit_at}
+use Rattle.heap_words.specs.declared.config.Config.{Config}
+use Rattle.heap_words.specs.Words.{Word}
+use Rattle.image_graph.specs.State.{config_of, memory_of}
+use Rattle.mark_laws.specs.Marks.{bits_of}
+use Rattle.mark_laws.proofs.Bits.{bits_small}
+use Rattle.cset_laws.specs.Live.{live_words, is_candidate}
+use Rattle.cset_laws.specs.Choice.{copy_limit, IsChoice, chosen}
+use Rattle.cset_laws.specs.Front.{is_in_front}
+use Rattle.cset_laws.proofs.Front.{front_is_longest}
+use Rattle.cset_choice.specs.Tables.{up_to}
+use Rattle.cset_choice.proofs.Choosing.{bits_none_yet, bits_next, fits_is}
+use Rattle.cset_choice.proofs.choice.choose.Goals as goal
+
+-- whether a region is to be chosen
+abbrev taken : Config → (Word → ℕ) → ℕ → Bool
+taken g m = is_in_front g.regions (copy_limit g m) (live_words g m) (is_candidate g m)
+
+pub loop-region-init : goal.loop-region-init
+loop-region-init c = bits_none_yet (taken (config_of c.args.image.now) (memory_of c.args.image.now))
+
+pub with_if-set-requires-clause-below : goal.with_if-set-requires-clause-below
+with_if-set-requires-clause-below c =
+    let small = bits_small (taken (config_of c.args.image.now) (memory_of c.args.image.now)) 0 c.loop-region.region in
+    omega (arith, small, c.loop-region.invariant)
+
+pub loop-region-preserved : goal.loop-region-preserved
+loop-region-preserved c =
+    let g = config_of c.args.image.now in
+    let m : Word → ℕ = memory_of c.args.image.now in
+    let r = c.loop-region.region in
+    let live = c.live_of_all-live.result in
+    let below : r < g.regions = omega (arith, c.loop-region-test.true, c.regions-region-end.ensures, ap (λ (k : Config). k.regions) c.config-config.ensures) in
+    let set : ℕ = bits_of (is_candidate g m) 0 g.regions in
+    let told : c.is_taken.result ≡ taken g m r =
+    c.is_taken.ensures
+    ∙ ap (λ s. (bit_at s r == 1) && nat_le (up_to live s c.config-config.result.regions r) c.copy_limit-limit.result) c.candidates-candidates.ensures
+    ∙ ap (λ (k : Config). (bit_at set r == 1) && nat_le (up_to live set k.regions r) c.copy_limit-limit.result) c.config-config.ensures
+    ∙ ap (λ n. (bit_at set r == 1) && nat_le (up_to live set g.regions r) n) c.copy_limit-limit.ensures
+    ∙ fits_is g m live c.live_of_all-live.ensures r (copy_limit g m) below in
+    bits_next (taken g m) r c.loop-region.set c.with_if-set.result c.is_taken.result c.loop-region.invariant told c.with_if-set.ensures
+
+pub returns-clause-choice : goal.returns-clause-choice
+returns-clause-choice c =
+    let g = config_of c.args.image.now in
+    let m : Word → ℕ = memory_of c.args.image.now in
+    let all : c.loop-region.region ≡ g.regions =
+    omega (arith, c.loop-region-test.false, c.loop-region.auto.region-end, c.regions-region-end.ensures, ap (λ (k : Config). k.regions) c.config-config.ensures) in
+    let value : c.loop-region.set ≡ chosen g m = c.loop-region.invariant ∙ ap (bits_of (taken g m) 0) all in
+    subst (IsChoice g m) (sym value) (front_is_longest g.regions (copy_limit g m) (live_words g m) (is_candidate g m))

@@ -1,0 +1,46 @@
+use Rattle.std.proofs.Common.{◌≡◌, ◌≢◌, ℕ, ◌-◌, ◌/◌, false, nat_le, sym, ap, ◌∙◌, arith}
+use Rattle.std.specs.Int.{bit_at}
+use Rattle.std.proofs.lemmas.Bool.{false_from_ne_true, true≢false}
+use Rattle.std.proofs.lemmas.Nat.Bits.{bit_at-lt}
+use Rattle.heap_words.specs.declared.config.Config.{Config}
+use Rattle.heap_words.specs.Words.{Word, Free, Top, Tams, word_at}
+use Rattle.image_graph.specs.State.{config_of, memory_of}
+use Rattle.mark_laws.specs.Final.{is_current}
+use Rattle.mark_laws.proofs.Dead.{current_is}
+use Rattle.cset_laws.specs.Live.{garbage, is_candidate}
+use Rattle.cset_laws.proofs.Candidate.{candidate_is_candidate}
+use Rattle.cset_choice.proofs.Choosing.{garbage_decides}
+use Rattle.cset_choice.proofs.choice.is_candidate.Goals as goal
+use Rattle.cset_choice.proofs.choice.is_candidate.Goals.{then-is_in-via-then-is_in, then-is_in-via-else-is_in+then-is_current}
+
+pub returns-then-is_in : goal.returns-then-is_in
+returns-then-is_in c =
+    let g = config_of c.args.image.now in
+    let m : Word → ℕ = memory_of c.args.image.now in
+    let r = c.args.region in
+    let free : c.word.result ≡ m Free = c.word.ensures.named Free tt (ap (λ (k : Config). word_at k Free) (sym c.config-config.ensures) ∙ sym c.free_at.ensures) in
+    sym (false_from_ne_true (is_candidate g m r) (λ told.
+    let candidate = (candidate_is_candidate g m r).0 told in
+    elim c.then-is_in.branch [
+      | then-is_in-via-then-is_in w ↦
+          let is = c.is_in.ensures.0 w.if-is_in.true in
+          omega (arith, is, ap (λ x. bit_at x r) free, candidate.in_use)
+      | then-is_in-via-else-is_in+then-is_current w ↦ candidate.nobodys (w.is_current.ensures.yes w.if-is_current.true)
+    ]))
+
+pub returns : goal.returns
+returns c =
+    let g = config_of c.args.image.now in
+    let m : Word → ℕ = memory_of c.args.image.now in
+    let r = c.args.region in
+    let free : c.word.result ≡ m Free = c.word.ensures.named Free tt (ap (λ (k : Config). word_at k Free) (sym c.config-config.ensures) ∙ sym c.free_at.ensures) in
+    let tams : c.word-2.result ≡ m (Tams r) =
+    c.word-2.ensures.named (Tams r) c.requires.region (ap (λ (k : Config). word_at k (Tams r)) (sym c.config-config.ensures) ∙ sym c.tams_at.ensures) in
+    let outside : bit_at (m Free) r ≢ 1 = λ is. true≢false (sym (c.is_in.ensures.1 (ap (λ x. bit_at x r) free ∙ is)) ∙ c.if-is_in.false) in
+    let unset : bit_at (m Free) r ≡ 0 = omega (arith, outside, bit_at-lt (m Free) r) in
+    let unseated : is_current g m r ≡ false = false_from_ne_true (is_current g m r) (λ is. c.is_current.ensures.no c.if-is_current.false (current_is g m r is)) in
+    let top : m (Top r) ≡ m (Tams r) = omega (arith, c.edge-top.ensures, tams, c.if-top-word.false) in
+    let words : c.region_words.result ≡ g.region_words = c.region_words.ensures ∙ ap (λ (k : Config). k.region_words) c.config-config.ensures in
+    let rest : c.saturating_sub.result ≡ garbage g m r =
+    c.saturating_sub.ensures ∙ ap (λ t. t - c.args.live) c.edge-top.ensures ∙ ap (λ n. m (Top r) - n) c.requires.live in
+    ap (λ n. nat_le (n / 4) c.saturating_sub.result) words ∙ ap (nat_le (g.region_words / 4)) rest ∙ sym (garbage_decides g m r unset unseated top)

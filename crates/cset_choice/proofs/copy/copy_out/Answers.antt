@@ -1,0 +1,81 @@
+use Rattle.std.proofs.Common.{◌≡◌, ◌+◌, ℕ, Option, Some, None, sym, ap, ◌∙◌, arith}
+use Rattle.heap_words.specs.declared.config.Config.{Config}
+use Rattle.heap_words.specs.Words.{Word, Cset, Top, Heap, IsWord, word_at}
+use Rattle.heap_words.specs.Encoding.{object_words}
+use Rattle.packing.specs.Rooms.{lowest_room}
+use Rattle.image_graph.specs.State.{config_of, memory_of}
+use Rattle.cset_laws.specs.Live.{words_at}
+use Rattle.cset_laws.specs.Copying.{tops_outside}
+use Rattle.cset_laws.specs.Copied.{CanCopyOut, copy_room, copy_in, copied_in}
+use Rattle.cset_laws.proofs.CopiedOut.{copied_as}
+use Rattle.cset_choice.proofs.Objects.{object_in_heap, word_of_heap}
+use Rattle.cset_choice.proofs.Copying.{found_room}
+use Rattle.cset_choice.proofs.copy.copy_out.Goals as goal
+
+-- the room that was found is that of the object's words
+same_room : (g : Config) (m : Word → ℕ) (a shape words : ℕ) (found room : Option ℕ) → shape ≡ m (Heap (a + 1)) → words ≡ object_words shape
+    → found ≡ lowest_room g.region_words (tops_outside g.region_words (m Cset) (λ r. m (Top r))) words g.regions → found ≡ room → copy_room g m a ≡ room
+same_room g m a shape words found room read long is same =
+    ap (λ n. lowest_room g.region_words (tops_outside g.region_words (m Cset) (λ r. m (Top r))) n g.regions) (sym (long ∙ ap object_words read)) ∙ sym is ∙ same
+
+module _ (g : Config) (m : Word → ℕ) (a : ℕ) (can : CanCopyOut g m a) where
+  pub shape_is : IsWord g (Heap (a + 1))
+  shape_is = word_of_heap g a (words_at m a) 1 (object_in_heap g a (words_at m a) can.above can.of_region can.lies) (omega arith)
+
+pub copy_to-requires-clause-region : goal.copy_to-requires-clause-region
+copy_to-requires-clause-region c =
+    let g = config_of c.args.image.now in
+    let m : Word → ℕ = memory_of c.args.image.now in
+    let a = c.args.address in
+    let read = c.word.ensures.named (Heap (a + 1)) (shape_is g m a c.requires) (ap (λ (k : Config). word_at k (Heap (a + 1))) (sym c.config.ensures) ∙ sym c.heap_at.ensures) in
+    (found_room g m a c.in-Some.region (same_room g m a c.word.result c.words_of-words.result c.room_outside.result (Some c.in-Some.region) read c.words_of-words.ensures c.room_outside.ensures c.in-Some.is)).0
+
+pub copy_to-requires-clause-outside : goal.copy_to-requires-clause-outside
+copy_to-requires-clause-outside c =
+    let g = config_of c.args.image.now in
+    let m : Word → ℕ = memory_of c.args.image.now in
+    let a = c.args.address in
+    let read = c.word.ensures.named (Heap (a + 1)) (shape_is g m a c.requires) (ap (λ (k : Config). word_at k (Heap (a + 1))) (sym c.config.ensures) ∙ sym c.heap_at.ensures) in
+    (found_room g m a c.in-Some.region (same_room g m a c.word.result c.words_of-words.result c.room_outside.result (Some c.in-Some.region) read c.words_of-words.ensures c.room_outside.ensures c.in-Some.is)).1
+
+pub copy_to-requires-clause-room : goal.copy_to-requires-clause-room
+copy_to-requires-clause-room c =
+    let g = config_of c.args.image.now in
+    let m : Word → ℕ = memory_of c.args.image.now in
+    let a = c.args.address in
+    let read = c.word.ensures.named (Heap (a + 1)) (shape_is g m a c.requires) (ap (λ (k : Config). word_at k (Heap (a + 1))) (sym c.config.ensures) ∙ sym c.heap_at.ensures) in
+    (found_room g m a c.in-Some.region (same_room g m a c.word.result c.words_of-words.result c.room_outside.result (Some c.in-Some.region) read c.words_of-words.ensures c.room_outside.ensures c.in-Some.is)).2
+
+pub returns-in-Some-clause-words : goal.returns-in-Some-clause-words
+returns-in-Some-clause-words c =
+    let g = config_of c.args.image.now in
+    let m : Word → ℕ = memory_of c.args.image.now in
+    let a = c.args.address in
+    let read = c.word.ensures.named (Heap (a + 1)) (shape_is g m a c.requires) (ap (λ (k : Config). word_at k (Heap (a + 1))) (sym c.config.ensures) ∙ sym c.heap_at.ensures) in
+    c.copy_to.ensures.words
+    ∙ sym (copied_as g m a c.in-Some.region (same_room g m a c.word.result c.words_of-words.result c.room_outside.result (Some c.in-Some.region) read c.words_of-words.ensures c.room_outside.ensures c.in-Some.is))
+
+pub returns-in-Some-clause-copy : goal.returns-in-Some-clause-copy
+returns-in-Some-clause-copy c =
+    let g = config_of c.args.image.now in
+    let m : Word → ℕ = memory_of c.args.image.now in
+    let a = c.args.address in
+    let read = c.word.ensures.named (Heap (a + 1)) (shape_is g m a c.requires) (ap (λ (k : Config). word_at k (Heap (a + 1))) (sym c.config.ensures) ∙ sym c.heap_at.ensures) in
+    ap Some c.copy_to.ensures.address
+    ∙ sym (ap (copy_in g m) (same_room g m a c.word.result c.words_of-words.result c.room_outside.result (Some c.in-Some.region) read c.words_of-words.ensures c.room_outside.ensures c.in-Some.is))
+
+pub returns-in-None-clause-words : goal.returns-in-None-clause-words
+returns-in-None-clause-words c =
+    let g = config_of c.args.image.now in
+    let m : Word → ℕ = memory_of c.args.image.now in
+    let a = c.args.address in
+    let read = c.word.ensures.named (Heap (a + 1)) (shape_is g m a c.requires) (ap (λ (k : Config). word_at k (Heap (a + 1))) (sym c.config.ensures) ∙ sym c.heap_at.ensures) in
+    sym (ap (copied_in g m a) (same_room g m a c.word.result c.words_of-words.result c.room_outside.result None read c.words_of-words.ensures c.room_outside.ensures c.in-None.is))
+
+pub returns-in-None-clause-copy : goal.returns-in-None-clause-copy
+returns-in-None-clause-copy c =
+    let g = config_of c.args.image.now in
+    let m : Word → ℕ = memory_of c.args.image.now in
+    let a = c.args.address in
+    let read = c.word.ensures.named (Heap (a + 1)) (shape_is g m a c.requires) (ap (λ (k : Config). word_at k (Heap (a + 1))) (sym c.config.ensures) ∙ sym c.heap_at.ensures) in
+    sym (ap (copy_in g m) (same_room g m a c.word.result c.words_of-words.result c.room_outside.result None read c.words_of-words.ensures c.room_outside.ensures c.in-None.is))

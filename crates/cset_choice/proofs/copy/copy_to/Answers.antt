@@ -1,0 +1,95 @@
+use Rattle.std.proofs.Common.{◌≡◌, ◌⊎◌, ◌≤◌, ◌<◌, ◌+◌, ℕ, bit_and, sym, ap, ◌∙◌, subst, arith}
+use Rattle.heap_words.specs.declared.config.Config.{Config}
+use Rattle.heap_words.specs.Words.{Word, Free, Top, Heap, IsWord, word_at, write}
+use Rattle.heap_words.specs.Encoding.{header_word, object_words}
+use Rattle.regions.specs.Place.{base_of}
+use Rattle.image_graph.specs.State.{config_of, memory_of}
+use Rattle.image_graph.specs.Make.{AreInHeap}
+use Rattle.image_graph.proofs.Room.{room_in_heap}
+use Rattle.image_graph.proofs.Steps.{stored}
+use Rattle.cset_laws.specs.Live.{words_at}
+use Rattle.cset_laws.specs.Copied.{top_address}
+use Rattle.cset_choice.proofs.Objects.{object_in_heap, word_of_heap}
+use Rattle.cset_choice.proofs.Copying.{copies_apart, copied_stores}
+use Rattle.cset_choice.proofs.copy.copy_to.Goals as goal
+
+pub copy_words-requires-clause-from : goal.copy_words-requires-clause-from
+copy_words-requires-clause-from c =
+    let g = config_of c.args.image.now in
+    let m : Word → ℕ = memory_of c.args.image.now in
+    let a = c.args.address in
+    let object = object_in_heap g a (words_at m a) c.requires.can.above c.requires.can.of_region c.requires.can.lies in
+    let words : c.words_of-words.result ≡ words_at m a =
+    c.words_of-words.ensures ∙ ap object_words (c.word.ensures.named (Heap (a + 1)) (word_of_heap g a (words_at m a) 1 object (omega arith))
+    (ap (λ (k : Config). word_at k (Heap (a + 1))) (sym c.config-config.ensures) ∙ sym c.heap_at.ensures)) in
+    subst (AreInHeap g a) (sym words) object
+
+pub copy_words-requires-clause-to : goal.copy_words-requires-clause-to
+copy_words-requires-clause-to c =
+    let g = config_of c.args.image.now in
+    let m : Word → ℕ = memory_of c.args.image.now in
+    let a = c.args.address in
+    let r = c.args.region in
+    let object = object_in_heap g a (words_at m a) c.requires.can.above c.requires.can.of_region c.requires.can.lies in
+    let words : c.words_of-words.result ≡ words_at m a =
+    c.words_of-words.ensures ∙ ap object_words (c.word.ensures.named (Heap (a + 1)) (word_of_heap g a (words_at m a) 1 object (omega arith))
+    (ap (λ (k : Config). word_at k (Heap (a + 1))) (sym c.config-config.ensures) ∙ sym c.heap_at.ensures)) in
+    let base : c.base.result ≡ base_of g r = c.base.ensures ∙ ap (λ (k : Config). base_of k r) c.config-config.ensures in
+    let at : top_address g m r ≡ c.base.result + c.edge-top.result = omega (arith, base, c.edge-top.ensures) in
+    subst (λ x. AreInHeap g x c.words_of-words.result) at
+    (subst (AreInHeap g (top_address g m r)) (sym words) (room_in_heap g r (m (Top r)) (words_at m a) c.requires.region c.requires.room))
+
+pub copy_words-requires-clause-apart : goal.copy_words-requires-clause-apart
+copy_words-requires-clause-apart c =
+    let g = config_of c.args.image.now in
+    let m : Word → ℕ = memory_of c.args.image.now in
+    let a = c.args.address in
+    let r = c.args.region in
+    let object = object_in_heap g a (words_at m a) c.requires.can.above c.requires.can.of_region c.requires.can.lies in
+    let words : c.words_of-words.result ≡ words_at m a =
+    c.words_of-words.ensures ∙ ap object_words (c.word.ensures.named (Heap (a + 1)) (word_of_heap g a (words_at m a) 1 object (omega arith))
+    (ap (λ (k : Config). word_at k (Heap (a + 1))) (sym c.config-config.ensures) ∙ sym c.heap_at.ensures)) in
+    let base : c.base.result ≡ base_of g r = c.base.ensures ∙ ap (λ (k : Config). base_of k r) c.config-config.ensures in
+    let at : top_address g m r ≡ c.base.result + c.edge-top.result = omega (arith, base, c.edge-top.ensures) in
+    subst (λ x. (a + c.words_of-words.result ≤ x) ⊎ (x + c.words_of-words.result ≤ a)) at
+    (subst (λ n. (a + n ≤ top_address g m r) ⊎ (top_address g m r + n ≤ a)) (sym words) (copies_apart g m a r c.requires.can c.requires.outside c.requires.room))
+
+pub returns-clause-words : goal.returns-clause-words
+returns-clause-words c =
+    let old = config_of c.args.image.now in
+    let g = c.config-config.result in
+    let m : Word → ℕ = memory_of c.args.image.now in
+    let a = c.args.address in
+    let r = c.args.region in
+    let same : g ≡ old = c.config-config.ensures in
+    -- what was read
+    let object = object_in_heap old a (words_at m a) c.requires.can.above c.requires.can.of_region c.requires.can.lies in
+    let words : c.words_of-words.result ≡ words_at m a =
+    c.words_of-words.ensures ∙ ap object_words (c.word.ensures.named (Heap (a + 1)) (word_of_heap old a (words_at m a) 1 object (omega arith))
+    (ap (λ (k : Config). word_at k (Heap (a + 1))) (sym same) ∙ sym c.heap_at.ensures)) in
+    let free : c.word-free.result ≡ m Free = c.word-free.ensures.named Free tt (ap (λ (k : Config). word_at k Free) (sym same) ∙ sym c.free_at.ensures) in
+    let base : c.base.result ≡ base_of old r = c.base.ensures ∙ ap (λ (k : Config). base_of k r) same in
+    let to : ℕ = c.base.result + c.edge-top.result in
+    let at : to ≡ top_address old m r = omega (arith, base, c.edge-top.ensures) in
+    -- where it is written
+    let copy = room_in_heap old r (m (Top r)) (words_at m a) c.requires.region c.requires.room in
+    let copy_is : IsWord g (Heap to) = subst (λ (k : Config). IsWord k (Heap to)) (sym same) (omega (arith, copy.from, at), omega (arith, copy.to, at)) in
+    let old_is : IsWord g (Heap a) = subst (λ (k : Config). IsWord k (Heap a)) (sym same) (omega (arith, object.from), omega (arith, object.to)) in
+    let e0 : config_of c.copy_words.new.image ≡ g = c.copy_words.ensures.config ∙ sym same in
+    let e1 : config_of c.set_word.new.self ≡ g = c.set_word.ensures.config ∙ e0 in
+    let e2 : config_of c.set_word-2.new.self ≡ g = c.set_word-2.ensures.config ∙ e1 in
+    let e3 : config_of c.set_word-3.new.self ≡ g = c.set_word-3.ensures.config ∙ e2 in
+    let top : ℕ = c.edge-top.result + c.words_of-words.result in
+    let bits : ℕ = bit_and c.word-free.result c.all_but.result in
+    let s1 = stored (config_of c.copy_words.new.image) g _ _ (Heap to) c.heap_at-2.result 1 e0 copy_is c.heap_at-2.ensures c.set_word.ensures.named in
+    let s2 = stored (config_of c.set_word.new.self) g _ _ (Top r) c.top_at.result top e1 (subst (λ (k : Config). r < k.regions) (sym same) c.requires.region) c.top_at.ensures c.set_word-2.ensures.named in
+    let s3 = stored (config_of c.set_word-2.new.self) g _ _ Free c.free_at-2.result bits e2 tt c.free_at-2.ensures c.set_word-3.ensures.named in
+    let s4 = stored (config_of c.set_word-3.new.self) g _ _ (Heap a) c.heap_at-3.result c.header_to.result e3 old_is c.heap_at-3.ensures c.set_word-4.ensures.named in
+    s4 ∙ ap (λ n. write n (Heap a) c.header_to.result)
+    (s3 ∙ ap (λ n. write n Free bits)
+    (s2 ∙ ap (λ n. write n (Top r) top)
+    (s1 ∙ ap (λ n. write n (Heap to) 1) c.copy_words.ensures.words)))
+    ∙ copied_stores old m a r to c.words_of-words.result top bits c.header_to.result at words
+    (omega (arith, c.edge-top.ensures, words))
+    (ap (λ k. bit_and k c.all_but.result) free ∙ ap (bit_and (m Free)) c.all_but.ensures.value)
+    (c.header_to.ensures ∙ ap header_word at)

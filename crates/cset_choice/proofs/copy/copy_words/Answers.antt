@@ -1,0 +1,44 @@
+use Rattle.std.proofs.Common.{◌≡◌, ◌+◌, ℕ, sym, ap, ◌∙◌, subst, arith}
+use Rattle.heap_words.specs.declared.config.Config.{Config}
+use Rattle.heap_words.specs.Words.{Word, Heap, IsWord, word_at, write}
+use Rattle.image_graph.specs.State.{config_of, memory_of}
+use Rattle.image_graph.proofs.Steps.{stored}
+use Rattle.cset_choice.specs.Steps.{words_copied}
+use Rattle.cset_choice.proofs.Objects.{word_of_heap}
+use Rattle.cset_choice.proofs.Copying.{none_copied, still_there, copied_next}
+use Rattle.cset_choice.proofs.copy.copy_words.Goals as goal
+
+pub loop-index-init : goal.loop-index-init
+loop-index-init c = record { config = search; words = none_copied c.args.from c.args.to (memory_of c.args.image.now) }
+
+pub loop-index-preserved : goal.loop-index-preserved
+loop-index-preserved c =
+    let g = config_of c.args.image.now in
+    let m : Word → ℕ = memory_of c.args.image.now in
+    let from = c.args.from in
+    let to = c.args.to in
+    let i = c.loop-index.index in
+    let now = c.loop-index.image in
+    let is = c.loop-index.invariant in
+    let same : c.config-config.result ≡ g = c.config-config.ensures in
+    let source : IsWord g (Heap (from + i)) = word_of_heap g from c.args.words i c.requires.from c.loop-index-test.true in
+    let target : IsWord g (Heap (to + i)) = word_of_heap g to c.args.words i c.requires.to c.loop-index-test.true in
+    let read : c.word-word.result ≡ m (Heap (from + i)) =
+    c.word-word.ensures.named (Heap (from + i)) (subst (λ (k : Config). IsWord k (Heap (from + i))) (sym is.config) source)
+    (ap (λ (k : Config). word_at k (Heap (from + i))) (is.config ∙ sym same) ∙ sym c.heap_at.ensures)
+    ∙ ap (λ (n : Word → ℕ). n (Heap (from + i))) is.words
+    ∙ still_there from to i c.args.words m c.loop-index-test.true c.requires.apart in
+    let one = stored (config_of now) c.config-config.result (memory_of now) (memory_of c.set_word.new.self) (Heap (to + i)) c.heap_at-in-loop-index.result c.word-word.result
+    (is.config ∙ sym same) (subst (λ (k : Config). IsWord k (Heap (to + i))) (sym same) target) c.heap_at-in-loop-index.ensures c.set_word.ensures.named in
+    record {
+      config = c.set_word.ensures.config ∙ is.config;
+      words = one
+          ∙ ap (λ n. write n (Heap (to + i)) c.word-word.result) is.words
+          ∙ ap (write (words_copied from to i m) (Heap (to + i))) read
+          ∙ copied_next from to i c.args.words m c.loop-index-test.true c.requires.apart;
+    }
+
+pub returns-clause-words : goal.returns-clause-words
+returns-clause-words c =
+    let all : c.loop-index.index ≡ c.args.words = omega (arith, c.loop-index-test.false, c.loop-index.auto.index-end) in
+    c.loop-index.invariant.words ∙ ap (λ n. words_copied c.args.from c.args.to n (memory_of c.args.image.now)) all

@@ -1,0 +1,9 @@
+use Rattle.std.proofs.Common.{ℕ, ◌+◌, ◌<◌}
+use Rattle.heap_words.specs.Words.{Cset, Top}
+use Rattle.image_graph.specs.State.{config_of, memory_of}
+use Rattle.cset_laws.specs.Copying.{tops_outside}
+use Rattle.cset_choice.proofs.copy.room_outside.Given as goal
+
+abbrev pub invariant-loop-region : goal.invariant-loop-region
+invariant-loop-region l =
+    (q : ℕ) → q < l.region → (config_of l.image).region_words < tops_outside (config_of l.image).region_words (memory_of l.image Cset) (λ r. memory_of l.image (Top r)) q + l.words
