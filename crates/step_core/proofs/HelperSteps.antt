@@ -1,5 +1,5 @@
 -- What the steps of a helper owe.
-use Rattle.std.proofs.Common.{◌≡◌, ◌≢◌, ℕ, ◌+◌, ◌<◌, Bool, true, false, Some, None, refl, sym, ◌∙◌, subst, arith}
+use Rattle.std.proofs.Common.{◌≡◌, ◌≢◌, ℕ, ◌<◌, Bool, true, false, refl, sym, ◌∙◌, subst, arith}
 use Rattle.std.specs.Prelude.{◌==◌, if◌then◌else◌}
 use Rattle.std.proofs.lemmas.Bool.{and_parts, eqb-false, eqb-true, cond-false, ne_eqb}
 use Rattle.heap_words.specs.declared.config.Config.{Config}
@@ -22,7 +22,7 @@ use Rattle.load_barrier.specs.UnitRows as evacs
 use Rattle.evac_steps.specs.Evacuating.{CanEvacuate}
 use Rattle.evac_steps.proofs.Parts.{evacuating_steps}
 use Rattle.mark_steps.proofs.Parts.{scanning_steps}
-use Rattle.heap_world.specs.World.{World, hand, Shared}
+use Rattle.heap_world.specs.World.{World, Shared}
 use Rattle.heap_world.specs.Part.{PartStep}
 use Rattle.step_core.proofs.Alike.{load_step, store_step}
 use Rattle.step_core.proofs.Facts.{IsResting, Scans, HelpFacts, IsHelper}

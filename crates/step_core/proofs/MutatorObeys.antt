@@ -5,7 +5,6 @@ use Rattle.heap_words.specs.declared.config.Config.{Config}
 use Rattle.heap_words.specs.Words.{IsWord, is_word, is_image}
 use Rattle.heap_words.proofs.Stores.{is_word_true}
 use Rattle.std.proofs.lemmas.Bool.{and_parts}
-use Rattle.steps_base.specs.Fits.{touch_fits, form_fits}
 use Rattle.steps_base.specs.Touch.{placed}
 use Rattle.shen_graph.specs.declared.order.Order.{Order}
 use Rattle.shen_graph.specs.declared.order.Order.TheVariants.{Nothing, Begin, End}

@@ -1,6 +1,6 @@
 -- The words that a mutator finds are fit for its parts: a reference that is to be used is one, and a resolving can go on.
-use Rattle.std.proofs.Common.{◌≡◌, ◌≢◌, ℕ, ◌+◌, ⊎_elim, true, false, Option, Some, None, refl, sym, ap, ◌∙◌, subst, arith}
-use Rattle.std.specs.Prelude.{◌==◌, if◌then◌else◌}
+use Rattle.std.proofs.Common.{◌≡◌, ◌≢◌, ℕ, ⊎_elim, true, false, Option, Some, None, refl, sym, ap, ◌∙◌, subst, arith}
+use Rattle.std.specs.Prelude.{◌==◌}
 use Rattle.std.proofs.lemmas.Bool.{cond-true, cond-false, eq-eqb, ne_eqb}
 use Rattle.std.proofs.lemmas.Bool.{cases_eq}
 use Rattle.heap_words.specs.declared.config.Config.{Config}
@@ -11,7 +11,6 @@ use Rattle.shen_graph.specs.declared.order.Order.TheVariants.{Nothing}
 use Rattle.shen_graph.specs.Graph.{Reference}
 use Rattle.load_barrier.specs.Rows as resolves
 use Rattle.load_barrier.specs.Fit as load
-use Rattle.load_barrier.specs.UnitRows.{copy_phase}
 use Rattle.copy_steps.proofs.Parts.{resolving_steps}
 use Rattle.mutator.specs.declared.spot.Kept.{Kept}
 use Rattle.mutator.specs.declared.spot.Spot.{Spot}

@@ -2,14 +2,10 @@
 -- its object, or can be used as it is.
 use Rattle.std.proofs.Common.{◌≡◌, ◌≢◌, ℕ, ◌+◌, ◌<◌, ◌≤◌, ◌⊎◌, inl, inr, ⊎_elim, Bool, true, false, Option, Some, None, refl, sym, ap, ◌∙◌, subst, arith}
 use Rattle.std.specs.Prelude.{◌==◌, ◌&&◌, nat_lt, if◌then◌else◌}
-use Rattle.std.proofs.lemmas.Bool.{and_from, and_parts, cases_Bool, cond-true, cond-false, eqb-true, eqb-false, eq-eqb, ne_eqb, ltb-false, ltb-true, lt-ltb, false≢true}
-use Rattle.std.proofs.lemmas.Bool.Decides.{nat_tests}
-use Rattle.std.proofs.lemmas.Option.{same_Some}
+use Rattle.std.proofs.lemmas.Bool.{and_from, and_parts, cases_Bool, cond-true, cond-false, eqb-true, eqb-false, ltb-false, ltb-true, false≢true}
 use Rattle.heap_words.specs.declared.config.Config.{Config}
-use Rattle.heap_words.specs.Words.{Root, Heap, Phase, Cset, Top, is_word}
+use Rattle.heap_words.specs.Words.{Root, Heap, Phase, Cset, is_word}
 use Rattle.heap_words.proofs.Stores.{is_word_from}
-use Rattle.regions.specs.Sets.{IsIn}
-use Rattle.regions.specs.Place.{region_with}
 use Rattle.steps_base.specs.Fits.{is_number}
 use Rattle.shen_graph.specs.declared.name.Name.{Name}
 use Rattle.shen_graph.specs.declared.command.Command.{Command}
@@ -24,25 +20,24 @@ use Rattle.load_barrier.specs.UnitFit.{resolve_ready}
 use Rattle.load_barrier.specs.Runs.{is_copier}
 use Rattle.load_barrier.specs.Rows as resolves
 use Rattle.load_barrier.specs.Fit as load
-use Rattle.copy_steps.specs.Resolving.{IsAnswer, CanResolve, IsRoomAt}
+use Rattle.copy_steps.specs.Resolving.{IsAnswer, CanResolve}
 use Rattle.copy_steps.specs.Laws.{CanResolveFor}
 use Rattle.copy_steps.proofs.Bodies.{copy_piece, piece_begins}
 use Rattle.copy_steps.proofs.Parts.{resolving_steps}
 use Rattle.mutator.specs.declared.spot.Kept.{Kept}
 use Rattle.mutator.specs.declared.spot.Spot.{Spot}
-use Rattle.mutator.specs.declared.spot.Spot.TheVariants.{OnField, Resolving, Leave}
-use Rattle.mutator.specs.declared.fields.FieldSpot.TheVariants as fields
+use Rattle.mutator.specs.declared.spot.Spot.TheVariants.{Resolving, Leave}
 use Rattle.mutator.specs.declared.resolves.Loaded.{Loaded}
 use Rattle.mutator.specs.declared.resolves.Loaded.TheVariants.{ForRoot, ToCompare}
 use Rattle.mutator.specs.Commands.{dst_of, index_of}
 use Rattle.mutator.specs.Rows.{Mutating, after_expected, after_resolve, after_resolved, with_loaded}
 use Rattle.mutator.specs.Fit.{is_ready, resolve_fits}
-use Rattle.heap_world.specs.World.{World, thing, moved, hand, name_at, body_at, body_of, body_words, words_of, Points, IsCollected, HasCopy, TargetIn, UsableIn, Shared}
+use Rattle.heap_world.specs.World.{World, hand, name_at, body_of, Points, IsCollected, HasCopy, TargetIn, UsableIn, Shared}
 use Rattle.heap_world.specs.Rely.{Keeps}
-use Rattle.heap_world.proofs.Pointing.{named_body, copy_cases, body_piece, body_named, named_if_not_0, null_if_0, piece_word, piece_small, points_small, piece_inside}
+use Rattle.heap_world.proofs.Pointing.{named_body, copy_cases, named_if_not_0, points_small}
 use Rattle.heap_world.proofs.Unmoved.{usable_unmoved}
-use Rattle.step_core.specs.Own.{root_now, root_resolving}
-use Rattle.step_core.specs.Stepped.{HasObject, IsCas, IsCompared, IsComparing, IsFound, LoadedFacts, IsSeatedIn, HasMarkingBy, HasCopyingBy, NameTheSame, NameOthers, Mine, Row}
+use Rattle.step_core.specs.Own.{root_resolving}
+use Rattle.step_core.specs.Stepped.{IsCas, IsCompared, LoadedFacts, IsSeatedIn, HasMarkingBy, HasCopyingBy, Mine, Row}
 use Rattle.step_core.proofs.Spots.{mutator_at}
 use Rattle.step_core.proofs.Naming.{same_words, one_reference, not_one, copied, word_in}
 use Rattle.step_core.proofs.Stable.{root_stays, now_stays, seated_stays, resolved_stays}

@@ -147,7 +147,7 @@ module _ (change : Change) (law : IsPause change) (c : Config) (g : Graph) (s : 
           let called : o ≡ Nothing = in_call m.spot m.made o (within_call m.spot within) takes_it in
           subst (λ x. PartFit c m.seat m.kept m.spot (slice_index s.words (table_index (placed c (touch_of c m x))))) (sym called)
           (subst (λ got. PartFit c m.seat m.kept m.spot got) (sym (settled_found c s.words (touch_of c m Nothing) (held_image c s)
-          (is_word_true c (touch_of c m Nothing).word (order_word c m.seat m.made m.kept Nothing m.spot thread.mine.seated.below thread.mine.ready (subst (λ x. takes_at m.spot m.made x ≡ true) called takes_it)))
+          (order_word c m.seat m.made m.kept Nothing m.spot thread.mine.seated.below thread.mine.ready (subst (λ x. takes_at m.spot m.made x ≡ true) called takes_it))
           (λ image held. absurd (false≢true (sym (mutator_outside number a m (record { here = here; is = is }) image held) ∙ within)))))
           (part_fits c the_world goes.follows.shared m.seat m.made m.kept a.command thread.fixed m.spot thread.mine)))
           (λ (out : is_within (standing_at m.spot) ≡ false). part_outside c m.seat m.kept m.spot _ out)

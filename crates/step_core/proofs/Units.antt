@@ -1,5 +1,5 @@
 -- Units of marking and of evacuation, of a helper or of the control: where one begins, goes on and ends.
-use Rattle.std.proofs.Common.{◌≡◌, ℕ, ◌<◌, false, None, Some, ◌∙◌}
+use Rattle.std.proofs.Common.{◌≡◌, ℕ, ◌<◌, false, ◌∙◌}
 use Rattle.heap_words.specs.declared.config.Config.{Config}
 use Rattle.heap_words.specs.Ranges.{seat_count}
 use Rattle.heap_words.specs.Words.{Phase, Cset}
