@@ -170,11 +170,11 @@ module _ (c : Config) (w : World) (shared : Shared c w) (d k : ℕ) (b : Body) (
       (λ same. let both = sym (ap body_at room) ∙ (ap (λ x. body_at (w.block x)) same ∙ is) in cc) within (omega (arith, below, long))
 
   -- by the parts of a call
-  load_spare : (seat : ℕ) (command : Command) (at : LoadSpot) (place : Place) → IsSpare seat (load_touch seat command at) place
-  load_spare seat command load.First place word = inl refl
-  load_spare seat command (load.Second first) place word = inl refl
-  load_spare seat command (load.Third first second) place word = inl refl
-  load_spare seat command (load.Shape object second third) place word = inl refl
+  load_mild : (seat : ℕ) (command : Command) (at : LoadSpot) → IsMild seat (load_touch seat command at)
+  load_mild seat command load.First word = inl refl
+  load_mild seat command (load.Second first) word = inl refl
+  load_mild seat command (load.Third first second) word = inl refl
+  load_mild seat command (load.Shape object second third) word = inl refl
 
   field_spare : (seat : ℕ) (kept command : Command) (fixed : Option Reply) (object : ℕ) (at : FieldSpot) → FieldFacts c w seat kept command fixed object at → IsSpare seat (field_touch object kept at) (field_place at)
   field_spare seat kept command fixed object fields.Load facts word = inl refl
@@ -196,65 +196,65 @@ module _ (c : Config) (w : World) (shared : Shared c w) (d k : ℕ) (b : Body) (
       let wr = facts.1 in let within = wr.below in let long = wr.refs_are in let same = one_address (object + 3 + refs + index_of kept) (d + k) word in
       inr (inr (refl, written object (3 + refs + index_of kept) wr.of.refs wr.of.nums wr.of.name wr.of.target (omega (arith, within, long)) (omega (arith, same))))
 
-  remember_spare : (seat address : ℕ) (at : RememberSpot) (place : Place) → IsSpare seat (satb.touch_at c seat address at) place
-  remember_spare seat address remember.LoadCount place word = inl refl
-  remember_spare seat address (remember.LoadEntry entry) place word = inl refl
-  remember_spare seat address remember.Recorded place word = inl refl
-  remember_spare seat address (remember.MarkEntry entry found) place word = absurd (cc (word))
-  remember_spare seat address remember.ClearCount place word = absurd (cc (word))
-  remember_spare seat address (remember.StoreEntry entry) place word = absurd (cc (word))
-  remember_spare seat address (remember.StoreCount entry) place word = absurd (cc (word))
+  remember_mild : (seat address : ℕ) (at : RememberSpot) → IsMild seat (satb.touch_at c seat address at)
+  remember_mild seat address remember.LoadCount word = inl refl
+  remember_mild seat address (remember.LoadEntry entry) word = inl refl
+  remember_mild seat address remember.Recorded word = inl refl
+  remember_mild seat address (remember.MarkEntry entry found) word = absurd (cc (word))
+  remember_mild seat address remember.ClearCount word = absurd (cc (word))
+  remember_mild seat address (remember.StoreEntry entry) word = absurd (cc (word))
+  remember_mild seat address (remember.StoreCount entry) word = absurd (cc (word))
 
-  show_spare : (seat value : ℕ) (command : Command) (at : ShowSpot) (place : Place) → IsSpare seat (show_touch seat value command at) place
-  show_spare seat value command show.LoadName place word = inl refl
-  show_spare seat value command (show.StoreRoot reply) place word = absurd (cc (word))
+  show_mild : (seat value : ℕ) (command : Command) (at : ShowSpot) → IsMild seat (show_touch seat value command at)
+  show_mild seat value command show.LoadName word = inl refl
+  show_mild seat value command (show.StoreRoot reply) word = absurd (cc (word))
 
-  take_spare : (seat words : ℕ) (at : TakeSpot) (place : Place) → IsSpare seat (takes.touch_at seat words at) place
-  take_spare seat words take.LoadCurrent place word = inl refl
-  take_spare seat words (take.LoadTop region) place word = inl refl
-  take_spare seat words take.LoadFree place word = inl refl
-  take_spare seat words (take.Ended taken) place word = inl refl
-  take_spare seat words (take.TakeRegion region) place word = absurd (cc (word))
-  take_spare seat words (take.StoreCurrent region) place word = absurd (cc (word))
-  take_spare seat words (take.StoreTop region top) place word = absurd (cc (word))
+  take_mild : (seat words : ℕ) (at : TakeSpot) → IsMild seat (takes.touch_at seat words at)
+  take_mild seat words take.LoadCurrent word = inl refl
+  take_mild seat words (take.LoadTop region) word = inl refl
+  take_mild seat words take.LoadFree word = inl refl
+  take_mild seat words (take.Ended taken) word = inl refl
+  take_mild seat words (take.TakeRegion region) word = absurd (cc (word))
+  take_mild seat words (take.StoreCurrent region) word = absurd (cc (word))
+  take_mild seat words (take.StoreTop region top) word = absurd (cc (word))
 
-  make_spare : (seat made : ℕ) (kept command : Command) (fixed : Option Reply) (at : MakeSpot) (place : Place) → MakeFacts c w seat made kept command fixed at → IsSpare seat (make_touch seat made kept at) place
-  make_spare seat made kept command fixed (make.Taking at) place facts word = take_spare seat _ at place word
-  make_spare seat made kept command fixed (make.StoreWord address done) place facts word = absurd (room_far seat address done _ facts.1.room facts.2 (one_address _ _ word))
-  make_spare seat made kept command fixed (make.StoreRoot address) place facts word = absurd (cc (word))
+  make_mild : (seat made : ℕ) (kept command : Command) (fixed : Option Reply) (at : MakeSpot) → MakeFacts c w seat made kept command fixed at → IsMild seat (make_touch seat made kept at)
+  make_mild seat made kept command fixed (make.Taking at) facts word = take_mild seat _ at word
+  make_mild seat made kept command fixed (make.StoreWord address done) facts word = absurd (room_far seat address done _ facts.1.room facts.2 (one_address _ _ word))
+  make_mild seat made kept command fixed (make.StoreRoot address) facts word = absurd (cc (word))
 
-  wait_spare : (seat made : ℕ) (command : Command) (at : WaitSpot) (place : Place) → IsSpare seat (wait_touch seat made command at) place
-  wait_spare seat made command wait.Poll place word = inl refl
-  wait_spare seat made command wait.LoadAnswer place word = inl refl
-  wait_spare seat made command wait.StoreRequest place word = absurd (cc (word))
-  wait_spare seat made command wait.AskRoom place word = absurd (cc (word))
-  wait_spare seat made command wait.StepOut place word = absurd (cc (word))
-  wait_spare seat made command (wait.StoreRoot address) place word = absurd (cc (word))
-  wait_spare seat made command (wait.ClearAnswer reply) place word = absurd (cc (word))
+  wait_mild : (seat made : ℕ) (command : Command) (at : WaitSpot) → IsMild seat (wait_touch seat made command at)
+  wait_mild seat made command wait.Poll word = inl refl
+  wait_mild seat made command wait.LoadAnswer word = inl refl
+  wait_mild seat made command wait.StoreRequest word = absurd (cc (word))
+  wait_mild seat made command wait.AskRoom word = absurd (cc (word))
+  wait_mild seat made command wait.StepOut word = absurd (cc (word))
+  wait_mild seat made command (wait.StoreRoot address) word = absurd (cc (word))
+  wait_mild seat made command (wait.ClearAnswer reply) word = absurd (cc (word))
 
   -- between two calls
-  first_spare : (seat : ℕ) (order : Order) (place : Place) → IsSpare seat (first_touch seat order) place
-  first_spare seat Nothing place word = absurd (cc (word))
-  first_spare seat (Begin command) place word = absurd (cc (word))
-  first_spare seat End place word = absurd (cc (word))
+  first_mild : (seat : ℕ) (order : Order) → IsMild seat (first_touch seat order)
+  first_mild seat Nothing word = absurd (cc (word))
+  first_mild seat (Begin command) word = absurd (cc (word))
+  first_mild seat End word = absurd (cc (word))
 
   -- and of a mutator
   pub spot_spare : (seat made : ℕ) (kept : Kept) (command : Command) (fixed : Option Reply) (order : Order) (spot : Spot) → SpotFacts c w seat made kept command fixed spot
       → IsSpare seat (touch_at c seat made kept order spot) (place_at order spot)
-  spot_spare seat made kept command fixed order Rest facts word = first_spare seat order _ word
-  spot_spare seat made kept command fixed order (Ended reply) facts word = first_spare seat order _ word
-  spot_spare seat made kept command fixed order (Entering at next) facts word = mild_spare seat _ _ (enter_mild seat at) word
+  spot_spare seat made kept command fixed order Rest facts word = mild_spare seat _ (place_at order Rest) (first_mild seat order) word
+  spot_spare seat made kept command fixed order (Ended reply) facts word = mild_spare seat _ (place_at order (Ended reply)) (first_mild seat order) word
+  spot_spare seat made kept command fixed order (Entering at next) facts word = mild_spare seat _ (place_at order (Entering at next)) (enter_mild seat at) word
   spot_spare seat made kept command fixed order LoadPhase facts word = inl refl
   spot_spare seat made kept command fixed order LoadSet facts word = inl refl
-  spot_spare seat made kept command fixed order (Loading at) facts word = load_spare seat kept.command at _ word
+  spot_spare seat made kept command fixed order (Loading at) facts word = mild_spare seat _ (place_at order (Loading at)) (load_mild seat kept.command at) word
   spot_spare seat made kept command fixed order (OnField object at) facts word = field_spare seat kept.command command fixed object at facts word
-  spot_spare seat made kept command fixed order (Resolving address at next) facts word = mild_spare seat _ _ (resolve_mild seat address at facts.0) word
-  spot_spare seat made kept command fixed order (Recording at address next) facts word = remember_spare seat address at _ word
+  spot_spare seat made kept command fixed order (Resolving address at next) facts word = mild_spare seat _ (place_at order (Resolving address at next)) (resolve_mild seat address at facts.0) word
+  spot_spare seat made kept command fixed order (Recording at address next) facts word = mild_spare seat _ (place_at order (Recording at address next)) (remember_mild seat address at) word
   spot_spare seat made kept command fixed order (OnNumber object refs at) facts word = number_spare seat kept.command command fixed object refs at facts word
-  spot_spare seat made kept command fixed order (Showing value at) facts word = show_spare seat value kept.command at _ word
+  spot_spare seat made kept command fixed order (Showing value at) facts word = mild_spare seat _ (place_at order (Showing value at)) (show_mild seat value kept.command at) word
   spot_spare seat made kept command fixed order (StoreRoot value) facts word = absurd (cc (word))
-  spot_spare seat made kept command fixed order (Making at) facts word = make_spare seat made kept.command command fixed at _ facts word
+  spot_spare seat made kept command fixed order (Making at) facts word = mild_spare seat _ (place_at order (Making at)) (make_mild seat made kept.command command fixed at facts) word
   spot_spare seat made kept command fixed order AskCycle facts word = absurd (cc (word))
-  spot_spare seat made kept command fixed order (Waiting at) facts word = wait_spare seat made kept.command at _ word
+  spot_spare seat made kept command fixed order (Waiting at) facts word = mild_spare seat _ (place_at order (Waiting at)) (wait_mild seat made kept.command at) word
   spot_spare seat made kept command fixed order (Leave reply) facts word = absurd (cc (word))
   spot_spare seat made kept command fixed order Gone facts word = inl refl
