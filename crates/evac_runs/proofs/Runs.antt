@@ -85,7 +85,7 @@ module _ (c : Config) (g : Graph) (s : Stage Actor) (h : List Entry) (goes : Goe
         (λ loaded. inl loaded)
         (λ more. inr (⊎_elim
         (λ published. inl (subst (λ seat. IsPublishing c the_world seat a b (plan_of c order (mutating m))) facts.number_is published))
-        (λ still. inr (record { mutator = m; is = refl; writes = still.0; current = still.1.0; quiet = still.1.1 }))
+        (λ still. inr (record { mutator = m; is = refl; writes = still.0; behind = still.1.0; current = still.1.1; quiet = still.1.2 }))
         more))
         (mutator_spare c the_world goes.follows.shared a k b is below inside m x.command facts.fixed order facts.mine takes same)
     spares x (helping m) facts takes out same =

@@ -1,5 +1,5 @@
 -- What the accesses of machines to words of copies in the collection set are, by where they stand.
-use Rattle.std.proofs.Common.{◌≡◌, ◌≢◌, ℕ, ◌⊎◌, inl, inr, ⊎_elim, ◌+◌, ◌<◌, true, List, Some, None, Option, refl, sym, ap, ◌∙◌, subst, arith}
+use Rattle.std.proofs.Common.{◌≡◌, ◌≢◌, ℕ, ◌⊎◌, inl, inr, ⊎_elim, ◌+◌, ◌<◌, ◌≤◌, true, List, Some, None, Option, refl, sym, ap, ◌∙◌, subst, arith}
 use Rattle.std.proofs.lemmas.Bool.{and_parts}
 use Rattle.std.proofs.lemmas.Option.{same_Some}
 use Rattle.heap_words.specs.declared.config.Config.{Config}
@@ -186,9 +186,9 @@ module _ (c : Config) (w : World) (shared : Shared c w) (d k : ℕ) (b : Body) (
   control_mild control.Go image value ready facts out same = mild_at (control_seat c) (control_touch c control.Go) tt (λ word. absurd (cc (word))) same
   control_mild control.Gone image value ready facts out same = mild_at (control_seat c) (control_touch c control.Gone) tt (λ word. inl refl) same
 
-  -- the object's current copy is there, and nobody copies any more
+  -- the word is a field or a number, the object's current copy is there, and nobody copies any more
   abbrev IsStill : Type 0
-  IsStill = (w.block d ≡ Some (thing b.name b.refs b.nums)) × IsQuiet (w.memory Evac)
+  IsStill = (3 ≤ k) × (w.block d ≡ Some (thing b.name b.refs b.nums)) × IsQuiet (w.memory Evac)
 
   -- what an access of a mutator is
   abbrev IsSpare : ℕ → Touch → Place → Type 0
@@ -198,13 +198,13 @@ module _ (c : Config) (w : World) (shared : Shared c w) (d k : ℕ) (b : Body) (
   mild_spare seat t place mild word = ⊎_elim (λ loaded. inl loaded) (λ published. inr (inl published)) (mild word)
 
   -- a word of an object that may be used is one of a copy in the set only if nobody copies any more
-  written : (object at refs nums : ℕ) (name : Name) → TargetIn c w object refs nums name → at < 3 + refs + nums → object + at ≡ d + k → IsStill
-  written object at refs nums name target within same =
+  written : (object at refs nums : ℕ) (name : Name) → TargetIn c w object refs nums name → 3 ≤ at → at < 3 + refs + nums → object + at ≡ d + k → IsStill
+  written object at refs nums name target behind within same =
       let piece = body_piece (w.block d) b is in
       let long = piece.2 in
       let one : d ≡ object = one_piece c (λ r. w.memory (Top r)) w.block shared.parsable.plotted d object (d + k) piece.0 (thing name refs nums) piece.1 target.piece
-      (omega arith) (omega (arith, below, long)) (omega (arith, same)) (omega (arith, same, within)) in
-      (
+      (omega arith) (omega (arith, below, long)) (omega (arith, same)) (omega (arith, same, within)) in (
+        omega (arith, one, same, behind),
         ⊎_elim (λ now. now) (λ was. absurd (let both = sym (ap w.block one ∙ target.piece) ∙ was.1 in cc)) (copy_cases (w.block d) b is),
         target.safe (subst (λ x. IsCollected c (w.memory Cset) x) one inside),
       )
@@ -230,19 +230,19 @@ module _ (c : Config) (w : World) (shared : Shared c w) (d k : ℕ) (b : Body) (
   field_spare seat kept command fixed object (fields.LoadOld value) facts word = inl refl
   field_spare seat kept command fixed object (fields.Store value) facts word =
       let set = facts.1 in let within = set.below in let same = one_address (object + 3 + index_of kept) (d + k) word in
-      inr (inr (refl, written object (3 + index_of kept) set.of.refs set.of.nums set.of.name set.of.target (omega (arith, within)) (omega (arith, same))))
+      inr (inr (refl, written object (3 + index_of kept) set.of.refs set.of.nums set.of.name set.of.target (omega arith) (omega (arith, within)) (omega (arith, same))))
   field_spare seat kept command fixed object (fields.Swap value) facts word =
       let swap = facts.1 in let within = swap.below in let same = one_address (object + 3 + index_of kept) (d + k) word in
-      inr (inr (refl, written object (3 + index_of kept) swap.of.refs swap.of.nums swap.of.name swap.of.target (omega (arith, within)) (omega (arith, same))))
+      inr (inr (refl, written object (3 + index_of kept) swap.of.refs swap.of.nums swap.of.name swap.of.target (omega arith) (omega (arith, within)) (omega (arith, same))))
   field_spare seat kept command fixed object (fields.Exchange found expect value) facts word =
       let cas = facts.1 in let within = cas.below in let same = one_address (object + 3 + index_of kept) (d + k) word in
-      inr (inr (refl, written object (3 + index_of kept) cas.of.refs cas.of.nums cas.of.name cas.of.target (omega (arith, within)) (omega (arith, same))))
+      inr (inr (refl, written object (3 + index_of kept) cas.of.refs cas.of.nums cas.of.name cas.of.target (omega arith) (omega (arith, within)) (omega (arith, same))))
 
   number_spare : (seat : ℕ) (kept command : Command) (fixed : Option Reply) (object refs : ℕ) (at : NumberSpot) → NumberFacts c w seat kept command fixed object refs at → IsSpare seat (number_touch object refs kept at) (number_place at)
   number_spare seat kept command fixed object refs numbers.Load facts word = inl refl
   number_spare seat kept command fixed object refs numbers.Store facts word =
       let wr = facts.1 in let within = wr.below in let long = wr.refs_are in let same = one_address (object + 3 + refs + index_of kept) (d + k) word in
-      inr (inr (refl, written object (3 + refs + index_of kept) wr.of.refs wr.of.nums wr.of.name wr.of.target (omega (arith, within, long)) (omega (arith, same))))
+      inr (inr (refl, written object (3 + refs + index_of kept) wr.of.refs wr.of.nums wr.of.name wr.of.target (omega arith) (omega (arith, within, long)) (omega (arith, same))))
 
   remember_mild : (seat address : ℕ) (at : RememberSpot) → IsMild seat (satb.touch_at c seat address at)
   remember_mild seat address remember.LoadCount word = inl refl

@@ -38,7 +38,7 @@ pub record IsLeading (c : Config) (w : World) (a refs nums to : ℕ) (name : Nam
   pub plain : w.memory (Heap to) ≡ plain_header
 
 -- Words and machines stand for a graph by some plot, in which headers of old copies lead to current ones, current copies have the header
--- of an object that has not moved, and each object has one.
+-- of an object that has not moved, and no object has two current copies.
 pub record HaveHeaders (c : Config) (s : Stage Actor) (g : Graph) : Type 0 where
   pub stands : StandsFor c s g
   pub old : (a refs nums to : ℕ) (name : Name) → stands.block a ≡ Some (moved name refs nums to) → IsLeading c (world_of c s stands.block stands.ghost g) a refs nums to name
@@ -66,17 +66,18 @@ is_write NS = true
 is_write _ = false
 
 -- Nobody copies any more, the object's current copy is at the address, and the access is that of a mutator which writes a field or a
--- number.
-pub record IsWriting (w : World) (order : Order) (machine : Machine) (a : ℕ) (b : Body) : Type 0 where
+-- number: a word behind the object's header, shape and name.
+pub record IsWriting (w : World) (order : Order) (machine : Machine) (a k : ℕ) (b : Body) : Type 0 where
   pub mutator : Mutating
   pub is : machine ≡ mutating mutator
   pub writes : is_write (place_in order machine) ≡ true
+  pub behind : 3 ≤ k
   pub current : w.block a ≡ Some (thing b.name b.refs b.nums)
   pub quiet : IsQuiet (w.memory Evac)
 
 -- what the next access of a machine is, if it is of such a word of a copy in the collection set
 abbrev pub IsSparing : Config → World → (seat : ℕ) → Order → Machine → (a k : ℕ) → Body → Type 0
-IsSparing c w seat order machine a k b = (plan_of c order machine ≡ Load (word_at c (Heap (a + k)))) ⊎ (IsPublishing c w seat a b (plan_of c order machine) ⊎ IsWriting w order machine a b)
+IsSparing c w seat order machine a k b = (plan_of c order machine ≡ Load (word_at c (Heap (a + k)))) ⊎ (IsPublishing c w seat a b (plan_of c order machine) ⊎ IsWriting w order machine a k b)
 
 -- Words and machines stand for a graph by some plot, and the next access of each machine, if it is of a word of a copy in the collection
 -- set, current or old, spares it; but for the control while it writes an image back.
