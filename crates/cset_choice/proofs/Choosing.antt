@@ -2,7 +2,7 @@
 use Rattle.std.proofs.Common.{◌≡◌, ◌≢◌, ℕ, ◌+◌, ◌-◌, ◌*◌, ◌/◌, ◌%◌, ◌^◌, ◌<◌, ◌≤◌, ◌==◌, ◌&&◌, ◌||◌, nat_lt, nat_le, not, cond, if◌then◌else◌, Bool, true, false, zero, suc, List, length, slice_index, slice_set, replicate, IsTrue, ◌↔◌, ⊎_elim, refl, sym, ap, ◌∙◌, arith}
 use Rattle.std.specs.Int.{bit_at}
 use Rattle.std.specs.Int.RustNames.{bit_or}
-use Rattle.std.proofs.lemmas.Bool.{cond_both, cases_eq, eq-eqb, ne_eqb, true≢false, and_left}
+use Rattle.std.proofs.lemmas.Bool.{cond_both, cases_eq, eq-eqb, ne_eqb, true≢false}
 use Rattle.std.proofs.Math.ListN.{length-set, length-replicate}
 use Rattle.std.proofs.lemmas.List.{get_or-replicate, get_or-set_same, get_or-set_other}
 use Rattle.std.proofs.lemmas.Nat.{or_comm, or_shifted, one_shl}
@@ -15,7 +15,7 @@ use Rattle.mark_laws.specs.Marks.{bits_of}
 use Rattle.mark_laws.proofs.Bits.{one, bits_at}
 use Rattle.mark_laws.specs.Final.{is_current}
 use Rattle.cset_laws.specs.Live.{live_words, garbage, is_candidate}
-use Rattle.cset_laws.specs.Front.{comes_before, live_up_to, is_in_front, longest_front}
+use Rattle.cset_laws.specs.Front.{comes_before, live_up_to, is_in_front}
 use Rattle.cset_choice.specs.Tables.{AreLive, adds, up_to}
 
 -- a set of regions below a number has no others

@@ -1,7 +1,7 @@
 -- What the stores of copying make.
-use Rattle.std.proofs.Common.{◌≡◌, ◌≢◌, ℕ, ◌+◌, ◌-◌, ◌%◌, ◌<◌, ◌≤◌, ◌⊎◌, ◌==◌, ◌&&◌, nat_le, nat_lt, cond, bit_and, Option, Some, None, true, false, inl, inr, refl, sym, ap, ◌∙◌, subst, ⊎_elim, arith}
+use Rattle.std.proofs.Common.{◌≡◌, ◌≢◌, ℕ, ◌+◌, ◌-◌, ◌<◌, ◌≤◌, ◌⊎◌, ◌==◌, ◌&&◌, nat_le, nat_lt, cond, bit_and, Option, Some, None, false, inl, inr, refl, sym, ap, ◌∙◌, subst, ⊎_elim, arith}
 use Rattle.std.specs.Int.{bit_at}
-use Rattle.std.proofs.lemmas.Bool.{cases_eq, cond-true, cond-false, eq-eqb, ne_eqb, and_from, and_left, and_right, lt-ltb, le-ltb, le-leb, lt-leb}
+use Rattle.std.proofs.lemmas.Bool.{cases_eq, cond-true, cond-false, eq-eqb}
 use Rattle.std.proofs.lemmas.Bool.Decides.{nat_tests}
 use Rattle.std.proofs.lemmas.Option.{none-some, same_Some}
 use Rattle.std.proofs.Math.Path.{fun_ext}
@@ -10,14 +10,14 @@ use Rattle.heap_words.specs.Words.{Word, Cset, Free, Top, Heap, write}
 use Rattle.heap_words.specs.Encoding.{header_word, plain_header}
 use Rattle.regions.specs.Sets.{IsIn, IsOutside, all_but}
 use Rattle.packing.proofs.Rooms.{has_room}
-use Rattle.regions.specs.Place.{region_with, IsOf}
+use Rattle.regions.specs.Place.{region_with}
 use Rattle.image_laws.specs.Full.{now_in}
 use Rattle.cset_laws.specs.Live.{words_at}
 use Rattle.cset_laws.specs.Copying.{tops_outside}
 use Rattle.cset_laws.specs.Copied.{CanCopyOut, copy_room, copy_in, copy_address, top_address, copied_in, copied_out, copied_to}
 use Rattle.cset_laws.proofs.Places.{of_its_region, regions_apart}
 use Rattle.cset_laws.proofs.CopiedOut.{outside_with_room, own_top}
-use Rattle.cset_laws.proofs.Clearing.{now_is}
+use Rattle.cset_laws.proofs.Copies.{now_is}
 use Rattle.cset_choice.specs.Steps.{words_copied}
 
 -- nothing is copied yet

@@ -1,25 +1,24 @@
 -- Roots and answers are cleared one after the other.
-use Rattle.std.proofs.Common.{length-append, ◌≡◌, ◌≢◌, ℕ, ◌+◌, ◌*◌, ◌^◌, ◌%◌, ◌<◌, ◌≤◌, ◌⊎◌, ◌==◌, ◌&&◌, if◌then◌else◌, nat_le, nat_eq, bit_and, true, false, zero, suc, List, [], ◌∷◌, ◌++◌, map, length, get_or, Option, Some, None, inl, inr, refl, sym, ap, ◌∙◌, subst, ⊎_elim, arith}
+use Rattle.std.proofs.Common.{length-append, ◌≡◌, ◌≢◌, ℕ, ◌+◌, ◌^◌, ◌%◌, ◌<◌, ◌≤◌, ◌⊎◌, ◌==◌, ◌&&◌, if◌then◌else◌, nat_le, nat_eq, true, false, suc, List, [], ◌∷◌, ◌++◌, length, get_or, None, inl, inr, refl, sym, ap, ◌∙◌, subst, ⊎_elim, arith}
 use Rattle.std.specs.Prelude.{Contains}
-use Rattle.std.specs.List.{IsDistinct, list_any, range_with_len}
+use Rattle.std.specs.List.{IsDistinct, list_any}
 use Rattle.std.specs.Int.{bit_at}
 use Rattle.std.proofs.Math.Path.{fun_ext}
-use Rattle.std.proofs.lemmas.Bool.{cases_eq, cases_Bool, cond-true, cond-false, eq-eqb, eqb-true, ne_eqb, leb-true, le-leb, and_parts, and_from, and_right, both_ways, false_from_ne_true}
+use Rattle.std.proofs.lemmas.Bool.{cases_eq, cases_Bool, cond-true, cond-false, eq-eqb, eqb-true, leb-true, le-leb, and_parts, and_from, both_ways, false_from_ne_true}
 use Rattle.std.proofs.lemmas.Option.{none-some}
 use Rattle.std.proofs.lemmas.Nat.{mod_below}
-use Rattle.std.proofs.lemmas.List.{get_or_append_left, get_or_push}
-use Rattle.std.proofs.lemmas.List.Elements.{Contains-push_cases, Contains-push, Contains-append_left, Contains-append_cases}
+use Rattle.std.proofs.lemmas.List.{get_or_push}
+use Rattle.std.proofs.lemmas.List.Elements.{Contains-push_cases, Contains-push, Contains-append_left}
 use Rattle.std.proofs.lemmas.Map.Keys.{IsDistinct-push}
 use Rattle.std.proofs.lemmas.Map.Views.{Contains-from_any, exact_unsigned_eq}
 use Rattle.std.proofs.lemmas.Cmp.{nat_eq_equiv}
 use Rattle.heap_words.specs.declared.config.Config.{Config}
-use Rattle.heap_words.specs.Words.{Word, Cset, Free, Top, Root, Answer, Black, Heap, same_word}
-use Rattle.heap_words.specs.Encoding.{header_word, is_forwarded, forwardee_in, object_words}
+use Rattle.heap_words.specs.Words.{Word, Cset, Top, Black, Heap, same_word}
+use Rattle.heap_words.specs.Encoding.{header_word, is_forwarded, object_words}
 use Rattle.heap_words.proofs.Stores.{same_word_refl, same_word_true}
 use Rattle.packing.specs.Places.{LieApart}
-use Rattle.packing.specs.Rooms.{lowest_room}
-use Rattle.regions.specs.Place.{base_of, region_with, IsOf}
-use Rattle.regions.specs.Sets.{IsIn, IsOutside, all_but}
+use Rattle.regions.specs.Place.{region_with, IsOf}
+use Rattle.regions.specs.Sets.{IsIn, IsOutside}
 use Rattle.regions.proofs.PlaceLemmas.{regions_tile}
 use Rattle.image_laws.specs.Full.{now_in}
 use Rattle.image_graph.specs.Make.{AreWithin}
@@ -27,130 +26,16 @@ use Rattle.mark_bits.specs.Marks.{mark_word, mark_bit}
 use Rattle.mark_laws.specs.Marks.{is_black}
 use Rattle.cset_laws.specs.Live.{words_at, marked_words, live_words, is_candidate}
 use Rattle.cset_laws.specs.Choice.{chosen, copy_limit}
-use Rattle.cset_laws.specs.Copying.{tops_outside, AreToCopy}
-use Rattle.cset_laws.specs.Copied.{CanCopyOut, copy_room, top_address, copied_word, copied_in, copied_to, copied_out, copied_by, IsCopiedOut}
-use Rattle.cset_laws.specs.Begun.{FreeAreEmpty, CanBegin, CanClear, CanClearInTurn, root_places, naming_places, IsNaming, is_collected, moved_out, cleared_at, cleared_in_turn, with_set, roots_cleared, IsCopyable, AreCleared}
+use Rattle.cset_laws.specs.Copying.{AreToCopy}
+use Rattle.cset_laws.specs.Copied.{CanCopyOut, copy_room, top_address, copied_out, copied_by, IsCopiedOut}
+use Rattle.cset_laws.specs.Begun.{FreeAreEmpty, CanBegin, CanClear, CanClearInTurn, naming_places, IsNaming, is_collected, moved_out, cleared_at, cleared_in_turn, with_set, roots_cleared, IsCopyable, AreCleared}
 use Rattle.cset_laws.specs.Laws.{RootsAreCleared}
 use Rattle.cset_laws.proofs.Places.{some_words, of_its_region, regions_apart}
 use Rattle.cset_laws.proofs.Front.{front_is}
 use Rattle.cset_laws.proofs.Fits.{above_first}
 use Rattle.cset_laws.proofs.Turns.{each_is_copied}
-
--- a word that names objects is none of the others
-not_same : (place word : Word) → IsNaming place → (IsNaming word → ⊥) → same_word place word ≡ false
-not_same place word naming other = false_from_ne_true (same_word place word) (λ same. other (subst IsNaming (same_word_true place word same) naming))
-
--- a header that was written reads back
-header_forwarded : (to : ℕ) → is_forwarded (header_word to) ≡ true
-header_forwarded to = eq-eqb ((4 * to + 3) % 4) 3 (omega arith)
-
-header_names : (to : ℕ) → forwardee_in (header_word to) ≡ to
-header_names to = omega arith
-
--- where the header names a copy, that is the current one
-pub now_is : (m : Word → ℕ) (a to : ℕ) → m (Heap a) ≡ header_word to → now_in m a ≡ to
-now_is m a to header =
-    cond-true (is_forwarded (m (Heap a))) (forwardee_in (m (Heap a))) a (ap is_forwarded header ∙ header_forwarded to)
-    ∙ ap forwardee_in header ∙ header_names to
-
--- the current copy goes by the header
-now_same : (m n : Word → ℕ) (a : ℕ) → m (Heap a) ≡ n (Heap a) → now_in m a ≡ now_in n a
-now_same m n a same = ap (λ header. if is_forwarded header then forwardee_in header else a) same
-
--- what is outside of the set is not collected
-not_collected : (c : Config) (m : Word → ℕ) (a : ℕ) → IsOutside (m Cset) (region_with c a) → is_collected c m a ≡ false
-not_collected c m a outside =
-    and_right (nat_le c.region_words a) (bit_at (m Cset) (region_with c a) == 1) (ne_eqb (bit_at (m Cset) (region_with c a)) 1 (λ member. omega (arith, member, outside)))
-
--- the words of the heap by their addresses
-abbrev heap_of : (Word → ℕ) → ℕ → ℕ
-heap_of m y = m (Heap y)
-
--- copying goes by the words that name no objects
-module _ (c : Config) (m n : Word → ℕ) (a : ℕ) (same : (word : Word) → (IsNaming word → ⊥) → m word ≡ n word) where
-  same_words_at : words_at m a ≡ words_at n a
-  same_words_at = ap object_words (same (Heap (a + 1)) (λ never. never))
-
-  same_heap : heap_of m ≡ heap_of n
-  same_heap = fun_ext (λ y. same (Heap y) (λ never. never))
-
-  same_copy_room : copy_room c m a ≡ copy_room c n a
-  same_copy_room =
-      ap (λ s. lowest_room c.region_words (tops_outside c.region_words s (λ r. m (Top r))) (words_at m a) c.regions) (same Cset (λ never. never))
-      ∙ ap (λ (top : ℕ → ℕ). lowest_room c.region_words (tops_outside c.region_words (n Cset) top) (words_at m a) c.regions) (fun_ext (λ r. same (Top r) (λ never. never)))
-      ∙ ap (λ k. lowest_room c.region_words (tops_outside c.region_words (n Cset) (λ r. n (Top r))) k c.regions) same_words_at
-
-  same_copied_to : (r : ℕ) (word : Word) → (IsNaming word → ⊥) → copied_to c m a r word ≡ copied_to c n a r word
-  unfolding copied_to
-  same_copied_to r (Heap x) other =
-      ap (λ t. if a == x then header_word (base_of c r + t) else copied_word (λ y. m (Heap y)) a (base_of c r + t) (words_at m a) x) (same (Top r) (λ never. never))
-      ∙ ap (λ (heap : ℕ → ℕ). if a == x then header_word (top_address c n r) else copied_word heap a (top_address c n r) (words_at m a) x) same_heap
-      ∙ ap (λ k. if a == x then header_word (top_address c n r) else copied_word (λ y. n (Heap y)) a (top_address c n r) k x) same_words_at
-  same_copied_to r (Top q) other =
-      ap (λ t. if r == q then t + words_at m a else m (Top q)) (same (Top r) (λ never. never))
-      ∙ ap (λ k. if r == q then n (Top r) + k else m (Top q)) same_words_at
-      ∙ ap (λ t. if r == q then n (Top r) + words_at n a else t) (same (Top q) (λ never. never))
-  same_copied_to r Free other = ap (λ free. bit_and free (all_but r)) (same Free (λ never. never))
-  same_copied_to r word other = same word other
-
-  same_copied_in : (o : Option ℕ) (word : Word) → (IsNaming word → ⊥) → copied_in c m a o word ≡ copied_in c n a o word
-  same_copied_in None word other = same word other
-  same_copied_in (Some r) word other = same_copied_to r word other
-
-  pub same_copied_out : (word : Word) → (IsNaming word → ⊥) → copied_out c m a word ≡ copied_out c n a word
-  same_copied_out word other = same_copied_in (copy_room c m a) word other ∙ ap (λ o. copied_in c n a o word) same_copy_room
-
--- what names objects stays
-copied_naming : (c : Config) (m : Word → ℕ) (a : ℕ) (o : Option ℕ) (place : Word) → IsNaming place → copied_in c m a o place ≡ m place
-unfolding copied_to
-copied_naming c m a None place naming = refl
-copied_naming c m a (Some r) (Root t i) naming = refl
-copied_naming c m a (Some r) (Answer t) naming = refl
-copied_naming c m a (Some r) place naming = absurd naming
-
--- copies of the first objects of a longer list
-copied_front : (c : Config) (m : Word → ℕ) (objects more : List ℕ) (k : ℕ) → k ≤ length objects → copied_by c m (objects ++ more) k ≡ copied_by c m objects k
-unfolding copied_by
-copied_front c m objects more zero below = refl
-copied_front c m objects more (suc k) below =
-    ap (λ a. copied_out c (copied_by c m (objects ++ more) k) a) (get_or_append_left objects more 0 k (omega (arith, below)))
-    ∙ ap (λ n. copied_out c n (get_or objects k 0)) (copied_front c m objects more k (omega (arith, below)))
-
-copied_next : (c : Config) (m : Word → ℕ) (objects : List ℕ) (k : ℕ) → copied_by c m objects (suc k) ≡ copied_out c (copied_by c m objects k) (get_or objects k 0)
-unfolding copied_by
-copied_next c m objects k = refl
-
--- the parts of a list, and what is in it
-first_or_later : (first : Word) (later : List Word) (place : Word) (k : ℕ) → k < length (first ∷ later) → get_or (first ∷ later) k place ≡ place
-    → (first ≡ place) ⊎ Contains later place
-first_or_later first later place zero below same = inl same
-first_or_later first later place (suc k) below same = inr (k, omega (arith, below), same)
-
-is_later : (first : Word) (later : List Word) (place : Word) → Contains later place → Contains (first ∷ later) place
-is_later first later place has = (suc has.0, omega (arith, has.1), has.2)
-
-is_first : (first : Word) (later : List Word) → Contains (first ∷ later) first
-is_first first later = (zero, omega arith, refl)
-
-all_naming : (f : ℕ → Word) (each : (i : ℕ) → IsNaming (f i)) (xs : List ℕ) (place : Word) → Contains (map f xs) place → IsNaming place
-all_naming f each [] place has = absurd (omega (arith, has.1))
-all_naming f each (x ∷ xs) place has = ⊎_elim
-    (λ (here : f x ≡ place). subst IsNaming here (each x))
-    (λ (later : Contains (map f xs) place). all_naming f each xs place later)
-    (first_or_later (f x) (map f xs) place has.0 has.1 has.2)
-
-roots_name : (t : ℕ) (place : Word) → Contains (root_places t) place → IsNaming place
-roots_name zero place has = absurd (omega (arith, has.1))
-roots_name (suc t) place has = ⊎_elim
-    (λ (earlier : Contains (root_places t) place). roots_name t place earlier)
-    (λ (last : Contains (map (Root t) (range_with_len 0 16)) place). all_naming (Root t) (λ i. tt) (range_with_len 0 16) place last)
-    (Contains-append_cases (root_places t) (map (Root t) (range_with_len 0 16)) place has)
-
-places_name : (c : Config) (place : Word) → Contains (naming_places c) place → IsNaming place
-places_name c place has = ⊎_elim
-    (λ (root : Contains (root_places c.mutators) place). roots_name c.mutators place root)
-    (λ (answer : Contains (map Answer (range_with_len 0 c.mutators)) place). all_naming Answer (λ t. tt) (range_with_len 0 c.mutators) place answer)
-    (Contains-append_cases (root_places c.mutators) (map Answer (range_with_len 0 c.mutators)) place has)
+use Rattle.cset_laws.proofs.Naming.{not_same, copied_naming, first_or_later, is_later, is_first, places_name, set_apart}
+use Rattle.cset_laws.proofs.Copies.{header_forwarded, now_is, now_same, not_collected, same_copy_room, same_copied_out, copied_front, copied_next}
 
 none_distinct : IsDistinct nat_eq []
 unfolding IsDistinct
@@ -570,12 +455,6 @@ module _ (c : Config) (before : Word → ℕ) (empty : FreeAreEmpty c before) (l
           and_from (nat_le c.region_words a) (bit_at (before Cset) (region_with c a) == 1)
           (le-leb c.region_words a (above_first c before (before Cset) objects to_copy a (to_copy.marked a has)))
           (eq-eqb (bit_at (before Cset) (region_with c a)) 1 (to_copy.in_set a has))
-
--- a collection set changes nothing else
-set_apart : (m : Word → ℕ) (set : ℕ) (place : Word) → IsNaming place → with_set m set place ≡ m place
-set_apart m set (Root t i) naming = refl
-set_apart m set (Answer t) naming = refl
-set_apart m set place naming = absurd naming
 
 module _ (c : Config) (memory : Word → ℕ) (begin : CanBegin c memory) where
   abbrev before : Word → ℕ

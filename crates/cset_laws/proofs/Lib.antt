@@ -8,5 +8,7 @@ pub mod Room
 pub mod Fits
 pub mod CopiedOut
 pub mod Turns
+pub mod Naming
+pub mod Copies
 pub mod Clearing
 pub mod Ready

@@ -1,17 +1,17 @@
 -- Where marking has run, evacuation can begin once it is ended.
-use Rattle.std.proofs.Common.{◌≡◌, ◌≢◌, ℕ, ◌+◌, ◌-◌, ◌*◌, ◌%◌, ◌<◌, ◌≤◌, ◌⊎◌, ◌==◌, ◌&&◌, nat_le, if◌then◌else◌, Bool, true, false, Option, Some, None, zero, suc, List, map, length, get_or, inl, inr, refl, sym, ap, ◌∙◌, subst, ⊎_elim, arith}
+use Rattle.std.proofs.Common.{◌≡◌, ◌≢◌, ℕ, ◌+◌, ◌<◌, ◌≤◌, ◌==◌, nat_le, Bool, true, false, Option, None, zero, suc, map, sym, ap, ◌∙◌, subst, ⊎_elim, arith}
 use Rattle.std.specs.Prelude.{Contains}
 use Rattle.std.specs.List.{range_with_len}
 use Rattle.std.specs.Int.{bit_at}
-use Rattle.std.proofs.lemmas.Bool.{cases_Bool, cond-true, cond-false, cond_both, and_parts, leb-true, eqb-true, false_from_ne_true, true≢false, both_ways}
+use Rattle.std.proofs.lemmas.Bool.{cases_Bool, cond-false, cond_both, and_parts, leb-true, eqb-true, false_from_ne_true, true≢false}
 use Rattle.std.proofs.lemmas.List.FromFn.{length-map-range_with_len, get_or-map-range_with_len}
 use Rattle.std.proofs.lemmas.List.Elements.{Contains-append_cases}
 use Rattle.std.proofs.lemmas.Nat.Bits.{bit_at-zero}
 use Rattle.heap_words.specs.declared.config.Config.{Config}
-use Rattle.heap_words.specs.Words.{Word, Cset, Top, Tams, Root, Answer, Heap}
-use Rattle.heap_words.specs.Encoding.{is_forwarded, object_words, shape_word}
+use Rattle.heap_words.specs.Words.{Word, Cset, Top, Root, Answer, Heap}
+use Rattle.heap_words.specs.Encoding.{is_forwarded, object_words}
 use Rattle.packing.specs.Places.{LieApart}
-use Rattle.regions.specs.Place.{base_of, region_with, IsOf}
+use Rattle.regions.specs.Place.{region_with}
 use Rattle.regions.specs.Sets.{IsIn}
 use Rattle.shen_graph.specs.Graph.{Graph}
 use Rattle.heap_world.specs.World.{Plot, thing}

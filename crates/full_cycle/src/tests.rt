@@ -149,7 +149,6 @@ fn shown(rt: &impl Abort, alloc: Global, image: &mut Image) -> Result<GraphText,
     requires { HoldsSome (config_of image.old) (memory_of image.old) }
 {
     let config = image.config();
-    assert_eq!(rt; image.word(config.cset_at()), 0);
     let mut text = GraphText::open(alloc, config.heap_size(), config.mutators())?;
     image.answer_graph(&mut text);
     Ok(text)

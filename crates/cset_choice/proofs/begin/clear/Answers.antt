@@ -1,4 +1,4 @@
-use Rattle.std.proofs.Common.{◌≡◌, ℕ, true, false, sym, ap, ◌∙◌}
+use Rattle.std.proofs.Common.{◌≡◌, ℕ, true, sym, ap, ◌∙◌}
 use Rattle.heap_words.specs.Words.{Word, write}
 use Rattle.image_laws.specs.Full.{now_in}
 use Rattle.image_graph.specs.State.{config_of, memory_of}

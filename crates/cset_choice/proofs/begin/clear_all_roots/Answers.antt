@@ -1,9 +1,9 @@
-use Rattle.std.proofs.Common.{◌≡◌, ◌<◌, ℕ, map, refl, sym, ap, ◌∙◌, subst, arith}
+use Rattle.std.proofs.Common.{◌<◌, ℕ, map, refl, sym, ap, ◌∙◌, subst, arith}
 use Rattle.std.specs.List.{range_with_len}
 use Rattle.heap_words.specs.declared.config.Config.{Config}
 use Rattle.heap_words.specs.Words.{Word, Root}
 use Rattle.image_graph.specs.State.{config_of, memory_of}
-use Rattle.cset_laws.specs.Begun.{CanClearInTurn, cleared_in_turn, root_places}
+use Rattle.cset_laws.specs.Begun.{CanClearInTurn, cleared_in_turn}
 use Rattle.cset_choice.proofs.Turns.{rows_none, rows_next, rows_can}
 use Rattle.cset_choice.proofs.begin.clear_all_roots.Goals as goal
 

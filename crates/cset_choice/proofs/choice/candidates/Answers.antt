@@ -1,5 +1,4 @@
-use Rattle.std.proofs.Common.{◌≡◌, ℕ, arith}
-use Rattle.heap_words.specs.Words.{Word}
+use Rattle.std.proofs.Common.{arith}
 use Rattle.image_graph.specs.State.{config_of, memory_of}
 use Rattle.mark_laws.proofs.Bits.{bits_small}
 use Rattle.cset_laws.specs.Live.{is_candidate}

@@ -1,4 +1,4 @@
-use Rattle.std.proofs.Common.{◌≡◌, ◌<◌, ap, ◌∙◌, arith}
+use Rattle.std.proofs.Common.{◌<◌, ap, arith}
 use Rattle.heap_words.specs.declared.config.Config.{Config}
 use Rattle.image_graph.specs.State.{config_of, memory_of}
 use Rattle.cset_choice.proofs.Choosing.{live_none, live_more}

@@ -1,4 +1,4 @@
-use Rattle.std.proofs.Common.{◌≤◌, ◌<◌, sym, ap, arith}
+use Rattle.std.proofs.Common.{◌<◌, sym, arith}
 use Rattle.packing.proofs.Sums.{sum_none}
 use Rattle.cset_choice.specs.Tables.{adds}
 use Rattle.cset_choice.proofs.Objects.{sum_more}

@@ -1,7 +1,7 @@
 use Rattle.std.proofs.Common.{◌≡◌, ◌⊎◌, ◌≤◌, ◌<◌, ◌+◌, ℕ, bit_and, sym, ap, ◌∙◌, subst, arith}
 use Rattle.heap_words.specs.declared.config.Config.{Config}
 use Rattle.heap_words.specs.Words.{Word, Free, Top, Heap, IsWord, word_at, write}
-use Rattle.heap_words.specs.Encoding.{header_word, plain_header, object_words}
+use Rattle.heap_words.specs.Encoding.{header_word, object_words}
 use Rattle.regions.specs.Place.{base_of}
 use Rattle.image_graph.specs.State.{config_of, memory_of}
 use Rattle.image_graph.specs.Make.{AreInHeap}
@@ -9,7 +9,6 @@ use Rattle.image_graph.proofs.Room.{room_in_heap}
 use Rattle.image_graph.proofs.Steps.{stored}
 use Rattle.cset_laws.specs.Live.{words_at}
 use Rattle.cset_laws.specs.Copied.{top_address}
-use Rattle.cset_choice.specs.Steps.{words_copied}
 use Rattle.cset_choice.proofs.Objects.{object_in_heap, word_of_heap}
 use Rattle.cset_choice.proofs.Copying.{copies_apart, copied_stores}
 use Rattle.cset_choice.proofs.copy.copy_to.Goals as goal

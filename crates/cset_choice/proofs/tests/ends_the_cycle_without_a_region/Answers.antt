@@ -1,6 +1,6 @@
-use Rattle.std.proofs.Common.{◌≡◌, sym, subst}
+use Rattle.std.proofs.Common.{sym, subst}
 use Rattle.heap_words.specs.declared.config.Config.{Config}
-use Rattle.image_graph.specs.State.{config_of, memory_of}
+use Rattle.image_graph.specs.State.{memory_of}
 use Rattle.mark_core.specs.Result.{MarksSome}
 use Rattle.cset_choice.proofs.Ready.{begins_after}
 use Rattle.cset_choice.proofs.tests.ends_the_cycle_without_a_region.Goals as goal
