@@ -1,0 +1,147 @@
+-- What the theorem of the steps says of evacuation.
+use Rattle.std.proofs.Common.{◌≡◌, ℕ, ◌+◌, ◌<◌, ⊎_elim, inl, inr, true, false, List, [], None, Some, refl, sym, ap, ◌∙◌, subst, arith}
+use Rattle.std.specs.Prelude.{slice_get}
+use Rattle.std.proofs.lemmas.Option.{same_Some}
+use Rattle.heap_words.specs.declared.config.Config.{Config}
+use Rattle.heap_words.specs.Encoding.{is_forwarded, forwardee_in}
+use Rattle.heap_words.specs.Ranges.{seat_count}
+use Rattle.heap_words.specs.Words.{Cset, Heap}
+use Rattle.steps_base.specs.Steps.{Stage, Event, go}
+use Rattle.shen_graph.specs.declared.name.Name.{Name}
+use Rattle.shen_graph.specs.declared.order.Order.{Order}
+use Rattle.shen_graph.specs.Graph.{Graph}
+use Rattle.shen_graph.specs.History.{Entry, after, of_thread}
+use Rattle.handshake.specs.Standing.{is_within, is_pausing}
+use Rattle.load_barrier.proofs.Knows.{header_forwarded, header_names}
+use Rattle.heap_world.specs.World.{World, moved, Body, body_at, body_words, IsCollected}
+use Rattle.heap_world.specs.Change.{Change, IsPause}
+use Rattle.evac_steps.proofs.Parts.{all_is_forwarded}
+use Rattle.mutator.specs.Rows.{Mutating}
+use Rattle.helper.specs.Rows.{Helping, touch_at}
+use Rattle.control_steps.specs.declared.spot.ControlSpot.{ControlSpot}
+use Rattle.control_steps.specs.declared.spot.ControlSpot.TheVariants.{Scanning, Evacuating}
+use Rattle.control_steps.specs.Rows.{Controlling}
+use Rattle.step_core.specs.Actor.{Machine, mutating, helping, controlling, Actor}
+use Rattle.step_core.specs.Begins.{Begins}
+use Rattle.step_core.specs.History.{history}
+use Rattle.step_core.specs.Machines.{kind}
+use Rattle.step_core.specs.Pausing.{IsInPause, IsEmpty}
+use Rattle.step_core.specs.Settled.{settled, control_number}
+use Rattle.step_core.specs.Sound.{world_of, IsMutator, StandsFor}
+use Rattle.step_core.specs.Standing.{control_standing}
+use Rattle.step_core.proofs.Beginning.{goes_begins}
+use Rattle.step_core.proofs.Facts.{IsMachine, IsThread, IsResting, HelpFacts, ControlFacts}
+use Rattle.step_core.proofs.Helpers.{rests_outside}
+use Rattle.step_core.proofs.Induction.{Goes, goes_run}
+use Rattle.step_core.proofs.Requests.{has_asked}
+use Rattle.step_core.proofs.Roles.{machine_there}
+use Rattle.step_core.proofs.Theorem.{run_pauses}
+use Rattle.evac_runs.specs.Runs.{IsLeading, HaveHeaders, HeadersLeadInRuns, touch_in, IsPublishing, IsSparing, AreSpared, CopiesAreSpared, AreAllForwarded, AllIsForwardedInRuns}
+use Rattle.evac_runs.proofs.Sparing.{help_mild, control_mild, spot_spare}
+
+-- What a stage says in which all goes as it should.
+module _ (c : Config) (g : Graph) (s : Stage Actor) (h : List Entry) (goes : Goes c g s h) where
+  abbrev the_world : World
+  the_world = world_of c s goes.follows.block goes.follows.ghost (after g h)
+
+  -- of a mutator
+  thread_of : (number : ℕ) (a : Actor) (m : Mutating) → IsMutator s number a m → IsThread c s.words the_world (of_thread h (number + 1)) number a m
+  thread_of number a m here = subst (λ machine. IsMachine c s.words the_world (of_thread h (number + 1)) number a machine) here.is (goes.follows.machines number a here.here)
+
+  -- words and machines stand for the graph
+  abbrev stands : StandsFor c s (after g h)
+  stands = record {
+    block = goes.follows.block;
+    ghost = goes.follows.ghost;
+    shared = goes.follows.shared;
+    in_hand = λ a seat words is. (goes.follows.shared.owned.rooms a seat words is).seated;
+    promised_to = goes.follows.promised_to;
+    mutators = λ number a m here. let mine = (thread_of number a m here).mine in record { made = mine.seated.counted; roots = mine.roots; hands = mine.hands };
+    asked = λ number a m here going. let thread = thread_of number a m here in has_asked c the_world m.seat m.made m.kept a.command thread.fixed m.spot going thread.mine;
+  }
+
+  -- headers of old copies lead to current ones
+  pub have_headers : HaveHeaders c s (after g h)
+  have_headers = record {
+    stands = stands;
+    old = λ a refs nums to name is.
+        let old = goes.follows.shared.evacuated.moved.moveds a refs nums to name is in
+        record {
+          inside = old.inside;
+          forwarded = ap is_forwarded old.header ∙ header_forwarded to;
+          leads = ap forwardee_in old.header ∙ header_names to;
+          current = old.copy;
+          outside = old.outside;
+          plain = (goes.follows.shared.contents.objects.each to refs nums name old.copy).2.header;
+        };
+    current = λ a refs nums name is. (goes.follows.shared.contents.objects.each a refs nums name is).2.header;
+    once = goes.follows.shared.contents.objects.once;
+  }
+
+  module _ (number : ℕ) (order : Order) (a k : ℕ) (b : Body) (inside : IsCollected c (settled c s Cset) a) (is : body_at (goes.follows.block a) ≡ Some b) (below : k < body_words b) where
+    -- what the access of a machine is, by its role
+    spares : (x : Actor) (machine : Machine) → IsMachine c s.words the_world (of_thread h (number + 1)) number x machine → (touch_in c order machine).word ≡ Heap (a + k) → IsSparing c the_world number order machine a b
+    spares x (mutating m) facts word = ⊎_elim
+        (λ loaded. inl loaded)
+        (λ more. inr (⊎_elim
+        (λ published. inl (subst (λ seat. IsPublishing c the_world seat a b (touch_in c order (mutating m))) facts.number_is published))
+        (λ still. inr (record { mutator = m; is = refl; writes = still.0; current = still.1.0; quiet = still.1.1 }))
+        more))
+        (spot_spare c the_world goes.follows.shared a k b is below inside m.seat m.made m.kept x.command facts.fixed order m.spot facts.mine.facts word)
+    spares x (helping m) facts word = ⊎_elim
+        (λ loaded. inl loaded)
+        (λ published. inr (inl (subst (λ seat. IsPublishing c the_world seat a b (touch_in c order (helping m))) facts.number_is published)))
+        (help_mild c the_world goes.follows.shared a k b is below inside m.seat m.spot (subst (λ seat. HelpFacts c the_world seat m.spot) (sym facts.number_is) facts.facts) word)
+    spares x (controlling m) facts word = ⊎_elim
+        (λ loaded. inl loaded)
+        (λ published. inr (inl (subst (λ seat. IsPublishing c the_world seat a b (touch_in c order (controlling m))) (sym facts.number_is) published)))
+        (control_mild c the_world goes.follows.shared a k b is below inside m.spot (subst (λ seat. ControlFacts c the_world seat m.spot) facts.number_is facts.facts) word)
+
+  -- copies are spared
+  pub are_spared : AreSpared c s (after g h)
+  are_spared = record {
+    stands = stands;
+    spared = λ number x order a k b here takes inside is below word. spares number order a k b inside is below x x.machine (goes.follows.machines number x here) word;
+  }
+
+  module _ (pause : IsInPause c s) (empty : IsEmpty c s) where
+    -- the control rests in a pause
+    control_rests : (number : ℕ) (spot : ControlSpot) → is_pausing (control_standing spot) ≡ true → ControlFacts c the_world number spot → IsResting the_world number
+    control_rests number (Scanning at) on facts = absurd (cc (on))
+    control_rests number (Evacuating cset at) on facts = absurd (cc (on))
+    control_rests number _ on facts = facts
+
+    -- no machine works on a unit
+    idle_at : (number : ℕ) (x : Actor) (machine : Machine) → slice_get s.machines number ≡ Some x → x.machine ≡ machine → IsMachine c s.words the_world (of_thread h (number + 1)) number x machine
+        → goes.follows.ghost.working number ≡ None
+    idle_at number x (mutating m) here role facts = subst (λ seat. goes.follows.ghost.working seat ≡ None) facts.number_is facts.mine.copying.works_none
+    idle_at number x (helping m) here role facts = (rests_outside c the_world number m.spot (empty.no_helper number x m (record { here = here; is = role })) facts.facts).works_none
+    idle_at number x (controlling m) here role facts =
+        let there : slice_get s.machines (control_number c) ≡ Some x = ap (λ n. slice_get s.machines n) (sym facts.number_is) ∙ here in
+        let same : x ≡ pause.actor = same_Some x pause.actor (sym there ∙ pause.here) in
+        let spots : controlling m ≡ controlling pause.control = sym role ∙ ap (λ y. y.machine) same ∙ pause.is in
+        let one : m ≡ pause.control = (let both = spots in cc) in
+        (control_rests number m.spot (ap (λ y. is_pausing (control_standing y.spot)) one ∙ pause.pausing) facts.facts).works_none
+
+    idle : (number : ℕ) → number < seat_count c.mutators c.helpers → goes.follows.ghost.working number ≡ None
+    idle number below =
+        let there = machine_there c s.words the_world h s.machines goes.follows.seats number below in
+        idle_at number there.0 there.0.machine there.1 refl (goes.follows.machines number there.0 there.1)
+
+    -- each marked object of the set is forwarded
+    pub are_forwarded : AreAllForwarded c s
+    are_forwarded on all room a low inside marked = all_is_forwarded c the_world goes.follows.shared on idle all room a low inside marked
+
+-- in each stage that events lead to all goes as it should
+stage_goes : (change : Change) → IsPause change → (c : Config) (s : Stage Actor) (g : Graph) → Begins c s g → (events : List (Event Order)) → Goes c g (go (kind change c) s events) (history change c s events)
+stage_goes change law c s g begins events = goes_run change law c g s [] events (goes_begins c s g begins)
+
+pub headers_lead_in_runs : HeadersLeadInRuns
+headers_lead_in_runs change law c s g begins events = have_headers c g (go (kind change c) s events) (history change c s events) (stage_goes change law c s g begins events)
+
+pub copies_are_spared : CopiesAreSpared
+copies_are_spared change law c s g begins events = are_spared c g (go (kind change c) s events) (history change c s events) (stage_goes change law c s g begins events)
+
+pub all_is_forwarded_in_runs : AllIsForwardedInRuns
+all_is_forwarded_in_runs change law c s g begins events pause =
+    are_forwarded c g (go (kind change c) s events) (history change c s events) (stage_goes change law c s g begins events) pause (run_pauses change law c s g begins events pause)

@@ -1,0 +1,260 @@
+-- What the accesses of machines to words of copies in the collection set are, by where they stand.
+use Rattle.std.proofs.Common.{◌≡◌, ◌≢◌, ℕ, ◌⊎◌, inl, inr, ⊎_elim, ◌+◌, ◌<◌, true, Some, Option, refl, sym, ap, ◌∙◌, subst, arith}
+use Rattle.std.proofs.lemmas.Option.{same_Some}
+use Rattle.heap_words.specs.declared.config.Config.{Config}
+use Rattle.heap_words.specs.declared.place.Place.{Place}
+use Rattle.heap_words.specs.Encoding.{plain_header, header_word}
+use Rattle.heap_words.specs.Words.{Cset, Evac, Top, Heap}
+use Rattle.steps_base.specs.Touch.{Touch, touch, loads, exchanges}
+use Rattle.shen_graph.specs.declared.name.Name.{Name}
+use Rattle.shen_graph.specs.declared.command.Command.{Command}
+use Rattle.shen_graph.specs.declared.command.Reply.{Reply}
+use Rattle.shen_graph.specs.declared.order.Order.{Order}
+use Rattle.shen_graph.specs.declared.order.Order.TheVariants.{Nothing, Begin, End}
+use Rattle.evac_room.specs.Counter.{IsQuiet}
+use Rattle.handshake.specs.declared.enter_spot.EnterSpot.{EnterSpot}
+use Rattle.handshake.specs.declared.enter_spot.EnterSpot.TheVariants as enter
+use Rattle.handshake.specs.declared.stop_spot.StopSpot.{StopSpot}
+use Rattle.handshake.specs.declared.stop_spot.StopSpot.TheVariants as stop
+use Rattle.handshake.specs.Rows.{enter_touch, stop_touch}
+use Rattle.alloc_buffers.specs.declared.spot.TakeSpot.{TakeSpot}
+use Rattle.alloc_buffers.specs.declared.spot.TakeSpot.TheVariants as take
+use Rattle.alloc_buffers.specs.Rows as takes
+use Rattle.satb_barrier.specs.declared.spot.RememberSpot.{RememberSpot}
+use Rattle.satb_barrier.specs.declared.spot.RememberSpot.TheVariants as remember
+use Rattle.satb_barrier.specs.Rows as satb
+use Rattle.scan_steps.specs.declared.spot.ScanSpot.{ScanSpot}
+use Rattle.scan_steps.specs.declared.spot.ScanSpot.TheVariants as scan
+use Rattle.scan_steps.specs.Rows as scans
+use Rattle.load_barrier.specs.declared.copying.CopySpot.TheVariants.{Publish}
+use Rattle.load_barrier.specs.declared.spot.ResolveSpot.{ResolveSpot}
+use Rattle.load_barrier.specs.declared.spot.ResolveSpot.TheVariants.{Copying}
+use Rattle.load_barrier.specs.Rows as resolves
+use Rattle.load_barrier.specs.declared.evac_spot.EvacSpot.{EvacSpot}
+use Rattle.load_barrier.specs.declared.evac_spot.EvacSpot.TheVariants as evac
+use Rattle.load_barrier.specs.UnitRows as evacs
+use Rattle.heap_world.specs.World.{World, thing, hand, Body, body_at, body_words, IsCollected, TargetIn, Shared}
+use Rattle.heap_world.proofs.Apart.{one_piece, far}
+use Rattle.heap_world.proofs.Pointing.{copy_cases, body_piece}
+use Rattle.copy_steps.specs.Resolving.{IsCopied, ResolveFacts, CanResolve}
+use Rattle.copy_steps.proofs.Parts.{resolving_steps}
+use Rattle.evac_steps.specs.Evacuating.{CanEvacuate}
+use Rattle.mutator.specs.declared.spot.Kept.{Kept}
+use Rattle.mutator.specs.declared.spot.Spot.{Spot}
+use Rattle.mutator.specs.declared.spot.Spot.TheVariants.{Rest, Ended, Entering, LoadPhase, LoadSet, Loading, OnField, Resolving, Recording, OnNumber, Showing, StoreRoot, Making, AskCycle, Waiting, Leave, Gone}
+use Rattle.mutator.specs.declared.loads.LoadSpot.{LoadSpot}
+use Rattle.mutator.specs.declared.loads.LoadSpot.TheVariants as load
+use Rattle.mutator.specs.declared.fields.FieldSpot.{FieldSpot}
+use Rattle.mutator.specs.declared.fields.FieldSpot.TheVariants as fields
+use Rattle.mutator.specs.declared.numbers.NumberSpot.{NumberSpot}
+use Rattle.mutator.specs.declared.numbers.NumberSpot.TheVariants as numbers
+use Rattle.mutator.specs.declared.shows.ShowSpot.{ShowSpot}
+use Rattle.mutator.specs.declared.shows.ShowSpot.TheVariants as show
+use Rattle.mutator.specs.declared.makes.MakeSpot.{MakeSpot}
+use Rattle.mutator.specs.declared.makes.MakeSpot.TheVariants as make
+use Rattle.mutator.specs.declared.waits.WaitSpot.{WaitSpot}
+use Rattle.mutator.specs.declared.waits.WaitSpot.TheVariants as wait
+use Rattle.mutator.specs.Commands.{index_of}
+use Rattle.mutator.specs.Rows.{load_touch, field_place, field_touch, number_place, number_touch, show_touch, make_touch, first_touch, touch_at, place_at}
+use Rattle.mutator.specs.WaitRows.{wait_touch}
+use Rattle.helper.specs.declared.spot.HelpSpot.{HelpSpot}
+use Rattle.helper.specs.declared.spot.HelpSpot.TheVariants as help
+use Rattle.helper.specs.Rows as helps
+use Rattle.control_steps.specs.declared.spot.ControlSpot.{ControlSpot}
+use Rattle.control_steps.specs.declared.spot.ControlSpot.TheVariants as control
+use Rattle.control_steps.specs.Rows.{control_touch}
+use Rattle.step_core.specs.Stepped.{FieldFacts, NumberFacts, MakeFacts, SpotFacts}
+use Rattle.step_core.proofs.Facts.{HelpFacts, ControlFacts}
+use Rattle.evac_runs.specs.Runs.{IsPublishing, is_write}
+
+module _ (c : Config) (w : World) (shared : Shared c w) (d k : ℕ) (b : Body) (is : body_at (w.block d) ≡ Some b) (below : k < body_words b) (inside : IsCollected c (w.memory Cset) d) where
+  -- what an access of a seat is, if it is of the word
+  abbrev IsMild : ℕ → Touch → Type 0
+  IsMild seat t = t.word ≡ Heap (d + k) → (t.form ≡ loads) ⊎ IsPublishing c w seat d b t
+
+  -- one word of the heap has one address
+  one_address : (x y : ℕ) → Heap x ≡ Heap y → x ≡ y
+  one_address x y same = cc
+
+  -- the exchange that publishes a copy
+  publishing : (seat a copy : ℕ) (at : ResolveSpot) → at ≡ Copying copy Publish → d ≡ a → ResolveFacts c w seat a (Copying copy Publish) → IsPublishing c w seat d b (resolves.touch_at c seat a at)
+  publishing seat a copy at stands one facts =
+      let same : facts.0 ≡ b = same_Some facts.0 b (sym facts.1 ∙ ap (λ x. body_at (w.block x)) (sym one) ∙ is) in
+      record {
+        copy = copy;
+        access = ap (λ x. resolves.touch_at c seat a x) stands ∙ ap (λ x. touch (Heap x) (exchanges plain_header (header_word copy))) (sym one);
+        copied = subst (λ x. IsCopied w seat x copy b (body_words b)) (sym one) (subst (λ y. IsCopied w seat a copy y (body_words y)) same facts.2.0);
+        plain = facts.2.1;
+      }
+
+  -- of who resolves an address
+  resolve_mild : (seat a : ℕ) (at : ResolveSpot) → CanResolve c w seat a at → IsMild seat (resolves.touch_at c seat a at)
+  resolve_mild seat a at can word = ⊎_elim
+      (λ loaded. inl loaded)
+      (λ published. inr (publishing seat a published.0 at published.1 published.2 (subst (λ x. ResolveFacts c w seat a x) published.1 can.facts)))
+      (resolving_steps.spares c w seat a at d k b shared can is below word)
+
+  -- of who evacuates
+  evac_mild : (seat cset : ℕ) (at : EvacSpot) → CanEvacuate c w seat cset at → IsMild seat (evacs.touch_at c seat at)
+  evac_mild seat cset (evac.ClaimUnit unit) can word = absurd (cc (word))
+  evac_mild seat cset (evac.Resolving address end next at) can word = resolve_mild seat address at can.facts.1 word
+  evac_mild seat cset _ can word = inl refl
+
+  -- of who scans
+  scan_mild : (seat : ℕ) (at : ScanSpot) → IsMild seat (scans.touch_at c at)
+  scan_mild seat (scan.ClaimUnit unit) word = absurd (cc (word))
+  scan_mild seat (scan.SetBlack address) word = absurd (cc (word))
+  scan_mild seat (scan.SetGrey address field refs found) word = absurd (cc (word))
+  scan_mild seat _ word = inl refl
+
+  -- of who enters
+  enter_mild : (seat : ℕ) (at : EnterSpot) → IsMild seat (enter_touch seat at)
+  enter_mild seat enter.Raise word = absurd (cc (word))
+  enter_mild seat enter.Lower word = absurd (cc (word))
+  enter_mild seat _ word = inl refl
+
+  -- of who stops the others
+  stop_mild : (seat : ℕ) (at : StopSpot) → IsMild seat (stop_touch at)
+  stop_mild seat stop.Raise word = absurd (cc (word))
+  stop_mild seat _ word = inl refl
+
+  -- of a helper
+  pub help_mild : (seat : ℕ) (spot : HelpSpot) → HelpFacts c w seat spot → IsMild seat (helps.touch_at c seat spot)
+  help_mild seat help.LoadEnd facts word = inl refl
+  help_mild seat (help.Entering at) facts word = enter_mild seat at word
+  help_mild seat help.LoadPhase facts word = inl refl
+  help_mild seat (help.LoadSet phase) facts word = inl refl
+  help_mild seat (help.Scanning at) facts word = scan_mild seat at word
+  help_mild seat (help.Evacuating cset at) facts word = evac_mild seat cset at facts word
+  help_mild seat help.Leave facts word = absurd (cc (word))
+  help_mild seat help.Gone facts word = inl refl
+
+  -- and of the control
+  pub control_mild : (spot : ControlSpot) → ControlFacts c w (c.mutators + c.helpers) spot → IsMild (c.mutators + c.helpers) (control_touch c spot)
+  control_mild control.StoreEnd facts word = absurd (cc (word))
+  control_mild (control.Scanning at) facts word = scan_mild (c.mutators + c.helpers) at word
+  control_mild (control.Evacuating cset at) facts word = evac_mild (c.mutators + c.helpers) cset at facts word
+  control_mild (control.Stopping at) facts word = stop_mild (c.mutators + c.helpers) at word
+  control_mild control.Go facts word = absurd (cc (word))
+  control_mild _ facts word = inl refl
+
+  -- the object's current copy is there, and nobody copies any more
+  abbrev IsStill : Type 0
+  IsStill = (w.block d ≡ Some (thing b.name b.refs b.nums)) × IsQuiet (w.memory Evac)
+
+  -- what an access of a mutator is
+  abbrev pub IsSpare : ℕ → Touch → Place → Type 0
+  IsSpare seat t place = t.word ≡ Heap (d + k) → (t.form ≡ loads) ⊎ (IsPublishing c w seat d b t ⊎ ((is_write place ≡ true) × IsStill))
+
+  mild_spare : (seat : ℕ) (t : Touch) (place : Place) → IsMild seat t → IsSpare seat t place
+  mild_spare seat t place mild word = ⊎_elim (λ loaded. inl loaded) (λ published. inr (inl published)) (mild word)
+
+  -- a word of an object that may be used is one of a copy in the set only if nobody copies any more
+  written : (object at refs nums : ℕ) (name : Name) → TargetIn c w object refs nums name → at < 3 + refs + nums → object + at ≡ d + k → IsStill
+  written object at refs nums name target within same =
+      let piece = body_piece (w.block d) b is in
+      let long = piece.2 in
+      let one : d ≡ object = one_piece c (λ r. w.memory (Top r)) w.block shared.parsable.plotted d object (d + k) piece.0 (thing name refs nums) piece.1 target.piece
+      (omega arith) (omega (arith, below, long)) (omega (arith, same)) (omega (arith, same, within)) in
+      (
+        ⊎_elim (λ now. now) (λ was. absurd (let both = sym (ap w.block one ∙ target.piece) ∙ was.1 in cc)) (copy_cases (w.block d) b is),
+        target.safe (subst (λ x. IsCollected c (w.memory Cset) x) one inside),
+      )
+
+  -- no word of room in hand is one of a copy
+  room_far : (seat address index words : ℕ) → w.block address ≡ Some (hand seat words) → index < words → address + index ≢ d + k
+  room_far seat address index words room within =
+      let piece = body_piece (w.block d) b is in
+      let long = piece.2 in
+      far c (λ r. w.memory (Top r)) w.block shared.parsable.plotted address d index k (hand seat words) piece.0 room piece.1
+      (λ same. let both = sym (ap body_at room) ∙ (ap (λ x. body_at (w.block x)) same ∙ is) in cc) within (omega (arith, below, long))
+
+  -- by the parts of a call
+  load_mild : (seat : ℕ) (command : Command) (at : LoadSpot) → IsMild seat (load_touch seat command at)
+  load_mild seat command load.First word = inl refl
+  load_mild seat command (load.Second first) word = inl refl
+  load_mild seat command (load.Third first second) word = inl refl
+  load_mild seat command (load.Shape object second third) word = inl refl
+
+  field_spare : (seat : ℕ) (kept command : Command) (fixed : Option Reply) (object : ℕ) (at : FieldSpot) → FieldFacts c w seat kept command fixed object at → IsSpare seat (field_touch object kept at) (field_place at)
+  field_spare seat kept command fixed object fields.Load facts word = inl refl
+  field_spare seat kept command fixed object (fields.LoadExpected expect value) facts word = inl refl
+  field_spare seat kept command fixed object (fields.LoadOld value) facts word = inl refl
+  field_spare seat kept command fixed object (fields.Store value) facts word =
+      let set = facts.1 in let within = set.below in let same = one_address (object + 3 + index_of kept) (d + k) word in
+      inr (inr (refl, written object (3 + index_of kept) set.of.refs set.of.nums set.of.name set.of.target (omega (arith, within)) (omega (arith, same))))
+  field_spare seat kept command fixed object (fields.Swap value) facts word =
+      let swap = facts.1 in let within = swap.below in let same = one_address (object + 3 + index_of kept) (d + k) word in
+      inr (inr (refl, written object (3 + index_of kept) swap.of.refs swap.of.nums swap.of.name swap.of.target (omega (arith, within)) (omega (arith, same))))
+  field_spare seat kept command fixed object (fields.Exchange found expect value) facts word =
+      let cas = facts.1 in let within = cas.below in let same = one_address (object + 3 + index_of kept) (d + k) word in
+      inr (inr (refl, written object (3 + index_of kept) cas.of.refs cas.of.nums cas.of.name cas.of.target (omega (arith, within)) (omega (arith, same))))
+
+  number_spare : (seat : ℕ) (kept command : Command) (fixed : Option Reply) (object refs : ℕ) (at : NumberSpot) → NumberFacts c w seat kept command fixed object refs at → IsSpare seat (number_touch object refs kept at) (number_place at)
+  number_spare seat kept command fixed object refs numbers.Load facts word = inl refl
+  number_spare seat kept command fixed object refs numbers.Store facts word =
+      let wr = facts.1 in let within = wr.below in let long = wr.refs_are in let same = one_address (object + 3 + refs + index_of kept) (d + k) word in
+      inr (inr (refl, written object (3 + refs + index_of kept) wr.of.refs wr.of.nums wr.of.name wr.of.target (omega (arith, within, long)) (omega (arith, same))))
+
+  remember_mild : (seat address : ℕ) (at : RememberSpot) → IsMild seat (satb.touch_at c seat address at)
+  remember_mild seat address remember.LoadCount word = inl refl
+  remember_mild seat address (remember.LoadEntry entry) word = inl refl
+  remember_mild seat address remember.Recorded word = inl refl
+  remember_mild seat address (remember.MarkEntry entry found) word = absurd (cc (word))
+  remember_mild seat address remember.ClearCount word = absurd (cc (word))
+  remember_mild seat address (remember.StoreEntry entry) word = absurd (cc (word))
+  remember_mild seat address (remember.StoreCount entry) word = absurd (cc (word))
+
+  show_mild : (seat value : ℕ) (command : Command) (at : ShowSpot) → IsMild seat (show_touch seat value command at)
+  show_mild seat value command show.LoadName word = inl refl
+  show_mild seat value command (show.StoreRoot reply) word = absurd (cc (word))
+
+  take_mild : (seat words : ℕ) (at : TakeSpot) → IsMild seat (takes.touch_at seat words at)
+  take_mild seat words take.LoadCurrent word = inl refl
+  take_mild seat words (take.LoadTop region) word = inl refl
+  take_mild seat words take.LoadFree word = inl refl
+  take_mild seat words (take.Ended taken) word = inl refl
+  take_mild seat words (take.TakeRegion region) word = absurd (cc (word))
+  take_mild seat words (take.StoreCurrent region) word = absurd (cc (word))
+  take_mild seat words (take.StoreTop region top) word = absurd (cc (word))
+
+  make_mild : (seat made : ℕ) (kept command : Command) (fixed : Option Reply) (at : MakeSpot) → MakeFacts c w seat made kept command fixed at → IsMild seat (make_touch seat made kept at)
+  make_mild seat made kept command fixed (make.Taking at) facts word = take_mild seat _ at word
+  make_mild seat made kept command fixed (make.StoreWord address done) facts word = absurd (room_far seat address done _ facts.1.room facts.2 (one_address _ _ word))
+  make_mild seat made kept command fixed (make.StoreRoot address) facts word = absurd (cc (word))
+
+  wait_mild : (seat made : ℕ) (command : Command) (at : WaitSpot) → IsMild seat (wait_touch seat made command at)
+  wait_mild seat made command wait.Poll word = inl refl
+  wait_mild seat made command wait.LoadAnswer word = inl refl
+  wait_mild seat made command wait.StoreRequest word = absurd (cc (word))
+  wait_mild seat made command wait.AskRoom word = absurd (cc (word))
+  wait_mild seat made command wait.StepOut word = absurd (cc (word))
+  wait_mild seat made command (wait.StoreRoot address) word = absurd (cc (word))
+  wait_mild seat made command (wait.ClearAnswer reply) word = absurd (cc (word))
+
+  -- between two calls
+  first_mild : (seat : ℕ) (order : Order) → IsMild seat (first_touch seat order)
+  first_mild seat Nothing word = absurd (cc (word))
+  first_mild seat (Begin command) word = absurd (cc (word))
+  first_mild seat End word = absurd (cc (word))
+
+  -- and of a mutator
+  pub spot_spare : (seat made : ℕ) (kept : Kept) (command : Command) (fixed : Option Reply) (order : Order) (spot : Spot) → SpotFacts c w seat made kept command fixed spot
+      → IsSpare seat (touch_at c seat made kept order spot) (place_at order spot)
+  spot_spare seat made kept command fixed order Rest facts word = mild_spare seat _ (place_at order Rest) (first_mild seat order) word
+  spot_spare seat made kept command fixed order (Ended reply) facts word = mild_spare seat _ (place_at order (Ended reply)) (first_mild seat order) word
+  spot_spare seat made kept command fixed order (Entering at next) facts word = mild_spare seat _ (place_at order (Entering at next)) (enter_mild seat at) word
+  spot_spare seat made kept command fixed order LoadPhase facts word = inl refl
+  spot_spare seat made kept command fixed order LoadSet facts word = inl refl
+  spot_spare seat made kept command fixed order (Loading at) facts word = mild_spare seat _ (place_at order (Loading at)) (load_mild seat kept.command at) word
+  spot_spare seat made kept command fixed order (OnField object at) facts word = field_spare seat kept.command command fixed object at facts word
+  spot_spare seat made kept command fixed order (Resolving address at next) facts word = mild_spare seat _ (place_at order (Resolving address at next)) (resolve_mild seat address at facts.0) word
+  spot_spare seat made kept command fixed order (Recording at address next) facts word = mild_spare seat _ (place_at order (Recording at address next)) (remember_mild seat address at) word
+  spot_spare seat made kept command fixed order (OnNumber object refs at) facts word = number_spare seat kept.command command fixed object refs at facts word
+  spot_spare seat made kept command fixed order (Showing value at) facts word = mild_spare seat _ (place_at order (Showing value at)) (show_mild seat value kept.command at) word
+  spot_spare seat made kept command fixed order (StoreRoot value) facts word = absurd (cc (word))
+  spot_spare seat made kept command fixed order (Making at) facts word = mild_spare seat _ (place_at order (Making at)) (make_mild seat made kept.command command fixed at facts) word
+  spot_spare seat made kept command fixed order AskCycle facts word = absurd (cc (word))
+  spot_spare seat made kept command fixed order (Waiting at) facts word = mild_spare seat _ (place_at order (Waiting at)) (wait_mild seat made kept.command at) word
+  spot_spare seat made kept command fixed order (Leave reply) facts word = absurd (cc (word))
+  spot_spare seat made kept command fixed order Gone facts word = inl refl

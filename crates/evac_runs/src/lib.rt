@@ -1,0 +1,24 @@
+//! What holds of evacuation in every run of a heap, whatever its threads, helpers and control do and in whatever order: laws, as
+//! theorems and no code. They hold of any work that is a pause's.
+#![tactic(auto)]
+
+ghost use Rattle.evac_runs.specs.Runs.{HeadersLeadInRuns, CopiesAreSpared, AllIsForwardedInRuns};
+
+/// A law: after every list of steps each old copy of an object lies in the collection set, and its header leads to the object's one
+/// current copy, which lies outside and has the header of an object that has not moved.
+pub fn headers_lead_in_runs()
+    ensures { HeadersLeadInRuns }
+{}
+
+/// A law: after every list of steps, the next access of a machine, where it is of a word of a copy in the collection set, is a load, or
+/// publishes another copy, or nobody copies any more and it is that of a mutator to the object's current copy. Of the accesses of a pause
+/// to its image this law says nothing.
+pub fn copies_are_spared()
+    ensures { CopiesAreSpared }
+{}
+
+/// A law: in a pause in phase 2, once all regions are claimed and if there was always room, each marked object of the collection set is
+/// forwarded.
+pub fn all_is_forwarded_in_runs()
+    ensures { AllIsForwardedInRuns }
+{}
