@@ -219,12 +219,14 @@ module _ (c : Config) (u : World) (seat words : ℕ) (kind : Kind) where
               (λ (differs : region ≢ r). inl (sym (updated_else u.ghost.owner region (Some seat) r differs) ∙ is))
               (cases_eq region r));
         };
-        own = (subst (λ s. CanTake c (taken_world region) seat words s)
-            (sym (cond-true (bit_at (u.memory Free) region == 1) (StoreCurrent region) LoadFree won))
-            (can_at (TakeRegion region) refl shared can (StoreCurrent region) (taken_world region) refl refl refl
-            (and_from _ _ (and_from _ _ (lt-ltb seat (seat_count c.mutators c.helpers) can.seated) (lt-ltb (region + 1) (2 ^ 64) (omega (arith, within, few)))) (lt-ltb _ _ within))
-            (record { within = within; own = updated_there u.ghost.owner region (Some seat); empty = shared.owned.free_word.empty region within bit })),
-            record { copying = refl; working = refl });
+        own = (
+          subst (λ s. CanTake c (taken_world region) seat words s)
+              (sym (cond-true (bit_at (u.memory Free) region == 1) (StoreCurrent region) LoadFree won))
+              (can_at (TakeRegion region) refl shared can (StoreCurrent region) (taken_world region) refl refl refl
+              (and_from _ _ (and_from _ _ (lt-ltb seat (seat_count c.mutators c.helpers) can.seated) (lt-ltb (region + 1) (2 ^ 64) (omega (arith, within, few)))) (lt-ltb _ _ within))
+              (record { within = within; own = updated_there u.ghost.owner region (Some seat); empty = shared.owned.free_word.empty region within bit })),
+          record { copying = refl; working = refl },
+        );
         keeps = (let marks = same_in (taken_world region) refl refl refl (λ n. refl) (λ t. refl) (λ t k. refl) (λ a. refl) refl seat refl in let kept = marks.keeps in let copied = (same_in_set (taken_world region) refl refl refl (λ r. refl) seat refl refl (λ a. refl)).keeps in search (arith, nat_tests, kept, copied));
         others = λ j d. record {
           names = λ a n is. is;
@@ -271,9 +273,12 @@ module _ (c : Config) (u : World) (seat words : ℕ) (kind : Kind) where
           u.block u.ghost.owner u.ghost.copying u.ghost.working shared.evacuated (bit_and (u.memory Free) (all_but region)) u.ghost.owner
           (still_free region can.facts.1) (λ r other is. inl is);
     };
-    own = (subst (λ s. CanTake c (accessed (TakeRegion region)) seat words s)
-        (sym (cond-false (bit_at (u.memory Free) region == 1) (StoreCurrent region) LoadFree lost))
-        (can_at (TakeRegion region) refl shared can LoadFree (accessed (TakeRegion region)) refl refl refl refl can.facts.0), record { copying = refl; working = refl });
+    own = (
+      subst (λ s. CanTake c (accessed (TakeRegion region)) seat words s)
+          (sym (cond-false (bit_at (u.memory Free) region == 1) (StoreCurrent region) LoadFree lost))
+          (can_at (TakeRegion region) refl shared can LoadFree (accessed (TakeRegion region)) refl refl refl refl can.facts.0),
+      record { copying = refl; working = refl },
+    );
     keeps = (let marks = same_in (accessed (TakeRegion region)) refl refl refl (λ n. refl) (λ t. refl) (λ t k. refl) (λ a. refl) refl seat refl in let kept = marks.keeps in
         let copied = (same_in_set (accessed (TakeRegion region)) refl refl refl (λ r. refl) seat refl refl (λ a. refl)).keeps in search (arith, nat_tests, kept, copied));
     others = λ j d. let marks = same_in (accessed (TakeRegion region)) refl refl refl (λ n. refl) (λ t. refl) (λ t k. refl) (λ a. refl) refl j refl in
@@ -307,9 +312,12 @@ module _ (c : Config) (u : World) (seat words : ℕ) (kind : Kind) where
           marked = shared.marked;
           evacuated = shared.evacuated;
         };
-        own = (can_at (StoreCurrent region) refl shared can (StoreTop region 0) (accessed (StoreCurrent region)) refl refl refl
-            (and_from _ _ (and_from _ _ (lt-ltb _ _ taken.within) (lt-ltb _ _ (omega (arith, most)))) (le-leb _ _ (omega (arith, most, long))))
-            (record { within = taken.within; is_current = cond-true (seat == seat) _ _ (eq-eqb seat seat refl); top_is = taken.empty; room = omega (arith, most, long) }), record { copying = refl; working = refl });
+        own = (
+          can_at (StoreCurrent region) refl shared can (StoreTop region 0) (accessed (StoreCurrent region)) refl refl refl
+              (and_from _ _ (and_from _ _ (lt-ltb _ _ taken.within) (lt-ltb _ _ (omega (arith, most)))) (le-leb _ _ (omega (arith, most, long))))
+              (record { within = taken.within; is_current = cond-true (seat == seat) _ _ (eq-eqb seat seat refl); top_is = taken.empty; room = omega (arith, most, long) }),
+          record { copying = refl; working = refl },
+        );
         keeps = (let marks = same_in (accessed (StoreCurrent region)) refl refl refl (λ n. refl) (λ t. refl) (λ t k. refl) (λ a. refl) refl seat refl in let kept = marks.keeps in
             let copied = (same_in_set (accessed (StoreCurrent region)) refl refl refl (λ r. refl) seat refl refl (λ a. refl)).keeps in search (arith, nat_tests, kept, copied));
         others = λ j d. let marks = same_in (accessed (StoreCurrent region)) refl refl refl (λ n. refl) (λ t. refl) (λ t k. refl) (λ a. refl) refl j refl in

@@ -1,43 +1,42 @@
 -- What the theorem of the steps says of evacuation.
-use Rattle.std.proofs.Common.{◌≡◌, ℕ, ◌+◌, ◌<◌, ⊎_elim, inl, inr, true, false, List, [], None, Some, refl, sym, ap, ◌∙◌, subst, arith}
+use Rattle.std.proofs.Common.{◌≡◌, ℕ, ◌+◌, ◌<◌, ⊎_elim, inl, inr, true, List, [], None, Some, refl, sym, ap, ◌∙◌, subst}
 use Rattle.std.specs.Prelude.{slice_get}
 use Rattle.std.proofs.lemmas.Option.{same_Some}
 use Rattle.heap_words.specs.declared.config.Config.{Config}
+use Rattle.heap_words.specs.Access.{table_index}
 use Rattle.heap_words.specs.Encoding.{is_forwarded, forwardee_in}
 use Rattle.heap_words.specs.Ranges.{seat_count}
-use Rattle.heap_words.specs.Words.{Cset, Heap}
+use Rattle.heap_words.specs.Words.{Cset, Heap, word_at}
 use Rattle.steps_base.specs.Steps.{Stage, Event, go}
-use Rattle.shen_graph.specs.declared.name.Name.{Name}
 use Rattle.shen_graph.specs.declared.order.Order.{Order}
 use Rattle.shen_graph.specs.Graph.{Graph}
 use Rattle.shen_graph.specs.History.{Entry, after, of_thread}
-use Rattle.handshake.specs.Standing.{is_within, is_pausing}
+use Rattle.handshake.specs.Standing.{is_pausing}
 use Rattle.load_barrier.proofs.Knows.{header_forwarded, header_names}
-use Rattle.heap_world.specs.World.{World, moved, Body, body_at, body_words, IsCollected}
+use Rattle.heap_world.specs.World.{World, Body, body_at, body_words, IsCollected}
 use Rattle.heap_world.specs.Change.{Change, IsPause}
 use Rattle.evac_steps.proofs.Parts.{all_is_forwarded}
 use Rattle.mutator.specs.Rows.{Mutating}
-use Rattle.helper.specs.Rows.{Helping, touch_at}
 use Rattle.control_steps.specs.declared.spot.ControlSpot.{ControlSpot}
 use Rattle.control_steps.specs.declared.spot.ControlSpot.TheVariants.{Scanning, Evacuating}
-use Rattle.control_steps.specs.Rows.{Controlling}
+use Rattle.control_steps.specs.Rows.{word_stored}
 use Rattle.step_core.specs.Actor.{Machine, mutating, helping, controlling, Actor}
 use Rattle.step_core.specs.Begins.{Begins}
 use Rattle.step_core.specs.History.{history}
-use Rattle.step_core.specs.Machines.{kind}
+use Rattle.step_core.specs.Machines.{takes_of, plan_of, kind}
 use Rattle.step_core.specs.Pausing.{IsInPause, IsEmpty}
-use Rattle.step_core.specs.Settled.{settled, control_number}
+use Rattle.step_core.specs.Settled.{image_in, settled, control_number}
 use Rattle.step_core.specs.Sound.{world_of, IsMutator, StandsFor}
 use Rattle.step_core.specs.Standing.{control_standing}
 use Rattle.step_core.proofs.Beginning.{goes_begins}
-use Rattle.step_core.proofs.Facts.{IsMachine, IsThread, IsResting, HelpFacts, ControlFacts}
+use Rattle.step_core.proofs.Facts.{IsMachine, IsThread, IsResting, ControlFacts}
 use Rattle.step_core.proofs.Helpers.{rests_outside}
 use Rattle.step_core.proofs.Induction.{Goes, goes_run}
 use Rattle.step_core.proofs.Requests.{has_asked}
 use Rattle.step_core.proofs.Roles.{machine_there}
 use Rattle.step_core.proofs.Theorem.{run_pauses}
-use Rattle.evac_runs.specs.Runs.{IsLeading, HaveHeaders, HeadersLeadInRuns, touch_in, IsPublishing, IsSparing, AreSpared, CopiesAreSpared, AreAllForwarded, AllIsForwardedInRuns}
-use Rattle.evac_runs.proofs.Sparing.{help_mild, control_mild, spot_spare}
+use Rattle.evac_runs.specs.Runs.{HaveHeaders, HeadersLeadInRuns, IsPublishing, IsSparing, AreSpared, CopiesAreSpared, AreAllForwarded, AllIsForwardedInRuns}
+use Rattle.evac_runs.proofs.Sparing.{helper_mild, control_mild, mutator_spare}
 
 -- What a stage says in which all goes as it should.
 module _ (c : Config) (g : Graph) (s : Stage Actor) (h : List Entry) (goes : Goes c g s h) where
@@ -79,29 +78,28 @@ module _ (c : Config) (g : Graph) (s : Stage Actor) (h : List Entry) (goes : Goe
   }
 
   module _ (number : ℕ) (order : Order) (a k : ℕ) (b : Body) (inside : IsCollected c (settled c s Cset) a) (is : body_at (goes.follows.block a) ≡ Some b) (below : k < body_words b) where
-    -- what the access of a machine is, by its role
-    spares : (x : Actor) (machine : Machine) → IsMachine c s.words the_world (of_thread h (number + 1)) number x machine → (touch_in c order machine).word ≡ Heap (a + k) → IsSparing c the_world number order machine a b
-    spares x (mutating m) facts word = ⊎_elim
+    -- what the next access of a machine is, by its role
+    spares : (x : Actor) (machine : Machine) → IsMachine c s.words the_world (of_thread h (number + 1)) number x machine → takes_of machine order ≡ true → image_in machine ≡ None
+        → table_index (plan_of c order machine) ≡ word_at c (Heap (a + k)) → IsSparing c the_world number order machine a k b
+    spares x (mutating m) facts takes out same = ⊎_elim
         (λ loaded. inl loaded)
         (λ more. inr (⊎_elim
-        (λ published. inl (subst (λ seat. IsPublishing c the_world seat a b (touch_in c order (mutating m))) facts.number_is published))
-        (λ still. inr (record { mutator = m; is = refl; writes = still.0; current = still.1.0; quiet = still.1.1 }))
+        (λ published. inl (subst (λ seat. IsPublishing c the_world seat a b (plan_of c order (mutating m))) facts.number_is published))
+        (λ still. inr (record { mutator = m; is = refl; writes = still.0; behind = still.1.0; current = still.1.1; quiet = still.1.2 }))
         more))
-        (spot_spare c the_world goes.follows.shared a k b is below inside m.seat m.made m.kept x.command facts.fixed order m.spot facts.mine.facts word)
-    spares x (helping m) facts word = ⊎_elim
+        (mutator_spare c the_world goes.follows.shared a k b is below inside m x.command facts.fixed order facts.mine takes same)
+    spares x (helping m) facts takes out same =
+        ⊎_elim (λ loaded. inl loaded) (λ published. inr (inl published)) (helper_mild c the_world goes.follows.shared a k b is below inside number m facts same)
+    spares x (controlling m) facts takes out same = ⊎_elim
         (λ loaded. inl loaded)
-        (λ published. inr (inl (subst (λ seat. IsPublishing c the_world seat a b (touch_in c order (helping m))) facts.number_is published)))
-        (help_mild c the_world goes.follows.shared a k b is below inside m.seat m.spot (subst (λ seat. HelpFacts c the_world seat m.spot) (sym facts.number_is) facts.facts) word)
-    spares x (controlling m) facts word = ⊎_elim
-        (λ loaded. inl loaded)
-        (λ published. inr (inl (subst (λ seat. IsPublishing c the_world seat a b (touch_in c order (controlling m))) (sym facts.number_is) published)))
-        (control_mild c the_world goes.follows.shared a k b is below inside m.spot (subst (λ seat. ControlFacts c the_world seat m.spot) facts.number_is facts.facts) word)
+        (λ published. inr (inl (subst (λ seat. IsPublishing c the_world seat a b (plan_of c order (controlling m))) (sym facts.number_is) published)))
+        (control_mild c the_world goes.follows.shared a k b is below inside m.spot m.image (word_stored m.spot m.image) facts.ready (subst (λ seat. ControlFacts c the_world seat m.spot) facts.number_is facts.facts) out same)
 
   -- copies are spared
   pub are_spared : AreSpared c s (after g h)
   are_spared = record {
     stands = stands;
-    spared = λ number x order a k b here takes inside is below word. spares number order a k b inside is below x x.machine (goes.follows.machines number x here) word;
+    spared = λ number x order a k b here takes out inside is below same. spares number order a k b inside is below x x.machine (goes.follows.machines number x here) takes out same;
   }
 
   module _ (pause : IsInPause c s) (empty : IsEmpty c s) where

@@ -10,9 +10,11 @@ pub fn headers_lead_in_runs()
     ensures { HeadersLeadInRuns }
 {}
 
-/// A law: after every list of steps, the next access of a machine, where it is of a word of a copy in the collection set, is a load, or
-/// publishes another copy, or nobody copies any more and it is that of a mutator to the object's current copy. Of the accesses of a pause
-/// to its image this law says nothing.
+/// A law: after every list of steps, the next access of a machine, where it is of a word of a copy in the collection set, current or
+/// old, is a load; or it exchanges the copy's header to publish another copy, whose words are those of the object; or nobody copies any
+/// more, and a mutator writes a field or a number of the object at its current copy. It says nothing of the control while it writes an
+/// image back. So outside pauses nobody writes a word of an object that may still be copied, or of one that has moved, and headers change
+/// only where copies are published.
 pub fn copies_are_spared()
     ensures { CopiesAreSpared }
 {}

@@ -1,12 +1,12 @@
 -- Where a run has led to a stage whose mutators rest and whose control stores no image: its words stand for the graph after the run, and the entries of each
 -- thread are its calls.
-use Rattle.std.proofs.Common.{None, ◌≡◌, ℕ, ◌+◌, ◌<◌, ◌≤◌, ◌⊎◌, inl, inr, true, false, List, length, take, Option, Some, refl, sym, ap, ◌∙◌, subst, arith, length-take, length-drop}
-use Rattle.std.proofs.lemmas.Bool.{ltb-true, cases_lt}
+use Rattle.std.proofs.Common.{None, ◌≡◌, ℕ, ◌+◌, ◌<◌, true, List, length, take, Option, Some, refl, sym, ap, ◌∙◌, subst, arith, length-take, length-drop}
+use Rattle.std.proofs.lemmas.Bool.{ltb-true}
 use Rattle.std.proofs.lemmas.Grind.{same_number_lists}
 use Rattle.std.proofs.lemmas.List.{append-nil, get_or-take, get_or-drop}
 use Rattle.std.specs.Prelude.{slice_get, ◌++◌}
 use Rattle.heap_words.specs.declared.config.Config.{Config}
-use Rattle.heap_words.specs.Words.{Word, Root, Cset, view, heap_in, roots_in, image_start}
+use Rattle.heap_words.specs.Words.{Word, Root, view, heap_in, roots_in, image_start}
 use Rattle.shen_graph.specs.declared.name.Name.{Name}
 use Rattle.shen_graph.specs.declared.command.Reply.{Reply}
 use Rattle.shen_graph.specs.Graph.{Graph}
@@ -16,9 +16,8 @@ use Rattle.mutator.specs.declared.spot.Spot.{Spot}
 use Rattle.mutator.specs.declared.spot.Spot.TheVariants.{Rest, Ended, Gone}
 use Rattle.mutator.specs.Orders.{is_between_calls}
 use Rattle.mutator.specs.Rows.{Mutating}
-use Rattle.heap_world.specs.World.{World, Shared, name_at, Points, hand}
-use Rattle.heap_world.specs.Asking.{Asking, nothing, IsAsked}
-use Rattle.heap_world.specs.Change.{image_view, image_words}
+use Rattle.heap_world.specs.World.{World, Shared, name_at, Points}
+use Rattle.heap_world.specs.Change.{image_words}
 use Rattle.control_steps.specs.declared.spot.ControlSpot.{ControlSpot}
 use Rattle.control_steps.specs.declared.spot.ControlSpot.TheVariants.{LoadWord, StoreWord}
 use Rattle.control_steps.specs.Ready.{is_ready}
@@ -27,10 +26,10 @@ use Rattle.heap_machines.specs.Roles.{CanShow}
 use Rattle.heap_graph.specs.Shows.{WordsStand}
 use Rattle.heap_graph.proofs.Tables.{table_stands}
 use Rattle.step_core.specs.Actor.{Machine, mutating, helping, controlling, Actor, entries_of}
-use Rattle.step_core.specs.Own.{root_now, IsInHand}
+use Rattle.step_core.specs.Own.{root_now}
 use Rattle.step_core.specs.Machines.{is_resting, HasNumber}
-use Rattle.step_core.specs.Settled.{settled, settled_by, mixed, stored_image, image_in, image_of, control_number}
-use Rattle.step_core.specs.Sound.{world_of, is_clearing, IsSound}
+use Rattle.step_core.specs.Settled.{settled, settled_by, stored_image, image_in, image_of, control_number}
+use Rattle.step_core.specs.Sound.{world_of, IsSound}
 use Rattle.step_core.specs.Begins.{Run, ending, history_in, graph_after}
 use Rattle.heap_machines.specs.Pause.{pause_image}
 use Rattle.heap_machines.proofs.Pauses.{heap_pauses}

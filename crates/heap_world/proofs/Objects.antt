@@ -183,15 +183,21 @@ module _ (c : Config) (u : World) (a refs nums at value : ℕ) (name : Name) (o 
     phased = shared.phased;
     unwritten = unwritten_stays (λ b. u.memory (Heap b)) (updated (λ b. u.memory (Heap b)) at value) u.block u.block
         (λ b seat words is_promised. (is_promised, λ k below. else_stays from_start to_end b k (promised seat words) is_promised (λ differ. cc) below))
-        (λ b words is_filler. let long = shared.parsable.fillers b words is_filler in (is_filler, head_stays from_start to_end b (filler words) is_filler (λ differ. cc) (omega (arith, long)),
-          else_stays from_start to_end b 1 (filler words) is_filler (λ differ. cc) (omega (arith, long))))
+        (λ b words is_filler. let long = shared.parsable.fillers b words is_filler in (
+          is_filler,
+          head_stays from_start to_end b (filler words) is_filler (λ differ. cc) (omega (arith, long)),
+          else_stays from_start to_end b 1 (filler words) is_filler (λ differ. cc) (omega (arith, long)),
+        ))
         shared.unwritten;
     marked = marked_stored c (u.memory Phase) (λ n. u.memory (Grey n)) (λ n. u.memory (Black n)) (λ t. u.memory (Count t)) (λ t k. u.memory (Buffer t k)) (λ r. u.memory (Top r)) (λ r. u.memory (Tams r))
         (λ b. u.memory (Heap b)) u.block u.ghost.snapshot u.ghost.recording u.ghost.scanning shared.marked (updated (λ b. u.memory (Heap b)) at value) (field_stays from_start to_end covered);
     evacuated = evacuated_words c (u.memory Phase) (u.memory Cset) (u.memory Evac) (u.memory Claim) (u.memory Free) (λ r. u.memory (Top r)) (λ r. u.memory (Tams r)) (λ b. u.memory (Heap b)) (λ n. u.memory (Black n))
         u.block u.ghost.owner u.ghost.copying u.ghost.working shared.evacuated (updated (λ b. u.memory (Heap b)) at value)
-        (λ b more_refs more_nums to n is_old. (head_stays from_start to_end b (moved n more_refs more_nums to) is_old (λ differ. cc) (omega arith), else_stays from_start to_end b 1 (moved n more_refs more_nums to) is_old (λ differ. cc) (omega arith),
-          else_stays from_start to_end b 2 (moved n more_refs more_nums to) is_old (λ differ. cc) (omega arith)))
+        (λ b more_refs more_nums to n is_old. (
+          head_stays from_start to_end b (moved n more_refs more_nums to) is_old (λ differ. cc) (omega arith),
+          else_stays from_start to_end b 1 (moved n more_refs more_nums to) is_old (λ differ. cc) (omega arith),
+          else_stays from_start to_end b 2 (moved n more_refs more_nums to) is_old (λ differ. cc) (omega arith),
+        ))
         (λ b words to is_old. let long = shared.parsable.spents b words to is_old in (head_stays from_start to_end b (spent words to) is_old (λ differ. cc) (omega (arith, long)), else_stays from_start to_end b 1 (spent words to) is_old (λ differ. cc) (omega (arith, long))));
   }
 

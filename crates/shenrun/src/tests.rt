@@ -436,6 +436,28 @@ const MARKED: &[Row] = &[
     },
 ];
 
+/// Traces of heaps whose objects are evacuated while threads use them.
+const EVACUATED: &[Row] = &[
+    // Two threads copy one object. The second wins and writes, and the first gives its copy back and reads what was written.
+    Row {
+        words: REPLAY,
+        trace: "shen 1\nheap 8 64 0\nthreads 2 0\n1 new 1 0 1\n1 set 0 0 1\n1 new 2 16 16\n1 new 2 16 16\n1 drop 1\n1 drop 2\n1 gc\n1 get 1 0 0\n1 rd 1 0\n2 get 1 0 0\n2 wr 1 0 77\n! 1=7 3@EC 1@HX 2=2 1=9\n",
+        answer: "1 1.1\n1 ok\n1 1.2\n1 1.3\n1 ok\n1 ok\n1 ok\n1 1.1\n1 77\n2 1.1\n2 ok\ngraph\nobject 0.1 1.1 - - - - - - - - - - - - - - - /\nobject 1.1 / 77\nroots 1 0.1 1.1 - - - - - - - - - - - - - -\nroots 2 0.1 1.1 - - - - - - - - - - - - - -\n",
+    },
+    // A thread finds no room for its copy while another copies. It waits until nobody copies, and takes the copy of the other.
+    Row {
+        words: REPLAY,
+        trace: "shen 1\nheap 4 64 0\nthreads 2 0\n1 new 1 0 1\n1 set 0 0 1\n1 new 2 16 16\n1 new 2 16 16\n1 new 2 16 7\n1 drop 1\n1 drop 2\n1 gc\n1 get 1 0 0\n1 rd 1 0\n2 get 1 0 0\n2 wr 1 0 9\n! 1=8 3@EC 2@HX 1@XW 1:3 2=2 1=10\n",
+        answer: "1 1.1\n1 ok\n1 1.2\n1 1.3\n1 1.4\n1 ok\n1 ok\n1 ok\n1 1.1\n1 9\n2 1.1\n2 ok\ngraph\nobject 0.1 1.1 - - - - - - - - - - - - - - - /\nobject 1.1 / 9\nroots 1 0.1 1.1 - - - - - - - - - - - - - -\nroots 2 0.1 1.1 - - - - - - - - - - - - - -\n",
+    },
+    // The thread and the control end while an object is evacuated. The hub names the old copy, and the graph is that of the new one.
+    Row {
+        words: REPLAY,
+        trace: "shen 1\nheap 8 64 0\nthreads 1 0\n1 new 1 0 1\n1 wr 1 0 6\n1 set 0 0 1\n1 new 2 16 16\n1 new 2 16 16\n1 drop 1\n1 drop 2\n1 gc\n! 1=8 2@EC 2@XS\n",
+        answer: "1 1.1\n1 ok\n1 ok\n1 1.2\n1 1.3\n1 ok\n1 ok\n1 ok\ngraph\nobject 0.1 1.1 - - - - - - - - - - - - - - - /\nobject 1.1 / 6\nroots 1 0.1 - - - - - - - - - - - - - - -\n",
+    },
+];
+
 /// Traces whose machines are not all idle after so many steps.
 const CUT: &[Row] = &[
     // Ten steps end in the first command: the control makes every second one.
@@ -662,6 +684,11 @@ fn pauses_collect(rt: HostRuntime) -> Result<(), Fail> {
 #[test]
 fn marking_runs_beside(rt: HostRuntime) -> Result<(), Fail> {
     answers(&rt, rt.alloc(), MARKED)
+}
+
+#[test]
+fn evacuation_runs_beside(rt: HostRuntime) -> Result<(), Fail> {
+    answers(&rt, rt.alloc(), EVACUATED)
 }
 
 #[test]

@@ -3,8 +3,8 @@
 use crate::row::Row;
 use crate::view::{Kind, Part, kind_of, kind_of_part, name_at, object_with, part_of, region_of};
 use heap_words::{
-    Access, Config, Item, WordName, count_of, forwarded, forwardee, nums_of, refs_of, request_count,
-    request_shape, thread_of,
+    Access, Config, Item, WordName, count_of, forwarded, forwardee, nums_of, refs_of,
+    request_count, request_shape, thread_of,
 };
 use shen_core::Plain;
 use shen_graph::{Command, Name, Reply};

@@ -1,5 +1,4 @@
 use Rattle.std.proofs.Common.{sym, ◌∙◌}
-use Rattle.heap_words.specs.Words.{view}
 use Rattle.image_graph.specs.State.{config_of, words_of, memory_of}
 use Rattle.mark_core.proofs.Ending.{no_more_seats}
 use Rattle.evac_pauses.proofs.Begun.{ended_can_begin}
