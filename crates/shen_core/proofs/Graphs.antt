@@ -4,6 +4,7 @@ use Rattle.heap_machines.specs.Pause.{pause_image}
 use Rattle.std.specs.Prelude.{slice_get, slice_index_or}
 use Rattle.std.specs.Option.{option_map}
 use mathlib.Core.List.{is_set}
+use Rattle.std.proofs.Math.Nat.{ℕ_set}
 use Rattle.std.proofs.Math.Logic.{∥∥₁_map, ∥∥₁_elim}
 use Rattle.std.proofs.lemmas.Option.{slice_get-map, get_or_from_slice_get}
 use Rattle.heap_words.specs.declared.config.Config.{Config}
