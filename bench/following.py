@@ -9,7 +9,7 @@ ASKED = ["nothing", "a cycle", "room", "a cycle, room"]
 # The bit of the word of the copiers that says that a copier found no room.
 OUT_OF_ROOM = 1 << 63
 MACHINE = re.compile(r" *\d+  (?:thread (?P<thread>\d)|helper (?P<helper>\d)|control) +(?P<place>\w\w)  (?P<rest>.*)")
-VALUE = r"(a cycle, room|a cycle|room|nothing|\{[\d. ]*\}|[\d.]+|-)"
+VALUE = r"(a cycle, room|a cycle|room|nothing|\{[\d. ]*\}|copy \d+|\d+, no room|[\d.]+|-)"
 WORDS = (
     "phase|collection set|copiers|claimed work|what is asked for|free regions"
     r"|(?:grey|black) word \d+|buffer (?:count|entry \d) of thread \d|(?:top|mark start) of region \d+|header of [\d.]+"
@@ -18,9 +18,13 @@ ACCESS = re.compile(rf"([a-z ]+?) ({WORDS})(?:: {VALUE}(?: to {VALUE})?)? +{VALU
 
 
 def value(text):
-    """A value of the listing: a number, a name, or a set of regions or names."""
+    """A value of the listing: a number, a name, a set of regions or names, a header that leads to a copy, or how many copy."""
     if text in ASKED:
         return ASKED.index(text)
+    if text.startswith("copy "):
+        return 4 * int(text[5:]) + 3
+    if text.endswith(", no room"):
+        return int(text[: -len(", no room")]) + OUT_OF_ROOM
     if text.startswith("{"):
         return set(text[1:-1].split())
     return int(text) if text.isdigit() else text
