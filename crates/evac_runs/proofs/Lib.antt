@@ -1,2 +1,4 @@
 pub mod Sparing
 pub mod Runs
+pub mod Calm
+pub mod Due

@@ -3,6 +3,7 @@
 #![tactic(auto)]
 
 ghost use Rattle.evac_runs.specs.Runs.{HeadersLeadInRuns, CopiesAreSpared, AllIsForwardedInRuns};
+ghost use Rattle.evac_runs.specs.Due.{PausesComeWhenDue, EvacuationIsWhole};
 
 /// A law: after every list of steps each old copy of an object lies in the collection set, and its header leads to the object's one
 /// current copy, which lies outside and has the header of an object that has not moved.
@@ -23,4 +24,16 @@ pub fn copies_are_spared()
 /// forwarded.
 pub fn all_is_forwarded_in_runs()
     ensures { AllIsForwardedInRuns }
+{}
+
+/// A law: in phase 2 the control begins a pause only once all regions are claimed, or where an allocation waits; and so it is still
+/// when it reads the image in that pause.
+pub fn pauses_come_when_due()
+    ensures { PausesComeWhenDue }
+{}
+
+/// A law: where the control reads the image in a pause in phase 2 for which no allocation waits, and there was always room, each marked
+/// object of the collection set is forwarded.
+pub fn evacuation_is_whole()
+    ensures { EvacuationIsWhole }
 {}
