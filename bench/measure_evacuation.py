@@ -3,7 +3,7 @@
 
 usage: measure_evacuation.py [COMMANDS]
 
-COMMANDS is how many commands each of the two threads of the second table makes, 200000 if left out. There are four tables. Times
+COMMANDS is how many commands each of the two threads of the second table makes, 400000 if left out. There are four tables. Times
 mean something only beside each other, from one run, and those of several threads only where no other program wants the
 processors.
 
@@ -12,14 +12,14 @@ processors.
    and the thread always has room. Steps are those that `shensteps` counts, times the least of some runs; each number is that of
    a longer trace less that of a shorter one, for each `get` more. Those of the boxes on the way count as what they are: loads of
    objects outside the set.
-2. Commands under `run` with cycles all the time, beside the same with full collections only, and beside none. Two threads have 512
-   objects each and put a new one into the place of every second one, one place in sixteen commands; all else they do with the
-   fields of these objects. With cycles, every 512th command is a `gc`, so that marking begins again as soon as the cycle before has
-   ended, and half of what an old region has is garbage. With full collections only, so many regions are kept in reserve that threads
-   have to wait for room again and again. Without any, the commands are no more than there is room for. A control and one helper
-   have a thread each. A time is the least of some runs, less the least of runs that read the same bytes and are refused at the
-   last line. Shares of the time, pauses and evacuations are those of one further run; commands a second outside pauses are worked
-   out with them, since in a pause the threads wait.
+2. Commands under `run` with one cycle after the other, beside the same with full collections only, and beside none. Two threads
+   have 512 objects each, and in every 16 commands put a new one into the place of another, first into each second place and then
+   into each other one; with the rest they load, store and exchange fields and numbers of these objects. With cycles, every 4096th
+   command of each is a `gc`, and by then half of what an old region has is garbage. With full collections only, so many regions
+   are kept in reserve that threads have to wait for room again and again. Without either, the commands are no more than there is
+   room for. A control and one helper have a thread each. A time is the least of some runs, less the least of runs that read the
+   same bytes and are refused at the last line. How much of the time pauses take, and what the threads do outside of them in each
+   phase, is that of one further run: each counts its rounds in an object of its own, whose word is looked up with the phase.
 3. How fast objects are copied under `run`, by the control and 0 to 3 helpers, each in a thread of its own, beside one thread that
    loads nothing of the collection set. What is counted are the words by which the tops of regions grow, from the first look behind
    the pause that begins evacuation to the look that finds the last of them; the time is that between these looks. What the pause
@@ -34,26 +34,32 @@ second table has no shares, and there is no third one.
 import collections
 import os
 import random
+import struct
 import subprocess
 import sys
 import time
 
 sys.dont_write_bytecode = True
-import measure_marking as marking  # pylint: disable=wrong-import-position
-from measure_marking import PAUSE_BETWEEN_LOOKS, REGIONS, SHENRUN, SHENSTEPS, WORDS, text_of, written  # pylint: disable=wrong-import-position
+# pylint: disable=wrong-import-position
+import measure_marking as marking
+from measure_marking import PAUSE_BETWEEN_LOOKS, REGIONS, SHENRUN, SHENSTEPS, WORDS, text_of, written
 
-COMMANDS = 200_000
-ROUNDS = 5
+COMMANDS = 400_000
+# How often a short run is timed, and a long one.
+LOOKS = 15
+ROUNDS = 3
 # The first table: words of an object, with how many boxes of boxes there are, and how often the same is loaded again.
 SIZES = ((4, 13), (16, 5))
 AGAIN = 6
-LOAD_ROUNDS = 9
-# The second: each so many commands a cycle is asked for; how many regions are kept in reserve, so that no cycle begins by itself, or
-# so that threads wait for room; and of how many words a new object is.
-EVERY = 512
+# The second: behind how many commands a cycle is asked for; how many regions are kept in reserve, so that no cycle begins by
+# itself, or so that threads wait for room; of how many words a new object is; how many commands a round has, with the root of the
+# thread's counter; and how many rounds a thread never makes between two looks.
+EVERY = 4096
 RESERVES = {"none": 0, "full collections": 50, "evacuation": 32}
 NEW_WORDS = 8
-GROUP = 16
+ROUND = 16
+COUNTER = 10
+MOST_ROUNDS = 10_000
 # The third: how many boxes of boxes, how often they are evacuated, and how many commands go by meanwhile.
 BOXES = 11
 EVACUATIONS = 6
@@ -75,18 +81,32 @@ def stop(why):
     sys.exit(2)
 
 
+Sample = collections.namedtuple("Sample", "at paused phase used made")
+
+
 class Table(marking.Table):
-    """The words of a heap that runs, with the phases of evacuation."""
+    """The words of a heap that runs, with what changes in evacuation."""
 
     def sample(self):
-        """The time, whether a pause is wanted or runs, the phase, and how many words of the regions are in use. None once the program
-        has ended."""
-        held = os.pread(self.memory, 8 * (self.phase_at + 6 + REGIONS), self.start)
+        """The time, whether a pause is wanted or runs, the phase, how many words of the regions are in use, and, outside pauses, the
+        numbers in the counters of the threads. None once the program has ended."""
+        roots_at = self.grey_at - 27 * self.threads
+        held = os.pread(self.memory, 8 * (roots_at + 16 * self.threads), self.start)
         at = time.monotonic()
-        words = [int.from_bytes(held[it : it + 8], "little") for it in range(0, len(held), 8)]
-        if len(words) < self.phase_at + 6 + REGIONS or words[0] > 1 or words[self.phase_at] > 2:
+        if len(held) < 8 * (roots_at + 16 * self.threads):
             return None
-        return at, words[0], words[self.phase_at], sum(words[-REGIONS:])
+        words = struct.unpack(f"<{len(held) // 8}Q", held)
+        tops = words[self.phase_at + 6 : self.phase_at + 6 + REGIONS]
+        paused, phase = words[0], words[self.phase_at]
+        counters = [] if paused else [words[roots_at + 16 * thread + COUNTER] for thread in range(self.threads)]
+        made = [self.number(address) for address in counters]
+        return Sample(at, paused, phase, sum(tops), made) if paused < 2 and phase < 3 else None
+
+    def number(self, address):
+        """The number of the object at this address, or 0 where there is none."""
+        if not WORDS <= address < WORDS * (REGIONS + 1) - 3:
+            return 0
+        return int.from_bytes(os.pread(self.memory, 8, self.start + 8 * (self.heap_at + address - WORDS + 3)), "little")
 
 
 def sampled(trace, threads, helpers):
@@ -96,8 +116,10 @@ def sampled(trace, threads, helpers):
         child = subprocess.Popen((SHENRUN, "run"), stdin=source, stdout=subprocess.DEVNULL)
     try:
         table = Table(child.pid, threads, helpers)
-        while child.poll() is None and not table.find():
+        while child.poll() is None:
             time.sleep(0.005)
+            if table.find():
+                break
         while table.start and child.poll() is None:
             sample = table.sample()
             if sample is None:
@@ -115,21 +137,30 @@ def sampled(trace, threads, helpers):
     return samples
 
 
-def shares_of(samples):
-    """Which part of the time was spent in pauses, and which outside of them in each phase."""
-    spent = collections.Counter()
-    for (at, paused, phase, _), (then, *_) in zip(samples, samples[1:]):
-        spent["paused" if paused else phase] += then - at
-    whole = sum(spent.values()) or 1
-    return {what: took / whole for what, took in spent.items()}
+def share_of_pauses(samples):
+    """Which part of the time was spent in pauses."""
+    paused = sum(then.at - now.at for now, then in zip(samples, samples[1:]) if now.paused)
+    return paused / (samples[-1].at - samples[0].at) if len(samples) > 1 else 0
+
+
+def rates_of(samples):
+    """How many rounds of commands a second the threads made in each phase, outside pauses."""
+    made, took = collections.Counter(), collections.Counter()
+    for now, then in zip(samples, samples[1:]):
+        more = [after - before for before, after in zip(now.made, then.made)]
+        if not now.paused and not then.paused and now.phase == then.phase and all(0 <= it <= MOST_ROUNDS for it in more):
+            made[now.phase] += sum(more)
+            took[now.phase] += then.at - now.at
+    return {phase: made[phase] / took[phase] for phase in took if made[phase]}
 
 
 def stretches(samples):
     """The samples in stretches of one state, with the state."""
     found = []
     for sample in samples:
-        if not found or found[-1][0] != sample[1:3]:
-            found.append((sample[1:3], []))
+        state = (sample.paused, sample.phase)
+        if not found or found[-1][0] != state:
+            found.append((state, []))
         found[-1][1].append(sample)
     return found
 
@@ -137,8 +168,8 @@ def stretches(samples):
 def pauses_of(samples):
     """How many pauses were seen, and how many of them began evacuation."""
     states = [state for state, _ in stretches(samples)]
-    pauses = sum(before == (0, phase) and after[0] == 1 for before, after in zip(states, states[1:]) for phase in [before[1]])
-    return pauses, sum(before == (1, 2) and after == (0, 2) for before, after in zip(states, states[1:]))
+    changes = list(zip(states, states[1:]))
+    return sum(before[0] < after[0] for before, after in changes), changes.count(((1, 2), (0, 2)))
 
 
 def evacuations_of(samples):
@@ -146,9 +177,10 @@ def evacuations_of(samples):
     found = stretches(samples)
     for (before, _), (state, beside), (after, waited) in zip(found, found[1:], found[2:]):
         if (before, state, after) == ((1, 2), (0, 2), (1, 2)):
-            last = max(used for *_, used in beside + waited)
-            end = next(at for at, *_, used in beside + waited if used == last)
-            yield last - beside[0][3], end - beside[0][0]
+            first = beside[0]
+            most = max(sample.used for sample in beside + waited)
+            last = next(sample for sample in beside + waited if sample.used == most)
+            yield last.used - first.used, last.at - first.at
 
 
 def seconds(trace, wanted, rounds, *words):
@@ -229,7 +261,7 @@ def cost(few, many):
     """The steps and the seconds of a trace more than those of a shorter one."""
     with written(few) as short, written(many) as long:
         steps = marking.steps_of(long.name) - marking.steps_of(short.name)
-        return steps, seconds(long.name, 0, LOAD_ROUNDS, "replay") - seconds(short.name, 0, LOAD_ROUNDS, "replay")
+        return steps, seconds(long.name, 0, LOOKS, "replay") - seconds(short.name, 0, LOOKS, "replay")
 
 
 def measure_loads():
@@ -259,8 +291,8 @@ def measure_loads():
 
 
 def own_objects():
-    """Commands with which a thread makes its 512 objects, in the boxes of its roots 1 and 2."""
-    lines = []
+    """Commands with which a thread makes its counter, and its 512 objects, in the boxes of its roots 1 and 2."""
+    lines = [f"new {COUNTER} 0 1"]
     for root in (1, 2):
         lines.append(f"new {root} 16 0")
         for box in range(16):
@@ -270,9 +302,9 @@ def own_objects():
     return lines
 
 
-def group(number):
-    """The commands with which a thread puts a new object into a place: of all places each second one, and then each other one. The
-    last command is one that a `gc` may replace."""
+def commands_of(number):
+    """The commands of a round: a thread puts a new object into a place, first into each second place and then into each other one,
+    and writes the number of the round into its counter. The last command is one that a `gc` may replace."""
     sweep, turn = divmod(number, 256)
     place = 2 * turn + sweep % 2
     root, box, leaf = 1 + place // 256, place // 16 % 16, place % 16
@@ -289,7 +321,7 @@ def group(number):
         f"set 3 {other} 6",
         f"get 7 {3 - root} {box}",
         f"get 8 7 {leaf}",
-        "rd 8 0",
+        f"wr {COUNTER} 0 {number}",
         "set 8 0 8",
         "cas 8 0 8 8",
         "xchg 9 8 0 8",
@@ -300,45 +332,40 @@ def group(number):
 def churn(commands, is_asking):
     """The commands of a thread that churns, about so many."""
     lines = own_objects()
-    groups = (commands - len(lines)) // GROUP
-    for number in range(groups):
-        lines += group(number)
-        if is_asking and number % (EVERY // GROUP) == 0:
+    for number in range((commands - len(lines)) // ROUND):
+        lines += commands_of(number)
+        if is_asking and number % (EVERY // ROUND) == 0:
             lines[-1] = "gc"
     return lines
 
 
 def without_cycles():
     """How many commands a thread can make before half of the regions are in use. At the end of each one there may be words left."""
-    words = (REGIONS // 2 - 1) * (WORDS - 19) // 2
-    own = 2 * 17 * 19 + 512 * NEW_WORDS
-    return len(own_objects()) + (words - own) // NEW_WORDS * GROUP
+    words = (REGIONS // 2 - 1) // 2 * (WORDS - 19)
+    own = 4 + 2 * 17 * 19 + 512 * NEW_WORDS
+    return len(own_objects()) + (words - own) // NEW_WORDS * ROUND
 
 
 def measure_commands(commands):
-    print("two threads that churn under run, a control and a helper")
-    print(
-        f"{'cycles':>18}{'commands':>10}{'million a second':>18}{'ratio':>7}{'outside pauses':>16}{'ratio':>7}{'marking':>9}{'evacuating':>12}"
-        f"{'in pauses':>11}{'pauses seen':>13}{'evacuations':>13}"
-    )
+    print("two threads that churn under run, a control and a helper: million commands a second, all in all and outside pauses")
+    head = f"{'':>18}{'commands':>10}{'all in all':>12}{'ratio':>7}{'in pauses':>11}{'pauses seen':>13}{'evacuations':>13}"
+    print(head + f"{'nobody marks':>14}{'marking':>9}{'evacuating':>12}")
     first = None
     for name, reserve in RESERVES.items():
         made = min(commands, without_cycles()) if name == "none" else commands
         script = churn(made, name == "evacuation")
         text = text_of(2, 1, [script, script]).replace(f"heap {REGIONS} {WORDS} 0", f"heap {REGIONS} {WORDS} {reserve}", 1)
-        rounds = ROUNDS * (4 if made < 50_000 else 1)
+        rounds = LOOKS if made < 50_000 else ROUNDS
         with written(text) as trace, written(text + "?\n") as refused:
             took = seconds(trace.name, 0, rounds, "run") - seconds(refused.name, 3, rounds, "run")
             samples = sampled(trace.name, 2, 1)
-        shares, (pauses, evacuations) = shares_of(samples), pauses_of(samples)
+        pauses, evacuations = pauses_of(samples)
         rate = 2 * len(script) / took / 1e6
-        beside = rate / max(1 - shares.get("paused", 0), 1e-6)
-        first = first or (rate, beside)
-        percent = [f"{100 * shares.get(it, 0):.0f} %" for it in (1, 2, "paused")]
-        print(
-            f"{name:>18}{2 * len(script):>10}{rate:>18.3f}{rate / first[0]:>7.2f}{beside:>16.3f}{beside / first[1]:>7.2f}"
-            f"{percent[0]:>9}{percent[1]:>12}{percent[2]:>11}{pauses:>13}{evacuations:>13}"
-        )
+        first = first or rate
+        row = f"{name:>18}{2 * len(script):>10}{rate:>12.2f}{rate / first:>7.2f}{100 * share_of_pauses(samples):>9.0f} %"
+        rates = rates_of(samples)
+        beside = [f"{ROUND * rates[phase] / 1e6:.2f}" if phase in rates else "-" for phase in range(3)]
+        print(row + f"{pauses:>13}{evacuations:>13}{beside[0]:>14}{beside[1]:>9}{beside[2]:>12}")
 
 
 def replaced(number):
@@ -371,7 +398,8 @@ def middle(numbers):
 
 def measure_copying():
     print(f"copying objects of {LEAF_WORDS} words under run, on {os.cpu_count()} processors, a thread of commands beside it")
-    print(f"{'':>12}{'evacuations':>13}{'words of each':>15}{'ms, the middle':>16}{'million words a second':>24}{'copies a second':>17}{'ratio':>7}")
+    head = f"{'':>12}{'evacuations':>13}{'words of each':>15}{'ms, the middle':>16}"
+    print(head + f"{'million words a second':>24}{'copies a second':>17}{'ratio':>7}")
     first = None
     for helpers in range(4):
         with written(text_of(1, helpers, [evacuated_again()])) as trace:
@@ -383,9 +411,8 @@ def measure_copying():
         words, took = sum(it for it, _ in found) / len(found), middle([it for _, it in found])
         rate = middle([words / took for words, took in found])
         first = first or rate
-        print(
-            f"{name:>12}{len(found):>13}{words:>15.0f}{1000 * took:>16.2f}{rate / 1e6:>24.2f}{rate / LEAF_WORDS:>17.0f}{rate / first:>7.2f}"
-        )
+        row = f"{name:>12}{len(found):>13}{words:>15.0f}{1000 * took:>16.2f}"
+        print(row + f"{rate / 1e6:>24.2f}{rate / LEAF_WORDS:>17.0f}{rate / first:>7.2f}")
 
 
 def race_trace(threads, turn, is_one_order, rand):
@@ -426,10 +453,11 @@ def lost_of(trace):
 
 def measure_races():
     objects = RACE_BOXES * OBJECTS
-    print(f"copies that come too late where threads load the same {objects} objects, of all that are made; by replay, turns of so many steps are drawn")
+    print(f"copies that come too late, of all that are made, where threads load the same {objects} objects; by replay")
     rand = random.Random(1)
     for is_one_order in (True, False):
-        print(f"{'in one order' if is_one_order else 'in orders drawn':>16}" + "".join(f"{f'turns of {turn}':>18}" for turn in TURNS))
+        name = "in one order" if is_one_order else "in orders drawn"
+        print(f"{name:>16}" + "".join(f"{f'turns of {turn}':>20}" for turn in TURNS))
         for threads in (2, 4, 8):
             row = []
             for turn in TURNS:
@@ -437,8 +465,8 @@ def measure_races():
                 for _ in range(2):
                     with written(race_trace(threads, turn, is_one_order, rand)) as trace:
                         made, lost = (sum(it) for it in zip((made, lost), lost_of(trace.name)))
-                row.append(f"{lost} of {made} {100 * lost / max(made, 1):.0f} %")
-            print(f"{f'{threads} threads':>16}" + "".join(f"{it:>18}" for it in row))
+                row.append(f"{lost} of {made}, {100 * lost / max(made, 1):.1f} %")
+            print(f"{f'{threads} threads':>16}" + "".join(f"{it:>20}" for it in row))
 
 
 def main():
