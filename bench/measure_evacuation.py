@@ -63,7 +63,7 @@ MOST_ROUNDS = 10_000
 # The third: how many boxes of boxes, how often they are evacuated, and how many commands go by meanwhile.
 BOXES = 11
 EVACUATIONS = 6
-BESIDE = 40_000
+BESIDE = 60_000
 LEAF_WORDS = 6
 # The fourth: the heap, its objects, and the lengths of turns.
 RACE_HEAP = (64, 256)
