@@ -12,8 +12,8 @@ those of reading the trace, and mean something only beside each other, from one 
 All counts here are exact, and found so:
 
 - The steps of a trace are the events that `shensteps` counts, and its pauses are told by the control's events in the listing: one
-  begins marking where a cycle was asked for or few regions are free, ends it where no unit was left, and is a full collection where
-  an allocation waits.
+  begins marking where a cycle was asked for or few regions are free, ends it where no unit of it was left, and is a full collection
+  where an allocation waits, or where no unit of evacuation was left.
 - A pause loads each word of the image once (place PL) and stores each once (PS). How many words the image has, follows from
   the sizes alone.
 - Full collections alone are made on purpose, on a heap that has all its regions in reserve: there each `new` waits for one, and a trace
@@ -75,7 +75,7 @@ def told_of(trace, control):
                 place = line[18:20]
                 if place == b"P1":
                     counts[kind_of(before)] += 1
-                elif place in (b"I1", b"I2", b"MC"):
+                elif place in (b"I1", b"I2", b"MC", b"EC"):
                     before = line
     if not line.startswith(b"all machines are idle after "):
         stop("a trace is not answered")
@@ -84,8 +84,8 @@ def told_of(trace, control):
 
 def kind_of(line):
     """What a pause does, by the control's look before it."""
-    if line[18:20] == b"MC":
-        return "end marking"
+    if line[18:20] in (b"MC", b"EC"):
+        return "end marking" if line[18:20] == b"MC" else "end evacuation in full"
     return "collect in full" if b"room" in line[62:] else "begin marking"
 
 
