@@ -1,7 +1,8 @@
 -- What a pause makes of the words of a heap, and what it owes.
 use Rattle.std.specs.Prelude.{ℕ, ◌≡◌, ◌+◌, ◌-◌, ◌*◌, ◌<◌, ◌≤◌, ◌==◌, ◌++◌, if◌then◌else◌, List, length, replicate, Some, sum_by}
 use Rattle.heap_words.specs.declared.config.Config.{Config}
-use Rattle.heap_words.specs.Words.{Word, image_start, table_words, view}
+use Rattle.std.specs.Int.{bit_at}
+use Rattle.heap_words.specs.Words.{Word, Phase, Ask, image_start, table_words, view}
 use Rattle.packing.specs.Tops.{sum_below}
 use Rattle.shen_graph.specs.declared.name.Name.{Name}
 use Rattle.shen_graph.specs.Graph.{Graph, named}
@@ -50,8 +51,12 @@ pub record IsPaused (c : Config) (before after : Word → ℕ) (g : Graph) (aski
   pub answers : (t : ℕ) → t < c.mutators → Answers (asking t) (asked_then t)
   pub crowded : (t refs nums : ℕ) → t < c.mutators → asking t ≡ asks refs nums → asked_then t ≡ refused → IsCrowded c g asked_then t (3 + refs + nums)
 
--- the law of a pause: it keeps the image's length, and it owes what a pause owes wherever the image stands for a graph
+-- A pause is due: in phases 2 and 3 all regions are claimed, or an allocation waits.
+abbrev pub IsDue : Config → (Word → ℕ) → Type 0
+IsDue c memory = 2 ≤ memory Phase → bit_at (memory Ask) 1 ≡ 0 → c.regions ≤ memory Claim
+
+-- the law of a pause: it keeps the image's length, and it owes what a pause owes wherever the image stands for a graph and the pause is due
 pub record IsPause (change : Change) : Type 0 where
   pub long : (c : Config) (image : List ℕ) → length image ≡ image_words c → length (change c image) ≡ image_words c
   pub pauses : (c : Config) (image : List ℕ) (g : Graph) (asking : ℕ → Asking) → length image ≡ image_words c
-      → Represents c (image_view c image) g asking → IsPaused c (image_view c image) (image_view c (change c image)) g asking
+      → Represents c (image_view c image) g asking → IsDue c (image_view c image) → IsPaused c (image_view c image) (image_view c (change c image)) g asking

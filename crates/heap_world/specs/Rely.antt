@@ -1,21 +1,21 @@
 -- What facts of one machine stand on while a machine makes a step from one world to another.
-use Rattle.std.specs.Prelude.{ℕ, ◌≡◌, ◌+◌, ◌<◌, ◌≤◌, true, Some}
+use Rattle.std.specs.Prelude.{ℕ, ◌≡◌, ◌≢◌, ◌⊎◌, ◌+◌, ◌<◌, ◌≤◌, true, Some}
 use Rattle.std.specs.Int.{bit_at}
 use Rattle.heap_words.specs.declared.config.Config.{Config}
 use Rattle.heap_words.specs.Ranges.{seat_count}
-use Rattle.heap_words.specs.Words.{Top, Current, Root, Heap, Phase, Cset, Evac, Ask, State, Wait, Answer, Count, Buffer, Grey}
+use Rattle.heap_words.specs.Words.{Top, Tams, Limit, Current, Root, Heap, Phase, Cset, Evac, Claim, Ask, State, Wait, Answer, Count, Buffer, Grey}
 use Rattle.regions.specs.Sets.{IsIn}
 use Rattle.evac_room.specs.Counter.{is_out_of_room, IsQuiet}
 use Rattle.mark_bits.specs.Marks.{HasMark}
 use Rattle.shen_graph.specs.declared.name.Name.{Name}
-use Rattle.heap_world.specs.World.{World, Block, TargetIn, thing, moved, spent, hand, promised, words_of, name_at, Body, body_at, body_words, IsCollected, IsMarkable, NotedIn}
+use Rattle.heap_world.specs.World.{World, Block, TargetIn, thing, moved, spent, hand, promised, filler, words_of, name_at, Body, body_at, body_words, IsCollected, IsMarkable, IsCurrent, NotedIn}
 
--- What holds of marking whoever steps, outside pauses: the phase and the snapshot stay, while objects are marked what can be marked
+-- What holds of marking whoever steps, outside pauses: the phase and the snapshot stay, but while objects are evacuated what can be marked
 -- stays so, with its shape, and what is noted stays noted.
 pub record KeepsMarks (c : Config) (u w : World) : Type 0 where
   pub phase : w.memory Phase ≡ u.memory Phase
   pub snapshot : w.ghost.snapshot ≡ u.ghost.snapshot
-  pub markable : u.memory Phase ≡ 1 → (a : ℕ) → IsMarkable u.block a → IsMarkable w.block a
+  pub markable : u.memory Phase ≢ 2 → (a : ℕ) → IsMarkable u.block a → IsMarkable w.block a
   pub shapes : (a : ℕ) → IsMarkable u.block a → w.memory (Heap (a + 1)) ≡ u.memory (Heap (a + 1))
   pub noted : (v : ℕ) → NotedIn c u v → NotedIn c w v
 
@@ -69,6 +69,17 @@ pub record RelyCopies (c : Config) (seat : ℕ) (u w : World) : Type 0 where
   pub words : (a k : ℕ) (b : Body) → seat < seat_count c.mutators c.helpers → u.ghost.copying seat ≡ true → IsCollected c (u.memory Cset) a → body_at (u.block a) ≡ Some b
       → 1 ≤ k → k < body_words b → w.memory (Heap (a + k)) ≡ u.memory (Heap (a + k))
 
+-- What holds of the updating of references whoever steps, outside pauses: tops at mark start and limits stay, and so do words that only
+-- fill; once all regions are claimed they stay claimed; and while references are updated each field of an object stays as it is or is
+-- current then.
+pub record KeepsFields (c : Config) (u w : World) : Type 0 where
+  pub tams : (r : ℕ) → w.memory (Tams r) ≡ u.memory (Tams r)
+  pub limits : (r : ℕ) → w.memory (Limit r) ≡ u.memory (Limit r)
+  pub fillers : (a words : ℕ) → u.block a ≡ Some (filler words) → w.block a ≡ Some (filler words)
+  pub claims : c.regions ≤ u.memory Claim → c.regions ≤ w.memory Claim
+  pub fields : u.memory Phase ≡ 3 → (a refs nums k : ℕ) (name : Name) → u.block a ≡ Some (thing name refs nums) → k < refs
+      → (w.memory (Heap (a + 3 + k)) ≡ u.memory (Heap (a + 3 + k))) ⊎ IsCurrent w.block (w.memory (Heap (a + 3 + k)))
+
 -- What the machine of a seat relies on while another machine leads from u to w: objects stay where they are; what is the
 -- seat's own stays as it is; phase and collection set stay, which only a pause changes, and so does that a mutator waits.
 pub record Rely (c : Config) (seat : ℕ) (u w : World) : Type 0 where
@@ -92,3 +103,4 @@ pub record Rely (c : Config) (seat : ℕ) (u w : World) : Type 0 where
   pub asked : bit_at (u.memory Ask) 1 ≡ 1 → bit_at (w.memory Ask) 1 ≡ 1
   pub marks : RelyMarks c seat u w
   pub copies : RelyCopies c seat u w
+  pub fields : KeepsFields c u w

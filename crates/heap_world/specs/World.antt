@@ -2,7 +2,7 @@
 use Rattle.std.specs.Prelude.{ℕ, ◌≡◌, ◌≢◌, ◌⊎◌, ◌+◌, ◌<◌, ◌≤◌, ◌^◌, Bool, true, false, if◌then◌else◌, Option, Some, None, zero, suc}
 use Rattle.std.specs.Int.{bit_at}
 use Rattle.heap_words.specs.declared.config.Config.{Config}
-use Rattle.heap_words.specs.Words.{Word, Phase, Cset, Free, Evac, Claim, Top, Tams, Current, Count, Buffer, Grey, Black, Heap}
+use Rattle.heap_words.specs.Words.{Word, Phase, Cset, Free, Evac, Claim, Top, Tams, Limit, Current, Count, Buffer, Grey, Black, Heap}
 use Rattle.heap_words.specs.Encoding.{plain_header, header_word, shape_word, name_code, object_words}
 use Rattle.heap_words.specs.Ranges.{seat_count}
 use Rattle.regions.specs.Place.{base_of, region_with}
@@ -46,7 +46,7 @@ pub record Snapshot : Type 0 where
   pub starts : ℕ → Bool
   pub top : ℕ → ℕ
 
--- where a scan stands: at a field of an object
+-- where a scan of marking, or a unit of updating, stands: at a field of an object
 pub record Scan : Type 0 where
   pub object : ℕ
   pub field : ℕ
@@ -239,10 +239,11 @@ pub record AreOwned (c : Config) (top : ℕ → ℕ) (free : ℕ) (current : ℕ
   pub currents : AreCurrent c current owner
   pub rooms : AreRooms c top current block
 
--- The phase is 0 to 2. Only while objects are evacuated, in phase 2, is a region in the collection set or a copier counted.
+-- The phase is 0 to 3. Only in phases 2 and 3, while objects are evacuated and references to them updated, is a region in the collection
+-- set, and only in phase 2 is a copier counted.
 pub record IsPhased (phase cset evac : ℕ) : Type 0 where
-  pub phase_is : phase ≤ 2
-  pub cset_is : phase ≢ 2 → cset ≡ 0
+  pub phase_is : phase ≤ 3
+  pub cset_is : phase < 2 → cset ≡ 0
   pub evac_is : phase ≢ 2 → evac ≡ 0
 
 -- so many words are a new object: its shape word says so, and its references are null
@@ -386,13 +387,15 @@ pub data HasCopy (block : Plot) (a : ℕ) : Type 0 where
   copy : (b : Body) → body_at (block a) ≡ Some b → HasCopy block a
   spent_copy : (words to : ℕ) → block a ≡ Some (spent words to) → HasCopy block a
 
--- While objects are evacuated, each object is marked or was allocated since mark start, as room in hand was; and what is marked in the
--- collection set is an object.
+-- While objects are evacuated and references to them updated, each object is marked or was allocated since mark start, as room in hand
+-- was, and words that only fill are neither; and what is marked in the collection set is an object.
 pub record AreKept (c : Config) (phase cset : ℕ) (black top tams : ℕ → ℕ) (block : Plot) : Type 0 where
-  pub objects : phase ≡ 2 → (a : ℕ) → IsMarkable block a → HasMark c black a ⊎ IsYoung c tams a
-  pub young : phase ≡ 2 → (a seat words : ℕ) → block a ≡ Some (hand seat words) → IsYoung c tams a
-  pub floors : phase ≡ 2 → (r : ℕ) → r < c.regions → tams r ≤ top r
-  pub only : phase ≡ 2 → (a : ℕ) → c.region_words ≤ a → HasMark c black a → IsCollected c cset a → HasCopy block a
+  pub objects : 2 ≤ phase → (a : ℕ) → IsMarkable block a → HasMark c black a ⊎ IsYoung c tams a
+  pub young : 2 ≤ phase → (a seat words : ℕ) → block a ≡ Some (hand seat words) → IsYoung c tams a
+  pub floors : 2 ≤ phase → (r : ℕ) → r < c.regions → tams r ≤ top r
+  pub unmarked : 2 ≤ phase → (a words : ℕ) → block a ≡ Some (filler words) → HasMark c black a → ⊥
+  pub fillers : 2 ≤ phase → (a words : ℕ) → block a ≡ Some (filler words) → IsYoung c tams a → ⊥
+  pub only : 2 ≤ phase → (a : ℕ) → c.region_words ≤ a → HasMark c black a → IsCollected c cset a → HasCopy block a
 
 -- A region of the collection set is swept up to an address: no object has its current copy below it; or there was no room.
 abbrev pub IsSweptTo : Config → (evac : ℕ) → Plot → (region end : ℕ) → Type 0
@@ -411,8 +414,8 @@ AreCaredFor c phase cset evac claim block working = phase ≡ 2 → (r : ℕ) �
 abbrev pub AreUsable : Config → (cset evac : ℕ) → Plot → (root : ℕ → ℕ → ℕ) → Type 0
 AreUsable c cset evac block root = (t i : ℕ) → t < c.mutators → i < 16 → IsUsable c cset evac block (root t i)
 
--- Evacuation: objects are copied out of the collection set beside the threads. In other phases than 2 the set is empty and no copier is
--- counted, so that nothing is said.
+-- Evacuation: objects are copied out of the collection set beside the threads, and lead to their copies while references to them are updated.
+-- In phases 0 and 1 the set is empty and no copier is counted, so that nothing is said.
 pub record IsEvacuating (c : Config) (phase cset evac claim free : ℕ) (top tams heap black : ℕ → ℕ) (block : Plot) (owner : ℕ → Option ℕ) (copying : ℕ → Bool) (working : ℕ → Option ℕ) : Type 0 where
   pub moved : HaveMoved c cset heap block
   pub counted : IsCounted c evac copying
@@ -420,10 +423,35 @@ pub record IsEvacuating (c : Config) (phase cset evac claim free : ℕ) (top tam
   pub kept : AreKept c phase cset black top tams block
   pub units : AreCaredFor c phase cset evac claim block working
 
+-- A word is current: it names no old copy, for it is null or the address of an object's current copy.
+pub data IsCurrent (block : Plot) (word : ℕ) : Type 0 where
+  null : word ≡ 0 → IsCurrent block word
+  names : (refs nums : ℕ) (name : Name) → block word ≡ Some (thing name refs nums) → IsCurrent block word
+
+-- a field comes where a machine stands in its unit of updating, or behind
+abbrev pub IsAhead : Scan → (a k : ℕ) → Type 0
+IsAhead at a k = (at.object < a) ⊎ ((at.object ≡ a) × (at.field ≤ k))
+
+-- A field is still to be updated: its object lies below the limit of its region, and the region's unit is not claimed, or a machine is in
+-- the unit that has not come past the field.
+pub data IsToUpdate (c : Config) (claim : ℕ) (limit : ℕ → ℕ) (scanning : ℕ → Option Scan) (a k : ℕ) : Type 0 where
+  unclaimed : (IsYoung c limit a → ⊥) → claim ≤ region_with c a → IsToUpdate c claim limit scanning a k
+  in_unit : (IsYoung c limit a → ⊥) → (seat : ℕ) (at : Scan) → seat < seat_count c.mutators c.helpers → scanning seat ≡ Some at
+      → region_with c at.object ≡ region_with c a → IsAhead at a k → IsToUpdate c claim limit scanning a k
+
+-- Updating of references: no object has its current copy in the collection set any more, and each field of a current copy is current or
+-- still to be updated. Limits are tops when updating began: room in hand lies at or above them.
+pub record IsUpdating (c : Config) (cset claim : ℕ) (top limit heap : ℕ → ℕ) (block : Plot) (scanning : ℕ → Option Scan) : Type 0 where
+  pub outside : (a refs nums : ℕ) (name : Name) → block a ≡ Some (thing name refs nums) → IsCollected c cset a → ⊥
+  pub renewed : (a refs nums k : ℕ) (name : Name) → block a ≡ Some (thing name refs nums) → k < refs
+      → IsCurrent block (heap (a + 3 + k)) ⊎ IsToUpdate c claim limit scanning a k
+  pub young : (a seat words : ℕ) → block a ≡ Some (hand seat words) → IsYoung c limit a
+  pub limits : (r : ℕ) → r < c.regions → limit r ≤ top r
+
 -- The facts that all machines share, in groups, each over the words that it speaks of: a step that changes none of these words
 -- hands the group on as it is.
 pub record SharedFacts (c : Config) (top heap : ℕ → ℕ) (block : Plot) (ghost : Ghost) (object : Name → Option Object) (count : ℕ → ℕ) (phase cset evac free : ℕ) (current : ℕ → ℕ)
-    (grey black entries : ℕ → ℕ) (buffer : ℕ → ℕ → ℕ) (tams : ℕ → ℕ) (claim : ℕ) : Type 0 where
+    (grey black entries : ℕ → ℕ) (buffer : ℕ → ℕ → ℕ) (tams : ℕ → ℕ) (claim : ℕ) (limit : ℕ → ℕ) : Type 0 where
   pub parsable : IsParsable c top block
   pub contents : HasContents c heap block object count
   pub owned : AreOwned c top free current block ghost.owner
@@ -431,11 +459,12 @@ pub record SharedFacts (c : Config) (top heap : ℕ → ℕ) (block : Plot) (gho
   pub unwritten : AreUnwritten heap block
   pub marked : KeepsSnapshot c phase grey black entries buffer top tams heap block ghost.snapshot ghost.recording ghost.scanning
   pub evacuated : IsEvacuating c phase cset evac claim free top tams heap black block ghost.owner ghost.copying ghost.working
+  pub updated : phase ≡ 3 → IsUpdating c cset claim top limit heap block ghost.scanning
 
 abbrev pub Shared : Config → World → Type 0
 Shared c w = SharedFacts c (λ r. w.memory (Top r)) (λ a. w.memory (Heap a)) w.block w.ghost w.graph.object w.graph.count (w.memory Phase) (w.memory Cset) (w.memory Evac)
     (w.memory Free) (λ s. w.memory (Current s)) (λ n. w.memory (Grey n)) (λ n. w.memory (Black n)) (λ t. w.memory (Count t)) (λ t k. w.memory (Buffer t k)) (λ r. w.memory (Tams r))
-    (w.memory Claim)
+    (w.memory Claim) (λ r. w.memory (Limit r))
 
 -- the object's current copy is at an address of a world, and may be used
 abbrev pub TargetIn : Config → World → (address refs nums : ℕ) → Name → Type 0

@@ -1,0 +1,3 @@
+pub mod Updating
+pub mod Following
+pub mod Laws
