@@ -110,7 +110,7 @@ module _ (c : Config) (m : Word → ℕ) (g : Graph) (asking : ℕ → Asking) (
   names_stay a name is = let piece = thing_at c m g asking r calm a name is in ap name_at (thing_stays a piece.0 piece.1 name piece.2)
 
   top_stays : (q : ℕ) → out q ≡ false → n (Top q) ≡ m (Top q)
-  top_stays = freed.top_stays c out (closed c m) r.block r.shared.parsable rooms
+  top_stays = freed.top_stays c out (closed c m)
 
   objects_again : AreObjects (λ a. m (Heap a)) plot g.object
   objects_again = record {
@@ -179,7 +179,7 @@ module _ (c : Config) (m : Word → ℕ) (g : Graph) (asking : ℕ → Asking) (
 
   -- What is marked then is an object, and each object is marked or new.
   tams_stays : (q : ℕ) → out q ≡ false → n (Tams q) ≡ m (Tams q)
-  tams_stays = freed.tams_stays c out (closed c m) r.block r.shared.parsable rooms
+  tams_stays = freed.tams_stays c out (closed c m)
 
   was_markable : (a : ℕ) → IsMarkable plot a → IsMarkable r.block a
   was_markable a (IsMarkable.object name refs nums is) = IsMarkable.object name refs nums (left a (thing name refs nums) is).1
@@ -207,7 +207,7 @@ module _ (c : Config) (m : Word → ℕ) (g : Graph) (asking : ℕ → Asking) (
 
   floors_again : (q : ℕ) → q < c.regions → n (Tams q) ≤ n (Top q)
   floors_again q inside = ⊎_elim
-      (λ (dead : out q ≡ true). (let none = freed.tams_out c out (closed c m) r.block r.shared.parsable rooms q dead in omega (arith, none)))
+      (λ (dead : out q ≡ true). (let none = freed.tams_out c out (closed c m) q dead in omega (arith, none)))
       (λ (other : out q ≡ false).
       let top = top_stays q other in
       let tams = tams_stays q other in

@@ -1,1 +1,4 @@
--- Lemmas.
+pub mod Beginning
+pub mod Freeing
+pub mod Ending
+pub mod Outside
