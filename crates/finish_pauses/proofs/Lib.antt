@@ -1,3 +1,4 @@
 pub mod Copying
 pub mod Updating
 pub mod Serving
+pub mod Idle
