@@ -1,1 +1,6 @@
 -- Lemmas.
+pub mod Passes
+pub mod Changes
+pub mod Facts
+pub mod Pieces
+pub mod Stored
