@@ -9,6 +9,7 @@ use Rattle.regions.specs.Sets.{IsIn}
 use Rattle.shen_graph.specs.declared.name.Name.{Name}
 use Rattle.heap_world.specs.World.{World, thing, filler, IsMarkable, IsCurrent, Shared}
 use Rattle.heap_world.specs.Rely.{KeepsFields, Keeps, Rely}
+use Rattle.heap_world.proofs.Updated.{current_stays}
 use Rattle.update_refs.specs.declared.spot.Walk.{Walk}
 use Rattle.update_refs.specs.declared.spot.Visit.{Visit}
 use Rattle.update_refs.specs.declared.spot.UpdateSpot.{UpdateSpot}
@@ -51,10 +52,6 @@ module _ (c : Config) (u w : World) (seat : ℕ) (shared : Shared c u) (on : u.m
   thing_stays : (a refs nums : ℕ) (name : Name) → u.block a ≡ Some (thing name refs nums) → w.block a ≡ Some (thing name refs nums)
   thing_stays a refs nums name is = (keeps.targets a refs nums name (record { piece = is; safe = λ inside. absurd ((shared.updated on).outside a refs nums name is inside) })).piece
 
-  current_stays : (v : ℕ) → IsCurrent u.block v → IsCurrent w.block v
-  current_stays v (IsCurrent.null is) = IsCurrent.null is
-  current_stays v (IsCurrent.names refs nums name is) = IsCurrent.names refs nums name (thing_stays v refs nums name is)
-
   found_stays : (at : Visit) (field found to : ℕ) → HasField c u at field → HasFound u at field found to → HasFound w at field found to
   found_stays at field found to has finds =
       let holder = finds.holder in
@@ -70,7 +67,7 @@ module _ (c : Config) (u w : World) (seat : ℕ) (shared : Shared c u) (on : u.m
         still = ⊎_elim
             (λ (same : w.memory (Heap (at.address + 3 + field)) ≡ u.memory (Heap (at.address + 3 + field))). ⊎_elim
             (λ (is : u.memory (Heap (at.address + 3 + field)) ≡ found). inl (same ∙ is))
-            (λ (current : IsCurrent u.block (u.memory (Heap (at.address + 3 + field)))). inr (subst (IsCurrent w.block) (sym same) (current_stays _ current)))
+            (λ (current : IsCurrent u.block (u.memory (Heap (at.address + 3 + field)))). inr (subst (IsCurrent w.block) (sym same) (current_stays u.block w.block thing_stays _ current)))
             finds.still)
             (λ (current : IsCurrent w.block (w.memory (Heap (at.address + 3 + field)))). inr current)
             (fields.fields on at.address holder.1 holder.2 field holder.0 holder.3 (omega (arith, below, all)));

@@ -4,3 +4,5 @@ pub mod Changes
 pub mod Facts
 pub mod Pieces
 pub mod Stored
+pub mod Steps
+pub mod Parts

@@ -10,7 +10,7 @@ use Rattle.heap_words.specs.Words.{Phase, Top, Heap}
 use Rattle.shen_graph.specs.declared.name.Name.{Name}
 use Rattle.shen_graph.specs.Graph.{Reference, Object, Graph, same_name}
 use Rattle.shen_graph.proofs.PlainLemmas.{same_name-true}
-use Rattle.heap_world.specs.World.{World, thing, moved, name_at, Points, IsThing, TargetIn, IsCovered, Shared}
+use Rattle.heap_world.specs.World.{World, thing, moved, name_at, Points, IsThing, TargetIn, IsCurrent, IsCovered, Shared}
 use Rattle.heap_world.specs.Rely.{Rely}
 use Rattle.heap_world.proofs.Pointing.{piece_inside}
 use Rattle.heap_world.proofs.Updates.{updated}
@@ -66,16 +66,20 @@ module _ (c : Config) (u : World) (shared : Shared c u) (on : u.memory Phase ≡
     nothing_covered i inside same other_refs other_nums m there under =
         absurd (none-some _ (sym (ap (λ s. s.block a) (shared.marked.empty (λ one. omega (arith, on, one)))) ∙ there))
 
+    -- the current copy is current
+    copy_current : (i : ℕ) → i < refs → a + 3 + field ≡ a + 3 + i → IsCurrent u.block to
+    copy_current i inside same = IsCurrent.names more_refs more_nums n (shared.evacuated.moved.moveds found more_refs more_nums to n old).copy
+
     -- machines share what they should
     pub shared_renewed : Shared c renewed_world
     shared_renewed =
         let of_graph = shared.contents.objects.each a refs nums name is in
         subst (λ g. Shared c (stored u (a + 3 + field) to g)) (same_graph u.graph name of_graph.0 of_graph.1)
-        (shared_stored c u a refs nums (a + 3 + field) to name of_graph.0 u.graph.root shared target (omega arith) (omega (arith, below)) nothing_covered same_thing)
+        (shared_stored c u a refs nums (a + 3 + field) to name of_graph.0 u.graph.root shared target (omega arith) (omega (arith, below)) nothing_covered copy_current same_thing)
 
     -- and each can rely on what it knew
     pub rely_renewed : (seat : ℕ) → Rely c seat u renewed_world
     rely_renewed seat =
         let of_graph = shared.contents.objects.each a refs nums name is in
         subst (λ g. Rely c seat u (stored u (a + 3 + field) to g)) (same_graph u.graph name of_graph.0 of_graph.1)
-        (rely_stored c u a refs nums (a + 3 + field) to name of_graph.0 u.graph.root shared target (omega arith) (omega (arith, below)) seat (λ i. refl))
+        (rely_stored c u a refs nums (a + 3 + field) to name of_graph.0 u.graph.root shared target (omega arith) (omega (arith, below)) copy_current seat (λ i. refl))
