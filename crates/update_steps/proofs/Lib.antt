@@ -1,4 +1,3 @@
--- Lemmas.
 pub mod Passes
 pub mod Changes
 pub mod Facts
@@ -6,3 +5,5 @@ pub mod Pieces
 pub mod Stored
 pub mod Steps
 pub mod Parts
+pub mod Following
+pub mod Done
