@@ -1,5 +1,5 @@
 -- What a step owes that changes how many units are claimed, and where a machine stands in its unit.
-use Rattle.std.proofs.Common.{◌≡◌, ◌≢◌, ℕ, ◌+◌, ◌<◌, ◌≤◌, ◌⊎◌, Option, sym, ◌∙◌, subst, arith}
+use Rattle.std.proofs.Common.{◌≡◌, ◌≢◌, ℕ, ◌≤◌, Option, sym, ◌∙◌, subst, arith}
 use Rattle.heap_words.specs.declared.config.Config.{Config}
 use Rattle.heap_words.specs.Words.{Phase, Cset, Claim, Top, Tams, Limit, Count, Buffer, Grey, Black, Heap, write}
 use Rattle.steps_base.specs.Touch.{Touch, touched}

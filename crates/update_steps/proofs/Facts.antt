@@ -1,20 +1,19 @@
 -- What a machine counts on while it works on a unit of updating stays while others step, and while it goes on itself.
-use Rattle.std.proofs.Common.{◌≡◌, ◌≢◌, ℕ, ◌+◌, ◌<◌, ◌⊎◌, Some, ⊎_elim, inl, inr, sym, ap, ◌∙◌, subst, arith}
+use Rattle.std.proofs.Common.{◌≡◌, ℕ, ◌+◌, Some, ⊎_elim, inl, inr, sym, ap, ◌∙◌, subst, arith}
 use Rattle.heap_words.specs.declared.config.Config.{Config}
 use Rattle.heap_words.specs.Encoding.{refs_in}
 use Rattle.heap_words.proofs.Shapes.{refs_in-shape_word}
-use Rattle.heap_words.specs.Words.{Phase, Cset, Limit, Tams, Heap}
-use Rattle.regions.specs.Place.{base_of}
+use Rattle.heap_words.specs.Words.{Phase, Heap}
 use Rattle.regions.specs.Sets.{IsIn}
 use Rattle.shen_graph.specs.declared.name.Name.{Name}
-use Rattle.heap_world.specs.World.{World, thing, filler, IsMarkable, IsCurrent, Shared}
+use Rattle.heap_world.specs.World.{World, thing, IsMarkable, IsCurrent, Shared}
 use Rattle.heap_world.specs.Rely.{KeepsFields, Keeps, Rely}
 use Rattle.heap_world.proofs.Updated.{current_stays}
 use Rattle.update_refs.specs.declared.spot.Walk.{Walk}
 use Rattle.update_refs.specs.declared.spot.Visit.{Visit}
 use Rattle.update_refs.specs.declared.spot.UpdateSpot.{UpdateSpot}
 use Rattle.update_refs.specs.declared.spot.UpdateSpot.TheVariants.{LoadClaim, ClaimUnit, LoadLimit, LoadTams, LoadShape, LoadBlack, LoadField, LoadHeader, ExchangeField, Ended}
-use Rattle.update_steps.specs.Updating.{IsUnit, IsWalkedTo, IsPiece, HasShape, HasField, HasThing, HasFound, UpdateFacts, CanUpdate}
+use Rattle.update_steps.specs.Updating.{IsUnit, IsWalkedTo, IsPiece, HasShape, HasField, HasFound, UpdateFacts, CanUpdate}
 
 module _ (c : Config) (u w : World) (seat : ℕ) (shared : Shared c u) (on : u.memory Phase ≡ 3) (keeps : Keeps c seat u w) (fields : KeepsFields c u w) where
   unit_stays : (region : ℕ) → IsUnit c u region → IsUnit c w region

@@ -1,5 +1,5 @@
 -- Working on a unit of updating as a part: any machine that has a seat can have it inside.
-use Rattle.std.proofs.Common.{◌≡◌, ℕ, ◌+◌, ◌*◌, ◌<◌, ◌≤◌, true, Some, None, inl, inr, refl, sym, ap, ◌∙◌, subst, arith}
+use Rattle.std.proofs.Common.{◌≡◌, ℕ, ◌+◌, ◌<◌, ◌≤◌, true, Some, inl, refl, sym, subst, arith}
 use Rattle.std.proofs.lemmas.Bool.{and_from, le-leb, lt-ltb}
 use Rattle.heap_words.specs.declared.config.Config.{Config}
 use Rattle.heap_words.specs.Encoding.{refs_in}
@@ -8,7 +8,6 @@ use Rattle.steps_base.specs.Touch.{loads}
 use Rattle.mark_bits.proofs.Marking.{word_inside}
 use Rattle.shen_graph.specs.declared.name.Name.{Name}
 use Rattle.heap_world.specs.World.{World, Block, moved, words_of, Body, body_at, body_words, IsCollected, Shared}
-use Rattle.heap_world.specs.Rely.{Rely}
 use Rattle.heap_world.specs.Part.{Part}
 use Rattle.heap_world.proofs.Apart.{one_piece}
 use Rattle.heap_world.proofs.Keeping.{keeps_of}
@@ -123,16 +122,16 @@ module _ (c : Config) (u : World) (shared : Shared c u) (on : u.memory Phase ≡
 pub updating_steps : UpdatingSteps
 updating_steps = record {
   begins = λ c u seat seated on idle nothing. record {
-      seated = seated;
-      phase = on;
-      set_is = refl;
-      copying = nothing.copying;
-      working = idle;
-      records_none = nothing.records_none;
-      scanning = nothing.scans_none;
-      hands = nothing.hands;
-      facts = tt;
-    };
+    seated = seated;
+    phase = on;
+    set_is = refl;
+    copying = nothing.copying;
+    working = idle;
+    records_none = nothing.records_none;
+    scanning = nothing.scans_none;
+    hands = nothing.hands;
+    facts = tt;
+  };
   each = λ c u seat cset at going shared can. each_updates c u seat cset at going shared can;
   stays = λ c u w seat cset at shared rely can. can_update_stays c u w seat cset at shared (keeps_of c seat u w rely) rely can;
   ready = λ c u seat cset at shared can. ready_there c u shared can.phase at can.facts;

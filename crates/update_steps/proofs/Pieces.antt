@@ -1,5 +1,5 @@
 -- The pieces of a unit of updating, how long they are, and what their references name.
-use Rattle.std.proofs.Common.{◌≡◌, ◌≢◌, ℕ, ◌+◌, ◌<◌, ◌≤◌, ◌⊎◌, true, false, Option, Some, None, length, ⊎_elim, inl, inr, refl, sym, ap, ◌∙◌, subst, arith}
+use Rattle.std.proofs.Common.{◌≡◌, ℕ, ◌+◌, ◌<◌, ◌≤◌, ◌⊎◌, true, false, Some, None, length, ⊎_elim, inl, inr, refl, sym, ap, ◌∙◌, subst, arith}
 use Rattle.std.specs.Prelude.{◌==◌}
 use Rattle.std.specs.Int.{bit_at}
 use Rattle.std.proofs.lemmas.Bool.{cases_Bool, eq-eqb, eqb-true, and_from, and_left, and_right}
@@ -13,12 +13,12 @@ use Rattle.regions.specs.Place.{base_of, region_with}
 use Rattle.regions.specs.Sets.{IsIn}
 use Rattle.shen_graph.specs.declared.name.Name.{Name}
 use Rattle.shen_graph.specs.Graph.{Reference}
-use Rattle.heap_world.specs.World.{World, Block, thing, moved, spent, hand, promised, filler, words_of, Points, body_of, IsCollected, IsYoung, IsMarkable, IsCurrent, Shared}
-use Rattle.heap_world.proofs.Pointing.{named_body, copy_cases, piece_inside, piece_word}
+use Rattle.heap_world.specs.World.{World, Block, thing, moved, spent, hand, promised, filler, words_of, Points, body_of, IsMarkable, IsCurrent, Shared}
+use Rattle.heap_world.proofs.Pointing.{named_body, copy_cases, piece_word}
 use Rattle.update_refs.specs.declared.spot.Walk.{Walk}
 use Rattle.update_refs.specs.declared.spot.Visit.{Visit}
 use Rattle.update_refs.specs.Rows.{limit_of, names_set}
-use Rattle.evac_steps.proofs.Walks.{region_is, three_words}
+use Rattle.evac_steps.proofs.Walks.{region_is}
 use Rattle.update_steps.specs.Updating.{IsUnit, IsWalkedTo, IsPiece, HasShape, HasField, HasFound}
 
 -- the words of an object with so many references and numbers

@@ -1,19 +1,18 @@
 -- The steps by which a machine works on a unit of updating.
-use Rattle.std.proofs.Common.{◌≡◌, ◌≢◌, ℕ, ◌+◌, ◌*◌, ◌/◌, ◌%◌, ◌<◌, ◌≤◌, nat_lt, true, false, Option, Some, None, ⊎_elim, inl, inr, ◌⊎◌, refl, sym, ap, ◌∙◌, subst, arith}
+use Rattle.std.proofs.Common.{◌≡◌, ◌≢◌, ℕ, ◌+◌, ◌*◌, ◌%◌, ◌<◌, ◌≤◌, nat_lt, true, false, Option, Some, ⊎_elim, inl, inr, refl, sym, ap, ◌∙◌, subst, arith}
 use Rattle.std.specs.Prelude.{◌==◌}
 use Rattle.std.specs.Int.{bit_at}
-use Rattle.std.proofs.lemmas.Bool.{cases_eq, cases_Bool, cond-true, cond-false, eq-eqb, eqb-true, eqb-false, ne_eqb, false≢true, ltb-true, ltb-false}
+use Rattle.std.proofs.lemmas.Bool.{cases_eq, cases_Bool, cond-true, cond-false, eq-eqb, eqb-true, eqb-false, false≢true, ltb-true, ltb-false}
 use Rattle.heap_words.specs.declared.config.Config.{Config}
 use Rattle.heap_words.specs.declared.access.Unit.TheVariants.{Worked, NoneLeft}
-use Rattle.heap_words.specs.Encoding.{refs_in, object_words, header_word, is_forwarded, forwardee_in}
-use Rattle.heap_words.specs.Ranges.{seat_count}
+use Rattle.heap_words.specs.Encoding.{refs_in, header_word, is_forwarded, forwardee_in}
 use Rattle.heap_words.specs.Words.{Word, Phase, Cset, Claim, Top, Tams, Limit, Black, Heap, write}
 use Rattle.regions.specs.Place.{base_of, region_with}
 use Rattle.regions.specs.Sets.{IsIn}
 use Rattle.steps_base.specs.Touch.{touched}
 use Rattle.mark_bits.specs.Marks.{mark_word, mark_bit, HasMark}
 use Rattle.shen_graph.specs.declared.name.Name.{Name}
-use Rattle.heap_world.specs.World.{World, Scan, Block, thing, moved, filler, words_of, IsMarkable, IsYoung, IsCurrent, IsUpdating, Shared}
+use Rattle.heap_world.specs.World.{World, Scan, Block, thing, words_of, IsMarkable, IsYoung, IsCurrent, IsUpdating, Shared}
 use Rattle.heap_world.specs.Rely.{Rely}
 use Rattle.heap_world.proofs.Keeping.{load_keeps, rely_same, keeps_of}
 use Rattle.heap_world.proofs.Updates.{updated, updated_there}
@@ -21,9 +20,9 @@ use Rattle.update_refs.specs.declared.spot.Walk.{Walk}
 use Rattle.update_refs.specs.declared.spot.Visit.{Visit}
 use Rattle.update_refs.specs.declared.spot.UpdateSpot.{UpdateSpot}
 use Rattle.update_refs.specs.declared.spot.UpdateSpot.TheVariants.{LoadClaim, ClaimUnit, LoadLimit, LoadTams, LoadShape, LoadBlack, LoadField, LoadHeader, ExchangeField, Ended}
-use Rattle.update_refs.specs.Rows.{touch_at, is_ended, limit_of, tams_of, end_of, names_set, next_object, next_field}
-use Rattle.evac_steps.proofs.Walks.{region_is, placed, three_words}
-use Rattle.update_steps.specs.Updating.{pass_of, IsUnit, IsWalkedTo, IsPiece, HasShape, HasField, HasFound, UpdateFacts, CanUpdate}
+use Rattle.update_refs.specs.Rows.{touch_at, is_ended, limit_of, tams_of, names_set, next_object, next_field}
+use Rattle.evac_steps.proofs.Walks.{region_is, placed}
+use Rattle.update_steps.specs.Updating.{pass_of, IsWalkedTo, IsPiece, HasShape, HasField, HasFound, UpdateFacts, CanUpdate}
 use Rattle.update_steps.specs.Laws.{spot_then, UpdateStep}
 use Rattle.update_steps.proofs.Passes.{Comes, comes_at, IsPassed, passed_same, updating_passed, updating_claimed}
 use Rattle.update_steps.proofs.Changes.{world_then, keeps_then, fields_then, step_then}
@@ -112,10 +111,15 @@ module _ (c : Config) (u : World) (seat cset : ℕ) where
       ⊎_elim
       (λ (less : address < a).
       let apart = base.shared.parsable.plotted.apart address a x (thing name refs nums) there is less in
-      inr (stand (address + words_of x) 0, refl, next_region ∙ sym here ∙ from.0, ⊎_elim
-      (λ (same : address + words_of x ≡ a). inr (same, omega arith))
-      (λ (differs : address + words_of x ≢ a). inl (omega (arith, apart, differs)))
-      (cases_eq (address + words_of x) a)))
+      inr (
+        stand (address + words_of x) 0,
+        refl,
+        next_region ∙ sym here ∙ from.0,
+        ⊎_elim
+            (λ (same : address + words_of x ≡ a). inr (same, omega arith))
+            (λ (differs : address + words_of x ≢ a). inl (omega (arith, apart, differs)))
+            (cases_eq (address + words_of x) a),
+      ))
       (λ (same : (address ≡ a) × (field ≤ k)). inl (subst (λ b. IsCurrent w.block (w.memory (Heap (b + 3 + k)))) same.0 (current refs nums k name (ap w.block same.0 ∙ is) below same.1)))
       from.1)
       next)
@@ -202,11 +206,15 @@ module _ (c : Config) (u : World) (seat cset : ℕ) where
       claims unit (LoadLimit unit) (eqb-true _ _ won) shared can (cond-true (u.memory Claim == unit) _ _ won ∙ cond-false (bit_at cset unit == 1) _ _ not_in)
       (λ a refs nums k name there here.
       let at = placed c u shared a (thing name refs nums) there in
-      let low : base_of c unit ≤ a = subst (λ r. base_of c r ≤ a) here at.from_base in
-      (stand (base_of c unit) 0, refl, base_region c unit ∙ sym here, ⊎_elim
-      (λ (same : base_of c unit ≡ a). inr (same, omega arith))
-      (λ (differs : base_of c unit ≢ a). inl (omega (arith, low, differs)))
-      (cases_eq (base_of c unit) a)))
+      let low : base_of c unit ≤ a = subst (λ r. base_of c r ≤ a) here at.from_base in (
+        stand (base_of c unit) 0,
+        refl,
+        base_region c unit ∙ sym here,
+        ⊎_elim
+            (λ (same : base_of c unit ≡ a). inr (same, omega arith))
+            (λ (differs : base_of c unit ≢ a). inl (omega (arith, low, differs)))
+            (cases_eq (base_of c unit) a),
+      ))
       (can.facts, λ inside. false≢true (sym not_in ∙ eq-eqb (bit_at cset unit) 1 (subst (λ set. IsIn set unit) (sym can.set_is) inside))))
       (cases_Bool (bit_at cset unit == 1)))
       (λ (lost : (u.memory Claim == unit) ≡ false).
