@@ -15,10 +15,13 @@ use Rattle.update_refs.specs.declared.spot.UpdateSpot.{UpdateSpot}
 use Rattle.update_refs.specs.declared.spot.UpdateSpot.TheVariants.{LoadClaim, ClaimUnit, LoadLimit, LoadTams, LoadShape, LoadBlack, LoadField, LoadHeader, ExchangeField, Ended}
 use Rattle.update_steps.specs.Updating.{IsUnit, IsWalkedTo, IsPiece, HasShape, HasField, HasFound, UpdateFacts, CanUpdate}
 
+-- Outside pauses, whoever steps: what holds by where a machine stands does so then.
 module _ (c : Config) (u w : World) (seat : ℕ) (shared : Shared c u) (on : u.memory Phase ≡ 3) (keeps : Keeps c seat u w) (fields : KeepsFields c u w) where
+  -- a region that can be a unit
   unit_stays : (region : ℕ) → IsUnit c u region → IsUnit c w region
   unit_stays region unit = (unit.0, λ is. unit.1 (subst (λ set. IsIn set region) keeps.copies.cset is))
 
+  -- a walk of it
   walked_stays : (walk : Walk) (address : ℕ) → IsWalkedTo c u walk address → IsWalkedTo c w walk address
   walked_stays walk address walked = record {
     unit = unit_stays walk.region walked.unit;
@@ -28,17 +31,21 @@ module _ (c : Config) (u w : World) (seat : ℕ) (shared : Shared c u) (on : u.m
     before = walked.before;
   }
 
+  -- an object, of the graph or promised
   alive_stays : (a : ℕ) → IsMarkable u.block a → IsMarkable w.block a
   alive_stays = keeps.marks.markable (λ two. omega (arith, on, two))
 
+  -- a piece
   piece_stays : (a : ℕ) → IsPiece u a → IsPiece w a
   piece_stays a (inl alive) = inl (alive_stays a alive)
   piece_stays a (inr fills) = inr (fills.0, fields.fillers a fills.0 fills.1)
 
+  -- its shape word
   shape_stays : (a shape : ℕ) → HasShape u a shape → HasShape w a shape
   shape_stays a shape (inl object) = inl (alive_stays a object.0, object.1 ∙ sym (keeps.marks.shapes a object.0))
   shape_stays a shape (inr fills) = inr (fills.0, fields.fillers a fills.0 fills.1, fills.2)
 
+  -- a reference of an object
   pub field_stays : (at : Visit) (field : ℕ) → HasField c u at field → HasField c w at field
   field_stays at field has = record {
     walked = walked_stays at.walk at.address has.walked;
@@ -51,6 +58,7 @@ module _ (c : Config) (u w : World) (seat : ℕ) (shared : Shared c u) (on : u.m
   thing_stays : (a refs nums : ℕ) (name : Name) → u.block a ≡ Some (thing name refs nums) → w.block a ≡ Some (thing name refs nums)
   thing_stays a refs nums name is = (keeps.targets a refs nums name (record { piece = is; safe = λ inside. absurd ((shared.updated on).outside a refs nums name is inside) })).piece
 
+  -- what the reference was found to be
   found_stays : (at : Visit) (field found to : ℕ) → HasField c u at field → HasFound u at field found to → HasFound w at field found to
   found_stays at field found to has finds =
       let holder = finds.holder in
@@ -72,6 +80,7 @@ module _ (c : Config) (u w : World) (seat : ℕ) (shared : Shared c u) (on : u.m
             (fields.fields on at.address holder.1 holder.2 field holder.0 holder.3 (omega (arith, below, all)));
       }
 
+  -- so do all of them
   pub facts_stay : (at : UpdateSpot) → UpdateFacts c u at → UpdateFacts c w at
   facts_stay LoadClaim facts = tt
   facts_stay (ClaimUnit unit) facts = facts

@@ -57,6 +57,7 @@ module _ (c : Config) (u : World) (shared : Shared c u) (on : u.memory Phase ≡
       let last : IsWord c (Heap (at.address + 2 + refs_in at.shape)) = subst (λ a. IsWord c (Heap a)) (omega arith) (shape_heap at.address at.shape (2 + refs_in at.shape) has (omega arith)) in
       and_from _ _ (walk_there at.walk at.address walked) (and_from _ _ (word_there c at.address first) (word_there c (at.address + 2 + refs_in at.shape) last))
 
+  -- and those of one with a reference
   field_there : (at : Visit) (field : ℕ) → HasField c u at field → has_field c at field ≡ true
   field_there at field has = and_from _ _ (visit_there at has.walked (inl (has.alive, has.shape_is))) (lt-ltb _ _ has.below)
 
