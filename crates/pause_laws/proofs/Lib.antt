@@ -1,4 +1,5 @@
 pub mod Sorted
+pub mod Held
 pub mod Promises
 pub mod Mapped
 pub mod Before
