@@ -26,7 +26,6 @@ use Rattle.pause_laws.proofs.Pauses.{paused}
 use Rattle.pause_laws.proofs.Promises.{promises_of}
 use Rattle.pause_laws.proofs.Dead.{plain}
 use Rattle.pause_laws.proofs.Holding.{holds_by}
-use Rattle.pause_laws.proofs.Held.{held_of}
 use Rattle.mark_laws.specs.Init.{init_marked}
 use Rattle.mark_laws.specs.Final.{final_marked}
 use Rattle.mark_laws.specs.Laws.{HasNoMoreSeats}
@@ -52,16 +51,16 @@ use Rattle.cycle_pauses.proofs.Images.{collected_by_name, collected_length}
 calm_in : (c : Config) (m : Word → ℕ) (g : Graph) (asking : ℕ → Asking) (r : Represents c m g asking) → m Phase < 2 → m Cset ≡ 0
 calm_in c m g asking r low = r.shared.phased.cset_is low
 
-can_collect : (c : Config) (m : Word → ℕ) (g : Graph) (asking : ℕ → Asking) (r : Represents c m g asking) → CanPause c m (plain c m g asking (held_of c m g asking r)) r.ghost.owner (promises_of c g asking) g
+can_collect : (c : Config) (m : Word → ℕ) (g : Graph) (asking : ℕ → Asking) (r : Represents c m g asking) → CanPause c m (plain c m g asking r) r.ghost.owner (promises_of c g asking) g
 can_collect c m g asking r = record {
-  holds = holds_by c m g asking (held_of c m g asking r);
+  holds = holds_by c m g asking r;
   phase_is = r.shared.phased.phase_is;
   uncollected = λ none. calm_in c m g asking r (omega (arith, none));
   marking = λ on. is_marking c m g asking r (calm_in c m g asking r (omega (arith, on))) on;
 }
 
 pub representing_can_collect : RepresentingCanCollect
-representing_can_collect c m g asking r = ∣ (g, plain c m g asking (held_of c m g asking r), r.ghost.owner, promises_of c g asking, can_collect c m g asking r) ∣₁
+representing_can_collect c m g asking r = ∣ (g, plain c m g asking r, r.ghost.owner, promises_of c g asking, can_collect c m g asking r) ∣₁
 
 can_begin_prop : (c : Config) (m : Word → ℕ) → IsProp (CanBegin c m)
 can_begin_prop c m = hlevel (le_prop, ℕ_set, Bool-set)

@@ -21,7 +21,6 @@ use Rattle.image_graph.specs.State.{IsSomeSeats}
 use Rattle.pause_laws.proofs.Promises.{promises_of}
 use Rattle.pause_laws.proofs.Dead.{plain}
 use Rattle.pause_laws.proofs.Holding.{holds_by}
-use Rattle.pause_laws.proofs.Held.{held_of}
 use Rattle.mark_laws.specs.Marks.{is_black, IsNew, IsKept}
 use Rattle.mark_laws.specs.Close.{IsTraced, closed}
 use Rattle.mark_laws.specs.Final.{is_current, IsDead, dead_in, freed_block, freed_owner, final_marked}
@@ -50,10 +49,10 @@ module _ (c : Config) (m : Word → ℕ) (g : Graph) (asking : ℕ → Asking) (
   p = promises_of c g asking
 
   abbrev old : Plot
-  old = plain c m g asking (held_of c m g asking r)
+  old = plain c m g asking r
 
   holds : HoldsBy c m old r.ghost.owner p g
-  holds = holds_by c m g asking (held_of c m g asking r)
+  holds = holds_by c m g asking r
 
   marking : IsMarking c m old
   marking = is_marking c m g asking r calm on

@@ -20,7 +20,6 @@ use Rattle.pause_laws.proofs.After.{gone, no_hands, shared_facts, roots_left, ro
 use Rattle.pause_laws.proofs.Made.{promised_if_some, some_if_promised, no_promise, promise}
 use Rattle.image_laws.proofs.Still.{full_phase, full_cset, full_evac, full_current, full_wait, packed_wait}
 use Rattle.pause_laws.proofs.Paused.{then_of, packed_answer, asked_then, plot, is_after, plot_then, answer_left, answer_found}
-use Rattle.pause_laws.proofs.Held.{IsHeldSo}
 
 -- an asking is answered as it should be
 pub is_answer : (x : Asking) (answer : ℕ) → Answers x (then_of x answer)
@@ -42,7 +41,7 @@ nobody_asks (asks more less) answer refs nums is = ⊎_elim
 nobody_asks refused answer refs nums is = cc
 nobody_asks (given more less) answer refs nums is = cc
 
-module _ (c : Config) (m : Word → ℕ) (g : Graph) (asking : ℕ → Asking) (r : IsHeldSo c m g asking) where
+module _ (c : Config) (m : Word → ℕ) (g : Graph) (asking : ℕ → Asking) (r : Represents c m g asking) where
   abbrev p : Promises
   p = promises_of c g asking
 

@@ -10,6 +10,7 @@ use Rattle.shen_graph.specs.Graph.{Graph, Object, blank, fresh, same_reference}
 use Rattle.shen_graph.proofs.PlainLemmas.{same_name-itself}
 use Rattle.heap_world.specs.World.{Block, thing, moved, spent, hand, promised, filler, words_of, Plot, name_at, body_of, IsPlotted, IsFilled, IsThing, IsMarkable}
 use Rattle.heap_world.specs.Asking.{Asking, nothing, asks, refused, given, IsPromise, IsAsked}
+use Rattle.heap_world.specs.Represents.{Represents}
 use Rattle.heap_world.specs.Roots.{is_root_of}
 use Rattle.heap_world.proofs.Pointing.{named_body, copy_cases}
 use Rattle.heap_world.proofs.Pieces.{object_reads}
@@ -20,7 +21,6 @@ use Rattle.image_laws.specs.Image.{AnswerStands, RootsStand}
 use Rattle.image_laws.proofs.Promised.{same_reference-true}
 use Rattle.pause_laws.proofs.Promises.{promised_ref, promised_refs, promised_nums, promises_of, ref_of, refs_of, nums_of, promised_one}
 use Rattle.pause_laws.proofs.Mapped.{mapped, mapped_at, plotted_alike, filled_alike}
-use Rattle.pause_laws.proofs.Held.{IsHeldSo}
 
 -- what is at the address of a current copy, as an object of the larger graph: a promised object has its thread's next name
 abbrev pub as_current : Graph → (ℕ → Asking) → Option Block → Block → Block
@@ -51,7 +51,7 @@ pub record IsPromisedAt (c : Config) (m : Word → ℕ) (block : Plot) (g : Grap
   pub long : words ≡ 3 + refs + nums
   pub promise : IsPromise m block g.count seat refs nums a
 
-module _ (c : Config) (m : Word → ℕ) (g : Graph) (asking : ℕ → Asking) (r : IsHeldSo c m g asking) where
+module _ (c : Config) (m : Word → ℕ) (g : Graph) (asking : ℕ → Asking) (r : Represents c m g asking) where
   abbrev block : Plot
   block = r.block
 
@@ -103,7 +103,7 @@ module _ (c : Config) (m : Word → ℕ) (g : Graph) (asking : ℕ → Asking) (
   pub same_words : (a : ℕ) (b : Block) → r.block a ≡ Some b → words_of (as_object g asking r.block b) ≡ words_of b
   same_words a (thing name refs nums) is = refl
   same_words a (moved name refs nums to) is = refl
-  same_words a (spent words to) is = let old = r.moved.spents a words to is in spent_words to words old.copy (λ b here. ap words_of (same_Some b old.piece (sym here ∙ old.there)) ∙ old.long)
+  same_words a (spent words to) is = let old = r.shared.evacuated.moved.spents a words to is in spent_words to words old.copy (λ b here. ap words_of (same_Some b old.piece (sym here ∙ old.there)) ∙ old.long)
   same_words a (hand seat words) is = refl
   same_words a (filler words) is = refl
   same_words a (promised seat words) is = promised_words a seat words is
@@ -116,7 +116,7 @@ module _ (c : Config) (m : Word → ℕ) (g : Graph) (asking : ℕ → Asking) (
   pub pieces_are : (a : ℕ) (b : Block) → r.block a ≡ Some b → ((name : Name) × (refs : ℕ) × (nums : ℕ) × (as_object g asking r.block b ≡ thing name refs nums)) ⊎ ((words : ℕ) × (b ≡ filler words))
   pieces_are a (thing name refs nums) is = inl (name, refs, nums, refl)
   pieces_are a (moved name refs nums to) is = inl (name, refs, nums, refl)
-  pieces_are a (spent words to) is = inl (by_copy (r.moved.spents a words to is).copy)
+  pieces_are a (spent words to) is = inl (by_copy (r.shared.evacuated.moved.spents a words to is).copy)
     where
       by_copy : IsMarkable r.block to → (name : Name) × (refs : ℕ) × (nums : ℕ) × (as_current g asking (r.block to) (filler words) ≡ thing name refs nums)
       by_copy (IsMarkable.object name refs nums here) = (name, refs, nums, ap (λ o. as_current g asking o (filler words)) here)
@@ -136,7 +136,7 @@ module _ (c : Config) (m : Word → ℕ) (g : Graph) (asking : ℕ → Asking) (
   -- a name that has an object is no thread's next one
   pub not_next : (n : Name) (o : Object) (t : ℕ) → g.object n ≡ Some o → n ≡ fresh g (t + 1) → ⊥
   not_next n o t is next =
-      let made = r.contents.given n o is in
+      let made = r.shared.contents.given n o is in
       let thread : n.thread ≡ t + 1 = ap (λ (k : Name). k.thread) next in
       let count : n.count ≡ g.count (t + 1) + 1 = ap (λ (k : Name). k.count) next in
       let reached : g.count n.thread ≡ g.count (t + 1) = ap g.count thread in
@@ -169,7 +169,7 @@ module _ (c : Config) (m : Word → ℕ) (g : Graph) (asking : ℕ → Asking) (
   -- each current copy is an object of the larger graph
   pub current_object : (a : ℕ) → IsMarkable r.block a → (x : Block) × (live a ≡ Some x) × ObjectAt heap live (with_promised g p).object a x
   current_object a (IsMarkable.object name refs nums is) =
-      let o = r.contents.objects.each a refs nums name is in
+      let o = r.shared.contents.objects.each a refs nums name is in
       (thing name refs nums, live_at a (thing name refs nums) is, (o.0, larger_object name o.0 o.1, object_reads heap heap r.block live a refs nums name o.0 (λ k below. refl) names_stay o.2))
   current_object a (IsMarkable.to_come seat words is) =
       let at = promised_at a seat words is in
@@ -194,13 +194,13 @@ module _ (c : Config) (m : Word → ℕ) (g : Graph) (asking : ℕ → Asking) (
 
   -- an object has another name than a promised one
   pub names_differ : (a refs nums seat : ℕ) (name : Name) → r.block a ≡ Some (thing name refs nums) → name ≡ fresh g (seat + 1) → ⊥
-  names_differ a refs nums seat name is next = let o = r.contents.objects.each a refs nums name is in not_next name o.0 seat o.1 next
+  names_differ a refs nums seat name is next = let o = r.shared.contents.objects.each a refs nums name is in not_next name o.0 seat o.1 next
 
   -- no two have one name
   pub once_each : (a b refs nums more_refs more_nums : ℕ) (name : Name) → IsMarkable r.block a → IsMarkable r.block b → live a ≡ Some (thing name refs nums) → live b ≡ Some (thing name more_refs more_nums) → a ≡ b
   once_each a b refs nums more_refs more_nums name now_a now_b is_a is_b = ⊎_elim
       (λ (old_a : r.block a ≡ Some (thing name refs nums)). ⊎_elim
-      (λ (old_b : r.block b ≡ Some (thing name more_refs more_nums)). r.contents.objects.once a b refs nums more_refs more_nums name old_a old_b)
+      (λ (old_b : r.block b ≡ Some (thing name more_refs more_nums)). r.shared.contents.objects.once a b refs nums more_refs more_nums name old_a old_b)
       (λ (new_b : (seat : ℕ) × (words : ℕ) × (r.block b ≡ Some (promised seat words)) × (name ≡ fresh g (seat + 1))). absurd (names_differ a refs nums new_b.0 name old_a new_b.3))
       (current_kind b more_refs more_nums name now_b is_b))
       (λ (new_a : (seat : ℕ) × (words : ℕ) × (r.block a ≡ Some (promised seat words)) × (name ≡ fresh g (seat + 1))). ⊎_elim
@@ -236,7 +236,7 @@ module _ (c : Config) (m : Word → ℕ) (g : Graph) (asking : ℕ → Asking) (
   }
 
   pub live_plotted : IsPlotted c (λ q. m (Top q)) live
-  live_plotted = plotted_alike c (λ q. m (Top q)) r.block (as_object g asking r.block) same_words r.parsable.plotted
+  live_plotted = plotted_alike c (λ q. m (Top q)) r.block (as_object g asking r.block) same_words r.shared.parsable.plotted
 
   pub live_filled : IsFilled c (λ q. m (Top q)) live
-  live_filled = filled_alike c (λ q. m (Top q)) r.block (as_object g asking r.block) same_words r.parsable.filled
+  live_filled = filled_alike c (λ q. m (Top q)) r.block (as_object g asking r.block) same_words r.shared.parsable.filled

@@ -12,6 +12,7 @@ use Rattle.shen_graph.specs.Reach.{IsReachable}
 use Rattle.shen_graph.specs.Reach as reach
 use Rattle.heap_world.specs.World.{Block, thing, moved, spent, hand, promised, filler, Plot, name_at, body_of, Points, IsCollected, IsMarkable}
 use Rattle.heap_world.specs.Asking.{Asking}
+use Rattle.heap_world.specs.Represents.{Represents}
 use Rattle.heap_world.proofs.Pointing.{named_body, named_piece, named_if_not_0, copy_cases}
 use Rattle.image_laws.specs.Held.{IsHeld, from_root, from_field, IsAmong, IsCopy, HoldsGraph}
 use Rattle.image_laws.specs.Full.{now_in, root_words}
@@ -22,7 +23,6 @@ use Rattle.image_laws.proofs.Standing.{own_copy}
 use Rattle.pause_laws.proofs.Promises.{promises_of}
 use Rattle.pause_laws.proofs.Mapped.{mapped_from}
 use Rattle.pause_laws.proofs.Before.{as_current, as_object, live, live_at, pieces_are, names_stay, promised_at, object_at, once_each, live_rooted, live_plotted}
-use Rattle.pause_laws.proofs.Held.{IsHeldSo}
 
 -- where a header leads to an address, the current copy is there
 pub led_to : (memory : Word → ℕ) (a to : ℕ) → memory (Heap a) ≡ header_word to → now_in memory a ≡ to
@@ -30,7 +30,7 @@ led_to memory a to is =
     let moved_on : memory (Heap a) % 4 ≡ 3 = omega (arith, is) in
     cond-true (is_forwarded (memory (Heap a))) (forwardee_in (memory (Heap a))) a (eq-eqb (memory (Heap a) % 4) 3 moved_on) ∙ omega (arith, is)
 
-module _ (c : Config) (m : Word → ℕ) (g : Graph) (asking : ℕ → Asking) (r : IsHeldSo c m g asking) where
+module _ (c : Config) (m : Word → ℕ) (g : Graph) (asking : ℕ → Asking) (r : Represents c m g asking) where
   abbrev heap : ℕ → ℕ
   heap a = m (Heap a)
 
@@ -48,7 +48,7 @@ module _ (c : Config) (m : Word → ℕ) (g : Graph) (asking : ℕ → Asking) (
 
   -- a current copy has the header of an object that has not moved
   pub header_of : (a : ℕ) → Current a → heap a ≡ plain_header
-  header_of a (IsMarkable.object name refs nums is) = (r.contents.objects.each a refs nums name is).2.header
+  header_of a (IsMarkable.object name refs nums is) = (r.shared.contents.objects.each a refs nums name is).2.header
   header_of a (IsMarkable.to_come seat words is) = ap heap (omega arith) ∙ (promised_at c m g asking r a seat words is).promise.words 0 (omega arith)
 
   -- An old copy: its header leads to the current one outside the collection set, which is the same object.
@@ -72,7 +72,7 @@ module _ (c : Config) (m : Word → ℕ) (g : Graph) (asking : ℕ → Asking) (
   kind_of : (a refs nums : ℕ) (name : Name) (b : Block) → r.block a ≡ Some b → as_object g asking r.block b ≡ thing name refs nums → Kind a refs nums name
   kind_of a refs nums name (thing n more less) is same = is_current (IsMarkable.object n more less is)
   kind_of a refs nums name (moved n more less to) is same =
-      let was = r.moved.moveds a more less to n is in
+      let was = r.shared.evacuated.moved.moveds a more less to n is in
       is_old to (record {
         header = was.header;
         inside = was.inside;
@@ -81,7 +81,7 @@ module _ (c : Config) (m : Word → ℕ) (g : Graph) (asking : ℕ → Asking) (
         same = live_at c m g asking r to (thing n more less) was.copy ∙ ap Some same;
       })
   kind_of a refs nums name (spent words to) is same =
-      let was = r.moved.spents a words to is in
+      let was = r.shared.evacuated.moved.spents a words to is in
       is_old to (record { header = was.header; inside = was.inside; copy = was.copy; outside = was.outside; same = spent_same words to was.copy ∙ ap Some same })
   kind_of a refs nums name (hand seat words) is same = absurd (r.none a seat words is)
   kind_of a refs nums name (filler words) is same = cc
@@ -127,14 +127,14 @@ module _ (c : Config) (m : Word → ℕ) (g : Graph) (asking : ℕ → Asking) (
   -- what is held is a current copy
   field_current : (a i : ℕ) → Current a → i < refs_in (heap (a + 1)) → heap (a + 3 + i) ≢ 0 → Current (now_in m (heap (a + 3 + i)))
   field_current a i (IsMarkable.object name refs nums is) few some =
-      let o = r.contents.objects.each a refs nums name is in
+      let o = r.shared.contents.objects.each a refs nums name is in
       let shape : refs_in (heap (a + 1)) ≡ refs = ap refs_in o.2.shape ∙ refs_read refs nums o.2.few_refs o.2.few_nums in
       let reference : Reference = get_or o.0.refs i None in
       let there : slice_get o.0.refs i ≡ Some reference = slice_get-get_or o.0.refs i None (omega (arith, few, shape, o.2.refs_are)) in
-      let to = named_if_not_0 c (λ q. m (Top q)) r.block r.parsable.plotted (heap (a + 3 + i)) reference (o.2.references i reference there) some in
+      let to = named_if_not_0 c (λ q. m (Top q)) r.block r.shared.parsable.plotted (heap (a + 3 + i)) reference (o.2.references i reference there) some in
       (now_named (heap (a + 3 + i)) to.0 (names_stay c m g asking r (heap (a + 3 + i)) to.0 to.2)).0
   field_current a i (IsMarkable.to_come seat words is) few some =
-      let blank = r.unwritten.blanks a seat words is in
+      let blank = r.shared.unwritten.blanks a seat words is in
       let shape : refs_in (heap (a + 1)) ≡ blank.refs = ap refs_in blank.shape ∙ refs_read blank.refs blank.nums blank.few_refs blank.few_nums in
       absurd (some (blank.nulls i (omega (arith, few, shape))))
 
@@ -162,7 +162,7 @@ module _ (c : Config) (m : Word → ℕ) (g : Graph) (asking : ℕ → Asking) (
       let body = named_body (r.block word) n is in
       ⊎_elim
       (λ (now : r.block word ≡ Some (thing n body.0 body.1)). (word, body.0, body.1, now))
-      (λ (was : (to : ℕ) × (r.block word ≡ Some (moved n body.0 body.1 to))). (was.0, body.0, body.1, (r.moved.moveds word body.0 body.1 was.0 n was.1).copy))
+      (λ (was : (to : ℕ) × (r.block word ≡ Some (moved n body.0 body.1 to))). (was.0, body.0, body.1, (r.shared.evacuated.moved.moveds word body.0 body.1 was.0 n was.1).copy))
       (copy_cases (r.block word) (body_of n body.0 body.1) body.2)
 
   -- An object that the graph reaches has an address.
@@ -174,6 +174,6 @@ module _ (c : Config) (m : Word → ℕ) (g : Graph) (asking : ℕ → Asking) (
       has_current (m (Root at.0 i)) n points
   reached_at n (reach.from_field k _ field reached is) =
       let at = reached_at k reached in
-      let o = r.contents.objects.each at.0 at.1 at.2 k at.3 in
+      let o = r.shared.contents.objects.each at.0 at.1 at.2 k at.3 in
       let there : slice_get o.0.refs field ≡ Some (Some n) = sym (ap (λ (x : Object). slice_get x.refs field) (named_object g k o.0 o.1)) ∙ is in
       has_current (heap (at.0 + 3 + field)) n (o.2.references field (Some n) there)

@@ -6,6 +6,7 @@ use Rattle.shen_graph.specs.declared.name.Name.{Name}
 use Rattle.shen_graph.specs.Graph.{Graph}
 use Rattle.heap_world.specs.World.{Block, thing, moved, spent, hand, promised, filler, words_of, Plot, name_at, IsFilled, AreFillers}
 use Rattle.heap_world.specs.Asking.{Asking}
+use Rattle.heap_world.specs.Represents.{Represents}
 use Rattle.heap_world.proofs.Pointing.{named_piece}
 use Rattle.heap_world.proofs.Pieces.{object_reads}
 use Rattle.heap_world.proofs.Keeping.{points_stay}
@@ -21,7 +22,6 @@ use Rattle.pause_laws.proofs.Promises.{promises_of}
 use Rattle.pause_laws.proofs.Mapped.{mapped, mapped_at, mapped_from, plotted_alike, filled_alike}
 use Rattle.pause_laws.proofs.Before.{as_object, live, pieces_are, live_rooted, live_filled}
 use Rattle.pause_laws.proofs.Current.{now_is, live_holds}
-use Rattle.pause_laws.proofs.Held.{IsHeldSo}
 
 -- a name for what only fills, which says nothing
 abbrev dead_name : Name
@@ -57,7 +57,7 @@ dead_names block a n is =
     named_so (promised seat words) k named = cc
     named_so (filler words) k named = cc
 
-module _ (c : Config) (m : Word → ℕ) (g : Graph) (asking : ℕ → Asking) (r : IsHeldSo c m g asking) where
+module _ (c : Config) (m : Word → ℕ) (g : Graph) (asking : ℕ → Asking) (r : Represents c m g asking) where
   abbrev heap : ℕ → ℕ
   heap a = m (Heap a)
 
@@ -84,7 +84,7 @@ module _ (c : Config) (m : Word → ℕ) (g : Graph) (asking : ℕ → Asking) (
   filler_at a words is = let was = mapped_from (as_object g asking r.block) r.block a (filler words) is in filler_of a words was.0 was.1 was.2
 
   long : AreFillers old
-  long a words is = r.parsable.fillers a words (filler_at a words is)
+  long a words is = r.shared.parsable.fillers a words (filler_at a words is)
 
   -- an object of the plot was one, or only fills
   pub data IsPlain (a refs nums : ℕ) (name : Name) : Type 0 where
@@ -120,7 +120,7 @@ module _ (c : Config) (m : Word → ℕ) (g : Graph) (asking : ℕ → Asking) (
   -- the current copy of each is one
   copy_of : (a refs nums : ℕ) (name : Name) → plain a ≡ Some (thing name refs nums) → IsPlain a refs nums name → IsCopy plain (now_in m a) name
   copy_of a refs nums name is (is_live here) = let now = now_is c m g asking r a refs nums name here in (refs, nums, plain_live (now_in m a) refs nums name now.1)
-  copy_of a refs nums name is (is_dead words here) = (refs, nums, ap plain (own_copy m a (r.unwritten.headers a words here)) ∙ is)
+  copy_of a refs nums name is (is_dead words here) = (refs, nums, ap plain (own_copy m a (r.shared.unwritten.headers a words here)) ∙ is)
 
   -- what is held was an object
   pub held_live : (a refs nums : ℕ) (name : Name) → IsHeld (now_in m) heap (IsAmong (root_words c m)) a → plain a ≡ Some (thing name refs nums) → old a ≡ Some (thing name refs nums)

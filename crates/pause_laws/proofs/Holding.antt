@@ -12,6 +12,7 @@ use Rattle.shen_graph.specs.declared.name.Name.{Name}
 use Rattle.shen_graph.specs.Graph.{Graph, Object, blank, fresh, same_reference}
 use Rattle.heap_world.specs.World.{IsCollected}
 use Rattle.heap_world.specs.Asking.{Asking, nothing, asks, refused, given, IsRequest, IsAsked}
+use Rattle.heap_world.specs.Represents.{Represents}
 use Rattle.image_laws.specs.Full.{now_in}
 use Rattle.image_laws.specs.Promised.{Promises, AreFresh}
 use Rattle.image_laws.specs.Serving.{asked_shape, asked_name, IsAsking}
@@ -20,7 +21,6 @@ use Rattle.pause_laws.proofs.Promises.{promised_ref, promises_of, ref_of, promis
 use Rattle.pause_laws.proofs.Before.{not_next}
 use Rattle.pause_laws.proofs.Current.{led_to, header_of, Kind, is_current, is_old, kind_at, reached_at}
 use Rattle.pause_laws.proofs.Dead.{plain, IsPlain, is_live, is_dead, plain_at, plain_live, plain_rooted, plain_holds, plain_filled, plain_things}
-use Rattle.pause_laws.proofs.Held.{IsHeldSo}
 
 -- A request reads as what it was made of.
 pub record ReadsAs (memory : Word → ℕ) (t count refs nums : ℕ) : Type 0 where
@@ -65,7 +65,7 @@ pub record HasAsked (memory : Word → ℕ) (g : Graph) (asking : ℕ → Asking
   pub is_asking : asking t ≡ asks refs nums
   pub request : IsRequest memory g.count t refs nums
 
-module _ (c : Config) (m : Word → ℕ) (g : Graph) (asking : ℕ → Asking) (r : IsHeldSo c m g asking) where
+module _ (c : Config) (m : Word → ℕ) (g : Graph) (asking : ℕ → Asking) (r : Represents c m g asking) where
   abbrev p : Promises
   p = promises_of c g asking
 
@@ -119,7 +119,7 @@ module _ (c : Config) (m : Word → ℕ) (g : Graph) (asking : ℕ → Asking) (
     fresh = λ t n is reached.
         let one = promised_one c g asking t n is in
         let at = reached_at c m g asking r n reached in
-        let o = r.contents.objects.each at.0 at.1 at.2 n at.3 in
+        let o = r.shared.contents.objects.each at.0 at.1 at.2 n at.3 in
         not_next c m g asking r n o.0 one.0 o.1 (one.4 ∙ ap (fresh g) one.2);
   }
 
@@ -137,26 +137,26 @@ module _ (c : Config) (m : Word → ℕ) (g : Graph) (asking : ℕ → Asking) (
 
   moved_by : (a refs nums : ℕ) (name : Name) → is_forwarded (m (Heap a)) ≡ true → IsPlain c m g asking r a refs nums name → HasMoved c m (plain c m g asking r) a refs nums name
   moved_by a refs nums name forwarded (is_live here) = moved_live a refs nums name forwarded (kind_at c m g asking r a refs nums name here)
-  moved_by a refs nums name forwarded (is_dead words here) = absurd (true≢false (sym forwarded ∙ ap is_forwarded (r.unwritten.headers a words here)))
+  moved_by a refs nums name forwarded (is_dead words here) = absurd (true≢false (sym forwarded ∙ ap is_forwarded (r.shared.unwritten.headers a words here)))
 
   -- so the image holds the graph
-  pub holds_by : HoldsBy c m (plain c m g asking r) r.owner p g
+  pub holds_by : HoldsBy c m (plain c m g asking r) r.ghost.owner p g
   holds_by = record {
     objects = plain_holds c m g asking r;
     rooted = plain_rooted c m g asking r;
     moved = λ a refs nums name is forwarded. moved_by a refs nums name forwarded (plain_at c m g asking r a refs nums name is);
     filled = plain_filled c m g asking r;
     things = plain_things c m g asking r;
-    free_word = r.owned.free_word;
-    currents = r.owned.currents;
+    free_word = r.shared.owned.free_word;
+    currents = r.shared.owned.currents;
     asking = λ t from inside waits. are_asking t inside waits;
     next = record {
       asked = λ t inside waits. let asked = who_waits t inside waits in (request_reads m g.count t asked.refs asked.nums asked.request).counted;
       promised = λ t name is. (promised_one c g asking t name is).4;
-      given = r.contents.given;
+      given = r.shared.contents.given;
     };
     unreached = are_fresh;
   }
 
   pub holds_some : HoldsSome c m
-  holds_some = ∣ (g, (plain c m g asking r, r.owner, p, holds_by)) ∣₁
+  holds_some = ∣ (g, (plain c m g asking r, r.ghost.owner, p, holds_by)) ∣₁

@@ -1,5 +1,4 @@
 pub mod Sorted
-pub mod Held
 pub mod Promises
 pub mod Mapped
 pub mod Before

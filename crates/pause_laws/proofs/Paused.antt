@@ -14,6 +14,7 @@ use Rattle.shen_graph.specs.Graph.{Graph, Object, fresh}
 use Rattle.shen_graph.specs.Reach as reach
 use Rattle.heap_world.specs.World.{thing, promised, Plot, name_at}
 use Rattle.heap_world.specs.Asking.{Asking, nothing, asks, refused, given}
+use Rattle.heap_world.specs.Represents.{Represents}
 use Rattle.image_laws.specs.Held.{IsHeld, IsAmong, AreKept}
 use Rattle.image_laws.specs.Pack.{CanPack}
 use Rattle.image_laws.specs.Plot.{packed_block}
@@ -35,7 +36,6 @@ use Rattle.pause_laws.proofs.Holding.{next_asked, holds_by}
 use Rattle.image_laws.proofs.Turned.{SamePromise, IsPromisedAsAsked, promise_after, piece_after}
 use Rattle.pause_laws.proofs.After.{IsKnown, IsAfter, taken}
 use Rattle.image_laws.proofs.Still.{packed_wait}
-use Rattle.pause_laws.proofs.Held.{IsHeldSo}
 
 -- what a mutator that asked has been answered
 abbrev pub then_of : Asking → (answer : ℕ) → Asking
@@ -49,7 +49,7 @@ pub packed_answer : (c : Config) (m : Word → ℕ) (t : ℕ) → m (Answer t) �
 unfolding packed
 packed_answer c m t none = cond-true (nat_le (m (Answer t)) 1) (m (Answer t)) (new_place c.region_words (kept_in c m) (now_in m (m (Answer t)))) (le-leb (m (Answer t)) 1 none)
 
-module _ (c : Config) (m : Word → ℕ) (g : Graph) (asking : ℕ → Asking) (r : IsHeldSo c m g asking) where
+module _ (c : Config) (m : Word → ℕ) (g : Graph) (asking : ℕ → Asking) (r : Represents c m g asking) where
   abbrev p : Promises
   p = promises_of c g asking
 
@@ -114,22 +114,22 @@ module _ (c : Config) (m : Word → ℕ) (g : Graph) (asking : ℕ → Asking) (
   known_at : (a : ℕ) (n : Name) → name_at (r.block a) ≡ Some n → IsKnown g n
   known_at a n is =
       let piece = has_current c m g asking r a n is in
-      let o = r.contents.objects.each piece.0 piece.1 piece.2 n piece.3 in
+      let o = r.shared.contents.objects.each piece.0 piece.1 piece.2 n piece.3 in
       (o.0, o.1)
 
   pub is_after : IsAfter c (full c m) plot g q
   is_after = record {
     stands = stands;
     next = next_promised;
-    given = r.contents.given;
+    given = r.shared.contents.given;
     fields = λ a refs nums i n f o there object field.
         let was = had_piece a refs nums n o there object in
-        let x = r.contents.objects.each was.0 refs nums n was.1 in
+        let x = r.shared.contents.objects.each was.0 refs nums n was.1 in
         let same : o ≡ x.0 = same_Some o x.0 (sym object ∙ x.1) in
         known_at (m (Heap (was.0 + 3 + i))) f (x.2.references i (Some f) (ap (λ (k : Object). slice_get k.refs i) (sym same) ∙ field));
     roots = λ t i n is.
         let at = reached_at c m g asking r n (reach.from_root t i n is) in
-        let o = r.contents.objects.each at.0 at.1 at.2 n at.3 in
+        let o = r.shared.contents.objects.each at.0 at.1 at.2 n at.3 in
         (o.0, o.1);
   }
 

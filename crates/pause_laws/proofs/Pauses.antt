@@ -8,26 +8,22 @@ use Rattle.heap_world.specs.Represents.{Represents}
 use Rattle.heap_world.specs.Change.{image_view, IsPaused}
 use Rattle.image_laws.specs.Full.{full}
 use Rattle.pause_laws.specs.Laws.{RepresentingHolds, ImageIsFull, TableIsFull, FullIsPause}
-use Rattle.pause_laws.proofs.Held.{IsHeldSo, held_of}
 use Rattle.pause_laws.proofs.Holding.{holds_some}
 use Rattle.pause_laws.proofs.Paused.{asked_then}
 use Rattle.pause_laws.proofs.Answered.{is_answer, represents_again}
 use Rattle.pause_laws.proofs.Crowds.{is_crowded}
 use Rattle.pause_laws.proofs.Images.{image_length, image_is_full, table_is_full}
 
-pub held_paused : (c : Config) (m : Word → ℕ) (g : Graph) (asking : ℕ → Asking) → IsHeldSo c m g asking → IsPaused c m (full c m) g asking
-held_paused c m g asking r = record {
+pub paused : (c : Config) (m : Word → ℕ) (g : Graph) (asking : ℕ → Asking) → Represents c m g asking → IsPaused c m (full c m) g asking
+paused c m g asking r = record {
   asked_then = asked_then c m g asking r;
   stands = represents_again c m g asking r;
   answers = λ t inside. is_answer (asking t) _;
   crowded = λ t refs nums inside is refused. is_crowded c m g asking r t refs nums inside is refused;
 }
 
-pub paused : (c : Config) (m : Word → ℕ) (g : Graph) (asking : ℕ → Asking) → Represents c m g asking → IsPaused c m (full c m) g asking
-paused c m g asking r = held_paused c m g asking (held_of c m g asking r)
-
 pub representing_holds : RepresentingHolds
-representing_holds c m g asking r = holds_some c m g asking (held_of c m g asking r)
+representing_holds = holds_some
 
 pub is_full : ImageIsFull
 is_full c image long holds = image_is_full c image holds
@@ -39,6 +35,6 @@ pub full_is_pause : FullIsPause
 full_is_pause = record {
   long = λ c image long. image_length c image;
   pauses = λ c image g asking long r due.
-      subst (λ after. IsPaused c (image_view c image) after g asking) (sym (image_is_full c image (representing_holds c (image_view c image) g asking r)))
+      subst (λ after. IsPaused c (image_view c image) after g asking) (sym (image_is_full c image (holds_some c (image_view c image) g asking r)))
       (paused c (image_view c image) g asking r);
 }
