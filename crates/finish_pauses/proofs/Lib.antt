@@ -1,0 +1,3 @@
+pub mod CopyingTurn
+pub mod CopyingAll
+pub mod Copying
