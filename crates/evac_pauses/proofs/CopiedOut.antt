@@ -40,7 +40,6 @@ pub record HasCopied (c : Config) (m n : Word → ℕ) (block plot : Plot) (owne
   pub kept : (p k : ℕ) (z : Block) → p ≢ a → block p ≡ Some z → k < words_of z → n (Heap (p + k)) ≡ m (Heap (p + k))
   pub names : (p : ℕ) (name : Name) → name_at (block p) ≡ Some name → name_at (plot p) ≡ Some name
   pub promises : (p seat words : ℕ) → plot p ≡ Some (promised seat words) → ((p ≡ to) × (x ≡ promised seat words)) ⊎ ((p ≢ a) × (block p ≡ Some (promised seat words)))
-  pub things : (p refs nums : ℕ) (name : Name) → plot p ≡ Some (thing name refs nums) → ((p ≡ to) × (x ≡ thing name refs nums)) ⊎ ((p ≢ a) × (block p ≡ Some (thing name refs nums)))
   pub same : (word : Word) → (MayChange word → ⊥) → n word ≡ m word
 
 module _ (c : Config) (m : Word → ℕ) (block : Plot) (owner : ℕ → Option ℕ) (g : Graph) (b : AreBetween c m block owner g)
@@ -547,7 +546,6 @@ module _ (c : Config) (m : Word → ℕ) (block : Plot) (owner : ℕ → Option 
       kept = kept;
       names = names_stay;
       promises = promised_from;
-      things = thing_from;
       same = word_same;
     },
   )

@@ -1,3 +1,3 @@
-pub mod CopyingTurn
-pub mod CopyingAll
 pub mod Copying
+pub mod CopyingKeeps
+pub mod Updating
