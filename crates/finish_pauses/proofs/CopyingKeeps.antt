@@ -23,7 +23,7 @@ use Rattle.finish_pauses.specs.Copying.{CopyingKeeps, LeftCanBeCopied}
 use Rattle.finish_pauses.proofs.Copying.{IsCopying, all_passed, can_copy_from}
 
 -- What is shown of words after copying, and of whether all found room.
-record IsCopiedTo (c : Config) (m after : Word → ℕ) (room : Bool) (g : Graph) (asking : ℕ → Asking) : Type 0 where
+record StandsByCopies (c : Config) (m after : Word → ℕ) (room : Bool) (g : Graph) (asking : ℕ → Asking) : Type 0 where
   stands : RepresentsByCopies c after g asking
   none_left : room ≡ true → (a refs nums : ℕ) (name : Name) → stands.block a ≡ Some (thing name refs nums) → IsCollected c (after Cset) a → ⊥
   same : (word : Word) → (MayChange word → ⊥) → after word ≡ m word
@@ -153,7 +153,7 @@ module _ (c : Config) (m : Word → ℕ) (g : Graph) (asking : ℕ → Asking) (
       no_more = r.no_more;
     }
 
-    copied_then : IsCopiedTo c m n room g asking
+    copied_then : StandsByCopies c m n room g asking
     unfolding stands_by_copies
     copied_then = record {
       stands = stands_by_copies;
@@ -178,25 +178,25 @@ module _ (c : Config) (m : Word → ℕ) (g : Graph) (asking : ℕ → Asking) (
       none_in_0 c a (subst (λ set. IsCollected c set a) (r.shared.phased.cset_is (omega (arith, other, differs, most))) member))
       (cases_eq (m Phase) 3)
 
-  nothing_copied : m Phase ≢ 2 → IsCopiedTo c m m true g asking
+  nothing_copied : m Phase ≢ 2 → StandsByCopies c m m true g asking
   nothing_copied other = record {
     stands = by_copies c m g asking r;
     none_left = λ all. none_in_set other;
     same = λ word fixed. refl;
   }
 
-  copied_in_phase : IsCopiedTo c m (all_copied c m) (is_room_for_all c m) g asking
+  copied_in_phase : StandsByCopies c m (all_copied c m) (is_room_for_all c m) g asking
   copied_in_phase = ⊎_elim
       (λ (on : m Phase ≡ 2).
       let is = eq-eqb (m Phase) 2 on in
       let words : all_copied c m ≡ n on = fun_ext (λ word. cond-true (m Phase == 2) (n on word) (m word) is) in
-      subst (λ w. IsCopiedTo c m w (is_room_for_all c m) g asking) (sym words)
-      (subst (λ b. IsCopiedTo c m (n on) b g asking) (sym (cond-true (m Phase == 2) (room on) true is)) (copied_then on)))
+      subst (λ w. StandsByCopies c m w (is_room_for_all c m) g asking) (sym words)
+      (subst (λ b. StandsByCopies c m (n on) b g asking) (sym (cond-true (m Phase == 2) (room on) true is)) (copied_then on)))
       (λ (other : m Phase ≢ 2).
       let is = ne_eqb (m Phase) 2 other in
       let words : all_copied c m ≡ m = fun_ext (λ word. cond-false (m Phase == 2) (copied_from c m c.region_words (c.regions * c.region_words) word) (m word) is) in
-      subst (λ w. IsCopiedTo c m w (is_room_for_all c m) g asking) (sym words)
-      (subst (λ b. IsCopiedTo c m m b g asking) (sym (cond-false (m Phase == 2) (is_room_from c m c.region_words (c.regions * c.region_words)) true is)) (nothing_copied other)))
+      subst (λ w. StandsByCopies c m w (is_room_for_all c m) g asking) (sym words)
+      (subst (λ b. StandsByCopies c m m b g asking) (sym (cond-false (m Phase == 2) (is_room_from c m c.region_words (c.regions * c.region_words)) true is)) (nothing_copied other)))
       (cases_eq (m Phase) 2)
 
 pub copying_keeps : CopyingKeeps
