@@ -1,22 +1,23 @@
 -- What is left of the collection set is copied out, one object after the other: the words stand for the same graph meanwhile.
-use Rattle.std.proofs.Common.{◌≡◌, ◌≢◌, ℕ, ◌+◌, ◌%◌, ◌<◌, ◌≤◌, ◌⊎◌, ◌==◌, ◌&&◌, nat_le, Bool, true, false, Option, Some, None, zero, suc, inl, inr, ⊎_elim, refl, sym, ap, ◌∙◌, subst, arith}
+use Rattle.std.proofs.Common.{◌≡◌, ◌≢◌, ℕ, ◌+◌, ◌%◌, ◌<◌, ◌≤◌, ◌==◌, ◌&&◌, nat_le, true, false, Option, Some, zero, suc, inl, inr, ⊎_elim, sym, ap, ◌∙◌, subst, arith}
 use Rattle.std.specs.Prelude.{not}
 use Rattle.std.specs.Int.{bit_at}
-use Rattle.std.proofs.lemmas.Bool.{cases_Bool, cases_eq, cases_lt, true≢false, and_from, and_parts, not-true, not_from_false, le-leb, leb-true, eq-eqb, eqb-true}
-use Rattle.std.proofs.lemmas.Option.{none-some, same_Some}
+use Rattle.std.proofs.lemmas.Bool.{cases_Bool, cases_eq, true≢false, and_from, and_parts, not-true, not_from_false, le-leb, leb-true, eq-eqb, eqb-true}
+use Rattle.std.proofs.lemmas.Option.{same_Some}
 use Rattle.heap_words.specs.declared.config.Config.{Config}
-use Rattle.heap_words.specs.Words.{Word, Cset, Top, Tams, Root, Wait, Answer, Black, Heap}
+use Rattle.heap_words.specs.Words.{Word, Phase, Cset, Evac, Claim, Top, Tams, Root, Wait, Answer, Black, Heap}
 use Rattle.heap_words.specs.Encoding.{plain_header, header_word, is_forwarded, object_words}
 use Rattle.regions.specs.Place.{base_of, region_with}
 use Rattle.regions.specs.Sets.{IsIn}
+use Rattle.regions.proofs.PlaceLemmas.{regions_tile}
+use Rattle.evac_room.specs.Counter.{is_out_of_room}
 use Rattle.shen_graph.specs.declared.name.Name.{Name}
-use Rattle.shen_graph.specs.Graph.{Graph, Object}
+use Rattle.shen_graph.specs.Graph.{Graph}
 use Rattle.mark_bits.specs.Marks.{HasMark, mark_word, mark_bit}
-use Rattle.heap_world.specs.World.{Block, thing, moved, spent, promised, words_of, Plot, Points, name_at, IsCollected, IsThing, IsMarkable, IsYoung, HasCopy, body_at}
+use Rattle.heap_world.specs.World.{Block, thing, moved, spent, promised, words_of, Plot, Points, IsCollected, IsMarkable, IsYoung, HasCopy, IsSweptTo}
 use Rattle.heap_world.specs.Asking.{Asking, IsAsked}
 use Rattle.heap_world.proofs.Pointing.{body_piece, copy_cases, piece_inside}
 use Rattle.heap_world.proofs.Keeping.{points_stay}
-use Rattle.heap_world.proofs.Pieces.{some_words}
 use Rattle.mark_laws.specs.Marks.{is_black}
 use Rattle.mark_laws.proofs.Plain.{below_top}
 use Rattle.cset_laws.specs.Live.{words_at}
@@ -31,7 +32,7 @@ use Rattle.finish_laws.specs.Copies.{is_left, has_copy_room, copied_from, is_roo
 use Rattle.finish_laws.proofs.Copies.{room_found, copied_none, copied_next, copied_stuck, copied_skips, room_if, room_skips}
 
 -- The words between two objects: they stand for the graph, but for pieces they are as at first, and no object is left at the addresses
--- that were passed.
+-- that were passed. While objects are evacuated, units that were claimed stay swept.
 pub record IsCopying (c : Config) (first m : Word → ℕ) (block : Plot) (owner : ℕ → Option ℕ) (g : Graph) (asking : ℕ → Asking) (passed : ℕ) : Type 0 where
   pub between : AreBetween c m block owner g
   pub roots : (t i : ℕ) → t < c.mutators → i < 16 → Points block (m (Root t i)) (g.root (t + 1) i)
@@ -39,6 +40,7 @@ pub record IsCopying (c : Config) (first m : Word → ℕ) (block : Plot) (owner
   pub same : (word : Word) → (MayChange word → ⊥) → m word ≡ first word
   pub no_promises : (a seat words : ℕ) → block a ≡ Some (promised seat words) → IsCollected c (m Cset) a → ⊥
   pub swept : (a refs nums : ℕ) (name : Name) → block a ≡ Some (thing name refs nums) → IsCollected c (m Cset) a → passed ≤ a
+  pub units : m Phase ≡ 2 → (r : ℕ) → r < m Claim → IsIn (m Cset) r → IsSweptTo c (m Evac) block r (base_of c (r + 1))
 
 -- headers
 plain_is_plain : (header : ℕ) → header ≡ plain_header → is_forwarded header ≡ false
@@ -186,6 +188,14 @@ module _ (c : Config) (first m : Word → ℕ) (block : Plot) (owner : ℕ → O
           ∙ plain_is_plain (n (Heap p)) (thing_words c n plot owner g now p refs nums name there).0) in
           (other, piece.1 ∙ sym (at.2.stays p piece.0 other piece.1) ∙ there)
 
+      -- so a unit that was swept is swept still
+      swept_still : (r : ℕ) → IsIn (m Cset) r → IsSweptTo c (m Evac) block r (base_of c (r + 1)) → IsSweptTo c (n Evac) plot r (base_of c (r + 1))
+      swept_still r member (inl full) = inl (ap is_out_of_room (at.2.same Evac (λ never. never)) ∙ full)
+      swept_still r member (inr none) = inr (λ p refs nums name from before there.
+          let region : region_with c p ≡ r = regions_tile.of_no_other c r p (record { from = from; before = omega (arith, before) }) in
+          let inside : IsIn (n Cset) r = subst (λ set. IsIn set r) (sym set_same) member in
+          none p refs nums name from before (thing_was p refs nums name there (subst (IsIn (n Cset)) (sym region) inside)).1)
+
       pub one_copied : (plot' : Plot) × IsCopying c first (copied_out c m a) plot' owner g asking (a + 1)
       one_copied = (
         plot,
@@ -206,6 +216,10 @@ module _ (c : Config) (first m : Word → ℕ) (block : Plot) (owner : ℕ → O
               let was = thing_was p refs nums name there inside in
               let least = s.swept p refs nums name was.1 (subst (λ set. IsCollected c set p) set_same inside) in
               omega (arith, least, was.0);
+          units = λ on r below member.
+              let was : IsIn (m Cset) r = subst (λ set. IsIn set r) set_same member in
+              let claim = at.2.same Claim (λ never. never) in
+              swept_still r was (s.units (sym (at.2.same Phase (λ never. never)) ∙ on) r (omega (arith, below, claim)) was);
         },
       )
 
@@ -227,6 +241,7 @@ module _ (c : Config) (first m : Word → ℕ) (block : Plot) (owner : ℕ → O
         absurd (true≢false (sym left ∙ ap (is_left c m) same ∙ none)))
         (λ (other : p ≢ a). omega (arith, least, other))
         (cases_eq p a);
+    units = s.units;
   }
 
 -- After so many addresses, or up to the first object without room.

@@ -1,4 +1,5 @@
 pub mod Copying
+pub mod CopyingKeeps
 pub mod Updating
 pub mod Serving
 pub mod Idle
