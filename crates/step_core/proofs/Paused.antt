@@ -29,7 +29,7 @@ use Rattle.mutator.specs.Orders.{is_waiting}
 use Rattle.mutator.specs.Rows.{Mutating}
 use Rattle.heap_world.specs.World.{Ghost, World, Plot, hand, Points, IsUsable, UsableIn, Shared}
 use Rattle.heap_world.specs.Asking.{Asking, nothing, asks, refused, given, IsAsked}
-use Rattle.heap_world.specs.Change.{Change, Answers, IsPause, IsPaused, image_view, image_words, words_given}
+use Rattle.heap_world.specs.Change.{Change, Answers, IsDue, IsPause, IsPaused, image_view, image_words, words_given}
 use Rattle.heap_world.specs.Represents.{NobodyMarks, NobodyCopies, Represents}
 use Rattle.heap_world.specs.Roots.{HasNoMore}
 use Rattle.control_steps.specs.declared.spot.ControlSpot.TheVariants.{StoreWord}
@@ -419,10 +419,14 @@ module _ (c : Config) (words : List ℕ) (block : Plot) (ghost : Ghost) (g : Gra
       }
 
   -- The new image counts: what the step owes.
-  module _ (change : Change) (law : IsPause change) (long : length image ≡ image_words c) (shared : Shared c before) (promised_to : PromisedToMutators c block) (no_more : HasNoMore c.mutators g)
+  module _ (change : Change) (law : IsPause change) (due : IsDue c (view c words)) (long : length image ≡ image_words c) (shared : Shared c before) (promised_to : PromisedToMutators c block) (no_more : HasNoMore c.mutators g)
       (known : AllKnown) (outside : AllOutside) where
+    -- the pause is due by the image
+    image_due : IsDue c (image_view c image)
+    image_due = subst (λ memory. IsDue c memory) (sym (mixed_whole c words image read)) due
+
     paused : IsPaused c (image_view c image) (image_view c (change c image)) g asking
-    paused = law.pauses c image g asking long (image_stands shared promised_to no_more known outside)
+    paused = law.pauses c image g asking long (image_stands shared promised_to no_more known outside) image_due
 
     -- the world then
     abbrev then_world : World
