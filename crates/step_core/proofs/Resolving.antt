@@ -81,7 +81,7 @@ pub usable_found : (c : Config) (w : World) (phase cset got : ℕ) (v : Referenc
 usable_found c w phase cset got v shared phase_is set_is other is = ⊎_elim
     (λ (null : got ≡ 0). inl null)
     (λ rest. ⊎_elim
-    (λ (early : phase < 2). usable_unmoved c w shared (λ on. (let same = phase_is ∙ on in omega (arith, early, same))) got v is)
+    (λ (early : phase < 2). usable_unmoved c w shared (omega (arith, early, phase_is)) got v is)
     (λ (outside : IsCollected c cset got → ⊥).
     let apart : IsCollected c (w.memory Cset) got → ⊥ = λ inside. outside (subst (λ set. IsCollected c set got) (sym set_is) inside) in
     by_reference apart v is)
