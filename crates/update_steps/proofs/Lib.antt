@@ -1,1 +1,2 @@
--- Lemmas.
+pub mod Following
+pub mod Done
