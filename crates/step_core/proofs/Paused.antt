@@ -118,7 +118,7 @@ copying_outside c w seat loaded spot out uncopying below =
     (subst (λ knows. HasCopyingBy w seat false loaded knows) (sym (set_outside spot out)) (uncopying_by c w seat loaded uncopying below))
 
 -- what it has asked for stands in the words
-asked_outside : (c : Config) (w : World) (seat made : ℕ) (kept : Kept) (spot : Spot) (command : Command) (fixed : Option Reply) → is_within (standing_at spot) ≡ false
+pub asked_outside : (c : Config) (w : World) (seat made : ℕ) (kept : Kept) (spot : Spot) (command : Command) (fixed : Option Reply) → is_within (standing_at spot) ≡ false
     → Mine c w (mutator_at seat made kept spot) command fixed → IsAsked w.memory w.block w.graph.count seat (asking_at spot (w.memory (Answer seat)) kept.command)
 asked_outside c w seat made kept Rest command fixed out mine = mine.seated.unasked refl
 asked_outside c w seat made kept (Ended reply) command fixed out mine = mine.seated.unasked refl
