@@ -1,11 +1,10 @@
 -- While references are updated, an address of the collection set is resolved by one load of the header.
-use Rattle.std.proofs.Common.{◌≡◌, ℕ, ◌<◌, true, false, Some, None, ⊎_elim, inl, inr, refl, sym, ap, ◌∙◌, subst, arith}
+use Rattle.std.proofs.Common.{◌≡◌, ℕ, true, false, Some, ⊎_elim, refl, sym, ap, ◌∙◌, subst, arith}
 use Rattle.std.specs.Prelude.{◌==◌, if◌then◌else◌}
 use Rattle.std.proofs.lemmas.Bool.{cond-true}
 use Rattle.heap_words.specs.declared.config.Config.{Config}
 use Rattle.heap_words.specs.Encoding.{header_word, is_forwarded, forwardee_in}
-use Rattle.heap_words.specs.Ranges.{seat_count}
-use Rattle.heap_words.specs.Words.{Phase, Cset, Heap, IsWord, is_word}
+use Rattle.heap_words.specs.Words.{Phase, Cset, Heap, IsWord}
 use Rattle.steps_base.specs.Touch.{loads}
 use Rattle.evac_room.specs.declared.spot.RoomSpot.TheVariants.{Look}
 use Rattle.heap_world.specs.World.{World, thing, Body, body_at, IsCollected, HasCopy, Shared}
@@ -20,11 +19,10 @@ use Rattle.load_barrier.specs.Fit as resolve
 use Rattle.load_barrier.specs.Runs.{is_copier}
 use Rattle.load_barrier.proofs.Knows.{header_forwarded, header_names}
 use Rattle.load_barrier.proofs.Inside.{resolve_inside}
-use Rattle.copy_steps.specs.Resolving.{IsAnswer, HasMovedTo}
+use Rattle.copy_steps.specs.Resolving.{HasMovedTo}
 use Rattle.copy_steps.proofs.Bodies.{copy_piece, piece_begins}
 use Rattle.copy_steps.proofs.Stays.{answer_stays}
 use Rattle.copy_steps.proofs.Steps.{moved_answer}
-use Rattle.evac_steps.specs.Evacuating.{HasNothing}
 use Rattle.update_steps.specs.Following.{FollowFacts, CanFollow}
 use Rattle.update_steps.specs.Laws.{update_phase, FollowStep, FollowingSteps}
 
