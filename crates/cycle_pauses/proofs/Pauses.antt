@@ -1,5 +1,5 @@
 -- Each step of the cycle, and collecting in full, is what a pause owes.
-use Rattle.std.proofs.Common.{◌≡◌, ◌≢◌, ℕ, ◌<◌, ◌≤◌, ◌==◌, ◌++◌, Bool, true, false, Option, List, replicate, refl, ⊎_elim, sym, ◌∙◌, subst, arith}
+use Rattle.std.proofs.Common.{◌≡◌, ◌≢◌, ℕ, ◌<◌, ◌==◌, ◌++◌, Bool, true, false, Option, List, replicate, refl, ⊎_elim, sym, ◌∙◌, subst, arith}
 use Rattle.std.specs.Prelude.{if◌then◌else◌, ◌&&◌, ◌||◌}
 use Rattle.std.specs.Int.{bit_at}
 use Rattle.std.proofs.Math.Bool.{Bool-set}
@@ -10,7 +10,7 @@ use Rattle.std.proofs.Math.Path.{fun_ext}
 use Rattle.std.proofs.lemmas.Bool.{cond-true, cond-false, cases_Bool, cases_eq, eq-eqb, eqb-true, le-ltb, true≢false}
 use Rattle.heap_words.specs.declared.config.Config.{Config}
 use Rattle.heap_words.specs.Ranges.{seat_count}
-use Rattle.heap_words.specs.Words.{Word, Phase, Cset, Evac, Ask, Claim, Current, is_word, image_start, view}
+use Rattle.heap_words.specs.Words.{Word, Phase, Cset, Evac, Ask, Current, is_word, image_start, view}
 use Rattle.heap_words.proofs.Stores.{is_word_true, view_none}
 use Rattle.evac_room.specs.Counter.{is_out_of_room}
 use Rattle.shen_graph.specs.Graph.{Graph}
@@ -20,6 +20,7 @@ use Rattle.heap_world.specs.Represents.{Represents}
 use Rattle.heap_world.specs.Change.{image_view, IsPaused, IsDue}
 use Rattle.image_laws.specs.Full.{full}
 use Rattle.image_laws.specs.Promised.{Promises}
+use Rattle.pause_laws.proofs.ByCopies.{by_copies}
 use Rattle.pause_laws.proofs.Outside.{IsZeroOutside}
 use Rattle.pause_laws.proofs.Images.{holds_outside}
 use Rattle.pause_laws.proofs.Pauses.{paused}
@@ -51,16 +52,16 @@ use Rattle.cycle_pauses.proofs.Images.{collected_by_name, collected_length}
 calm_in : (c : Config) (m : Word → ℕ) (g : Graph) (asking : ℕ → Asking) (r : Represents c m g asking) → m Phase < 2 → m Cset ≡ 0
 calm_in c m g asking r low = r.shared.phased.cset_is low
 
-can_collect : (c : Config) (m : Word → ℕ) (g : Graph) (asking : ℕ → Asking) (r : Represents c m g asking) → CanPause c m (plain c m g asking r) r.ghost.owner (promises_of c g asking) g
+can_collect : (c : Config) (m : Word → ℕ) (g : Graph) (asking : ℕ → Asking) (r : Represents c m g asking) → CanPause c m (plain c m g asking (by_copies c m g asking r)) r.ghost.owner (promises_of c g asking) g
 can_collect c m g asking r = record {
-  holds = holds_by c m g asking r;
+  holds = holds_by c m g asking (by_copies c m g asking r);
   phase_is = r.shared.phased.phase_is;
   uncollected = λ none. calm_in c m g asking r (omega (arith, none));
   marking = λ on. is_marking c m g asking r (calm_in c m g asking r (omega (arith, on))) on;
 }
 
 pub representing_can_collect : RepresentingCanCollect
-representing_can_collect c m g asking r = ∣ (g, plain c m g asking r, r.ghost.owner, promises_of c g asking, can_collect c m g asking r) ∣₁
+representing_can_collect c m g asking r = ∣ (g, plain c m g asking (by_copies c m g asking r), r.ghost.owner, promises_of c g asking, can_collect c m g asking r) ∣₁
 
 can_begin_prop : (c : Config) (m : Word → ℕ) → IsProp (CanBegin c m)
 can_begin_prop c m = hlevel (le_prop, ℕ_set, Bool-set)
@@ -69,6 +70,13 @@ pub ended_can_begin : EndedCanBegin
 ended_can_begin c m can on seats = ∥∥₁_elim can (can_begin_prop c (final_marked c m)) (λ some. evacuation_can_begin c m some.1 some.2 some.3 some.0 some.4.holds (some.4.marking on) seats)
 
 -- Which pause it is.
+
+-- a bit that is not 1 is 0
+unset : (word k : ℕ) → (bit_at word k == 1) ≡ false → bit_at word k ≡ 0
+unset word k is = ⊎_elim
+    (λ (none : bit_at word k ≡ 0). none)
+    (λ (some : bit_at word k ≢ 0). absurd (true≢false (sym (eq-eqb (bit_at word k) 1 (omega (arith, some))) ∙ is)))
+    (cases_eq (bit_at word k) 0)
 
 -- nobody waits, and no copier was out of room
 pub record IsCalm (m : Word → ℕ) : Type 0 where
@@ -81,11 +89,8 @@ calm_if m none = parts (bit_at (m Ask) 1 == 1) (m Phase == 2) (is_out_of_room (m
     parts : (x y z : Bool) → (bit_at (m Ask) 1 == 1) ≡ x → (m Phase == 2) ≡ y → is_out_of_room (m Evac) ≡ z → (x || (y && z)) ≡ false → IsCalm m
     parts true y z is_x is_y is_z both = absurd (true≢false both)
     parts false true true is_x is_y is_z both = absurd (true≢false both)
-    parts false true false is_x is_y is_z both = record { unasked = unset is_x; room = λ two. is_z }
-    parts false false z is_x is_y is_z both = record { unasked = unset is_x; room = λ two. absurd (true≢false (sym (eq-eqb (m Phase) 2 two) ∙ is_y)) }
-      where
-        unset : (bit_at (m Ask) 1 == 1) ≡ false → bit_at (m Ask) 1 ≡ 0
-        unset is = ⊎_elim (λ (none : bit_at (m Ask) 1 ≡ 0). none) (λ (some : bit_at (m Ask) 1 ≢ 0). absurd (true≢false (sym (eq-eqb (bit_at (m Ask) 1) 1 (omega (arith, some))) ∙ is))) (cases_eq (bit_at (m Ask) 1) 0)
+    parts false true false is_x is_y is_z both = record { unasked = unset (m Ask) 1 is_x; room = λ two. is_z }
+    parts false false z is_x is_y is_z both = record { unasked = unset (m Ask) 1 is_x; room = λ two. absurd (true≢false (sym (eq-eqb (m Phase) 2 two) ∙ is_y)) }
 
 -- one of five: in full, or the step of the cycle that the phase tells
 pub data Which (c : Config) (m : Word → ℕ) : Type 0 where
@@ -180,7 +185,7 @@ module _ (c : Config) (image : List ℕ) (g : Graph) (asking : ℕ → Asking) (
   step_paused calm after is stands = subst (λ words. IsPaused c m words g asking) (sym is) (idle_pause c m after g asking (nobody calm) stands)
 
   which_paused : Which c m → IsPaused c m (collected c m) g asking
-  which_paused (Which.in_full is) = subst (λ words. IsPaused c m words g asking) (sym is) (paused c m g asking r)
+  which_paused (Which.in_full is) = subst (λ words. IsPaused c m words g asking) (sym is) (paused c m g asking (by_copies c m g asking r))
   which_paused (Which.to_mark calm begins is) = step_paused calm (init_marked c m) is (beginning_represents c m g asking r begins (nobody calm))
   which_paused (Which.to_evacuate calm on is) =
       step_paused calm (evac_next c m) is (evacuation_represents c m g asking r on (no_more_seats c (replicate (image_start c) 0 ++ image)))
