@@ -43,7 +43,7 @@ module _ (c : Config) (m : Word → ℕ) (g : Graph) (asking : ℕ → Asking) (
   n = init_marked c m
 
   calm : m Cset ≡ 0
-  calm = r.shared.phased.cset_is (λ evacuates. omega (arith, rests, evacuates))
+  calm = r.shared.phased.cset_is (omega (arith, rests))
 
   no_copier : m Evac ≡ 0
   no_copier = r.shared.phased.evac_is (λ evacuates. omega (arith, rests, evacuates))
@@ -270,6 +270,7 @@ module _ (c : Config) (m : Word → ℕ) (g : Graph) (asking : ℕ → Asking) (
           (subst (λ count. IsEvacuating c 1 0 count 0 (m Free) top top heap (λ q. 0) plot ghost.owner ghost.copying ghost.working) (sym no_copier)
           (none_evacuated c 1 0 (m Free) top top heap (λ q. 0) plot ghost.owner ghost.copying ghost.working (λ on. omega (arith, on)) still_unmoved
           (λ a words to is. no_spent c m g asking r calm a words to (spent_was found r.block a words to is)) r.uncopying.copies_none));
+      updated = λ on. absurd (omega (arith, on));
     };
     roots = roots_again;
     usable = roots_usable;

@@ -18,7 +18,7 @@ use Rattle.mark_pauses.proofs.Ending.{plot, ghost, marked_out}
 
 -- there is no collection set while objects are marked
 calm_at : (c : Config) (m : Word → ℕ) (g : Graph) (asking : ℕ → Asking) (r : Represents c m g asking) → m Phase ≡ 1 → m Cset ≡ 0
-calm_at c m g asking r on = r.shared.phased.cset_is (λ evacuates. omega (arith, on, evacuates))
+calm_at c m g asking r on = r.shared.phased.cset_is (omega (arith, on))
 
 pub marking_stands : MarkingStands
 marking_stands c m g asking r on =

@@ -34,7 +34,7 @@ is_whole c image table long whole holds is = table_is_full c image table whole h
 pub full_is_pause : FullIsPause
 full_is_pause = record {
   long = λ c image long. image_length c image;
-  pauses = λ c image g asking long r.
+  pauses = λ c image g asking long r due.
       subst (λ after. IsPaused c (image_view c image) after g asking) (sym (image_is_full c image (holds_some c (image_view c image) g asking r)))
       (paused c (image_view c image) g asking r);
 }

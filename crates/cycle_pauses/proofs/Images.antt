@@ -8,8 +8,10 @@ use Rattle.std.proofs.lemmas.Bool.{true≢false}
 use Rattle.image_laws.specs.Full.{full}
 use Rattle.pause_laws.proofs.Images.{full_before, image_of_length, word_by_name, table_by_name}
 use Rattle.mark_laws.specs.Init.{init_marked}
-use Rattle.evac_pauses.specs.Collect.{evac_next, is_full_due, collected, collect_image}
-use Rattle.evac_pauses.specs.Laws.{TableIsCollected}
+use Rattle.evac_pauses.specs.Collect.{evac_next}
+use Rattle.update_laws.specs.Changes.{init_updated, final_updated}
+use Rattle.cycle_pauses.specs.Collect.{is_full_due, next_in_cycle, collected, collect_image}
+use Rattle.cycle_pauses.specs.Laws.{TableIsCollected}
 use Rattle.evac_pauses.proofs.Outside.{of_two, next_before}
 
 -- the beginning of marking leaves the words before the image
@@ -20,10 +22,30 @@ init_before c m End other = refl
 init_before c m (State s) other = refl
 init_before c m _ other = absurd (true≢false other)
 
+-- so does the beginning of updating, and its end
+init_updated_before : (m : Word → ℕ) (word : Word) → is_image word ≡ false → init_updated m word ≡ m word
+init_updated_before m Pause other = refl
+init_updated_before m Left other = refl
+init_updated_before m End other = refl
+init_updated_before m (State s) other = refl
+init_updated_before m _ other = absurd (true≢false other)
+
+final_updated_before : (c : Config) (m : Word → ℕ) (word : Word) → is_image word ≡ false → final_updated c m word ≡ m word
+final_updated_before c m Pause other = refl
+final_updated_before c m Left other = refl
+final_updated_before c m End other = refl
+final_updated_before c m (State s) other = refl
+final_updated_before c m _ other = absurd (true≢false other)
+
+cycle_before : (c : Config) (m : Word → ℕ) (word : Word) → is_image word ≡ false → next_in_cycle c m word ≡ m word
+cycle_before c m word other =
+    of_two (m Phase == 0) (init_marked c m word) (if m Phase == 1 then evac_next c m word else (if m Phase == 2 then init_updated m word else final_updated c m word)) (m word) (init_before c m word other)
+    (of_two (m Phase == 1) (evac_next c m word) (if m Phase == 2 then init_updated m word else final_updated c m word) (m word) (next_before c m word other)
+    (of_two (m Phase == 2) (init_updated m word) (final_updated c m word) (m word) (init_updated_before m word other) (final_updated_before c m word other)))
+
 collected_before : (c : Config) (m : Word → ℕ) (word : Word) → is_image word ≡ false → collected c m word ≡ m word
 collected_before c m word other =
-    of_two (is_full_due m) (full c m word) (if m Phase == 0 then init_marked c m word else evac_next c m word) (m word) (full_before c m word other)
-    (of_two (m Phase == 0) (init_marked c m word) (evac_next c m word) (m word) (init_before c m word other) (next_before c m word other))
+    of_two (is_full_due m) (full c m word) (next_in_cycle c m word) (m word) (full_before c m word other) (cycle_before c m word other)
 
 -- a pause keeps the length of the image
 pub collected_length : (c : Config) (image : List ℕ) → length (collect_image c image) ≡ image_words c
