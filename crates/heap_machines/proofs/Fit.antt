@@ -24,8 +24,8 @@ use Rattle.control_steps.specs.declared.spot.ControlSpot.TheVariants.{Scanning, 
 use Rattle.control_steps.specs.Ready.{UnitGoesOn}
 use Rattle.control_steps.specs.Rows.{control_seat}
 use Rattle.control.specs.Fit.{fits_with}
-use Rattle.evac_pauses.specs.Collect.{CanPauseSome}
-use Rattle.evac_pauses.proofs.Pauses.{representing_can_collect}
+use Rattle.cycle_pauses.specs.Collect.{CanPauseSome}
+use Rattle.cycle_pauses.proofs.Pauses.{representing_can_collect}
 use Rattle.step_core.specs.Actor.{Machine, mutating, helping, controlling}
 use Rattle.step_core.specs.Fit.{IsWhole, IsFitFor}
 

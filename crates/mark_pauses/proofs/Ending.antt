@@ -1,23 +1,18 @@
 -- The end of marking: each object is marked or new, so none lies in a dead region, and the words stand for the same graph.
-use Rattle.std.proofs.Common.{◌≡◌, ℕ, ◌+◌, ◌<◌, ◌≤◌, ◌⊎◌, max, Bool, true, false, Option, Some, None, inl, inr, ⊎_elim, refl, sym, ap, ◌∙◌, arith}
+use Rattle.std.proofs.Common.{◌≡◌, ℕ, ◌+◌, ◌<◌, ◌≤◌, ◌⊎◌, Bool, true, false, Option, Some, None, inl, inr, ⊎_elim, refl, sym, ap, ◌∙◌, arith}
 use Rattle.std.specs.Prelude.{if◌then◌else◌}
-use Rattle.std.specs.Int.{bit_at}
 use Rattle.std.proofs.lemmas.Bool.{cond-true, cond-false, cases_Bool, cases_lt, true≢false}
-use Rattle.std.proofs.lemmas.Nat.{or_lt}
-use Rattle.std.proofs.lemmas.Nat.Bits.{bit_at_or}
 use Rattle.std.proofs.lemmas.Option.{none-some}
 use Rattle.heap_words.specs.declared.config.Config.{Config}
 use Rattle.heap_words.specs.Ranges.{seat_count}
 use Rattle.heap_words.specs.Words.{Word, Phase, Cset, Free, Top, Tams, Current, Root, Black, Heap}
-use Rattle.regions.specs.Place.{base_of, region_with}
-use Rattle.regions.specs.Sets.{IsIn}
-use Rattle.regions.proofs.PlaceLemmas.{regions_tile}
+use Rattle.regions.specs.Place.{region_with}
 use Rattle.shen_graph.specs.declared.name.Name.{Name}
 use Rattle.shen_graph.specs.Graph.{Graph}
-use Rattle.heap_world.specs.World.{Block, thing, moved, spent, hand, promised, filler, words_of, Plot, Ghost, no_snapshot, name_at, IsInUse, IsPlotted, IsFilled, AreObjects, IsFreeWord, AreCurrent, IsMarkable, IsYoung}
+use Rattle.heap_world.specs.World.{Block, thing, moved, spent, hand, promised, filler, Plot, Ghost, no_snapshot, name_at, AreObjects, IsFreeWord, AreCurrent, AreRooms, IsMarkable, IsYoung}
 use Rattle.heap_world.specs.Asking.{Asking, IsAsked}
 use Rattle.heap_world.specs.Represents.{Represents}
-use Rattle.heap_world.proofs.Pieces.{some_words, object_reads}
+use Rattle.heap_world.proofs.Pieces.{object_reads}
 use Rattle.heap_world.proofs.Keeping.{points_stay}
 use Rattle.mark_bits.specs.Marks.{HasMark}
 use Rattle.image_laws.specs.Promised.{Promises}
@@ -26,15 +21,13 @@ use Rattle.image_graph.specs.State.{IsSomeSeats}
 use Rattle.pause_laws.proofs.Promises.{promises_of}
 use Rattle.pause_laws.proofs.Dead.{plain}
 use Rattle.pause_laws.proofs.Holding.{holds_by}
-use Rattle.mark_laws.specs.Marks.{is_black, bits_of, IsNew, IsKept}
+use Rattle.mark_laws.specs.Marks.{is_black, IsNew, IsKept}
 use Rattle.mark_laws.specs.Close.{IsTraced, closed}
 use Rattle.mark_laws.specs.Final.{is_current, IsDead, dead_in, freed_block, freed_owner, final_marked}
 use Rattle.mark_laws.specs.Facts.{IsMarking}
 use Rattle.mark_laws.specs.Laws.{HasNoMoreSeats}
-use Rattle.mark_laws.proofs.Bits.{one, bits_small, bits_at}
 use Rattle.mark_laws.proofs.Closed.{are_closed, followed as traced_followed, safe_kept}
 use Rattle.mark_laws.proofs.Dead.{current_is, is_current_of, dead_is_dead}
-use Rattle.mark_laws.proofs.Plain.{below_top}
 use Rattle.mark_pauses.proofs.Asked.{asked_stays}
 use Rattle.mark_pauses.proofs.Freed as freed
 use Rattle.mark_pauses.proofs.Chains.{mark_is, is_mark, no_moved, no_spent, thing_at, piece_below, markable_piece, black_markable, markable_safe, followed, is_marking}
