@@ -1,30 +1,26 @@
 -- In each stage that events lead to no region that is free is held.
-use Rattle.std.proofs.Common.{◌≡◌, ℕ, ◌+◌, ◌<◌, false, List, [], Some, None, get_or, subst, arith}
+use Rattle.std.proofs.Common.{◌≡◌, ℕ, ◌+◌, ◌<◌, List, [], Some, None, get_or, subst, arith}
 use Rattle.std.proofs.lemmas.Option.{slice_get-get_or}
 use Rattle.heap_words.specs.declared.config.Config.{Config}
 use Rattle.heap_words.specs.Words.{Free, Answer, Heap}
-use Rattle.regions.specs.Place.{IsOf}
 use Rattle.regions.specs.Sets.{IsIn}
-use Rattle.steps_base.specs.Steps.{Stage, Event, go}
+use Rattle.steps_base.specs.Steps.{Stage, go}
 use Rattle.shen_graph.specs.declared.name.Name.{Name}
-use Rattle.shen_graph.specs.declared.order.Order.{Order}
 use Rattle.shen_graph.specs.Graph.{Graph}
 use Rattle.shen_graph.specs.History.{Entry, after, of_thread}
 use Rattle.heap_world.specs.World.{World, thing, Shared}
 use Rattle.heap_world.specs.Asking.{Asking, nothing, asks, refused, given, IsAsked}
-use Rattle.heap_world.specs.Change.{Change, IsPause}
 use Rattle.helper.specs.declared.spot.HelpSpot.{HelpSpot}
 use Rattle.helper.specs.declared.spot.HelpSpot.TheVariants as help
 use Rattle.control_steps.specs.declared.spot.ControlSpot.{ControlSpot}
 use Rattle.control_steps.specs.declared.spot.ControlSpot.TheVariants as control
 use Rattle.mutator.specs.Rows.{Mutating}
 use Rattle.step_core.specs.Actor.{Machine, mutating, helping, controlling, Actor}
-use Rattle.step_core.specs.Begins.{Begins}
 use Rattle.step_core.specs.History.{history}
 use Rattle.step_core.specs.Machines.{kind}
 use Rattle.step_core.specs.Own.{root_now}
 use Rattle.step_core.specs.Settled.{settled}
-use Rattle.step_core.specs.Sound.{world_of, IsMutator, is_clearing, StandsFor}
+use Rattle.step_core.specs.Sound.{world_of, IsMutator, StandsFor}
 use Rattle.step_core.proofs.Beginning.{goes_begins}
 use Rattle.step_core.proofs.Facts.{HelpFacts, ControlFacts, IsMachine, IsThread}
 use Rattle.step_core.proofs.Induction.{Goes, goes_run}
