@@ -75,8 +75,11 @@ pub control_obeys : (c : Config) (seat phase cset seen value : ℕ) (spot : Cont
     → Obeys c seat (control_standing spot) (access_with c spot value) (λ got. control_standing (next_spot c phase cset seen spot got))
 control_obeys c seat phase cset seen value LookLeft ready = record { elsewhere = placed_elsewhere c (touch Left loads) tt refl; goes_on = λ got. either is_free (nat_eq got 0) StoreEnd LookAsked refl refl }
 control_obeys c seat phase cset seen value StoreEnd ready = record { elsewhere = placed_elsewhere c (touch End (stores 1)) tt refl; goes_on = λ got. refl }
-control_obeys c seat phase cset seen value LookAsked ready = record { elsewhere = placed_elsewhere c (touch Ask loads) tt refl; goes_on = λ got. either is_free (begins_pause phase got) (Stopping stop.Raise) (unasked phase cset) refl (either is_free (nat_eq phase 0) LookFree (begins_unit phase cset) refl (either is_free (nat_eq phase 1) (Scanning scan.LoadClaim) (if nat_eq phase 2 then Evacuating cset evac.LoadClaim else Updating cset update.LoadClaim) refl
-    (either is_free (nat_eq phase 2) (Evacuating cset evac.LoadClaim) (Updating cset update.LoadClaim) refl refl))) }
+control_obeys c seat phase cset seen value LookAsked ready = record {
+  elsewhere = placed_elsewhere c (touch Ask loads) tt refl;
+  goes_on = λ got. either is_free (begins_pause phase got) (Stopping stop.Raise) (unasked phase cset) refl (either is_free (nat_eq phase 0) LookFree (begins_unit phase cset) refl (either is_free (nat_eq phase 1) (Scanning scan.LoadClaim) (if nat_eq phase 2 then Evacuating cset evac.LoadClaim else Updating cset update.LoadClaim) refl
+      (either is_free (nat_eq phase 2) (Evacuating cset evac.LoadClaim) (Updating cset update.LoadClaim) refl refl)));
+}
 control_obeys c seat phase cset seen value LookFree ready = record { elsewhere = placed_elsewhere c (touch Free loads) tt refl; goes_on = λ got. either is_free (wants_pause c seen got) (Stopping stop.Raise) LookLeft refl refl }
 control_obeys c seat phase cset seen value (Scanning at) ready =
     let word : IsWord c (scans.touch_at c at).word = scan_inside c at (and_parts _ _ ready).0 in

@@ -113,4 +113,3 @@ module _ (c : Config) (memory : Word → ℕ) (cset : ℕ) where
       by_test AfterUpdating (is_forwarded _) (update.ExchangeField at field found (forwardee_in _)) (updates.next_field c at (field + 1)) (λ on. λ same. absurd (cc (same))) (λ off. field_left at (field + 1))
   none_left_to_update (update.ExchangeField at field found copy) going = field_left at (field + 1)
   none_left_to_update (update.Ended unit) going = absurd (cc (going))
-

@@ -142,8 +142,11 @@ module _ (c : Config) (phase cset seen value : ℕ) where
   control_keeps_end : (spot : ControlSpot) → is_ready c spot ≡ true → KeepsEnd c (is_gone spot) (access_with c spot value) (λ got. is_gone (next_spot c phase cset seen spot got))
   control_keeps_end control.LookLeft ready = inr (record { not_written = inl refl; same = λ got. neither (got == 0) control.StoreEnd control.LookAsked refl refl })
   control_keeps_end control.StoreEnd ready = inl (record { access_is = refl; has_ended = λ got. refl })
-  control_keeps_end control.LookAsked ready = inr (record { not_written = inl refl; same = λ got. neither (begins_pause phase got) (control.Stopping stop.Raise) (unasked phase cset) refl (neither (phase == 0) control.LookFree (begins_unit phase cset) refl (neither (phase == 1) (control.Scanning scan.LoadClaim) (if phase == 2 then control.Evacuating cset evac.LoadClaim else control.Updating cset update.LoadClaim) refl
-      (neither (phase == 2) (control.Evacuating cset evac.LoadClaim) (control.Updating cset update.LoadClaim) refl refl))) })
+  control_keeps_end control.LookAsked ready = inr (record {
+    not_written = inl refl;
+    same = λ got. neither (begins_pause phase got) (control.Stopping stop.Raise) (unasked phase cset) refl (neither (phase == 0) control.LookFree (begins_unit phase cset) refl (neither (phase == 1) (control.Scanning scan.LoadClaim) (if phase == 2 then control.Evacuating cset evac.LoadClaim else control.Updating cset update.LoadClaim) refl
+        (neither (phase == 2) (control.Evacuating cset evac.LoadClaim) (control.Updating cset update.LoadClaim) refl refl)));
+  })
   control_keeps_end control.LookFree ready = inr (record { not_written = inl refl; same = λ got. neither (wants_pause c seen got) (control.Stopping stop.Raise) control.LookLeft refl refl })
   control_keeps_end (control.Scanning at) ready =
       let above = placed_above c (scans.touch_at c at) (scan_inside c at (and_parts _ _ ready).0) (scan_image c at) in
