@@ -1,5 +1,5 @@
 -- Each step of the cycle, and collecting in full, is what a pause owes.
-use Rattle.std.proofs.Common.{◌≡◌, ◌≢◌, ℕ, ◌<◌, ◌≤◌, ◌==◌, ◌++◌, Bool, true, false, Option, List, replicate, refl, ⊎_elim, sym, ◌∙◌, subst, arith}
+use Rattle.std.proofs.Common.{◌≡◌, ◌≢◌, ℕ, ◌<◌, ◌==◌, ◌++◌, Bool, true, false, Option, List, replicate, refl, ⊎_elim, sym, ◌∙◌, subst, arith}
 use Rattle.std.specs.Prelude.{if◌then◌else◌, ◌&&◌, ◌||◌}
 use Rattle.std.specs.Int.{bit_at}
 use Rattle.std.proofs.Math.Bool.{Bool-set}
@@ -10,7 +10,7 @@ use Rattle.std.proofs.Math.Path.{fun_ext}
 use Rattle.std.proofs.lemmas.Bool.{cond-true, cond-false, cases_Bool, cases_eq, eq-eqb, eqb-true, le-ltb, true≢false}
 use Rattle.heap_words.specs.declared.config.Config.{Config}
 use Rattle.heap_words.specs.Ranges.{seat_count}
-use Rattle.heap_words.specs.Words.{Word, Phase, Cset, Evac, Ask, Claim, Current, is_word, image_start, view}
+use Rattle.heap_words.specs.Words.{Word, Phase, Cset, Evac, Ask, Current, is_word, image_start, view}
 use Rattle.heap_words.proofs.Stores.{is_word_true, view_none}
 use Rattle.evac_room.specs.Counter.{is_out_of_room}
 use Rattle.shen_graph.specs.Graph.{Graph}
@@ -70,6 +70,13 @@ ended_can_begin c m can on seats = ∥∥₁_elim can (can_begin_prop c (final_m
 
 -- Which pause it is.
 
+-- a bit that is not 1 is 0
+unset : (word k : ℕ) → (bit_at word k == 1) ≡ false → bit_at word k ≡ 0
+unset word k is = ⊎_elim
+    (λ (none : bit_at word k ≡ 0). none)
+    (λ (some : bit_at word k ≢ 0). absurd (true≢false (sym (eq-eqb (bit_at word k) 1 (omega (arith, some))) ∙ is)))
+    (cases_eq (bit_at word k) 0)
+
 -- nobody waits, and no copier was out of room
 pub record IsCalm (m : Word → ℕ) : Type 0 where
   pub unasked : bit_at (m Ask) 1 ≡ 0
@@ -81,11 +88,8 @@ calm_if m none = parts (bit_at (m Ask) 1 == 1) (m Phase == 2) (is_out_of_room (m
     parts : (x y z : Bool) → (bit_at (m Ask) 1 == 1) ≡ x → (m Phase == 2) ≡ y → is_out_of_room (m Evac) ≡ z → (x || (y && z)) ≡ false → IsCalm m
     parts true y z is_x is_y is_z both = absurd (true≢false both)
     parts false true true is_x is_y is_z both = absurd (true≢false both)
-    parts false true false is_x is_y is_z both = record { unasked = unset is_x; room = λ two. is_z }
-    parts false false z is_x is_y is_z both = record { unasked = unset is_x; room = λ two. absurd (true≢false (sym (eq-eqb (m Phase) 2 two) ∙ is_y)) }
-      where
-        unset : (bit_at (m Ask) 1 == 1) ≡ false → bit_at (m Ask) 1 ≡ 0
-        unset is = ⊎_elim (λ (none : bit_at (m Ask) 1 ≡ 0). none) (λ (some : bit_at (m Ask) 1 ≢ 0). absurd (true≢false (sym (eq-eqb (bit_at (m Ask) 1) 1 (omega (arith, some))) ∙ is))) (cases_eq (bit_at (m Ask) 1) 0)
+    parts false true false is_x is_y is_z both = record { unasked = unset (m Ask) 1 is_x; room = λ two. is_z }
+    parts false false z is_x is_y is_z both = record { unasked = unset (m Ask) 1 is_x; room = λ two. absurd (true≢false (sym (eq-eqb (m Phase) 2 two) ∙ is_y)) }
 
 -- one of five: in full, or the step of the cycle that the phase tells
 pub data Which (c : Config) (m : Word → ℕ) : Type 0 where

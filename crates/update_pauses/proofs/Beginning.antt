@@ -1,12 +1,11 @@
 -- The beginning of updating: the words represent the same graph. Nothing has its current copy in the collection set any more, and each
 -- field is still to be updated.
-use Rattle.std.proofs.Common.{◌≡◌, ◌≢◌, ℕ, ◌+◌, ◌<◌, ◌≤◌, ◌⊎◌, ◌==◌, true, false, Some, inl, inr, ⊎_elim, refl, sym, ap, ◌∙◌, subst, arith}
-use Rattle.std.specs.Prelude.{if◌then◌else◌}
+use Rattle.std.proofs.Common.{◌≡◌, ℕ, ◌≤◌, true, false, Some, inl, inr, ⊎_elim, refl, arith}
 use Rattle.std.specs.Int.{bit_at}
-use Rattle.std.proofs.lemmas.Bool.{cond-true, cond-false, cases_Bool, ne_eqb, true≢false}
+use Rattle.std.proofs.lemmas.Bool.{cond-true, cond-false, cases_Bool, ne_eqb}
 use Rattle.heap_words.specs.declared.config.Config.{Config}
-use Rattle.heap_words.specs.Words.{Word, Phase, Cset, Free, Evac, Claim, Top, Tams, Limit, Current, Root, Count, Buffer, Grey, Black, Heap}
-use Rattle.regions.specs.Place.{base_of, region_with}
+use Rattle.heap_words.specs.Words.{Word, Phase, Cset, Free, Evac, Claim, Top, Tams, Limit, Root, Count, Buffer, Grey, Black, Heap}
+use Rattle.regions.specs.Place.{region_with}
 use Rattle.regions.specs.Sets.{IsIn}
 use Rattle.evac_room.specs.Counter.{is_out_of_room}
 use Rattle.shen_graph.specs.declared.name.Name.{Name}

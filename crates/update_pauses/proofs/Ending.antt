@@ -1,11 +1,10 @@
 -- The end of updating: nothing names an old copy any more, so the collection set is freed as it is, and the words represent the same
 -- graph.
-use Rattle.std.proofs.Common.{◌≡◌, ◌≢◌, ℕ, ◌+◌, ◌<◌, ◌≤◌, ◌⊎◌, Bool, true, false, Option, Some, None, inl, inr, ⊎_elim, refl, sym, ap, ◌∙◌, subst, arith}
+use Rattle.std.proofs.Common.{◌≡◌, ℕ, ◌+◌, ◌<◌, ◌≤◌, Bool, true, false, Option, Some, None, inl, inr, refl, sym, ap, ◌∙◌, subst, arith}
 use Rattle.std.proofs.lemmas.Option.{slice_get_within}
 use Rattle.heap_words.specs.declared.config.Config.{Config}
 use Rattle.heap_words.specs.Words.{Word, Phase, Cset, Free, Evac, Claim, Top, Tams, Current, Root, Count, Buffer, Grey, Black, Heap}
 use Rattle.regions.specs.Place.{region_with}
-use Rattle.regions.specs.Sets.{IsIn}
 use Rattle.shen_graph.specs.declared.name.Name.{Name}
 use Rattle.shen_graph.specs.Graph.{Graph, Object, Reference}
 use Rattle.heap_world.specs.World.{Block, thing, moved, spent, hand, promised, Plot, Ghost, no_snapshot, Points, name_at, IsCollected, IsThing, AreObjects, AreRooms, IsCurrent, IsEvacuating, IsUsable}
@@ -21,7 +20,7 @@ use Rattle.mark_pauses.proofs.Asked.{asked_stays}
 use Rattle.mark_pauses.proofs.Freed as freed
 use Rattle.update_laws.specs.Changes.{is_chosen, final_updated}
 use Rattle.update_pauses.specs.Laws.{UpdatingEnds}
-use Rattle.update_pauses.proofs.Freeing.{chosen_if, spared_if, not_in_set, in_set}
+use Rattle.update_pauses.proofs.Freeing.{spared_if, not_in_set, in_set}
 
 -- what no seat has is nobody's
 no_owner : (o : Option ℕ) → ((seat : ℕ) → o ≡ Some seat → ⊥) → o ≡ None

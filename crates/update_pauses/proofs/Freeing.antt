@@ -1,14 +1,12 @@
 -- The end of updating frees the collection set and no other region.
-use Rattle.std.proofs.Common.{◌≡◌, ℕ, ◌<◌, true, false, inl, inr, ⊎_elim, sym, ◌∙◌}
+use Rattle.std.proofs.Common.{◌≡◌, ℕ, true, false, inl, inr, ⊎_elim, sym, ◌∙◌}
 use Rattle.std.specs.Int.{bit_at}
 use Rattle.std.proofs.lemmas.Bool.{eq-eqb, eqb-true, ne_eqb, true≢false}
-use Rattle.heap_words.specs.declared.config.Config.{Config}
 use Rattle.heap_words.specs.Words.{Word, Cset, Free}
 use Rattle.regions.specs.Sets.{IsIn}
 use Rattle.mark_laws.proofs.Freed.{free_was, free_is}
 use Rattle.mark_pauses.proofs.Freed.{top_out, top_stays, tams_out, tams_stays, limit_out, limit_stays}
-use Rattle.update_laws.specs.Changes.{is_chosen, final_updated}
-use Rattle.update_pauses.specs.Freed.{IsFreed, IsSpared}
+use Rattle.update_laws.specs.Changes.{is_chosen}
 use Rattle.update_pauses.specs.Laws.{SetIsFreed}
 
 -- a region is chosen where it is in the set

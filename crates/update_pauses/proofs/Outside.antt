@@ -1,5 +1,5 @@
 -- Where a memory reads 0 at all that is no word of the table, so does what the beginning and the end of updating make of it.
-use Rattle.std.proofs.Common.{◌≡◌, ℕ, refl}
+use Rattle.std.proofs.Common.{ℕ, refl}
 use Rattle.std.proofs.lemmas.Bool.{true≢false}
 use Rattle.heap_words.specs.declared.config.Config.{Config}
 use Rattle.heap_words.specs.Words.{Word, Phase, Cset, Evac, Claim, Top, Limit}
