@@ -20,6 +20,7 @@ use Rattle.heap_world.specs.Represents.{Represents}
 use Rattle.heap_world.specs.Change.{image_view, IsPaused, IsDue}
 use Rattle.image_laws.specs.Full.{full}
 use Rattle.image_laws.specs.Promised.{Promises}
+use Rattle.pause_laws.proofs.ByCopies.{by_copies}
 use Rattle.pause_laws.proofs.Outside.{IsZeroOutside}
 use Rattle.pause_laws.proofs.Images.{holds_outside}
 use Rattle.pause_laws.proofs.Pauses.{paused}
@@ -51,16 +52,16 @@ use Rattle.cycle_pauses.proofs.Images.{collected_by_name, collected_length}
 calm_in : (c : Config) (m : Word → ℕ) (g : Graph) (asking : ℕ → Asking) (r : Represents c m g asking) → m Phase < 2 → m Cset ≡ 0
 calm_in c m g asking r low = r.shared.phased.cset_is low
 
-can_collect : (c : Config) (m : Word → ℕ) (g : Graph) (asking : ℕ → Asking) (r : Represents c m g asking) → CanPause c m (plain c m g asking r) r.ghost.owner (promises_of c g asking) g
+can_collect : (c : Config) (m : Word → ℕ) (g : Graph) (asking : ℕ → Asking) (r : Represents c m g asking) → CanPause c m (plain c m g asking (by_copies c m g asking r)) r.ghost.owner (promises_of c g asking) g
 can_collect c m g asking r = record {
-  holds = holds_by c m g asking r;
+  holds = holds_by c m g asking (by_copies c m g asking r);
   phase_is = r.shared.phased.phase_is;
   uncollected = λ none. calm_in c m g asking r (omega (arith, none));
   marking = λ on. is_marking c m g asking r (calm_in c m g asking r (omega (arith, on))) on;
 }
 
 pub representing_can_collect : RepresentingCanCollect
-representing_can_collect c m g asking r = ∣ (g, plain c m g asking r, r.ghost.owner, promises_of c g asking, can_collect c m g asking r) ∣₁
+representing_can_collect c m g asking r = ∣ (g, plain c m g asking (by_copies c m g asking r), r.ghost.owner, promises_of c g asking, can_collect c m g asking r) ∣₁
 
 can_begin_prop : (c : Config) (m : Word → ℕ) → IsProp (CanBegin c m)
 can_begin_prop c m = hlevel (le_prop, ℕ_set, Bool-set)
@@ -184,7 +185,7 @@ module _ (c : Config) (image : List ℕ) (g : Graph) (asking : ℕ → Asking) (
   step_paused calm after is stands = subst (λ words. IsPaused c m words g asking) (sym is) (idle_pause c m after g asking (nobody calm) stands)
 
   which_paused : Which c m → IsPaused c m (collected c m) g asking
-  which_paused (Which.in_full is) = subst (λ words. IsPaused c m words g asking) (sym is) (paused c m g asking r)
+  which_paused (Which.in_full is) = subst (λ words. IsPaused c m words g asking) (sym is) (paused c m g asking (by_copies c m g asking r))
   which_paused (Which.to_mark calm begins is) = step_paused calm (init_marked c m) is (beginning_represents c m g asking r begins (nobody calm))
   which_paused (Which.to_evacuate calm on is) =
       step_paused calm (evac_next c m) is (evacuation_represents c m g asking r on (no_more_seats c (replicate (image_start c) 0 ++ image)))

@@ -18,6 +18,8 @@ use Rattle.mark_bits.specs.Marks.{HasMark}
 use Rattle.image_laws.specs.Promised.{Promises}
 use Rattle.image_graph.specs.Holds.{HoldsBy}
 use Rattle.image_graph.specs.State.{IsSomeSeats}
+use Rattle.pause_laws.specs.ByCopies.{RepresentsByCopies}
+use Rattle.pause_laws.proofs.ByCopies.{by_copies}
 use Rattle.pause_laws.proofs.Promises.{promises_of}
 use Rattle.pause_laws.proofs.Dead.{plain}
 use Rattle.pause_laws.proofs.Holding.{holds_by}
@@ -39,6 +41,10 @@ none_if true o is = is
 none_if false o is = refl
 
 module _ (c : Config) (m : Word → ℕ) (g : Graph) (asking : ℕ → Asking) (r : Represents c m g asking) (on : m Phase ≡ 1) where
+  -- the same words by copies
+  abbrev copies : RepresentsByCopies c m g asking
+  copies = by_copies c m g asking r
+
   abbrev n : Word → ℕ
   n = final_marked c m
 
@@ -49,10 +55,10 @@ module _ (c : Config) (m : Word → ℕ) (g : Graph) (asking : ℕ → Asking) (
   p = promises_of c g asking
 
   abbrev old : Plot
-  old = plain c m g asking r
+  old = plain c m g asking copies
 
   holds : HoldsBy c m old r.ghost.owner p g
-  holds = holds_by c m g asking r
+  holds = holds_by c m g asking copies
 
   marking : IsMarking c m old
   marking = is_marking c m g asking r calm on

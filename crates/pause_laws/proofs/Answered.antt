@@ -9,6 +9,7 @@ use Rattle.shen_graph.specs.Graph.{Graph, fresh}
 use Rattle.heap_world.specs.World.{no_ghost}
 use Rattle.heap_world.specs.Asking.{Asking, nothing, asks, refused, given, IsAsked}
 use Rattle.heap_world.specs.Represents.{Represents}
+use Rattle.pause_laws.specs.ByCopies.{RepresentsByCopies}
 use Rattle.heap_world.specs.Change.{Answers}
 use Rattle.image_laws.specs.Full.{packed_in, full}
 use Rattle.image_laws.specs.Promised.{Promises}
@@ -41,7 +42,7 @@ nobody_asks (asks more less) answer refs nums is = ⊎_elim
 nobody_asks refused answer refs nums is = cc
 nobody_asks (given more less) answer refs nums is = cc
 
-module _ (c : Config) (m : Word → ℕ) (g : Graph) (asking : ℕ → Asking) (r : Represents c m g asking) where
+module _ (c : Config) (m : Word → ℕ) (g : Graph) (asking : ℕ → Asking) (r : RepresentsByCopies c m g asking) where
   abbrev p : Promises
   p = promises_of c g asking
 

@@ -1,5 +1,5 @@
 -- The beginning of updating makes the words that it says.
-use Rattle.std.proofs.Common.{◌≡◌, ℕ, ◌+◌, ◌==◌, ◌≤◌, nat_lt, cond, List, refl, sym, ap, ◌∙◌, arith}
+use Rattle.std.proofs.Common.{◌≡◌, ℕ, ◌+◌, ◌==◌, nat_lt, cond, false, List, refl, ◌∙◌, arith}
 use Rattle.std.proofs.lemmas.Bool.Decides.{nat_tests}
 use Rattle.std.proofs.Math.Path.{fun_ext}
 use Rattle.heap_words.specs.declared.config.Config.{Config}
@@ -52,7 +52,7 @@ module _ (c : Config) (words : List ℕ) where
 
   -- a region that is not of the heap has no top and no limit
   none_past : (r : ℕ) → nat_lt r c.regions ≡ false → m (Limit r) ≡ limit_in m r
-  none_past r no = view_none c words (Limit r) no ∙ either (view_none c words (Top r) no)
+  none_past r past = view_none c words (Limit r) past ∙ either (m (Top r)) (view_none c words (Top r) past)
     where
       either : (top : ℕ) → top ≡ 0 → 0 ≡ cond (is_chosen m r) 0 top
       either top is = grind (arith, nat_tests)

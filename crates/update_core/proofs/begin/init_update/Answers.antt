@@ -1,5 +1,5 @@
-use Rattle.std.proofs.Common.{◌≡◌, ap, ◌∙◌}
-use Rattle.image_graph.specs.State.{config_of, words_of, memory_of}
+use Rattle.std.proofs.Common.{ap, ◌∙◌}
+use Rattle.image_graph.specs.State.{config_of, words_of}
 use Rattle.update_core.specs.Steps.{update_started}
 use Rattle.update_core.proofs.Beginning.{begun}
 use Rattle.update_core.proofs.begin.init_update.Goals as goal

@@ -1,4 +1,4 @@
-use Rattle.std.proofs.Common.{◌≡◌, ap, ◌∙◌}
+use Rattle.std.proofs.Common.{ap, ◌∙◌}
 use Rattle.update_laws.specs.Changes.{cycle_ended}
 use Rattle.update_core.proofs.end.final_update.Goals as goal
 

@@ -1,0 +1,4 @@
+pub mod Starts
+pub mod Fields
+pub mod Copies
+pub mod Whole

@@ -1,0 +1,3 @@
+pub mod Updated
+pub mod Copies
+pub mod Finish

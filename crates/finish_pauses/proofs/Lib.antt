@@ -1,0 +1,4 @@
+pub mod Copying
+pub mod CopyingKeeps
+pub mod Updating
+pub mod Serving
