@@ -20,8 +20,7 @@ use Rattle.mutator.specs.declared.overwrites.Overwritten.TheVariants as overwrit
 use Rattle.mutator.specs.declared.resolves.Loaded.{Loaded}
 use Rattle.mutator.specs.declared.resolves.Loaded.TheVariants.{ForRoot, ToCompare}
 use Rattle.load_barrier.specs.declared.spot.ResolveSpot.{ResolveSpot}
-use Rattle.copy_steps.specs.Resolving.{CanResolve}
-use Rattle.copy_steps.proofs.Parts.{resolving_steps}
+use Rattle.step_core.proofs.Resolves.{resolving_stays as still_resolving}
 use Rattle.mutator.specs.declared.numbers.NumberSpot.{NumberSpot}
 use Rattle.mutator.specs.declared.numbers.NumberSpot.TheVariants as numbers
 use Rattle.mutator.specs.declared.shows.ShowSpot.{ShowSpot}
@@ -34,7 +33,7 @@ use Rattle.mutator.specs.Orders.{is_waiting}
 use Rattle.mutator.specs.Commands.{root_of, dst_of, index_of, number_of, refs_of, nums_of}
 use Rattle.mutator.specs.Rows.{Mutating, words_of}
 use Rattle.heap_world.specs.World.{World, Points, UsableIn, Shared}
-use Rattle.step_core.specs.Stepped.{IsRootWord, HasRoot, HasObject, HasFirst, IsGet, IsSet, IsCas, IsXchg, IsRd, IsWr, IsFound, NameTheSame, NameOthers, IsCompared, LoadedFacts, IsCopy, IsFilling, IsAsking, IsHeard, IsPolling, IsAnswered, LoadFacts, FieldFacts, RecordFacts, NumberFacts, ShowFacts, MakeFacts, EnterFacts, WaitFacts, SpotFacts, IsSeatedIn, recording_of, has_phase, has_set, copies_at, Mine}
+use Rattle.step_core.specs.Stepped.{IsRootWord, HasRoot, HasObject, HasFirst, IsGet, IsSet, IsCas, IsXchg, IsRd, IsWr, IsFound, NameTheSame, NameOthers, IsCompared, LoadedFacts, IsCopy, IsFilling, IsAsking, IsHeard, IsPolling, IsAnswered, LoadFacts, FieldFacts, RecordFacts, NumberFacts, ShowFacts, MakeFacts, EnterFacts, WaitFacts, IsResolving, SpotFacts, IsSeatedIn, recording_of, has_phase, has_set, copies_at, Mine}
 use Rattle.step_core.specs.Own.{root_now, root_recording, root_resolving}
 use Rattle.heap_world.specs.Asking as asking
 use Rattle.heap_world.specs.Asking.{Asking, HasNoPromise, IsAsked}
@@ -267,7 +266,7 @@ module _ (c : Config) (u w : World) (seat : ℕ) (keeps : Keeps c seat u w) wher
   -- mutator waits
   facts_stay : (made : ℕ) (kept : Kept) (command : Command) (fixed : Option Reply) → ((words : ℕ) (take : TakeSpot) → TakeFacts c u seat words take → TakeFacts c w seat words take)
       → ((refs nums address done : ℕ) → IsFilling u seat made refs nums address done → IsFilling w seat made refs nums address done)
-      → ((address : ℕ) (at : ResolveSpot) → CanResolve c u seat address at → CanResolve c w seat address at)
+      → ((address : ℕ) (at : ResolveSpot) → IsResolving c u seat address at → IsResolving c w seat address at)
       → ((address : ℕ) (at : RememberSpot) → CanRecord c u seat address at → CanRecord c w seat address at) → (bit_at (u.memory Ask) 1 ≡ 1 → bit_at (w.memory Ask) 1 ≡ 1) → (spot : Spot)
       → SpotFacts c u seat made kept command fixed spot → SpotFacts c w seat made kept command fixed spot
   facts_stay made kept command fixed taking filling resolving recording bit Rest facts = facts
@@ -331,6 +330,6 @@ mine_stays c u w m command fixed shared rely mine = let keeps : Keeps c m.seat u
   hands = λ a words is. mine.hands a words (rely.no_hands a words is);
   facts = facts_stay c u w m.seat keeps m.made m.kept command fixed (take_stays c u w m.seat rely (λ r is. shared.owned.currents.own m.seat r is))
       (filling_stays c u w m.seat rely m.made)
-      (λ address at can. resolving_steps.stays c u w m.seat address at shared rely can)
+      (λ address at can. still_resolving c u w m.seat address at shared rely can)
       (λ address at can. recording_steps.stays c u w m.seat address at rely can) rely.asked m.spot mine.facts;
 }
