@@ -3,3 +3,4 @@ pub mod CopyingKeeps
 pub mod Updating
 pub mod Serving
 pub mod Idle
+pub mod Finished
