@@ -1,22 +1,19 @@
 -- A cycle that was finished in its pause: who asks was given what it asks for, or a full collection follows.
-use Rattle.std.proofs.Common.{◌≡◌, ◌≢◌, ℕ, ◌+◌, ◌<◌, ◌≤◌, ◌⊎◌, ◌==◌, ◌&&◌, Bool, true, false, Option, Some, None, zero, suc, inl, inr, ⊎_elim, refl, sym, ap, ◌∙◌, subst, arith}
-use Rattle.std.specs.Int.{bit_at}
-use Rattle.std.proofs.Math.Logic.{∥∥₁_elim}
+use Rattle.std.proofs.Common.{◌≡◌, ◌≢◌, ℕ, ◌<◌, ◌⊎◌, true, false, Option, Some, None, zero, suc, inl, inr, ⊎_elim, refl, sym, ap, ◌∙◌, subst, arith}
 use Rattle.std.proofs.Math.Path.{fun_ext}
-use Rattle.std.proofs.lemmas.Bool.{cond-true, cond-false, cases_Bool, cases_eq, and_from, and_parts, true≢false}
+use Rattle.std.proofs.lemmas.Bool.{cond-true, cond-false, cases_Bool, cases_eq, and_parts}
 use Rattle.heap_words.specs.declared.config.Config.{Config}
 use Rattle.heap_words.specs.Words.{Word, Pause, Left, End, State, Phase, Cset, Free, Evac, Claim, Ask, Top, Tams, Limit, Current, Root, Count, Buffer, Wait, Answer, Grey, Black, Heap}
 use Rattle.regions.specs.Sets.{IsIn}
 use Rattle.shen_graph.specs.Graph.{Graph}
 use Rattle.heap_world.specs.World.{Plot}
-use Rattle.heap_world.specs.Asking.{Asking, nothing, asks, refused, given, IsRequest, IsAsked}
+use Rattle.heap_world.specs.Asking.{Asking, nothing, asks, refused, given, IsAsked}
 use Rattle.heap_world.specs.Represents.{Represents}
 use Rattle.heap_world.specs.Change.{Answers, IsPaused}
 use Rattle.image_laws.specs.Full.{packed, packed_in, made_in, served_in, room_for, served, full}
 use Rattle.image_laws.specs.Full as image
 use Rattle.image_laws.proofs.Served.{served_first, turn_idle, turn_waits}
 use Rattle.image_graph.specs.Holds.{HoldsSome}
-use Rattle.pause_laws.specs.ByCopies.{RepresentsByCopies}
 use Rattle.pause_laws.proofs.ByCopies.{by_copies}
 use Rattle.pause_laws.proofs.Promises.{promises_of}
 use Rattle.pause_laws.proofs.Dead.{plain}
@@ -24,11 +21,10 @@ use Rattle.pause_laws.proofs.Holding.{waits_for, holds_by, holds_some}
 use Rattle.pause_laws.proofs.Pauses.{paused}
 use Rattle.mark_laws.proofs.Alike.{holds_alike}
 use Rattle.evac_pauses.proofs.Asked.{asked_stays}
-use Rattle.update_pauses.specs.Freed.{IsFreed}
 use Rattle.update_pauses.proofs.Freeing.{set_is_freed}
 use Rattle.finish_laws.specs.Updated.{all_updated}
 use Rattle.finish_laws.specs.Copies.{all_copied, is_room_for_all}
-use Rattle.finish_laws.specs.Finish.{set_freed, cycle_finished, finished, nobody_waits, is_whole}
+use Rattle.finish_laws.specs.Finish.{cycle_finished, finished, nobody_waits}
 use Rattle.finish_laws.proofs.Whole.{nobody_is}
 use Rattle.finish_pauses.specs.Laws.{IsWholePause, ShortHolds, WholeIsPause, ShortIsPause, SetIsFree}
 use Rattle.finish_pauses.proofs.CopyingKeeps.{copying_keeps}

@@ -4,3 +4,4 @@ pub mod Updating
 pub mod Serving
 pub mod Idle
 pub mod Finished
+pub mod Ready
