@@ -1,5 +1,5 @@
-use Rattle.std.proofs.Common.{◌≡◌, ◌≢◌, ◌+◌, ◌<◌, ◌≤◌, ◌==◌, ℕ, true, false, sym, ap, ◌∙◌, subst, ⊎_elim, arith}
-use Rattle.std.proofs.lemmas.Bool.{cases_eq, eqb-true, eqb-false}
+use Rattle.std.proofs.Common.{◌≡◌, ◌≢◌, ◌+◌, ◌<◌, ◌≤◌, ℕ, sym, ap, ◌∙◌, subst, ⊎_elim, arith}
+use Rattle.std.proofs.lemmas.Bool.{cases_eq}
 use Rattle.heap_words.specs.declared.config.Config.{Config}
 use Rattle.heap_words.specs.Words.{Word, Top, Heap, IsWord, word_at}
 use Rattle.heap_words.specs.Encoding.{object_words}
@@ -8,7 +8,7 @@ use Rattle.image_graph.specs.State.{config_of, memory_of}
 use Rattle.image_graph.proofs.Room.{room_in_heap}
 use Rattle.cset_laws.specs.Live.{words_at}
 use Rattle.finish_laws.specs.Updated.{BeginsAt, start_of}
-use Rattle.degenerated.proofs.Starts.{words, behind, behind_none, begins_behind, begins_not, behind_next, behind_still}
+use Rattle.degenerated.proofs.Starts.{behind, behind_none, begins_behind, begins_not, behind_next, behind_still}
 use Rattle.degenerated.proofs.tests.lie_right.Goals as goal
 use Rattle.degenerated.proofs.tests.lie_right.Goals.{then-offset-behind+else-top-offset-lt3+else-words-top, else-offset-behind}
 
