@@ -36,10 +36,10 @@ cycle-collected c m none = fun_ext (λ word. sym (cond-false (is_full_due m) (fu
 
 module _ (c : Config) (m : Word → ℕ) where
   -- what is due from phase 2 on, and from phase 1 on
-  late : Word → ℕ
+  abbrev late : Word → ℕ
   late word = if m Phase == 2 then init_updated m word else final_updated c m word
 
-  busy : Word → ℕ
+  abbrev busy : Word → ℕ
   busy word = if m Phase == 1 then evac_next c m word else late word
 
   pub init_mark-next : m Phase ≡ 0 → init_marked c m ≡ next_in_cycle c m

@@ -2,3 +2,4 @@ pub mod Copying
 pub mod CopyingKeeps
 pub mod Updating
 pub mod Serving
+pub mod Idle
