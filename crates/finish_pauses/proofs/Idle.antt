@@ -3,7 +3,7 @@ use Rattle.std.proofs.Common.{◌≡◌, ◌≢◌, ℕ, ◌+◌, ◌*◌, ◌<�
 use Rattle.std.specs.Int.{bit_at}
 use Rattle.std.specs.Int.Bits.{or_zero_r}
 use Rattle.std.proofs.Math.Path.{fun_ext}
-use Rattle.std.proofs.lemmas.Bool.{cond-true, cond-false, cases_Bool, cases_eq, eq-eqb, ne_eqb}
+use Rattle.std.proofs.lemmas.Bool.{cond-false, cases_lt, ne_eqb}
 use Rattle.std.specs.Prelude.{bit_or}
 use Rattle.heap_words.specs.declared.config.Config.{Config}
 use Rattle.heap_words.specs.Words.{Word, Pause, Left, End, State, Phase, Cset, Free, Evac, Claim, Ask, Top, Tams, Limit, Current, Root, Count, Buffer, Wait, Answer, Grey, Black, Heap}
@@ -25,7 +25,8 @@ use Rattle.finish_laws.specs.Updated.{updated_word, is_kept_field, all_updated}
 use Rattle.finish_laws.specs.Copies.{copied_from, is_room_from, all_copied, is_room_for_all}
 use Rattle.finish_laws.specs.Finish.{set_freed, cycle_finished}
 use Rattle.finish_laws.proofs.Fields.{collected_none, word_spared}
-use Rattle.finish_pauses.proofs.Copying.{IsCopying, all_passed}
+use Rattle.finish_pauses.specs.Copying.{IsCopiedAll}
+use Rattle.finish_pauses.proofs.CopyingKeeps.{copying_begins, copying_keeps}
 use Rattle.finish_pauses.proofs.Updating.{as_updated, updated_represents}
 use Rattle.finish_pauses.proofs.Serving.{IsIdle}
 
@@ -155,93 +156,41 @@ module _ (c : Config) (m : Word → ℕ) (none : m Cset ≡ 0) where
     promised_to = r.promised_to;
   })
 
--- While objects are evacuated or references updated.
-module _ (c : Config) (m : Word → ℕ) (g : Graph) (asking : ℕ → Asking) (r : Represents c m g asking) (on : 2 ≤ m Phase) where
-  pub copying_begins : IsCopying c m m r.block r.ghost.owner g asking c.region_words
-  copying_begins = record {
-    between = record {
-      parsable = r.shared.parsable;
-      contents = r.shared.contents;
-      owned = r.shared.owned;
-      unwritten = r.shared.unwritten;
-      moves = r.shared.evacuated.moved;
-      no_hands = r.none;
-      promised_to = r.promised_to;
-      in_heap = r.shared.evacuated.aside.in_heap;
-      used = r.shared.evacuated.aside.in_use;
-      nobodys = r.shared.evacuated.aside.nobodys;
-      no_new = r.shared.evacuated.aside.no_new;
-      marked = r.shared.evacuated.kept.objects on;
-      floors = r.shared.evacuated.kept.floors on;
-      unmarked = r.shared.evacuated.kept.unmarked on;
-      fillers = r.shared.evacuated.kept.fillers on;
-      only = λ a above mark inside. inr (r.shared.evacuated.kept.only on a above mark inside);
-    };
-    roots = r.roots;
-    asked = r.asked;
-    same = λ word fixed. refl;
-    no_promises = r.shared.evacuated.aside.no_promises;
-    swept = λ a refs nums name is inside. (piece_inside c (λ q. m (Top q)) r.block r.shared.parsable.plotted a (thing name refs nums) is).0;
-  }
-
-  -- once no object has its current copy in the set, the cycle can be finished
-  cycle_idle : (w : Word → ℕ) (block : Plot) (passed : ℕ) → IsCopying c m w block r.ghost.owner g asking passed
-      → ((a refs nums : ℕ) (name : Name) → block a ≡ Some (thing name refs nums) → IsCollected c (w Cset) a → ⊥)
-      → (plot : Plot) × (owner : ℕ → Option ℕ) × IsIdle c (set_freed c (all_updated c w)) plot owner g asking
-  cycle_idle w block passed s outside =
-      let stands = updated_represents c m w block r.ghost.owner g asking passed s outside r.heard r.no_more in
-      let ended = updating_ends c (as_updated c (all_updated c w)) g asking stands refl (omega arith) in
-      (ended.block, ended.ghost.owner, freed_idle c (all_updated c w) g asking ended)
-
-  -- the words after copying, and how far it came
-  pub copied_so : (plot : Plot) × (passed : ℕ) × IsCopying c m (copied_from c m c.region_words (c.regions * c.region_words)) plot r.ghost.owner g asking passed
-      × (is_room_from c m c.region_words (c.regions * c.region_words) ≡ true → passed ≡ c.region_words + c.regions * c.region_words)
-  copied_so = all_passed c m r.ghost.owner g asking (c.regions * c.region_words) m r.block c.region_words copying_begins
-
 -- Where all that was left found room, the words stand for the graph while no cycle runs.
 module _ (c : Config) (m : Word → ℕ) (g : Graph) (asking : ℕ → Asking) (r : Represents c m g asking) where
-  pub copied_in_2 : m Phase ≡ 2 → all_copied c m ≡ copied_from c m c.region_words (c.regions * c.region_words)
-  copied_in_2 two = fun_ext (λ word. cond-true (m Phase == 2) (copied_from c m c.region_words (c.regions * c.region_words) word) (m word) (eq-eqb (m Phase) 2 two))
+  copied_all : IsCopiedAll c m g asking
+  copied_all = copying_keeps c m g asking r
 
-  pub copied_else : m Phase ≢ 2 → all_copied c m ≡ m
-  copied_else other = fun_ext (λ word. cond-false (m Phase == 2) (copied_from c m c.region_words (c.regions * c.region_words) word) (m word) (ne_eqb (m Phase) 2 other))
-
-  room_in_2 : m Phase ≡ 2 → is_room_for_all c m ≡ true → is_room_from c m c.region_words (c.regions * c.region_words) ≡ true
-  room_in_2 two room = sym (cond-true (m Phase == 2) (is_room_from c m c.region_words (c.regions * c.region_words)) true (eq-eqb (m Phase) 2 two)) ∙ room
+  abbrev w : Word → ℕ
+  w = all_copied c m
 
   abbrev Idle : Type 0
   Idle = (plot : Plot) × (owner : ℕ → Option ℕ) × IsIdle c (cycle_finished c m) plot owner g asking
 
-  in_phase_2 : m Phase ≡ 2 → is_room_for_all c m ≡ true → Idle
-  in_phase_2 two room =
-      let on : 2 ≤ m Phase = omega (arith, two) in
-      let end = copied_so c m g asking r on in
-      let all : end.1 ≡ c.region_words + c.regions * c.region_words = end.3 (room_in_2 two room) in
-      let outside : (a refs nums : ℕ) (name : Name) → end.0 a ≡ Some (thing name refs nums) → IsCollected c (copied_from c m c.region_words (c.regions * c.region_words) Cset) a → ⊥
-      = λ a refs nums name is inside.
-      let least = end.2.swept a refs nums name is inside in
-      let heap = piece_inside c (λ q. copied_from c m c.region_words (c.regions * c.region_words) (Top q)) end.0 end.2.between.parsable.plotted a (thing name refs nums) is in
-      omega (arith, least, heap.1, all)
-      in
-      let idle = cycle_idle c m g asking r on (copied_from c m c.region_words (c.regions * c.region_words)) end.0 end.1 end.2 outside in
-      (idle.0, idle.1, subst (λ v. IsIdle c (set_freed c (all_updated c v)) idle.0 idle.1 g asking) (sym (copied_in_2 two)) idle.2)
+  -- while objects are evacuated or references updated
+  in_cycle : 2 ≤ m Phase → is_room_for_all c m ≡ true → Idle
+  in_cycle on room =
+      let phase = copied_all.same Phase (λ never. never) in
+      let stands = copied_all.stands in
+      let copies = copying_begins c (all_copied c m) g asking stands (omega (arith, on, phase)) in
+      let updated = updated_represents c (all_copied c m) (all_copied c m) stands.block stands.ghost.owner g asking c.region_words copies (copied_all.none_left room) stands.heard stands.no_more in
+      let ended = updating_ends c (as_updated c (all_updated c (all_copied c m))) g asking updated refl (omega arith) in
+      (ended.block, ended.ghost.owner, freed_idle c (all_updated c (all_copied c m)) g asking ended)
 
-  in_phase_3 : m Phase ≡ 3 → Idle
-  in_phase_3 three =
-      let on : 2 ≤ m Phase = omega (arith, three) in
-      let idle = cycle_idle c m g asking r on m r.block c.region_words (copying_begins c m g asking r on) (λ a refs nums name is inside. (r.shared.updated three).outside a refs nums name is inside) in
-      (idle.0, idle.1, subst (λ v. IsIdle c (set_freed c (all_updated c v)) idle.0 idle.1 g asking) (sym (copied_else (λ two. omega (arith, two, three)))) idle.2)
+  -- where there is no collection set
+  copied_else : m Phase ≢ 2 → all_copied c m ≡ m
+  copied_else other = fun_ext (λ word. cond-false (m Phase == 2) (copied_from c m c.region_words (c.regions * c.region_words) word) (m word) (ne_eqb (m Phase) 2 other))
 
-  in_phase_0 : m Phase < 2 → Idle
-  in_phase_0 low =
-      let none = r.shared.phased.cset_is low in
-      (r.block, r.ghost.owner, subst (λ v. IsIdle c (set_freed c (all_updated c v)) r.block r.ghost.owner g asking) (sym (copied_else (λ two. omega (arith, two, low)))) (settled_idle c m none g asking r))
+  out_of_cycle : m Phase < 2 → Idle
+  out_of_cycle low =
+      let none = r.shared.phased.cset_is low in (
+        r.block,
+        r.ghost.owner,
+        subst (λ v. IsIdle c (set_freed c (all_updated c v)) r.block r.ghost.owner g asking) (sym (copied_else (λ two. omega (arith, two, low)))) (settled_idle c m none g asking r),
+      )
 
   pub finished_idle : is_room_for_all c m ≡ true → (plot : Plot) × (owner : ℕ → Option ℕ) × IsIdle c (cycle_finished c m) plot owner g asking
   finished_idle room = ⊎_elim
-      (λ (two : m Phase ≡ 2). in_phase_2 two room)
-      (λ (other : m Phase ≢ 2). ⊎_elim
-      (λ (three : m Phase ≡ 3). in_phase_3 three)
-      (λ (not_3 : m Phase ≢ 3). in_phase_0 (let few = r.shared.phased.phase_is in omega (arith, few, other, not_3)))
-      (cases_eq (m Phase) 3))
-      (cases_eq (m Phase) 2)
+      (λ (low : m Phase < 2). out_of_cycle low)
+      (λ (on : 2 ≤ m Phase). in_cycle on room)
+      (cases_lt (m Phase) 2)
