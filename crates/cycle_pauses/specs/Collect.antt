@@ -30,14 +30,13 @@ next_in_cycle c memory word =
     if memory Phase == 0 then init_marked c memory word
     else (if memory Phase == 1 then evac_next c memory word else (if memory Phase == 2 then init_updated memory word else final_updated c memory word))
 
--- The words from which a cycle is ended in its pause: those as they are, or, where objects are marked, those that the end of marking and
--- the beginning of evacuation leave.
-abbrev pub marked_through : Config → (Word → ℕ) → Word → ℕ
-marked_through c memory word = if memory Phase == 1 then evac_next c memory word else memory word
+-- The words past marking, from which a cycle is ended in its pause: where objects are marked, marking ends and evacuation begins.
+abbrev pub past_marking : Config → (Word → ℕ) → Word → ℕ
+past_marking c memory word = if memory Phase == 1 then evac_next c memory word else memory word
 
 -- The words once there is room: where no cycle runs the heap is collected in full, and else the cycle is ended.
 abbrev pub room_made : Config → (Word → ℕ) → Word → ℕ
-room_made c memory word = if memory Phase == 0 then full c memory word else ended c (marked_through c memory) word
+room_made c memory word = if memory Phase == 0 then full c memory word else ended c (past_marking c memory) word
 
 -- The words after a pause. Where room is needed it is made; else the cycle goes on.
 abbrev pub collected : Config → (Word → ℕ) → Word → ℕ
@@ -54,7 +53,7 @@ pub record CanPause (c : Config) (memory : Word → ℕ) (block : Plot) (owner :
   pub phase_is : memory Phase ≤ 3
   pub uncollected : memory Phase ≡ 0 → memory Cset ≡ 0
   pub marking : memory Phase ≡ 1 → IsMarking c memory block
-  pub ends : is_room_needed memory ≡ true → memory Phase ≢ 0 → CanEnd c (marked_through c memory)
+  pub ends : is_room_needed memory ≡ true → memory Phase ≢ 0 → CanEnd c (past_marking c memory)
 
 -- so it is in some way
 abbrev pub CanPauseSome : Config → (Word → ℕ) → Type 0

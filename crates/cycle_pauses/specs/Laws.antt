@@ -14,7 +14,7 @@ use Rattle.cset_laws.specs.Begun.{CanBegin}
 use Rattle.update_pauses.specs.Freed.{IsFreed}
 use Rattle.finish_laws.specs.Finish.{cycle_finished, is_whole}
 use Rattle.cycle_pauses.specs.Ended.{ended, CanEnd}
-use Rattle.cycle_pauses.specs.Collect.{is_room_needed, marked_through, collected, collect_image, CanPauseSome}
+use Rattle.cycle_pauses.specs.Collect.{is_room_needed, past_marking, collected, collect_image, CanPauseSome}
 
 -- A cycle that is ended in its pause is what a pause owes: the words stand for the same graph, and each mutator that asks is answered.
 abbrev pub EndedIsPaused : Type 0
@@ -28,9 +28,9 @@ pub record IsFreedFirst (c : Config) (memory : Word → ℕ) : Type 0 where
 abbrev pub SetIsFreedFirst : Type 0
 SetIsFreedFirst = (c : Config) (memory : Word → ℕ) → is_whole c memory ≡ true → IsFreedFirst c memory
 
--- Words that represent a graph are such that a pause can collect.
+-- Words of an image that represent a graph are such that a pause can collect.
 abbrev pub RepresentingCanCollect : Type 0
-RepresentingCanCollect = (c : Config) (memory : Word → ℕ) (g : Graph) (asking : ℕ → Asking) → Represents c memory g asking → HasNoMoreSeats c memory → CanPauseSome c memory
+RepresentingCanCollect = (c : Config) (image : List ℕ) (g : Graph) (asking : ℕ → Asking) → Represents c (image_view c image) g asking → CanPauseSome c (image_view c image)
 
 -- Where such a pause ends marking, evacuation can begin.
 abbrev pub EndedCanBegin : Type 0
@@ -38,7 +38,7 @@ EndedCanBegin = (c : Config) (memory : Word → ℕ) → CanPauseSome c memory �
 
 -- And where such a pause makes room while a cycle runs, the cycle can be ended.
 abbrev pub RunningCanEnd : Type 0
-RunningCanEnd = (c : Config) (memory : Word → ℕ) → CanPauseSome c memory → is_room_needed memory ≡ true → memory Phase ≢ 0 → CanEnd c (marked_through c memory)
+RunningCanEnd = (c : Config) (memory : Word → ℕ) → CanPauseSome c memory → is_room_needed memory ≡ true → memory Phase ≢ 0 → CanEnd c (past_marking c memory)
 
 -- By their names the words of an image after a pause are those that the pause makes of its words.
 abbrev pub ImageIsCollected : Type 0
