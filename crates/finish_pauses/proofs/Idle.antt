@@ -1,5 +1,5 @@
 -- The words once a cycle is over: they stand for the graph while no cycle runs.
-use Rattle.std.proofs.Common.{◌≡◌, ◌≢◌, ℕ, ◌+◌, ◌*◌, ◌<◌, ◌≤◌, ◌⊎◌, ◌==◌, Bool, true, false, Option, Some, None, zero, suc, cond, inl, inr, ⊎_elim, refl, sym, ap, ◌∙◌, subst, arith}
+use Rattle.std.proofs.Common.{◌≡◌, ◌≢◌, ℕ, ◌+◌, ◌*◌, ◌<◌, ◌≤◌, ◌==◌, Bool, true, false, Option, zero, suc, cond, ⊎_elim, refl, sym, ap, ◌∙◌, subst, arith}
 use Rattle.std.specs.Int.{bit_at}
 use Rattle.std.specs.Int.Bits.{or_zero_r}
 use Rattle.std.proofs.Math.Path.{fun_ext}
@@ -7,22 +7,20 @@ use Rattle.std.proofs.lemmas.Bool.{cond-false, cases_lt, ne_eqb}
 use Rattle.std.specs.Prelude.{bit_or}
 use Rattle.heap_words.specs.declared.config.Config.{Config}
 use Rattle.heap_words.specs.Words.{Word, Pause, Left, End, State, Phase, Cset, Free, Evac, Claim, Ask, Top, Tams, Limit, Current, Root, Count, Buffer, Wait, Answer, Grey, Black, Heap}
-use Rattle.shen_graph.specs.declared.name.Name.{Name}
 use Rattle.shen_graph.specs.Graph.{Graph}
-use Rattle.heap_world.specs.World.{Block, thing, moved, spent, hand, promised, Plot, Ghost, no_ghost, with_owner, IsCollected, IsEvacuating, IsUsable}
+use Rattle.heap_world.specs.World.{Plot, no_ghost, with_owner, IsCollected, IsEvacuating, IsUsable}
 use Rattle.heap_world.specs.Asking.{Asking, asks}
 use Rattle.heap_world.specs.Roots.{HasNoMore}
 use Rattle.heap_world.specs.Represents.{Represents}
 use Rattle.heap_world.proofs.Copies.{none_in_0, none_is_in, none_evacuated}
 use Rattle.heap_world.proofs.Keeping.{usable_now}
-use Rattle.heap_world.proofs.Pointing.{piece_inside}
 use Rattle.heap_world.proofs.Unmarked.{none_marked_in}
 use Rattle.mark_laws.specs.Marks.{bits_of}
 use Rattle.evac_pauses.proofs.Asked.{asked_stays}
 use Rattle.update_laws.specs.Changes.{is_chosen, final_updated}
 use Rattle.update_pauses.proofs.Ending.{updating_ends}
 use Rattle.finish_laws.specs.Updated.{updated_word, is_kept_field, all_updated}
-use Rattle.finish_laws.specs.Copies.{copied_from, is_room_from, all_copied, is_room_for_all}
+use Rattle.finish_laws.specs.Copies.{copied_from, all_copied, is_room_for_all}
 use Rattle.finish_laws.specs.Finish.{set_freed, cycle_finished}
 use Rattle.finish_laws.proofs.Fields.{collected_none, word_spared}
 use Rattle.finish_pauses.specs.Copying.{IsCopiedAll}

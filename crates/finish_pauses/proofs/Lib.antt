@@ -3,3 +3,5 @@ pub mod CopyingKeeps
 pub mod Updating
 pub mod Serving
 pub mod Idle
+pub mod Finished
+pub mod Ready
