@@ -1,12 +1,10 @@
 -- What finishing a cycle leaves as it was: words before the image stay, and words that are no words of the table read 0 still.
-use Rattle.std.proofs.Common.{◌≡◌, ◌≢◌, ℕ, ◌+◌, ◌*◌, ◌<◌, ◌==◌, true, false, Option, Some, None, zero, suc, ⊎_elim, refl, sym, ap, ◌∙◌, subst, arith}
+use Rattle.std.proofs.Common.{◌≡◌, ◌≢◌, ℕ, ◌+◌, ◌*◌, ◌==◌, true, false, Option, Some, None, zero, suc, ⊎_elim, refl, sym, ap, ◌∙◌, subst, arith}
 use Rattle.std.proofs.Math.Logic.{∥∥₁_elim}
 use Rattle.std.proofs.Math.Nat.{ℕ_set}
-use Rattle.std.proofs.Math.Path.{fun_ext}
-use Rattle.std.proofs.lemmas.Bool.{cases_Bool, cases_eq, cond-true, cond-false, eq-eqb, ne_eqb, and_parts, true≢false}
+use Rattle.std.proofs.lemmas.Bool.{cases_Bool, cases_eq, cond-true, cond-false, eq-eqb, ne_eqb, true≢false}
 use Rattle.heap_words.specs.declared.config.Config.{Config}
-use Rattle.heap_words.specs.Words.{Word, Pause, Left, End, State, Phase, Cset, Evac, Ask, Root, Wait, Answer, Top, Heap, is_word, is_image}
-use Rattle.regions.specs.Sets.{IsIn}
+use Rattle.heap_words.specs.Words.{Word, Pause, Left, End, State, Phase, Evac, Ask, Root, Wait, Answer, Top, Heap, is_image}
 use Rattle.shen_graph.specs.Graph.{Graph}
 use Rattle.image_laws.specs.Held.{IsAmong}
 use Rattle.image_laws.specs.Full.{now_in, root_words, kept_in, made_in, served_in, room_for, served, full}
@@ -15,21 +13,19 @@ use Rattle.image_laws.proofs.Reached.{can_pack}
 use Rattle.image_laws.proofs.Origin.{kept_inside, lie_apart}
 use Rattle.image_laws.proofs.Walked.{walk_keeps}
 use Rattle.image_laws.proofs.Served.{served_first, turn_idle, turn_waits}
-use Rattle.image_graph.specs.Holds.{Holds, HoldsSome}
+use Rattle.image_graph.specs.Holds.{Holds}
 use Rattle.pause_laws.proofs.Images.{full_before}
 use Rattle.pause_laws.proofs.Outside.{IsZeroOutside, served_outside, full_outside}
 use Rattle.cset_laws.specs.Copied.{MayChange, copied_out}
 use Rattle.evac_pauses.proofs.Outside.{of_two, copied_outside, copied_same}
 use Rattle.evac_pauses.proofs.Turns.{copies_out}
 use Rattle.update_pauses.proofs.Outside.{final_outside}
-use Rattle.update_pauses.proofs.Freeing.{set_is_freed}
 use Rattle.finish_laws.specs.Updated.{updated_word, is_kept_field, all_updated}
 use Rattle.finish_laws.specs.Copies.{is_left, has_copy_room, copied_from, CanCopyFrom, all_copied, is_room_for_all}
-use Rattle.finish_laws.specs.Finish.{set_freed, cycle_finished, finished, nobody_waits, is_whole, CanFinish}
+use Rattle.finish_laws.specs.Finish.{set_freed, cycle_finished, finished, is_whole, CanFinish}
 use Rattle.finish_laws.proofs.Copies.{room_found, copied_none, copied_next, copied_stuck, copied_skips}
 use Rattle.finish_laws.proofs.Fields.{low_spared}
 use Rattle.cycle_pauses.specs.Ended.{ended, CanEnd}
-use Rattle.cycle_pauses.specs.Laws.{SetIsFreedFirst}
 
 -- the same memory at a word
 at_word : (x y : Word → ℕ) (word : Word) → x ≡ y → x word ≡ y word
@@ -160,17 +156,3 @@ ended_outside c m can nothing word other =
     cond-false (is_whole c m) (finished c m word) (full c (finished c m) word) short
     ∙ ∥∥₁_elim (can.holds short) (hlevel ℕ_set) (λ h. full_zero c (finished c m) h.0 h.1 finishes word other))
     (cases_Bool (is_whole c m))
-
--- Where it is whole the collection set is freed first.
-pub freed_first : SetIsFreedFirst
-freed_first c m whole =
-    let room = (and_parts (is_room_for_all c m) (nobody_waits c (finished c m)) whole).0 in
-    let updated : Word → ℕ = all_updated c (all_copied c m) in
-    record {
-      freed = λ r below member.
-          let gone = set_is_freed.chosen_ones c (all_updated c (all_copied c m)) r below (subst (λ set. IsIn set r) (sym (all_copied_same c m Cset (λ never. never))) member) in
-          record { is_free = gone.is_free; top = gone.top; tams = gone.tams; limit = gone.limit };
-      served_then = fun_ext (λ word.
-          cond-true (is_whole c m) (finished c m word) (full c (finished c m) word) whole
-          ∙ cond-true (is_room_for_all c m) (served c (cycle_finished c m) c.mutators word) (all_copied c m word) room);
-    }

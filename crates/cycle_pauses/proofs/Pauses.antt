@@ -44,12 +44,12 @@ use Rattle.update_laws.specs.Changes.{init_updated, final_updated}
 use Rattle.update_pauses.proofs.Beginning.{updating_begins}
 use Rattle.update_pauses.proofs.Ending.{updating_ends}
 use Rattle.update_pauses.proofs.Outside as update
-use Rattle.cycle_pauses.specs.Ended.{ended, CanEnd}
+use Rattle.cycle_pauses.specs.Ended.{ended}
 use Rattle.cycle_pauses.specs.Collect.{is_room_needed, next_in_cycle, past_marking, room_made, collected, collect_image, CanPause}
 use Rattle.cycle_pauses.specs.Laws.{RepresentingCanCollect, EndedCanBegin, RunningCanEnd, ImageIsCollected, CollectIsPause}
 use Rattle.cycle_pauses.proofs.Images.{collected_by_name, collected_length}
 use Rattle.cycle_pauses.proofs.Finished.{ended_outside}
-use Rattle.cycle_pauses.proofs.Ends.{paused_from, ended_paused, can_end, can_end_prop}
+use Rattle.cycle_pauses.proofs.Ends.{paused_from, ended_is_paused, can_end, can_end_prop}
 
 -- there is no collection set in phases 0 and 1
 calm_in : (c : Config) (m : Word → ℕ) (g : Graph) (asking : ℕ → Asking) (r : Represents c m g asking) → m Phase < 2 → m Cset ≡ 0
@@ -226,7 +226,7 @@ module _ (c : Config) (image : List ℕ) (g : Graph) (asking : ℕ → Asking) (
   which_paused (Which.in_full idle is) = subst (λ words. IsPaused c m words g asking) (sym is) (paused c m g asking (by_copies c m g asking r))
   which_paused (Which.to_end needed runs is) =
       let past = past_marking_represents c m g asking r (no_more_seats c (replicate (image_start c) 0 ++ image)) in
-      subst (λ words. IsPaused c m words g asking) (sym is) (paused_from c (past_marking c m) m (ended c (past_marking c m)) g asking (ended_paused c (past_marking c m) g asking past))
+      subst (λ words. IsPaused c m words g asking) (sym is) (paused_from c (past_marking c m) m (ended c (past_marking c m)) g asking (ended_is_paused c (past_marking c m) g asking past))
   which_paused (Which.to_mark calm begins is) = step_paused calm (init_marked c m) is (beginning_represents c m g asking r begins (nobody calm))
   which_paused (Which.to_evacuate calm on is) =
       step_paused calm (evac_next c m) is (evacuation_represents c m g asking r on (no_more_seats c (replicate (image_start c) 0 ++ image)))

@@ -1,5 +1,5 @@
 -- What ending a cycle in its pause makes of the words of an image: it is finished, and collected in full where that falls short.
-use Rattle.std.specs.Prelude.{ℕ, ◌≡◌, if◌then◌else◌, true, false}
+use Rattle.std.specs.Prelude.{ℕ, ◌≡◌, if◌then◌else◌, false}
 use Rattle.heap_words.specs.declared.config.Config.{Config}
 use Rattle.heap_words.specs.Words.{Word}
 use Rattle.image_laws.specs.Full.{full}

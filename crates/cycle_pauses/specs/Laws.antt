@@ -20,13 +20,14 @@ use Rattle.cycle_pauses.specs.Collect.{is_room_needed, past_marking, collected, 
 abbrev pub EndedIsPaused : Type 0
 EndedIsPaused = (c : Config) (memory : Word → ℕ) (g : Graph) (asking : ℕ → Asking) → Represents c memory g asking → IsPaused c memory (ended c memory) g asking
 
--- Where it is whole, each region that was in the collection set is freed, and who waits is served from the words that this leaves.
+-- Each region that was in the collection set is freed, and who waits is served from the words that this leaves.
 pub record IsFreedFirst (c : Config) (memory : Word → ℕ) : Type 0 where
   pub freed : (r : ℕ) → r < c.regions → IsIn (memory Cset) r → IsFreed (cycle_finished c memory) r
   pub served_then : ended c memory ≡ served c (cycle_finished c memory) c.mutators
 
+-- So it is where finishing the cycle is enough.
 abbrev pub SetIsFreedFirst : Type 0
-SetIsFreedFirst = (c : Config) (memory : Word → ℕ) → is_whole c memory ≡ true → IsFreedFirst c memory
+SetIsFreedFirst = (c : Config) (memory : Word → ℕ) (g : Graph) (asking : ℕ → Asking) → Represents c memory g asking → is_whole c memory ≡ true → IsFreedFirst c memory
 
 -- Words of an image that represent a graph are such that a pause can collect.
 abbrev pub RepresentingCanCollect : Type 0
