@@ -73,7 +73,7 @@ def told_of(trace, control):
         with subprocess.Popen(words, stdin=source, stdout=subprocess.PIPE) as child:
             for line in child.stdout:
                 place = line[18:20]
-                if place == b"I1":
+                if place == b"PL" and line[22:].startswith(b"load what is asked for"):
                     waits = b"room" in line[62:]
                 elif place == b"PS" and line[22:].startswith(b"store phase: "):
                     then = int(line[22 + len(b"store phase: ") :].split()[0])
