@@ -7,19 +7,20 @@ use Rattle.std.proofs.lemmas.Bool.Decides.{nat_tests}
 use Rattle.std.proofs.lemmas.Option.{same_Some}
 use Rattle.heap_words.specs.declared.config.Config.{Config}
 use Rattle.heap_words.specs.Ranges.{seat_count}
-use Rattle.heap_words.specs.Words.{Word, Phase, Cset, Free, Evac, Claim, Top, Tams, Current, Count, Buffer, Grey, Black, Heap}
+use Rattle.heap_words.specs.Words.{Word, Phase, Cset, Free, Evac, Claim, Top, Tams, Limit, Current, Count, Buffer, Grey, Black, Heap}
 use Rattle.steps_base.specs.Touch.{touch, loads, touched}
 use Rattle.regions.specs.Place.{base_of}
 use Rattle.regions.specs.Sets.{IsIn, lowest_in, all_but}
 use Rattle.shen_graph.specs.declared.name.Name.{Name}
-use Rattle.heap_world.specs.World.{World, with_owner, Plot, Block, thing, moved, spent, hand, promised, name_at, IsMarkable, AreCurrent, AreRooms, Shared}
+use Rattle.heap_world.specs.World.{World, with_owner, Plot, Block, thing, moved, spent, hand, promised, filler, name_at, IsMarkable, AreCurrent, AreRooms, Shared}
 use Rattle.heap_world.specs.Rely.{Keeps, RelyMarks, RelyCopies, Rely}
 use Rattle.heap_world.specs.Part.{PartStep, SameWork}
 use Rattle.heap_world.proofs.Updates.{updated, updated_same, updated_there, updated_else}
 use Rattle.heap_world.proofs.Keeping.{load_keeps, rely_same, keeps_of}
-use Rattle.heap_world.proofs.NewPiece.{CanGrow, names_stay, stays, old_hand, own_hand, old_promise, parsable_more, contents_more, owned_more, old_thing, unwritten_more, markable_more, marking_more, evacuating_more}
+use Rattle.heap_world.proofs.NewPiece.{CanGrow, names_stay, stays, old_hand, own_hand, old_promise, parsable_more, contents_more, owned_more, old_thing, unwritten_more, markable_more, marking_more, evacuating_more, updating_more}
 use Rattle.heap_world.proofs.Copies.{CopiesStay, keeps_copies, rely_copies, same_plot}
 use Rattle.heap_world.proofs.Evacuated.{evacuated_taken}
+use Rattle.heap_world.proofs.Fields.{fields_stored, fields_kept}
 use Rattle.heap_world.proofs.Marked.{rely_marks}
 use Rattle.heap_world.proofs.FreeRegions.{lowest_within, owner_stays, free_before, free_without, currents_stay}
 use Rattle.alloc_buffers.specs.declared.spot.Kind.{Kind}
@@ -218,6 +219,7 @@ module _ (c : Config) (u : World) (seat words : ℕ) (kind : Kind) where
               (λ (same : region ≡ r). inr (subst (λ k. IsIn (u.memory Free) k) same bit))
               (λ (differs : region ≢ r). inl (sym (updated_else u.ghost.owner region (Some seat) r differs) ∙ is))
               (cases_eq region r));
+          updated = shared.updated;
         };
         own = (
           subst (λ s. CanTake c (taken_world region) seat words s)
@@ -249,6 +251,7 @@ module _ (c : Config) (u : World) (seat words : ℕ) (kind : Kind) where
           asked = λ is. is;
           marks = same_in (taken_world region) refl refl refl (λ n. refl) (λ t. refl) (λ t k. refl) (λ a. refl) refl j refl;
           copies = same_in_set (taken_world region) refl refl refl (λ r. refl) j refl refl (λ a. refl);
+          fields = fields_kept c u (taken_world region) refl (λ r. refl) (λ r. refl) refl (λ a. refl);
         };
       }
 
@@ -272,6 +275,7 @@ module _ (c : Config) (u : World) (seat words : ℕ) (kind : Kind) where
       evacuated = evacuated_taken c (u.memory Phase) (u.memory Cset) (u.memory Evac) (u.memory Claim) (u.memory Free) tops_now (λ r. u.memory (Tams r)) (λ a. u.memory (Heap a)) (λ n. u.memory (Black n))
           u.block u.ghost.owner u.ghost.copying u.ghost.working shared.evacuated (bit_and (u.memory Free) (all_but region)) u.ghost.owner
           (still_free region can.facts.1) (λ r other is. inl is);
+      updated = shared.updated;
     };
     own = (
       subst (λ s. CanTake c (accessed (TakeRegion region)) seat words s)
@@ -282,7 +286,8 @@ module _ (c : Config) (u : World) (seat words : ℕ) (kind : Kind) where
     keeps = (let marks = same_in (accessed (TakeRegion region)) refl refl refl (λ n. refl) (λ t. refl) (λ t k. refl) (λ a. refl) refl seat refl in let kept = marks.keeps in
         let copied = (same_in_set (accessed (TakeRegion region)) refl refl refl (λ r. refl) seat refl refl (λ a. refl)).keeps in search (arith, nat_tests, kept, copied));
     others = λ j d. let marks = same_in (accessed (TakeRegion region)) refl refl refl (λ n. refl) (λ t. refl) (λ t k. refl) (λ a. refl) refl j refl in
-        let copied = same_in_set (accessed (TakeRegion region)) refl refl refl (λ r. refl) j refl refl (λ a. refl) in search (arith, nat_tests, marks, copied);
+        let copied = same_in_set (accessed (TakeRegion region)) refl refl refl (λ r. refl) j refl refl (λ a. refl) in
+        let fields = fields_kept c u (accessed (TakeRegion region)) refl (λ r. refl) (λ r. refl) refl (λ a. refl) in search (arith, nat_tests, marks, copied, fields);
   }
 
   -- the step that takes a region
@@ -311,6 +316,7 @@ module _ (c : Config) (u : World) (seat words : ℕ) (kind : Kind) where
           unwritten = shared.unwritten;
           marked = shared.marked;
           evacuated = shared.evacuated;
+          updated = shared.updated;
         };
         own = (
           can_at (StoreCurrent region) refl shared can (StoreTop region 0) (accessed (StoreCurrent region)) refl refl refl
@@ -321,7 +327,8 @@ module _ (c : Config) (u : World) (seat words : ℕ) (kind : Kind) where
         keeps = (let marks = same_in (accessed (StoreCurrent region)) refl refl refl (λ n. refl) (λ t. refl) (λ t k. refl) (λ a. refl) refl seat refl in let kept = marks.keeps in
             let copied = (same_in_set (accessed (StoreCurrent region)) refl refl refl (λ r. refl) seat refl refl (λ a. refl)).keeps in search (arith, nat_tests, kept, copied));
         others = λ j d. let marks = same_in (accessed (StoreCurrent region)) refl refl refl (λ n. refl) (λ t. refl) (λ t k. refl) (λ a. refl) refl j refl in
-            let copied = same_in_set (accessed (StoreCurrent region)) refl refl refl (λ r. refl) j refl refl (λ a. refl) in search (arith, nat_tests, marks, copied);
+            let copied = same_in_set (accessed (StoreCurrent region)) refl refl refl (λ r. refl) j refl refl (λ a. refl) in
+            let fields = fields_kept c u (accessed (StoreCurrent region)) refl (λ r. refl) (λ r. refl) refl (λ a. refl) in search (arith, nat_tests, marks, copied, fields);
       }
 
   module _ (region top : ℕ) (shared : Shared c u) (can : CanTake c u seat words (StoreTop region top)) where
@@ -372,6 +379,7 @@ module _ (c : Config) (u : World) (seat words : ℕ) (kind : Kind) where
           (λ r. u.memory (Tams r)) (λ a. u.memory (Heap a)) u.ghost.snapshot u.ghost.recording u.ghost.scanning shared.marked;
       evacuated = evacuating_more c tops currents u.block region top words seat grows (u.memory Phase) (u.memory Cset) (u.memory Evac) (u.memory Claim) (u.memory Free) (λ r. u.memory (Tams r)) (λ a. u.memory (Heap a)) (λ n. u.memory (Black n))
           u.ghost.owner u.ghost.copying u.ghost.working own shared.evacuated;
+      updated = λ on. updating_more c tops currents u.block region top words seat grows (u.memory Cset) (u.memory Claim) (λ r. u.memory (Limit r)) (λ a. u.memory (Heap a)) u.ghost.scanning (shared.updated on);
     }
 
     -- what a word stands for it still stands for
@@ -452,6 +460,7 @@ module _ (c : Config) (u : World) (seat words : ℕ) (kind : Kind) where
       asked = λ is. is;
       marks = marks_grown j;
       copies = rely_copies c u grown_world j set_stays refl refl (λ a k b seated counted inside is from below. refl);
+      fields = fields_stored c u grown_world (λ r. refl) (λ r. refl) refl (λ a more is. stays_there a (filler more) is) (λ on a refs nums k n is below. inl refl);
     }
 
     -- the store of the top puts the words into hand

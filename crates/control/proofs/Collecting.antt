@@ -1,54 +1,63 @@
 -- What a pause needs of the words, for each of the things that it does.
-use Rattle.std.proofs.Common.{◌≡◌, ℕ, Bool, true, false, arith, sym, ◌∙◌}
-use Rattle.std.specs.Prelude.{◌==◌, ◌||◌, nat_le, if◌then◌else◌}
-use Rattle.std.specs.Int.{bit_at}
-use Rattle.std.proofs.lemmas.Bool.{cond-true, cond-false, true≢false}
-use Rattle.std.proofs.lemmas.Bool.Decides.{nat_tests}
+use Rattle.std.proofs.Common.{◌≡◌, ◌≢◌, ℕ, true, false, arith, sym, ◌∙◌}
+use Rattle.std.specs.Prelude.{◌==◌, if◌then◌else◌}
+use Rattle.std.proofs.lemmas.Bool.{cond-true, cond-false, eq-eqb, ne_eqb}
 use Rattle.std.proofs.Math.Path.{fun_ext}
 use Rattle.std.proofs.Math.Logic.{∥∥₁_elim, ∥∥₁_map}
 use Rattle.std.proofs.Math.Nat.{ℕ_set}
 use Rattle.heap_words.specs.declared.config.Config.{Config}
-use Rattle.heap_words.specs.Words.{Word, Phase, Cset, Ask}
+use Rattle.heap_words.specs.Words.{Word, Phase, Cset}
 use Rattle.image_laws.specs.Full.{full}
 use Rattle.image_graph.specs.Holds.{HoldsSome}
 use Rattle.mark_laws.specs.Init.{init_marked}
 use Rattle.mark_core.specs.Result.{MarksSome}
-use Rattle.evac_pauses.specs.Collect.{evac_next, is_full_due, collected, CanPauseSome}
+use Rattle.evac_pauses.specs.Collect.{evac_next}
+use Rattle.cycle_pauses.specs.Collect.{is_full_due, next_in_cycle, collected, CanPauseSome}
+use Rattle.update_laws.specs.Changes.{init_updated, final_updated}
 
 -- they hold some graph
 pub can_hold : (c : Config) (m : Word → ℕ) → CanPauseSome c m → HoldsSome c m
 can_hold c m can = ∥∥₁_map can (λ some. (some.0, (some.1, some.2, some.3, some.4.holds)))
 
 -- in phase 0 no region is collected
-pub can_calm : (c : Config) (m : Word → ℕ) → CanPauseSome c m → (m Phase == 0) ≡ true → m Cset ≡ 0
-can_calm c m can idle = ∥∥₁_elim can (hlevel ℕ_set) (λ some. some.4.uncollected (grind (arith, nat_tests)))
+pub can_calm : (c : Config) (m : Word → ℕ) → CanPauseSome c m → m Phase ≡ 0 → m Cset ≡ 0
+can_calm c m can idle = ∥∥₁_elim can (hlevel ℕ_set) (λ some. some.4.uncollected idle)
 
--- where the heap is not collected in full the phase is below 2
-few : (m : Word → ℕ) → is_full_due m ≡ false → nat_le 2 (m Phase) ≡ false
-few m none = of_or (bit_at (m Ask) 1 == 1) (nat_le 2 (m Phase)) none
-  where
-    of_or : (x y : Bool) → (x || y) ≡ false → y ≡ false
-    of_or true y both = absurd (true≢false both)
-    of_or false y both = both
-
--- so where it is not 0 either, objects are marked
-pub marks_now : (m : Word → ℕ) → is_full_due m ≡ false → (m Phase == 0) ≡ false → m Phase ≡ 1
-marks_now m none runs = let below = few m none in (grind (arith, nat_tests))
-
--- and the words hold a graph then
+-- in phase 1 they hold one while objects are marked
 pub can_end : (c : Config) (m : Word → ℕ) → CanPauseSome c m → m Phase ≡ 1 → MarksSome c m
 can_end c m can on = ∥∥₁_map can (λ some. (some.0, some.1, some.2, some.3, some.4.holds, some.4.marking on))
 
 -- What each of them makes of the words is what a pause does.
 pub full-collected : (c : Config) (m : Word → ℕ) → is_full_due m ≡ true → full c m ≡ collected c m
-full-collected c m due = fun_ext (λ word. sym (cond-true (is_full_due m) (full c m word) (if m Phase == 0 then init_marked c m word else evac_next c m word) due))
+full-collected c m due = fun_ext (λ word. sym (cond-true (is_full_due m) (full c m word) (next_in_cycle c m word) due))
 
-pub init-collected : (c : Config) (m : Word → ℕ) → is_full_due m ≡ false → (m Phase == 0) ≡ true → init_marked c m ≡ collected c m
-init-collected c m none idle = fun_ext (λ word. sym
-    (cond-false (is_full_due m) (full c m word) (if m Phase == 0 then init_marked c m word else evac_next c m word) none
-    ∙ cond-true (m Phase == 0) (init_marked c m word) (evac_next c m word) idle))
+pub cycle-collected : (c : Config) (m : Word → ℕ) → is_full_due m ≡ false → next_in_cycle c m ≡ collected c m
+cycle-collected c m none = fun_ext (λ word. sym (cond-false (is_full_due m) (full c m word) (next_in_cycle c m word) none))
 
-pub end-collected : (c : Config) (m : Word → ℕ) → is_full_due m ≡ false → (m Phase == 0) ≡ false → evac_next c m ≡ collected c m
-end-collected c m none idle = fun_ext (λ word. sym
-    (cond-false (is_full_due m) (full c m word) (if m Phase == 0 then init_marked c m word else evac_next c m word) none
-    ∙ cond-false (m Phase == 0) (init_marked c m word) (evac_next c m word) idle))
+module _ (c : Config) (m : Word → ℕ) where
+  -- what is due from phase 2 on, and from phase 1 on
+  abbrev late : Word → ℕ
+  late word = if m Phase == 2 then init_updated m word else final_updated c m word
+
+  abbrev busy : Word → ℕ
+  busy word = if m Phase == 1 then evac_next c m word else late word
+
+  pub init_mark-next : m Phase ≡ 0 → init_marked c m ≡ next_in_cycle c m
+  init_mark-next phase = fun_ext (λ word. sym (cond-true (m Phase == 0) (init_marked c m word) (busy word) (eq-eqb _ _ phase)))
+
+  runs : m Phase ≢ 0 → busy ≡ next_in_cycle c m
+  runs some = fun_ext (λ word. sym (cond-false (m Phase == 0) (init_marked c m word) (busy word) (ne_eqb _ _ some)))
+
+  pub end_mark-next : m Phase ≡ 1 → evac_next c m ≡ next_in_cycle c m
+  end_mark-next phase = fun_ext (λ word. sym (cond-true (m Phase == 1) (evac_next c m word) (late word) (eq-eqb _ _ phase))) ∙ runs (omega (arith, phase))
+
+  goes_on : m Phase ≢ 0 → m Phase ≢ 1 → late ≡ next_in_cycle c m
+  goes_on some other = fun_ext (λ word. sym (cond-false (m Phase == 1) (evac_next c m word) (late word) (ne_eqb _ _ other))) ∙ runs some
+
+  pub init_update-next : m Phase ≡ 2 → init_updated m ≡ next_in_cycle c m
+  init_update-next phase =
+      fun_ext (λ word. sym (cond-true (m Phase == 2) (init_updated m word) (final_updated c m word) (eq-eqb _ _ phase))) ∙ goes_on (omega (arith, phase)) (omega (arith, phase))
+
+  pub final_update-next : m Phase ≢ 0 → m Phase ≢ 1 → m Phase ≢ 2 → final_updated c m ≡ next_in_cycle c m
+  final_update-next some other last =
+      fun_ext (λ word. sym (cond-false (m Phase == 2) (init_updated m word) (final_updated c m word) (ne_eqb _ _ last))) ∙ goes_on some other

@@ -9,8 +9,8 @@ use Rattle.heap_words.specs.Words.{image_start, table_words, view}
 use Rattle.heap_world.specs.Change.{image_view, image_words}
 use Rattle.image_graph.specs.declared.image.Image.{Image}
 use Rattle.image_graph.specs.State.{config_of, words_of, memory_of}
-use Rattle.evac_pauses.specs.Collect.{collected, collect_image, CanPauseSome}
-use Rattle.evac_pauses.proofs.Images.{table_is_collected}
+use Rattle.cycle_pauses.specs.Collect.{collected, collect_image, CanPauseSome}
+use Rattle.cycle_pauses.proofs.Images.{table_is_collected}
 use Rattle.control.specs.Clear.{IsClear}
 use Rattle.control.specs.Image.{image_in, image_from}
 use Rattle.control.proofs.Clearing.{view-clear}

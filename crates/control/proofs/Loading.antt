@@ -16,7 +16,7 @@ use Rattle.image_graph.proofs.Blank.{IsFirst, IsBlank, blank_holds}
 use Rattle.control_steps.specs.declared.spot.ControlSpot.{ControlSpot}
 use Rattle.control_steps.specs.declared.spot.ControlSpot.TheVariants.{LoadWord, StoreWord}
 use Rattle.control_steps.specs.Rows.{Controlling, control_next}
-use Rattle.evac_pauses.specs.Collect.{collect_image, CanPauseSome}
+use Rattle.cycle_pauses.specs.Collect.{collect_image, CanPauseSome}
 use Rattle.control.specs.Image.{image_in}
 use Rattle.control.specs.Fit.{fits_with, IsFit}
 

@@ -6,7 +6,7 @@ use Rattle.control_steps.specs.declared.spot.ControlSpot.{ControlSpot}
 use Rattle.control_steps.specs.declared.spot.ControlSpot.TheVariants.{LoadWord}
 use Rattle.control_steps.specs.Rows.{Controlling}
 use Rattle.control_steps.specs.Ready.{UnitGoesOn}
-use Rattle.evac_pauses.specs.Collect.{CanPauseSome}
+use Rattle.cycle_pauses.specs.Collect.{CanPauseSome}
 
 -- In a unit those from which the unit can; the last word of the image, where the image that was loaded holds a graph, and in phase
 -- 1 does so while objects are marked; and else each word.

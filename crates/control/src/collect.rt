@@ -2,27 +2,41 @@
 
 ghost use Rattle.std.specs.Prelude.{◌≡◌, ◌==◌};
 ghost use Rattle.std.specs.Int.{bit_at};
-ghost use Rattle.heap_words.specs.Words.{Phase, Ask};
+ghost use Rattle.heap_words.specs.Words.{Phase, Ask, Evac};
+ghost use Rattle.evac_room.specs.Counter as counter;
 ghost use Rattle.image_graph.specs.State.{config_of, memory_of};
 ghost use Rattle.mark_laws.specs.Final.{final_marked};
 ghost use Rattle.mark_core.specs.Result.{MarksSome};
 ghost use Rattle.cset_laws.specs.Begun.{CanBegin};
-ghost use Rattle.evac_pauses.specs.Collect as due;
-ghost use Rattle.evac_pauses.specs.Collect.{evac_next, collected, CanPauseSome};
+ghost use Rattle.evac_pauses.specs.Collect.{evac_next};
+ghost use Rattle.cycle_pauses.specs.Collect as due;
+ghost use Rattle.cycle_pauses.specs.Collect.{next_in_cycle, collected, CanPauseSome};
 
 use cset_choice::{begin_evac, choose};
 use full_cycle::full;
 use image_graph::Image;
 use mark_core::{final_mark, init_mark};
+use update_core::{final_update, init_update};
 
-// The phase between two cycles.
+// The phases: none between two cycles, and then those of a cycle. After evacuation references are updated.
 const IDLE: u64 = 0;
+
+const MARK: u64 = 1;
+
+const EVAC: u64 = 2;
 
 // The bit of what is asked for that says that a mutator waits for room.
 const ROOM: u32 = 1;
 
-// The phase in which objects are evacuated.
-const EVACUATION: u64 = 2;
+// The bit of the word of the copiers that says that one of them found no room.
+const OUT_OF_ROOM: u32 = 63;
+
+// The phase.
+fn phase(image: &Image) -> u64
+    ensures { result ≡ memory_of image.now Phase }
+{
+    image.word(image.config().phase_at())
+}
 
 // Ends marking, chooses the regions to evacuate, and begins evacuation.
 fn end_mark(image: &mut Image)
@@ -36,6 +50,20 @@ fn end_mark(image: &mut Image)
     begin_evac(image, set);
 }
 
+// Goes on to the next phase of the cycle.
+fn go_on(image: &mut Image)
+    requires { CanPauseSome (config_of image.old) (memory_of image.old) }
+    ensures config { config_of image.new ≡ config_of image.old }
+    ensures words { memory_of image.new ≡ next_in_cycle (config_of image.old) (memory_of image.old) }
+{
+    match phase(image) {
+        IDLE => init_mark(image),
+        MARK => end_mark(image),
+        EVAC => init_update(image),
+        _ => final_update(image),
+    }
+}
+
 // Whether a mutator waits for room.
 fn is_room_asked(image: &Image) -> bool
     ensures { result ≡ (bit_at (memory_of image.now Ask) 1 == 1) }
@@ -43,22 +71,22 @@ fn is_room_asked(image: &Image) -> bool
     image.word(image.config().ask_at()) >> ROOM & 1 == 1
 }
 
-// Whether the heap is collected in full: a mutator waits for room, or objects are being evacuated.
+// Whether a copier found no room.
+fn is_out_of_room(image: &Image) -> bool
+    ensures { result ≡ counter.is_out_of_room (memory_of image.now Evac) }
+{
+    image.word(image.config().evac_at()) >= 1 << OUT_OF_ROOM
+}
+
+// Whether the heap is collected in full: a mutator waits for room, or a copier found none.
 fn is_full_due(image: &Image) -> bool
     ensures { result ≡ due.is_full_due (memory_of image.now) }
 {
-    is_room_asked(image) || EVACUATION <= image.word(image.config().phase_at())
+    is_room_asked(image) || phase(image) == EVAC && is_out_of_room(image)
 }
 
-// Whether no cycle is in progress.
-fn is_idle(image: &Image) -> bool
-    ensures { result ≡ (memory_of image.now Phase == 0) }
-{
-    image.word(image.config().phase_at()) == IDLE
-}
-
-/// Does what a pause does: where a mutator waits for room, or objects are being evacuated, it collects the whole heap; else it
-/// begins marking, or where it runs ends it and begins evacuation.
+/// Does what a pause does: where a mutator waits for room, or a copier found none, it collects the whole heap; else it goes on to the
+/// next phase of the cycle.
 pub(crate) fn collect(image: &mut Image)
     requires { CanPauseSome (config_of image.old) (memory_of image.old) }
     ensures config { config_of image.new ≡ config_of image.old }
@@ -66,9 +94,7 @@ pub(crate) fn collect(image: &mut Image)
 {
     if is_full_due(image) {
         full(image);
-    } else if is_idle(image) {
-        init_mark(image);
     } else {
-        end_mark(image);
+        go_on(image);
     }
 }

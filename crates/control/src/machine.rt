@@ -32,7 +32,7 @@ impl Control {
     ghost use Rattle.image_graph.specs.Left.{StandsForSome, ShowsTheGraph};
     ghost use Rattle.control_steps.specs.Rows.{is_gone, control_place, control_access, control_next, control_says};
     ghost use Rattle.control_steps.specs.Waits.{WaitsAt};
-    ghost use Rattle.evac_pauses.specs.Collect.{collect_image};
+    ghost use Rattle.cycle_pauses.specs.Collect.{collect_image};
     ghost use Rattle.control.specs.Fit.{IsFit};
     ghost use Rattle.control.specs.Image.{image_from, is_storing, IsLoadedFrom};
     ghost use Rattle.control.specs.Seen.{config_in, seen_control};
@@ -94,8 +94,7 @@ impl Control {
         self.spot.access(config, word)
     }
 
-    /// Goes on with the word that its access has found. A pause begins marking, ends it and begins evacuation, or collects
-    /// the whole heap.
+    /// Goes on with the word that its access has found. A pause goes on to the next phase of the cycle, or collects the whole heap.
     pub fn took(&mut self, got: u64) -> Took
         requires busy { is_gone (seen_control self.old).spot ≡ false }
         requires fit { IsFit (config_in self.old) (seen_control self.old) got }

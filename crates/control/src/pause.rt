@@ -7,7 +7,7 @@ ghost use Rattle.image_graph.specs.State.{config_of, memory_of};
 ghost use Rattle.control_steps.specs.declared.spot.ControlSpot.TheVariants.{LoadWord};
 ghost use Rattle.control_steps.specs.Ready.{is_ready};
 ghost use Rattle.control_steps.specs.Rows.{next_spot, next_image, seen_after, next_seen, next_phase, next_set};
-ghost use Rattle.evac_pauses.specs.Collect.{collect_image, CanPauseSome};
+ghost use Rattle.cycle_pauses.specs.Collect.{collect_image, CanPauseSome};
 ghost use Rattle.control.specs.Clear.{IsClear};
 ghost use Rattle.control.specs.Fit.{fits_with};
 ghost use Rattle.control.specs.Image.{image_in, image_from, words_seen};

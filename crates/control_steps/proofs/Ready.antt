@@ -22,10 +22,14 @@ use Rattle.load_barrier.specs.declared.evac_spot.EvacSpot.TheVariants as evac
 use Rattle.load_barrier.specs.UnitRows as evacs
 use Rattle.load_barrier.specs.UnitFit as evac_fit
 use Rattle.load_barrier.proofs.Inside.{evacuation_inside}
+use Rattle.update_refs.specs.declared.spot.UpdateSpot.{UpdateSpot}
+use Rattle.update_refs.specs.declared.spot.UpdateSpot.TheVariants as update
+use Rattle.update_refs.specs.Rows as updates
+use Rattle.update_refs.proofs.Inside.{updating_inside}
 use Rattle.heap_world.specs.Change.{image_words}
 use Rattle.control_steps.specs.declared.spot.ControlSpot.{ControlSpot}
-use Rattle.control_steps.specs.declared.spot.ControlSpot.TheVariants.{LookLeft, StoreEnd, LookAsked, LookFree, Scanning, Evacuating, Stopping, LoadWord, StoreWord, Go, Gone}
-use Rattle.control_steps.specs.Rows.{control_seat, control_touch, after_scan, after_evacuation, stopping, begins_pause, begins_unit, unasked, wants_pause}
+use Rattle.control_steps.specs.declared.spot.ControlSpot.TheVariants.{LookLeft, StoreEnd, LookAsked, LookFree, Scanning, Evacuating, Updating, Stopping, LoadWord, StoreWord, Go, Gone}
+use Rattle.control_steps.specs.Rows.{control_seat, control_touch, after_scan, after_evacuation, after_updating, stopping, begins_pause, begins_unit, unasked, wants_pause}
 use Rattle.control_steps.specs.Ready.{is_ready, AccessesAreInside, StaysReady}
 
 -- of two spots
@@ -54,14 +58,26 @@ evacuates_on c cset (evac.Ended Worked) ready = refl
 evacuates_on c cset (evac.Ended NoneLeft) ready = refl
 evacuates_on c cset at ready = search arith
 
+-- where an updating goes on
+updates_on : (c : Config) (cset : ℕ) (at : UpdateSpot) → updates.is_ready c at ≡ true → is_ready c (after_updating cset at) ≡ true
+updates_on c cset (update.Ended Worked) ready = refl
+updates_on c cset (update.Ended NoneLeft) ready = refl
+updates_on c cset at ready = search arith
+
+-- where it begins with a unit
+begins_ready : (c : Config) (phase cset : ℕ) → is_ready c (begins_unit phase cset) ≡ true
+begins_ready c phase cset = of_two c (phase == 1) (Scanning scan.LoadClaim) (if phase == 2 then Evacuating cset evac.LoadClaim else Updating cset update.LoadClaim) (λ e. refl)
+    (λ e. of_two c (phase == 2) (Evacuating cset evac.LoadClaim) (Updating cset update.LoadClaim) (λ e. refl) (λ e. refl))
+
 pub stays_ready : StaysReady
 stays_ready c phase cset seen LookLeft got ready goes = of_two c (got == 0) StoreEnd LookAsked (λ e. refl) (λ e. refl)
 stays_ready c phase cset seen StoreEnd got ready goes = refl
 stays_ready c phase cset seen LookAsked got ready goes = of_two c (begins_pause phase got) (Stopping stop.Raise) (unasked phase cset) (λ e. refl)
-    (λ e. of_two c (phase == 0) LookFree (begins_unit phase cset) (λ e. refl) (λ e. of_two c (phase == 1) (Scanning scan.LoadClaim) (Evacuating cset evac.LoadClaim) (λ e. refl) (λ e. refl)))
+    (λ e. of_two c (phase == 0) LookFree (begins_unit phase cset) (λ e. refl) (λ e. begins_ready c phase cset))
 stays_ready c phase cset seen LookFree got ready goes = of_two c (wants_pause c seen got) (Stopping stop.Raise) LookLeft (λ e. refl) (λ e. refl)
 stays_ready c phase cset seen (Scanning at) got ready goes = scans_on c (scans.next_at c at got) goes
 stays_ready c phase cset seen (Evacuating kept at) got ready goes = evacuates_on c kept (evacs.next_at c kept at got) goes.0
+stays_ready c phase cset seen (Updating kept at) got ready goes = updates_on c kept (updates.next_at c kept at got) goes
 stays_ready c phase cset seen (Stopping stop.Raise) got ready goes = (let some = c.in_range.least_mutators in grind (arith, nat_tests))
 stays_ready c phase cset seen (Stopping (stop.Check seat)) got ready goes =
     checks_on c (got == 0) (after_seat c seat) (stop.Check seat)
@@ -85,6 +101,7 @@ accesses_inside c LookAsked value ready = placed_inside c (control_touch c LookA
 accesses_inside c LookFree value ready = placed_inside c (control_touch c LookFree) tt
 accesses_inside c (Scanning at) value ready = search (arith, nat_tests)
 accesses_inside c (Evacuating cset at) value ready = placed_inside c (control_touch c (Evacuating cset at)) (evacuation_inside c (control_seat c) at (and_parts _ _ ready).0)
+accesses_inside c (Updating cset at) value ready = placed_inside c (control_touch c (Updating cset at)) (updating_inside c at (and_parts _ _ ready).0)
 accesses_inside c (Stopping at) value ready = placed_inside c (stop_touch at) (is_word_true c (stop_touch at).word (and_parts _ _ (and_parts _ _ ready).0).0)
 accesses_inside c (LoadWord index) value ready = (let below = ltb-true _ _ ready in omega (arith, below))
 accesses_inside c (StoreWord index) value ready = (let below = ltb-true _ _ ready in omega (arith, below))

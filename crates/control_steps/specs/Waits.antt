@@ -5,8 +5,9 @@ use Rattle.regions.specs.Sets.{members_below}
 use Rattle.handshake.specs.declared.stop_spot.StopSpot.TheVariants.{Check}
 use Rattle.scan_steps.specs.declared.spot.ScanSpot.TheVariants.{ClaimUnit}
 use Rattle.load_barrier.specs.UnitEnds as evacs
+use Rattle.update_refs.specs.Ends as updates
 use Rattle.control_steps.specs.declared.spot.ControlSpot.{ControlSpot}
-use Rattle.control_steps.specs.declared.spot.ControlSpot.TheVariants.{LookFree, Scanning, Evacuating, Stopping}
+use Rattle.control_steps.specs.declared.spot.ControlSpot.TheVariants.{LookFree, Scanning, Evacuating, Updating, Stopping}
 use Rattle.control_steps.specs.Rows.{Controlling}
 
 -- At I2 at least half of the regions are free, or the free word is the one seen; at KX the claim word is not the one that was
@@ -15,6 +16,7 @@ abbrev pub waits_at : Config → ℕ → ControlSpot → ℕ → Type 0
 waits_at c seen LookFree got = (c.regions ≤ 2 * members_below got 64) ⊎ (got ≡ seen)
 waits_at c seen (Scanning (ClaimUnit unit)) got = got ≢ unit
 waits_at c seen (Evacuating cset at) got = evacs.WaitsAt at got
+waits_at c seen (Updating cset at) got = updates.WaitsAt at got
 waits_at c seen (Stopping (Check seat)) got = got ≢ 0
 waits_at c seen _ got = ⊥
 

@@ -12,6 +12,7 @@ use heap_words::{Access, Config, Place, Took, Unit};
 use load_barrier::EvacSpot;
 use regions::size;
 use scan_steps::ScanSpot;
+use update_refs::UpdateSpot;
 
 // The bits of what is asked for: a cycle, and room for an object.
 const CYCLE: u32 = 0;
@@ -23,6 +24,9 @@ const IDLE: u64 = 0;
 
 // The phase in which objects are marked.
 const MARK: u64 = 1;
+
+// The phase in which they are copied.
+const EVAC: u64 = 2;
 
 /// What stood in the image at the end of the control's last pause.
 #[derive(Clone, Copy, Debug)]
@@ -58,6 +62,13 @@ pub enum ControlSpot {
         /// Where the evacuation stands.
         at: EvacSpot,
     },
+    /// It claims a unit of updating and updates the references there.
+    Updating {
+        /// The collection set.
+        cset: u64,
+        /// Where the updating stands.
+        at: UpdateSpot,
+    },
     /// It stops the mutators and helpers.
     Stopping {
         /// Where the stopping stands.
@@ -91,6 +102,7 @@ impl ControlSpot {
             ControlSpot::LookFree => Place::I2,
             ControlSpot::Scanning { at } => at.place(),
             ControlSpot::Evacuating { at, .. } => at.place(),
+            ControlSpot::Updating { at, .. } => at.place(),
             ControlSpot::Stopping { at } => at.place(),
             ControlSpot::LoadWord { .. } => Place::PL,
             ControlSpot::StoreWord { .. } => Place::PS,
@@ -128,6 +140,7 @@ impl ControlSpot {
             },
             ControlSpot::Scanning { at } => at.access(config),
             ControlSpot::Evacuating { at, .. } => at.access(config, seat_of(config)),
+            ControlSpot::Updating { at, .. } => at.access(config),
             ControlSpot::Stopping { at } => at.access(config),
             ControlSpot::LoadWord { index } => Access::Load {
                 at: config.image_start() + index,
@@ -166,6 +179,10 @@ impl ControlSpot {
                 let (next, said) = at.after(config, seat_of(config), cset, got);
                 (after_evacuation(cset, next), evacuating_says(said))
             }
+            ControlSpot::Updating { cset, at } => (
+                after_updating(cset, at.after(config, cset, got)),
+                updating_says(at, got),
+            ),
             ControlSpot::Stopping { at } => (
                 stopping(at.after(config, got)),
                 stopping_says(at, got),
@@ -220,15 +237,18 @@ fn unasked(phase: u64, cset: u64) -> ControlSpot
 fn begins_unit(phase: u64, cset: u64) -> ControlSpot
     ensures { result ≡ rows.begins_unit phase cset }
 {
-    if phase == MARK {
-        ControlSpot::Scanning {
+    match phase {
+        MARK => ControlSpot::Scanning {
             at: ScanSpot::LoadClaim,
-        }
-    } else {
-        ControlSpot::Evacuating {
+        },
+        EVAC => ControlSpot::Evacuating {
             cset,
             at: EvacSpot::LoadClaim,
-        }
+        },
+        _ => ControlSpot::Updating {
+            cset,
+            at: UpdateSpot::LoadClaim,
+        },
     }
 }
 
@@ -275,6 +295,29 @@ fn evacuating_says(said: Took) -> Took
     match said {
         Took::Done => Took::More,
         said => said,
+    }
+}
+
+// Once a unit is done it looks again what is to do, and once none was left it makes a pause.
+fn after_updating(cset: u64, at: UpdateSpot) -> ControlSpot
+    ensures { result ≡ rows.after_updating cset at }
+{
+    match at {
+        UpdateSpot::Ended { unit: Unit::Worked } => ControlSpot::LookLeft,
+        UpdateSpot::Ended {
+            unit: Unit::NoneLeft,
+        } => STOP,
+        at => ControlSpot::Updating { cset, at },
+    }
+}
+
+// It says again where a helper has claimed the unit.
+fn updating_says(at: UpdateSpot, got: u64) -> Took
+    ensures { result ≡ rows.updating_says at got }
+{
+    match at {
+        UpdateSpot::ClaimUnit { unit } if got != unit => Took::Again,
+        _ => Took::More,
     }
 }
 

@@ -100,6 +100,7 @@ module _ (c : Config) (u : World) (seat : ℕ) (heap top : ℕ → ℕ) (evac : 
     pub no_hands : (j a words : ℕ) → j ≢ seat → block a ≡ Some (hand j words) → u.block a ≡ Some (hand j words)
     pub promises : (a j words : ℕ) → u.block a ≡ Some (promised j words) → block a ≡ Some (promised j words)
     pub no_promises : (a j words : ℕ) → block a ≡ Some (promised j words) → u.block a ≡ Some (promised j words)
+    pub fillers : (a words : ℕ) → u.block a ≡ Some (filler words) → block a ≡ Some (filler words)
     pub no_fillers : (a words : ℕ) → block a ≡ Some (filler words) → u.block a ≡ Some (filler words)
     pub words : (a k : ℕ) (x : Block) → u.block a ≡ Some x → k < words_of x → ((more : ℕ) → x ≡ hand seat more → ⊥) → (1 ≤ k) ⊎ (body_at (Some x) ≡ None) → heap (a + k) ≡ u.memory (Heap (a + k))
     pub own_tops : (r j : ℕ) → j ≢ seat → u.ghost.owner r ≡ Some j → top r ≡ u.memory (Top r)
@@ -132,7 +133,7 @@ module _ (c : Config) (u : World) (seat : ℕ) (heap top : ℕ → ℕ) (evac : 
       parsable = step.parsable;
       contents = record { objects = step.objects; given = shared.contents.given };
       owned = step.owned;
-      phased = record { phase_is = shared.phased.phase_is; cset_is = λ other. absurd (other on); evac_is = λ other. absurd (other on) };
+      phased = record { phase_is = shared.phased.phase_is; cset_is = λ early. absurd (omega (arith, early, on)); evac_is = λ other. absurd (other on) };
       unwritten = unwritten_stays (λ a. u.memory (Heap a)) heap u.block block
           (λ a j words is. let was = step.no_promises a j words is in (was, λ k below. promise_after a j words k was below))
           (λ a words is. let was = step.no_fillers a words is in (was, filler_header a words was, filler_shape a words was))
@@ -158,6 +159,7 @@ module _ (c : Config) (u : World) (seat : ℕ) (heap top : ℕ → ℕ) (evac : 
             (λ works. inr works)
             (shared.evacuated.units on r claimed is);
       };
+      updated = λ updating. absurd (omega (arith, updating, on));
     }
       where
         of_region : (r a : ℕ) → IsIn (u.memory Cset) r → base_of c r ≤ a → a < base_of c (r + 1) → IsCollected c (u.memory Cset) a
@@ -168,7 +170,7 @@ module _ (c : Config) (u : World) (seat : ℕ) (heap top : ℕ → ℕ) (evac : 
     marks_kept = record {
       phase = refl;
       snapshot = refl;
-      markable = λ marking. absurd (omega (arith, marking, on));
+      markable = λ other. absurd (other on);
       shapes = shapes;
       noted = noted_same c u world_after (λ n. refl) (λ t. refl) (λ t k. refl) (λ t. refl);
     }
@@ -243,6 +245,7 @@ module _ (c : Config) (u : World) (seat : ℕ) (heap top : ℕ → ℕ) (evac : 
         working = refl;
         words = λ a k b seated counted inside is from below. let piece = body_piece (u.block a) b is in step.words a k piece.0 piece.1 (omega (arith, below, piece.2)) (λ more same. none-some b (ap (λ x. body_at (Some x)) (sym same) ∙ ap body_at (sym piece.1) ∙ is)) (inl from);
       };
+      fields = record { tams = λ r. refl; limits = λ r. refl; fillers = step.fillers; claims = λ all. all; fields = λ updating. absurd (omega (arith, updating, on)) };
     }
       where
         same_seat : (words more : ℕ) → hand j words ≡ hand seat more → j ≡ seat

@@ -121,6 +121,7 @@ module _ (c : Config) (u : World) (seat : ℕ) (spot : RoomSpot) (shared : Share
     no_hands = λ j a words differs is. is;
     promises = λ a j words is. is;
     no_promises = λ a j words is. is;
+    fillers = λ a words is. is;
     no_fillers = λ a words is. is;
     words = λ a k x is below no_hand which. refl;
     own_tops = λ r j differs is. refl;

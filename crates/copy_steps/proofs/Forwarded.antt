@@ -324,6 +324,8 @@ module _ (c : Config) (u : World) (seat a copy refs nums : ℕ) (name : Name) (s
           (markable_was b is);
       young = λ still b j more is. shared.evacuated.kept.young still b j more (came b (hand j more) (λ same. (let differ = same in cc)) (λ same. (let differ = same in cc)) is).2;
       floors = shared.evacuated.kept.floors;
+      unmarked = λ still b more is. shared.evacuated.kept.unmarked still b more (came b (filler more) (λ same. (let differ = same in cc)) (λ same. (let differ = same in cc)) is).2;
+      fillers = λ still b more is. shared.evacuated.kept.fillers still b more (came b (filler more) (λ same. (let differ = same in cc)) (λ same. (let differ = same in cc)) is).2;
       only = λ still b from mark collected. copy_stays b (shared.evacuated.kept.only still b from mark collected);
     };
     bodies = bodies;
@@ -344,6 +346,7 @@ module _ (c : Config) (u : World) (seat a copy refs nums : ℕ) (name : Name) (s
     no_hands = λ j b more differs is. (came b (hand j more) (λ same. (let differ = same in cc)) (λ same. (let differ = same in cc)) is).2;
     promises = λ b j more is. stays b (promised j more) (λ same. (let differ = same in cc)) (λ same. (let differ = same in cc)) is;
     no_promises = λ b j more is. (came b (promised j more) (λ same. (let differ = same in cc)) (λ same. (let differ = same in cc)) is).2;
+    fillers = λ b more is. stays b (filler more) (λ same. (let differ = same in cc)) (λ same. (let differ = same in cc)) is;
     no_fillers = λ b more is. (came b (filler more) (λ same. (let differ = same in cc)) (λ same. (let differ = same in cc)) is).2;
     words = λ b k x is below no_hand which. word_stays b k x is below (⊎_elim (λ some. inr some) (λ none. inl (λ same. none-some (body_of name refs nums) (sym none ∙ ap body_at (sym is ∙ ap u.block same ∙ object)))) which);
     own_tops = λ r j differs is. refl;

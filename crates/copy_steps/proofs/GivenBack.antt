@@ -261,6 +261,8 @@ module _ (c : Config) (u : World) (seat copy words : ℕ) (shared : Shared c u) 
           omega (arith, end, floor))
           (λ (other : r ≢ region). let now = top_else r other in let floor = shared.evacuated.kept.floors still r inside in omega (arith, now, floor))
           (cases_eq r region);
+      unmarked = λ still a more is. shared.evacuated.kept.unmarked still a more (came a (filler more) is).1;
+      fillers = λ still a more is. shared.evacuated.kept.fillers still a more (came a (filler more) is).1;
       only = λ still a from mark collected. copy_stays a (shared.evacuated.kept.only still a from mark collected);
     };
     bodies = bodies;
@@ -276,6 +278,7 @@ module _ (c : Config) (u : World) (seat copy words : ℕ) (shared : Shared c u) 
     no_hands = λ j a more differs is. (came a (hand j more) is).1;
     promises = λ a j more is. stays a (promised j more) (λ same. (let differ = same in cc)) is;
     no_promises = λ a j more is. (came a (promised j more) is).1;
+    fillers = λ a more is. stays a (filler more) (λ same. (let differ = same in cc)) is;
     no_fillers = λ a more is. (came a (filler more) is).1;
     words = λ a k x is below no_hand which. refl;
     own_tops = λ r j differs is. top_else r (λ same. differs (same_Some j seat (sym is ∙ ap u.ghost.owner same ∙ room_owned c u shared copy seat words room)));

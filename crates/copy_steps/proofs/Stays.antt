@@ -30,7 +30,7 @@ module _ (c : Config) (u w : World) (seat a : ℕ) (shared : Shared c u) (rely :
   now_inside b inside = subst (λ set. IsCollected c set b) (sym rely.copies.keeps.cset) inside
 
   -- the answer stays right
-  answer_stays : (to : ℕ) → HasCopy u.block a → IsCollected c (u.memory Cset) a → IsAnswer c u a to → IsAnswer c w a to
+  pub answer_stays : (to : ℕ) → HasCopy u.block a → IsCollected c (u.memory Cset) a → IsAnswer c u a to → IsAnswer c w a to
   answer_stays to there inside answer = record {
     named = λ b is. rely.targets to b.refs b.nums b.name (answer.named b (was_body there b is));
     passed = λ out refs nums name is. answer.passed (λ in_set. out (now_inside to in_set)) refs nums name (rely.copies.keeps.no_new a refs nums name inside is);

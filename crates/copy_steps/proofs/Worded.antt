@@ -92,6 +92,7 @@ module _ (c : Config) (u : World) (seat copy words at place value : ℕ) (shared
     no_hands = λ j a more differs is. is;
     promises = λ a j more is. is;
     no_promises = λ a j more is. is;
+    fillers = λ a more is. is;
     no_fillers = λ a more is. is;
     words = λ a k x is inside no_hand which. else_stays a k x is (elsewhere a x is (λ same. no_hand words (sym same))) inside;
     own_tops = λ r j differs is. refl;

@@ -1,9 +1,5 @@
 -- The pause that ends marking and begins evacuation keeps the graph.
 use Rattle.std.proofs.Common.{◌≡◌, ℕ, ◌<◌, ◌==◌, true, false, ⊎_elim, refl, sym, subst, arith}
-use Rattle.std.proofs.Math.Bool.{Bool-set}
-use Rattle.std.proofs.Math.Bridge.{le_prop}
-use Rattle.std.proofs.Math.Logic.{∥∥₁_elim}
-use Rattle.std.proofs.Math.Nat.{ℕ_set}
 use Rattle.std.proofs.Math.Path.{fun_ext}
 use Rattle.std.proofs.lemmas.Bool.{cases_Bool, cond-true, cond-false}
 use Rattle.heap_words.specs.declared.config.Config.{Config}
@@ -26,7 +22,7 @@ use Rattle.cset_laws.proofs.Front.{member_is}
 use Rattle.cset_laws.proofs.Clearing.{roots_are_cleared, can_clear_in_turn}
 use Rattle.cset_laws.proofs.Ready.{evacuation_can_begin}
 use Rattle.evac_pauses.specs.Collect.{evac_next}
-use Rattle.evac_pauses.specs.Laws.{EndedCanBegin, EvacuationBegins}
+use Rattle.evac_pauses.specs.Laws.{EvacuationRepresents, EvacuationBegins}
 use Rattle.evac_pauses.proofs.Places.{IsPlace, are_places, places_have}
 use Rattle.evac_pauses.proofs.Turns.{IsClearing, all_cleared}
 use Rattle.evac_pauses.proofs.Started.{clearing_begins, evacuation_starts, cycle_ends}
@@ -66,14 +62,8 @@ can_begin c m g asking r on seats =
     let stands = marking_stands c m g asking r on in
     evacuation_can_begin c m stands.0 stands.1 stands.2 g stands.3 stands.4 seats
 
-can_begin_prop : (c : Config) (m : Word → ℕ) → IsProp (CanBegin c m)
-can_begin_prop c m = hlevel (le_prop, ℕ_set, Bool-set)
-
-pub ended_can_begin : EndedCanBegin
-ended_can_begin c m can on seats = ∥∥₁_elim can (can_begin_prop c (final_marked c m)) (λ some. evacuation_can_begin c m some.1 some.2 some.3 some.0 some.4.holds (some.4.marking on) seats)
-
-pub next_represents : (c : Config) (m : Word → ℕ) (g : Graph) (asking : ℕ → Asking) → Represents c m g asking → m Phase ≡ 1 → HasNoMoreSeats c m → Represents c (evac_next c m) g asking
-next_represents c m g asking r on seats =
+pub evacuation_represents : EvacuationRepresents
+evacuation_represents c m g asking r on seats =
     let gives = end_gives c m g asking r on seats in
     begun c (final_marked c m) gives.0 gives.1 g asking gives.2 (can_begin c m g asking r on seats)
 
@@ -98,4 +88,4 @@ pub evacuation_begins : EvacuationBegins
 evacuation_begins c m g asking r on calm seats =
     idle_pause c m (evac_next c m) g asking
     (λ t refs nums inside is. (let waits = r.heard t refs nums inside is in omega (arith, waits, calm)))
-    (next_represents c m g asking r on seats)
+    (evacuation_represents c m g asking r on seats)

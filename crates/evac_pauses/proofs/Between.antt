@@ -23,6 +23,8 @@ pub record IsBetween (c : Config) (cset free : ℕ) (top tams heap black current
   pub no_new : (r : ℕ) → IsIn cset r → top r ≡ tams r
   pub marked : (a : ℕ) → IsMarkable block a → HasMark c black a ⊎ IsYoung c tams a
   pub floors : (r : ℕ) → r < c.regions → tams r ≤ top r
+  pub unmarked : (a words : ℕ) → block a ≡ Some (filler words) → HasMark c black a → ⊥
+  pub fillers : (a words : ℕ) → block a ≡ Some (filler words) → IsYoung c tams a → ⊥
   pub only : (a : ℕ) → c.region_words ≤ a → HasMark c black a → IsCollected c cset a → IsMarkable block a ⊎ HasCopy block a
 
 -- so it is of words

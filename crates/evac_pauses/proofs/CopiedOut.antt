@@ -526,6 +526,8 @@ module _ (c : Config) (m : Word → ℕ) (block : Plot) (owner : ℕ → Option 
         let tams : n (Tams q) ≡ m (Tams q) = word_same (Tams q) (λ never. never) in
         omega (arith, floor, same, tams))
         (cases_eq q r);
+    unmarked = λ p words is mark. let stood = filler_from p words is in b.unmarked p words stood.1 (subst (λ bits. HasMark c bits p) marks_same mark);
+    fillers = λ p words is young. let stood = filler_from p words is in b.fillers p words stood.1 (subst (λ floor. IsYoung c floor p) tams_same young);
     only = only_again;
   }
 

@@ -8,5 +8,3 @@ pub mod Turns
 pub mod Started
 pub mod Outside
 pub mod Begun
-pub mod Images
-pub mod Pauses

@@ -1,19 +1,19 @@
 -- The words that the pause leaves stand for the same graph: where a region was chosen evacuation runs, and else nothing does.
-use Rattle.std.proofs.Common.{◌≡◌, ◌≢◌, ℕ, ◌+◌, ◌<◌, ◌≤◌, ◌⊎◌, ◌==◌, nat_le, false, Option, Some, None, inl, inr, ⊎_elim, refl, sym, ap, ◌∙◌, subst, arith}
+use Rattle.std.proofs.Common.{◌≡◌, ℕ, ◌+◌, ◌<◌, ◌≤◌, ◌⊎◌, ◌==◌, nat_le, false, Some, None, inl, inr, ⊎_elim, refl, sym, ap, ◌∙◌, subst, arith}
 use Rattle.std.specs.Int.{bit_at}
-use Rattle.std.proofs.lemmas.Bool.{false≢true, true≢false, and_from, le-leb, eq-eqb}
-use Rattle.std.proofs.lemmas.Option.{none-some}
+use Rattle.std.proofs.lemmas.Bool.{true≢false, and_from, le-leb, eq-eqb}
 use Rattle.heap_words.specs.declared.config.Config.{Config}
 use Rattle.heap_words.specs.Words.{Word, Cset, Evac, Ask, Free, Top, Tams, Root, Count, Buffer, Answer, Grey, Black, Heap}
 use Rattle.regions.specs.Place.{region_with}
 use Rattle.regions.specs.Sets.{IsIn}
 use Rattle.shen_graph.specs.Graph.{Graph, Reference}
-use Rattle.heap_world.specs.World.{Block, thing, moved, promised, Plot, Ghost, Scan, no_snapshot, Points, body_of, IsUsable, IsCollected, KeepsSnapshot, IsMarkable, HasCopy, IsEvacuating, body_at}
+use Rattle.heap_world.specs.World.{Block, thing, moved, promised, filler, Plot, Ghost, no_snapshot, Points, body_of, IsUsable, IsCollected, IsMarkable, HasCopy, IsEvacuating, body_at}
 use Rattle.heap_world.specs.Asking.{Asking, nothing, asks, refused, given, IsAsked}
 use Rattle.heap_world.specs.Represents.{Represents}
 use Rattle.heap_world.proofs.Pointing.{named_body, copy_cases, piece_inside}
 use Rattle.heap_world.proofs.Keeping.{usable_now}
 use Rattle.heap_world.proofs.Copies.{counted_none, none_evacuated}
+use Rattle.heap_world.proofs.Unmarked.{none_marked_in}
 use Rattle.mark_pauses.specs.MarkedOut.{IsMarkedOut}
 use Rattle.cset_laws.specs.Live.{IsCandidate}
 use Rattle.cset_laws.specs.Begun.{is_collected, with_set, evac_started, evac_spared}
@@ -21,35 +21,17 @@ use Rattle.evac_pauses.proofs.Asked.{asked_stays}
 use Rattle.evac_pauses.proofs.Places.{IsPlace}
 use Rattle.evac_pauses.proofs.Turns.{IsClearing}
 
--- while nobody marks, all that marking counts on holds
-none_marked : (c : Config) (phase : ℕ) (grey black count : ℕ → ℕ) (buffer : ℕ → ℕ → ℕ) (top tams heap : ℕ → ℕ) (block : Plot) (recording : ℕ → Option ℕ) (scanning : ℕ → Option Scan)
-    → phase ≢ 1 → KeepsSnapshot c phase grey black count buffer top tams heap block no_snapshot recording scanning
-none_marked c phase grey black count buffer top tams heap block recording scanning off = record {
-  empty = λ other. refl;
-  traced = record {
-    edges = λ a refs nums k name there. absurd (none-some _ there);
-    starts = λ a there. absurd (false≢true there);
-  };
-  led = λ a refs nums name there. absurd (none-some _ there);
-  old = λ a refs nums name there. absurd (none-some _ there);
-  kept = λ a refs nums name there. absurd (none-some _ there);
-  older = λ on. absurd (off on);
-  promises = λ on. absurd (off on);
-  fillers = λ on. absurd (off on);
-  young = λ on. absurd (off on);
-  floors = λ r inside. omega arith;
-  tams_are = λ on. absurd (off on);
-  greys = λ on. absurd (off on);
-  blacks = λ on. absurd (off on);
-  entries = λ on. absurd (off on);
-}
-
 -- whoever is promised an object was given it, and its answer says where it is
 promise_is_answer : (m : Word → ℕ) (block : Plot) (count : ℕ → ℕ) (t : ℕ) (x : Asking) → IsAsked m block count t x → (a words : ℕ) → block a ≡ Some (promised t words) → a ≡ m (Answer t)
 promise_is_answer m block count t nothing asked a words is = absurd (asked.2 a words is)
 promise_is_answer m block count t (asks refs nums) asked a words is = absurd (asked.2 a words is)
 promise_is_answer m block count t refused asked a words is = absurd (asked.2 a words is)
 promise_is_answer m block count t (given refs nums) asked a words is = asked.2.only a words is
+
+-- words that only fill are nothing that is marked
+no_filler : (block : Plot) (a words : ℕ) → block a ≡ Some (filler words) → IsMarkable block a → ⊥
+no_filler block a words is (IsMarkable.object name refs nums here) = let differ = sym is ∙ here in cc
+no_filler block a words is (IsMarkable.to_come seat more here) = let differ = sym is ∙ here in cc
 
 module _ (c : Config) (memory : Word → ℕ) (block : Plot) (ghost : Ghost) (g : Graph) (asking : ℕ → Asking) (out : IsMarkedOut c memory block ghost g asking) where
   -- the ghost state, without a snapshot
@@ -84,6 +66,10 @@ module _ (c : Config) (memory : Word → ℕ) (block : Plot) (ghost : Ghost) (g 
       no_new = λ r is. (candidates r is).1.no_new;
       marked = out.marked.objects;
       floors = out.marked.floors;
+      unmarked = λ a words is mark.
+          let above = piece_inside c (λ r. memory (Top r)) block out.parsable.plotted a (filler words) is in
+          no_filler block a words is (out.marked.only a above.0 mark);
+      fillers = out.marked.fillers;
       only = λ a above mark inside. inl (out.marked.only a above mark);
     };
     roots = out.roots;
@@ -146,9 +132,9 @@ module _ (c : Config) (memory : Word → ℕ) (block : Plot) (ghost : Ghost) (g 
         parsable = s.between.parsable;
         contents = s.between.contents;
         owned = s.between.owned;
-        phased = record { phase_is = omega arith; cset_is = λ other. absurd (other refl); evac_is = λ other. refl };
+        phased = record { phase_is = omega arith; cset_is = λ low. absurd (omega (arith, low)); evac_is = λ other. refl };
         unwritten = s.between.unwritten;
-        marked = none_marked c 2 (λ q. n (Grey q)) (λ q. n (Black q)) (λ t. n (Count t)) (λ t k. n (Buffer t k)) (λ q. n (Top q)) (λ q. n (Tams q)) (λ a. n (Heap a)) plot
+        marked = none_marked_in c 2 (λ q. n (Grey q)) (λ q. n (Black q)) (λ t. n (Count t)) (λ t k. n (Buffer t k)) (λ q. n (Top q)) (λ q. n (Tams q)) (λ a. n (Heap a)) plot
             ghost.recording ghost.scanning (λ is. omega (arith, is));
         evacuated = record {
           moved = s.between.moves;
@@ -164,10 +150,13 @@ module _ (c : Config) (memory : Word → ℕ) (block : Plot) (ghost : Ghost) (g 
             objects = λ on. s.between.marked;
             young = λ on a seat words is. absurd (s.between.no_hands a seat words is);
             floors = λ on. s.between.floors;
+            unmarked = λ on. s.between.unmarked;
+            fillers = λ on. s.between.fillers;
             only = λ on a above mark inside. has_copy a inside (s.between.only a above mark inside);
           };
           units = λ on r below. absurd (omega (arith, below));
         };
+        updated = λ on. absurd (omega (arith, on));
       };
       roots = s.roots;
       usable = usable;
@@ -194,13 +183,14 @@ module _ (c : Config) (memory : Word → ℕ) (block : Plot) (ghost : Ghost) (g 
       owned = out.owned;
       phased = record { phase_is = omega arith; cset_is = λ other. refl; evac_is = λ other. out.evac_is };
       unwritten = out.unwritten;
-      marked = none_marked c 0 (λ q. idle (Grey q)) (λ q. idle (Black q)) (λ t. idle (Count t)) (λ t k. idle (Buffer t k)) (λ q. idle (Top q)) (λ q. idle (Tams q)) (λ a. idle (Heap a)) block
+      marked = none_marked_in c 0 (λ q. idle (Grey q)) (λ q. idle (Black q)) (λ t. idle (Count t)) (λ t k. idle (Buffer t k)) (λ q. idle (Top q)) (λ q. idle (Tams q)) (λ a. idle (Heap a)) block
           ghost.recording ghost.scanning (λ is. omega (arith, is));
       evacuated = subst
           (λ evac. IsEvacuating c 0 0 evac 0 (idle Free) (λ q. idle (Top q)) (λ q. idle (Tams q)) (λ a. idle (Heap a)) (λ q. idle (Black q)) block ghost.owner ghost.copying ghost.working)
           (sym out.evac_is)
           (none_evacuated c 0 0 (idle Free) (λ q. idle (Top q)) (λ q. idle (Tams q)) (λ a. idle (Heap a)) (λ q. idle (Black q)) block ghost.owner ghost.copying ghost.working (λ is. omega (arith, is))
           out.unmoved.no_moved out.unmoved.no_spent out.uncopying.copies_none);
+      updated = λ on. absurd (omega (arith, on));
     };
     roots = out.roots;
     usable = λ t i inside few. usable_now c (memory Evac) block (λ a refs nums to name. out.unmoved.no_moved a refs nums to name) (memory (Root t i)) (g.root (t + 1) i) (out.roots t i inside few);

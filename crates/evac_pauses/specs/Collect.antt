@@ -1,20 +1,8 @@
--- What a pause makes of the words of an image: a full collection where a mutator waits or objects are being evacuated, and
--- else what is due by the phase.
-use Rattle.std.specs.Prelude.{ℕ, ◌≡◌, ◌≤◌, ◌+◌, ◌==◌, ◌||◌, nat_le, if◌then◌else◌, Bool, map, Option}
-use Rattle.std.specs.Int.{bit_at}
-use Rattle.std.specs.List.{range_with_len}
+-- What the pause that ends marking and begins evacuation makes of the words of an image.
+use Rattle.std.specs.Prelude.{ℕ}
 use Rattle.heap_words.specs.declared.config.Config.{Config}
-use Rattle.heap_words.specs.Words.{Word, Phase, Cset, Ask, image_start}
-use Rattle.heap_words.specs.Rows.{name_of}
-use Rattle.shen_graph.specs.Graph.{Graph}
-use Rattle.heap_world.specs.World.{Plot}
-use Rattle.heap_world.specs.Change.{Change, image_words, image_view}
-use Rattle.image_laws.specs.Full.{full}
-use Rattle.image_laws.specs.Promised.{Promises}
-use Rattle.image_graph.specs.Holds.{HoldsBy}
-use Rattle.mark_laws.specs.Init.{init_marked}
+use Rattle.heap_words.specs.Words.{Word}
 use Rattle.mark_laws.specs.Final.{final_marked}
-use Rattle.mark_laws.specs.Facts.{IsMarking}
 use Rattle.cset_laws.specs.Choice.{chosen}
 use Rattle.cset_laws.specs.Begun.{evac_begun}
 
@@ -22,28 +10,3 @@ use Rattle.cset_laws.specs.Begun.{evac_begun}
 -- answers cleared of them. Where no region is chosen the cycle is over.
 abbrev pub evac_next : Config → (Word → ℕ) → Word → ℕ
 evac_next c memory = evac_begun c (final_marked c memory) (chosen c (final_marked c memory))
-
--- the heap is collected in full: a mutator waits for room, or objects are being evacuated
-abbrev pub is_full_due : (Word → ℕ) → Bool
-is_full_due memory = (bit_at (memory Ask) 1 == 1) || nat_le 2 (memory Phase)
-
--- The words after a pause. The heap is collected in full where that is due; else marking begins, or ends where it runs.
-abbrev pub collected : Config → (Word → ℕ) → Word → ℕ
-collected c memory word =
-    if is_full_due memory then full c memory word else (if memory Phase == 0 then init_marked c memory word else evac_next c memory word)
-
--- the words of the image after it, in the order of their places
-abbrev pub collect_image : Change
-collect_image c image = map (λ k. collected c (image_view c image) (name_of c (image_start c + k))) (range_with_len 0 (image_words c))
-
--- What a pause needs of the words: they hold a graph; nothing is collected while nothing runs; and while objects are marked,
--- what holds then.
-pub record CanPause (c : Config) (memory : Word → ℕ) (block : Plot) (owner : ℕ → Option ℕ) (p : Promises) (g : Graph) : Type 0 where
-  pub holds : HoldsBy c memory block owner p g
-  pub phase_is : memory Phase ≤ 2
-  pub uncollected : memory Phase ≡ 0 → memory Cset ≡ 0
-  pub marking : memory Phase ≡ 1 → IsMarking c memory block
-
--- so it is in some way
-abbrev pub CanPauseSome : Config → (Word → ℕ) → Type 0
-CanPauseSome c memory = ∥ ((g : Graph) × (block : Plot) × (owner : ℕ → Option ℕ) × (p : Promises) × CanPause c memory block owner p g) ∥₁

@@ -1,4 +1,3 @@
 pub mod Sparing
 pub mod Runs
-pub mod Calm
 pub mod Due

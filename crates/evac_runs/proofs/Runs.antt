@@ -18,7 +18,7 @@ use Rattle.heap_world.specs.Change.{Change, IsPause}
 use Rattle.evac_steps.proofs.Parts.{all_is_forwarded}
 use Rattle.mutator.specs.Rows.{Mutating}
 use Rattle.control_steps.specs.declared.spot.ControlSpot.{ControlSpot}
-use Rattle.control_steps.specs.declared.spot.ControlSpot.TheVariants.{Scanning, Evacuating}
+use Rattle.control_steps.specs.declared.spot.ControlSpot.TheVariants.{LookFree, Scanning, Evacuating, Updating, Stopping, LoadWord}
 use Rattle.control_steps.specs.Rows.{word_stored}
 use Rattle.step_core.specs.Actor.{Machine, mutating, helping, controlling, Actor}
 use Rattle.step_core.specs.Begins.{Begins}
@@ -40,15 +40,15 @@ use Rattle.evac_runs.proofs.Sparing.{helper_mild, control_mild, mutator_spare}
 
 -- What a stage says in which all goes as it should.
 module _ (c : Config) (g : Graph) (s : Stage Actor) (h : List Entry) (goes : Goes c g s h) where
-  abbrev the_world : World
+  abbrev pub the_world : World
   the_world = world_of c s goes.follows.block goes.follows.ghost (after g h)
 
   -- of a mutator
-  thread_of : (number : ℕ) (a : Actor) (m : Mutating) → IsMutator s number a m → IsThread c s.words the_world (of_thread h (number + 1)) number a m
+  pub thread_of : (number : ℕ) (a : Actor) (m : Mutating) → IsMutator s number a m → IsThread c s.words the_world (of_thread h (number + 1)) number a m
   thread_of number a m here = subst (λ machine. IsMachine c s.words the_world (of_thread h (number + 1)) number a machine) here.is (goes.follows.machines number a here.here)
 
   -- words and machines stand for the graph
-  abbrev stands : StandsFor c s (after g h)
+  abbrev pub stands : StandsFor c s (after g h)
   stands = record {
     block = goes.follows.block;
     ghost = goes.follows.ghost;
@@ -107,31 +107,38 @@ module _ (c : Config) (g : Graph) (s : Stage Actor) (h : List Entry) (goes : Goe
     control_rests : (number : ℕ) (spot : ControlSpot) → is_pausing (control_standing spot) ≡ true → ControlFacts c the_world number spot → IsResting the_world number
     control_rests number (Scanning at) on facts = absurd (cc (on))
     control_rests number (Evacuating cset at) on facts = absurd (cc (on))
+    control_rests number (Updating cset at) on facts = absurd (cc (on))
+    control_rests number LookFree on facts = absurd (cc (on))
+    control_rests number (Stopping at) on facts = facts.0
+    control_rests number (LoadWord index) on facts = facts.0
     control_rests number _ on facts = facts
 
-    -- no machine works on a unit
-    idle_at : (number : ℕ) (x : Actor) (machine : Machine) → slice_get s.machines number ≡ Some x → x.machine ≡ machine → IsMachine c s.words the_world (of_thread h (number + 1)) number x machine
-        → goes.follows.ghost.working number ≡ None
-    idle_at number x (mutating m) here role facts = subst (λ seat. goes.follows.ghost.working seat ≡ None) facts.number_is facts.mine.copying.works_none
-    idle_at number x (helping m) here role facts = (rests_outside c the_world number m.spot (empty.no_helper number x m (record { here = here; is = role })) facts.facts).works_none
+    -- no machine works on a unit of evacuation, or stands in one of updating
+    abbrev pub IsIdleSeat : ℕ → Type 0
+    IsIdleSeat number = (goes.follows.ghost.working number ≡ None) × (goes.follows.ghost.scanning number ≡ None)
+
+    idle_at : (number : ℕ) (x : Actor) (machine : Machine) → slice_get s.machines number ≡ Some x → x.machine ≡ machine → IsMachine c s.words the_world (of_thread h (number + 1)) number x machine → IsIdleSeat number
+    idle_at number x (mutating m) here role facts = subst IsIdleSeat facts.number_is (facts.mine.copying.works_none, facts.mine.marking.scans)
+    idle_at number x (helping m) here role facts = let rests = rests_outside c the_world number m.spot (empty.no_helper number x m (record { here = here; is = role })) facts.facts in (rests.works_none, rests.scans_none)
     idle_at number x (controlling m) here role facts =
         let there : slice_get s.machines (control_number c) ≡ Some x = ap (λ n. slice_get s.machines n) (sym facts.number_is) ∙ here in
         let same : x ≡ pause.actor = same_Some x pause.actor (sym there ∙ pause.here) in
         let spots : controlling m ≡ controlling pause.control = sym role ∙ ap (λ y. y.machine) same ∙ pause.is in
         let one : m ≡ pause.control = (let both = spots in cc) in
-        (control_rests number m.spot (ap (λ y. is_pausing (control_standing y.spot)) one ∙ pause.pausing) facts.facts).works_none
+        let rests = control_rests number m.spot (ap (λ y. is_pausing (control_standing y.spot)) one ∙ pause.pausing) facts.facts in
+        (rests.works_none, rests.scans_none)
 
-    idle : (number : ℕ) → number < seat_count c.mutators c.helpers → goes.follows.ghost.working number ≡ None
+    pub idle : (number : ℕ) → number < seat_count c.mutators c.helpers → IsIdleSeat number
     idle number below =
         let there = machine_there c s.words the_world h s.machines goes.follows.seats number below in
         idle_at number there.0 there.0.machine there.1 refl (goes.follows.machines number there.0 there.1)
 
     -- each marked object of the set is forwarded
     pub are_forwarded : AreAllForwarded c s
-    are_forwarded on all room a low inside marked = all_is_forwarded c the_world goes.follows.shared on idle all room a low inside marked
+    are_forwarded on all room a low inside marked = all_is_forwarded c the_world goes.follows.shared on (λ number below. (idle number below).0) all room a low inside marked
 
 -- in each stage that events lead to all goes as it should
-stage_goes : (change : Change) → IsPause change → (c : Config) (s : Stage Actor) (g : Graph) → Begins c s g → (events : List (Event Order)) → Goes c g (go (kind change c) s events) (history change c s events)
+pub stage_goes : (change : Change) → IsPause change → (c : Config) (s : Stage Actor) (g : Graph) → Begins c s g → (events : List (Event Order)) → Goes c g (go (kind change c) s events) (history change c s events)
 stage_goes change law c s g begins events = goes_run change law c g s [] events (goes_begins c s g begins)
 
 pub headers_lead_in_runs : HeadersLeadInRuns

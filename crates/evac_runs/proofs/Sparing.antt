@@ -49,6 +49,11 @@ use Rattle.copy_steps.proofs.Parts.{resolving_steps}
 use Rattle.mark_steps.proofs.Parts.{scanning_steps}
 use Rattle.evac_steps.specs.Evacuating.{CanEvacuate}
 use Rattle.evac_steps.proofs.Parts.{evacuating_steps}
+use Rattle.update_refs.specs.Rows as updates
+use Rattle.update_refs.specs.declared.spot.UpdateSpot.{UpdateSpot}
+use Rattle.update_steps.specs.Updating.{CanUpdate}
+use Rattle.update_steps.proofs.Following.{following_steps}
+use Rattle.update_steps.proofs.Parts.{updating_steps}
 use Rattle.mutator.specs.declared.spot.Kept.{Kept}
 use Rattle.mutator.specs.declared.spot.Spot.{Spot}
 use Rattle.mutator.specs.declared.spot.Spot.TheVariants.{Rest, Ended, Entering, LoadPhase, LoadSet, Loading, OnField, Resolving, Recording, OnNumber, Showing, StoreRoot, Making, AskCycle, Waiting, Leave, Gone}
@@ -77,7 +82,7 @@ use Rattle.control_steps.specs.declared.spot.ControlSpot.TheVariants as control
 use Rattle.control_steps.specs.Rows.{control_seat, control_touch, access_with}
 use Rattle.control_steps.specs.Ready.{is_ready}
 use Rattle.step_core.specs.Settled.{stored_image}
-use Rattle.step_core.specs.Stepped.{FieldFacts, NumberFacts, MakeFacts, SpotFacts, Mine}
+use Rattle.step_core.specs.Stepped.{FieldFacts, NumberFacts, MakeFacts, IsResolving, SpotFacts, Mine}
 use Rattle.step_core.proofs.Facts.{HelpFacts, ControlFacts, IsHelper}
 use Rattle.step_core.proofs.Helpers.{help_word}
 use Rattle.step_core.proofs.Ordered.{order_word}
@@ -122,6 +127,15 @@ module _ (c : Config) (w : World) (shared : Shared c w) (d k : ℕ) (b : Body) (
       (λ published. inr (publishing seat a published.0 at published.1 published.2 (subst (λ x. ResolveFacts c w seat a x) published.1 can.facts)))
       (resolving_steps.spares c w seat a at d k b shared can is below word)
 
+  -- also while references are updated
+  resolving_mild : (seat a : ℕ) (at : ResolveSpot) → IsResolving c w seat a at → IsMild seat (resolves.touch_at c seat a at)
+  resolving_mild seat a at (inl can) word = resolve_mild seat a at can word
+  resolving_mild seat a at (inr can) word = inl (following_steps.only_loads c w seat a at can)
+
+  -- of who updates
+  update_mild : (seat cset : ℕ) (at : UpdateSpot) → CanUpdate c w seat cset at → IsMild seat (updates.touch_at c at)
+  update_mild seat cset at can word = inl (updating_steps.spares c w seat cset at d k b shared can is inside below word)
+
   -- of who evacuates
   evac_mild : (seat cset : ℕ) (at : EvacSpot) → CanEvacuate c w seat cset at → IsMild seat (evacs.touch_at c seat at)
   evac_mild seat cset (evac.ClaimUnit unit) can word = absurd (cc (word))
@@ -154,6 +168,7 @@ module _ (c : Config) (w : World) (shared : Shared c w) (d k : ℕ) (b : Body) (
   help_mild seat (help.LoadSet phase) facts word = inl refl
   help_mild seat (help.Scanning at) facts word = scan_mild seat at word
   help_mild seat (help.Evacuating cset at) facts word = evac_mild seat cset at facts word
+  help_mild seat (help.Updating cset at) facts word = update_mild seat cset at facts word
   help_mild seat help.Leave facts word = absurd (cc (word))
   help_mild seat help.Gone facts word = inl refl
 
@@ -179,6 +194,8 @@ module _ (c : Config) (w : World) (shared : Shared c w) (d k : ℕ) (b : Body) (
       mild_at (control_seat c) (scans.touch_at c at) (scanning_steps.inside c w (control_seat c) at facts.0) (scan_mild (control_seat c) at) same
   control_mild (control.Evacuating cset at) image value ready facts out same =
       mild_at (control_seat c) (evacs.touch_at c (control_seat c) at) (evacuating_steps.inside c w (control_seat c) cset at shared facts) (evac_mild (control_seat c) cset at facts) same
+  control_mild (control.Updating cset at) image value ready facts out same =
+      mild_at (control_seat c) (updates.touch_at c at) (updating_steps.inside c w (control_seat c) cset at shared facts) (update_mild (control_seat c) cset at facts) same
   control_mild (control.Stopping at) image value ready facts out same =
       mild_at (control_seat c) (stop_touch at) (is_word_true c (stop_touch at).word (and_parts _ _ (and_parts _ _ ready).0).0) (stop_mild (control_seat c) at) same
   control_mild (control.LoadWord index) image value ready facts out same = inl (ap Load same)
@@ -296,7 +313,7 @@ module _ (c : Config) (w : World) (shared : Shared c w) (d k : ℕ) (b : Body) (
   spot_spare seat made kept command fixed order LoadSet facts word = inl refl
   spot_spare seat made kept command fixed order (Loading at) facts word = mild_spare seat _ (place_at order (Loading at)) (load_mild seat kept.command at) word
   spot_spare seat made kept command fixed order (OnField object at) facts word = field_spare seat kept.command command fixed object at facts word
-  spot_spare seat made kept command fixed order (Resolving address at next) facts word = mild_spare seat _ (place_at order (Resolving address at next)) (resolve_mild seat address at facts.0) word
+  spot_spare seat made kept command fixed order (Resolving address at next) facts word = mild_spare seat _ (place_at order (Resolving address at next)) (resolving_mild seat address at facts.0) word
   spot_spare seat made kept command fixed order (Recording at address next) facts word = mild_spare seat _ (place_at order (Recording at address next)) (remember_mild seat address at) word
   spot_spare seat made kept command fixed order (OnNumber object refs at) facts word = number_spare seat kept.command command fixed object refs at facts word
   spot_spare seat made kept command fixed order (Showing value at) facts word = mild_spare seat _ (place_at order (Showing value at)) (show_mild seat value kept.command at) word

@@ -1,9 +1,9 @@
-//! What holds of evacuation in every run of a heap, whatever its threads, helpers and control do and in whatever order: laws, as
+//! What holds of evacuation and of updating in every run of a heap, whatever its threads, helpers and control do and in whatever order: laws, as
 //! theorems and no code. They hold of any work that is a pause's.
 #![tactic(auto)]
 
 ghost use Rattle.evac_runs.specs.Runs.{HeadersLeadInRuns, CopiesAreSpared, AllIsForwardedInRuns};
-ghost use Rattle.evac_runs.specs.Due.{PausesComeWhenDue, EvacuationIsWhole};
+ghost use Rattle.evac_runs.specs.Due.{PausesComeWhenDue, EvacuationIsWhole, UpdatingIsWhole};
 
 /// A law: after every list of steps each old copy of an object lies in the collection set, and its header leads to the object's one
 /// current copy, which lies outside and has the header of an object that has not moved.
@@ -26,7 +26,7 @@ pub fn all_is_forwarded_in_runs()
     ensures { AllIsForwardedInRuns }
 {}
 
-/// A law: in phase 2 the control begins a pause only once all regions are claimed, or where an allocation waits; and so it is still
+/// A law: in phases 2 and 3 the control begins a pause only once all regions are claimed, or where an allocation waits; and so it is still
 /// when it reads the image in that pause.
 pub fn pauses_come_when_due()
     ensures { PausesComeWhenDue }
@@ -36,4 +36,10 @@ pub fn pauses_come_when_due()
 /// object of the collection set is forwarded.
 pub fn evacuation_is_whole()
     ensures { EvacuationIsWhole }
+{}
+
+/// A law: where the control reads the image in a pause in phase 3 for which no allocation waits, no root, no answer and no field of a
+/// current copy names the collection set.
+pub fn updating_is_whole()
+    ensures { UpdatingIsWhole }
 {}

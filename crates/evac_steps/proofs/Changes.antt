@@ -1,5 +1,5 @@
 -- What a step owes that changes what is claimed, and on which unit a machine works.
-use Rattle.std.proofs.Common.{◌≡◌, ◌≢◌, ℕ, ◌+◌, ◌<◌, ◌⊎◌, Option, Some, ⊎_elim, inl, inr, sym, ap, ◌∙◌, subst}
+use Rattle.std.proofs.Common.{◌≡◌, ◌≢◌, ℕ, ◌+◌, ◌<◌, ◌≤◌, ◌⊎◌, Option, Some, ⊎_elim, inl, inr, sym, ap, ◌∙◌, subst, arith}
 use Rattle.std.proofs.lemmas.Bool.{cases_eq}
 use Rattle.heap_words.specs.declared.config.Config.{Config}
 use Rattle.heap_words.specs.Ranges.{seat_count}
@@ -29,7 +29,7 @@ cared_still c evac block working seat unit region own (inr worker) = ⊎_elim
     (λ (other : seat ≢ worker.0). inr (worker.0, worker.1, updated_else working seat unit worker.0 other ∙ worker.2))
     (cases_eq seat worker.0)
 
-module _ (c : Config) (u w : World) (seat claim : ℕ) (unit : Option ℕ) where
+module _ (c : Config) (u w : World) (seat claim : ℕ) (unit : Option ℕ) (on : w.memory Phase ≡ 2) (most : w.memory Claim ≤ claim) where
   -- machines share what they should
   shared_then : Shared c w → AreCaredFor c (w.memory Phase) (w.memory Cset) (w.memory Evac) claim w.block (updated w.ghost.working seat unit) → Shared c (world_then w seat claim unit)
   shared_then shared units = record {
@@ -46,6 +46,7 @@ module _ (c : Config) (u w : World) (seat claim : ℕ) (unit : Option ℕ) where
       kept = shared.evacuated.kept;
       units = units;
     };
+    updated = λ updating. absurd (omega (arith, updating, on));
   }
 
   -- the facts of the seat's machine stand
@@ -119,6 +120,13 @@ module _ (c : Config) (u w : World) (seat claim : ℕ) (unit : Option ℕ) where
       copying = rely.copies.copying;
       working = updated_else w.ghost.working seat unit k (λ e. differs (sym e)) ∙ rely.copies.working;
       words = rely.copies.words;
+    };
+    fields = record {
+      tams = rely.fields.tams;
+      limits = rely.fields.limits;
+      fillers = rely.fields.fillers;
+      claims = λ all. (let claimed = rely.fields.claims all in omega (arith, claimed, most));
+      fields = rely.fields.fields;
     };
   }
 

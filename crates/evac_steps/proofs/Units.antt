@@ -128,7 +128,7 @@ module _ (c : Config) (u : World) (seat cset : ℕ) where
   ends : (at : EvacSpot) (unit : Done) (w : World) → IsBase at w → CanEvacuate c u seat cset at → spot_then c u seat cset at ≡ Ended unit → HasNothing w seat
       → ((region : ℕ) → working_of c at ≡ Some region → IsSwept c w region) → UnitStep c u seat cset at
   ends at unit w base can leads nothing swept =
-      step_then c u w seat (w.memory Claim) None (touch_at c seat at) (λ x. Evacuates c x seat cset at (spot_then c u seat cset at))
+      step_then c u w seat (w.memory Claim) None (base.keeps.marks.phase ∙ can.phase) (omega arith) (touch_at c seat at) (λ x. Evacuates c x seat cset at (spot_then c u seat cset at))
       (sym (load_keeps w.memory Claim) ∙ base.memory) base.graph base.shared base.keeps base.others
       (λ on region below is. cared_still c (w.memory Evac) w.block w.ghost.working seat None region (λ own. inl (swept region (sym base.working ∙ own))) (base.shared.evacuated.units on region below is))
       (subst (λ spot. Evacuates c (world_then w seat (w.memory Claim) None) seat cset at spot) (sym leads) (record {
@@ -184,7 +184,7 @@ module _ (c : Config) (u : World) (seat cset : ℕ) where
   claims : (unit : ℕ) (next : EvacSpot) → u.memory Claim ≡ unit → Shared c u → CanEvacuate c u seat cset (ClaimUnit unit) → after_claim cset unit ≡ next
       → (IsIn (u.memory Cset) unit → working_of c next ≡ Some unit) → WorkFacts c (world_then u seat (unit + 1) (working_of c next)) seat next → UnitStep c u seat cset (ClaimUnit unit)
   claims unit next won shared can leads works facts =
-      step_then c u u seat (unit + 1) (working_of c next) (touch_at c seat (ClaimUnit unit)) (λ x. Evacuates c x seat cset (ClaimUnit unit) (spot_then c u seat cset (ClaimUnit unit)))
+      step_then c u u seat (unit + 1) (working_of c next) can.phase (omega (arith, won)) (touch_at c seat (ClaimUnit unit)) (λ x. Evacuates c x seat cset (ClaimUnit unit) (spot_then c u seat cset (ClaimUnit unit)))
       (ap (λ n. write u.memory Claim n) (sym (cond-true (u.memory Claim == unit) (unit + 1) (u.memory Claim) (eq-eqb _ _ won)))) refl shared (keeps_of c seat u u (rely_same c seat u)) (λ k differs. rely_same c k u)
       (λ on region below is. ⊎_elim
       (λ (own : region ≡ unit). inr (seat, can.seated, updated_there u.ghost.working seat (working_of c next) ∙ works (subst (λ r. IsIn (u.memory Cset) r) own is) ∙ ap Some (sym own)))
@@ -244,7 +244,7 @@ module _ (c : Config) (u : World) (seat cset : ℕ) where
       let old = shared.evacuated.aside.no_new (region_with c address) walked.inside in
       let end_is = walked.end_is in
       omega (arith, young, old, end_is, walked.before))
-      (shared.evacuated.kept.objects on address (IsMarkable.object name refs nums is))
+      (shared.evacuated.kept.objects (omega (arith, on)) address (IsMarkable.object name refs nums is))
 
 module _ (resolving : ResolvingSteps) (c : Config) (u : World) (seat cset : ℕ) where
   -- the load of a piece's mark
@@ -260,7 +260,7 @@ module _ (resolving : ResolvingSteps) (c : Config) (u : World) (seat cset : ℕ)
       (λ (black : (bit_at got (mark_bit c address) == 1) ≡ true).
       goes_on c u seat cset at (Resolving address end next LoadHeader) u base can (cond-true (bit_at got (mark_bit c address) == 1) _ _ black) refl refl (
         refl,
-        resolving.begins c u seat address can.seated can.phase measured.at.inside (shared.evacuated.kept.only can.phase address low (eqb-true _ _ black) measured.at.inside)
+        resolving.begins c u seat address can.seated can.phase measured.at.inside (shared.evacuated.kept.only (omega (arith, can.phase)) address low (eqb-true _ _ black) measured.at.inside)
             nothing.copying nothing.records_none nothing.scans_none nothing.hands,
         measured,
       ))

@@ -20,12 +20,12 @@ use Rattle.helper.specs.declared.spot.HelpSpot.{HelpSpot}
 use Rattle.helper.specs.declared.spot.HelpSpot.TheVariants as help
 use Rattle.helper.specs.Ready as helpers
 use Rattle.control_steps.specs.declared.spot.ControlSpot.{ControlSpot}
-use Rattle.control_steps.specs.declared.spot.ControlSpot.TheVariants.{Scanning, Evacuating, LoadWord}
+use Rattle.control_steps.specs.declared.spot.ControlSpot.TheVariants.{Scanning, Evacuating, Updating, LoadWord}
 use Rattle.control_steps.specs.Ready.{UnitGoesOn}
 use Rattle.control_steps.specs.Rows.{control_seat}
 use Rattle.control.specs.Fit.{fits_with}
-use Rattle.evac_pauses.specs.Collect.{CanPauseSome}
-use Rattle.evac_pauses.proofs.Pauses.{representing_can_collect}
+use Rattle.cycle_pauses.specs.Collect.{CanPauseSome}
+use Rattle.cycle_pauses.proofs.Pauses.{representing_can_collect}
 use Rattle.step_core.specs.Actor.{Machine, mutating, helping, controlling}
 use Rattle.step_core.specs.Fit.{IsWhole, IsFitFor}
 
@@ -48,11 +48,13 @@ evacuation_is_prop c seat _ got = hlevel
 unit_is_prop : (c : Config) (spot : ControlSpot) (got : ℕ) → IsProp (UnitGoesOn c spot got)
 unit_is_prop c (Scanning at) got = hlevel Bool-set
 unit_is_prop c (Evacuating cset at) got = hlevel (Bool-set, evacuation_is_prop c (control_seat c) at got)
+unit_is_prop c (Updating cset at) got = hlevel Bool-set
 unit_is_prop c _ got = hlevel
 
 helpers_is_prop : (c : Config) (seat : ℕ) (spot : HelpSpot) (got : ℕ) → IsProp (helpers.UnitGoesOn c seat spot got)
 helpers_is_prop c seat (help.Scanning at) got = hlevel Bool-set
 helpers_is_prop c seat (help.Evacuating cset at) got = hlevel (Bool-set, evacuation_is_prop c seat at got)
+helpers_is_prop c seat (help.Updating cset at) got = hlevel Bool-set
 helpers_is_prop c seat _ got = hlevel
 
 -- of a part of a call

@@ -16,7 +16,9 @@ use Rattle.helper.specs.Rows as helpers
 use Rattle.load_barrier.specs.declared.evac_spot.EvacSpot.{EvacSpot}
 use Rattle.load_barrier.specs.declared.evac_spot.EvacSpot.TheVariants as evac
 use Rattle.load_barrier.specs.UnitRows as evacs
-use Rattle.control_steps.specs.declared.spot.ControlSpot.TheVariants.{LookFree, Scanning, Evacuating, Stopping}
+use Rattle.update_refs.specs.declared.spot.UpdateSpot.TheVariants as update
+use Rattle.update_refs.specs.Rows as updates
+use Rattle.control_steps.specs.declared.spot.ControlSpot.TheVariants.{LookFree, Scanning, Evacuating, Updating, Stopping}
 use Rattle.control_steps.specs.Rows.{says_at, wants_pause, evacuating_says}
 use Rattle.shen_graph.specs.declared.command.Command.{Command}
 use Rattle.shen_graph.specs.declared.command.Reply.{Reply}
@@ -64,6 +66,9 @@ helps_on c (help.Scanning scan.LoadClaim) got is = not_done (has_unit c got) Mor
 helps_on c (help.Scanning (scan.ClaimUnit unit)) got is = not_done (got == unit) More Again (λ e. cc) (λ e. cc) is
 helps_on c (help.Scanning at) got is = cc
 helps_on c (help.Evacuating cset at) got is = evacuates_on at (evacs.says_at c cset at got) is
+helps_on c (help.Updating cset update.LoadClaim) got is = not_done (updates.has_unit c got) More Again (λ e. cc) (λ e. cc) is
+helps_on c (help.Updating cset (update.ClaimUnit unit)) got is = not_done (got == unit) More Again (λ e. cc) (λ e. cc) is
+helps_on c (help.Updating cset at) got is = cc
 helps_on c _ got is = cc
 
 -- nor does the control
@@ -77,6 +82,8 @@ goes_on c seen LookFree got is = not_done (wants_pause c seen got) More Again (�
 goes_on c seen (Scanning (scan.ClaimUnit unit)) got is = not_done (got == unit) More Again (λ e. cc) (λ e. cc) is
 goes_on c seen (Scanning at) got is = cc
 goes_on c seen (Evacuating cset at) got is = works_on (evacs.says_at c cset at got) is
+goes_on c seen (Updating cset (update.ClaimUnit unit)) got is = not_done (got == unit) More Again (λ e. cc) (λ e. cc) is
+goes_on c seen (Updating cset at) got is = cc
 goes_on c seen (Stopping (stop.Check seat)) got is = not_done (got == 0) More Again (λ e. cc) (λ e. cc) is
 goes_on c seen (Stopping at) got is = cc
 goes_on c seen _ got is = cc

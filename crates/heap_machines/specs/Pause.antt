@@ -1,7 +1,7 @@
 -- What pauses of the heap do. Everything above names it by this word alone.
 use Rattle.heap_world.specs.Change.{Change}
-use Rattle.evac_pauses.specs.Collect.{collect_image}
+use Rattle.cycle_pauses.specs.Collect.{collect_image}
 
--- what a pause makes of the words of its image: it begins marking, ends it and begins evacuation, or collects in full
+-- what a pause makes of the words of its image: it goes on to the next phase of the cycle, or collects in full
 abbrev pub pause_image : Change
 pause_image = collect_image

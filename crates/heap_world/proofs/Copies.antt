@@ -111,7 +111,7 @@ counted_none c copying none = record { is_word = omega arith; counts = sym (no_c
 
 -- While there is no collection set, nothing is said of evacuation but that no copy is old and nobody copies.
 pub none_evacuated : (c : Config) (phase claim free : ℕ) (top tams heap black : ℕ → ℕ) (block : Plot) (owner : ℕ → Option ℕ) (copying : ℕ → Bool) (working : ℕ → Option ℕ)
-    → phase ≢ 2 → ((a refs nums to : ℕ) (name : Name) → block a ≡ Some (moved name refs nums to) → ⊥) → ((a words to : ℕ) → block a ≡ Some (spent words to) → ⊥)
+    → (2 ≤ phase → ⊥) → ((a refs nums to : ℕ) (name : Name) → block a ≡ Some (moved name refs nums to) → ⊥) → ((a words to : ℕ) → block a ≡ Some (spent words to) → ⊥)
     → ((seat : ℕ) → seat < seat_count c.mutators c.helpers → copying seat ≡ false)
     → IsEvacuating c phase 0 0 claim free top tams heap black block owner copying working
 none_evacuated c phase claim free top tams heap black block owner copying working other moveds spents none = record {
@@ -131,7 +131,9 @@ none_evacuated c phase claim free top tams heap black block owner copying workin
     objects = λ on. absurd (other on);
     young = λ on. absurd (other on);
     floors = λ on. absurd (other on);
+    unmarked = λ on. absurd (other on);
+    fillers = λ on. absurd (other on);
     only = λ on. absurd (other on);
   };
-  units = λ on. absurd (other on);
+  units = λ on. absurd (other (omega (arith, on)));
 }

@@ -9,7 +9,7 @@ use Rattle.regions.specs.Place.{base_of}
 use Rattle.regions.proofs.PlaceLemmas.{regions_tile}
 use Rattle.regions.specs.Sets.{IsIn}
 use Rattle.shen_graph.specs.declared.name.Name.{Name}
-use Rattle.heap_world.specs.World.{Block, thing, moved, spent, hand, promised, words_of, name_at, Plot, Body, body_at, IsCollected, IsMarkable, IsYoung, HasCopy, IsEvacuating}
+use Rattle.heap_world.specs.World.{Block, thing, moved, spent, hand, promised, filler, words_of, name_at, Plot, Body, body_at, IsCollected, IsMarkable, IsYoung, HasCopy, IsEvacuating}
 use Rattle.heap_world.proofs.Marked.{markable_stays}
 use Rattle.heap_world.proofs.Copies.{bodies_stay}
 
@@ -60,7 +60,7 @@ module _ (c : Config) (phase cset evac claim free : ℕ) (top tams heap black : 
   }
 
   -- A new piece in a hand at the top of a region that is not set aside, which rises: it is young.
-  pub evacuated_more : (new_top : ℕ → ℕ) (new_block : Plot) (address : ℕ) → (IsCollected c cset address → ⊥) → (phase ≡ 2 → IsYoung c tams address) → ((r : ℕ) → top r ≤ new_top r)
+  pub evacuated_more : (new_top : ℕ → ℕ) (new_block : Plot) (address : ℕ) → (IsCollected c cset address → ⊥) → (2 ≤ phase → IsYoung c tams address) → ((r : ℕ) → top r ≤ new_top r)
       → ((r : ℕ) → IsIn cset r → new_top r ≡ top r)
       → ((a : ℕ) (b : Block) → block a ≡ Some b → new_block a ≡ Some b)
       → ((a : ℕ) (b : Block) → new_block a ≡ Some b → (block a ≡ Some b) ⊎ ((a ≡ address) × (seat : ℕ) × (words : ℕ) × (b ≡ hand seat words)))
@@ -86,6 +86,8 @@ module _ (c : Config) (phase cset evac claim free : ℕ) (top tams heap black : 
       objects = λ on a is. e.kept.objects on a (was_markable a is);
       young = λ on a seat words is. ⊎_elim (λ was. e.kept.young on a seat words was) (λ new. subst (IsYoung c tams) (sym new.0) (young on)) (only a (hand seat words) is);
       floors = λ on r inside. (let floor = e.kept.floors on r inside in let rise = rises r in omega (arith, floor, rise));
+      unmarked = λ on a words is. e.kept.unmarked on a words (old a (filler words) (λ seat more same. (let differ = same in cc)) is);
+      fillers = λ on a words is. e.kept.fillers on a words (old a (filler words) (λ seat more same. (let differ = same in cc)) is);
       only = λ on a above mark inside. copy_stays block new_block (bodies_stay block new_block (λ x refs nums name. stays x (thing name refs nums)) (λ x refs nums to name. stays x (moved name refs nums to))) (λ x words to. stays x (spent words to)) a (e.kept.only on a above mark inside);
     };
     units = λ on r before is. ⊎_elim
@@ -106,7 +108,7 @@ module _ (c : Config) (phase cset evac claim free : ℕ) (top tams heap black : 
 
   -- A piece that stands for no object becomes one. It is not set aside, and is marked or was allocated since mark start.
   pub evacuated_made : (new_block : Plot) (address refs nums : ℕ) (name : Name) (piece : Block) → block address ≡ Some piece → words_of piece ≡ 3 + refs + nums → new_block address ≡ Some (thing name refs nums)
-      → (IsCollected c cset address → ⊥) → (phase ≡ 2 → HasMark c black address ⊎ IsYoung c tams address)
+      → (IsCollected c cset address → ⊥) → (2 ≤ phase → HasMark c black address ⊎ IsYoung c tams address)
       → ((a : ℕ) (b : Block) → block a ≡ Some b → a ≢ address → new_block a ≡ Some b)
       → ((a : ℕ) (b : Block) → new_block a ≡ Some b → a ≢ address → block a ≡ Some b)
       → name_at (Some piece) ≡ None
@@ -136,6 +138,8 @@ module _ (c : Config) (phase cset evac claim free : ℕ) (top tams heap black : 
           (cases_eq a address);
       young = λ on a seat words is. e.kept.young on a seat words (old a (hand seat words) (λ same. (let differ = same in cc)) is);
       floors = e.kept.floors;
+      unmarked = λ on a words is. e.kept.unmarked on a words (old a (filler words) (λ same. (let differ = same in cc)) is);
+      fillers = λ on a words is. e.kept.fillers on a words (old a (filler words) (λ same. (let differ = same in cc)) is);
       only = λ on a above mark inside. copy_stays block new_block (bodies_stay block new_block things moveds) spents a (e.kept.only on a above mark inside);
     };
     units = λ on r before is. ⊎_elim

@@ -11,6 +11,7 @@ use Rattle.heap_world.specs.World.{World, Plot, moved, TargetIn, UsableIn, IsUsa
 use Rattle.heap_world.proofs.Pointing.{named_thing}
 use Rattle.heap_world.proofs.Marked.{same_marks}
 use Rattle.heap_world.proofs.Copies.{same_copies, none_in_0}
+use Rattle.heap_world.proofs.Fields.{same_fields}
 use Rattle.heap_world.specs.Rely.{Keeps, Rely}
 
 -- a word stands for what it stood for where names stay
@@ -61,6 +62,7 @@ rely_same c seat u = record {
   asked = λ is. is;
   marks = same_marks c u seat;
   copies = same_copies c u seat;
+  fields = same_fields c u;
 }
 
 -- what is relied on keeps all that the facts of a seat stand on

@@ -9,6 +9,9 @@ pub mod Traced
 pub mod Marked
 pub mod Copies
 pub mod Evacuated
+pub mod Updated
+pub mod Fields
+pub mod Units
 pub mod Unmoved
 pub mod Unmarked
 pub mod NewPiece

@@ -12,7 +12,7 @@ use Rattle.shen_graph.specs.declared.name.Name.{Name}
 use Rattle.shen_graph.specs.Graph.{Object, same_name, blank}
 use Rattle.shen_graph.proofs.PlainLemmas.{same_name-true, same_name-itself}
 use Rattle.heap_words.specs.Encoding.{fresh_word}
-use Rattle.heap_world.specs.World.{Block, thing, spent, hand, promised, filler, words_of, Plot, name_at, Points, IsInUse, IsPlotted, IsFilled, IsThing, IsGiven, AreObjects, IsParsable, AreOwned, AreUnwritten, Snapshot, Scan, IsMarkable, IsYoung, IsCollected, KeepsSnapshot, IsEvacuating}
+use Rattle.heap_world.specs.World.{Block, thing, spent, hand, promised, filler, words_of, Plot, name_at, Points, IsInUse, IsPlotted, IsFilled, IsThing, IsGiven, AreObjects, IsParsable, AreOwned, AreUnwritten, Snapshot, Scan, IsMarkable, IsYoung, IsCollected, KeepsSnapshot, IsEvacuating, IsCurrent, IsUpdating}
 use Rattle.heap_world.proofs.Updates.{updated, updated_there, updated_else}
 use Rattle.heap_world.proofs.Pointing.{named_piece}
 use Rattle.heap_world.proofs.Objects.{two_names, where_object}
@@ -20,6 +20,7 @@ use Rattle.heap_world.proofs.Unwritten.{unwritten_stays}
 use Rattle.heap_world.proofs.Marked.{markable_stays, marked_made}
 use Rattle.mark_bits.specs.Marks.{HasMark}
 use Rattle.heap_world.proofs.Evacuated.{evacuated_made}
+use Rattle.heap_world.proofs.Updated.{updated_made}
 use Rattle.heap_world.proofs.Pieces.{piece_cases, object_reads}
 
 -- the references of a new object are null, and its numbers 0
@@ -163,12 +164,20 @@ module _ (c : Config) (top : ℕ → ℕ) (block : Plot) (address refs nums : �
 
   -- evacuation goes on, where the piece is not set aside, and is marked or was allocated since mark start
   pub evacuating_again : (phase cset evac claim free : ℕ) (tams heap black : ℕ → ℕ) (owner : ℕ → Option ℕ) (copying : ℕ → Bool) (working : ℕ → Option ℕ)
-      → (IsCollected c cset address → ⊥) → (phase ≡ 2 → HasMark c black address ⊎ IsYoung c tams address)
+      → (IsCollected c cset address → ⊥) → (2 ≤ phase → HasMark c black address ⊎ IsYoung c tams address)
       → IsEvacuating c phase cset evac claim free top tams heap black block owner copying working → IsEvacuating c phase cset evac claim free top tams heap black new_block owner copying working
   evacuating_again phase cset evac claim free tams heap black owner copying working outside known e =
       evacuated_made c phase cset evac claim free top tams heap black block owner copying working e new_block address refs nums name piece room long (updated_there block address (Some new_thing)) outside known elsewhere
       (λ a b is other. sym (updated_else block address (Some new_thing) a (λ e. other (sym e))) ∙ is)
       unnamed
+
+  -- updating goes on, where the piece is not set aside, and the references of the object are null
+  pub updating_again : (cset claim : ℕ) (limit heap : ℕ → ℕ) (scanning : ℕ → Option Scan) → (IsCollected c cset address → ⊥) → ((k : ℕ) → k < refs → heap (address + 3 + k) ≡ 0)
+      → IsUpdating c cset claim top limit heap block scanning → IsUpdating c cset claim top limit heap new_block scanning
+  updating_again cset claim limit heap scanning outside nulls e =
+      updated_made c cset claim top limit heap block scanning e new_block address refs nums name (updated_there block address (Some new_thing)) outside
+      (λ k below. IsCurrent.null (nulls k below)) things_stay
+      (λ a b is other. sym (updated_else block address (Some new_thing) a (λ e. other (sym e))) ∙ is)
 
   module _ (heap : ℕ → ℕ) (object : Name → Option Object) (objects : AreObjects heap block object) (fresh : (o : Object) → object name ≡ Some o → ⊥) (o : Object) where
     -- the objects of other names are as before

@@ -9,11 +9,12 @@ use Rattle.regions.specs.Sets.{IsIn}
 use Rattle.regions.proofs.PlaceLemmas.{regions_tile}
 use Rattle.shen_graph.specs.declared.name.Name.{Name}
 use Rattle.shen_graph.specs.Graph.{Object}
-use Rattle.heap_world.specs.World.{Block, thing, spent, hand, promised, filler, Plot, name_at, AreObjects, IsFreeWord, AreCurrent, IsRoom, AreRooms, IsParsable, HasContents, AreOwned, AreUnwritten, Snapshot, Scan, IsMarkable, IsYoung, KeepsSnapshot, IsEvacuating}
+use Rattle.heap_world.specs.World.{Block, thing, spent, hand, promised, filler, Plot, name_at, AreObjects, IsFreeWord, AreCurrent, IsRoom, AreRooms, IsParsable, HasContents, AreOwned, AreUnwritten, Snapshot, Scan, IsMarkable, IsYoung, KeepsSnapshot, IsEvacuating, IsUpdating}
 use Rattle.heap_world.proofs.Updates.{updated, updated_there, updated_else}
 use Rattle.heap_world.proofs.Unwritten.{unwritten_stays}
 use Rattle.heap_world.proofs.Marked.{markable_stays, marked_more}
 use Rattle.heap_world.proofs.Evacuated.{evacuated_more}
+use Rattle.heap_world.proofs.Updated.{updated_more}
 use Rattle.heap_world.proofs.Joined as joined
 use Rattle.heap_world.proofs.Joined.{CanJoin}
 use Rattle.heap_world.proofs.Pieces.{some_words, piece_cases, object_reads}
@@ -160,6 +161,10 @@ module _ (c : Config) (top current : ℕ → ℕ) (block : Plot) (region at word
       tops_rise
       (λ r is. updated_else top region (at + words) r (λ same. e.aside.nobodys region seat own (subst (λ r. IsIn cset r) (sym same) is)))
       stays old_or_new
+
+  -- updating goes on
+  pub updating_more : (cset claim : ℕ) (limit heap : ℕ → ℕ) (scanning : ℕ → Option Scan) → IsUpdating c cset claim top limit heap block scanning → IsUpdating c cset claim new_top limit heap new_block scanning
+  updating_more cset claim limit heap scanning e = updated_more c cset claim top limit heap block scanning e new_top new_block address (young_there limit e.limits) tops_rise stays old_or_new
 
   -- the words are those of the graph's objects
   objects_more : (heap : ℕ → ℕ) (object : Name → Option Object) → AreObjects heap block object → AreObjects heap new_block object

@@ -5,19 +5,21 @@ use Rattle.std.proofs.lemmas.Bool.{cases_Bool, cases_eq, cond-true, cond-false}
 use Rattle.std.proofs.lemmas.List.{length-set}
 use Rattle.std.proofs.lemmas.Option.{same_Some, slice_get_within, slice_get-get_or}
 use Rattle.heap_words.specs.declared.config.Config.{Config}
-use Rattle.heap_words.specs.Words.{Phase, Cset, Evac, Claim, Free, Grey, Black, Count, Buffer, Heap, Top, Tams, write}
+use Rattle.heap_words.specs.Words.{Phase, Cset, Evac, Claim, Free, Grey, Black, Count, Buffer, Heap, Top, Tams, Limit, write}
 use Rattle.heap_words.specs.Ranges.{seat_count}
 use Rattle.steps_base.proofs.Places.{slice_get-set_same, slice_get-set_other}
 use Rattle.shen_graph.specs.declared.name.Name.{Name}
 use Rattle.shen_graph.specs.Graph.{Reference, Object, Graph, same_name}
 use Rattle.shen_graph.proofs.PlainLemmas.{same_name-true, same_name-itself}
-use Rattle.heap_world.specs.World.{World, Block, thing, moved, spent, hand, promised, filler, words_of, Plot, Body, body_at, body_words, IsCollected, Points, TargetIn, IsPlotted, IsThing, AreObjects, IsMarkable, NeedsNoMarking, IsCovered, NotedIn, Shared}
+use Rattle.heap_world.specs.World.{World, Block, thing, moved, spent, hand, promised, filler, words_of, Plot, Body, body_at, body_words, IsCollected, Points, TargetIn, IsPlotted, IsThing, AreObjects, IsMarkable, IsCurrent, NeedsNoMarking, IsCovered, NotedIn, Shared}
 use Rattle.heap_world.specs.Rely.{Rely}
 use Rattle.heap_world.proofs.Updates.{updated, updated_same, updated_else}
 use Rattle.heap_world.proofs.Unwritten.{unwritten_stays}
 use Rattle.heap_world.proofs.Marked.{rely_marks, marked_stored}
 use Rattle.heap_world.proofs.Copies.{same_plot, rely_copies, not_quiet}
 use Rattle.heap_world.proofs.Evacuated.{evacuated_words}
+use Rattle.heap_world.proofs.Updated.{updated_stored}
+use Rattle.heap_world.proofs.Fields.{fields_stored}
 use Rattle.heap_world.proofs.Pointing.{body_piece}
 use Rattle.heap_world.proofs.Apart.{one_piece}
 use Rattle.heap_world.proofs.Pieces.{object_reads}
@@ -166,11 +168,27 @@ module _ (c : Config) (u : World) (a refs nums at value : ℕ) (name : Name) (o 
       (λ (other : at ≢ b + 3 + k). inl (updated_else (λ b. u.memory (Heap b)) at value (b + 3 + k) other))
       (cases_eq at (b + 3 + k))
 
-  -- what machines share, after a word of an object and the graph's object have changed. A field of the snapshot is covered.
-  pub shared_stored : a ≤ at → at < a + (3 + refs + nums) → ((i : ℕ) → i < refs → at ≡ a + 3 + i → IsCovered c u a i)
+  -- a field of an object stays, or it is the one that is stored, and then it is current
+  current_field : a ≤ at → at < a + (3 + refs + nums) → ((i : ℕ) → i < refs → at ≡ a + 3 + i → IsCurrent u.block value)
+      → (b more_refs more_nums k : ℕ) (n : Name) → u.block b ≡ Some (thing n more_refs more_nums) → k < more_refs
+      → (updated (λ b. u.memory (Heap b)) at value (b + 3 + k) ≡ u.memory (Heap (b + 3 + k))) ⊎ IsCurrent u.block (updated (λ b. u.memory (Heap b)) at value (b + 3 + k))
+  current_field from_start to_end current b more_refs more_nums k n is below = ⊎_elim
+      (λ (same : at ≡ b + 3 + k).
+      let same_piece : b ≡ a = one_piece c (λ r. u.memory (Top r)) u.block shared.parsable.plotted b a (b + 3 + k) (thing n more_refs more_nums) (thing name refs nums) is target.piece
+      (omega arith) (omega (arith, below)) (omega (arith, same, from_start)) (omega (arith, same, to_end)) in
+      let both : Some (thing n more_refs more_nums) ≡ Some (thing name refs nums) = sym is ∙ ap u.block same_piece ∙ target.piece in
+      let refs_are : more_refs ≡ refs = cc in
+      inr (subst (IsCurrent u.block) (sym (updated_same (λ b. u.memory (Heap b)) at value (b + 3 + k) same))
+      (current k (omega (arith, below, refs_are)) (omega (arith, same, same_piece)))))
+      (λ (other : at ≢ b + 3 + k). inl (updated_else (λ b. u.memory (Heap b)) at value (b + 3 + k) other))
+      (cases_eq at (b + 3 + k))
+
+  -- what machines share, after a word of an object and the graph's object have changed. A field of the snapshot is covered, and one that
+  -- is stored current.
+  pub shared_stored : a ≤ at → at < a + (3 + refs + nums) → ((i : ℕ) → i < refs → at ≡ a + 3 + i → IsCovered c u a i) → ((i : ℕ) → i < refs → at ≡ a + 3 + i → IsCurrent u.block value)
       → IsThing (updated (λ b. u.memory (Heap b)) at value) u.block a refs nums name o
       → Shared c (stored u at value (changed u.graph name o root))
-  shared_stored from_start to_end covered is = record {
+  shared_stored from_start to_end covered current is = record {
     parsable = shared.parsable;
     contents = record {
       objects = objects_stored c (λ r. u.memory (Top r)) (λ b. u.memory (Heap b)) u.block u.graph.object shared.parsable.plotted shared.contents.objects a refs nums at value name o target.piece from_start to_end is;
@@ -199,6 +217,8 @@ module _ (c : Config) (u : World) (a refs nums at value : ℕ) (name : Name) (o 
           else_stays from_start to_end b 2 (moved n more_refs more_nums to) is_old (λ differ. cc) (omega arith),
         ))
         (λ b words to is_old. let long = shared.parsable.spents b words to is_old in (head_stays from_start to_end b (spent words to) is_old (λ differ. cc) (omega (arith, long)), else_stays from_start to_end b 1 (spent words to) is_old (λ differ. cc) (omega (arith, long))));
+    updated = λ on. updated_stored c (u.memory Cset) (u.memory Claim) (λ r. u.memory (Top r)) (λ r. u.memory (Limit r)) (λ b. u.memory (Heap b)) u.block u.ghost.scanning (shared.updated on)
+        (updated (λ b. u.memory (Heap b)) at value) (current_field from_start to_end current);
   }
 
   -- the shape of an object stays
@@ -210,9 +230,9 @@ module _ (c : Config) (u : World) (a refs nums at value : ℕ) (name : Name) (o 
       else_stays from_start to_end b 1 (promised seat words) is (λ differ. cc) (let long = shared.parsable.promises b seat words is in omega (arith, long))
 
   -- and what another mutator relies on, if its roots are as before
-  pub rely_stored : a + 3 ≤ at → at < a + (3 + refs + nums) → (seat : ℕ) → ((i : ℕ) → root (seat + 1) i ≡ u.graph.root (seat + 1) i)
+  pub rely_stored : a + 3 ≤ at → at < a + (3 + refs + nums) → ((i : ℕ) → i < refs → at ≡ a + 3 + i → IsCurrent u.block value) → (seat : ℕ) → ((i : ℕ) → root (seat + 1) i ≡ u.graph.root (seat + 1) i)
       → Rely c seat u (stored u at value (changed u.graph name o root))
-  rely_stored behind to_end seat roots = let from_start : a ≤ at = omega (arith, behind) in record {
+  rely_stored behind to_end current seat roots = let from_start : a ≤ at = omega (arith, behind) in record {
     names = λ b n is. is;
     targets = λ b more_refs more_nums n has. record { piece = has.piece; safe = has.safe };
     hands = λ b words is. is;
@@ -241,4 +261,5 @@ module _ (c : Config) (u : World) (a refs nums at value : ℕ) (name : Name) (o 
         (shape_stays from_start to_end (λ same. omega (arith, same, behind)));
     copies = rely_copies c u (stored u at value (changed u.graph name o root)) seat (same_plot c u (stored u at value (changed u.graph name o root)) refl refl refl (λ r is. refl)) refl refl
         (λ b k x seated copies inside is least below. copy_words_stay from_start to_end b k x seat seated copies inside is below);
+    fields = fields_stored c u (stored u at value (changed u.graph name o root)) (λ r. refl) (λ r. refl) refl (λ b words is. is) (λ on. current_field from_start to_end current);
   }

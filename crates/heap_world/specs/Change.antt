@@ -2,7 +2,7 @@
 use Rattle.std.specs.Prelude.{ℕ, ◌≡◌, ◌+◌, ◌-◌, ◌*◌, ◌<◌, ◌≤◌, ◌==◌, ◌++◌, if◌then◌else◌, List, length, replicate, Some, sum_by}
 use Rattle.heap_words.specs.declared.config.Config.{Config}
 use Rattle.std.specs.Int.{bit_at}
-use Rattle.heap_words.specs.Words.{Word, Phase, Ask, image_start, table_words, view}
+use Rattle.heap_words.specs.Words.{Word, Phase, Claim, Ask, image_start, table_words, view}
 use Rattle.packing.specs.Tops.{sum_below}
 use Rattle.shen_graph.specs.declared.name.Name.{Name}
 use Rattle.shen_graph.specs.Graph.{Graph, named}

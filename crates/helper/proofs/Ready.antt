@@ -19,9 +19,13 @@ use Rattle.load_barrier.specs.declared.evac_spot.EvacSpot.TheVariants as evac
 use Rattle.load_barrier.specs.UnitRows as evacs
 use Rattle.load_barrier.specs.UnitFit as evac_fit
 use Rattle.load_barrier.proofs.Inside.{evacuation_inside}
+use Rattle.update_refs.specs.declared.spot.UpdateSpot.{UpdateSpot}
+use Rattle.update_refs.specs.declared.spot.UpdateSpot.TheVariants as update
+use Rattle.update_refs.specs.Rows as updates
+use Rattle.update_refs.proofs.Inside.{updating_inside}
 use Rattle.helper.specs.declared.spot.HelpSpot.{HelpSpot}
-use Rattle.helper.specs.declared.spot.HelpSpot.TheVariants.{LoadEnd, Entering, LoadPhase, LoadSet, Scanning, Evacuating, Leave, Gone}
-use Rattle.helper.specs.Rows.{touch_at, next_spot, after_enter, after_scan, after_evacuation}
+use Rattle.helper.specs.declared.spot.HelpSpot.TheVariants.{LoadEnd, Entering, LoadPhase, LoadSet, Scanning, Evacuating, Updating, Leave, Gone}
+use Rattle.helper.specs.Rows.{touch_at, next_spot, after_enter, after_scan, after_evacuation, after_updating, begins_unit}
 use Rattle.helper.specs.Ready.{spot_fits, UnitGoesOn, AccessesAreInside, StaysReady}
 
 -- of two spots
@@ -44,6 +48,16 @@ evacuates_on : (c : Config) (seat cset : ℕ) (at : EvacSpot) → evac_fit.is_re
 evacuates_on c seat cset (evac.Ended unit) ready = refl
 evacuates_on c seat cset _ ready = and_from _ _ ready refl
 
+-- where it goes on updating
+updates_on : (c : Config) (seat cset : ℕ) (at : UpdateSpot) → updates.is_ready c at ≡ true → spot_fits c seat (after_updating cset at) ≡ true
+updates_on c seat cset (update.Ended unit) ready = refl
+updates_on c seat cset _ ready = and_from _ _ ready refl
+
+-- where it begins with a unit
+begins_fit : (c : Config) (seat phase cset : ℕ) → spot_fits c seat (begins_unit phase cset) ≡ true
+begins_fit c seat phase cset = of_two c seat (phase == 1) (Scanning scan.LoadClaim) (if phase == 2 then Evacuating cset evac.LoadClaim else Updating cset update.LoadClaim) refl
+    (of_two c seat (phase == 2) (Evacuating cset evac.LoadClaim) (Updating cset update.LoadClaim) refl refl)
+
 pub spot_stays : (c : Config) (seat : ℕ) (spot : HelpSpot) (got : ℕ) → spot_fits c seat spot ≡ true → UnitGoesOn c seat spot got → spot_fits c seat (next_spot c spot got) ≡ true
 spot_stays c seat LoadEnd got fits goes = of_two c seat (got == 1) Gone (Entering enter.Raise) refl refl
 spot_stays c seat (Entering enter.Raise) got fits goes = refl
@@ -52,9 +66,10 @@ spot_stays c seat (Entering enter.Lower) got fits goes = refl
 spot_stays c seat (Entering enter.Await) got fits goes = enters_on c seat (got == 0) enter.Raise enter.Await refl refl
 spot_stays c seat (Entering enter.Inside) got fits goes = refl
 spot_stays c seat LoadPhase got fits goes = of_two c seat (got == 0) Leave (LoadSet got) refl refl
-spot_stays c seat (LoadSet phase) got fits goes = of_two c seat (phase == 1) (Scanning scan.LoadClaim) (Evacuating got evac.LoadClaim) refl refl
+spot_stays c seat (LoadSet phase) got fits goes = begins_fit c seat phase got
 spot_stays c seat (Scanning at) got fits goes = scans_on c seat (scans.next_at c at got) goes
 spot_stays c seat (Evacuating cset at) got fits goes = evacuates_on c seat cset (evacs.next_at c cset at got) goes.0
+spot_stays c seat (Updating cset at) got fits goes = updates_on c seat cset (updates.next_at c cset at got) goes
 spot_stays c seat Leave got fits goes = refl
 spot_stays c seat Gone got fits goes = refl
 
@@ -73,6 +88,7 @@ spot_inside c seat (Entering enter.Await) below fits = placed_inside c (touch_at
 spot_inside c seat (Entering enter.Inside) below fits = placed_inside c (touch_at c seat (Entering enter.Inside)) tt
 spot_inside c seat (Scanning at) below fits = search (arith, nat_tests)
 spot_inside c seat (Evacuating cset at) below fits = placed_inside c (touch_at c seat (Evacuating cset at)) (evacuation_inside c seat at (and_parts _ _ fits).0)
+spot_inside c seat (Updating cset at) below fits = placed_inside c (touch_at c seat (Updating cset at)) (updating_inside c at (and_parts _ _ fits).0)
 spot_inside c seat Leave below fits = placed_inside c (touch_at c seat Leave) below
 spot_inside c seat spot below fits = placed_inside c (touch_at c seat spot) tt
 

@@ -10,12 +10,16 @@ use handshake::{EnterSpot, leave_access};
 use heap_words::{Access, Config, Place, Took};
 use load_barrier::EvacSpot;
 use scan_steps::ScanSpot;
+use update_refs::UpdateSpot;
 
 // The phase in which there is no work for a helper.
 const IDLE: u64 = 0;
 
 // The phase in which objects are marked.
 const MARK: u64 = 1;
+
+// The phase in which they are copied.
+const EVAC: u64 = 2;
 
 /// Where a helper stands.
 #[derive(Clone, Copy, Debug, PartialEq, Eq)]
@@ -46,6 +50,13 @@ pub enum HelpSpot {
         /// Where the evacuation stands.
         at: EvacSpot,
     },
+    /// It claims a unit of updating and updates the references there.
+    Updating {
+        /// The collection set that it has loaded.
+        cset: u64,
+        /// Where the updating stands.
+        at: UpdateSpot,
+    },
     /// It leaves the heap.
     Leave,
     /// It has ended.
@@ -64,6 +75,7 @@ impl HelpSpot {
             HelpSpot::LoadSet { .. } => Place::CS,
             HelpSpot::Scanning { at } => at.place(),
             HelpSpot::Evacuating { at, .. } => at.place(),
+            HelpSpot::Updating { at, .. } => at.place(),
             HelpSpot::Leave => Place::LV,
         }
     }
@@ -96,6 +108,7 @@ impl HelpSpot {
             },
             HelpSpot::Scanning { at } => at.access(config),
             HelpSpot::Evacuating { at, .. } => at.access(config, seat),
+            HelpSpot::Updating { at, .. } => at.access(config),
             HelpSpot::Leave => leave_access(config, seat),
             HelpSpot::Gone => unreachable!(),
         }
@@ -131,6 +144,10 @@ impl HelpSpot {
                 let (next, said) = at.after(config, seat, cset, got);
                 (after_evacuation(cset, next), evacuating_says(at, said))
             }
+            HelpSpot::Updating { cset, at } => (
+                after_updating(cset, at.after(config, cset, got)),
+                updating_says(config, at, got),
+            ),
             HelpSpot::Leave => (HelpSpot::LoadEnd, Took::More),
             HelpSpot::Gone => (HelpSpot::Gone, Took::More),
         }
@@ -162,15 +179,18 @@ fn entering_says(at: EnterSpot, got: u64) -> Took
 fn begins_unit(phase: u64, cset: u64) -> HelpSpot
     ensures { result ≡ rows.begins_unit phase cset }
 {
-    if phase == MARK {
-        HelpSpot::Scanning {
+    match phase {
+        MARK => HelpSpot::Scanning {
             at: ScanSpot::LoadClaim,
-        }
-    } else {
-        HelpSpot::Evacuating {
+        },
+        EVAC => HelpSpot::Evacuating {
             cset,
             at: EvacSpot::LoadClaim,
-        }
+        },
+        _ => HelpSpot::Updating {
+            cset,
+            at: UpdateSpot::LoadClaim,
+        },
     }
 }
 
@@ -215,5 +235,27 @@ fn evacuating_says(at: EvacSpot, said: Took) -> Took
         (EvacSpot::LoadClaim, Took::Done) => Took::Again,
         (_, Took::Done) => Took::More,
         (_, said) => said,
+    }
+}
+
+// Once its unit is done, or none was left, it leaves.
+fn after_updating(cset: u64, at: UpdateSpot) -> HelpSpot
+    ensures { result ≡ rows.after_updating cset at }
+{
+    if at.is_ended() {
+        HelpSpot::Leave
+    } else {
+        HelpSpot::Updating { cset, at }
+    }
+}
+
+// It waits where no unit was left, or another machine has claimed the unit.
+fn updating_says(config: Config, at: UpdateSpot, got: u64) -> Took
+    ensures { result ≡ rows.updating_says config at got }
+{
+    match at {
+        UpdateSpot::LoadClaim if got >= config.regions() as u64 => Took::Again,
+        UpdateSpot::ClaimUnit { unit } if got != unit => Took::Again,
+        _ => Took::More,
     }
 }

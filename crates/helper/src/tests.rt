@@ -3,8 +3,9 @@ use heap_words::{Access, Config, Place, Took};
 use std::test::Fail;
 
 // In the smallest heap with one mutator and one helper the helper's seat is 1. Its state word is word 4, the phase is word 5, the
-// collection set word 6 and the claim word is word 9. There are 8 units of marking, and 4 of evacuation. The tops are the words
-// from 11 on, the black bits those from 57 on, and the heap begins at word 61, with address 64.
+// collection set word 6 and the claim word is word 9. There are 8 units of marking, and 4 of evacuation and of updating. The tops are
+// the words from 11 on, the tops at mark start those from 15 on, the limits those from 19 on, the black bits those from 57 on, and the
+// heap begins at word 61, with address 64.
 
 // A pause is wanted where it enters; then there is no work in phase 0; and then the control has ended.
 #[test]
@@ -110,6 +111,51 @@ fn evacuates_a_region(rt: HostRuntime) -> Result<(), Fail> {
     assert!(rt; helper.took(1) == Took::More);
     assert!(rt; helper.place() == Place::HL);
     assert!(rt; helper.took(803) == Took::More);
+    assert!(rt; helper.place() == Place::LV);
+    Ok(())
+}
+
+// In phase 3 it claims a unit of updating: region 1 is the collection set, and region 0 has one object with one reference, to the
+// object at address 128, which was copied to address 200.
+#[test]
+fn updates_a_region(rt: HostRuntime) -> Result<(), Fail> {
+    let config = Config::new(4, 64, 1, 1, 0)?;
+    let mut helper = Helper::new(config, 0);
+    assert!(rt; helper.took(0) == Took::More);
+    assert!(rt; helper.took(0) == Took::More);
+    assert!(rt; helper.took(0) == Took::More);
+    assert!(rt; helper.took(3) == Took::More);
+    assert!(rt; helper.place() == Place::CS);
+    assert!(rt; helper.took(2) == Took::More);
+    assert!(rt; helper.place() == Place::UC);
+    assert!(rt; helper.plan() == Access::Load { at: 9 });
+    assert!(rt; helper.took(0) == Took::More);
+    assert!(rt; helper.took(1) == Took::Again);
+    assert!(rt; helper.took(0) == Took::More);
+    assert!(rt; helper.took(0) == Took::More);
+    assert!(rt; helper.place() == Place::UL);
+    assert!(rt; helper.plan() == Access::Load { at: 19 });
+    assert!(rt; helper.took(4) == Took::More);
+    assert!(rt; helper.plan() == Access::Load { at: 15 });
+    assert!(rt; helper.took(4) == Took::More);
+    assert!(rt; helper.plan() == Access::Load { at: 62 });
+    assert!(rt; helper.took(65792) == Took::More);
+    assert!(rt; helper.plan() == Access::Load { at: 57 });
+    assert!(rt; helper.took(1) == Took::More);
+    assert!(rt; helper.plan() == Access::Load { at: 64 });
+    assert!(rt; helper.took(128) == Took::More);
+    assert!(rt; helper.plan() == Access::Load { at: 125 });
+    assert!(rt; helper.took(803) == Took::More);
+    assert!(rt; helper.place() == Place::UX);
+    assert!(rt;
+        helper.plan()
+            == Access::Exchange {
+                at: 64,
+                expect: 128,
+                value: 200
+            }
+    );
+    assert!(rt; helper.took(128) == Took::More);
     assert!(rt; helper.place() == Place::LV);
     Ok(())
 }

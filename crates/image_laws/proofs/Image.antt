@@ -74,6 +74,7 @@ module _ (c : Config) (memory : Word → ℕ) (block : Plot) (g : Graph) (now ke
     };
     marked = none_marked c _ _ _ _ _ _ _ _ _ _ _ refl;
     evacuated = none_evacuated c _ _ _ _ _ _ _ _ _ _ _ (λ on. omega (arith, on)) (no_moved new_block are_things) (no_spent new_block are_things) (λ seat inside. refl);
+    updated = λ on. absurd (omega (arith, on));
   }
 
   pub keeps_graph : KeepsGraph c memory block g now kept roots

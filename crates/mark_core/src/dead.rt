@@ -38,8 +38,8 @@ fn is_dead(image: &Image, region: usize) -> bool
     !has_black(image, region)
 }
 
-// Frees a region.
-fn free_region(image: &mut Image, region: usize)
+/// Frees a region: it is in the set of free regions besides, and no word of it is in use. Takes no memory.
+pub fn free_region(image: &mut Image, region: usize)
     requires { region < (config_of image.old).regions }
     ensures config { config_of image.new ≡ config_of image.old }
     ensures words { memory_of image.new ≡ freed_one region (memory_of image.old) }

@@ -1,4 +1,4 @@
-//! The pauses of marking over an image: its beginning, the closing of the marks, and its end.
+//! The pauses of marking over an image: its beginning, the closing of the marks, and its end. Freeing a region.
 #![tactic(auto)]
 
 mod begin;
@@ -12,7 +12,9 @@ mod trace;
 
 pub use begin::init_mark;
 pub use close::close_marks;
+pub use dead::free_region;
 pub use end::final_mark;
+pub use look::is_black;
 
 #[cfg(test)]
 mod tests;

@@ -21,6 +21,8 @@ use Rattle.image_laws.specs.Promised.{Promises}
 use Rattle.image_laws.proofs.Reached.{none_at_0, refs_read, words_read}
 use Rattle.image_laws.proofs.Roots.{root_among, answer_among}
 use Rattle.image_graph.specs.Holds.{HoldsBy}
+use Rattle.pause_laws.specs.ByCopies.{RepresentsByCopies}
+use Rattle.pause_laws.proofs.ByCopies.{by_copies}
 use Rattle.pause_laws.proofs.Promises.{promises_of}
 use Rattle.pause_laws.proofs.Before.{promised_at}
 use Rattle.pause_laws.proofs.Dead.{plain}
@@ -39,11 +41,15 @@ one_is true is = refl
 one_is false is = absurd (omega (arith, is))
 
 module _ (c : Config) (m : Word → ℕ) (g : Graph) (asking : ℕ → Asking) (r : Represents c m g asking) (rests : m Phase ≡ 0) where
+  -- the same words by copies
+  abbrev copies : RepresentsByCopies c m g asking
+  copies = by_copies c m g asking r
+
   abbrev n : Word → ℕ
   n = init_marked c m
 
   calm : m Cset ≡ 0
-  calm = r.shared.phased.cset_is (λ evacuates. omega (arith, rests, evacuates))
+  calm = r.shared.phased.cset_is (omega (arith, rests))
 
   no_copier : m Evac ≡ 0
   no_copier = r.shared.phased.evac_is (λ evacuates. omega (arith, rests, evacuates))
@@ -58,7 +64,7 @@ module _ (c : Config) (m : Word → ℕ) (g : Graph) (asking : ℕ → Asking) (
   p = promises_of c g asking
 
   abbrev before : Plot
-  before = plain c m g asking r
+  before = plain c m g asking copies
 
   abbrev found : ℕ → Bool
   found = has (held_in c m)
@@ -67,7 +73,7 @@ module _ (c : Config) (m : Word → ℕ) (g : Graph) (asking : ℕ → Asking) (
   plot = pruned found r.block
 
   holds : HoldsBy c m before r.ghost.owner p g
-  holds = holds_by c m g asking r
+  holds = holds_by c m g asking copies
 
   -- what a root word names, or a field of what can be reached, can be reached
   root_led : (word : ℕ) → IsAmong (root_words c m) word → word ≢ 0 → IsReachable c m word
@@ -80,7 +86,7 @@ module _ (c : Config) (m : Word → ℕ) (g : Graph) (asking : ℕ → Asking) (
   name_stays : (word : ℕ) (f : Name) → IsReachable c m word → name_at (r.block word) ≡ Some f → name_at (plot word) ≡ Some f
   name_stays word f held is =
       let piece = thing_at c m g asking r calm word f is in
-      ap name_at (thing_stays found r.block word piece.0 piece.1 f (held_found c m g asking r word held) piece.2)
+      ap name_at (thing_stays found r.block word piece.0 piece.1 f (held_found c m g asking copies word held) piece.2)
 
   points_again : (word : ℕ) (reference : Reference) → (word ≢ 0 → IsReachable c m word) → Points r.block word reference → Points plot word reference
   points_again word None led points = points
@@ -115,7 +121,7 @@ module _ (c : Config) (m : Word → ℕ) (g : Graph) (asking : ℕ → Asking) (
     each = λ a refs nums name is.
         let was = thing_was found r.block a refs nums name is in
         let o = r.shared.contents.objects.each a refs nums name was.0 in
-        (o.0, o.1, thing_again a refs nums name o.0 (found_held c m g asking r a was.1) o.2);
+        (o.0, o.1, thing_again a refs nums name o.0 (found_held c m g asking copies a was.1) o.2);
     once = λ a b refs nums more_refs more_nums name is_a is_b.
         r.shared.contents.objects.once a b refs nums more_refs more_nums name (thing_was found r.block a refs nums name is_a).0 (thing_was found r.block b more_refs more_nums name is_b).0;
   }
@@ -163,7 +169,7 @@ module _ (c : Config) (m : Word → ℕ) (g : Graph) (asking : ℕ → Asking) (
   led_on a i (IsMarkable.object name refs nums is) held led few some =
       let o = r.shared.contents.objects.each a refs nums name is in
       let shape : refs_in (heap (a + 1)) ≡ refs = ap refs_in o.2.shape ∙ refs_read refs nums o.2.few_refs o.2.few_nums in
-      IsLed.by_field a refs nums i name led (thing_stays found r.block a refs nums name (held_found c m g asking r a held) is) (omega (arith, few, shape)) some
+      IsLed.by_field a refs nums i name led (thing_stays found r.block a refs nums name (held_found c m g asking copies a held) is) (omega (arith, few, shape)) some
   led_on a i (IsMarkable.to_come seat words is) held led few some =
       let blank = r.shared.unwritten.blanks a seat words is in
       let shape : refs_in (heap (a + 1)) ≡ blank.refs = ap refs_in blank.shape ∙ refs_read blank.refs blank.nums blank.few_refs blank.few_nums in
@@ -177,7 +183,7 @@ module _ (c : Config) (m : Word → ℕ) (g : Graph) (asking : ℕ → Asking) (
   -- an answer names what is promised
   promise_first : (a seat words : ℕ) → r.block a ≡ Some (promised seat words) → first a ≡ true
   promise_first a seat words is =
-      let at = promised_at c m g asking r a seat words is in
+      let at = promised_at c m g asking copies a seat words is in
       let asked : IsAsked m r.block g.count seat (given at.refs at.nums) = subst (λ x. IsAsked m r.block g.count seat x) at.is_given (r.asked seat at.inside) in
       let same : a ≡ m (Answer seat) = asked.2.only a words is in
       let among = answer_among c top m before g p holds.objects.plotted holds.rooted seat at.inside asked.1 in
@@ -192,7 +198,7 @@ module _ (c : Config) (m : Word → ℕ) (g : Graph) (asking : ℕ → Asking) (
 
   -- and nothing else
   markable_again : (a : ℕ) → IsReachable c m a → IsMarkable r.block a → IsMarkable plot a
-  markable_again a held (IsMarkable.object name refs nums is) = IsMarkable.object name refs nums (thing_stays found r.block a refs nums name (held_found c m g asking r a held) is)
+  markable_again a held (IsMarkable.object name refs nums is) = IsMarkable.object name refs nums (thing_stays found r.block a refs nums name (held_found c m g asking copies a held) is)
   markable_again a held (IsMarkable.to_come seat words is) = IsMarkable.to_come seat words (promised_stays found r.block a seat words is)
 
   greys_are : AreMarks c (λ q. n (Grey q)) plot
@@ -214,7 +220,7 @@ module _ (c : Config) (m : Word → ℕ) (g : Graph) (asking : ℕ → Asking) (
       edges = λ a refs nums k name is below. IsTracedAt.stands refl (IsToScan.is_white (bit_at-zero (mark_bit c a)));
       starts = first_noted;
     };
-    led = λ a refs nums name is. led a (found_held c m g asking r a (thing_was found r.block a refs nums name is).1);
+    led = λ a refs nums name is. led a (found_held c m g asking copies a (thing_was found r.block a refs nums name is).1);
     old = λ a refs nums name is. none_young a (thing name refs nums) is;
     kept = λ a refs nums name is. is;
     older = λ on a refs nums name is. inl is;
@@ -270,6 +276,7 @@ module _ (c : Config) (m : Word → ℕ) (g : Graph) (asking : ℕ → Asking) (
           (subst (λ count. IsEvacuating c 1 0 count 0 (m Free) top top heap (λ q. 0) plot ghost.owner ghost.copying ghost.working) (sym no_copier)
           (none_evacuated c 1 0 (m Free) top top heap (λ q. 0) plot ghost.owner ghost.copying ghost.working (λ on. omega (arith, on)) still_unmoved
           (λ a words to is. no_spent c m g asking r calm a words to (spent_was found r.block a words to is)) r.uncopying.copies_none));
+      updated = λ on. absurd (omega (arith, on));
     };
     roots = roots_again;
     usable = roots_usable;

@@ -17,6 +17,8 @@ use Rattle.heap_world.proofs.Pointing.{piece_inside, named_thing, named_if_not_0
 use Rattle.heap_world.proofs.Pieces.{some_words}
 use Rattle.heap_world.proofs.Copies.{none_in_0}
 use Rattle.image_laws.proofs.Reached.{refs_read}
+use Rattle.pause_laws.specs.ByCopies.{RepresentsByCopies}
+use Rattle.pause_laws.proofs.ByCopies.{by_copies}
 use Rattle.pause_laws.proofs.Before.{live, live_at, object_at}
 use Rattle.pause_laws.proofs.Current.{Kind, is_current, is_old, kind_at, held_current}
 use Rattle.pause_laws.proofs.Dead.{plain, IsPlain, is_live, is_dead, plain_at, plain_live}
@@ -38,6 +40,10 @@ is_mark c marks a high is =
 
 -- While there is no collection set, nothing has moved.
 module _ (c : Config) (m : Word → ℕ) (g : Graph) (asking : ℕ → Asking) (r : Represents c m g asking) (calm : m Cset ≡ 0) where
+  -- the same words by copies
+  abbrev copies : RepresentsByCopies c m g asking
+  copies = by_copies c m g asking r
+
   abbrev heap : ℕ → ℕ
   heap a = m (Heap a)
 
@@ -71,16 +77,16 @@ module _ (c : Config) (m : Word → ℕ) (g : Graph) (asking : ℕ → Asking) (
   markable_piece a (IsMarkable.to_come seat words is) = (promised seat words, is)
 
   -- what is an object of the larger graph can be marked
-  pub live_markable : (a refs nums : ℕ) (name : Name) → live c m g asking r a ≡ Some (thing name refs nums) → IsMarkable r.block a
-  live_markable a refs nums name is = by_kind (kind_at c m g asking r a refs nums name is)
+  pub live_markable : (a refs nums : ℕ) (name : Name) → live c m g asking copies a ≡ Some (thing name refs nums) → IsMarkable r.block a
+  live_markable a refs nums name is = by_kind (kind_at c m g asking copies a refs nums name is)
     where
-      by_kind : Kind c m g asking r a refs nums name → IsMarkable r.block a
+      by_kind : Kind c m g asking copies a refs nums name → IsMarkable r.block a
       by_kind (is_current now) = now
       by_kind (is_old to was) = absurd (uncollected a was.inside)
 
   -- what roots and answers lead to can be marked
   pub reached_markable : (a : ℕ) → IsReachable c m a → IsMarkable r.block a
-  reached_markable a held = held_current c m g asking r a held
+  reached_markable a held = held_current c m g asking copies a held
 
   -- and so can what its fields name
   pub field_markable : (a i : ℕ) → IsMarkable r.block a → i < refs_in (heap (a + 1)) → heap (a + 3 + i) ≢ 0 → IsMarkable r.block (heap (a + 3 + i))
@@ -98,14 +104,14 @@ module _ (c : Config) (m : Word → ℕ) (g : Graph) (asking : ℕ → Asking) (
       absurd (some (blank.nulls i (omega (arith, few, shape))))
 
   -- and it is an object
-  is_object : (a refs nums : ℕ) (name : Name) → IsMarkable r.block a → live c m g asking r a ≡ Some (thing name refs nums) → IsObjectAt m (plain c m g asking r) a
+  is_object : (a refs nums : ℕ) (name : Name) → IsMarkable r.block a → live c m g asking copies a ≡ Some (thing name refs nums) → IsObjectAt m (plain c m g asking copies) a
   is_object a refs nums name now is =
-      let o = object_at c m g asking r a refs nums name now is in
-      record { name = name; refs = refs; nums = nums; here = plain_live c m g asking r a refs nums name is; shape = o.2.shape; few_refs = o.2.few_refs; few_nums = o.2.few_nums }
+      let o = object_at c m g asking copies a refs nums name now is in
+      record { name = name; refs = refs; nums = nums; here = plain_live c m g asking copies a refs nums name is; shape = o.2.shape; few_refs = o.2.few_refs; few_nums = o.2.few_nums }
 
-  pub markable_object : (a : ℕ) → IsMarkable r.block a → IsObjectAt m (plain c m g asking r) a
-  markable_object a (IsMarkable.object name refs nums is) = is_object a refs nums name (IsMarkable.object name refs nums is) (live_at c m g asking r a (thing name refs nums) is)
-  markable_object a (IsMarkable.to_come seat words is) = is_object a _ _ _ (IsMarkable.to_come seat words is) (live_at c m g asking r a (promised seat words) is)
+  pub markable_object : (a : ℕ) → IsMarkable r.block a → IsObjectAt m (plain c m g asking copies) a
+  markable_object a (IsMarkable.object name refs nums is) = is_object a refs nums name (IsMarkable.object name refs nums is) (live_at c m g asking copies a (thing name refs nums) is)
+  markable_object a (IsMarkable.to_come seat words is) = is_object a _ _ _ (IsMarkable.to_come seat words is) (live_at c m g asking copies a (promised seat words) is)
 
   module _ (on : m Phase ≡ 1) where
     abbrev s : Snapshot
@@ -202,23 +208,23 @@ module _ (c : Config) (m : Word → ℕ) (g : Graph) (asking : ℕ → Asking) (
     markable_safe a (IsMarkable.to_come seat words is) = noted_safe a (piece_above a (promised seat words) is) (r.shared.marked.traced.starts a (r.shared.marked.promises on a seat words is))
 
     -- what is kept does not only fill
-    new_markable : (a refs nums : ℕ) (name : Name) → IsPlain c m g asking r a refs nums name → IsNew c m a → IsMarkable r.block a
+    new_markable : (a refs nums : ℕ) (name : Name) → IsPlain c m g asking copies a refs nums name → IsNew c m a → IsMarkable r.block a
     new_markable a refs nums name (is_live is) fresh = live_markable a refs nums name is
     new_markable a refs nums name (is_dead words is) fresh = absurd (r.shared.marked.fillers on a words is (new_young a (filler words) is fresh))
 
-    kept_markable : (a refs nums : ℕ) (name : Name) → plain c m g asking r a ≡ Some (thing name refs nums) → IsKept c m a → IsMarkable r.block a
+    kept_markable : (a refs nums : ℕ) (name : Name) → plain c m g asking copies a ≡ Some (thing name refs nums) → IsKept c m a → IsMarkable r.block a
     kept_markable a refs nums name is = ⊎_elim
         (λ (black : is_black c m a ≡ true). black_markable a black)
-        (λ (fresh : IsNew c m a). new_markable a refs nums name (plain_at c m g asking r a refs nums name is) fresh)
+        (λ (fresh : IsNew c m a). new_markable a refs nums name (plain_at c m g asking copies a refs nums name is) fresh)
 
-    pub followed : (a : ℕ) → IsFollowed c m (plain c m g asking r) a → IsMarkable r.block a
+    pub followed : (a : ℕ) → IsFollowed c m (plain c m g asking copies) a → IsMarkable r.block a
     followed _ (from_grey a is) = grey_markable a is
     followed _ (from_black a is) = black_markable a is
     followed _ (from_entry a is) = entry_markable a is
     followed _ (from_new a name refs nums is fresh) = kept_markable a refs nums name is (inr fresh)
     followed _ (from_field a i before few some) = field_markable a i (followed a before) few some
 
-    pub is_marking : IsMarking c m (plain c m g asking r)
+    pub is_marking : IsMarking c m (plain c m g asking copies)
     is_marking = record {
       reachable = λ a held. markable_safe a (reached_markable a held);
       fields = λ a i is kept few some. markable_safe (heap (a + 3 + i)) (field_markable a i (kept_markable a is.refs is.nums is.name is.here kept) few some);

@@ -1,41 +1,37 @@
 -- The end of marking: each object is marked or new, so none lies in a dead region, and the words stand for the same graph.
-use Rattle.std.proofs.Common.{◌≡◌, ℕ, ◌+◌, ◌<◌, ◌≤◌, ◌⊎◌, max, Bool, true, false, Option, Some, None, inl, inr, ⊎_elim, refl, sym, ap, ◌∙◌, arith}
+use Rattle.std.proofs.Common.{◌≡◌, ℕ, ◌+◌, ◌<◌, ◌≤◌, ◌⊎◌, Bool, true, false, Option, Some, None, inl, inr, ⊎_elim, refl, sym, ap, ◌∙◌, arith}
 use Rattle.std.specs.Prelude.{if◌then◌else◌}
-use Rattle.std.specs.Int.{bit_at}
 use Rattle.std.proofs.lemmas.Bool.{cond-true, cond-false, cases_Bool, cases_lt, true≢false}
-use Rattle.std.proofs.lemmas.Nat.{or_lt}
-use Rattle.std.proofs.lemmas.Nat.Bits.{bit_at_or}
 use Rattle.std.proofs.lemmas.Option.{none-some}
 use Rattle.heap_words.specs.declared.config.Config.{Config}
 use Rattle.heap_words.specs.Ranges.{seat_count}
 use Rattle.heap_words.specs.Words.{Word, Phase, Cset, Free, Top, Tams, Current, Root, Black, Heap}
-use Rattle.regions.specs.Place.{base_of, region_with}
-use Rattle.regions.specs.Sets.{IsIn}
-use Rattle.regions.proofs.PlaceLemmas.{regions_tile}
+use Rattle.regions.specs.Place.{region_with}
 use Rattle.shen_graph.specs.declared.name.Name.{Name}
 use Rattle.shen_graph.specs.Graph.{Graph}
-use Rattle.heap_world.specs.World.{Block, thing, moved, spent, hand, promised, filler, words_of, Plot, Ghost, no_snapshot, name_at, IsInUse, IsPlotted, IsFilled, AreObjects, IsFreeWord, AreCurrent, IsMarkable, IsYoung}
+use Rattle.heap_world.specs.World.{Block, thing, moved, spent, hand, promised, filler, Plot, Ghost, no_snapshot, name_at, AreObjects, IsFreeWord, AreCurrent, AreRooms, IsMarkable, IsYoung}
 use Rattle.heap_world.specs.Asking.{Asking, IsAsked}
 use Rattle.heap_world.specs.Represents.{Represents}
-use Rattle.heap_world.proofs.Pieces.{some_words, object_reads}
+use Rattle.heap_world.proofs.Pieces.{object_reads}
 use Rattle.heap_world.proofs.Keeping.{points_stay}
 use Rattle.mark_bits.specs.Marks.{HasMark}
 use Rattle.image_laws.specs.Promised.{Promises}
 use Rattle.image_graph.specs.Holds.{HoldsBy}
 use Rattle.image_graph.specs.State.{IsSomeSeats}
+use Rattle.pause_laws.specs.ByCopies.{RepresentsByCopies}
+use Rattle.pause_laws.proofs.ByCopies.{by_copies}
 use Rattle.pause_laws.proofs.Promises.{promises_of}
 use Rattle.pause_laws.proofs.Dead.{plain}
 use Rattle.pause_laws.proofs.Holding.{holds_by}
-use Rattle.mark_laws.specs.Marks.{is_black, bits_of, IsNew, IsKept}
+use Rattle.mark_laws.specs.Marks.{is_black, IsNew, IsKept}
 use Rattle.mark_laws.specs.Close.{IsTraced, closed}
 use Rattle.mark_laws.specs.Final.{is_current, IsDead, dead_in, freed_block, freed_owner, final_marked}
 use Rattle.mark_laws.specs.Facts.{IsMarking}
 use Rattle.mark_laws.specs.Laws.{HasNoMoreSeats}
-use Rattle.mark_laws.proofs.Bits.{one, bits_small, bits_at}
 use Rattle.mark_laws.proofs.Closed.{are_closed, followed as traced_followed, safe_kept}
 use Rattle.mark_laws.proofs.Dead.{current_is, is_current_of, dead_is_dead}
-use Rattle.mark_laws.proofs.Plain.{below_top}
 use Rattle.mark_pauses.proofs.Asked.{asked_stays}
+use Rattle.mark_pauses.proofs.Freed as freed
 use Rattle.mark_pauses.proofs.Chains.{mark_is, is_mark, no_moved, no_spent, thing_at, piece_below, markable_piece, black_markable, markable_safe, followed, is_marking}
 use Rattle.mark_pauses.specs.MarkedOut.{IsMarkedOut}
 
@@ -45,20 +41,24 @@ none_if true o is = is
 none_if false o is = refl
 
 module _ (c : Config) (m : Word → ℕ) (g : Graph) (asking : ℕ → Asking) (r : Represents c m g asking) (on : m Phase ≡ 1) where
+  -- the same words by copies
+  abbrev copies : RepresentsByCopies c m g asking
+  copies = by_copies c m g asking r
+
   abbrev n : Word → ℕ
   n = final_marked c m
 
   calm : m Cset ≡ 0
-  calm = r.shared.phased.cset_is (λ evacuates. omega (arith, on, evacuates))
+  calm = r.shared.phased.cset_is (omega (arith, on))
 
   abbrev p : Promises
   p = promises_of c g asking
 
   abbrev old : Plot
-  old = plain c m g asking r
+  old = plain c m g asking copies
 
   holds : HoldsBy c m old r.ghost.owner p g
-  holds = holds_by c m g asking r
+  holds = holds_by c m g asking copies
 
   marking : IsMarking c m old
   marking = is_marking c m g asking r calm on
@@ -88,15 +88,16 @@ module _ (c : Config) (m : Word → ℕ) (g : Graph) (asking : ℕ → Asking) (
       (λ (other : out (region_with c a) ≡ false). other)
       (cases_Bool (out (region_with c a)))
 
+  -- the dead regions are freed of pieces that lie apart
+  rooms : AreRooms c (λ q. m (Top q)) (λ s. m (Current s)) r.block
+  rooms = r.shared.owned.rooms
+
   -- a piece that is left, and one of a region that is not dead
   left : (a : ℕ) (b : Block) → plot a ≡ Some b → (out (region_with c a) ≡ false) × (r.block a ≡ Some b)
-  left a b is = ⊎_elim
-      (λ (dead : out (region_with c a) ≡ true). let none : Option Block = None in absurd (none-some b (sym (cond-true (out (region_with c a)) none (r.block a) dead) ∙ is)))
-      (λ (other : out (region_with c a) ≡ false). let none : Option Block = None in (other, sym (cond-false (out (region_with c a)) none (r.block a) other) ∙ is))
-      (cases_Bool (out (region_with c a)))
+  left = freed.left c out (closed c m) r.block r.shared.parsable rooms
 
   stays : (a : ℕ) → out (region_with c a) ≡ false → plot a ≡ r.block a
-  stays a other = let none : Option Block = None in cond-false (out (region_with c a)) none (r.block a) other
+  stays = freed.stays c out (closed c m) r.block r.shared.parsable rooms
 
   thing_stays : (a refs nums : ℕ) (name : Name) → r.block a ≡ Some (thing name refs nums) → plot a ≡ Some (thing name refs nums)
   thing_stays a refs nums name is = stays a (alive a (IsMarkable.object name refs nums is)) ∙ is
@@ -107,56 +108,8 @@ module _ (c : Config) (m : Word → ℕ) (g : Graph) (asking : ℕ → Asking) (
   names_stay : (a : ℕ) (name : Name) → name_at (r.block a) ≡ Some name → name_at (plot a) ≡ Some name
   names_stay a name is = let piece = thing_at c m g asking r calm a name is in ap name_at (thing_stays a piece.0 piece.1 name piece.2)
 
-  -- tops afterwards
-  top_out : (q : ℕ) → out q ≡ true → n (Top q) ≡ 0
-  top_out q dead = cond-true (out q) 0 (m (Top q)) dead
-
   top_stays : (q : ℕ) → out q ≡ false → n (Top q) ≡ m (Top q)
-  top_stays q other = cond-false (out q) 0 (m (Top q)) other
-
-  top_less : (q : ℕ) → n (Top q) ≤ m (Top q)
-  top_less q = ⊎_elim
-      (λ (dead : out q ≡ true). omega (arith, top_out q dead))
-      (λ (other : out q ≡ false). omega (arith, top_stays q other))
-      (cases_Bool (out q))
-
-  in_use_again : (a : ℕ) (b : Block) → plot a ≡ Some b → IsInUse c (λ q. n (Top q)) a (words_of b)
-  in_use_again a b is =
-      let was = left a b is in
-      let some = some_words c (λ q. m (Top q)) (λ s. m (Current s)) r.block r.shared.parsable r.shared.owned.rooms a b was.1 in
-      let at = below_top c (λ q. m (Top q)) r.block r.shared.parsable.plotted a b was.1 (omega (arith, some)) in
-      record { region = region_with c a; within = at.0; from_base = at.1; to_top = (let same = top_stays (region_with c a) was.0 in omega (arith, at.2, same)) }
-
-  plotted_again : IsPlotted c (λ q. n (Top q)) plot
-  plotted_again = record {
-    tops = λ q inside. (let most = r.shared.parsable.plotted.tops q inside in omega (arith, most, top_less q));
-    in_use = in_use_again;
-    apart = λ a b x y is_x is_y before. r.shared.parsable.plotted.apart a b x y (left a x is_x).1 (left b y is_y).1 before;
-  }
-
-  -- an address below the top of a region is of it
-  of_region : (q a : ℕ) → q < c.regions → base_of c q ≤ a → a < base_of c q + n (Top q) → (out q ≡ false) × (plot a ≡ r.block a) × (a < base_of c q + m (Top q))
-  of_region q a inside from below = ⊎_elim
-      (λ (dead : out q ≡ true). absurd (omega (arith, top_out q dead, from, below)))
-      (λ (other : out q ≡ false).
-      let less = top_less q in
-      let most = r.shared.parsable.plotted.tops q inside in
-      let same : region_with c a ≡ q = regions_tile.of_no_other c q a (record { from = from; before = omega (arith, below, less, most) }) in
-      (other, stays a (ap out same ∙ other), omega (arith, below, less)))
-      (cases_Bool (out q))
-
-  there : (a : ℕ) → plot a ≡ r.block a → (b : Block) × (r.block a ≡ Some b) → (b : Block) × (plot a ≡ Some b)
-  there a same was = (was.0, same ∙ was.1)
-
-  filled_again : IsFilled c (λ q. n (Top q)) plot
-  filled_again = record {
-    first = λ q inside used.
-        let at = of_region q (base_of c q) inside (omega arith) (omega (arith, used)) in
-        there (base_of c q) at.1 (r.shared.parsable.filled.first q inside (omega (arith, at.2)));
-    next = λ q a x inside from is below.
-        let at = of_region q (a + words_of x) inside (omega (arith, from)) below in
-        there (a + words_of x) at.1 (r.shared.parsable.filled.next q a x inside from (left a x is).1 at.2);
-  }
+  top_stays = freed.top_stays c out (closed c m)
 
   objects_again : AreObjects (λ a. m (Heap a)) plot g.object
   objects_again = record {
@@ -166,17 +119,6 @@ module _ (c : Config) (m : Word → ℕ) (g : Graph) (asking : ℕ → Asking) (
     once = λ a b refs nums more_refs more_nums name is_a is_b.
         r.shared.contents.objects.once a b refs nums more_refs more_nums name (left a (thing name refs nums) is_a).1 (left b (thing name more_refs more_nums) is_b).1;
   }
-
-  -- a region is free where it was or where it is dead
-  free_bit : (q : ℕ) → q < c.regions → bit_at (n Free) q ≡ max (bit_at (m Free) q) (one (out q))
-  free_bit q inside =
-      let same : 0 + q ≡ q = omega arith in
-      bit_at_or (m Free) (bits_of out 0 c.regions) q ∙ ap (max (bit_at (m Free) q)) (bits_at out 0 c.regions q inside ∙ ap (λ k. one (out k)) same)
-
-  was_free : (q : ℕ) → q < c.regions → out q ≡ false → IsIn (n Free) q → IsIn (m Free) q
-  was_free q inside other is =
-      let bit : bit_at (n Free) q ≡ max (bit_at (m Free) q) 0 = free_bit q inside ∙ ap (λ b. max (bit_at (m Free) q) (one b)) other in
-      omega (arith, bit, is)
 
   -- a region is owned where it is some seat's current one
   abbrev owner : ℕ → Option ℕ
@@ -188,21 +130,18 @@ module _ (c : Config) (m : Word → ℕ) (g : Graph) (asking : ℕ → Asking) (
   owner_stays : (q : ℕ) → out q ≡ false → freed_owner out r.ghost.owner q ≡ r.ghost.owner q
   owner_stays q other = let none : Option ℕ = None in cond-false (out q) none (r.ghost.owner q) other
 
+  owner_none : (q : ℕ) → r.ghost.owner q ≡ None → freed_owner out r.ghost.owner q ≡ None
+  owner_none q none = ⊎_elim
+      (λ (dead : out q ≡ true). owner_out q dead)
+      (λ (other : out q ≡ false). owner_stays q other ∙ none)
+      (cases_Bool (out q))
+
   none_owns : (q : ℕ) → freed_owner out r.ghost.owner q ≡ None → owner q ≡ None
   none_owns q none = none_if (is_current c m q) (freed_owner out r.ghost.owner q) none
 
   free_again : IsFreeWord c (n Free) (λ q. n (Top q)) owner
-  free_again = record {
-    no_more = or_lt c.regions (m Free) (bits_of out 0 c.regions) r.shared.owned.free_word.no_more (bits_small out 0 c.regions);
-    empty = λ q inside is. ⊎_elim
-        (λ (dead : out q ≡ true). top_out q dead)
-        (λ (other : out q ≡ false). top_stays q other ∙ r.shared.owned.free_word.empty q inside (was_free q inside other is))
-        (cases_Bool (out q));
-    nobodys = λ q inside is. ⊎_elim
-        (λ (dead : out q ≡ true). none_owns q (owner_out q dead))
-        (λ (other : out q ≡ false). none_owns q (owner_stays q other ∙ r.shared.owned.free_word.nobodys q inside (was_free q inside other is)))
-        (cases_Bool (out q));
-  }
+  free_again =
+      freed.free_again c out (closed c m) r.block r.shared.parsable rooms r.ghost.owner owner r.shared.owned.free_word (λ q dead. none_owns q (owner_out q dead)) (λ q none. none_owns q (owner_none q none))
 
   -- nobody's current region is dead
   module _ (no_more : HasNoMoreSeats c m) where
@@ -239,7 +178,7 @@ module _ (c : Config) (m : Word → ℕ) (g : Graph) (asking : ℕ → Asking) (
 
   -- What is marked then is an object, and each object is marked or new.
   tams_stays : (q : ℕ) → out q ≡ false → n (Tams q) ≡ m (Tams q)
-  tams_stays q other = cond-false (out q) 0 (m (Tams q)) other
+  tams_stays = freed.tams_stays c out (closed c m)
 
   was_markable : (a : ℕ) → IsMarkable plot a → IsMarkable r.block a
   was_markable a (IsMarkable.object name refs nums is) = IsMarkable.object name refs nums (left a (thing name refs nums) is).1
@@ -267,7 +206,7 @@ module _ (c : Config) (m : Word → ℕ) (g : Graph) (asking : ℕ → Asking) (
 
   floors_again : (q : ℕ) → q < c.regions → n (Tams q) ≤ n (Top q)
   floors_again q inside = ⊎_elim
-      (λ (dead : out q ≡ true). (let none = cond-true (out q) 0 (m (Tams q)) dead in omega (arith, none)))
+      (λ (dead : out q ≡ true). (let none = freed.tams_out c out (closed c m) q dead in omega (arith, none)))
       (λ (other : out q ≡ false).
       let top = top_stays q other in
       let tams = tams_stays q other in
@@ -275,6 +214,15 @@ module _ (c : Config) (m : Word → ℕ) (g : Graph) (asking : ℕ → Asking) (
       let floor = r.shared.marked.floors q inside in
       omega (arith, top, tams, same, floor))
       (cases_Bool (out q))
+
+  -- words that only fill lie below the tops at mark start
+  fillers_again : (a words : ℕ) → plot a ≡ Some (filler words) → IsYoung c (λ q. n (Tams q)) a → ⊥
+  fillers_again a words is young =
+      let was = left a (filler words) is in
+      let at = piece_below c m g asking r calm a (filler words) was.1 in
+      let tams = tams_stays (region_with c a) was.0 in
+      let same = r.shared.marked.tams_are on (region_with c a) at.0 in
+      r.shared.marked.fillers on a words was.1 (omega (arith, young, tams, same))
 
   -- what is asked and promised stays
   asked_again : (t : ℕ) → IsAsked m r.block g.count t (asking t) → IsAsked n plot g.count t (asking t)
@@ -296,13 +244,7 @@ module _ (c : Config) (m : Word → ℕ) (g : Graph) (asking : ℕ → Asking) (
     phase_is = on;
     cset_is = calm;
     evac_is = r.shared.phased.evac_is (λ evacuates. omega (arith, on, evacuates));
-    parsable = record {
-      plotted = plotted_again;
-      filled = filled_again;
-      promises = λ a seat words is. r.shared.parsable.promises a seat words (left a (promised seat words) is).1;
-      fillers = λ a words is. r.shared.parsable.fillers a words (left a (filler words) is).1;
-      spents = λ a words to is. r.shared.parsable.spents a words to (left a (spent words to) is).1;
-    };
+    parsable = freed.parsable_again c out (closed c m) r.block r.shared.parsable rooms;
     contents = record { objects = objects_again; given = r.shared.contents.given };
     owned = record {
       free_word = free_again;
@@ -310,11 +252,7 @@ module _ (c : Config) (m : Word → ℕ) (g : Graph) (asking : ℕ → Asking) (
       rooms = λ a seat words is. absurd (r.none a seat words (left a (hand seat words) is).1);
     };
     seats = seats_own;
-    unwritten = record {
-      blanks = λ a seat words is. r.shared.unwritten.blanks a seat words (left a (promised seat words) is).1;
-      headers = λ a words is. r.shared.unwritten.headers a words (left a (filler words) is).1;
-      lengths = λ a words is. r.shared.unwritten.lengths a words (left a (filler words) is).1;
-    };
+    unwritten = freed.unwritten_again c out (closed c m) r.block r.shared.parsable rooms r.shared.unwritten;
     unmoved = record {
       no_moved = λ a refs nums to name is. no_moved c m g asking r calm a refs nums to name (left a (moved name refs nums to) is).1;
       no_spent = λ a words to is. no_spent c m g asking r calm a words to (left a (spent words to) is).1;
@@ -324,6 +262,7 @@ module _ (c : Config) (m : Word → ℕ) (g : Graph) (asking : ℕ → Asking) (
       objects = λ a is. black_or_young a (was_markable a is);
       only = λ a high mark. still_markable a (black_object a (is_mark c (λ k. n (Black k)) a high mark));
       floors = floors_again;
+      fillers = fillers_again;
     };
     snapshot_is = refl;
     unmarking = record { records_none = r.unmarking.records_none; scans_none = r.unmarking.scans_none };

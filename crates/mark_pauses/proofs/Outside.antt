@@ -15,8 +15,8 @@ use Rattle.image_graph.specs.Holds.{HoldsBy}
 use Rattle.pause_laws.proofs.Outside.{IsZeroOutside}
 use Rattle.mark_laws.specs.Marks.{bits_of, mark_bits}
 use Rattle.mark_laws.specs.Init.{init_marked}
-use Rattle.mark_laws.specs.Close.{traced_in}
-use Rattle.mark_laws.specs.Final.{dead_in, final_marked}
+use Rattle.mark_laws.specs.Close.{traced_in, closed}
+use Rattle.mark_laws.specs.Final.{freed, dead_in, final_marked}
 use Rattle.mark_laws.specs.Facts.{IsMarking}
 use Rattle.mark_laws.proofs.Bits.{one}
 use Rattle.mark_laws.proofs.Closed.{inside}
@@ -42,12 +42,20 @@ marks_outside c set within q other = bits_none set (c.region_words + 64 * q) 64 
     (cases_Bool (set (c.region_words + 64 * q + k))))
 
 -- 0, if a region is freed or not
-if_zero : (b : Bool) (x : ℕ) → x ≡ 0 → (if b then 0 else x) ≡ 0
+pub if_zero : (b : Bool) (x : ℕ) → x ≡ 0 → (if b then 0 else x) ≡ 0
 if_zero true x is = refl
 if_zero false x is = is
 
 or_zero : (x y : ℕ) → x ≡ 0 → y ≡ 0 → bit_or x y ≡ 0
 or_zero x y left right = ap (λ k. bit_or k y) left ∙ ap (bit_or 0) right
+
+-- regions are freed
+pub freed_outside : (c : Config) (out : ℕ → Bool) (m : Word → ℕ) → IsZeroOutside c m → IsZeroOutside c (freed c out m)
+freed_outside c out m nothing (Top q) other = if_zero (out q) (m (Top q)) (nothing (Top q) other)
+freed_outside c out m nothing (Tams q) other = if_zero (out q) (m (Tams q)) (nothing (Tams q) other)
+freed_outside c out m nothing (Limit q) other = if_zero (out q) (m (Limit q)) (nothing (Limit q) other)
+freed_outside c out m nothing Free other = absurd (true≢false other)
+freed_outside c out m nothing word other = nothing word other
 
 module _ (c : Config) (m : Word → ℕ) (block : Plot) (owner : ℕ → Option ℕ) (p : Promises) (g : Graph) (holds : HoldsBy c m block owner p g) (nothing : IsZeroOutside c m) where
   root_within : m Cset ≡ 0 → (a : ℕ) → c.region_words ≤ a → has (root_words c m) a ≡ true → a < heap_end c
@@ -72,12 +80,11 @@ module _ (c : Config) (m : Word → ℕ) (block : Plot) (owner : ℕ → Option 
       let at = inside c m block owner p g holds marking a (listed_traced c m (c.regions * c.region_words) a is) in
       omega (arith, at.1)
 
+  closed_outside : IsMarking c m block → IsZeroOutside c (closed c m)
+  closed_outside marking (Grey q) other = or_zero (m (Grey q)) (mark_bits c (has (traced_in c m)) q) (nothing (Grey q) other) (marks_outside c (has (traced_in c m)) (traced_within marking) q other)
+  closed_outside marking (Black q) other = or_zero (m (Black q)) (mark_bits c (has (traced_in c m)) q) (nothing (Black q) other) (marks_outside c (has (traced_in c m)) (traced_within marking) q other)
+  closed_outside marking (Count t) other = refl
+  closed_outside marking word other = nothing word other
+
   pub final_outside : IsMarking c m block → IsZeroOutside c (final_marked c m)
-  final_outside marking (Grey q) other = or_zero (m (Grey q)) (mark_bits c (has (traced_in c m)) q) (nothing (Grey q) other) (marks_outside c (has (traced_in c m)) (traced_within marking) q other)
-  final_outside marking (Black q) other = or_zero (m (Black q)) (mark_bits c (has (traced_in c m)) q) (nothing (Black q) other) (marks_outside c (has (traced_in c m)) (traced_within marking) q other)
-  final_outside marking (Count t) other = refl
-  final_outside marking (Top q) other = if_zero (dead_in c m q) (m (Top q)) (nothing (Top q) other)
-  final_outside marking (Tams q) other = if_zero (dead_in c m q) (m (Tams q)) (nothing (Tams q) other)
-  final_outside marking (Limit q) other = if_zero (dead_in c m q) (m (Limit q)) (nothing (Limit q) other)
-  final_outside marking Free other = absurd (true≢false other)
-  final_outside marking word other = nothing word other
+  final_outside marking = freed_outside c (dead_in c m) (closed c m) (closed_outside marking)

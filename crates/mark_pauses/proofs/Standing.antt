@@ -7,6 +7,7 @@ use Rattle.heap_world.specs.World.{Plot}
 use Rattle.heap_world.specs.Asking.{Asking}
 use Rattle.heap_world.specs.Represents.{Represents}
 use Rattle.image_laws.specs.Promised.{Promises}
+use Rattle.pause_laws.proofs.ByCopies.{by_copies}
 use Rattle.pause_laws.proofs.Promises.{promises_of}
 use Rattle.pause_laws.proofs.Dead.{plain}
 use Rattle.pause_laws.proofs.Holding.{holds_by}
@@ -18,17 +19,17 @@ use Rattle.mark_pauses.proofs.Ending.{plot, ghost, marked_out}
 
 -- there is no collection set while objects are marked
 calm_at : (c : Config) (m : Word → ℕ) (g : Graph) (asking : ℕ → Asking) (r : Represents c m g asking) → m Phase ≡ 1 → m Cset ≡ 0
-calm_at c m g asking r on = r.shared.phased.cset_is (λ evacuates. omega (arith, on, evacuates))
+calm_at c m g asking r on = r.shared.phased.cset_is (omega (arith, on))
 
 pub marking_stands : MarkingStands
 marking_stands c m g asking r on =
-    (plain c m g asking r, r.ghost.owner, promises_of c g asking, holds_by c m g asking r, is_marking c m g asking r (calm_at c m g asking r on) on)
+    (plain c m g asking (by_copies c m g asking r), r.ghost.owner, promises_of c g asking, holds_by c m g asking (by_copies c m g asking r), is_marking c m g asking r (calm_at c m g asking r on) on)
 
 pub reachable_are_marked : ReachableAreMarked
 reachable_are_marked c m g asking r on =
-    let block : Plot = plain c m g asking r in
+    let block : Plot = plain c m g asking (by_copies c m g asking r) in
     let p : Promises = promises_of c g asking in
-    let holds = holds_by c m g asking r in
+    let holds = holds_by c m g asking (by_copies c m g asking r) in
     let marking = is_marking c m g asking r (calm_at c m g asking r on) on in
     (block, r.ghost.owner, p, closed_holds c m block r.ghost.owner p g holds marking, closed_through c m block r.ghost.owner p g holds marking)
 

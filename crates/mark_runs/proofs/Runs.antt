@@ -7,9 +7,9 @@ use Rattle.shen_graph.specs.declared.order.Order.TheVariants.{Nothing}
 use Rattle.heap_world.specs.Change.{image_view, image_words}
 use Rattle.mark_laws.specs.Close.{closed}
 use Rattle.mark_steps.proofs.Chained.{marking_comes}
-use Rattle.evac_pauses.specs.Collect.{collect_image}
+use Rattle.cycle_pauses.specs.Collect.{collect_image}
 use Rattle.mark_pauses.proofs.Standing.{reachable_are_marked}
-use Rattle.evac_pauses.proofs.Pauses.{collect_is_pause}
+use Rattle.cycle_pauses.proofs.Pauses.{collect_is_pause}
 use Rattle.control_steps.specs.declared.spot.ControlSpot.{ControlSpot}
 use Rattle.control_steps.specs.declared.spot.ControlSpot.TheVariants.{LoadWord}
 use Rattle.step_core.specs.Actor.{Machine, controlling}

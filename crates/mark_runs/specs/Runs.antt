@@ -14,7 +14,7 @@ use Rattle.image_graph.specs.Holds.{HoldsBy}
 use Rattle.mark_laws.specs.Close.{closed}
 use Rattle.mark_laws.specs.Facts.{IsMarkedThrough}
 use Rattle.mark_steps.specs.Chains.{IsSafe}
-use Rattle.evac_pauses.specs.Collect.{collect_image}
+use Rattle.cycle_pauses.specs.Collect.{collect_image}
 use Rattle.control_steps.specs.declared.spot.ControlSpot.TheVariants.{LoadWord}
 use Rattle.control_steps.specs.Rows.{Controlling}
 use Rattle.step_core.specs.Actor.{controlling, Actor}

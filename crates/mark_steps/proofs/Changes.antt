@@ -1,5 +1,5 @@
 -- What a step owes that changes only words of marking, and who records and scans what.
-use Rattle.std.proofs.Common.{◌≡◌, ◌≢◌, ℕ, ◌<◌, ◌⊎◌, ⊎_elim, Bool, true, false, Option, Some, refl, sym, ap, ◌∙◌, arith}
+use Rattle.std.proofs.Common.{◌≡◌, ◌≢◌, ℕ, ◌<◌, ◌≤◌, ◌⊎◌, ⊎_elim, inl, Bool, true, false, Option, Some, refl, sym, ap, ◌∙◌, arith}
 use Rattle.std.specs.Prelude.{if◌then◌else◌}
 use Rattle.std.proofs.Math.Path.{fun_ext}
 use Rattle.std.proofs.lemmas.Bool.{cases_Bool, cond-true, cond-false, false≢true}
@@ -59,10 +59,11 @@ module _ (c : Config) (u : World) (seat : ℕ) (marking : Word → ℕ) (recordi
   abbrev pub world_after : World
   world_after = record { memory = with_marking u.memory marking; block = u.block; ghost = with_scanning (with_recording u.ghost recording) scanning; graph = u.graph }
 
-  -- What the change keeps: what is grey and what is noted stays so, each field of the snapshot that a scan has still to come to is such
+  -- What the change keeps: units that are claimed, what is grey and what is noted stay so, each field of the snapshot that a scan has still to come to is such
   -- a one, or done; marks and entries are objects; and what is another seat's stays as it is.
   pub record IsMarkingStep : Type 0 where
     pub phase : u.memory Phase ≡ 1
+    pub claims : u.memory Claim ≤ marking Claim
     pub greys : (a : ℕ) → HasMark c (λ n. u.memory (Grey n)) a → HasMark c (λ n. marking (Grey n)) a
     pub noted : (v : ℕ) → NotedIn c u v → IsNoted c (λ n. marking (Grey n)) (λ t. marking (Count t)) (λ t k. marking (Buffer t k)) recording v
     pub scanned : (a refs nums k : ℕ) (name : Name) → u.ghost.snapshot.block a ≡ Some (thing name refs nums) → k < refs
@@ -104,7 +105,7 @@ module _ (c : Config) (u : World) (seat : ℕ) (marking : Word → ℕ) (recordi
     evacuating_after : IsEvacuating c (u.memory Phase) (u.memory Cset) (u.memory Evac) (marking Claim) (u.memory Free) (λ r. u.memory (Top r)) (λ r. u.memory (Tams r)) (λ a. u.memory (Heap a)) (λ n. marking (Black n))
         u.block u.ghost.owner u.ghost.copying u.ghost.working
     evacuating_after =
-        let other : u.memory Phase ≢ 2 = λ on. (let is = step.phase in omega (arith, is, on)) in
+        let other : 2 ≤ u.memory Phase → ⊥ = λ on. (let is = step.phase in omega (arith, is, on)) in
         let was = shared.evacuated in
         record {
           moved = was.moved;
@@ -114,9 +115,11 @@ module _ (c : Config) (u : World) (seat : ℕ) (marking : Word → ℕ) (recordi
             objects = λ on. absurd (other on);
             young = λ on. absurd (other on);
             floors = λ on. absurd (other on);
+            unmarked = λ on. absurd (other on);
+            fillers = λ on. absurd (other on);
             only = λ on. absurd (other on);
           };
-          units = λ on. absurd (other on);
+          units = λ on. absurd (other (omega (arith, on)));
         }
 
     -- nothing changes of copies
@@ -133,6 +136,7 @@ module _ (c : Config) (u : World) (seat : ℕ) (marking : Word → ℕ) (recordi
       unwritten = shared.unwritten;
       marked = snapshot_after;
       evacuated = evacuating_after;
+      updated = λ on. (let is = step.phase in absurd (omega (arith, is, on)));
     }
 
     -- what holds of marking holds
@@ -186,6 +190,13 @@ module _ (c : Config) (u : World) (seat : ℕ) (marking : Word → ℕ) (recordi
         greys = step.greys;
       };
       copies = copies_after j;
+      fields = record {
+        tams = λ r. refl;
+        limits = λ r. refl;
+        fillers = λ a words is. is;
+        claims = λ all. (let more = step.claims in omega (arith, all, more));
+        fields = λ on a refs nums k name is below. inl refl;
+      };
     }
 
     -- the step owes no more

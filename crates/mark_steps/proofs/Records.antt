@@ -6,7 +6,7 @@ use Rattle.std.proofs.lemmas.Bool.{cases_eq, cond-true, cond-false, eq-eqb, ne_e
 use Rattle.std.proofs.lemmas.Bool.Decides.{nat_tests}
 use Rattle.std.proofs.lemmas.Option.{same_Some}
 use Rattle.heap_words.specs.declared.config.Config.{Config}
-use Rattle.heap_words.specs.Words.{Word, Phase, Count, Buffer, Grey, Black, Heap, IsWord}
+use Rattle.heap_words.specs.Words.{Claim, Word, Phase, Count, Buffer, Grey, Black, Heap, IsWord}
 use Rattle.steps_base.specs.Touch.{touched}
 use Rattle.mark_bits.specs.Marks.{mark_word, mark_bit, address_at, HasMark}
 use Rattle.mark_bits.proofs.Marking.{word_back, bit_back, mark_stays, word_inside}
@@ -87,6 +87,10 @@ module _ (c : Config) (u : World) (mutator v : ℕ) where
   scans_stay : (at : RememberSpot) (scanning : ℕ → Option Scan) (a k : ℕ) → IsToScan c (λ n. u.memory (Black n)) scanning a k → IsToScan c (λ n. after at (Black n)) scanning a k
   scans_stay Recorded scanning a k scan = scan
   scans_stay _ scanning a k scan = scan
+
+  claims_stay : (at : RememberSpot) → after at Claim ≡ u.memory Claim
+  claims_stay Recorded = refl
+  claims_stay _ = refl
 
   blacks_stay : (at : RememberSpot) → AreMarks c (λ n. u.memory (Black n)) u.block → AreMarks c (λ n. after at (Black n)) u.block
   blacks_stay Recorded marks = marks
@@ -174,6 +178,7 @@ module _ (c : Config) (u : World) (mutator v : ℕ) where
     is_marking_step : IsMarkingStep c u mutator (after at) (hands at) u.ghost.scanning
     is_marking_step = record {
       phase = can.phase;
+      claims = (let same = claims_stay at in omega (arith, same));
       greys = greys_stay at;
       noted = noted_then at going shared can;
       scanned = λ a refs nums k name is below scan. inl (scans_stay at u.ghost.scanning a k scan);
@@ -221,6 +226,7 @@ module _ (c : Config) (u : World) (mutator v : ℕ) (seated : mutator < c.mutato
   taking_step : IsMarkingStep c u mutator u.memory taken u.ghost.scanning
   taking_step = record {
     phase = marking;
+    claims = omega arith;
     greys = λ a mark. mark;
     noted = noted_taken;
     scanned = λ a refs nums k name is below scan. inl scan;
@@ -282,7 +288,7 @@ module _ (c : Config) (u w : World) (mutator : ℕ) (rely : Rely c mutator u w) 
   can_record_stays v at can = record {
     seated = can.seated;
     phase = rely.marks.keeps.phase ∙ can.phase;
-    markable = rely.marks.keeps.markable can.phase v can.markable;
+    markable = rely.marks.keeps.markable (λ two. (let one = can.phase in omega (arith, one, two))) v can.markable;
     recording = rely.marks.recording ∙ can.recording;
     scanning = rely.marks.scanning ∙ can.scanning;
     hands = λ a words is. can.hands a words (rely.no_hands a words is);

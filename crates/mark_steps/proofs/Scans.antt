@@ -81,6 +81,17 @@ module _ (c : Config) (u : World) (seat : ℕ) where
   buffers_stay LoadClaim t k = refl
   buffers_stay _ t k = refl
 
+  claims_grow : (at : ScanSpot) → u.memory Claim ≤ words_then at Claim
+  claims_grow LoadClaim = omega arith
+  claims_grow (ClaimUnit unit) = ⊎_elim
+      (λ (won : (u.memory Claim == unit) ≡ true).
+      let now : words_then (ClaimUnit unit) Claim ≡ unit + 1 = cond-true (u.memory Claim == unit) _ _ won in
+      let was = eqb-true _ _ won in
+      omega (arith, now, was))
+      (λ (lost : (u.memory Claim == unit) ≡ false). let now : words_then (ClaimUnit unit) Claim ≡ u.memory Claim = cond-false (u.memory Claim == unit) _ _ lost in omega (arith, now))
+      (cases_Bool (u.memory Claim == unit))
+  claims_grow _ = omega arith
+
   -- what is noted stays so
   noted_then : (at : ScanSpot) (v : ℕ) → NotedIn c u v → NotedThen at v
   noted_then at v (IsNoted.by_mark mark) = IsNoted.by_mark (greys_stay at v mark)
@@ -116,6 +127,7 @@ module _ (c : Config) (u : World) (seat : ℕ) where
       step_after c u seat (words_then at) u.ghost.recording (scans_then next) shared
       (record {
         phase = can.phase;
+        claims = claims_grow at;
         greys = greys_stay at;
         noted = noted_then at;
         scanned = scanned;
@@ -288,7 +300,7 @@ module _ (c : Config) (u : World) (seat : ℕ) where
       let there = of_graph.2 in
       let all : refs_in (u.memory (Heap (address + 1))) ≡ more = ap refs_in there.shape ∙ refs_in-shape_word more nums there.few_refs there.few_nums in
       let within : field < length of_graph.0.refs = (let many = there.refs_are in omega (arith, below, is, all, many)) in
-      reference_object (unmoved c u shared (λ two. omega (arith, on, two))) (u.memory (Heap (address + 3 + field))) _ (there.references field _ (slice_get-get_or of_graph.0.refs field None within)) some
+      reference_object (unmoved c u shared (omega (arith, on))) (u.memory (Heap (address + 3 + field))) _ (there.references field _ (slice_get-get_or of_graph.0.refs field None within)) some
   field_object address field refs shared on (IsMarkable.to_come owner words piece) is below some =
       let blank = shared.unwritten.blanks address owner words piece in
       let all : refs_in (u.memory (Heap (address + 1))) ≡ blank.refs = ap refs_in blank.shape ∙ refs_in-shape_word blank.refs blank.nums blank.few_refs blank.few_nums in
@@ -355,7 +367,7 @@ module _ (c : Config) (u : World) (seat : ℕ) where
 
 -- While others step, what it counts on stays.
 module _ (c : Config) (u w : World) (seat : ℕ) (rely : Rely c seat u w) where
-  field_stays : u.memory Phase ≡ 1 → (address field refs : ℕ) → IsAtField u address field refs → IsAtField w address field refs
+  field_stays : u.memory Phase ≢ 2 → (address field refs : ℕ) → IsAtField u address field refs → IsAtField w address field refs
   field_stays on address field refs facts = record {
     object = rely.marks.keeps.markable on address facts.object;
     refs_are = ap refs_in (rely.marks.keeps.shapes address facts.object) ∙ facts.refs_are;
@@ -373,7 +385,7 @@ module _ (c : Config) (u w : World) (seat : ℕ) (rely : Rely c seat u w) where
       noted_now (inl (inr noted)) = inl (inr (rely.marks.keeps.noted _ noted))
       noted_now (inr same) = inr same
 
-  facts_stay : u.memory Phase ≡ 1 → (at : ScanSpot) → ScanFacts c u at → ScanFacts c w at
+  facts_stay : u.memory Phase ≢ 2 → (at : ScanSpot) → ScanFacts c u at → ScanFacts c w at
   facts_stay on (LoadBlack word grey) facts = record { small = facts.small; of_objects = λ k below set. rely.marks.keeps.markable on _ (facts.of_objects k below set) }
   facts_stay on (SetBlack address) facts = rely.marks.keeps.markable on address facts
   facts_stay on (LoadShape address) facts = rely.marks.keeps.markable on address facts
@@ -389,7 +401,7 @@ module _ (c : Config) (u w : World) (seat : ℕ) (rely : Rely c seat u w) where
     records_none = rely.marks.recording ∙ can.records_none;
     ready = can.ready;
     hands = λ a words is. can.hands a words (rely.no_hands a words is);
-    facts = facts_stay can.phase at can.facts;
+    facts = facts_stay (λ two. (let one = can.phase in omega (arith, one, two))) at can.facts;
   }
 
 -- the next access is of the table

@@ -68,11 +68,10 @@ remember_fits c address at = (if satb.is_recorded at then false else true) && (s
 abbrev pub resolve_fits : Config → ℕ → ℕ → ResolveSpot → Bool
 resolve_fits c seat address at = is_word c (Heap address) && resolve_ready c seat address at
 
--- Whether the numbers of a spot, beside those of its access, are in range. As long as no collection updates references
--- concurrently, the phase is 0, 1 or 2 wherever a call has begun.
+-- Whether the numbers of a spot, beside those of its access, are in range. The phase is 0 to 3 wherever a call has begun.
 abbrev pub numbers_fit : Config → ℕ → ℕ → Kept → Spot → Bool
 numbers_fit c seat made kept (Entering at next) = is_outside at
-numbers_fit c seat made kept LoadSet = nat_lt kept.phase 3
+numbers_fit c seat made kept LoadSet = nat_lt kept.phase 4
 numbers_fit c seat made kept (Resolving address at next) = resolve_fits c seat address at
 numbers_fit c seat made kept (Recording at address next) = remember_fits c address at
 numbers_fit c seat made kept (Making at) = can_make made kept.command && make_fits c kept.command at

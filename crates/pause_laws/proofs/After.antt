@@ -243,10 +243,10 @@ module _ (c : Config) (m : Word → ℕ) (block : Plot) (g : Graph) (p : Promise
       (blank_of a x.refs x.nums (p.refs x.name.thread) (p.nums x.name.thread) x.name o.0 o.2 (same_Some o.0 (blank (p.refs x.name.thread) (p.nums x.name.thread)) new))
 
   -- what all machines share holds, where nothing is collected and no seat has a region
-  pub shared_facts : (phase cset evac claim : ℕ) (current grey black entries : ℕ → ℕ) (buffer : ℕ → ℕ → ℕ) (tams : ℕ → ℕ)
+  pub shared_facts : (phase cset evac claim : ℕ) (current grey black entries : ℕ → ℕ) (buffer : ℕ → ℕ → ℕ) (tams limit : ℕ → ℕ)
       → phase ≡ 0 → cset ≡ 0 → evac ≡ 0 → ((seat : ℕ) → current seat ≡ 0)
-      → SharedFacts c (λ q. m (Top q)) heap taken no_ghost g.object g.count phase cset evac (m Free) current grey black entries buffer tams claim
-  shared_facts phase cset evac claim current grey black entries buffer tams no_phase no_cset no_evac none = record {
+      → SharedFacts c (λ q. m (Top q)) heap taken no_ghost g.object g.count phase cset evac (m Free) current grey black entries buffer tams claim limit
+  shared_facts phase cset evac claim current grey black entries buffer tams limit no_phase no_cset no_evac none = record {
     parsable = record {
       plotted = plotted_alike c (λ q. m (Top q)) block (as_promised p) same_words stands.plotted;
       filled = filled_alike c (λ q. m (Top q)) block (as_promised p) same_words stands.filled;
@@ -270,6 +270,7 @@ module _ (c : Config) (m : Word → ℕ) (block : Plot) (g : Graph) (p : Promise
         subst (λ set. IsEvacuating c phase set evac claim (m Free) (λ q. m (Top q)) tams heap black taken no_ghost.owner no_ghost.copying no_ghost.working) (sym no_cset)
         (subst (λ count. IsEvacuating c phase 0 count claim (m Free) (λ q. m (Top q)) tams heap black taken no_ghost.owner no_ghost.copying no_ghost.working) (sym no_evac)
         (none_evacuated c phase claim (m Free) (λ q. m (Top q)) tams heap black taken no_ghost.owner no_ghost.copying no_ghost.working (λ on. omega (arith, on, no_phase)) no_moveds no_spents (λ seat inside. refl)));
+    updated = λ on. absurd (omega (arith, on, no_phase));
   }
 
   pub roots_left : (t i : ℕ) → t < c.mutators → i < 16 → Points taken (m (Root t i)) (g.root (t + 1) i)

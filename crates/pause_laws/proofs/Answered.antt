@@ -3,12 +3,13 @@ use Rattle.std.proofs.Common.{◌≡◌, ◌≢◌, ℕ, ◌+◌, ◌<◌, ◌�
 use Rattle.std.proofs.lemmas.Bool.{cond-true, cond-false, cases_eq, eq-eqb, ne_eqb}
 use Rattle.std.proofs.lemmas.Option.{none-some}
 use Rattle.heap_words.specs.declared.config.Config.{Config}
-use Rattle.heap_words.specs.Words.{Word, Phase, Cset, Evac, Claim, Tams, Current, Count, Buffer, Wait, Answer, Grey, Black}
+use Rattle.heap_words.specs.Words.{Word, Phase, Cset, Evac, Claim, Tams, Limit, Current, Count, Buffer, Wait, Answer, Grey, Black}
 use Rattle.heap_words.specs.Encoding.{request_shape_in, refs_in, nums_in}
 use Rattle.shen_graph.specs.Graph.{Graph, fresh}
 use Rattle.heap_world.specs.World.{no_ghost}
 use Rattle.heap_world.specs.Asking.{Asking, nothing, asks, refused, given, IsAsked}
 use Rattle.heap_world.specs.Represents.{Represents}
+use Rattle.pause_laws.specs.ByCopies.{RepresentsByCopies}
 use Rattle.heap_world.specs.Change.{Answers}
 use Rattle.image_laws.specs.Full.{packed_in, full}
 use Rattle.image_laws.specs.Promised.{Promises}
@@ -41,7 +42,7 @@ nobody_asks (asks more less) answer refs nums is = ⊎_elim
 nobody_asks refused answer refs nums is = cc
 nobody_asks (given more less) answer refs nums is = cc
 
-module _ (c : Config) (m : Word → ℕ) (g : Graph) (asking : ℕ → Asking) (r : Represents c m g asking) where
+module _ (c : Config) (m : Word → ℕ) (g : Graph) (asking : ℕ → Asking) (r : RepresentsByCopies c m g asking) where
   abbrev p : Promises
   p = promises_of c g asking
 
@@ -120,7 +121,7 @@ module _ (c : Config) (m : Word → ℕ) (g : Graph) (asking : ℕ → Asking) (
         block = plot_then c m g asking r;
         ghost = no_ghost;
         shared = shared_facts c (full c m) (plot c m g asking r) g q facts (full c m Phase) (full c m Cset) (full c m Evac) (full c m Claim) (λ s. full c m (Current s))
-            (λ n. full c m (Grey n)) (λ n. full c m (Black n)) (λ t. full c m (Count t)) (λ t k. full c m (Buffer t k)) (λ q. full c m (Tams q)) (full_phase c m) (full_cset c m) (full_evac c m) (full_current c m);
+            (λ n. full c m (Grey n)) (λ n. full c m (Black n)) (λ t. full c m (Count t)) (λ t k. full c m (Buffer t k)) (λ q. full c m (Tams q)) (λ q. full c m (Limit q)) (full_phase c m) (full_cset c m) (full_evac c m) (full_current c m);
         roots = roots_left c (full c m) (plot c m g asking r) g q facts;
         usable = roots_usable c (full c m) (plot c m g asking r) g q facts (full c m Cset) (full c m Evac) (full_cset c m);
         none = no_hands c (full c m) (plot c m g asking r) g q facts;

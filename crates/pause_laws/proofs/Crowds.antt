@@ -11,7 +11,7 @@ use Rattle.packing.proofs.Sums.{sum_next, sum_none, sum_both, sum_of_none, sum_f
 use Rattle.packing.proofs.Rooms.{all_full}
 use Rattle.shen_graph.specs.Graph.{Graph}
 use Rattle.heap_world.specs.Asking.{Asking, nothing, asks, refused, given, IsRequest, IsAsked}
-use Rattle.heap_world.specs.Represents.{Represents}
+use Rattle.pause_laws.specs.ByCopies.{RepresentsByCopies}
 use Rattle.heap_world.specs.Change.{words_given, IsCrowded}
 use Rattle.image_laws.specs.Full.{packed_in, asked_in, full}
 use Rattle.image_laws.specs.Promised.{Promises, words_if, promised_words}
@@ -80,7 +80,7 @@ module _ (c : Config) (m : Word → ℕ) where
       (all_full c.region_words (tops_served c.region_words c.regions (asked_in m) (λ s. m (Top s)) u) (asked_in m u) c.regions
       (λ s below. let same = tops_are_served c m u s in omega (arith, none s below, same)))
 
-module _ (c : Config) (m : Word → ℕ) (g : Graph) (asking : ℕ → Asking) (r : Represents c m g asking) where
+module _ (c : Config) (m : Word → ℕ) (g : Graph) (asking : ℕ → Asking) (r : RepresentsByCopies c m g asking) where
   abbrev p : Promises
   p = promises_of c g asking
 

@@ -12,7 +12,7 @@ use Rattle.shen_graph.specs.Reach.{IsReachable}
 use Rattle.shen_graph.specs.Reach as reach
 use Rattle.heap_world.specs.World.{Block, thing, moved, spent, hand, promised, filler, Plot, name_at, body_of, Points, IsCollected, IsMarkable}
 use Rattle.heap_world.specs.Asking.{Asking}
-use Rattle.heap_world.specs.Represents.{Represents}
+use Rattle.pause_laws.specs.ByCopies.{RepresentsByCopies}
 use Rattle.heap_world.proofs.Pointing.{named_body, named_piece, named_if_not_0, copy_cases}
 use Rattle.image_laws.specs.Held.{IsHeld, from_root, from_field, IsAmong, IsCopy, HoldsGraph}
 use Rattle.image_laws.specs.Full.{now_in, root_words}
@@ -30,7 +30,7 @@ led_to memory a to is =
     let moved_on : memory (Heap a) % 4 ≡ 3 = omega (arith, is) in
     cond-true (is_forwarded (memory (Heap a))) (forwardee_in (memory (Heap a))) a (eq-eqb (memory (Heap a) % 4) 3 moved_on) ∙ omega (arith, is)
 
-module _ (c : Config) (m : Word → ℕ) (g : Graph) (asking : ℕ → Asking) (r : Represents c m g asking) where
+module _ (c : Config) (m : Word → ℕ) (g : Graph) (asking : ℕ → Asking) (r : RepresentsByCopies c m g asking) where
   abbrev heap : ℕ → ℕ
   heap a = m (Heap a)
 

@@ -12,7 +12,7 @@ use Rattle.shen_graph.specs.declared.name.Name.{Name}
 use Rattle.shen_graph.specs.Graph.{Graph, Object, blank, fresh, same_reference}
 use Rattle.heap_world.specs.World.{IsCollected}
 use Rattle.heap_world.specs.Asking.{Asking, nothing, asks, refused, given, IsRequest, IsAsked}
-use Rattle.heap_world.specs.Represents.{Represents}
+use Rattle.pause_laws.specs.ByCopies.{RepresentsByCopies}
 use Rattle.image_laws.specs.Full.{now_in}
 use Rattle.image_laws.specs.Promised.{Promises, AreFresh}
 use Rattle.image_laws.specs.Serving.{asked_shape, asked_name, IsAsking}
@@ -65,7 +65,7 @@ pub record HasAsked (memory : Word → ℕ) (g : Graph) (asking : ℕ → Asking
   pub is_asking : asking t ≡ asks refs nums
   pub request : IsRequest memory g.count t refs nums
 
-module _ (c : Config) (m : Word → ℕ) (g : Graph) (asking : ℕ → Asking) (r : Represents c m g asking) where
+module _ (c : Config) (m : Word → ℕ) (g : Graph) (asking : ℕ → Asking) (r : RepresentsByCopies c m g asking) where
   abbrev p : Promises
   p = promises_of c g asking
 

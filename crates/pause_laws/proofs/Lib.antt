@@ -1,3 +1,4 @@
+pub mod ByCopies
 pub mod Sorted
 pub mod Promises
 pub mod Mapped

@@ -14,7 +14,7 @@ use Rattle.shen_graph.specs.Graph.{Graph, Object, fresh}
 use Rattle.shen_graph.specs.Reach as reach
 use Rattle.heap_world.specs.World.{thing, promised, Plot, name_at}
 use Rattle.heap_world.specs.Asking.{Asking, nothing, asks, refused, given}
-use Rattle.heap_world.specs.Represents.{Represents}
+use Rattle.pause_laws.specs.ByCopies.{RepresentsByCopies}
 use Rattle.image_laws.specs.Held.{IsHeld, IsAmong, AreKept}
 use Rattle.image_laws.specs.Pack.{CanPack}
 use Rattle.image_laws.specs.Plot.{packed_block}
@@ -49,7 +49,7 @@ pub packed_answer : (c : Config) (m : Word → ℕ) (t : ℕ) → m (Answer t) �
 unfolding packed
 packed_answer c m t none = cond-true (nat_le (m (Answer t)) 1) (m (Answer t)) (new_place c.region_words (kept_in c m) (now_in m (m (Answer t)))) (le-leb (m (Answer t)) 1 none)
 
-module _ (c : Config) (m : Word → ℕ) (g : Graph) (asking : ℕ → Asking) (r : Represents c m g asking) where
+module _ (c : Config) (m : Word → ℕ) (g : Graph) (asking : ℕ → Asking) (r : RepresentsByCopies c m g asking) where
   abbrev p : Promises
   p = promises_of c g asking
 

@@ -4,17 +4,18 @@ use Rattle.heap_words.specs.declared.config.Config.{Config}
 use Rattle.heap_words.specs.Words.{Word}
 use Rattle.shen_graph.specs.Graph.{Graph}
 use Rattle.heap_world.specs.Asking.{Asking}
-use Rattle.heap_world.specs.Represents.{Represents}
 use Rattle.heap_world.specs.Change.{image_view, IsPaused}
 use Rattle.image_laws.specs.Full.{full}
-use Rattle.pause_laws.specs.Laws.{RepresentingHolds, ImageIsFull, TableIsFull, FullIsPause}
+use Rattle.pause_laws.specs.ByCopies.{RepresentsByCopies}
+use Rattle.pause_laws.specs.Laws.{RepresentingHolds, ImageIsFull, TableIsFull, FullFromCopies, FullIsPause}
+use Rattle.pause_laws.proofs.ByCopies.{by_copies}
 use Rattle.pause_laws.proofs.Holding.{holds_some}
 use Rattle.pause_laws.proofs.Paused.{asked_then}
 use Rattle.pause_laws.proofs.Answered.{is_answer, represents_again}
 use Rattle.pause_laws.proofs.Crowds.{is_crowded}
 use Rattle.pause_laws.proofs.Images.{image_length, image_is_full, table_is_full}
 
-pub paused : (c : Config) (m : Word → ℕ) (g : Graph) (asking : ℕ → Asking) → Represents c m g asking → IsPaused c m (full c m) g asking
+pub paused : (c : Config) (m : Word → ℕ) (g : Graph) (asking : ℕ → Asking) → RepresentsByCopies c m g asking → IsPaused c m (full c m) g asking
 paused c m g asking r = record {
   asked_then = asked_then c m g asking r;
   stands = represents_again c m g asking r;
@@ -22,8 +23,11 @@ paused c m g asking r = record {
   crowded = λ t refs nums inside is refused. is_crowded c m g asking r t refs nums inside is refused;
 }
 
+pub from_copies : FullFromCopies
+from_copies = paused
+
 pub representing_holds : RepresentingHolds
-representing_holds = holds_some
+representing_holds c m g asking r = holds_some c m g asking (by_copies c m g asking r)
 
 pub is_full : ImageIsFull
 is_full c image long holds = image_is_full c image holds
@@ -34,7 +38,7 @@ is_whole c image table long whole holds is = table_is_full c image table whole h
 pub full_is_pause : FullIsPause
 full_is_pause = record {
   long = λ c image long. image_length c image;
-  pauses = λ c image g asking long r.
-      subst (λ after. IsPaused c (image_view c image) after g asking) (sym (image_is_full c image (holds_some c (image_view c image) g asking r)))
-      (paused c (image_view c image) g asking r);
+  pauses = λ c image g asking long r due.
+      subst (λ after. IsPaused c (image_view c image) after g asking) (sym (image_is_full c image (holds_some c (image_view c image) g asking (by_copies c (image_view c image) g asking r))))
+      (paused c (image_view c image) g asking (by_copies c (image_view c image) g asking r));
 }

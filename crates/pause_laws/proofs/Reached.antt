@@ -15,7 +15,7 @@ use Rattle.shen_graph.proofs.ReachLemmas.{Contains-cons_cases, Contains-nil}
 use Rattle.heap_graph.specs.Walk.{has}
 use Rattle.heap_world.specs.World.{thing, promised, Plot, name_at}
 use Rattle.heap_world.specs.Asking.{Asking}
-use Rattle.heap_world.specs.Represents.{Represents}
+use Rattle.pause_laws.specs.ByCopies.{RepresentsByCopies}
 use Rattle.image_laws.specs.Held.{IsHeld, IsAmong, AreKept, HoldsGraph}
 use Rattle.image_laws.specs.Full.{now_in, root_words, held_in, kept_in}
 use Rattle.image_laws.specs.Promised.{Promises, with_promised}
@@ -63,7 +63,7 @@ there_named at (x ∷ xs) n there = ⊎_elim
     (λ (rest : Contains (names_at at xs) n). let found = there_named at xs n rest in (found.0, or_right (nat_eq found.0 x) (has xs found.0) found.1, found.2))
     (one_cases (at x) (names_at at xs) n there)
 
-module _ (c : Config) (m : Word → ℕ) (g : Graph) (asking : ℕ → Asking) (r : Represents c m g asking) where
+module _ (c : Config) (m : Word → ℕ) (g : Graph) (asking : ℕ → Asking) (r : RepresentsByCopies c m g asking) where
   abbrev p : Promises
   p = promises_of c g asking
 

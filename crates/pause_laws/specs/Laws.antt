@@ -5,9 +5,10 @@ use Rattle.heap_words.specs.Words.{Word, image_start, table_words, view}
 use Rattle.shen_graph.specs.Graph.{Graph}
 use Rattle.heap_world.specs.Asking.{Asking}
 use Rattle.heap_world.specs.Represents.{Represents}
-use Rattle.heap_world.specs.Change.{image_words, image_view, IsPause}
+use Rattle.heap_world.specs.Change.{image_words, image_view, IsPaused, IsPause}
 use Rattle.image_laws.specs.Full.{full}
 use Rattle.image_graph.specs.Holds.{HoldsSome}
+use Rattle.pause_laws.specs.ByCopies.{RepresentsByCopies}
 use Rattle.pause_laws.specs.Image.{full_image}
 
 -- Words that represent a graph, with what mutators have asked for, hold a graph in the sense of the full collection.
@@ -22,6 +23,10 @@ ImageIsFull = (c : Config) (image : List ℕ) → length image ≡ image_words c
 abbrev pub TableIsFull : Type 0
 TableIsFull = (c : Config) (image table : List ℕ) → length image ≡ image_words c → length table ≡ table_words c → HoldsSome c (image_view c image)
     → view c table ≡ full c (image_view c image) → table ≡ replicate (image_start c) 0 ++ full_image c image
+
+-- A full collection does what a pause owes also where roots name old copies: it needs no root that may be used.
+abbrev pub FullFromCopies : Type 0
+FullFromCopies = (c : Config) (memory : Word → ℕ) (g : Graph) (asking : ℕ → Asking) → RepresentsByCopies c memory g asking → IsPaused c memory (full c memory) g asking
 
 -- A full collection is a pause: it keeps the length of the image, and where the words represent a graph it keeps the graph,
 -- answers each mutator that asks, and refuses an object only where the heap is crowded.

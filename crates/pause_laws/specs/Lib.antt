@@ -1,2 +1,3 @@
+pub mod ByCopies
 pub mod Image
 pub mod Laws

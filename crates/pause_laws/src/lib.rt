@@ -2,7 +2,7 @@
 //! code.
 #![tactic(auto)]
 
-ghost use Rattle.pause_laws.specs.Laws.{RepresentingHolds, ImageIsFull, TableIsFull, FullIsPause};
+ghost use Rattle.pause_laws.specs.Laws.{RepresentingHolds, ImageIsFull, TableIsFull, FullFromCopies, FullIsPause};
 
 /// A law: words that represent a graph, with what mutators have asked for, hold a graph in the sense of the full collection.
 pub fn representing_holds()
@@ -18,6 +18,11 @@ pub fn image_is_full()
 /// A law: a table that reads as a full collection makes of an image is the image after it, behind words that are 0.
 pub fn table_is_full()
     ensures { TableIsFull }
+{}
+
+/// A law: a full collection does what a pause owes also where roots name old copies of objects.
+pub fn full_from_copies()
+    ensures { FullFromCopies }
 {}
 
 /// A law: a full collection is a pause. It keeps the graph that the words represent, answers each mutator that asks, and

@@ -314,6 +314,24 @@ fn put_verb(row: &mut Row, plain: &Plain, verb: &[u8], at: usize, within: Within
     put_word_at(row, plain, at, within)
 }
 
+// Whether two references are of copies of one object.
+fn are_copies(plain: &Plain, first: u64, second: u64) -> bool {
+    first != second
+        && region_of(plain, first).is_some()
+        && region_of(plain, second).is_some()
+        && name_at(plain, first) == name_at(plain, second)
+}
+
+// Puts what an exchange stores in place of another value: of a reference to another copy of the same object the address.
+fn put_exchanged(row: &mut Row, plain: &Plain, kind: Kind, expect: u64, value: u64) {
+    if kind == Kind::Reference && are_copies(plain, expect, value) {
+        row.put(b"copy ");
+        row.put_number(value);
+    } else {
+        put_value(row, plain, kind, value);
+    }
+}
+
 /// Puts an access with its values, and says how its word is to be read.
 pub fn put_access(row: &mut Row, plain: &Plain, access: Access, within: Within) -> Kind {
     let (verb, value) = match access {
@@ -332,8 +350,10 @@ pub fn put_access(row: &mut Row, plain: &Plain, access: Access, within: Within) 
         if let Access::Exchange { expect, .. } = access {
             put_value(row, plain, kind, expect);
             row.put(b" to ");
+            put_exchanged(row, plain, kind, expect, value);
+        } else {
+            put_value(row, plain, kind, value);
         }
-        put_value(row, plain, kind, value);
     }
     kind
 }

@@ -2,7 +2,7 @@
 use Rattle.std.proofs.Common.{◌≡◌, ◌≢◌, ℕ, ◌+◌, Bool, true, false, refl, sym, subst}
 use Rattle.std.specs.Int.{bit_at}
 use Rattle.heap_words.specs.declared.config.Config.{Config}
-use Rattle.heap_words.specs.Words.{Word, Pause, Left, End, Phase, Cset, Evac, Ask, State, Top, Current, Root, Count, Buffer, Wait, Answer, Grey, Heap, write}
+use Rattle.heap_words.specs.Words.{Word, Pause, Left, End, Phase, Cset, Evac, Claim, Ask, State, Top, Tams, Limit, Current, Root, Count, Buffer, Wait, Answer, Grey, Heap, write}
 use Rattle.steps_base.specs.Touch.{touch, loads, stores}
 use Rattle.heap_world.specs.World.{World, IsCollected, TargetIn, Shared}
 use Rattle.evac_room.specs.Counter.{IsQuiet}
@@ -10,15 +10,18 @@ use Rattle.shen_graph.specs.declared.name.Name.{Name}
 use Rattle.heap_world.specs.Rely.{Keeps, Rely}
 use Rattle.heap_world.specs.Part.{PartStep}
 use Rattle.heap_world.proofs.Keeping.{load_keeps, rely_same, keeps_of}
-use Rattle.step_core.proofs.Marking.{world_with, marks_in, copies_in}
+use Rattle.step_core.proofs.Marking.{world_with, marks_in, copies_in, fields_in}
 
 -- two memories are alike in the words that facts of all machines speak of
 pub record AreAlike (u w : Word → ℕ) : Type 0 where
   pub phase : w Phase ≡ u Phase
   pub cset : w Cset ≡ u Cset
   pub evac : w Evac ≡ u Evac
+  pub claim : w Claim ≡ u Claim
   pub ask : w Ask ≡ u Ask
   pub tops : (r : ℕ) → w (Top r) ≡ u (Top r)
+  pub tams : (r : ℕ) → w (Tams r) ≡ u (Tams r)
+  pub limits : (r : ℕ) → w (Limit r) ≡ u (Limit r)
   pub currents : (seat : ℕ) → w (Current seat) ≡ u (Current seat)
   pub roots : (t i : ℕ) → w (Root t i) ≡ u (Root t i)
   pub waits : (t : ℕ) → w (Wait t) ≡ u (Wait t)
@@ -42,8 +45,11 @@ alike_written memory Pause value is = record {
   phase = refl;
   cset = refl;
   evac = refl;
+  claim = refl;
   ask = refl;
   tops = λ r. refl;
+  tams = λ r. refl;
+  limits = λ r. refl;
   currents = λ seat. refl;
   roots = λ t i. refl;
   waits = λ t. refl;
@@ -57,8 +63,11 @@ alike_written memory Left value is = record {
   phase = refl;
   cset = refl;
   evac = refl;
+  claim = refl;
   ask = refl;
   tops = λ r. refl;
+  tams = λ r. refl;
+  limits = λ r. refl;
   currents = λ seat. refl;
   roots = λ t i. refl;
   waits = λ t. refl;
@@ -72,8 +81,11 @@ alike_written memory End value is = record {
   phase = refl;
   cset = refl;
   evac = refl;
+  claim = refl;
   ask = refl;
   tops = λ r. refl;
+  tams = λ r. refl;
+  limits = λ r. refl;
   currents = λ seat. refl;
   roots = λ t i. refl;
   waits = λ t. refl;
@@ -87,8 +99,11 @@ alike_written memory (State other) value is = record {
   phase = refl;
   cset = refl;
   evac = refl;
+  claim = refl;
   ask = refl;
   tops = λ r. refl;
+  tams = λ r. refl;
+  limits = λ r. refl;
   currents = λ seat. refl;
   roots = λ t i. refl;
   waits = λ t. refl;
@@ -148,6 +163,7 @@ module _ (c : Config) (u : World) (memory : Word → ℕ) (seat : ℕ) (alike : 
     asked = λ is. subst (λ n. bit_at n 1 ≡ 1) (sym alike.ask) is;
     marks = marks_in c u memory u.graph seat alike.phase alike.greys alike.counts alike.buffers alike.heap;
     copies = copies_in c u memory u.graph seat alike.cset alike.evac alike.tops alike.heap;
+    fields = fields_in c u memory u.graph alike.tams alike.limits alike.claim alike.heap;
   }
 
 -- the step of a load

@@ -18,7 +18,7 @@ use Rattle.heap_world.specs.World.{World, hand, Points}
 use Rattle.step_core.specs.Actor.{command_by}
 use Rattle.step_core.specs.Stepped.{IsSeatedIn, HasMarkingBy, HasCopyingBy, Mine, Row, OrderedRow}
 use Rattle.step_core.proofs.Spots.{mutator_at, accessed_by, accessed}
-use Rattle.step_core.proofs.Marking.{marks_in, still_waits, copies_in}
+use Rattle.step_core.proofs.Marking.{marks_in, still_waits, copies_in, fields_in}
 use Rattle.step_core.proofs.Ready.{leaving, rest_ready}
 use Rattle.step_core.proofs.Settling.{legal_answer, graph_answer}
 
@@ -50,7 +50,7 @@ module _ (c : Config) (u : World) (seat made : ℕ) (kept : Kept) (command : Com
     settles = λ r e. cc;
     shared = shared;
     mine = begins k mine.seated mine.marking mine.copying mine.roots mine.hands mine.facts takes;
-    others = λ j d. let marks = marks_in c u (accessed_by c u (at_spot Rest) (Begin k)).memory u.graph j refl (λ n. refl) (λ t. refl) (λ t k. refl) (λ a. refl) in let copies = copies_in c u (accessed_by c u (at_spot Rest) (Begin k)).memory u.graph j refl refl (λ r. refl) (λ a. refl) in search (arith, nat_tests, marks, copies);
+    others = λ j d. let marks = marks_in c u (accessed_by c u (at_spot Rest) (Begin k)).memory u.graph j refl (λ n. refl) (λ t. refl) (λ t k. refl) (λ a. refl) in let copies = copies_in c u (accessed_by c u (at_spot Rest) (Begin k)).memory u.graph j refl refl (λ r. refl) (λ a. refl) in let kept_fields = fields_in c u (accessed_by c u (at_spot Rest) (Begin k)).memory u.graph (λ r. refl) (λ r. refl) refl (λ a. refl) in search (arith, nat_tests, marks, copies, kept_fields);
   }
   at_rest End shared mine takes = record {
     world = accessed_by c u (at_spot Rest) End;
@@ -60,7 +60,7 @@ module _ (c : Config) (u : World) (seat made : ℕ) (kept : Kept) (command : Com
     settles = λ r e. cc;
     shared = shared;
     mine = ends mine.seated mine.marking mine.copying mine.roots mine.hands mine.facts;
-    others = λ j d. let marks = marks_in c u (accessed_by c u (at_spot Rest) End).memory u.graph j refl (λ n. refl) (λ t. refl) (λ t k. refl) (λ a. refl) in let copies = copies_in c u (accessed_by c u (at_spot Rest) End).memory u.graph j refl refl (λ r. refl) (λ a. refl) in search (arith, nat_tests, marks, copies);
+    others = λ j d. let marks = marks_in c u (accessed_by c u (at_spot Rest) End).memory u.graph j refl (λ n. refl) (λ t. refl) (λ t k. refl) (λ a. refl) in let copies = copies_in c u (accessed_by c u (at_spot Rest) End).memory u.graph j refl refl (λ r. refl) (λ a. refl) in let kept_fields = fields_in c u (accessed_by c u (at_spot Rest) End).memory u.graph (λ r. refl) (λ r. refl) refl (λ a. refl) in search (arith, nat_tests, marks, copies, kept_fields);
   }
 
   -- so does one that has ended a call
@@ -74,7 +74,7 @@ module _ (c : Config) (u : World) (seat made : ℕ) (kept : Kept) (command : Com
     settles = λ q e. cc;
     shared = shared;
     mine = begins k mine.seated mine.marking mine.copying mine.roots mine.hands mine.facts takes;
-    others = λ j d. let marks = marks_in c u (accessed_by c u (at_spot (Ended r)) (Begin k)).memory u.graph j refl (λ n. refl) (λ t. refl) (λ t k. refl) (λ a. refl) in let copies = copies_in c u (accessed_by c u (at_spot (Ended r)) (Begin k)).memory u.graph j refl refl (λ r. refl) (λ a. refl) in search (arith, nat_tests, marks, copies);
+    others = λ j d. let marks = marks_in c u (accessed_by c u (at_spot (Ended r)) (Begin k)).memory u.graph j refl (λ n. refl) (λ t. refl) (λ t k. refl) (λ a. refl) in let copies = copies_in c u (accessed_by c u (at_spot (Ended r)) (Begin k)).memory u.graph j refl refl (λ r. refl) (λ a. refl) in let kept_fields = fields_in c u (accessed_by c u (at_spot (Ended r)) (Begin k)).memory u.graph (λ r. refl) (λ r. refl) refl (λ a. refl) in search (arith, nat_tests, marks, copies, kept_fields);
   }
   at_ended r End shared mine takes = record {
     world = accessed_by c u (at_spot (Ended r)) End;
@@ -84,7 +84,7 @@ module _ (c : Config) (u : World) (seat made : ℕ) (kept : Kept) (command : Com
     settles = λ q e. cc;
     shared = shared;
     mine = ends mine.seated mine.marking mine.copying mine.roots mine.hands mine.facts;
-    others = λ j d. let marks = marks_in c u (accessed_by c u (at_spot (Ended r)) End).memory u.graph j refl (λ n. refl) (λ t. refl) (λ t k. refl) (λ a. refl) in let copies = copies_in c u (accessed_by c u (at_spot (Ended r)) End).memory u.graph j refl refl (λ r. refl) (λ a. refl) in search (arith, nat_tests, marks, copies);
+    others = λ j d. let marks = marks_in c u (accessed_by c u (at_spot (Ended r)) End).memory u.graph j refl (λ n. refl) (λ t. refl) (λ t k. refl) (λ a. refl) in let copies = copies_in c u (accessed_by c u (at_spot (Ended r)) End).memory u.graph j refl refl (λ r. refl) (λ a. refl) in let kept_fields = fields_in c u (accessed_by c u (at_spot (Ended r)) End).memory u.graph (λ r. refl) (λ r. refl) refl (λ a. refl) in search (arith, nat_tests, marks, copies, kept_fields);
   }
 
   -- the step that asks for a cycle settles Ok
@@ -99,7 +99,7 @@ module _ (c : Config) (u : World) (seat made : ℕ) (kept : Kept) (command : Com
         settles = λ r e. (mine.facts.0, refl);
         shared = shared;
         mine = leaving c _ seat made kept command reply.Ok mine.seated (mine.marking.records, mine.marking.scans, mine.copying.copies_is, mine.copying.works_none) mine.roots mine.hands;
-        others = λ j d. let marks = marks_in c u (accessed c u (at_spot AskCycle)).memory u.graph j refl (λ n. refl) (λ t. refl) (λ t k. refl) (λ a. refl) in let copies = copies_in c u (accessed c u (at_spot AskCycle)).memory u.graph j refl refl (λ r. refl) (λ a. refl) in let waits = still_waits (u.memory Ask) in search (arith, nat_tests, marks, copies, waits);
+        others = λ j d. let marks = marks_in c u (accessed c u (at_spot AskCycle)).memory u.graph j refl (λ n. refl) (λ t. refl) (λ t k. refl) (λ a. refl) in let copies = copies_in c u (accessed c u (at_spot AskCycle)).memory u.graph j refl refl (λ r. refl) (λ a. refl) in let kept_fields = fields_in c u (accessed c u (at_spot AskCycle)).memory u.graph (λ r. refl) (λ r. refl) refl (λ a. refl) in let waits = still_waits (u.memory Ask) in search (arith, nat_tests, marks, copies, kept_fields, waits);
       }
 
   -- the last step of a call gives its reply
@@ -112,5 +112,5 @@ module _ (c : Config) (u : World) (seat made : ℕ) (kept : Kept) (command : Com
     settles = λ q e. cc;
     shared = shared;
     mine = record { seated = mine.seated; ready = rest_ready c seat made kept (Ended r) refl mine.seated.below; marking = mine.marking; copying = mine.copying; roots = mine.roots; hands = mine.hands; facts = refl };
-    others = λ j d. let marks = marks_in c u (accessed c u (at_spot (Leave r))).memory u.graph j refl (λ n. refl) (λ t. refl) (λ t k. refl) (λ a. refl) in let copies = copies_in c u (accessed c u (at_spot (Leave r))).memory u.graph j refl refl (λ r. refl) (λ a. refl) in search (arith, nat_tests, marks, copies);
+    others = λ j d. let marks = marks_in c u (accessed c u (at_spot (Leave r))).memory u.graph j refl (λ n. refl) (λ t. refl) (λ t k. refl) (λ a. refl) in let copies = copies_in c u (accessed c u (at_spot (Leave r))).memory u.graph j refl refl (λ r. refl) (λ a. refl) in let kept_fields = fields_in c u (accessed c u (at_spot (Leave r))).memory u.graph (λ r. refl) (λ r. refl) refl (λ a. refl) in search (arith, nat_tests, marks, copies, kept_fields);
   }

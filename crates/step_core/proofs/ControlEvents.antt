@@ -7,7 +7,7 @@ use Rattle.std.proofs.lemmas.Bool.{and_parts, ltb-true, ltb-false}
 use Rattle.heap_words.specs.declared.config.Config.{Config}
 use Rattle.heap_words.specs.Access.{table_index}
 use Rattle.heap_words.specs.Ranges.{seat_count}
-use Rattle.heap_words.specs.Words.{Phase, Cset, image_start, view}
+use Rattle.heap_words.specs.Words.{Ask, Phase, Cset, image_start, view}
 use Rattle.heap_words.proofs.Stores.{is_word_from}
 use Rattle.steps_base.specs.Steps.{Stage, accessed, moved}
 use Rattle.steps_base.proofs.Places.{slice_get-set_same}
@@ -24,13 +24,18 @@ use Rattle.scan_steps.specs.Rows as scans
 use Rattle.scan_steps.specs.Seen as scan
 use Rattle.mark_steps.proofs.Scans.{scan_inside}
 use Rattle.mark_steps.proofs.Parts.{scanning_steps}
-use Rattle.heap_world.specs.Change.{Change, IsPause, image_view, image_words}
+use Rattle.heap_world.specs.Change.{Change, IsDue, IsPause, image_view, image_words}
+use Rattle.steps_base.specs.Touch.{touch, loads}
 use Rattle.load_barrier.specs.declared.evac_spot.EvacSpot.{EvacSpot}
 use Rattle.load_barrier.specs.UnitRows as evacs
+use Rattle.update_refs.specs.declared.spot.UpdateSpot.{UpdateSpot}
+use Rattle.update_refs.specs.Rows as updates
+use Rattle.update_refs.specs.Seen as update
 use Rattle.load_barrier.specs.UnitFit as evac
 use Rattle.evac_steps.proofs.Parts.{evacuating_steps}
+use Rattle.update_steps.proofs.Parts.{updating_steps}
 use Rattle.control_steps.specs.declared.spot.ControlSpot.{ControlSpot}
-use Rattle.control_steps.specs.declared.spot.ControlSpot.TheVariants.{LookLeft, StoreEnd, LookAsked, LookFree, Scanning, Evacuating, Stopping, LoadWord, StoreWord, Go, Gone}
+use Rattle.control_steps.specs.declared.spot.ControlSpot.TheVariants.{LookLeft, StoreEnd, LookAsked, LookFree, Scanning, Evacuating, Updating, Stopping, LoadWord, StoreWord, Go, Gone}
 use Rattle.control_steps.specs.Rows.{Controlling, control_access, seen_after, is_gone}
 use Rattle.control_steps.specs.Ready.{is_ready}
 use Rattle.step_core.specs.Actor.{controlling, Actor}
@@ -159,7 +164,11 @@ module _ (change : Change) (law : IsPause change) (c : Config) (g : Graph) (s : 
 
   -- while it loads the image it rests
   idle_at : (index : ℕ) → Here (LoadWord index) → IsResting open_now (control_number c)
-  idle_at index here = (control_held change law c g s past number (control_at (LoadWord index)) command calls follows shaken here).facts
+  idle_at index here = (control_held change law c g s past number (control_at (LoadWord index)) command calls follows shaken here).facts.0
+
+  -- and the pause is due
+  due_at : (index : ℕ) → Here (LoadWord index) → IsDue c open_now.memory
+  due_at index here = (control_held change law c g s past number (control_at (LoadWord index)) command calls follows shaken here).facts.1
 
   -- The last word of the image is loaded: the image stands for the graph.
   pub whole_stands : (index : ℕ) → Here (LoadWord index) → index + 1 ≡ image_words c → StandsForSome c (image ++ loaded index ∷ [])
@@ -206,7 +215,7 @@ module _ (change : Change) (law : IsPause change) (c : Config) (g : Graph) (s : 
   loaded_owes index here shared known false all =
       let less : index + 1 ≡ image_words c = (let last = ltb-false _ _ all in let ready = ltb-true _ _ (ready_at (LoadWord index) here) in omega (arith, last, ready)) in
       paused_owes c s.words follows.block follows.ghost (after g past) past s.machines (image ++ loaded index ∷ [])
-      (λ i below. image_grows c s.words image index known.aims.0 known.aims.1 i (omega (arith, below, less))) follows.seats (idle_at index here) change law
+      (λ i below. image_grows c s.words image index known.aims.0 known.aims.1 i (omega (arith, below, less))) follows.seats (idle_at index here) change law (due_at index here)
       (length-snoc image (loaded index) ∙ ap (λ n. n + 1) known.aims.0 ∙ less) shared follows.promised_to follows.no_more
       (known_held change law c g s past number (control_at (LoadWord index)) command calls follows shaken here)
       (all_outside change law c g s past number (control_at (LoadWord index)) command calls follows shaken here refl)
@@ -277,6 +286,31 @@ module _ (change : Change) (law : IsPause change) (c : Config) (g : Graph) (s : 
       (took_of change c (record { machine = controlling (control_at (Evacuating kept at)); command = command; calls = calls }) Nothing n (controlling (control_at (Evacuating kept at))))) (sym (evac_found kept at here))
       (pauses.evac_unit c s.words follows.block follows.ghost (after g past) past s.machines command calls change seen phase cset image follows.words shared follows.promised_to kept at (is_off (evacs.is_ended at) ready.1) known))
 
+  -- a word that it finds while it updates is fit
+  update_found : (kept : ℕ) (at : UpdateSpot) → Here (Updating kept at) → got (Updating kept at) ≡ view c s.words (updates.touch_at c at).word
+  update_found kept at here =
+      let known = control_held change law c g s past number (control_at (Updating kept at)) command calls follows shaken here in
+      found-placed c s.words (updates.touch_at c at)
+      (is_word_from c _ (updating_steps.inside c open_now (control_number c) kept at (shared_held change law c g s past number (control_at (Updating kept at)) command calls follows shaken here) known.facts))
+
+  pub update_fit : (kept : ℕ) (at : UpdateSpot) → Here (Updating kept at) → update.IsFit c kept at (got (Updating kept at))
+  update_fit kept at here =
+      let known = control_held change law c g s past number (control_at (Updating kept at)) command calls follows shaken here in
+      let ready = and_parts _ _ known.ready in
+      subst (λ n. update.IsFit c kept at n) (sym (update_found kept at here))
+      (updating_steps.fits c open_now (control_number c) kept at (is_off (updates.is_ended at) ready.1)
+      (shared_held change law c g s past number (control_at (Updating kept at)) command calls follows shaken here) known.facts)
+
+  -- a step of a unit of updating
+  update_word : (kept : ℕ) (at : UpdateSpot) → Here (Updating kept at) → ControlGoal (Updating kept at)
+  update_word kept at here = quiet (Updating kept at) here refl refl (λ shared known.
+      let ready = and_parts _ _ known.ready in
+      subst
+      (λ n. Owes c s.words (words_after c s.words (updates.touch_at c at)) open_now past (control_number c) s.machines
+      (settled_by c (words_after c s.words (updates.touch_at c at)) (image_in (took_of change c (record { machine = controlling (control_at (Updating kept at)); command = command; calls = calls }) Nothing n (controlling (control_at (Updating kept at)))).machine)) []
+      (took_of change c (record { machine = controlling (control_at (Updating kept at)); command = command; calls = calls }) Nothing n (controlling (control_at (Updating kept at))))) (sym (update_found kept at here))
+      (pauses.update_unit c s.words follows.block follows.ghost (after g past) past s.machines command calls change seen phase cset image follows.words shared follows.promised_to kept at (is_off (updates.is_ended at) ready.1) known))
+
   -- wherever it stands
   pub by_spot : (spot : ControlSpot) → is_gone spot ≡ false → Here spot → ControlGoal spot
   by_spot LookLeft going here = quiet LookLeft here refl refl (λ shared known.
@@ -284,11 +318,12 @@ module _ (change : Change) (law : IsPause change) (c : Config) (g : Graph) (s : 
   by_spot StoreEnd going here = quiet StoreEnd here refl refl (λ shared known.
       pauses.store_end c s.words follows.block follows.ghost (after g past) past s.machines command calls change seen phase cset image follows.words shared follows.promised_to (got StoreEnd) known)
   by_spot LookAsked going here = quiet LookAsked here refl refl (λ shared known.
-      pauses.look_asked c s.words follows.block follows.ghost (after g past) past s.machines command calls change seen phase cset image follows.words shared follows.promised_to (got LookAsked) known)
+      pauses.look_asked c s.words follows.block follows.ghost (after g past) past s.machines command calls change seen phase cset image follows.words shared follows.promised_to (got LookAsked) (found-placed c s.words (touch Ask loads) refl) known)
   by_spot LookFree going here = quiet LookFree here refl refl (λ shared known.
       pauses.look_free c s.words follows.block follows.ghost (after g past) past s.machines command calls change seen phase cset image follows.words shared follows.promised_to (got LookFree) known)
   by_spot (Scanning at) going here = scan_word at here
   by_spot (Evacuating kept at) going here = evac_word kept at here
+  by_spot (Updating kept at) going here = update_word kept at here
   by_spot (Stopping stop.Raise) going here = quiet (Stopping stop.Raise) here refl refl (λ shared known.
       pauses.raise_pause c s.words follows.block follows.ghost (after g past) past s.machines command calls change seen phase cset image follows.words shared follows.promised_to (got (Stopping stop.Raise)) known)
   by_spot (Stopping (stop.Check seat)) going here = quiet (Stopping (stop.Check seat)) here refl refl (λ shared known.

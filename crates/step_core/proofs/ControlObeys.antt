@@ -23,9 +23,13 @@ use Rattle.control_steps.specs.declared.spot.ControlSpot.{ControlSpot}
 use Rattle.load_barrier.specs.declared.evac_spot.EvacSpot.{EvacSpot}
 use Rattle.load_barrier.specs.declared.evac_spot.EvacSpot.TheVariants as evac
 use Rattle.load_barrier.specs.UnitRows as evacs
+use Rattle.update_refs.specs.declared.spot.UpdateSpot.{UpdateSpot}
+use Rattle.update_refs.specs.declared.spot.UpdateSpot.TheVariants as update
+use Rattle.update_refs.specs.Rows as updates
 use Rattle.load_barrier.proofs.Inside.{evacuation_inside, evacuation_image}
-use Rattle.control_steps.specs.declared.spot.ControlSpot.TheVariants.{Evacuating, LookLeft, StoreEnd, LookAsked, LookFree, Scanning, Stopping, LoadWord, StoreWord, Go, Gone}
-use Rattle.control_steps.specs.Rows.{control_seat, access_with, next_spot, stopping, after_scan, after_evacuation, begins_pause, begins_unit, unasked, wants_pause}
+use Rattle.update_refs.proofs.Inside.{updating_inside, updating_image}
+use Rattle.control_steps.specs.declared.spot.ControlSpot.TheVariants.{Evacuating, Updating, LookLeft, StoreEnd, LookAsked, LookFree, Scanning, Stopping, LoadWord, StoreWord, Go, Gone}
+use Rattle.control_steps.specs.Rows.{control_seat, access_with, next_spot, stopping, after_scan, after_evacuation, after_updating, begins_pause, begins_unit, unasked, wants_pause}
 use Rattle.control_steps.specs.Ready.{is_ready}
 use Rattle.step_core.specs.Standing.{control_standing}
 use Rattle.step_core.proofs.Helpers.{is_off}
@@ -51,6 +55,11 @@ evac_free cset (evac.Ended Worked) = refl
 evac_free cset (evac.Ended NoneLeft) = refl
 evac_free cset _ = refl
 
+update_free : (cset : ℕ) (at : UpdateSpot) → is_free (control_standing (after_updating cset at)) ≡ true
+update_free cset (update.Ended Worked) = refl
+update_free cset (update.Ended NoneLeft) = refl
+update_free cset _ = refl
+
 pub scan_image : (c : Config) (at : ScanSpot) → is_image (scans.touch_at c at).word ≡ true
 scan_image c scan.LoadClaim = refl
 scan_image c (scan.ClaimUnit unit) = refl
@@ -66,7 +75,11 @@ pub control_obeys : (c : Config) (seat phase cset seen value : ℕ) (spot : Cont
     → Obeys c seat (control_standing spot) (access_with c spot value) (λ got. control_standing (next_spot c phase cset seen spot got))
 control_obeys c seat phase cset seen value LookLeft ready = record { elsewhere = placed_elsewhere c (touch Left loads) tt refl; goes_on = λ got. either is_free (nat_eq got 0) StoreEnd LookAsked refl refl }
 control_obeys c seat phase cset seen value StoreEnd ready = record { elsewhere = placed_elsewhere c (touch End (stores 1)) tt refl; goes_on = λ got. refl }
-control_obeys c seat phase cset seen value LookAsked ready = record { elsewhere = placed_elsewhere c (touch Ask loads) tt refl; goes_on = λ got. either is_free (begins_pause phase got) (Stopping stop.Raise) (unasked phase cset) refl (either is_free (nat_eq phase 0) LookFree (begins_unit phase cset) refl (either is_free (nat_eq phase 1) (Scanning scan.LoadClaim) (Evacuating cset evac.LoadClaim) refl refl)) }
+control_obeys c seat phase cset seen value LookAsked ready = record {
+  elsewhere = placed_elsewhere c (touch Ask loads) tt refl;
+  goes_on = λ got. either is_free (begins_pause phase got) (Stopping stop.Raise) (unasked phase cset) refl (either is_free (nat_eq phase 0) LookFree (begins_unit phase cset) refl (either is_free (nat_eq phase 1) (Scanning scan.LoadClaim) (if nat_eq phase 2 then Evacuating cset evac.LoadClaim else Updating cset update.LoadClaim) refl
+      (either is_free (nat_eq phase 2) (Evacuating cset evac.LoadClaim) (Updating cset update.LoadClaim) refl refl)));
+}
 control_obeys c seat phase cset seen value LookFree ready = record { elsewhere = placed_elsewhere c (touch Free loads) tt refl; goes_on = λ got. either is_free (wants_pause c seen got) (Stopping stop.Raise) LookLeft refl refl }
 control_obeys c seat phase cset seen value (Scanning at) ready =
     let word : IsWord c (scans.touch_at c at).word = scan_inside c at (and_parts _ _ ready).0 in
@@ -74,6 +87,9 @@ control_obeys c seat phase cset seen value (Scanning at) ready =
 control_obeys c seat phase cset seen value (Evacuating kept at) ready =
     let word : IsWord c (evacs.touch_at c (control_seat c) at).word = evacuation_inside c (control_seat c) at (and_parts _ _ ready).0 in
     record { elsewhere = image_elsewhere c (placed c (evacs.touch_at c (control_seat c) at)) (placed_above c (evacs.touch_at c (control_seat c) at) word (evacuation_image c (control_seat c) at)); goes_on = λ got. evac_free kept (evacs.next_at c kept at got) }
+control_obeys c seat phase cset seen value (Updating kept at) ready =
+    let word : IsWord c (updates.touch_at c at).word = updating_inside c at (and_parts _ _ ready).0 in
+    record { elsewhere = image_elsewhere c (placed c (updates.touch_at c at)) (placed_above c (updates.touch_at c at) word (updating_image c at)); goes_on = λ got. update_free kept (updates.next_at c kept at got) }
 control_obeys c seat phase cset seen value (Stopping at) ready =
     obeys_same c seat (stop_standing at) _ (λ got. stop_standing (stop_next c at got)) _ (λ got. stopping_standing (stop_next c at got))
     (stop_obeys c seat at (is_off (is_stopped at) (and_parts (touch_fits c (stop_touch at)) (if is_stopped at then false else true) ready).1))
@@ -96,6 +112,9 @@ control_counts c value (Scanning at) ready =
 control_counts c value (Evacuating kept at) ready =
     let word : IsWord c (evacs.touch_at c (control_seat c) at).word = evacuation_inside c (control_seat c) at (and_parts _ _ ready).0 in
     inr (record { not_written = inr (image_not_left c (placed c (evacs.touch_at c (control_seat c) at)) (placed_above c (evacs.touch_at c (control_seat c) at) word (evacuation_image c (control_seat c) at))); same = λ got. refl })
+control_counts c value (Updating kept at) ready =
+    let word : IsWord c (updates.touch_at c at).word = updating_inside c at (and_parts _ _ ready).0 in
+    inr (record { not_written = inr (image_not_left c (placed c (updates.touch_at c at)) (placed_above c (updates.touch_at c at) word (updating_image c at))); same = λ got. refl })
 control_counts c value (Stopping at) ready = stop_counts c value at
 control_counts c value (StoreWord index) ready = inr (record { not_written = inr (image_not_left c (access_with c (StoreWord index) value) (omega arith)); same = λ got. refl })
 control_counts c value Go ready = inr (record { not_written = inr (λ e. omega (arith, e)); same = λ got. refl })

@@ -38,10 +38,14 @@ use Rattle.mutator.specs.Fit.{numbers_fit}
 use Rattle.load_barrier.specs.declared.evac_spot.EvacSpot.{EvacSpot}
 use Rattle.load_barrier.specs.declared.evac_spot.EvacSpot.TheVariants as evac
 use Rattle.load_barrier.specs.UnitRows as evacs
+use Rattle.update_refs.specs.declared.spot.UpdateSpot.{UpdateSpot}
+use Rattle.update_refs.specs.declared.spot.UpdateSpot.TheVariants as update
+use Rattle.update_refs.specs.Rows as updates
 use Rattle.load_barrier.proofs.Inside.{evacuation_inside, evacuation_image}
+use Rattle.update_refs.proofs.Inside.{updating_inside, updating_image}
 use Rattle.control_steps.specs.declared.spot.ControlSpot.{ControlSpot}
 use Rattle.control_steps.specs.declared.spot.ControlSpot.TheVariants as control
-use Rattle.control_steps.specs.Rows.{control_seat, is_gone, access_with, word_stored, next_spot, stopping, after_scan, after_evacuation, begins_pause, begins_unit, unasked, wants_pause}
+use Rattle.control_steps.specs.Rows.{control_seat, is_gone, access_with, word_stored, next_spot, stopping, after_scan, after_evacuation, after_updating, begins_pause, begins_unit, unasked, wants_pause}
 use Rattle.control_steps.specs.Ready.{is_ready}
 use Rattle.step_core.specs.Actor.{Machine, mutating, helping, controlling, Actor}
 use Rattle.step_core.specs.Machines.{takes_of, plan_of, machine_after, IsIdle, kind}
@@ -124,6 +128,11 @@ evac_goes cset (evac.Ended Worked) = refl
 evac_goes cset (evac.Ended NoneLeft) = refl
 evac_goes cset _ = refl
 
+update_goes : (cset : ℕ) (at : UpdateSpot) → is_gone (after_updating cset at) ≡ false
+update_goes cset (update.Ended Worked) = refl
+update_goes cset (update.Ended NoneLeft) = refl
+update_goes cset _ = refl
+
 module _ (c : Config) (phase cset seen value : ℕ) where
   stop_not : (at : StopSpot) → (is_load (access_with c (control.Stopping at) value) ≡ true) ⊎ (table_index (access_with c (control.Stopping at) value) ≢ word_at c End)
   stop_not stop.Raise = inr (λ e. omega (arith, e))
@@ -133,7 +142,11 @@ module _ (c : Config) (phase cset seen value : ℕ) where
   control_keeps_end : (spot : ControlSpot) → is_ready c spot ≡ true → KeepsEnd c (is_gone spot) (access_with c spot value) (λ got. is_gone (next_spot c phase cset seen spot got))
   control_keeps_end control.LookLeft ready = inr (record { not_written = inl refl; same = λ got. neither (got == 0) control.StoreEnd control.LookAsked refl refl })
   control_keeps_end control.StoreEnd ready = inl (record { access_is = refl; has_ended = λ got. refl })
-  control_keeps_end control.LookAsked ready = inr (record { not_written = inl refl; same = λ got. neither (begins_pause phase got) (control.Stopping stop.Raise) (unasked phase cset) refl (neither (phase == 0) control.LookFree (begins_unit phase cset) refl (neither (phase == 1) (control.Scanning scan.LoadClaim) (control.Evacuating cset evac.LoadClaim) refl refl)) })
+  control_keeps_end control.LookAsked ready = inr (record {
+    not_written = inl refl;
+    same = λ got. neither (begins_pause phase got) (control.Stopping stop.Raise) (unasked phase cset) refl (neither (phase == 0) control.LookFree (begins_unit phase cset) refl (neither (phase == 1) (control.Scanning scan.LoadClaim) (if phase == 2 then control.Evacuating cset evac.LoadClaim else control.Updating cset update.LoadClaim) refl
+        (neither (phase == 2) (control.Evacuating cset evac.LoadClaim) (control.Updating cset update.LoadClaim) refl refl)));
+  })
   control_keeps_end control.LookFree ready = inr (record { not_written = inl refl; same = λ got. neither (wants_pause c seen got) (control.Stopping stop.Raise) control.LookLeft refl refl })
   control_keeps_end (control.Scanning at) ready =
       let above = placed_above c (scans.touch_at c at) (scan_inside c at (and_parts _ _ ready).0) (scan_image c at) in
@@ -141,6 +154,9 @@ module _ (c : Config) (phase cset seen value : ℕ) where
   control_keeps_end (control.Evacuating kept at) ready =
       let above = placed_above c (evacs.touch_at c (control_seat c) at) (evacuation_inside c (control_seat c) at (and_parts _ _ ready).0) (evacuation_image c (control_seat c) at) in
       inr (record { not_written = inr (λ e. omega (arith, e, above)); same = λ got. evac_goes kept (evacs.next_at c kept at got) })
+  control_keeps_end (control.Updating kept at) ready =
+      let above = placed_above c (updates.touch_at c at) (updating_inside c at (and_parts _ _ ready).0) (updating_image c at) in
+      inr (record { not_written = inr (λ e. omega (arith, e, above)); same = λ got. update_goes kept (updates.next_at c kept at got) })
   control_keeps_end (control.Stopping at) ready = inr (record { not_written = stop_not at; same = λ got. stopping_goes (stop_next c at got) })
   control_keeps_end (control.LoadWord index) ready = inr (record { not_written = inl refl; same = λ got. neither (nat_lt (index + 1) (image_words c)) (control.LoadWord (index + 1)) (control.StoreWord 0) refl refl })
   control_keeps_end (control.StoreWord index) ready =

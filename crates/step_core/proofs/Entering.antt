@@ -20,12 +20,12 @@ use Rattle.mutator.specs.Rows.{Mutating}
 use Rattle.mutator.specs.WaitRows.{after_enter}
 use Rattle.mutator.specs.Fit.{is_ready, is_outside}
 use Rattle.heap_world.specs.World.{World}
-use Rattle.heap_world.specs.Rely.{Keeps, RelyCopies, RelyMarks}
+use Rattle.heap_world.specs.Rely.{Keeps, KeepsFields, RelyCopies, RelyMarks}
 use Rattle.heap_world.proofs.Keeping.{rely_same, keeps_of}
 use Rattle.heap_world.proofs.Marked.{same_marks}
 use Rattle.step_core.specs.Stepped.{Mine, Row}
 use Rattle.step_core.proofs.Spots.{mutator_at}
-use Rattle.step_core.proofs.Marking.{marks_in, marking_relied, copies_in, copying_relied}
+use Rattle.step_core.proofs.Marking.{marks_in, marking_relied, copies_in, copying_relied, fields_in}
 use Rattle.heap_world.proofs.Copies.{same_copies}
 use Rattle.step_core.proofs.Stable.{root_stays, enter_stays, seated_stays}
 use Rattle.step_core.proofs.Loading.{looks}
@@ -42,6 +42,9 @@ state_marks c u seat j value = marks_in c u (state_world u seat value).memory u.
 -- nor is it one of evacuation
 state_copies : (c : Config) (u : World) (seat j value : ℕ) → RelyCopies c j u (state_world u seat value)
 state_copies c u seat j value = copies_in c u (state_world u seat value).memory u.graph j refl refl (λ r. refl) (λ a. refl)
+
+state_fields : (c : Config) (u : World) (seat value : ℕ) → KeepsFields c u (state_world u seat value)
+state_fields c u seat value = fields_in c u (state_world u seat value).memory u.graph (λ r. refl) (λ r. refl) refl (λ a. refl)
 
 pub state_keeps : (c : Config) (u : World) (seat j value : ℕ) → Keeps c j u (state_world u seat value)
 state_keeps c u seat j value = let marks = state_marks c u seat j value in let kept = marks.keeps in let copies = state_copies c u seat j value in let kept_copies = copies.keeps in search (arith, nat_tests, kept, kept_copies)
@@ -101,7 +104,7 @@ module _ (c : Config) (u : World) (seat made : ℕ) (kept : Kept) (command : Com
     settles = λ r e. cc;
     shared = shared;
     mine = mine_stored Raise next mine 1 Look refl;
-    others = λ j d. let marks = state_marks c u seat j 1 in let copies = state_copies c u seat j 1 in search (arith, nat_tests, marks, copies);
+    others = λ j d. let marks = state_marks c u seat j 1 in let copies = state_copies c u seat j 1 in let kept_fields = state_fields c u seat 1 in search (arith, nat_tests, marks, copies, kept_fields);
   }
   at_enter Look next shared mine = looks c u (at_spot (Entering Look next)) Pause command fixed refl refl refl shared (by_pause (u.memory Pause == 0))
     where
@@ -116,7 +119,7 @@ module _ (c : Config) (u : World) (seat made : ℕ) (kept : Kept) (command : Com
     settles = λ r e. cc;
     shared = shared;
     mine = mine_stored Lower next mine 0 Await refl;
-    others = λ j d. let marks = state_marks c u seat j 0 in let copies = state_copies c u seat j 0 in search (arith, nat_tests, marks, copies);
+    others = λ j d. let marks = state_marks c u seat j 0 in let copies = state_copies c u seat j 0 in let kept_fields = state_fields c u seat 0 in search (arith, nat_tests, marks, copies, kept_fields);
   }
   at_enter Await next shared mine = looks c u (at_spot (Entering Await next)) Pause command fixed refl refl refl shared (by_pause (u.memory Pause == 0))
     where

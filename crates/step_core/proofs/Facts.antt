@@ -16,10 +16,10 @@ use Rattle.shen_graph.specs.History.{Entry, after, EachIsLegal, of_thread}
 use Rattle.mutator.specs.Orders.{is_valid}
 use Rattle.mutator.specs.Rows.{Mutating}
 use Rattle.heap_world.specs.World.{Ghost, World, Plot, hand, promised, Shared}
-use Rattle.heap_world.specs.Change.{image_words}
+use Rattle.heap_world.specs.Change.{image_words, IsDue}
 use Rattle.heap_world.specs.Roots.{HasNoMore}
 use Rattle.control_steps.specs.declared.spot.ControlSpot.{ControlSpot}
-use Rattle.control_steps.specs.declared.spot.ControlSpot.TheVariants.{Scanning, Evacuating, LoadWord, StoreWord}
+use Rattle.control_steps.specs.declared.spot.ControlSpot.TheVariants.{LookFree, Scanning, Evacuating, Updating, Stopping, LoadWord, StoreWord}
 use Rattle.control_steps.specs.Rows.{Controlling}
 use Rattle.control_steps.specs.Ready.{is_ready}
 use Rattle.helper.specs.declared.spot.HelpSpot.{HelpSpot}
@@ -29,6 +29,7 @@ use Rattle.helper.specs.Ready.{help_ready}
 use Rattle.scan_steps.specs.declared.spot.ScanSpot.{ScanSpot}
 use Rattle.mark_steps.specs.Scanning.{CanScan}
 use Rattle.evac_steps.specs.Evacuating.{CanEvacuate}
+use Rattle.update_steps.specs.Updating.{CanUpdate}
 use Rattle.step_core.specs.Actor.{Machine, mutating, helping, controlling, Actor, entries_of}
 use Rattle.step_core.specs.Threads.{IsSettled}
 use Rattle.step_core.specs.Stepped.{Mine}
@@ -82,6 +83,7 @@ Scans c w seat at = CanScan c w seat at × (w.ghost.copying seat ≡ false) × (
 abbrev pub HelpFacts : Config → World → ℕ → HelpSpot → Type 0
 HelpFacts c w seat (help.Scanning at) = Scans c w seat at
 HelpFacts c w seat (help.Evacuating cset at) = CanEvacuate c w seat cset at
+HelpFacts c w seat (help.Updating cset at) = CanUpdate c w seat cset at
 HelpFacts c w seat (help.LoadSet phase) = IsResting w seat × (phase ≢ 0) × (phase ≡ w.memory Phase)
 HelpFacts c w seat _ = IsResting w seat
 
@@ -103,10 +105,15 @@ IsAim c words (LoadWord index) image = (length image ≡ index) × AreRead c wor
 IsAim c words (StoreWord index) image = (length image ≡ image_words c) × AreRead c words image index
 IsAim c words _ image = Unit {0}
 
--- what the control counts on by where it stands: in a unit it can go on, and elsewhere it rests
+-- What the control counts on by where it stands: in a unit it can go on, and elsewhere it rests. It looks at the free word in phase 0
+-- alone, and where it has begun a pause and until it has read the image, that pause is due.
 abbrev pub ControlFacts : Config → World → ℕ → ControlSpot → Type 0
 ControlFacts c w number (Scanning at) = Scans c w number at
 ControlFacts c w number (Evacuating cset at) = CanEvacuate c w number cset at
+ControlFacts c w number (Updating cset at) = CanUpdate c w number cset at
+ControlFacts c w number LookFree = IsResting w number × (w.memory Phase ≡ 0)
+ControlFacts c w number (Stopping at) = IsResting w number × IsDue c w.memory
+ControlFacts c w number (LoadWord index) = IsResting w number × IsDue c w.memory
 ControlFacts c w number _ = IsResting w number
 
 -- what holds of the control: it knows the phase and the collection set, and can make its next access

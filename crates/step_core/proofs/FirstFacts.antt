@@ -221,7 +221,7 @@ first_evacuated c =
     (subst (λ evac. IsEvacuating c (first_memory c Phase) 0 evac (first_memory c Claim) (first_memory c Free) (λ r. first_memory c (Top r)) (λ r. first_memory c (Tams r)) (λ a. first_memory c (Heap a)) (λ n. first_memory c (Black n))
     (first_block c) (λ r. None) (λ seat. false) (λ seat. None)) (sym (first_counter c))
     (none_evacuated c (first_memory c Phase) (first_memory c Claim) (first_memory c Free) (λ r. first_memory c (Top r)) (λ r. first_memory c (Tams r)) (λ a. first_memory c (Heap a)) (λ n. first_memory c (Black n))
-    (first_block c) (λ r. None) (λ seat. false) (λ seat. None) (λ two. (let none = first_phase c in omega (arith, none, two))) (none_moved c) (none_spent c) (λ seat below. refl)))
+    (first_block c) (λ r. None) (λ seat. false) (λ seat. None) (λ late. (let none = first_phase c in omega (arith, none, late))) (none_moved c) (none_spent c) (λ seat below. refl)))
 
 -- what machines share holds of the opening
 first_shared : (c : Config) → Shared c (first_world c)
@@ -252,6 +252,7 @@ first_shared c = record {
   marked = none_marked c (first_memory c Phase) (λ n. first_memory c (Grey n)) (λ n. first_memory c (Black n)) (λ t. first_memory c (Count t)) (λ t k. first_memory c (Buffer t k)) (λ r. first_memory c (Top r))
       (λ r. first_memory c (Tams r)) (λ a. first_memory c (Heap a)) (first_block c) (λ seat. None) (λ seat. None) (first_phase c);
   evacuated = first_evacuated c;
+  updated = λ on. absurd (let none = first_phase c in omega (arith, none, on));
 }
 
 -- the words of the roots stand for the graph's

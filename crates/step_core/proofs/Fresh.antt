@@ -1,10 +1,11 @@
 -- The steps that make a new object in room in hand.
-use Rattle.std.proofs.Common.{◌≡◌, ◌≢◌, ℕ, ◌+◌, ◌<◌, Bool, true, false, Option, Some, inr, ⊎_elim, refl, sym, ap, ◌∙◌, subst, arith}
+use Rattle.std.proofs.Common.{◌≡◌, ◌≢◌, ℕ, ◌+◌, ◌<◌, Bool, true, false, Option, Some, inl, inr, ⊎_elim, refl, sym, ap, ◌∙◌, subst, arith}
 use Rattle.std.specs.Prelude.{◌==◌, nat_lt, if◌then◌else◌}
 use Rattle.std.proofs.lemmas.Bool.{cases_eq, cond-true, cond-false, eq-eqb, ne_eqb, ltb-true, ltb-false}
 use Rattle.heap_words.specs.declared.config.Config.{Config}
 use Rattle.heap_words.specs.Encoding.{fresh_word}
-use Rattle.heap_words.specs.Words.{Phase, Cset, Evac, Claim, Free, Top, Tams, Count, Buffer, Grey, Black, Heap}
+use Rattle.heap_words.specs.Words.{Phase, Cset, Evac, Claim, Free, Top, Tams, Limit, Count, Buffer, Grey, Black, Heap}
+use Rattle.shen_graph.specs.declared.name.Name.{Name}
 use Rattle.shen_graph.specs.declared.command.Command.{Command}
 use Rattle.shen_graph.specs.declared.command.Reply.{Reply}
 use Rattle.mutator.specs.declared.spot.Spot.{Spot}
@@ -22,6 +23,8 @@ use Rattle.step_core.proofs.FreshRoot.{usable_made, HasNew, made_world, made_rep
 use Rattle.heap_world.proofs.Apart.{far}
 use Rattle.heap_world.proofs.Copies.{same_plot, rely_copies}
 use Rattle.heap_world.proofs.Evacuated.{evacuated_words}
+use Rattle.heap_world.proofs.Updated.{updated_elsewhere}
+use Rattle.heap_world.proofs.Fields.{fields_stored}
 use Rattle.copy_steps.proofs.Bodies.{room_outside}
 use Rattle.heap_world.proofs.Pointing.{body_piece}
 use Rattle.heap_world.proofs.Marked.{rely_marks, marked_elsewhere}
@@ -67,6 +70,14 @@ module _ (c : Config) (u : World) (seat made : ℕ) (kept : Kept) (command : Com
         let header : a + 0 ≡ a = omega arith in
         ap (λ x. stored_world.memory (Heap x)) (sym header) ∙ else_stays a 0 b is (not_room a b is differs) some ∙ ap (λ x. u.memory (Heap x)) header
 
+    -- the references of objects stay
+    fields_stay : (a more_refs more_nums k : ℕ) (n : Name) → u.block a ≡ Some (thing n more_refs more_nums) → k < more_refs → stored_world.memory (Heap (a + 3 + k)) ≡ u.memory (Heap (a + 3 + k))
+    fields_stay a more_refs more_nums k n is below =
+        let there : a + (3 + k) ≡ a + 3 + k = omega arith in
+        ap (λ b. stored_world.memory (Heap b)) (sym there)
+        ∙ else_stays a (3 + k) (thing n more_refs more_nums) is (not_room a (thing n more_refs more_nums) is (λ differ. cc)) (omega (arith, below))
+        ∙ ap (λ b. u.memory (Heap b)) there
+
     -- machines share what they shared
     shared_stored : Shared c stored_world
     shared_stored = record {
@@ -94,11 +105,7 @@ module _ (c : Config) (u : World) (seat made : ℕ) (kept : Kept) (command : Com
           shared.unwritten;
       marked = marked_elsewhere c (u.memory Phase) (λ n. u.memory (Grey n)) (λ n. u.memory (Black n)) (λ t. u.memory (Count t)) (λ t k. u.memory (Buffer t k)) (λ r. u.memory (Top r)) (λ r. u.memory (Tams r))
           (λ a. u.memory (Heap a)) u.block u.ghost.snapshot u.ghost.recording u.ghost.scanning shared.marked (λ a. stored_world.memory (Heap a))
-          (λ a more_refs more_nums k n is below.
-          let there : a + (3 + k) ≡ a + 3 + k = omega arith in
-          ap (λ b. stored_world.memory (Heap b)) (sym there)
-          ∙ else_stays a (3 + k) (thing n more_refs more_nums) is (not_room a (thing n more_refs more_nums) is (λ differ. cc)) (omega (arith, below))
-          ∙ ap (λ b. u.memory (Heap b)) there);
+          fields_stay;
       evacuated = evacuated_words c (u.memory Phase) (u.memory Cset) (u.memory Evac) (u.memory Claim) (u.memory Free) (λ r. u.memory (Top r)) (λ r. u.memory (Tams r)) (λ a. u.memory (Heap a)) (λ n. u.memory (Black n))
           u.block u.ghost.owner u.ghost.copying u.ghost.working shared.evacuated (λ a. stored_world.memory (Heap a))
           (λ a more_refs more_nums to n is. (
@@ -110,6 +117,7 @@ module _ (c : Config) (u : World) (seat made : ℕ) (kept : Kept) (command : Com
             head_stays a (spent words to) is (λ differ. cc) (omega (arith, long)),
             else_stays a 1 (spent words to) is (not_room a (spent words to) is (λ differ. cc)) (omega (arith, long)),
           ));
+      updated = λ on. updated_elsewhere c (u.memory Cset) (u.memory Claim) (λ r. u.memory (Top r)) (λ r. u.memory (Limit r)) (λ a. u.memory (Heap a)) u.block u.ghost.scanning (shared.updated on) (λ a. stored_world.memory (Heap a)) fields_stay;
     }
 
     -- one word more of the new object stands in the room
@@ -192,6 +200,7 @@ module _ (c : Config) (u : World) (seat made : ℕ) (kept : Kept) (command : Com
           (λ a k b seated copies inside is from below.
           let piece = body_piece (u.block a) b is in
           else_stays a k piece.0 piece.1 (not_room a piece.0 piece.1 (λ same. not_body a b piece.0 is piece.1 same)) (let long = piece.2 in omega (arith, below, long)));
+      fields = fields_stored c u stored_world (λ r. refl) (λ r. refl) refl (λ a words is. is) (λ on a more_refs more_nums k n is below. inl (fields_stay a more_refs more_nums k n is below));
     }
 
   -- the step that stores a word of a new object
@@ -218,7 +227,7 @@ module _ (c : Config) (u : World) (seat made : ℕ) (kept : Kept) (command : Com
       here = mine.facts.1.room;
       unnamed = refl;
       long = refl;
-      own = record { no_hand = λ j words differs same. (let seats : j ≡ seat = cc in differs seats); no_promise = λ j words differs same. cc };
+      own = record { no_hand = λ j words differs same. (let seats : j ≡ seat = cc in differs seats); no_promise = λ j words differs same. cc; no_filler = λ words same. cc };
       known = λ on. inr (shared.marked.young on address seat (3 + refs + nums) mine.facts.1.room);
       outside = room_outside c u shared address seat (3 + refs + nums) mine.facts.1.room;
       kept = λ on. inr (shared.evacuated.kept.young on address seat (3 + refs + nums) mine.facts.1.room);

@@ -1,11 +1,12 @@
 -- A new object is stored into a root: room in hand, or an object that was promised, becomes an object of the graph, and its name
 -- is settled.
-use Rattle.std.proofs.Common.{◌≡◌, ◌≢◌, ℕ, ◌+◌, ◌<◌, ◌⊎◌, inr, true, Option, Some, None, refl, sym, ap, ◌∙◌, subst, arith}
+use Rattle.std.proofs.Common.{◌≡◌, ◌≢◌, ℕ, ◌+◌, ◌<◌, ◌⊎◌, inl, inr, ◌≤◌, true, Option, Some, None, refl, sym, ap, ◌∙◌, subst, arith}
 use Rattle.std.specs.Prelude.{◌==◌, ◌&&◌}
 use Rattle.std.proofs.lemmas.Bool.{cond-false, ne_eqb, and_left}
+use Rattle.std.proofs.lemmas.Bool.Decides.{nat_tests}
 use Rattle.heap_words.specs.declared.config.Config.{Config}
 use Rattle.heap_words.specs.Encoding.{fresh_word}
-use Rattle.heap_words.specs.Words.{Free, Claim, Cset, Evac, Phase, Root, Top, Tams, Heap, Current, Count, Buffer, Grey, Black}
+use Rattle.heap_words.specs.Words.{Free, Claim, Cset, Evac, Phase, Root, Top, Tams, Limit, Heap, Current, Count, Buffer, Grey, Black}
 use Rattle.steps_base.specs.Touch.{touch, stores, touched}
 use Rattle.shen_graph.specs.declared.name.Name.{Name}
 use Rattle.shen_graph.specs.declared.command.Command.{Command}
@@ -15,7 +16,7 @@ use Rattle.shen_graph.specs.Graph.{Object, blank, fresh, with_root, with_fresh}
 use Rattle.shen_graph.specs.Step.{outcome}
 use Rattle.mutator.specs.Commands.{dst_of, refs_of, nums_of}
 use Rattle.mutator.specs.WaitRows.{next_name}
-use Rattle.heap_world.specs.World.{World, Block, thing, moved, hand, promised, words_of, name_at, Points, IsCollected, TargetIn, UsableIn, IsThing, IsGiven, IsYoung, Shared}
+use Rattle.heap_world.specs.World.{World, Block, thing, moved, hand, promised, filler, words_of, name_at, Points, IsCollected, TargetIn, UsableIn, IsThing, IsGiven, IsYoung, Shared}
 use Rattle.heap_world.specs.Rely.{Rely}
 use Rattle.heap_world.proofs.Updates.{updated, updated_there, updated_else}
 use Rattle.heap_world.proofs.Keeping.{points_stay, usable_stays}
@@ -23,15 +24,17 @@ use Rattle.mark_bits.specs.Marks.{HasMark}
 use Rattle.std.proofs.lemmas.Option.{none-some}
 use Rattle.heap_world.proofs.Copies.{CopiesStay, rely_copies}
 use Rattle.heap_world.proofs.Marked.{rely_marks}
-use Rattle.heap_world.proofs.NewObject.{new_object, stays, names_stay, things_stay, old_hand, old_promise, parsable_again, objects_again, owned_again, unwritten_again, markable_again, marking_again, evacuating_again, given_again, with_count, count_own}
+use Rattle.heap_world.proofs.Fields.{fields_stored}
+use Rattle.heap_world.proofs.NewObject.{new_object, stays, names_stay, things_stay, old_hand, old_promise, parsable_again, objects_again, owned_again, unwritten_again, markable_again, marking_again, evacuating_again, updating_again, given_again, with_count, count_own}
 use Rattle.step_core.specs.Stepped.{IsMaking, LegalBy, graph_by}
 use Rattle.step_core.proofs.Settling.{legal_answer, graph_answer}
 use Rattle.heap_world.proofs.RootChanges.{roots_written, usable_written}
 
--- a piece that is no other seat's: neither in its hand nor promised to it
+-- a piece that is no other seat's, neither in its hand nor promised to it, and does not only fill
 pub record IsOwn (seat : ℕ) (piece : Block) : Type 0 where
   pub no_hand : (j words : ℕ) → j ≢ seat → piece ≡ hand j words → ⊥
   pub no_promise : (j words : ℕ) → j ≢ seat → piece ≡ promised j words → ⊥
+  pub no_filler : (words : ℕ) → piece ≡ filler words → ⊥
 
 -- What is needed where a mutator stores its next object into a root: the command makes it, and a piece of the seat's own has all
 -- its words.
@@ -46,7 +49,7 @@ pub record HasNew (c : Config) (u : World) (seat made : ℕ) (command k : Comman
   pub own : IsOwn seat piece
   pub known : u.memory Phase ≡ 1 → (u.ghost.snapshot.starts address ≡ true) ⊎ IsYoung c u.ghost.snapshot.top address
   pub outside : IsCollected c (u.memory Cset) address → ⊥
-  pub kept : u.memory Phase ≡ 2 → HasMark c (λ n. u.memory (Black n)) address ⊎ IsYoung c (λ r. u.memory (Tams r)) address
+  pub kept : 2 ≤ u.memory Phase → HasMark c (λ n. u.memory (Black n)) address ⊎ IsYoung c (λ r. u.memory (Tams r)) address
   pub stored : (i : ℕ) → i < 3 + refs_of k + nums_of k → u.memory (Heap (address + i)) ≡ fresh_word seat made (refs_of k) (nums_of k) i
   pub shared : Shared c u
 
@@ -108,6 +111,10 @@ module _ {c : Config} {u : World} {seat made : ℕ} {command k : Command} {fixed
       let within = has.within in
       record { thread = omega (arith, within); made = omega (arith, own); by_thread = λ one. omega (arith, own); small = omega (arith, few, counted) }
 
+  -- its references are null
+  nulls : (i : ℕ) → i < refs → u.memory (Heap (address + 3 + i)) ≡ 0
+  nulls i below = ap (λ a. u.memory (Heap a)) (omega arith) ∙ has.stored (3 + i) (omega (arith, below)) ∙ grind (arith, nat_tests)
+
   -- machines share what they should
   pub shared_made : Shared c made_world
   shared_made = record {
@@ -123,6 +130,7 @@ module _ {c : Config} {u : World} {seat made : ℕ} {command k : Command} {fixed
         (λ r. u.memory (Tams r)) (λ a. u.memory (Heap a)) u.ghost.snapshot u.ghost.recording u.ghost.scanning has.known has.shared.marked;
     evacuated = evacuating_again c top u.block address refs nums name has.piece has.unnamed has.long has.here (u.memory Phase) (u.memory Cset) (u.memory Evac) (u.memory Claim) (u.memory Free) (λ r. u.memory (Tams r))
         (λ a. u.memory (Heap a)) (λ n. u.memory (Black n)) u.ghost.owner u.ghost.copying u.ghost.working has.outside has.kept has.shared.evacuated;
+    updated = λ on. updating_again c top u.block address refs nums name has.piece has.unnamed has.long has.here (u.memory Cset) (u.memory Claim) (λ r. u.memory (Limit r)) (λ a. u.memory (Heap a)) u.ghost.scanning has.outside nulls (has.shared.updated on);
   }
 
   -- room in hand was in hand before, elsewhere
@@ -204,4 +212,5 @@ module _ {c : Config} {u : World} {seat made : ℕ} {command k : Command} {fixed
     asked = λ is. is;
     marks = rely_marks c u made_world j refl (λ n. refl) (λ t. refl) (λ t i. refl) refl (λ t. refl) refl (markable_again c top u.block address refs nums name has.piece has.unnamed has.long has.here) (λ a is. refl);
     copies = rely_copies c u made_world j copies_stay refl refl (λ a i b seated copies inside is from below. refl);
+    fields = fields_stored c u made_world (λ r. refl) (λ r. refl) refl (λ a words is. stays c top u.block address refs nums name has.piece has.unnamed has.long has.here a (filler words) is (has.own.no_filler words)) (λ on a more_refs more_nums i n is below. inl refl);
   }

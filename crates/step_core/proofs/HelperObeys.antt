@@ -21,9 +21,13 @@ use Rattle.helper.specs.declared.spot.HelpSpot.{HelpSpot}
 use Rattle.load_barrier.specs.declared.evac_spot.EvacSpot.{EvacSpot}
 use Rattle.load_barrier.specs.declared.evac_spot.EvacSpot.TheVariants as evac
 use Rattle.load_barrier.specs.UnitRows as evacs
+use Rattle.update_refs.specs.declared.spot.UpdateSpot.{UpdateSpot}
+use Rattle.update_refs.specs.declared.spot.UpdateSpot.TheVariants as update
+use Rattle.update_refs.specs.Rows as updates
 use Rattle.load_barrier.proofs.Inside.{evacuation_inside, evacuation_image}
-use Rattle.helper.specs.declared.spot.HelpSpot.TheVariants.{Evacuating, LoadEnd, Entering, LoadPhase, LoadSet, Scanning, Leave, Gone}
-use Rattle.helper.specs.Rows.{is_gone, touch_at, after_enter, after_scan, after_evacuation, next_spot}
+use Rattle.update_refs.proofs.Inside.{updating_inside, updating_image}
+use Rattle.helper.specs.declared.spot.HelpSpot.TheVariants.{Evacuating, Updating, LoadEnd, Entering, LoadPhase, LoadSet, Scanning, Leave, Gone}
+use Rattle.helper.specs.Rows.{is_gone, touch_at, after_enter, after_scan, after_evacuation, after_updating, next_spot}
 use Rattle.helper.specs.Ready.{spot_fits}
 use Rattle.step_core.specs.Standing.{help_standing}
 use Rattle.step_core.proofs.ControlObeys.{scan_image}
@@ -39,6 +43,11 @@ evac_within : (cset : ℕ) (at : EvacSpot) → is_within (help_standing (after_e
 evac_within cset (evac.Ended unit) = refl
 evac_within cset _ = refl
 
+-- where it updates, or has updated a unit, it is in the heap
+update_within : (cset : ℕ) (at : UpdateSpot) → is_within (help_standing (after_updating cset at)) ≡ true
+update_within cset (update.Ended unit) = refl
+update_within cset _ = refl
+
 -- where it scans, or has scanned a unit, it is in the heap
 scan_within : (at : ScanSpot) → is_within (help_standing (after_scan at)) ≡ true
 scan_within (scan.Ended unit) = refl
@@ -53,13 +62,18 @@ module _ (c : Config) (seat : ℕ) where
   within_both true phase = refl
   within_both false phase = refl
 
-  unit_within : (b : Bool) (cset : ℕ) → is_within (help_standing (if b then Scanning scan.LoadClaim else Evacuating cset evac.LoadClaim)) ≡ true
-  unit_within true cset = refl
-  unit_within false cset = refl
+  unit_within : (b d : Bool) (cset : ℕ) → is_within (help_standing (if b then Scanning scan.LoadClaim else (if d then Evacuating cset evac.LoadClaim else Updating cset update.LoadClaim))) ≡ true
+  unit_within true d cset = refl
+  unit_within false true cset = refl
+  unit_within false false cset = refl
 
   -- the access of a unit of evacuation is of a word of the image
   evac_above : (cset : ℕ) (at : EvacSpot) → spot_fits c seat (Evacuating cset at) ≡ true → image_start c ≤ table_index (placed c (evacs.touch_at c seat at))
   evac_above cset at fits = placed_above c (evacs.touch_at c seat at) (evacuation_inside c seat at (and_parts _ _ fits).0) (evacuation_image c seat at)
+
+  -- and so is that of a unit of updating
+  update_above : (cset : ℕ) (at : UpdateSpot) → spot_fits c seat (Updating cset at) ≡ true → image_start c ≤ table_index (placed c (updates.touch_at c at))
+  update_above cset at fits = placed_above c (updates.touch_at c at) (updating_inside c at (and_parts _ _ fits).0) (updating_image c at)
 
   -- the access of a scan is of a word of the image
   scan_above : (at : ScanSpot) → spot_fits c seat (Scanning at) ≡ true → image_start c ≤ table_index (placed c (scans.touch_at c at))
@@ -71,9 +85,10 @@ module _ (c : Config) (seat : ℕ) where
   help_obeys (Entering at) fits going =
       obeys_same c seat (enter_standing at) _ (λ got. enter_standing (enter_next at got)) _ (λ got. enter_same (enter_next at got)) (enter_obeys c seat at (is_off (is_entered at) fits))
   help_obeys LoadPhase fits going = record { elsewhere = placed_elsewhere c (touch Phase loads) tt refl; goes_on = λ got. within_both (nat_eq got 0) got }
-  help_obeys (LoadSet phase) fits going = record { elsewhere = placed_elsewhere c (touch Cset loads) tt refl; goes_on = λ got. unit_within (nat_eq phase 1) got }
+  help_obeys (LoadSet phase) fits going = record { elsewhere = placed_elsewhere c (touch Cset loads) tt refl; goes_on = λ got. unit_within (nat_eq phase 1) (nat_eq phase 2) got }
   help_obeys (Scanning at) fits going = record { elsewhere = image_elsewhere c (placed c (scans.touch_at c at)) (scan_above at fits); goes_on = λ got. scan_within (scans.next_at c at got) }
   help_obeys (Evacuating cset at) fits going = record { elsewhere = image_elsewhere c (placed c (evacs.touch_at c seat at)) (evac_above cset at fits); goes_on = λ got. evac_within cset (evacs.next_at c cset at got) }
+  help_obeys (Updating cset at) fits going = record { elsewhere = image_elsewhere c (placed c (updates.touch_at c at)) (update_above cset at fits); goes_on = λ got. update_within cset (updates.next_at c cset at got) }
   help_obeys Leave fits going = leave_obeys c seat
   help_obeys Gone fits going = absurd (cc (going))
 
@@ -84,6 +99,7 @@ module _ (c : Config) (seat : ℕ) where
   help_counts (Entering _) fits = inr (record { not_written = inl refl; same = λ got. refl })
   help_counts (Scanning at) fits = inr (record { not_written = inr (image_not_left c (placed c (scans.touch_at c at)) (scan_above at fits)); same = λ got. refl })
   help_counts (Evacuating cset at) fits = inr (record { not_written = inr (image_not_left c (placed c (evacs.touch_at c seat at)) (evac_above cset at fits)); same = λ got. refl })
+  help_counts (Updating cset at) fits = inr (record { not_written = inr (image_not_left c (placed c (updates.touch_at c at)) (update_above cset at fits)); same = λ got. refl })
   help_counts Leave fits = inr (record { not_written = inr (λ e. omega (arith, e)); same = λ got. refl })
   help_counts _ fits = inr (record { not_written = inl refl; same = λ got. refl })
 
@@ -94,5 +110,6 @@ module _ (c : Config) (seat : ℕ) where
   help_not_end (Entering _) fits = inl refl
   help_not_end (Scanning at) fits = inr (λ e. (let above = scan_above at fits in omega (arith, e, above)))
   help_not_end (Evacuating cset at) fits = inr (λ e. (let above = evac_above cset at fits in omega (arith, e, above)))
+  help_not_end (Updating cset at) fits = inr (λ e. (let above = update_above cset at fits in omega (arith, e, above)))
   help_not_end Leave fits = inr (λ e. omega (arith, e))
   help_not_end _ fits = inl refl

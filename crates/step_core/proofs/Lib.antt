@@ -22,6 +22,8 @@ pub mod Fresh
 pub mod FreshRoot
 pub mod Places
 pub mod PartFits
+pub mod Due
+pub mod Resolves
 pub mod Facts
 pub mod Ordered
 pub mod Within

@@ -15,7 +15,7 @@ use Rattle.mutator.specs.Told.{told_of}
 use Rattle.heap_world.specs.World.{World, Shared}
 use Rattle.step_core.specs.Stepped.{Mine, Stepped}
 use Rattle.heap_world.proofs.Keeping.{load_keeps, rely_same}
-use Rattle.step_core.proofs.Marking.{marks_in, copies_in}
+use Rattle.step_core.proofs.Marking.{marks_in, copies_in, fields_in}
 use Rattle.step_core.proofs.Settling.{legal_answer, graph_answer}
 
 -- a step that loads a word and settles nothing
@@ -64,5 +64,5 @@ replies_root c u m at command fixed r dst v loaded told given unsettled other is
   settles = λ q e. (unsettled, given);
   shared = shared;
   mine = rw (loaded, told) mine;
-  others = λ j d. let marks = marks_in c u u.memory (with_root u.graph (m.seat + 1) dst v) j refl (λ n. refl) (λ t. refl) (λ t k. refl) (λ a. refl) in let copies = copies_in c u u.memory (with_root u.graph (m.seat + 1) dst v) j refl refl (λ r. refl) (λ a. refl) in search (arith, nat_tests, marks, copies);
+  others = λ j d. let marks = marks_in c u u.memory (with_root u.graph (m.seat + 1) dst v) j refl (λ n. refl) (λ t. refl) (λ t k. refl) (λ a. refl) in let copies = copies_in c u u.memory (with_root u.graph (m.seat + 1) dst v) j refl refl (λ r. refl) (λ a. refl) in let kept_fields = fields_in c u u.memory (with_root u.graph (m.seat + 1) dst v) (λ r. refl) (λ r. refl) refl (λ a. refl) in search (arith, nat_tests, marks, copies, kept_fields);
 }

@@ -4,13 +4,14 @@ use Rattle.std.specs.Prelude.{bit_or}
 use Rattle.std.specs.Int.{bit_at}
 use Rattle.std.proofs.lemmas.Nat.Bits.{bit_at_set_same, bit_at_set_other}
 use Rattle.heap_words.specs.declared.config.Config.{Config}
-use Rattle.heap_words.specs.Words.{Word, Phase, Cset, Evac, Top, Count, Buffer, Grey, Black, Heap}
+use Rattle.heap_words.specs.Words.{Word, Phase, Cset, Evac, Claim, Top, Tams, Limit, Count, Buffer, Grey, Black, Heap}
 use Rattle.shen_graph.specs.Graph.{Graph}
 use Rattle.heap_world.specs.World.{World, thing, Snapshot, NotedIn, was_at, NeedsNoMarking, IsTracedAt, IsCovered, IsCollected, Shared}
 use Rattle.regions.specs.Sets.{IsIn}
-use Rattle.heap_world.specs.Rely.{KeepsMarks, RelyMarks, RelyCopies, Rely}
+use Rattle.heap_world.specs.Rely.{KeepsMarks, KeepsFields, RelyMarks, RelyCopies, Rely}
 use Rattle.heap_world.proofs.Marked.{rely_marks}
 use Rattle.heap_world.proofs.Copies.{same_plot, rely_copies}
+use Rattle.heap_world.proofs.Fields.{fields_kept}
 use Rattle.step_core.specs.Stepped.{HasMarkingBy, HasCopyingBy}
 
 -- another memory and another graph
@@ -28,6 +29,11 @@ pub copies_in : (c : Config) (u : World) (memory : Word → ℕ) (g : Graph) (se
     → ((a : ℕ) → memory (Heap a) ≡ u.memory (Heap a)) → RelyCopies c seat u (world_with u memory g)
 copies_in c u memory g seat cset evac tops heap =
     rely_copies c u (world_with u memory g) seat (same_plot c u (world_with u memory g) refl cset evac (λ r is. tops r)) refl refl (λ a k b seated counted inside is from below. heap (a + k))
+
+-- and of updating
+pub fields_in : (c : Config) (u : World) (memory : Word → ℕ) (g : Graph) → ((r : ℕ) → memory (Tams r) ≡ u.memory (Tams r)) → ((r : ℕ) → memory (Limit r) ≡ u.memory (Limit r)) → memory Claim ≡ u.memory Claim
+    → ((a : ℕ) → memory (Heap a) ≡ u.memory (Heap a)) → KeepsFields c u (world_with u memory g)
+fields_in c u memory g tams limits claim heap = fields_kept c u (world_with u memory g) refl tams limits claim heap
 
 -- what a mutator counts on of marking stays while others step
 pub marking_relied : (c : Config) (u w : World) (seat : ℕ) (in_hand : Option ℕ) (loaded : ℕ) (knows : Bool) → RelyMarks c seat u w → HasMarkingBy u seat in_hand loaded knows → HasMarkingBy w seat in_hand loaded knows
@@ -86,8 +92,8 @@ marks_twice c seat u v w marking first second = record {
   keeps = record {
     phase = second.keeps.phase ∙ first.keeps.phase;
     snapshot = second.keeps.snapshot ∙ first.keeps.snapshot;
-    markable = λ on a is. second.keeps.markable (first.keeps.phase ∙ on) a (first.keeps.markable on a is);
-    shapes = λ a is. second.keeps.shapes a (first.keeps.markable marking a is) ∙ first.keeps.shapes a is;
+    markable = λ off a is. second.keeps.markable (λ two. off (sym first.keeps.phase ∙ two)) a (first.keeps.markable off a is);
+    shapes = λ a is. second.keeps.shapes a (first.keeps.markable (λ two. omega (arith, two, marking)) a is) ∙ first.keeps.shapes a is;
     noted = λ a is. second.keeps.noted a (first.keeps.noted a is);
   };
   recording = second.recording ∙ first.recording;
@@ -121,6 +127,15 @@ copies_twice c seat u v w first second =
           second.words a k b seated (first.copying ∙ counted) (set_then a inside) (first.keeps.bodies a b is) from below ∙ first.words a k b seated counted inside is from below;
     }
 
+fields_twice : (c : Config) (u v w : World) → u.memory Phase ≡ 1 → KeepsFields c u v → KeepsFields c v w → KeepsFields c u w
+fields_twice c u v w marking first second = record {
+  tams = λ r. second.tams r ∙ first.tams r;
+  limits = λ r. second.limits r ∙ first.limits r;
+  fillers = λ a words is. second.fillers a words (first.fillers a words is);
+  claims = λ all. second.claims (first.claims all);
+  fields = λ on a refs nums k name is below. absurd (omega (arith, on, marking));
+}
+
 -- where objects are marked
 pub rely_twice : (c : Config) (seat : ℕ) (u v w : World) → u.memory Phase ≡ 1 → Rely c seat u v → Rely c seat v w → Rely c seat u w
 rely_twice c seat u v w marking first second = record {
@@ -144,4 +159,5 @@ rely_twice c seat u v w marking first second = record {
   asked = λ is. second.asked (first.asked is);
   marks = marks_twice c seat u v w marking first.marks second.marks;
   copies = copies_twice c seat u v w first.copies second.copies;
+  fields = fields_twice c u v w marking first.fields second.fields;
 }

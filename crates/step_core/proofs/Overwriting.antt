@@ -83,7 +83,7 @@ overwrites_of c u seat phase object field v below shared marking none stands = l
     let some = recorded_some phase got records in
     let named = named_if_not_0 c (λ r. u.memory (Top r)) u.block shared.parsable.plotted got v stands some.1 in
     let on : u.memory Phase ≡ 1 = sym (marking.phase_is refl) ∙ some.0 in
-    let piece = named_thing (u.block got) named.0 (λ refs nums to is. unmoved c u shared (λ two. omega (arith, on, two)) got refs nums to named.0 is) named.2 in
+    let piece = named_thing (u.block got) named.0 (λ refs nums to is. unmoved c u shared (omega (arith, on)) got refs nums to named.0 is) named.2 in
     let held = recording_steps.begins c u seat got below on (IsMarkable.object named.0 piece.0 piece.1 piece.2) marking.records marking.scans none shared in
     Overwrites.takes records held (covered_found c u (with_in_hand u seat got) object field shared held.keeps.marks (inr held.noted)))
     (λ (other : is_to_record phase got ≡ false). Overwrites.leaves other (⊎_elim

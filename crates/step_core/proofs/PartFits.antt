@@ -1,5 +1,5 @@
 -- The words that a mutator finds are fit for its parts: a reference that is to be used is one, and a resolving can go on.
-use Rattle.std.proofs.Common.{◌≡◌, ◌≢◌, ℕ, ⊎_elim, true, false, Option, Some, None, refl, sym, ap, ◌∙◌, subst, arith}
+use Rattle.std.proofs.Common.{◌≡◌, ◌≢◌, ℕ, ⊎_elim, true, false, Option, Some, None, refl, ap, ◌∙◌, arith}
 use Rattle.std.specs.Prelude.{◌==◌}
 use Rattle.std.proofs.lemmas.Bool.{cond-true, cond-false, eq-eqb, ne_eqb}
 use Rattle.std.proofs.lemmas.Bool.{cases_eq}
@@ -9,9 +9,6 @@ use Rattle.shen_graph.specs.declared.command.Command.{Command}
 use Rattle.shen_graph.specs.declared.command.Reply.{Reply}
 use Rattle.shen_graph.specs.declared.order.Order.TheVariants.{Nothing}
 use Rattle.shen_graph.specs.Graph.{Reference}
-use Rattle.load_barrier.specs.Rows as resolves
-use Rattle.load_barrier.specs.Fit as load
-use Rattle.copy_steps.proofs.Parts.{resolving_steps}
 use Rattle.mutator.specs.declared.spot.Kept.{Kept}
 use Rattle.mutator.specs.declared.spot.Spot.{Spot}
 use Rattle.mutator.specs.declared.spot.Spot.TheVariants.{Rest, Ended, OnField, Resolving, Gone}
@@ -27,7 +24,8 @@ use Rattle.handshake.specs.Standing.{is_within}
 use Rattle.step_core.specs.Standing.{standing_at}
 use Rattle.step_core.specs.Stepped.{Mine}
 use Rattle.step_core.proofs.Naming.{field_in}
-use Rattle.step_core.proofs.Resolving.{going_now, phase_kept}
+use Rattle.step_core.proofs.Resolves.{resolving_fits}
+use Rattle.step_core.proofs.Resolving.{going_now}
 use Rattle.step_core.proofs.Spots.{mutator_at}
 
 module _ (c : Config) (u : World) (shared : Shared c u) where
@@ -60,8 +58,7 @@ module _ (c : Config) (u : World) (shared : Shared c u) where
     pub part_fits : (spot : Spot) → Mine c u (mutator_at seat made kept spot) command fixed → PartFit c seat kept spot (u.memory (touch_of c (mutator_at seat made kept spot) Nothing).word)
     part_fits (OnField object at) mine = field_fits object at mine
     part_fits (Resolving address at next) mine =
-        subst (λ phase. load.IsFit c seat address phase at (u.memory (resolves.touch_at c seat address at).word)) (sym (phase_kept c u seat made kept command fixed at address next mine))
-        (resolving_steps.fits c u seat address at (going_now c u seat made kept command fixed at address next mine) shared mine.facts.0)
+        resolving_fits c u seat address kept.phase at (going_now c u seat made kept command fixed at address next mine) shared (mine.marking.phase_is refl) mine.facts.0
     part_fits _ mine = tt
 
 -- outside the heap each word is fit

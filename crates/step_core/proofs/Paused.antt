@@ -29,7 +29,7 @@ use Rattle.mutator.specs.Orders.{is_waiting}
 use Rattle.mutator.specs.Rows.{Mutating}
 use Rattle.heap_world.specs.World.{Ghost, World, Plot, hand, Points, IsUsable, UsableIn, Shared}
 use Rattle.heap_world.specs.Asking.{Asking, nothing, asks, refused, given, IsAsked}
-use Rattle.heap_world.specs.Change.{Change, Answers, IsPause, IsPaused, image_view, image_words, words_given}
+use Rattle.heap_world.specs.Change.{Change, Answers, IsDue, IsPause, IsPaused, image_view, image_words, words_given}
 use Rattle.heap_world.specs.Represents.{NobodyMarks, NobodyCopies, Represents}
 use Rattle.heap_world.specs.Roots.{HasNoMore}
 use Rattle.control_steps.specs.declared.spot.ControlSpot.TheVariants.{StoreWord}
@@ -118,7 +118,7 @@ copying_outside c w seat loaded spot out uncopying below =
     (subst (λ knows. HasCopyingBy w seat false loaded knows) (sym (set_outside spot out)) (uncopying_by c w seat loaded uncopying below))
 
 -- what it has asked for stands in the words
-asked_outside : (c : Config) (w : World) (seat made : ℕ) (kept : Kept) (spot : Spot) (command : Command) (fixed : Option Reply) → is_within (standing_at spot) ≡ false
+pub asked_outside : (c : Config) (w : World) (seat made : ℕ) (kept : Kept) (spot : Spot) (command : Command) (fixed : Option Reply) → is_within (standing_at spot) ≡ false
     → Mine c w (mutator_at seat made kept spot) command fixed → IsAsked w.memory w.block w.graph.count seat (asking_at spot (w.memory (Answer seat)) kept.command)
 asked_outside c w seat made kept Rest command fixed out mine = mine.seated.unasked refl
 asked_outside c w seat made kept (Ended reply) command fixed out mine = mine.seated.unasked refl
@@ -419,10 +419,14 @@ module _ (c : Config) (words : List ℕ) (block : Plot) (ghost : Ghost) (g : Gra
       }
 
   -- The new image counts: what the step owes.
-  module _ (change : Change) (law : IsPause change) (long : length image ≡ image_words c) (shared : Shared c before) (promised_to : PromisedToMutators c block) (no_more : HasNoMore c.mutators g)
+  module _ (change : Change) (law : IsPause change) (due : IsDue c (view c words)) (long : length image ≡ image_words c) (shared : Shared c before) (promised_to : PromisedToMutators c block) (no_more : HasNoMore c.mutators g)
       (known : AllKnown) (outside : AllOutside) where
+    -- the pause is due by the image
+    image_due : IsDue c (image_view c image)
+    image_due = subst (λ memory. IsDue c memory) (sym (mixed_whole c words image read)) due
+
     paused : IsPaused c (image_view c image) (image_view c (change c image)) g asking
-    paused = law.pauses c image g asking long (image_stands shared promised_to no_more known outside)
+    paused = law.pauses c image g asking long (image_stands shared promised_to no_more known outside) image_due
 
     -- the world then
     abbrev then_world : World

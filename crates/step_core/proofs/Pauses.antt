@@ -1,10 +1,12 @@
--- The steps of the control outside the words of an image: it looks, scans, stops the other machines, and lets them go.
-use Rattle.std.proofs.Common.{◌≡◌, ◌≢◌, ℕ, ◌+◌, Bool, true, false, List, [], ◌++◌, length, None, refl, sym, ap, ◌∙◌, subst, arith}
+-- The steps of the control outside the words of an image: it looks, works on units, stops the other machines, and lets them go.
+use Rattle.std.proofs.Common.{◌≡◌, ◌≢◌, ℕ, ◌+◌, ◌≤◌, Bool, true, false, List, [], ◌++◌, length, None, refl, sym, ap, ◌∙◌, subst, arith}
 use Rattle.std.specs.Prelude.{◌==◌, if◌then◌else◌}
+use Rattle.std.specs.Int.{bit_at}
 use Rattle.std.proofs.lemmas.Bool.{and_parts, eqb-false, eqb-true}
+use Rattle.std.proofs.lemmas.Bool.Decides.{nat_tests}
 use Rattle.heap_words.specs.declared.config.Config.{Config}
 use Rattle.heap_words.specs.declared.access.Unit.TheVariants.{Worked, NoneLeft}
-use Rattle.heap_words.specs.Words.{Word, Pause, Left, End, Ask, Free, State, is_word, view, write, table_words}
+use Rattle.heap_words.specs.Words.{Word, Pause, Left, End, Phase, Claim, Ask, Free, State, is_word, view, write, table_words}
 use Rattle.heap_words.proofs.Stores.{is_word_from}
 use Rattle.steps_base.specs.Touch.{Touch, touch, loads, stores}
 use Rattle.shen_graph.specs.declared.command.Command.{Command}
@@ -19,15 +21,20 @@ use Rattle.scan_steps.specs.Rows as scans
 use Rattle.load_barrier.specs.declared.evac_spot.EvacSpot.{EvacSpot}
 use Rattle.load_barrier.specs.declared.evac_spot.EvacSpot.TheVariants as evac
 use Rattle.load_barrier.specs.UnitRows as evacs
+use Rattle.update_refs.specs.declared.spot.UpdateSpot.{UpdateSpot}
+use Rattle.update_refs.specs.declared.spot.UpdateSpot.TheVariants as update
+use Rattle.update_refs.specs.Rows as updates
 use Rattle.evac_steps.specs.Evacuating.{CanEvacuate}
 use Rattle.evac_steps.proofs.Parts.{evacuating_steps}
+use Rattle.update_steps.specs.Updating.{CanUpdate}
+use Rattle.update_steps.proofs.Parts.{updating_steps}
 use Rattle.mark_steps.proofs.Parts.{scanning_steps}
 use Rattle.heap_world.specs.World.{Ghost, World, Plot, Shared}
-use Rattle.heap_world.specs.Change.{Change}
+use Rattle.heap_world.specs.Change.{Change, IsDue}
 use Rattle.heap_world.specs.Part.{PartStep}
 use Rattle.control_steps.specs.declared.spot.ControlSpot.{ControlSpot}
-use Rattle.control_steps.specs.declared.spot.ControlSpot.TheVariants.{LookLeft, StoreEnd, LookAsked, LookFree, Scanning, Evacuating, Stopping, Go}
-use Rattle.control_steps.specs.Rows.{Controlling, control_touch, control_next, stopping, after_scan, after_evacuation, begins_pause, begins_unit, unasked, wants_pause}
+use Rattle.control_steps.specs.declared.spot.ControlSpot.TheVariants.{LookLeft, StoreEnd, LookAsked, LookFree, Scanning, Evacuating, Updating, Stopping, Go}
+use Rattle.control_steps.specs.Rows.{Controlling, control_touch, control_next, stopping, after_scan, after_evacuation, after_updating, begins_pause, begins_unit, unasked, wants_pause}
 use Rattle.control_steps.proofs.Ready.{stays_ready}
 use Rattle.step_core.specs.Actor.{Machine, mutating, helping, controlling, Actor}
 use Rattle.step_core.specs.Settled.{stored_image, settled_by, control_number}
@@ -35,8 +42,9 @@ use Rattle.step_core.proofs.Facts.{IsResting, Scans, ControlFacts, IsAim, IsCont
 use Rattle.step_core.proofs.Images.{words_after, view-placed}
 use Rattle.step_core.proofs.Alike.{is_of_handshake, load_step, store_step}
 use Rattle.step_core.proofs.Marking.{world_with}
-use Rattle.step_core.proofs.Helpers.{phase_two}
-use Rattle.step_core.proofs.Units.{scans_from, scans_step, scanned_rests, evacuates_from, evacuated_rests}
+use Rattle.step_core.proofs.Due.{claimed_due, early_due, none_left_to_evacuate, none_left_to_update}
+use Rattle.step_core.proofs.Helpers.{phase_three}
+use Rattle.step_core.proofs.Units.{scans_from, scans_step, scanned_rests, evacuates_from, evacuated_rests, updates_from, updated_rests}
 use Rattle.step_core.proofs.Quiet.{quiet_owes}
 
 -- another machine is no control
@@ -91,10 +99,10 @@ module _ (c : Config) (words : List ℕ) (block : Plot) (ghost : Ghost) (g : Gra
   stopping_aim (stop.Check seat) ws = tt
   stopping_aim stop.Stopped ws = (refl, λ i below. absurd (omega (arith, below)))
 
-  stopping_facts : (w : World) (at : StopSpot) → IsResting w (control_number c) → ControlFacts c w (control_number c) (stopping at)
-  stopping_facts w stop.Raise rests = rests
-  stopping_facts w (stop.Check seat) rests = rests
-  stopping_facts w stop.Stopped rests = rests
+  stopping_facts : (w : World) (at : StopSpot) → IsResting w (control_number c) × IsDue c w.memory → ControlFacts c w (control_number c) (stopping at)
+  stopping_facts w stop.Raise facts = facts
+  stopping_facts w (stop.Check seat) facts = facts
+  stopping_facts w stop.Stopped facts = facts
 
   -- where it scans, or has scanned a unit
   scan_spot : (at : ScanSpot) → stored_image (after_scan at) [] ≡ None
@@ -109,7 +117,7 @@ module _ (c : Config) (words : List ℕ) (block : Plot) (ghost : Ghost) (g : Gra
 
   scan_facts : (w : World) (at : ScanSpot) → Scans c w (control_number c) at → ControlFacts c w (control_number c) (after_scan at)
   scan_facts w (scan.Ended Worked) scans = scanned_rests c w (control_number c) Worked scans
-  scan_facts w (scan.Ended NoneLeft) scans = scanned_rests c w (control_number c) NoneLeft scans
+  scan_facts w (scan.Ended NoneLeft) scans = (scanned_rests c w (control_number c) NoneLeft scans, early_due c w.memory (let on = scans.0.phase in omega (arith, on)))
   scan_facts w _ scans = scans
 
   -- where it evacuates, or has evacuated a unit
@@ -123,10 +131,26 @@ module _ (c : Config) (words : List ℕ) (block : Plot) (ghost : Ghost) (g : Gra
   evac_aim cset (evac.Ended NoneLeft) ws = tt
   evac_aim cset _ ws = tt
 
-  evac_facts : (w : World) (cset : ℕ) (at : EvacSpot) → CanEvacuate c w (control_number c) cset at → ControlFacts c w (control_number c) (after_evacuation cset at)
-  evac_facts w cset (evac.Ended Worked) can = evacuated_rests c w (control_number c) cset Worked can
-  evac_facts w cset (evac.Ended NoneLeft) can = evacuated_rests c w (control_number c) cset NoneLeft can
-  evac_facts w cset _ can = can
+  evac_facts : (w : World) (cset : ℕ) (at : EvacSpot) → (at ≡ evac.Ended NoneLeft → c.regions ≤ w.memory Claim) → CanEvacuate c w (control_number c) cset at → ControlFacts c w (control_number c) (after_evacuation cset at)
+  evac_facts w cset (evac.Ended Worked) left can = evacuated_rests c w (control_number c) cset Worked can
+  evac_facts w cset (evac.Ended NoneLeft) left can = (evacuated_rests c w (control_number c) cset NoneLeft can, claimed_due c w.memory (left refl))
+  evac_facts w cset _ left can = can
+
+  -- where it updates, or has updated a unit
+  update_spot : (cset : ℕ) (at : UpdateSpot) → stored_image (after_updating cset at) [] ≡ None
+  update_spot cset (update.Ended Worked) = refl
+  update_spot cset (update.Ended NoneLeft) = refl
+  update_spot cset _ = refl
+
+  update_aim : (cset : ℕ) (at : UpdateSpot) (ws : List ℕ) → IsAim c ws (after_updating cset at) []
+  update_aim cset (update.Ended Worked) ws = tt
+  update_aim cset (update.Ended NoneLeft) ws = tt
+  update_aim cset _ ws = tt
+
+  update_facts : (w : World) (cset : ℕ) (at : UpdateSpot) → (at ≡ update.Ended NoneLeft → c.regions ≤ w.memory Claim) → CanUpdate c w (control_number c) cset at → ControlFacts c w (control_number c) (after_updating cset at)
+  update_facts w cset (update.Ended Worked) left can = updated_rests c w (control_number c) cset Worked can
+  update_facts w cset (update.Ended NoneLeft) left can = (updated_rests c w (control_number c) cset NoneLeft can, claimed_due c w.memory (left refl))
+  update_facts w cset _ left can = can
 
   -- What it owes that stands at a spot outside the image, and finds a word.
   module _ (change : Change) (seen phase cset : ℕ) (image : List ℕ) (long : length words ≡ table_words c) (shared : Shared c u) (promised_to : PromisedToMutators c block) where
@@ -177,34 +201,49 @@ module _ (c : Config) (words : List ℕ) (block : Plot) (ghost : Ghost) (g : Gra
         stores_word End 1 (then_at StoreEnd got) refl refl (λ k differs. refl) shared
         (record { number_is = refl; ready = stays_ready c phase cset seen StoreEnd got known.ready tt; phase_is = known.phase_is; set_is = known.set_is; facts = known.facts; aims = tt }) refl
 
-    -- while objects are marked or evacuated it claims a unit
+    -- while objects are marked or evacuated, or references updated, it claims a unit
     begins_facts : IsControl c words u (control_number c) (at_spot LookAsked) → (phase == 0) ≡ false → ControlFacts c u (control_number c) (begins_unit phase cset)
     begins_facts known some =
         let other = eqb-false _ _ some in
         let same = known.phase_is in
-        plain_facts u (phase == 1) (Scanning scan.LoadClaim) (Evacuating cset evac.LoadClaim)
+        plain_facts u (phase == 1) (Scanning scan.LoadClaim) (if phase == 2 then Evacuating cset evac.LoadClaim else Updating cset update.LoadClaim)
         (λ one. scans_from c u (control_number c) (omega arith) (sym same ∙ eqb-true _ _ one) known.facts)
-        (λ no. subst (λ set. CanEvacuate c u (control_number c) set evac.LoadClaim) (sym known.set_is)
-        (evacuates_from c u (control_number c) (omega arith) (phase_two _ shared.phased.phase_is (λ none. other (same ∙ none)) (λ one. eqb-false _ _ no (same ∙ one))) known.facts))
+        (λ no. plain_facts u (phase == 2) (Evacuating cset evac.LoadClaim) (Updating cset update.LoadClaim)
+        (λ two. subst (λ set. CanEvacuate c u (control_number c) set evac.LoadClaim) (sym known.set_is)
+        (evacuates_from c u (control_number c) (omega arith) (sym same ∙ eqb-true _ _ two) known.facts))
+        (λ last. subst (λ set. CanUpdate c u (control_number c) set update.LoadClaim) (sym known.set_is)
+        (updates_from c u (control_number c) (omega arith)
+        (phase_three _ shared.phased.phase_is (λ none. other (same ∙ none)) (λ one. eqb-false _ _ no (same ∙ one)) (λ two. eqb-false _ _ last (same ∙ two))) known.facts)))
 
     -- no image counts at one of these spots
     unit_spot : stored_image (begins_unit phase cset) [] ≡ None
-    unit_spot = plain_spot (phase == 1) (Scanning scan.LoadClaim) (Evacuating cset evac.LoadClaim) [] refl refl
+    unit_spot = plain_spot (phase == 1) (Scanning scan.LoadClaim) (if phase == 2 then Evacuating cset evac.LoadClaim else Updating cset update.LoadClaim) [] refl
+        (plain_spot (phase == 2) (Evacuating cset evac.LoadClaim) (Updating cset update.LoadClaim) [] refl refl)
 
     unit_aim : (ws : List ℕ) → IsAim c ws (begins_unit phase cset) []
-    unit_aim ws = plain_aim (phase == 1) (Scanning scan.LoadClaim) (Evacuating cset evac.LoadClaim) ws [] tt tt
+    unit_aim ws = plain_aim (phase == 1) (Scanning scan.LoadClaim) (if phase == 2 then Evacuating cset evac.LoadClaim else Updating cset update.LoadClaim) ws [] tt
+        (plain_aim (phase == 2) (Evacuating cset evac.LoadClaim) (Updating cset update.LoadClaim) ws [] tt tt)
+
+    -- in phases 2 and 3 a pause is asked for by bit 1 alone
+    asked_late : (got : ℕ) → begins_pause phase got ≡ true → 2 ≤ phase → bit_at got 1 ≡ 1
+    asked_late got on late = grind (arith, nat_tests)
+
+    -- so it is due
+    asks_due : (got : ℕ) → got ≡ u.memory Ask → phase ≡ u.memory Phase → begins_pause phase got ≡ true → IsDue c u.memory
+    asks_due got found same on late quiet =
+        absurd (let asks = subst (λ n. bit_at n 1 ≡ 1) found (asked_late got on (omega (arith, late, same))) in omega (arith, asks, quiet))
 
     -- it looks what is asked for
-    pub look_asked : (got : ℕ) → Quiet LookAsked got
-    look_asked got known =
+    pub look_asked : (got : ℕ) → got ≡ u.memory Ask → Quiet LookAsked got
+    look_asked got found known =
         loads_word Ask (then_at LookAsked got) refl
         (record {
           number_is = refl;
           ready = stays_ready c phase cset seen LookAsked got known.ready tt;
           phase_is = known.phase_is;
           set_is = known.set_is;
-          facts = plain_facts u (begins_pause phase got) (Stopping stop.Raise) (unasked phase cset) (λ yes. known.facts)
-              (λ no. plain_facts u (phase == 0) LookFree (begins_unit phase cset) (λ yes. known.facts) (λ some. begins_facts known some));
+          facts = plain_facts u (begins_pause phase got) (Stopping stop.Raise) (unasked phase cset) (λ yes. (known.facts, asks_due got found known.phase_is yes))
+              (λ no. plain_facts u (phase == 0) LookFree (begins_unit phase cset) (λ yes. (known.facts, sym known.phase_is ∙ eqb-true _ _ yes)) (λ some. begins_facts known some));
           aims = plain_aim (begins_pause phase got) (Stopping stop.Raise) (unasked phase cset) _ [] tt (plain_aim (phase == 0) LookFree (begins_unit phase cset) _ [] tt (unit_aim _));
         })
         (plain_spot (begins_pause phase got) (Stopping stop.Raise) (unasked phase cset) [] refl (plain_spot (phase == 0) LookFree (begins_unit phase cset) [] refl unit_spot))
@@ -218,7 +257,7 @@ module _ (c : Config) (words : List ℕ) (block : Plot) (ghost : Ghost) (g : Gra
           ready = stays_ready c phase cset seen LookFree got known.ready tt;
           phase_is = known.phase_is;
           set_is = known.set_is;
-          facts = plain_facts u (wants_pause c seen got) (Stopping stop.Raise) LookLeft (λ yes. known.facts) (λ no. known.facts);
+          facts = plain_facts u (wants_pause c seen got) (Stopping stop.Raise) LookLeft (λ yes. (known.facts.0, early_due c u.memory (let none = known.facts.1 in omega (arith, none)))) (λ no. known.facts.0);
           aims = plain_aim (wants_pause c seen got) (Stopping stop.Raise) LookLeft _ [] tt tt;
         })
         (plain_spot (wants_pause c seen got) (Stopping stop.Raise) LookLeft [] refl refl)
@@ -247,6 +286,10 @@ module _ (c : Config) (words : List ℕ) (block : Plot) (ghost : Ghost) (g : Gra
         })
         (scan_spot (scans.next_at c at got))
 
+    -- once all regions are claimed, they are after a step
+    claims_then : (t : Touch) (stands : World → Type 0) (step : PartStep c u (control_number c) t stands) → c.regions ≤ u.memory Claim → c.regions ≤ step.world.memory Claim
+    claims_then t stands step claimed = (step.others (control_number c + 1) (λ e. omega (arith, e))).fields.claims claimed
+
     -- it evacuates
     pub evac_unit : (kept : ℕ) (at : EvacSpot) → evacs.is_ended at ≡ false → Quiet (Evacuating kept at) (view c words (evacs.touch_at c (control_number c) at).word)
     evac_unit kept at going known =
@@ -263,13 +306,37 @@ module _ (c : Config) (words : List ℕ) (block : Plot) (ghost : Ghost) (g : Gra
             ready = stays_ready c phase cset seen (Evacuating kept at) got known.ready (evacuating_steps.fits c u (control_number c) kept at going shared known.facts);
             phase_is = known.phase_is ∙ sym step.keeps.marks.phase;
             set_is = known.set_is ∙ sym step.keeps.copies.cset;
-            facts = evac_facts step.world kept (evacs.next_at c kept at got) step.own;
+            facts = evac_facts step.world kept (evacs.next_at c kept at got) (λ none. claims_then (evacs.touch_at c (control_number c) at) _ step (none_left_to_evacuate c u.memory kept (control_number c) at going none)) step.own;
             aims = evac_aim kept (evacs.next_at c kept at got) _;
           };
           keeps = step.keeps;
           others = step.others;
         })
         (evac_spot kept (evacs.next_at c kept at got))
+
+    -- it updates
+    pub update_unit : (kept : ℕ) (at : UpdateSpot) → updates.is_ended at ≡ false → Quiet (Updating kept at) (view c words (updates.touch_at c at).word)
+    update_unit kept at going known =
+        let got : ℕ = view c words (updates.touch_at c at).word in
+        let step = updating_steps.each c u (control_number c) kept at going shared known.facts in
+        step_owes (updates.touch_at c at) (then_at (Updating kept at) got) (is_word_from c _ (updating_steps.inside c u (control_number c) kept at shared known.facts))
+        (record {
+          world = step.world;
+          memory = step.memory;
+          graph = step.graph;
+          shared = step.shared;
+          own = record {
+            number_is = refl;
+            ready = stays_ready c phase cset seen (Updating kept at) got known.ready (updating_steps.fits c u (control_number c) kept at going shared known.facts);
+            phase_is = known.phase_is ∙ sym step.keeps.marks.phase;
+            set_is = known.set_is ∙ sym step.keeps.copies.cset;
+            facts = update_facts step.world kept (updates.next_at c kept at got) (λ none. claims_then (updates.touch_at c at) _ step (none_left_to_update c u.memory kept at going none)) step.own;
+            aims = update_aim kept (updates.next_at c kept at got) _;
+          };
+          keeps = step.keeps;
+          others = step.others;
+        })
+        (update_spot kept (updates.next_at c kept at got))
 
     -- it wants a pause
     pub raise_pause : (got : ℕ) → Quiet (Stopping stop.Raise) got

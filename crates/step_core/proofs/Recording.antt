@@ -90,7 +90,7 @@ module _ (c : Config) (u : World) (seat made : ℕ) (kept : Kept) (command : Com
     mine_recorded address overwrites.Xchg roots found =
         subst (λ f. Mine c w (at_spot (after_recording address overwrites.Xchg)) command f) (sym found.settled)
         (field_mine c w seat made kept command address (Some found.name) shared seated marking copying found.small roots none found.is
-        (usable_unmoved c w shared (λ two. omega (arith, on, two)) address (Some found.name) found.is))
+        (usable_unmoved c w shared (omega (arith, on)) address (Some found.name) found.is))
     mine_recorded address overwrites.Cas roots settled =
         subst (λ f. Mine c w (at_spot (Leave reply.Yes)) command f) (sym settled) (leaving c w seat made kept command reply.Yes seated (marking.records, marking.scans, copying.copies_is, copying.works_none) roots none)
 

@@ -2,7 +2,7 @@
 -- its object, or can be used as it is.
 use Rattle.std.proofs.Common.{◌≡◌, ◌≢◌, ℕ, ◌+◌, ◌<◌, ◌≤◌, ◌⊎◌, inl, inr, ⊎_elim, Bool, true, false, Option, Some, None, refl, sym, ap, ◌∙◌, subst, arith}
 use Rattle.std.specs.Prelude.{◌==◌, ◌&&◌, nat_lt, if◌then◌else◌}
-use Rattle.std.proofs.lemmas.Bool.{and_from, and_parts, cases_Bool, cond-true, cond-false, eqb-true, eqb-false, ltb-false, ltb-true, false≢true}
+use Rattle.std.proofs.lemmas.Bool.{and_from, and_parts, cases_Bool, cases_eq, cond-true, cond-false, eqb-true, eqb-false, ltb-false, ltb-true, false≢true}
 use Rattle.heap_words.specs.declared.config.Config.{Config}
 use Rattle.heap_words.specs.Words.{Root, Heap, Phase, Cset, is_word}
 use Rattle.heap_words.proofs.Stores.{is_word_from}
@@ -20,10 +20,8 @@ use Rattle.load_barrier.specs.UnitFit.{resolve_ready}
 use Rattle.load_barrier.specs.Runs.{is_copier}
 use Rattle.load_barrier.specs.Rows as resolves
 use Rattle.load_barrier.specs.Fit as load
-use Rattle.copy_steps.specs.Resolving.{IsAnswer, CanResolve}
-use Rattle.copy_steps.specs.Laws.{CanResolveFor}
+use Rattle.copy_steps.specs.Resolving.{IsAnswer}
 use Rattle.copy_steps.proofs.Bodies.{copy_piece, piece_begins}
-use Rattle.copy_steps.proofs.Parts.{resolving_steps}
 use Rattle.mutator.specs.declared.spot.Kept.{Kept}
 use Rattle.mutator.specs.declared.spot.Spot.{Spot}
 use Rattle.mutator.specs.declared.spot.Spot.TheVariants.{Resolving, Leave}
@@ -32,23 +30,24 @@ use Rattle.mutator.specs.declared.resolves.Loaded.TheVariants.{ForRoot, ToCompar
 use Rattle.mutator.specs.Commands.{dst_of, index_of}
 use Rattle.mutator.specs.Rows.{Mutating, after_expected, after_resolve, after_resolved, with_loaded}
 use Rattle.mutator.specs.Fit.{is_ready, resolve_fits}
-use Rattle.heap_world.specs.World.{World, hand, name_at, body_of, Points, IsCollected, HasCopy, TargetIn, UsableIn, Shared}
+use Rattle.heap_world.specs.World.{World, hand, name_at, body_of, Points, IsCollected, TargetIn, UsableIn, Shared}
 use Rattle.heap_world.specs.Rely.{Keeps}
 use Rattle.heap_world.proofs.Pointing.{named_body, copy_cases, named_if_not_0, points_small}
 use Rattle.heap_world.proofs.Unmoved.{usable_unmoved}
 use Rattle.step_core.specs.Own.{root_resolving}
-use Rattle.step_core.specs.Stepped.{IsCas, IsCompared, LoadedFacts, IsSeatedIn, HasMarkingBy, HasCopyingBy, Mine, Row}
+use Rattle.step_core.specs.Stepped.{IsCas, IsCompared, LoadedFacts, IsResolving, IsSeatedIn, HasMarkingBy, HasCopyingBy, Mine, Row}
 use Rattle.step_core.proofs.Spots.{mutator_at}
 use Rattle.step_core.proofs.Naming.{same_words, one_reference, not_one, copied, word_in}
 use Rattle.step_core.proofs.Stable.{root_stays, now_stays, seated_stays, resolved_stays}
 use Rattle.step_core.proofs.InHand.{field_mine}
+use Rattle.step_core.proofs.Resolves.{resolves_by, resolving_begins, ResolvesAlone, resolving_step, resolving_inside, resolving_answers}
 use Rattle.step_core.proofs.Ready.{leaving, ready_of, number_small}
 
 -- an address of the set lies there, by the test of its bit
 pub lies_there : (c : Config) (cset a : ℕ) → lies_in_set c cset a ≡ true → IsCollected c cset a
 lies_there c cset a is = eqb-true _ _ is
 
--- what has to be resolved is not null, lies in the collection set, and objects are copied
+-- what has to be resolved is not null, lies in the collection set, and objects are copied or references to them updated
 pub resolved_some : (c : Config) (phase cset got : ℕ) → must_resolve c phase cset got ≡ true → (got ≢ 0) × (2 ≤ phase) × IsCollected c cset got
 resolved_some c phase cset got is = ⊎_elim
     (λ (null : (got == 0) ≡ true). absurd (false≢true (sym (cond-true (got == 0) false (if nat_lt phase copy_phase then false else lies_in_set c cset got) null) ∙ is)))
@@ -61,7 +60,7 @@ resolved_some c phase cset got is = ⊎_elim
     (cases_Bool (nat_lt phase copy_phase)))
     (cases_Bool (got == 0))
 
--- what needs no resolving is null, or objects are not copied, or it does not lie in the set
+-- what needs no resolving is null, or objects are not copied yet, or it does not lie in the set
 pub resolved_none : (c : Config) (phase cset got : ℕ) → must_resolve c phase cset got ≡ false → (got ≡ 0) ⊎ ((phase < 2) ⊎ (IsCollected c cset got → ⊥))
 resolved_none c phase cset got is = ⊎_elim
     (λ (null : (got == 0) ≡ true). inl (eqb-true _ _ null))
@@ -73,12 +72,16 @@ resolved_none c phase cset got is = ⊎_elim
     (cases_Bool (nat_lt phase copy_phase)))
     (cases_Bool (got == 0))
 
+-- a phase that is neither 0 nor 1 is 2 or 3
+two_or_three : (phase : ℕ) → 2 ≤ phase → phase ≤ 3 → (phase ≡ 2) ⊎ (phase ≡ 3)
+two_or_three phase late most = ⊎_elim (λ (two : phase ≡ 2). inl two) (λ (other : phase ≢ 2). inr (grind (arith, late, most, other))) (cases_eq phase 2)
+
 -- a reference that needs no resolving may be used
 pub usable_found : (c : Config) (w : World) (phase cset got : ℕ) (v : Reference) → Shared c w → phase ≡ w.memory Phase → cset ≡ w.memory Cset → must_resolve c phase cset got ≡ false → Points w.block got v → UsableIn c w got
 usable_found c w phase cset got v shared phase_is set_is other is = ⊎_elim
     (λ (null : got ≡ 0). inl null)
     (λ rest. ⊎_elim
-    (λ (early : phase < 2). usable_unmoved c w shared (λ on. (let same = phase_is ∙ on in omega (arith, early, same))) got v is)
+    (λ (early : phase < 2). usable_unmoved c w shared (omega (arith, early, phase_is)) got v is)
     (λ (outside : IsCollected c cset got → ⊥).
     let apart : IsCollected c (w.memory Cset) got → ⊥ = λ inside. outside (subst (λ set. IsCollected c set got) (sym set_is) inside) in
     by_reference apart v is)
@@ -95,14 +98,15 @@ usable_found c w phase cset got v shared phase_is set_is other is = ⊎_elim
         (copy_cases (w.block got) (body_of n body.0 body.1) body.2)
 
 -- a resolving can make its next access where it can resolve and has not ended
-pub resolving_ready : (c : Config) (w : World) (seat made : ℕ) (kept : Kept) (address : ℕ) (at : ResolveSpot) (next : Loaded) → Shared c w → CanResolve c w seat address at → resolves.is_resolved at ≡ false
+pub resolving_ready : (c : Config) (w : World) (seat made : ℕ) (kept : Kept) (address : ℕ) (at : ResolveSpot) (next : Loaded) → Shared c w → IsResolving c w seat address at → resolves.is_resolved at ≡ false
     → is_ready c seat made kept (Resolving address at next) ≡ true
 resolving_ready c w seat made kept address at next shared can going =
+    let is = resolves_by c w seat address at shared can in
     and_from _ _
-    (and_from _ _ (is_word_from c (resolves.touch_at c seat address at).word (resolving_steps.inside c w seat address at shared can)) refl)
+    (and_from _ _ (is_word_from c (resolves.touch_at c seat address at).word (resolving_inside c w seat address at shared can)) refl)
     (and_from _ _
-    (let piece = copy_piece c w shared address can.there in piece_begins c w shared address piece.0 piece.1 (let long = piece.2 in omega (arith, long)))
-    (and_from _ _ can.ready (rw going refl)))
+    (let piece = copy_piece c w shared address is.there in piece_begins c w shared address piece.0 piece.1 (let long = piece.2 in omega (arith, long)))
+    (and_from _ _ is.ready (rw going refl)))
 
 module _ (c : Config) (w : World) (seat made : ℕ) (kept : Kept) (command : Command) (shared : Shared c w) (seated : IsSeatedIn c w seat made false) (marking : HasMarkingBy w seat None kept.phase true)
     (copying : HasCopyingBy w seat false kept.cset true) (none : (a words : ℕ) → w.block a ≡ Some (hand seat words) → ⊥) where
@@ -144,10 +148,10 @@ module _ (c : Config) (w : World) (seat made : ℕ) (kept : Kept) (command : Com
       let some = resolved_some c kept.phase kept.cset got must in
       let named = named_if_not_0 c _ w.block shared.parsable.plotted got v is some.0 in
       let body = named_body (w.block got) named.0 named.2 in
-      let on : w.memory Phase ≡ 2 = (let late = some.1 in let phase = marking.phase_is refl in let most = shared.phased.phase_is in omega (arith, late, phase, most)) in
+      let on : (w.memory Phase ≡ 2) ⊎ (w.memory Phase ≡ 3) = two_or_three (w.memory Phase) (let late = some.1 in let phase = marking.phase_is refl in omega (arith, late, phase)) shared.phased.phase_is in
       let inside : IsCollected c (w.memory Cset) got = subst (λ set. IsCollected c set got) (copying.set_is refl) some.2 in
-      let can : CanResolve c w seat got LoadHeader =
-      resolving_steps.begins c w seat got (let below = seated.below in omega (arith, below)) on inside (HasCopy.copy (body_of named.0 body.0 body.1) body.2) copying.copies_is marking.records marking.scans none in
+      let can : IsResolving c w seat got LoadHeader =
+      resolving_begins c w seat got (body_of named.0 body.0 body.1) (let below = seated.below in omega (arith, below)) on inside body.2 copying.copies_is copying.works_none marking.records marking.scans none in
       record {
         seated = seated;
         ready = resolving_ready c w seat made kept got LoadHeader next shared can refl;
@@ -229,45 +233,41 @@ module _ (c : Config) (u : World) (seat made : ℕ) (kept : Kept) (command : Com
         still true busy = absurd (false≢true busy)
         still false busy = refl
 
-    -- the phase that it keeps is that in which objects are copied
-    pub phase_kept : kept.phase ≡ copy_phase
-    phase_kept = mine.marking.phase_is refl ∙ mine.facts.0.phase
-
     module _ (w : World) (shared : Shared c w) (keeps : Keeps c seat u w) where
       -- what it counts on of marking and of evacuation then
-      marking_then : (at : ResolveSpot) → CanResolveFor c w seat address None at → HasMarkingBy w seat None kept.phase true
-      marking_then at can = record { records = can.resolves.records_none; scans = can.resolves.scans_none; phase_is = λ on. mine.marking.phase_is refl ∙ sym keeps.marks.phase }
+      marking_then : (at : ResolveSpot) → ResolvesAlone c w seat address at → HasMarkingBy w seat None kept.phase true
+      marking_then at alone = let is = resolves_by c w seat address at shared alone.can in record { records = is.records_none; scans = is.scans_none; phase_is = λ on. mine.marking.phase_is refl ∙ sym keeps.marks.phase }
 
-      copying_then : (at : ResolveSpot) → CanResolveFor c w seat address None at → HasCopyingBy w seat (is_copier at) kept.cset true
-      copying_then at can = record { copies_is = can.resolves.copying; works_none = can.working; set_is = λ on. mine.copying.set_is refl ∙ sym keeps.copies.cset }
+      copying_then : (at : ResolveSpot) → ResolvesAlone c w seat address at → HasCopyingBy w seat (is_copier at) kept.cset true
+      copying_then at alone = record { copies_is = (resolves_by c w seat address at shared alone.can).copying; works_none = alone.working; set_is = λ on. mine.copying.set_is refl ∙ sym keeps.copies.cset }
 
       -- its roots stand for its thread's
       roots_then : (i : ℕ) → i < 16 → Points w.block (root_resolving w seat (dst_of kept.command) address next i) (w.graph.root (seat + 1) i)
       roots_then i below = rw (now_stays c u w seat keeps kept (Resolving address before next) i) (root_stays c u w seat keeps _ i (mine.roots i below))
 
       -- where it goes on resolving
-      mine_at : (at : ResolveSpot) → resolves.is_resolved at ≡ false → CanResolveFor c w seat address None at → Mine c w (at_spot (Resolving address at next)) command fixed
-      mine_at at going can = record {
+      mine_at : (at : ResolveSpot) → resolves.is_resolved at ≡ false → ResolvesAlone c w seat address at → Mine c w (at_spot (Resolving address at next)) command fixed
+      mine_at at going alone = record {
         seated = seated_stays c u w seat keeps made false mine.seated;
-        ready = resolving_ready c w seat made kept address at next shared can.resolves going;
-        marking = marking_then at can;
-        copying = copying_then at can;
+        ready = resolving_ready c w seat made kept address at next shared alone.can going;
+        marking = marking_then at alone;
+        copying = copying_then at alone;
         roots = roots_then;
-        hands = λ a words is. can.resolves.hands a words is;
-        facts = (can.resolves, resolved_stays c u w seat keeps kept.command command fixed address next mine.facts.1);
+        hands = (resolves_by c w seat address at shared alone.can).hands;
+        facts = (alone.can, resolved_stays c u w seat keeps kept.command command fixed address next mine.facts.1);
       }
 
       -- what it counts on after a step
-      mine_then : (at : ResolveSpot) → CanResolveFor c w seat address None at → Mine c w (at_spot (after_resolve address next at)) command fixed
-      mine_then (Resolved answer) can =
-          mine_resolved c w seat made kept command shared (seated_stays c u w seat keeps made false mine.seated) (marking_then (Resolved answer) can) (copying_then (Resolved answer) can) (λ a words is. can.resolves.hands a words is)
-          fixed address answer next can.resolves.facts roots_then (resolved_stays c u w seat keeps kept.command command fixed address next mine.facts.1)
-      mine_then at can = mine_at at refl can
+      mine_then : (at : ResolveSpot) → ResolvesAlone c w seat address at → Mine c w (at_spot (after_resolve address next at)) command fixed
+      mine_then (Resolved answer) alone =
+          mine_resolved c w seat made kept command shared (seated_stays c u w seat keeps made false mine.seated) (marking_then (Resolved answer) alone) (copying_then (Resolved answer) alone) (resolves_by c w seat address (Resolved answer) shared alone.can).hands
+          fixed address answer next (resolving_answers c w seat address answer alone.can) roots_then (resolved_stays c u w seat keeps kept.command command fixed address next mine.facts.1)
+      mine_then at alone = mine_at at refl alone
 
   -- each step
   pub at_resolve : (at : ResolveSpot) (address : ℕ) (next : Loaded) → Row c u (at_spot (Resolving address at next)) command fixed
   at_resolve at address next shared mine =
-      let step = resolving_steps.each c u seat address None at (going_now at address next mine) shared (record { resolves = mine.facts.0; working = mine.copying.works_none }) in
+      let step = resolving_step c u seat address kept.phase at (going_now at address next mine) shared (mine.marking.phase_is refl) (record { can = mine.facts.0; working = mine.copying.works_none }) in
       record {
         world = step.world;
         memory = step.memory;
@@ -275,7 +275,6 @@ module _ (c : Config) (u : World) (seat made : ℕ) (kept : Kept) (command : Com
         legal = tt;
         settles = λ r e. cc;
         shared = step.shared;
-        mine = subst (λ phase. Mine c step.world (at_spot (after_resolve address next (resolves.next_at c address phase at (u.memory (resolves.touch_at c seat address at).word)))) command fixed) (sym (phase_kept at address next mine))
-            (mine_then at address next mine step.world step.shared step.keeps (resolves.next_at c address copy_phase at (u.memory (resolves.touch_at c seat address at).word)) step.own);
+        mine = mine_then at address next mine step.world step.shared step.keeps (resolves.next_at c address kept.phase at (u.memory (resolves.touch_at c seat address at).word)) step.own;
         others = step.others;
       }

@@ -21,7 +21,7 @@ use Rattle.mutator.specs.Rows.{Mutating, touch_of}
 use Rattle.heap_world.specs.World.{World, Points, IsUsable, UsableIn, Shared}
 use Rattle.step_core.specs.Stepped.{IsSeatedIn, Mine, Stepped, Row}
 use Rattle.step_core.proofs.Spots.{mutator_at, accessed}
-use Rattle.step_core.proofs.Marking.{marks_in, copies_in}
+use Rattle.step_core.proofs.Marking.{marks_in, copies_in, fields_in}
 use Rattle.step_core.proofs.Settling.{legal_answer, graph_answer}
 use Rattle.step_core.proofs.Ready.{leaving}
 use Rattle.heap_world.proofs.RootChanges.{root_written, roots_written, usable_written}
@@ -67,7 +67,7 @@ module _ (c : Config) (u : World) (seat made : ℕ) (kept : Kept) (command : Com
             (seated_written c u (accessed c u (at_spot (Showing value (show.StoreRoot r)))) seat made dst value refl refl refl mine.facts.2 mine.seated)
             (mine.marking.records, mine.marking.scans, mine.copying.copies_is, mine.copying.works_none)
             (λ i below. subst (λ word. Points u.block word (u.graph.root (seat + 1) i)) (root_written u.memory seat dst value i) (mine.roots i below)) mine.hands);
-        others = λ j d. let marks = marks_in c u (accessed c u (at_spot (Showing value (show.StoreRoot r)))).memory (accessed c u (at_spot (Showing value (show.StoreRoot r)))).graph j refl (λ n. refl) (λ t. refl) (λ t k. refl) (λ a. refl) in let copies = copies_in c u (accessed c u (at_spot (Showing value (show.StoreRoot r)))).memory (accessed c u (at_spot (Showing value (show.StoreRoot r)))).graph j refl refl (λ r. refl) (λ a. refl) in search (arith, nat_tests, marks, copies);
+        others = λ j d. let marks = marks_in c u (accessed c u (at_spot (Showing value (show.StoreRoot r)))).memory (accessed c u (at_spot (Showing value (show.StoreRoot r)))).graph j refl (λ n. refl) (λ t. refl) (λ t k. refl) (λ a. refl) in let copies = copies_in c u (accessed c u (at_spot (Showing value (show.StoreRoot r)))).memory (accessed c u (at_spot (Showing value (show.StoreRoot r)))).graph j refl refl (λ r. refl) (λ a. refl) in let kept_fields = fields_in c u (accessed c u (at_spot (Showing value (show.StoreRoot r)))).memory (accessed c u (at_spot (Showing value (show.StoreRoot r)))).graph (λ r. refl) (λ r. refl) refl (λ a. refl) in search (arith, nat_tests, marks, copies, kept_fields);
       }
 
   -- the world in which a root is a word, and in the graph a reference
@@ -87,7 +87,7 @@ module _ (c : Config) (u : World) (seat made : ℕ) (kept : Kept) (command : Com
     settles = λ r e. (mine.facts.0, refl);
     shared = shared;
     mine = leaving c _ seat made kept command reply.Ok (seated_written c u (rooted_world value v) seat made dst value refl refl refl new mine.seated) (mine.marking.records, mine.marking.scans, mine.copying.copies_is, mine.copying.works_none) (roots_written u.block u.memory u.graph.root seat dst value v mine.roots stands) mine.hands;
-    others = λ j d. let marks = marks_in c u (rooted_world value v).memory (rooted_world value v).graph j refl (λ n. refl) (λ t. refl) (λ t k. refl) (λ a. refl) in let copies = copies_in c u (rooted_world value v).memory (rooted_world value v).graph j refl refl (λ r. refl) (λ a. refl) in search (arith, nat_tests, marks, copies);
+    others = λ j d. let marks = marks_in c u (rooted_world value v).memory (rooted_world value v).graph j refl (λ n. refl) (λ t. refl) (λ t k. refl) (λ a. refl) in let copies = copies_in c u (rooted_world value v).memory (rooted_world value v).graph j refl refl (λ r. refl) (λ a. refl) in let kept_fields = fields_in c u (rooted_world value v).memory (rooted_world value v).graph (λ r. refl) (λ r. refl) refl (λ a. refl) in search (arith, nat_tests, marks, copies, kept_fields);
   }
 
   -- the store of a reference into a root settles Ok

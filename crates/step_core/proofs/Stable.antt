@@ -1,8 +1,8 @@
 -- What a mutator knows stays true while another machine makes a step.
-use Rattle.std.proofs.Common.{◌≡◌, ℕ, ◌+◌, inl, inr, ⊎_elim, Bool, Option, refl, ◌∙◌, arith, sym, subst}
+use Rattle.std.proofs.Common.{◌≡◌, ℕ, ◌+◌, ◌≤◌, inl, inr, ⊎_elim, Bool, Option, refl, ap, ◌∙◌, arith, sym, subst}
 use Rattle.std.specs.Int.{bit_at}
 use Rattle.heap_words.specs.declared.config.Config.{Config}
-use Rattle.heap_words.specs.Words.{Ask}
+use Rattle.heap_words.specs.Words.{Answer, Ask}
 use Rattle.shen_graph.specs.declared.command.Command.{Command}
 use Rattle.shen_graph.specs.declared.command.Reply.{Reply}
 use Rattle.alloc_buffers.specs.declared.spot.TakeSpot.{TakeSpot}
@@ -20,8 +20,7 @@ use Rattle.mutator.specs.declared.overwrites.Overwritten.TheVariants as overwrit
 use Rattle.mutator.specs.declared.resolves.Loaded.{Loaded}
 use Rattle.mutator.specs.declared.resolves.Loaded.TheVariants.{ForRoot, ToCompare}
 use Rattle.load_barrier.specs.declared.spot.ResolveSpot.{ResolveSpot}
-use Rattle.copy_steps.specs.Resolving.{CanResolve}
-use Rattle.copy_steps.proofs.Parts.{resolving_steps}
+use Rattle.step_core.proofs.Resolves.{resolving_stays as still_resolving}
 use Rattle.mutator.specs.declared.numbers.NumberSpot.{NumberSpot}
 use Rattle.mutator.specs.declared.numbers.NumberSpot.TheVariants as numbers
 use Rattle.mutator.specs.declared.shows.ShowSpot.{ShowSpot}
@@ -33,8 +32,8 @@ use Rattle.mutator.specs.declared.waits.WaitSpot.TheVariants as wait
 use Rattle.mutator.specs.Orders.{is_waiting}
 use Rattle.mutator.specs.Commands.{root_of, dst_of, index_of, number_of, refs_of, nums_of}
 use Rattle.mutator.specs.Rows.{Mutating, words_of}
-use Rattle.heap_world.specs.World.{World, Points, UsableIn, Shared}
-use Rattle.step_core.specs.Stepped.{IsRootWord, HasRoot, HasObject, HasFirst, IsGet, IsSet, IsCas, IsXchg, IsRd, IsWr, IsFound, NameTheSame, NameOthers, IsCompared, LoadedFacts, IsCopy, IsFilling, IsAsking, IsHeard, IsPolling, IsAnswered, LoadFacts, FieldFacts, RecordFacts, NumberFacts, ShowFacts, MakeFacts, EnterFacts, WaitFacts, SpotFacts, IsSeatedIn, recording_of, has_phase, has_set, copies_at, Mine}
+use Rattle.heap_world.specs.World.{World, name_at, Points, UsableIn, Shared}
+use Rattle.step_core.specs.Stepped.{IsRootWord, HasRoot, HasObject, HasFirst, IsGet, IsSet, IsCas, IsXchg, IsRd, IsWr, IsFound, NameTheSame, NameOthers, IsCompared, LoadedFacts, IsCopy, IsFilling, IsAsking, IsHeard, IsPolling, IsAnswered, LoadFacts, FieldFacts, RecordFacts, NumberFacts, ShowFacts, MakeFacts, EnterFacts, HasTaken, WaitFacts, IsResolving, SpotFacts, IsSeatedIn, recording_of, has_phase, has_set, copies_at, Mine}
 use Rattle.step_core.specs.Own.{root_now, root_recording, root_resolving}
 use Rattle.heap_world.specs.Asking as asking
 use Rattle.heap_world.specs.Asking.{Asking, HasNoPromise, IsAsked}
@@ -254,6 +253,11 @@ module _ (c : Config) (u w : World) (seat : ℕ) (keeps : Keeps c seat u w) wher
   enter_stays made k command fixed Call facts = facts
   enter_stays made k command fixed Waited facts = answered_stays made k command fixed facts
 
+  -- what was answered and taken stays so
+  taken_stays : HasTaken u seat → HasTaken w seat
+  taken_stays (inl none) = inl (subst (λ n. n ≤ 1) (sym keeps.answer) none)
+  taken_stays (inr named) = inr (named.0, ap (λ a. name_at (w.block a)) keeps.answer ∙ keeps.names (u.memory (Answer seat)) named.0 named.1)
+
   pub wait_stays : (bit_at (u.memory Ask) 1 ≡ 1 → bit_at (w.memory Ask) 1 ≡ 1) → (made : ℕ) (k command : Command) (fixed : Option Reply) (at : WaitSpot) → WaitFacts u seat made k command fixed at → WaitFacts w seat made k command fixed at
   wait_stays bit made k command fixed wait.StoreRequest facts = asking_stays made k command fixed asking.nothing facts
   wait_stays bit made k command fixed wait.AskRoom facts = asking_stays made k command fixed (asking.asks (refs_of k) (nums_of k)) facts
@@ -261,13 +265,13 @@ module _ (c : Config) (u w : World) (seat : ℕ) (keeps : Keeps c seat u w) wher
   wait_stays bit made k command fixed wait.Poll facts = polling_stays bit made k command fixed facts
   wait_stays bit made k command fixed wait.LoadAnswer facts = answered_stays made k command fixed facts
   wait_stays bit made k command fixed (wait.StoreRoot address) facts = (asking_stays made k command fixed (asking.given (refs_of k) (nums_of k)) facts.0, keeps.answer ∙ facts.1)
-  wait_stays bit made k command fixed (wait.ClearAnswer reply) facts = (facts.0, keeps.wait ∙ facts.1, unpromised_stays facts.2)
+  wait_stays bit made k command fixed (wait.ClearAnswer reply) facts = (facts.0, keeps.wait ∙ facts.1, unpromised_stays facts.2, taken_stays facts.3)
 
   -- and at its spot, if that of a taking does, that of the words of a new object, of a resolving and of a recording, and the bit that a
   -- mutator waits
   facts_stay : (made : ℕ) (kept : Kept) (command : Command) (fixed : Option Reply) → ((words : ℕ) (take : TakeSpot) → TakeFacts c u seat words take → TakeFacts c w seat words take)
       → ((refs nums address done : ℕ) → IsFilling u seat made refs nums address done → IsFilling w seat made refs nums address done)
-      → ((address : ℕ) (at : ResolveSpot) → CanResolve c u seat address at → CanResolve c w seat address at)
+      → ((address : ℕ) (at : ResolveSpot) → IsResolving c u seat address at → IsResolving c w seat address at)
       → ((address : ℕ) (at : RememberSpot) → CanRecord c u seat address at → CanRecord c w seat address at) → (bit_at (u.memory Ask) 1 ≡ 1 → bit_at (w.memory Ask) 1 ≡ 1) → (spot : Spot)
       → SpotFacts c u seat made kept command fixed spot → SpotFacts c w seat made kept command fixed spot
   facts_stay made kept command fixed taking filling resolving recording bit Rest facts = facts
@@ -331,6 +335,6 @@ mine_stays c u w m command fixed shared rely mine = let keeps : Keeps c m.seat u
   hands = λ a words is. mine.hands a words (rely.no_hands a words is);
   facts = facts_stay c u w m.seat keeps m.made m.kept command fixed (take_stays c u w m.seat rely (λ r is. shared.owned.currents.own m.seat r is))
       (filling_stays c u w m.seat rely m.made)
-      (λ address at can. resolving_steps.stays c u w m.seat address at shared rely can)
+      (λ address at can. still_resolving c u w m.seat address at shared rely can)
       (λ address at can. recording_steps.stays c u w m.seat address at rely can) rely.asked m.spot mine.facts;
 }

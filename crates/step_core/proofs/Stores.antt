@@ -4,7 +4,7 @@ use Rattle.std.specs.Prelude.{◌==◌, ◌&&◌, slice_set}
 use Rattle.std.proofs.lemmas.Bool.{cases_Bool, cond-false, eqb-true}
 use Rattle.std.proofs.lemmas.Bool.Decides.{nat_tests}
 use Rattle.heap_words.specs.declared.config.Config.{Config}
-use Rattle.heap_words.specs.Words.{Top, Root, Heap, write}
+use Rattle.heap_words.specs.Words.{Cset, Evac, Top, Root, Heap, write}
 use Rattle.steps_base.specs.Touch.{touched}
 use Rattle.shen_graph.specs.declared.name.Name.{Name}
 use Rattle.shen_graph.specs.declared.command.Command.{Command}
@@ -26,9 +26,10 @@ use Rattle.shen_graph.specs.declared.order.Order.TheVariants.{Nothing}
 use Rattle.mutator.specs.Commands.{dst_of, index_of, number_of}
 use Rattle.mutator.specs.Rows.{Mutating, touch_of, next_of, given_at, overwritten, after_swap}
 use Rattle.mutator.specs.Told.{told_of}
-use Rattle.heap_world.specs.World.{World, Points, TargetIn, IsThing, IsCovered, Shared}
-use Rattle.step_core.specs.Stepped.{HasObject, NameTheSame, IsCas, IsXchg, Mine, Stepped, Row}
+use Rattle.heap_world.specs.World.{World, Points, TargetIn, IsThing, IsCovered, IsCurrent, Shared}
+use Rattle.step_core.specs.Stepped.{IsRootWord, HasObject, NameTheSame, IsCas, IsXchg, Mine, Stepped, Row}
 use Rattle.heap_world.proofs.Updates.{updated}
+use Rattle.heap_world.proofs.Updated.{usable_current}
 use Rattle.step_core.proofs.Ready.{leaving}
 use Rattle.step_core.proofs.Naming.{object_in, field_in, number_in, one_reference, shown_is}
 use Rattle.heap_world.proofs.Objects.{field_stored, number_stored, stored, changed, shared_stored, rely_stored}
@@ -78,25 +79,25 @@ module _ (g : Graph) (t obj : ℕ) (name : Name) (o : Object) (root_is : g.root 
 module _ (c : Config) (u : World) (m : Mutating) (object refs nums at value : ℕ) (name : Name) (o : Object) (root : ℕ → ℕ → Reference) (command : Command) (fixed : Option Reply) (r : Reply) where
   -- the step is as it should be
   store_settles : touched u.memory (touch_of c m Nothing) ≡ write u.memory (Heap at) value → told_of u.memory m ≡ Some r → given_at m.spot ≡ None → fixed ≡ None → is_full r ≡ false
-      → Shared c u → TargetIn c u object refs nums name → object + 3 ≤ at → at < object + (3 + refs + nums) → ((i : ℕ) → i < refs → at ≡ object + 3 + i → IsCovered c u object i)
+      → Shared c u → TargetIn c u object refs nums name → object + 3 ≤ at → at < object + (3 + refs + nums) → ((i : ℕ) → i < refs → at ≡ object + 3 + i → IsCovered c u object i) → ((i : ℕ) → i < refs → at ≡ object + 3 + i → IsCurrent u.block value)
       → IsThing (updated (λ a. u.memory (Heap a)) at value) u.block object refs nums name o
       → outcome u.graph (m.seat + 1) command ≡ answers r (changed u.graph name o root)
       → ((seat i : ℕ) → seat ≢ m.seat → root (seat + 1) i ≡ u.graph.root (seat + 1) i)
       → Mine c (stored u at value (changed u.graph name o root)) (next_of c m Nothing (u.memory (touch_of c m Nothing).word)) command (Some r)
       → Stepped c u m command Nothing fixed
-  store_settles memory told given unsettled other shared target behind to_end covered is answered roots mine = record {
+  store_settles memory told given unsettled other shared target behind to_end covered current is answered roots mine = record {
     world = stored u at value (changed u.graph name o root);
     memory = sym memory;
     graph = rw told (sym (graph_answer u.graph m.seat command r other ∙ ap (λ x. x.graph) answered));
     legal = rw told (legal_answer u.graph m.seat command r other (ap (λ x. x.reply) answered));
     settles = λ q e. (unsettled, given);
-    shared = shared_stored c u object refs nums at value name o root shared target (omega (arith, behind)) to_end covered is;
+    shared = shared_stored c u object refs nums at value name o root shared target (omega (arith, behind)) to_end covered current is;
     mine = rw told mine;
-    others = λ j d. rely_stored c u object refs nums at value name o root shared target behind to_end j (λ i. roots j i d);
+    others = λ j d. rely_stored c u object refs nums at value name o root shared target behind to_end current j (λ i. roots j i d);
   }
 
 -- A step that makes a reference field of an object in hand that of a root of the mutator.
-module _ (c : Config) (u : World) (m : Mutating) (object field value obj val : ℕ) (shared : Shared c u) (of : HasObject c u m.seat obj object) (below : field < of.refs) (value_is : Points u.block value (u.graph.root (m.seat + 1) val)) (covered : IsCovered c u object field) (root : ℕ → ℕ → Reference) where
+module _ (c : Config) (u : World) (m : Mutating) (object field value obj val : ℕ) (shared : Shared c u) (of : HasObject c u m.seat obj object) (below : field < of.refs) (value_is : IsRootWord c u m.seat val value) (covered : IsCovered c u object field) (root : ℕ → ℕ → Reference) where
   -- the object after the store
   abbrev object_then : Object
   object_then = with_reference (object_in c u shared m.seat obj object of).0 field (u.graph.root (m.seat + 1) val)
@@ -107,15 +108,19 @@ module _ (c : Config) (u : World) (m : Mutating) (object field value obj val : �
 
   -- the words are those of the object
   object_stands : IsThing (updated (λ a. u.memory (Heap a)) (object + 3 + field) value) u.block object of.refs of.nums of.name object_then
-  object_stands = field_stored (λ a. u.memory (Heap a)) u.block object of.refs of.nums of.name _ (object_in c u shared m.seat obj object of).2 field value (u.graph.root (m.seat + 1) val) below value_is
+  object_stands = field_stored (λ a. u.memory (Heap a)) u.block object of.refs of.nums of.name _ (object_in c u shared m.seat obj object of).2 field value (u.graph.root (m.seat + 1) val) below value_is.stands
 
   -- marking needs the field no more, which is the only one that is stored
   covered_then : (i : ℕ) → i < of.refs → object + 3 + field ≡ object + 3 + i → IsCovered c u object i
   covered_then i small same = subst (λ (k : ℕ). IsCovered c u object k) (omega (arith, same)) covered
 
+  -- and it is current then
+  current_then : (i : ℕ) → i < of.refs → object + 3 + field ≡ object + 3 + i → IsCurrent u.block value
+  current_then i small same = usable_current c (u.memory Cset) (u.memory Evac) u.block value value_is.usable
+
   -- machines share what they should
   shared_then : Shared c world_then
-  shared_then = shared_stored c u object of.refs of.nums (object + 3 + field) value of.name object_then root shared of.target (omega arith) (omega arith) covered_then object_stands
+  shared_then = shared_stored c u object of.refs of.nums (object + 3 + field) value of.name object_then root shared of.target (omega arith) (omega arith) covered_then current_then object_stands
 
   -- the step is as it should be
   field_settles : (command : Command) (fixed : Option Reply) (r : Reply)
@@ -125,7 +130,7 @@ module _ (c : Config) (u : World) (m : Mutating) (object field value obj val : �
       → Mine c world_then (next_of c m Nothing (u.memory (touch_of c m Nothing).word)) command (Some r)
       → Stepped c u m command Nothing fixed
   field_settles command fixed r memory told given unsettled other answered roots mine =
-      store_settles c u m object of.refs of.nums (object + 3 + field) value of.name object_then root command fixed r memory told given unsettled other shared of.target (omega arith) (omega arith) covered_then object_stands answered roots mine
+      store_settles c u m object of.refs of.nums (object + 3 + field) value of.name object_then root command fixed r memory told given unsettled other shared of.target (omega arith) (omega arith) covered_then current_then object_stands answered roots mine
 
 module _ (c : Config) (u : World) (seat made : ℕ) (kept : Kept) (command : Command) (fixed : Option Reply) where
   abbrev at_spot : Spot → Mutating
@@ -150,15 +155,15 @@ module _ (c : Config) (u : World) (seat made : ℕ) (kept : Kept) (command : Com
       let o = object_in c u shared seat is.obj object is.of in
       let v = field_in c u shared seat is.obj object field is.of is.below in
       let answered = set_outcome u.graph (seat + 1) is.obj is.of.name o.0 is.of.root_is o.1 field is.val v.0 v.1 in
-      field_settles c u (at_spot (OnField object (fields.Store value))) object field value is.obj is.val shared is.of is.below is.value_is.stands mine.facts.2 u.graph.root command fixed reply.Ok
+      field_settles c u (at_spot (OnField object (fields.Store value))) object field value is.obj is.val shared is.of is.below is.value_is mine.facts.2 u.graph.root command fixed reply.Ok
       refl refl refl mine.facts.0 refl (ap (λ k. outcome u.graph (seat + 1) k) is.is ∙ answered) (λ j i d. refl)
       (leaving c _ seat made kept command reply.Ok mine.seated (mine.marking.records, mine.marking.scans, mine.copying.copies_is, mine.copying.works_none) mine.roots mine.hands)
 
   -- The swap of a field settles the reference that it had. In a world in which marking needs the field no more:
   swap_settles : (w : World) (object value : ℕ) → (shared : Shared c w) → fixed ≡ None → (is : IsXchg c w seat command object field value dst) → (covered : IsCovered c w object field)
       → ((v : Reference) → Points w.block (w.memory (Heap (object + 3 + field))) v → let root : ℕ → ℕ → Reference = (with_root w.graph (seat + 1) dst v).root in
-      Shared c (world_then c w (at_spot (OnField object (fields.Swap value))) object field value is.obj is.val shared is.of is.below is.value_is.stands covered root)
-      → Mine c (world_then c w (at_spot (OnField object (fields.Swap value))) object field value is.obj is.val shared is.of is.below is.value_is.stands covered root)
+      Shared c (world_then c w (at_spot (OnField object (fields.Swap value))) object field value is.obj is.val shared is.of is.below is.value_is covered root)
+      → Mine c (world_then c w (at_spot (OnField object (fields.Swap value))) object field value is.obj is.val shared is.of is.below is.value_is covered root)
       (at_spot (after_swap c kept.phase kept.cset (w.memory (Heap (object + 3 + field))))) command (Some (shown v)))
       → Stepped c w (at_spot (OnField object (fields.Swap value))) command Nothing fixed
   swap_settles w object value shared unsettled is covered mine =
@@ -167,10 +172,10 @@ module _ (c : Config) (u : World) (seat made : ℕ) (kept : Kept) (command : Com
       let root = (with_root w.graph (seat + 1) dst v.0).root in
       let got = w.memory (Heap (object + 3 + field)) in
       let answered = xchg_outcome w.graph (seat + 1) is.obj is.of.name o.0 is.of.root_is o.1 dst field is.val v.0 v.1 in
-      field_settles c w (at_spot (OnField object (fields.Swap value))) object field value is.obj is.val shared is.of is.below is.value_is.stands covered root command fixed (shown v.0)
+      field_settles c w (at_spot (OnField object (fields.Swap value))) object field value is.obj is.val shared is.of is.below is.value_is covered root command fixed (shown v.0)
       refl (ap (λ x. Some x) (shown_is c w shared got v.0 v.2)) refl unsettled (shown_not_full v.0) (ap (λ k. outcome w.graph (seat + 1) k) is.is ∙ answered)
       (λ j i d. cond-false ((j + 1 == seat + 1) && (i == dst)) v.0 (w.graph.root (j + 1) i) (grind (arith, nat_tests)))
-      (mine v.0 v.2 (shared_then c w (at_spot (OnField object (fields.Swap value))) object field value is.obj is.val shared is.of is.below is.value_is.stands covered root))
+      (mine v.0 v.2 (shared_then c w (at_spot (OnField object (fields.Swap value))) object field value is.obj is.val shared is.of is.below is.value_is covered root))
 
   -- with the reference in hand, where it is to be recorded
   swap_field : (object value : ℕ) → Shared c u → Mine c u (at_spot (OnField object (fields.Swap value))) command fixed → Overwrites c u seat kept.phase object field (u.memory (Heap (object + 3 + field)))
@@ -206,8 +211,8 @@ module _ (c : Config) (u : World) (seat made : ℕ) (kept : Kept) (command : Com
   -- The field has the word that was found in it: it changes. In a world in which marking needs the field no more:
   exchange_settles : (w : World) (object found expect value : ℕ) → (w.memory (Heap (object + 3 + field)) == found) ≡ true → (shared : Shared c w) → fixed ≡ None
       → (is : IsCas c w seat command object field expect value) → NameTheSame w.block found expect → (covered : IsCovered c w object field)
-      → (Shared c (world_then c w (at_spot (OnField object (fields.Exchange found expect value))) object field value is.obj is.val shared is.of is.below is.value_is.stands covered w.graph.root)
-      → Mine c (world_then c w (at_spot (OnField object (fields.Exchange found expect value))) object field value is.obj is.val shared is.of is.below is.value_is.stands covered w.graph.root)
+      → (Shared c (world_then c w (at_spot (OnField object (fields.Exchange found expect value))) object field value is.obj is.val shared is.of is.below is.value_is covered w.graph.root)
+      → Mine c (world_then c w (at_spot (OnField object (fields.Exchange found expect value))) object field value is.obj is.val shared is.of is.below is.value_is covered w.graph.root)
       (at_spot (overwritten kept.phase found overwrites.Cas)) command (Some reply.Yes))
       → Stepped c w (at_spot (OnField object (fields.Exchange found expect value))) command Nothing fixed
   exchange_settles w object found expect value same shared unsettled is as_expected covered mine =
@@ -217,9 +222,9 @@ module _ (c : Config) (u : World) (seat made : ℕ) (kept : Kept) (command : Com
       let references : same_reference v.0 (w.graph.root (seat + 1) is.expected) ≡ true =
       one_reference c w shared got expect v.0 _ v.2 is.expect_is.stands (subst (λ x. NameTheSame w.block x expect) (sym (eqb-true _ _ same)) as_expected) in
       let answered = cas_outcome w.graph (seat + 1) is.obj is.of.name o.0 is.of.root_is o.1 field is.expected is.val v.0 v.1 references in
-      field_settles c w (at_spot (OnField object (fields.Exchange found expect value))) object field value is.obj is.val shared is.of is.below is.value_is.stands covered w.graph.root command fixed reply.Yes
+      field_settles c w (at_spot (OnField object (fields.Exchange found expect value))) object field value is.obj is.val shared is.of is.below is.value_is covered w.graph.root command fixed reply.Yes
       (rw same refl) (rw same refl) refl unsettled refl (ap (λ k. outcome w.graph (seat + 1) k) is.is ∙ answered) (λ j i d. refl)
-      (rw same (mine (shared_then c w (at_spot (OnField object (fields.Exchange found expect value))) object field value is.obj is.val shared is.of is.below is.value_is.stands covered w.graph.root)))
+      (rw same (mine (shared_then c w (at_spot (OnField object (fields.Exchange found expect value))) object field value is.obj is.val shared is.of is.below is.value_is covered w.graph.root)))
 
   -- with the reference in hand, where it is to be recorded
   exchange_field : (object found expect value : ℕ) → (u.memory (Heap (object + 3 + field)) == found) ≡ true → Shared c u → Mine c u (at_spot (OnField object (fields.Exchange found expect value))) command fixed
@@ -288,7 +293,7 @@ module _ (c : Config) (u : World) (seat made : ℕ) (kept : Kept) (command : Com
       let stands = number_stored (λ a. u.memory (Heap a)) u.block object is.of.refs is.of.nums is.of.name o.0 o.2 index value is.below in
       let answered = wr_outcome u.graph (seat + 1) is.obj is.of.name o.0 is.of.root_is o.1 index value _ (number_in c u shared seat is.obj object index is.of is.below) in
       store_settles c u (at_spot (OnNumber object refs numbers.Store)) object is.of.refs is.of.nums at value is.of.name (with_value o.0 index value) u.graph.root command fixed reply.Ok
-      refl refl refl mine.facts.0 refl shared is.of.target (omega arith) (omega (arith, is.below, is.refs_are)) (λ i small same. absurd (let refs_are = is.refs_are in omega (arith, small, same, refs_are)))
+      refl refl refl mine.facts.0 refl shared is.of.target (omega arith) (omega (arith, is.below, is.refs_are)) (λ i small same. absurd (let refs_are = is.refs_are in omega (arith, small, same, refs_are))) (λ i small same. absurd (let refs_are = is.refs_are in omega (arith, small, same, refs_are)))
       (subst (λ (x : ℕ). IsThing (updated (λ a. u.memory (Heap a)) (object + 3 + x + index) value) u.block object is.of.refs is.of.nums is.of.name (with_value o.0 index value)) (sym is.refs_are) stands)
       (ap (λ k. outcome u.graph (seat + 1) k) is.is ∙ answered) (λ j i d. refl)
       (leaving c _ seat made kept command reply.Ok mine.seated (mine.marking.records, mine.marking.scans, mine.copying.copies_is, mine.copying.works_none) mine.roots mine.hands)

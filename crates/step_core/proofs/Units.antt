@@ -1,4 +1,4 @@
--- Units of marking and of evacuation, of a helper or of the control: where one begins, goes on and ends.
+-- Units of marking, of evacuation and of updating, of a helper or of the control: where one begins, goes on and ends.
 use Rattle.std.proofs.Common.{◌≡◌, ℕ, ◌<◌, false, ◌∙◌}
 use Rattle.heap_words.specs.declared.config.Config.{Config}
 use Rattle.heap_words.specs.Ranges.{seat_count}
@@ -11,6 +11,9 @@ use Rattle.load_barrier.specs.declared.evac_spot.EvacSpot.TheVariants as evac
 use Rattle.mark_steps.proofs.Parts.{scanning_steps}
 use Rattle.evac_steps.specs.Evacuating.{CanEvacuate}
 use Rattle.evac_steps.proofs.Parts.{evacuating_steps}
+use Rattle.update_refs.specs.declared.spot.UpdateSpot.TheVariants as update
+use Rattle.update_steps.specs.Updating.{CanUpdate}
+use Rattle.update_steps.proofs.Parts.{updating_steps}
 use Rattle.heap_world.specs.World.{World, Shared}
 use Rattle.heap_world.specs.Part.{PartStep}
 use Rattle.step_core.proofs.Facts.{IsResting, Scans}
@@ -24,6 +27,11 @@ pub evacuates_from : (c : Config) (u : World) (seat : ℕ) → seat < seat_count
 evacuates_from c u seat seated on rests = evacuating_steps.begins c u seat seated on rests.works_none
     (record { copying = rests.copies_none; records_none = rests.records_none; scans_none = rests.scans_none; hands = rests.hands })
 
+-- and one of updating in phase 3
+pub updates_from : (c : Config) (u : World) (seat : ℕ) → seat < seat_count c.mutators c.helpers → u.memory Phase ≡ 3 → IsResting u seat → CanUpdate c u seat (u.memory Cset) update.LoadClaim
+updates_from c u seat seated on rests = updating_steps.begins c u seat seated on rests.works_none
+    (record { copying = rests.copies_none; records_none = rests.records_none; scans_none = rests.scans_none; hands = rests.hands })
+
 -- once a unit has ended, it rests
 pub scanned_rests : (c : Config) (w : World) (seat : ℕ) (unit : Unit) → Scans c w seat (scan.Ended unit) → IsResting w seat
 scanned_rests c w seat unit scans = record { records_none = scans.0.records_none; scans_none = scans.0.scanning; copies_none = scans.1; works_none = scans.2; hands = scans.0.hands }
@@ -35,6 +43,15 @@ evacuated_rests c w seat cset unit can = record {
   copies_none = can.facts.copying;
   works_none = can.working;
   hands = can.facts.hands;
+}
+
+pub updated_rests : (c : Config) (w : World) (seat cset : ℕ) (unit : Unit) → CanUpdate c w seat cset (update.Ended unit) → IsResting w seat
+updated_rests c w seat cset unit can = record {
+  records_none = can.records_none;
+  scans_none = can.scanning;
+  copies_none = can.copying;
+  works_none = can.working;
+  hands = can.hands;
 }
 
 -- what a step of a scan owes

@@ -10,6 +10,7 @@ use Rattle.heap_words.specs.Words.{Top, Answer, Ask}
 use Rattle.shen_graph.specs.declared.command.Command.{Command}
 use Rattle.shen_graph.specs.declared.command.Reply.{Reply}
 use Rattle.shen_graph.specs.declared.command.Reply.TheVariants as reply
+use Rattle.shen_graph.specs.Graph.{fresh}
 use Rattle.handshake.specs.declared.enter_spot.EnterSpot.TheVariants.{Raise}
 use Rattle.mutator.specs.declared.spot.Kept.{Kept}
 use Rattle.mutator.specs.declared.spot.Entered.TheVariants.{Waited}
@@ -18,13 +19,14 @@ use Rattle.mutator.specs.declared.waits.WaitSpot.{WaitSpot}
 use Rattle.mutator.specs.declared.waits.WaitSpot.TheVariants as wait
 use Rattle.mutator.specs.Commands.{refs_of, nums_of}
 use Rattle.mutator.specs.Rows.{Mutating}
-use Rattle.heap_world.specs.World.{World, Shared, promised, IsMarkable}
+use Rattle.heap_world.specs.World.{World, Shared, thing, promised, name_at, IsMarkable}
 use Rattle.heap_world.specs.Asking as asking
 use Rattle.heap_world.specs.Asking.{IsPromise}
-use Rattle.heap_world.specs.Rely.{Keeps, RelyCopies, RelyMarks}
+use Rattle.heap_world.specs.Rely.{Keeps, KeepsFields, RelyCopies, RelyMarks}
+use Rattle.heap_world.proofs.Updates.{updated_there}
 use Rattle.step_core.specs.Stepped.{IsAnswered, Mine, Row}
 use Rattle.step_core.proofs.Spots.{mutator_at, accessed}
-use Rattle.step_core.proofs.Marking.{marks_in, now_waits, copies_in}
+use Rattle.step_core.proofs.Marking.{marks_in, now_waits, copies_in, fields_in}
 use Rattle.step_core.proofs.Stable.{asking_stays, heard_stays}
 use Rattle.step_core.proofs.Loading.{looks}
 use Rattle.step_core.proofs.Entering.{state_keeps}
@@ -73,7 +75,7 @@ module _ (c : Config) (u : World) (seat made : ℕ) (kept : Kept) (command : Com
         ),
       );
     };
-    others = λ j d. let marks = marks_in c u (accessed c u (at_spot wait.StoreRequest)).memory u.graph j refl (λ n. refl) (λ t. refl) (λ t k. refl) (λ a. refl) in let copies = copies_in c u (accessed c u (at_spot wait.StoreRequest)).memory u.graph j refl refl (λ r. refl) (λ a. refl) in search (arith, nat_tests, marks, copies);
+    others = λ j d. let marks = marks_in c u (accessed c u (at_spot wait.StoreRequest)).memory u.graph j refl (λ n. refl) (λ t. refl) (λ t k. refl) (λ a. refl) in let copies = copies_in c u (accessed c u (at_spot wait.StoreRequest)).memory u.graph j refl refl (λ r. refl) (λ a. refl) in let kept_fields = fields_in c u (accessed c u (at_spot wait.StoreRequest)).memory u.graph (λ r. refl) (λ r. refl) refl (λ a. refl) in search (arith, nat_tests, marks, copies, kept_fields);
   }
 
   -- the word by which it asks for a pause is no word that its facts speak of
@@ -82,6 +84,9 @@ module _ (c : Config) (u : World) (seat made : ℕ) (kept : Kept) (command : Com
 
   ask_copies : (j : ℕ) → RelyCopies c j u (accessed c u (at_spot wait.AskRoom))
   ask_copies j = copies_in c u (accessed c u (at_spot wait.AskRoom)).memory u.graph j refl refl (λ r. refl) (λ a. refl)
+
+  ask_fields : KeepsFields c u (accessed c u (at_spot wait.AskRoom))
+  ask_fields = fields_in c u (accessed c u (at_spot wait.AskRoom)).memory u.graph (λ r. refl) (λ r. refl) refl (λ a. refl)
 
   ask_keeps : Keeps c seat u (accessed c u (at_spot wait.AskRoom))
   ask_keeps = let marks = ask_marks seat in let kept_marks = marks.keeps in let copies = ask_copies seat in let kept_copies = copies.keeps in search (arith, nat_tests, kept_marks, kept_copies)
@@ -104,7 +109,7 @@ module _ (c : Config) (u : World) (seat made : ℕ) (kept : Kept) (command : Com
       hands = mine.hands;
       facts = (asking_stays c u (accessed c u (at_spot wait.AskRoom)) seat ask_keeps made kept.command command fixed (asking.asks refs nums) mine.facts, now_waits (u.memory Ask));
     };
-    others = λ j d. let marks = ask_marks j in let copies = ask_copies j in let waits : bit_at (u.memory Ask) 1 ≡ 1 → bit_at (bit_or (u.memory Ask) 2) 1 ≡ 1 = λ is. now_waits (u.memory Ask) in search (arith, nat_tests, marks, copies, waits);
+    others = λ j d. let marks = ask_marks j in let copies = ask_copies j in let kept_fields = ask_fields in let waits : bit_at (u.memory Ask) 1 ≡ 1 → bit_at (bit_or (u.memory Ask) 2) 1 ≡ 1 = λ is. now_waits (u.memory Ask) in search (arith, nat_tests, marks, copies, kept_fields, waits);
   }
 
   -- the step by which it leaves the heap, to wait
@@ -125,7 +130,7 @@ module _ (c : Config) (u : World) (seat made : ℕ) (kept : Kept) (command : Com
       hands = mine.hands;
       facts = inl (heard_stays c u (accessed c u (at_spot wait.StepOut)) seat (state_keeps c u seat seat 0) (λ is. is) made kept.command command fixed mine.facts);
     };
-    others = λ j d. let marks = marks_in c u (accessed c u (at_spot wait.StepOut)).memory u.graph j refl (λ n. refl) (λ t. refl) (λ t k. refl) (λ a. refl) in let copies = copies_in c u (accessed c u (at_spot wait.StepOut)).memory u.graph j refl refl (λ r. refl) (λ a. refl) in search (arith, nat_tests, marks, copies);
+    others = λ j d. let marks = marks_in c u (accessed c u (at_spot wait.StepOut)).memory u.graph j refl (λ n. refl) (λ t. refl) (λ t k. refl) (λ a. refl) in let copies = copies_in c u (accessed c u (at_spot wait.StepOut)).memory u.graph j refl refl (λ r. refl) (λ a. refl) in let kept_fields = fields_in c u (accessed c u (at_spot wait.StepOut)).memory u.graph (λ r. refl) (λ r. refl) refl (λ a. refl) in search (arith, nat_tests, marks, copies, kept_fields);
   }
 
   -- What it finds where it polls: its word as it counts, or 0, where the control has not stored the word yet. It goes on with an
@@ -175,7 +180,7 @@ module _ (c : Config) (u : World) (seat made : ℕ) (kept : Kept) (command : Com
         hands = mine.hands;
         facts = ⊎_elim
             (λ given. let more = given.1.1 in let one = eqb-true _ _ full in absurd (omega (arith, more, one)))
-            (λ no. (no.0.settled, no.1.0, no.1.2))
+            (λ no. (no.0.settled, no.1.0, no.1.2, inl (let one = no.1.1 in omega (arith, one))))
             mine.facts;
       }
       by_full false other = ⊎_elim
@@ -206,7 +211,7 @@ module _ (c : Config) (u : World) (seat made : ℕ) (kept : Kept) (command : Com
       here = promise.here;
       unnamed = refl;
       long = refl;
-      own = record { no_hand = λ j words differs same. cc; no_promise = λ j words differs same. (let seats : j ≡ seat = cc in differs seats) };
+      own = record { no_hand = λ j words differs same. cc; no_promise = λ j words differs same. (let seats : j ≡ seat = cc in differs seats); no_filler = λ words same. cc };
       known = λ on. inl (shared.marked.promises on address seat (3 + refs + nums) promise.here);
       outside = λ inside. shared.evacuated.aside.no_promises address seat (3 + refs + nums) promise.here inside;
       kept = λ on. shared.evacuated.kept.objects on address (IsMarkable.to_come seat (3 + refs + nums) promise.here);
@@ -223,7 +228,12 @@ module _ (c : Config) (u : World) (seat made : ℕ) (kept : Kept) (command : Com
       copying = mine.copying;
       roots = roots_made has mine.roots;
       hands = λ a words is. mine.hands a words (hand_before has a seat words is).1;
-      facts = (refl, mine.facts.0.1.0, λ a words is. let old = promise_before has a seat words is in old.0 (promise.only a words old.1));
+      facts = (
+        refl,
+        mine.facts.0.1.0,
+        λ a words is. let old = promise_before has a seat words is in old.0 (promise.only a words old.1),
+        inr (fresh u.graph (seat + 1), ap (λ a. name_at ((made_world has).block a)) mine.facts.1 ∙ ap name_at (updated_there u.block address (Some (thing (fresh u.graph (seat + 1)) refs nums)))),
+      );
     }
 
   -- the step that stores the object into the root settles its name
@@ -252,7 +262,7 @@ module _ (c : Config) (u : World) (seat made : ℕ) (kept : Kept) (command : Com
         (leaving c (accessed c u (at_spot (wait.ClearAnswer r))) seat made kept command r
         (record { below = mine.seated.below; counted = mine.seated.counted; usable = mine.seated.usable; unasked = λ calm. (mine.facts.1, cond-true (seat == seat) _ _ (eq-eqb seat seat refl), mine.facts.2) })
         (mine.marking.records, mine.marking.scans, mine.copying.copies_is, mine.copying.works_none) mine.roots mine.hands);
-    others = λ j d. let marks = marks_in c u (accessed c u (at_spot (wait.ClearAnswer r))).memory u.graph j refl (λ n. refl) (λ t. refl) (λ t k. refl) (λ a. refl) in let copies = copies_in c u (accessed c u (at_spot (wait.ClearAnswer r))).memory u.graph j refl refl (λ r. refl) (λ a. refl) in search (arith, nat_tests, marks, copies);
+    others = λ j d. let marks = marks_in c u (accessed c u (at_spot (wait.ClearAnswer r))).memory u.graph j refl (λ n. refl) (λ t. refl) (λ t k. refl) (λ a. refl) in let copies = copies_in c u (accessed c u (at_spot (wait.ClearAnswer r))).memory u.graph j refl refl (λ r. refl) (λ a. refl) in let kept_fields = fields_in c u (accessed c u (at_spot (wait.ClearAnswer r))).memory u.graph (λ r. refl) (λ r. refl) refl (λ a. refl) in search (arith, nat_tests, marks, copies, kept_fields);
   }
 
   -- by the spot, but for the polling

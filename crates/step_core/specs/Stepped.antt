@@ -46,7 +46,9 @@ use Rattle.step_core.specs.Actor.{entry_of, command_by}
 use Rattle.step_core.specs.Own.{root_now, IsInHand}
 use Rattle.mark_steps.specs.Recording.{CanRecord}
 use Rattle.load_barrier.specs.Runs.{is_copier}
+use Rattle.load_barrier.specs.declared.spot.ResolveSpot.{ResolveSpot}
 use Rattle.copy_steps.specs.Resolving.{CanResolve}
+use Rattle.update_steps.specs.Following.{CanFollow}
 use Rattle.heap_world.specs.World.{World, Plot, Scan, hand, name_at, Points, TargetIn, IsUsable, UsableIn, IsCovered, Shared}
 use Rattle.heap_world.specs.Asking as asking
 use Rattle.heap_world.specs.Asking.{Asking, HasNoPromise, IsAsked}
@@ -271,6 +273,10 @@ abbrev pub EnterFacts : World → ℕ → ℕ → Command → Command → Option
 EnterFacts w seat made k command fixed Call = IsBegun made command fixed k
 EnterFacts w seat made k command fixed Waited = IsAnswered w seat made k command fixed
 
+-- the mutator has taken what it was answered: its answer leads to a copy of an object of the graph, or it leads nowhere
+abbrev pub HasTaken : World → ℕ → Type 0
+HasTaken w seat = (w.memory (Answer seat) ≤ 1) ⊎ ((name : Name) × (name_at (w.block (w.memory (Answer seat))) ≡ Some name))
+
 abbrev pub WaitFacts : World → ℕ → ℕ → Command → Command → Option Reply → WaitSpot → Type 0
 WaitFacts w seat made k command fixed wait.StoreRequest = IsAsking w seat made k command fixed asking.nothing
 WaitFacts w seat made k command fixed wait.AskRoom = IsAsking w seat made k command fixed (asking.asks (refs_of k) (nums_of k))
@@ -279,7 +285,11 @@ WaitFacts w seat made k command fixed wait.Poll = IsPolling w seat made k comman
 WaitFacts w seat made k command fixed wait.LoadAnswer = IsAnswered w seat made k command fixed
 WaitFacts w seat made k command fixed (wait.StoreRoot address) =
     IsAsking w seat made k command fixed (asking.given (refs_of k) (nums_of k)) × (w.memory (Answer seat) ≡ address)
-WaitFacts w seat made k command fixed (wait.ClearAnswer reply) = (fixed ≡ Some reply) × (w.memory (Wait seat) ≡ 0) × HasNoPromise w.block seat
+WaitFacts w seat made k command fixed (wait.ClearAnswer reply) = (fixed ≡ Some reply) × (w.memory (Wait seat) ≡ 0) × HasNoPromise w.block seat × HasTaken w seat
+
+-- the machine of a seat resolves an address: objects are evacuated, or references to them updated
+abbrev pub IsResolving : Config → World → (seat address : ℕ) → ResolveSpot → Type 0
+IsResolving c w seat address at = CanResolve c w seat address at ⊎ CanFollow c w seat address at
 
 -- and at each spot
 abbrev pub SpotFacts : Config → World → ℕ → ℕ → Kept → Command → Option Reply → Spot → Type 0
@@ -290,7 +300,7 @@ SpotFacts c w seat made kept command fixed LoadPhase = IsBegun made command fixe
 SpotFacts c w seat made kept command fixed LoadSet = IsBegun made command fixed kept.command
 SpotFacts c w seat made kept command fixed (Loading at) = LoadFacts c w seat made kept.command command fixed at
 SpotFacts c w seat made kept command fixed (OnField object at) = FieldFacts c w seat kept.command command fixed object at
-SpotFacts c w seat made kept command fixed (Resolving address at next) = CanResolve c w seat address at × LoadedFacts c w seat kept.command command fixed address next
+SpotFacts c w seat made kept command fixed (Resolving address at next) = IsResolving c w seat address at × LoadedFacts c w seat kept.command command fixed address next
 SpotFacts c w seat made kept command fixed (Recording at address next) = CanRecord c w seat address at × RecordFacts c w seat kept.command command fixed address next
 SpotFacts c w seat made kept command fixed (OnNumber object refs at) = NumberFacts c w seat kept.command command fixed object refs at
 SpotFacts c w seat made kept command fixed (Showing value at) = ShowFacts c w kept.command fixed value at

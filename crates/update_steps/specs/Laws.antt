@@ -13,6 +13,7 @@ use Rattle.load_barrier.specs.declared.spot.ResolveSpot.{ResolveSpot}
 use Rattle.load_barrier.specs.declared.spot.ResolveSpot.TheVariants.{LoadHeader, Resolved}
 use Rattle.load_barrier.specs.Rows as resolves
 use Rattle.load_barrier.specs.Fit as resolve
+use Rattle.load_barrier.specs.Runs.{is_copier}
 use Rattle.copy_steps.specs.Resolving.{IsAnswer}
 use Rattle.evac_steps.specs.Evacuating.{HasNothing}
 use Rattle.update_refs.specs.declared.spot.UpdateSpot.{UpdateSpot}
@@ -52,15 +53,19 @@ abbrev pub FollowStep : Config → World → (seat a : ℕ) → ResolveSpot → 
 FollowStep c u seat a at =
     PartStep c u seat (resolves.touch_at c seat a at) (λ w. CanFollow c w seat a (resolves.next_at c a update_phase at (u.memory (resolves.touch_at c seat a at).word)))
 
--- A machine that resolves an address while references are updated finds the object's current copy by one load of the header.
+-- A machine that resolves an address while references are updated finds the object's current copy by one load of the header, and makes no
+-- other access.
 pub record FollowingSteps : Type 0 where
   pub begins : (c : Config) (u : World) (seat a : ℕ) (b : Body) → seat < seat_count c.mutators c.helpers → u.memory Phase ≡ 3 → IsCollected c (u.memory Cset) a → body_at (u.block a) ≡ Some b
-      → HasNothing u seat → CanFollow c u seat a LoadHeader
+      → u.ghost.working seat ≡ None → HasNothing u seat → CanFollow c u seat a LoadHeader
   pub each : (c : Config) (u : World) (seat a : ℕ) (at : ResolveSpot) → resolves.is_resolved at ≡ false → Shared c u → CanFollow c u seat a at → FollowStep c u seat a at
   pub stays : (c : Config) (u w : World) (seat a : ℕ) (at : ResolveSpot) → Shared c u → Rely c seat u w → CanFollow c u seat a at → CanFollow c w seat a at
   pub fits : (c : Config) (u : World) (seat a : ℕ) (at : ResolveSpot) → resolves.is_resolved at ≡ false → Shared c u → CanFollow c u seat a at
       → resolve.IsFit c seat a update_phase at (u.memory (resolves.touch_at c seat a at).word)
   pub inside : (c : Config) (u : World) (seat a : ℕ) (at : ResolveSpot) → Shared c u → CanFollow c u seat a at → IsWord c (resolves.touch_at c seat a at).word
+  pub ready : (c : Config) (u : World) (seat a : ℕ) (at : ResolveSpot) → Shared c u → CanFollow c u seat a at → resolve.is_ready c seat a at ≡ true
+  pub copies_none : (c : Config) (u : World) (seat a : ℕ) (at : ResolveSpot) → CanFollow c u seat a at → is_copier at ≡ false
+  pub only_loads : (c : Config) (u : World) (seat a : ℕ) (at : ResolveSpot) → CanFollow c u seat a at → (resolves.touch_at c seat a at).form ≡ loads
   pub answers : (c : Config) (u : World) (seat a answer : ℕ) → CanFollow c u seat a (Resolved answer) → IsAnswer c u a answer
 
 -- nobody stands in the unit of a region

@@ -5,14 +5,14 @@ use Rattle.heap_words.specs.declared.config.Config.{Config}
 use Rattle.heap_words.specs.Encoding.{refs_in, object_words}
 use Rattle.heap_words.specs.Ranges.{seat_count}
 use Rattle.heap_words.specs.Words.{Phase, Cset, Limit, Tams, Heap}
-use Rattle.regions.specs.Place.{base_of, region_with}
+use Rattle.regions.specs.Place.{base_of}
 use Rattle.regions.specs.Sets.{IsIn}
 use Rattle.shen_graph.specs.declared.name.Name.{Name}
-use Rattle.heap_world.specs.World.{World, Scan, moved, hand, filler, IsMarkable, IsCurrent}
+use Rattle.heap_world.specs.World.{World, Scan, thing, moved, hand, filler, IsMarkable, IsCurrent}
 use Rattle.update_refs.specs.declared.spot.Walk.{Walk}
 use Rattle.update_refs.specs.declared.spot.Visit.{Visit}
 use Rattle.update_refs.specs.declared.spot.UpdateSpot.{UpdateSpot}
-use Rattle.update_refs.specs.declared.spot.UpdateSpot.TheVariants.{LoadClaim, ClaimUnit, LoadLimit, LoadTams, LoadShape, LoadBlack, LoadField, LoadHeader, ExchangeField, Ended}
+use Rattle.update_refs.specs.declared.spot.UpdateSpot.TheVariants.{ClaimUnit, LoadLimit, LoadTams, LoadShape, LoadBlack, LoadField, LoadHeader, ExchangeField}
 use Rattle.update_refs.specs.Rows.{limit_of, tams_of}
 
 -- where a machine stands in its unit, by its spot: at the first reference with which it has not dealt, of an object to which it has come
@@ -54,8 +54,14 @@ pub record HasField (c : Config) (w : World) (at : Visit) (field : ℕ) : Type 0
   pub shape_is : at.shape ≡ w.memory (Heap (at.address + 1))
   pub below : field < refs_in at.shape
 
--- The reference was found to be that of an old copy, whose current copy is at an address, and still is, or is current by now.
+-- an object of the graph has its current copy there
+abbrev pub HasThing : World → ℕ → Type 0
+HasThing w a = (name : Name) × (refs : ℕ) × (nums : ℕ) × (w.block a ≡ Some (thing name refs nums))
+
+-- The reference, of an object of the graph, was found to be that of an old copy, whose current copy is at an address, and still is, or is
+-- current by now.
 pub record HasFound (w : World) (at : Visit) (field found to : ℕ) : Type 0 where
+  pub holder : HasThing w at.address
   pub refs : ℕ
   pub nums : ℕ
   pub name : Name

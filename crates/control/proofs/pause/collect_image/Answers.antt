@@ -1,6 +1,6 @@
 use Rattle.std.proofs.Common.{sym, subst}
 use Rattle.image_graph.specs.State.{config_of}
-use Rattle.evac_pauses.specs.Collect.{CanPauseSome}
+use Rattle.cycle_pauses.specs.Collect.{CanPauseSome}
 use Rattle.control.proofs.Images.{memory-image_in, image-collected, clear-collected}
 use Rattle.control.proofs.pause.collect_image.Goals as goal
 

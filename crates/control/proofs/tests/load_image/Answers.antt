@@ -6,7 +6,7 @@ use Rattle.heap_world.specs.Change.{image_words}
 use Rattle.image_graph.specs.declared.image.Image.{Image}
 use Rattle.image_graph.specs.State.{config_of, words_of}
 use Rattle.control_steps.specs.Rows.{Controlling, control_next}
-use Rattle.evac_pauses.specs.Collect.{collect_image}
+use Rattle.cycle_pauses.specs.Collect.{collect_image}
 use Rattle.control.specs.Image.{image_in, words_seen}
 use Rattle.control.specs.Fit.{IsFit}
 use Rattle.control.specs.Seen.{config_in, seen_control}

@@ -1,0 +1,74 @@
+-- The words of an image after a pause, by their names.
+use Rattle.std.proofs.Common.{◌≡◌, ℕ, false, List, ◌++◌, length, replicate, refl, ap, ◌∙◌}
+use Rattle.heap_words.specs.declared.config.Config.{Config}
+use Rattle.heap_words.specs.Words.{Word, Pause, Left, End, State, Phase, IsWord, is_image, image_start, table_words, view}
+use Rattle.heap_world.specs.Change.{image_words, image_view}
+use Rattle.std.specs.Prelude.{◌==◌, if◌then◌else◌}
+use Rattle.std.proofs.lemmas.Bool.{true≢false}
+use Rattle.image_laws.specs.Full.{full}
+use Rattle.pause_laws.proofs.Images.{full_before, image_of_length, word_by_name, table_by_name}
+use Rattle.mark_laws.specs.Init.{init_marked}
+use Rattle.evac_pauses.specs.Collect.{evac_next}
+use Rattle.update_laws.specs.Changes.{init_updated, final_updated}
+use Rattle.cycle_pauses.specs.Ended.{ended}
+use Rattle.cycle_pauses.specs.Collect.{is_room_needed, next_in_cycle, past_marking, room_made, collected, collect_image}
+use Rattle.cycle_pauses.specs.Laws.{TableIsCollected}
+use Rattle.evac_pauses.proofs.Outside.{of_two, next_before}
+use Rattle.cycle_pauses.proofs.Finished.{ended_before}
+
+-- the beginning of marking leaves the words before the image
+init_before : (c : Config) (m : Word → ℕ) (word : Word) → is_image word ≡ false → init_marked c m word ≡ m word
+init_before c m Pause other = refl
+init_before c m Left other = refl
+init_before c m End other = refl
+init_before c m (State s) other = refl
+init_before c m _ other = absurd (true≢false other)
+
+-- so does the beginning of updating, and its end
+init_updated_before : (m : Word → ℕ) (word : Word) → is_image word ≡ false → init_updated m word ≡ m word
+init_updated_before m Pause other = refl
+init_updated_before m Left other = refl
+init_updated_before m End other = refl
+init_updated_before m (State s) other = refl
+init_updated_before m _ other = absurd (true≢false other)
+
+final_updated_before : (c : Config) (m : Word → ℕ) (word : Word) → is_image word ≡ false → final_updated c m word ≡ m word
+final_updated_before c m Pause other = refl
+final_updated_before c m Left other = refl
+final_updated_before c m End other = refl
+final_updated_before c m (State s) other = refl
+final_updated_before c m _ other = absurd (true≢false other)
+
+cycle_before : (c : Config) (m : Word → ℕ) (word : Word) → is_image word ≡ false → next_in_cycle c m word ≡ m word
+cycle_before c m word other =
+    of_two (m Phase == 0) (init_marked c m word) (if m Phase == 1 then evac_next c m word else (if m Phase == 2 then init_updated m word else final_updated c m word)) (m word) (init_before c m word other)
+    (of_two (m Phase == 1) (evac_next c m word) (if m Phase == 2 then init_updated m word else final_updated c m word) (m word) (next_before c m word other)
+    (of_two (m Phase == 2) (init_updated m word) (final_updated c m word) (m word) (init_updated_before m word other) (final_updated_before c m word other)))
+
+past_marking_before : (c : Config) (m : Word → ℕ) (word : Word) → is_image word ≡ false → past_marking c m word ≡ m word
+past_marking_before c m word other = of_two (m Phase == 1) (evac_next c m word) (m word) (m word) (next_before c m word other) refl
+
+room_before : (c : Config) (m : Word → ℕ) (word : Word) → is_image word ≡ false → room_made c m word ≡ m word
+room_before c m word other =
+    of_two (m Phase == 0) (full c m word) (ended c (past_marking c m) word) (m word) (full_before c m word other)
+    (ended_before c (past_marking c m) word other ∙ past_marking_before c m word other)
+
+collected_before : (c : Config) (m : Word → ℕ) (word : Word) → is_image word ≡ false → collected c m word ≡ m word
+collected_before c m word other =
+    of_two (is_room_needed m) (room_made c m word) (next_in_cycle c m word) (m word) (room_before c m word other) (cycle_before c m word other)
+
+-- a pause keeps the length of the image
+pub collected_length : (c : Config) (image : List ℕ) → length (collect_image c image) ≡ image_words c
+collected_length c image = image_of_length c (collected c (image_view c image))
+
+-- by their names the words of the table are those that it makes of them
+pub collected_by_name : (c : Config) (image : List ℕ) (word : Word) → IsWord c word → image_view c (collect_image c image) word ≡ collected c (image_view c image) word
+collected_by_name c image = word_by_name c image (collected c (image_view c image)) (collected_before c (image_view c image))
+
+-- and a table that reads so is the image, behind zeros
+collected_table : (c : Config) (image table : List ℕ) → length table ≡ table_words c
+    → ((word : Word) → IsWord c word → view c table word ≡ collected c (image_view c image) word) → table ≡ replicate (image_start c) 0 ++ collect_image c image
+collected_table c image = table_by_name c image (collected c (image_view c image)) (collected_before c (image_view c image))
+
+pub table_is_collected : TableIsCollected
+table_is_collected c image table long whole can is = collected_table c image table whole (λ word inside. ap (λ (m : Word → ℕ). m word) is)

@@ -1,5 +1,0 @@
-use Rattle.evac_pauses.proofs.Pauses.{collect_is_pause}
-use Rattle.evac_pauses.proofs.collect_is_pause.Goals as goal
-
-pub returns : goal.returns
-returns c = collect_is_pause

@@ -1,5 +1,0 @@
-use Rattle.evac_pauses.proofs.Pauses.{image_is_collected}
-use Rattle.evac_pauses.proofs.image_is_collected.Goals as goal
-
-pub returns : goal.returns
-returns c = image_is_collected

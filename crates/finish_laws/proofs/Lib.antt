@@ -1,0 +1,5 @@
+pub mod Starts
+pub mod Fields
+pub mod Copies
+pub mod Whole
+pub mod Causes

@@ -1,0 +1,23 @@
+-- Words that represent a graph do so by copies.
+use Rattle.std.proofs.Common.{ℕ}
+use Rattle.heap_words.specs.declared.config.Config.{Config}
+use Rattle.heap_words.specs.Words.{Word}
+use Rattle.shen_graph.specs.Graph.{Graph}
+use Rattle.heap_world.specs.Asking.{Asking}
+use Rattle.heap_world.specs.Represents.{Represents}
+use Rattle.pause_laws.specs.ByCopies.{RepresentsByCopies}
+
+abbrev pub by_copies : (c : Config) (m : Word → ℕ) (g : Graph) (asking : ℕ → Asking) → Represents c m g asking → RepresentsByCopies c m g asking
+by_copies c m g asking r = record {
+  block = r.block;
+  ghost = r.ghost;
+  shared = r.shared;
+  roots = r.roots;
+  none = r.none;
+  asked = r.asked;
+  heard = r.heard;
+  promised_to = r.promised_to;
+  unmarking = r.unmarking;
+  uncopying = r.uncopying;
+  no_more = r.no_more;
+}

@@ -1,0 +1,11 @@
+//! The pauses that begin and end the updating of references, over an image.
+#![tactic(auto)]
+
+mod begin;
+mod end;
+
+pub use begin::init_update;
+pub use end::{final_update, free_set};
+
+#[cfg(test)]
+mod tests;

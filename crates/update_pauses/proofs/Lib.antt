@@ -1,0 +1,4 @@
+pub mod Beginning
+pub mod Freeing
+pub mod Ending
+pub mod Outside

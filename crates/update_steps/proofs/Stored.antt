@@ -1,0 +1,85 @@
+-- A reference of an object becomes one to the current copy of the object that it names: the graph stays as it is.
+use Rattle.std.proofs.Common.{◌≡◌, ℕ, ◌+◌, ◌<◌, List, [], ◌∷◌, true, false, Option, Some, None, length, zero, suc, ⊎_elim, refl, sym, ap, ◌∙◌, subst, arith}
+use Rattle.std.specs.Prelude.{slice_get, slice_set}
+use Rattle.std.proofs.Math.ListN.{get_or}
+use Rattle.std.proofs.Math.Path.{fun_ext}
+use Rattle.std.proofs.lemmas.Bool.{cases_Bool, cond-true, cond-false}
+use Rattle.std.proofs.lemmas.Option.{slice_get-get_or, none-some}
+use Rattle.heap_words.specs.declared.config.Config.{Config}
+use Rattle.heap_words.specs.Words.{Phase, Top, Heap}
+use Rattle.shen_graph.specs.declared.name.Name.{Name}
+use Rattle.shen_graph.specs.Graph.{Reference, Object, Graph, same_name}
+use Rattle.shen_graph.proofs.PlainLemmas.{same_name-true}
+use Rattle.heap_world.specs.World.{World, thing, moved, name_at, Points, IsThing, TargetIn, IsCurrent, IsCovered, Shared}
+use Rattle.heap_world.specs.Rely.{Rely}
+use Rattle.heap_world.proofs.Pointing.{piece_inside}
+use Rattle.heap_world.proofs.Updates.{updated}
+use Rattle.heap_world.proofs.Objects.{stored, changed, field_stored, shared_stored, rely_stored}
+
+-- a list in which an element is set that was there is the same
+set_same : {A : Type 0} (xs : List A) (i : ℕ) (x : A) → slice_get xs i ≡ Some x → slice_set xs i x ≡ xs
+set_same [] i x here = refl
+set_same (y ∷ ys) zero x here = cc
+set_same (y ∷ ys) (suc i) x here = ap (λ zs. y ∷ zs) (set_same ys i x here)
+
+-- the graph is the same where an object is put that is there
+same_graph : (g : Graph) (name : Name) (o : Object) → g.object name ≡ Some o → changed g name o g.root ≡ g
+same_graph g name o is = ap (λ (object : Name → Option Object). record { object = object; root = g.root; count = g.count }) (fun_ext (λ n. ⊎_elim
+    (λ (same : same_name n name ≡ true). cond-true (same_name n name) (Some o) (g.object n) same ∙ sym is ∙ ap g.object (sym (same_name-true n name same)))
+    (λ (other : same_name n name ≡ false). cond-false (same_name n name) (Some o) (g.object n) other)
+    (cases_Bool (same_name n name))))
+
+module _ (c : Config) (u : World) (shared : Shared c u) (on : u.memory Phase ≡ 3) where
+  -- the current copy of an object stands for what an old copy stands for
+  points_copy : (found refs nums to : ℕ) (name : Name) (r : Reference) → u.block found ≡ Some (moved name refs nums to) → Points u.block found r → Points u.block to r
+  points_copy found refs nums to name None old points =
+      let inside = piece_inside c (λ r. u.memory (Top r)) u.block shared.parsable.plotted found (moved name refs nums to) old in
+      let some = c.in_range.least_words in
+      absurd (omega (arith, points, inside.0, some))
+  points_copy found refs nums to name (Some n) old points = ap name_at (shared.evacuated.moved.moveds found refs nums to name old).copy ∙ sym (ap name_at old) ∙ points
+
+  module _ (a refs nums field found more_refs more_nums to : ℕ) (name n : Name) (is : u.block a ≡ Some (thing name refs nums)) (below : field < refs)
+      (was : u.memory (Heap (a + 3 + field)) ≡ found) (old : u.block found ≡ Some (moved n more_refs more_nums to)) where
+    -- the world in which the reference is to the current copy
+    abbrev pub renewed_world : World
+    renewed_world = stored u (a + 3 + field) to u.graph
+
+    -- the object, which lies outside of the collection set, may be used
+    target : TargetIn c u a refs nums name
+    target = record { piece = is; safe = λ inside. absurd ((shared.updated on).outside a refs nums name is inside) }
+
+    -- the words are the same object then
+    same_thing : IsThing (updated (λ b. u.memory (Heap b)) (a + 3 + field) to) u.block a refs nums name (shared.contents.objects.each a refs nums name is).0
+    same_thing =
+        let of_graph = shared.contents.objects.each a refs nums name is in
+        let o = of_graph.0 in
+        let there = of_graph.2 in
+        let within : field < length o.refs = (let many = there.refs_are in omega (arith, below, many)) in
+        let r : Reference = get_or o.refs field None in
+        let here : slice_get o.refs field ≡ Some r = slice_get-get_or o.refs field None within in
+        let points : Points u.block found r = subst (λ v. Points u.block v r) was (there.references field r here) in
+        subst (λ refs_then. IsThing (updated (λ b. u.memory (Heap b)) (a + 3 + field) to) u.block a refs nums name (record { refs = refs_then; nums = o.nums })) (set_same o.refs field r here)
+        (field_stored (λ b. u.memory (Heap b)) u.block a refs nums name o there field to r below (points_copy found more_refs more_nums to n r old points))
+
+    -- nobody marks
+    nothing_covered : (i : ℕ) → i < refs → a + 3 + field ≡ a + 3 + i → IsCovered c u a i
+    nothing_covered i inside same other_refs other_nums m there under =
+        absurd (none-some _ (sym (ap (λ s. s.block a) (shared.marked.empty (λ one. omega (arith, on, one)))) ∙ there))
+
+    -- the current copy is current
+    copy_current : (i : ℕ) → i < refs → a + 3 + field ≡ a + 3 + i → IsCurrent u.block to
+    copy_current i inside same = IsCurrent.names more_refs more_nums n (shared.evacuated.moved.moveds found more_refs more_nums to n old).copy
+
+    -- machines share what they should
+    pub shared_renewed : Shared c renewed_world
+    shared_renewed =
+        let of_graph = shared.contents.objects.each a refs nums name is in
+        subst (λ g. Shared c (stored u (a + 3 + field) to g)) (same_graph u.graph name of_graph.0 of_graph.1)
+        (shared_stored c u a refs nums (a + 3 + field) to name of_graph.0 u.graph.root shared target (omega arith) (omega (arith, below)) nothing_covered copy_current same_thing)
+
+    -- and each can rely on what it knew
+    pub rely_renewed : (seat : ℕ) → Rely c seat u renewed_world
+    rely_renewed seat =
+        let of_graph = shared.contents.objects.each a refs nums name is in
+        subst (λ g. Rely c seat u (stored u (a + 3 + field) to g)) (same_graph u.graph name of_graph.0 of_graph.1)
+        (rely_stored c u a refs nums (a + 3 + field) to name of_graph.0 u.graph.root shared target (omega arith) (omega (arith, below)) copy_current seat (λ i. refl))
