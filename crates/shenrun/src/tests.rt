@@ -458,6 +458,29 @@ const EVACUATED: &[Row] = &[
     },
 ];
 
+/// Traces of heaps whose references are updated while threads use them.
+const UPDATED: &[Row] = &[
+    // A thread exchanges two fields that name the old copy by the name of the object. The control updates the second one between the
+    // load and the exchange, which fails once, and then succeeds.
+    Row {
+        words: REPLAY,
+        trace: "shen 1\nheap 8 64 0\nthreads 1 0\n1 new 1 0 1\n1 set 0 0 1\n1 set 0 1 1\n1 new 2 16 16\n1 new 2 16 16\n1 drop 1\n1 drop 2\n1 gc\n1 get 1 0 0\n1 cas 0 0 1 2\n1 cas 0 1 1 2\n! 1=8 2@EC 1=10 2@UC 1@CX 2@P1 1:1 1=11\n",
+        answer: "1 1.1\n1 ok\n1 ok\n1 1.2\n1 1.3\n1 ok\n1 ok\n1 ok\n1 1.1\n1 yes\n1 yes\ngraph\nobject 0.1 - - - - - - - - - - - - - - - - /\nobject 1.1 / 0\nroots 1 0.1 1.1 - - - - - - - - - - - - - -\n",
+    },
+    // A region is evacuated, the reference into it is updated, it is freed, and another object is made in it.
+    Row {
+        words: REPLAY,
+        trace: "shen 1\nheap 8 64 0\nthreads 1 0\n1 new 1 0 1\n1 wr 1 0 6\n1 set 0 0 1\n1 new 2 16 16\n1 new 2 16 16\n1 drop 1\n1 drop 2\n1 gc\n1 new 2 16 16\n1 get 1 0 0\n1 rd 1 0\n! 1=8 2@EC 2@UC 2@P3 1=11\n",
+        answer: "1 1.1\n1 ok\n1 ok\n1 1.2\n1 1.3\n1 ok\n1 ok\n1 ok\n1 1.4\n1 1.1\n1 6\ngraph\nobject 0.1 1.1 - - - - - - - - - - - - - - - /\nobject 1.1 / 6\nobject 1.4 - - - - - - - - - - - - - - - - / 0 0 0 0 0 0 0 0 0 0 0 0 0 0 0 0\nroots 1 0.1 1.1 1.4 - - - - - - - - - - - - -\n",
+    },
+    // The thread and the control end when updating has begun. The hub names the old copy, and the graph is that of the new one.
+    Row {
+        words: REPLAY,
+        trace: "shen 1\nheap 8 64 0\nthreads 1 0\n1 new 1 0 1\n1 wr 1 0 6\n1 set 0 0 1\n1 new 2 16 16\n1 new 2 16 16\n1 drop 1\n1 drop 2\n1 gc\n! 1=8 2@EC 2@P3 1@ML 1:1\n",
+        answer: "1 1.1\n1 ok\n1 ok\n1 1.2\n1 1.3\n1 ok\n1 ok\n1 ok\ngraph\nobject 0.1 1.1 - - - - - - - - - - - - - - - /\nobject 1.1 / 6\nroots 1 0.1 - - - - - - - - - - - - - - -\n",
+    },
+];
+
 /// Traces whose machines are not all idle after so many steps.
 const CUT: &[Row] = &[
     // Ten steps end in the first command: the control makes every second one.
@@ -689,6 +712,11 @@ fn marking_runs_beside(rt: HostRuntime) -> Result<(), Fail> {
 #[test]
 fn evacuation_runs_beside(rt: HostRuntime) -> Result<(), Fail> {
     answers(&rt, rt.alloc(), EVACUATED)
+}
+
+#[test]
+fn updating_runs_beside(rt: HostRuntime) -> Result<(), Fail> {
+    answers(&rt, rt.alloc(), UPDATED)
 }
 
 #[test]
