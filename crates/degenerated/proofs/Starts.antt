@@ -58,6 +58,39 @@ module _ (heap : ℕ → ℕ) (base : ℕ) where
       let last : suc j - 1 ≡ j = omega arith in
       start_goes_on heap base j (λ ends. other (omega (arith, ends, ap start last, ap (λ k. words (start k)) last))) ∙ ap start (sym last)
 
+  -- where the object ends that has the word before
+  unfoldable pub behind : ℕ → ℕ
+  behind zero = 0
+  behind (suc k) = start k + words (start k)
+
+  pub behind_none : 0 ≡ behind 0
+  unfolding behind
+  behind_none = refl
+
+  -- there the next one begins, and elsewhere none
+  pub begins_behind : (k : ℕ) → k ≡ behind k → start k ≡ k
+  unfolding behind
+  begins_behind zero is = start_first heap base
+  begins_behind (suc k) is = start_ends heap base k (sym is)
+
+  pub begins_not : (k : ℕ) → k ≢ behind k → start k ≢ k
+  unfolding behind
+  begins_not zero other = absurd (other refl)
+  begins_not (suc k) other = λ here. omega (arith, here, start_goes_on heap base k (λ ends. other (sym ends)), from k)
+
+  pub behind_next : (k : ℕ) → start k ≡ k → k + words k ≡ behind (k + 1)
+  unfolding behind
+  behind_next k is =
+      let next : suc k ≡ k + 1 = omega arith in
+      omega (arith, is, ap words is, ap behind next)
+
+  pub behind_still : (k : ℕ) → k ≢ behind k → behind k ≡ behind (k + 1)
+  unfolding behind
+  behind_still zero other = absurd (other refl)
+  behind_still (suc k) other =
+      let next : suc (suc k) ≡ suc k + 1 = omega arith in
+      ap (λ s. s + words s) (sym (start_goes_on heap base k (λ ends. other (sym ends)))) ∙ ap behind next
+
 -- Objects begin at the same places where their shapes are the same.
 pub same_starts : (heap other : ℕ → ℕ) (base top : ℕ)
     → ((s : ℕ) → start_of heap base s ≡ s → s < top → other (base + s + 1) ≡ heap (base + s + 1)) → (k : ℕ) → k < top → start_of other base k ≡ start_of heap base k

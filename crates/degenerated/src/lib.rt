@@ -9,3 +9,6 @@ mod update;
 
 pub use cycle::{Finished, finish};
 pub use update::update_all;
+
+#[cfg(test)]
+mod tests;
