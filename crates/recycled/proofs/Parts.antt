@@ -1,8 +1,8 @@
 -- What machines have in hand that resolve, record, scan, evacuate or update lies in no region that is free.
-use Rattle.std.proofs.Common.{◌≡◌, ℕ, ◌+◌, ◌<◌, ◌⊎◌, ⊎_elim, false, Some, sym, ap, ◌∙◌, subst, arith}
+use Rattle.std.proofs.Common.{◌≡◌, ℕ, ◌<◌, ◌⊎◌, ⊎_elim, Some, sym, ap, ◌∙◌, subst, arith}
 use Rattle.heap_words.specs.declared.config.Config.{Config}
-use Rattle.heap_words.specs.Words.{Free, Count, Buffer}
-use Rattle.regions.specs.Place.{IsOf, region_with}
+use Rattle.heap_words.specs.Words.{Free}
+use Rattle.regions.specs.Place.{region_with}
 use Rattle.regions.specs.Sets.{IsIn}
 use Rattle.mark_bits.specs.Marks.{address_at}
 use Rattle.satb_barrier.specs.declared.spot.RememberSpot.{RememberSpot}
@@ -24,7 +24,7 @@ use Rattle.evac_steps.proofs.Walks.{placed}
 use Rattle.mark_steps.specs.Recording.{CanRecord}
 use Rattle.mark_steps.specs.Scanning.{CanScan}
 use Rattle.update_steps.specs.Following.{CanFollow}
-use Rattle.update_steps.specs.Updating.{IsPiece, HasShape, HasFound, CanUpdate}
+use Rattle.update_steps.specs.Updating.{IsPiece, HasShape, CanUpdate}
 use Rattle.recycled.specs.InHand.{IsCopyHand, IsResolveHand, IsRememberHand, IsScanHand, IsEvacHand, IsUpdateHand}
 use Rattle.recycled.proofs.Free.{IsElsewhere, piece_elsewhere, body_elsewhere, copy_elsewhere, markable_elsewhere}
 
@@ -38,7 +38,7 @@ module _ (c : Config) (w : World) (shared : Shared c w) (r : ℕ) (inside : r < 
   same_apart a b apart same = subst IsApart (sym same) apart
 
   -- one of two such
-  either_apart : (a b d : ℕ) → IsApart b → IsApart d → (a ≡ b) ⊎ (a ≡ d) → IsApart a
+  pub either_apart : (a b d : ℕ) → IsApart b → IsApart d → (a ≡ b) ⊎ (a ≡ d) → IsApart a
   either_apart a b d first second which = ⊎_elim (λ (same : a ≡ b). same_apart a b first same) (λ (same : a ≡ d). same_apart a d second same) which
 
   -- room in hand, and the current copy of an object that has moved

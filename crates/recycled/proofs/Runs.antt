@@ -1,37 +1,43 @@
 -- In each stage that events lead to no region that is free is held.
-use Rattle.std.proofs.Common.{◌≡◌, ℕ, ◌+◌, ◌<◌, false, List, [], Some, None, get_or, subst, arith}
+use Rattle.std.proofs.Common.{◌≡◌, ℕ, ◌+◌, ◌<◌, ◌≤◌, ⊎_elim, List, [], Option, Some, None, get_or, refl, subst, arith}
 use Rattle.std.proofs.lemmas.Option.{slice_get-get_or}
 use Rattle.heap_words.specs.declared.config.Config.{Config}
 use Rattle.heap_words.specs.Words.{Free, Answer, Heap}
 use Rattle.regions.specs.Place.{IsOf}
 use Rattle.regions.specs.Sets.{IsIn}
-use Rattle.steps_base.specs.Steps.{Stage, Event, go}
+use Rattle.steps_base.specs.Steps.{Stage, go}
 use Rattle.shen_graph.specs.declared.name.Name.{Name}
-use Rattle.shen_graph.specs.declared.order.Order.{Order}
+use Rattle.shen_graph.specs.declared.command.Command.{Command}
+use Rattle.shen_graph.specs.declared.command.Reply.{Reply}
 use Rattle.shen_graph.specs.Graph.{Graph}
 use Rattle.shen_graph.specs.History.{Entry, after, of_thread}
 use Rattle.heap_world.specs.World.{World, thing, Shared}
 use Rattle.heap_world.specs.Asking.{Asking, nothing, asks, refused, given, IsAsked}
-use Rattle.heap_world.specs.Change.{Change, IsPause}
 use Rattle.helper.specs.declared.spot.HelpSpot.{HelpSpot}
 use Rattle.helper.specs.declared.spot.HelpSpot.TheVariants as help
 use Rattle.control_steps.specs.declared.spot.ControlSpot.{ControlSpot}
 use Rattle.control_steps.specs.declared.spot.ControlSpot.TheVariants as control
+use Rattle.mutator.specs.declared.spot.Kept.{Kept}
+use Rattle.mutator.specs.declared.spot.Spot.{Spot}
+use Rattle.mutator.specs.declared.spot.Spot.TheVariants.{Waiting}
+use Rattle.mutator.specs.declared.waits.WaitSpot.TheVariants as wait
 use Rattle.mutator.specs.Rows.{Mutating}
 use Rattle.step_core.specs.Actor.{Machine, mutating, helping, controlling, Actor}
-use Rattle.step_core.specs.Begins.{Begins}
 use Rattle.step_core.specs.History.{history}
 use Rattle.step_core.specs.Machines.{kind}
 use Rattle.step_core.specs.Own.{root_now}
 use Rattle.step_core.specs.Settled.{settled}
-use Rattle.step_core.specs.Sound.{world_of, IsMutator, is_clearing, StandsFor}
+use Rattle.step_core.specs.Sound.{world_of, IsMutator, StandsFor}
+use Rattle.step_core.specs.Stepped.{Mine}
 use Rattle.step_core.proofs.Beginning.{goes_begins}
 use Rattle.step_core.proofs.Facts.{HelpFacts, ControlFacts, IsMachine, IsThread}
 use Rattle.step_core.proofs.Induction.{Goes, goes_run}
 use Rattle.step_core.proofs.Requests.{has_asked}
+use Rattle.step_core.proofs.Roles.{mutator_there}
+use Rattle.step_core.proofs.Spots.{mutator_at}
 use Rattle.recycled.specs.InHand.{IsHelpHand, IsControlHand, IsInHandOf}
 use Rattle.recycled.specs.Held.{IsHeld, FreeIsNotHeld, FreeIsNotHeldInRuns}
-use Rattle.recycled.proofs.Free.{IsElsewhere, piece_elsewhere, points_elsewhere}
+use Rattle.recycled.proofs.Free.{IsElsewhere, piece_elsewhere, named_elsewhere, points_elsewhere}
 use Rattle.recycled.proofs.Parts.{scan_hand, evac_hand, update_hand}
 use Rattle.recycled.proofs.Mutators.{mutator_hand}
 
@@ -66,6 +72,17 @@ module _ (c : Config) (w : World) (shared : Shared c w) (r : ℕ) (inside : r < 
   answer_apart t refused is some = absurd (omega (arith, is.1, some))
   answer_apart t (given refs nums) is some = piece_elsewhere c w shared r inside free (w.memory (Answer t)) _ is.2.here
 
+  -- also while the mutator is about to clear it
+  pub answered_apart : (seat made : ℕ) (kept : Kept) (command : Command) (fixed : Option Reply) (spot : Spot) → Mine c w (mutator_at seat made kept spot) command fixed → 1 < w.memory (Answer seat)
+      → IsApart (w.memory (Answer seat))
+  answered_apart seat made kept command fixed (Waiting (wait.ClearAnswer reply)) mine some = ⊎_elim
+      (λ (none : w.memory (Answer seat) ≤ 1). absurd (omega (arith, none, some)))
+      (λ named. named_elsewhere c w shared r inside free (w.memory (Answer seat)) named.0 named.1)
+      mine.facts.3
+  answered_apart seat made kept command fixed spot mine some =
+      let asked = has_asked c w seat made kept command fixed spot refl mine in
+      answer_apart seat asked.asking asked.is some
+
   -- what a field of a current copy names
   pub field_apart : (a refs nums k : ℕ) (name : Name) → w.block a ≡ Some (thing name refs nums) → k < refs → IsApart (w.memory (Heap (a + 3 + k)))
   field_apart a refs nums k name is below =
@@ -99,11 +116,12 @@ module _ (c : Config) (g : Graph) (s : Stage Actor) (h : List Entry) (goes : Goe
   not_held r inside free (IsHeld.by_root number index x m here is below of) =
       let thread = thread_of number x m (record { here = here; is = is }) in
       points_elsewhere c the_world goes.follows.shared r inside free (root_now the_world m.seat m.kept m.spot index) (the_world.graph.root (m.seat + 1) index) (thread.mine.roots index below) of
-  not_held r inside free (IsHeld.by_answer number x m here is going some of) =
-      let thread = thread_of number x m (record { here = here; is = is }) in
-      let asked = has_asked c the_world m.seat m.made m.kept x.command thread.fixed m.spot going thread.mine in
-      let seat_is = thread.number_is in
-      answer_apart c the_world goes.follows.shared r inside free number asked.asking (subst (λ t. IsAsked the_world.memory the_world.block the_world.graph.count t asked.asking) seat_is asked.is) some of
+  not_held r inside free (IsHeld.by_answer t below some of) =
+      let there = mutator_there c s.words the_world h s.machines goes.follows.seats goes.follows.machines t below in
+      let thread = there.4 in
+      let m = there.1 in
+      subst (λ seat. 1 < the_world.memory (Answer seat) → IsOf c r (the_world.memory (Answer seat)) → ⊥) thread.number_is
+      (answered_apart c the_world goes.follows.shared r inside free m.seat m.made m.kept there.0.command thread.fixed m.spot thread.mine) some of
   not_held r inside free (IsHeld.by_field a refs nums k name is below of) = field_apart c the_world goes.follows.shared r inside free a refs nums k name is below of
   not_held r inside free (IsHeld.by_hand number a x here hand_is of) =
       machine_hand c the_world goes.follows.shared r inside free s.words (of_thread h (number + 1)) number x x.machine (goes.follows.machines number x here) a hand_is of

@@ -1,29 +1,28 @@
 -- Who takes a region finds in the table the words that count.
-use Rattle.std.proofs.Common.{◌≡◌, ℕ, ◌+◌, ◌<◌, ◌⊎◌, ⊎_elim, true, false, List, [], Option, Some, None, refl, sym, ap, ◌∙◌, subst}
+use Rattle.std.proofs.Common.{◌≡◌, ℕ, ◌+◌, ⊎_elim, true, false, List, [], Option, Some, None, refl, sym, ap, ◌∙◌, subst}
 use Rattle.std.specs.Prelude.{slice_get}
 use Rattle.std.proofs.lemmas.Option.{same_Some, none-some}
 use Rattle.heap_words.specs.declared.config.Config.{Config}
-use Rattle.heap_words.specs.Words.{Word, Free, Answer, view, is_word, is_image}
+use Rattle.heap_words.specs.Words.{Word, Free, view, is_word, is_image}
 use Rattle.heap_words.proofs.Stores.{is_word_from}
 use Rattle.regions.specs.Sets.{IsIn}
 use Rattle.steps_base.specs.Steps.{Stage, Event, IsEvent, accessed, act, go}
-use Rattle.steps_base.specs.Touch.{Touch, Form, touch, loads, placed, touched}
+use Rattle.steps_base.specs.Touch.{Touch, Form, touch, placed, touched}
 use Rattle.steps_base.proofs.Laws.{act-event}
 use Rattle.shen_graph.specs.declared.order.Order.{Order}
 use Rattle.shen_graph.specs.Graph.{Graph}
 use Rattle.shen_graph.specs.History.{Entry, after, of_thread}
 use Rattle.handshake.specs.Standing.{is_pausing}
 use Rattle.heap_world.specs.World.{World}
-use Rattle.heap_world.specs.Change.{Change, IsPause}
+use Rattle.heap_world.specs.Change.{Change}
 use Rattle.mutator.specs.declared.spot.Spot.TheVariants.{Waiting}
 use Rattle.mutator.specs.declared.waits.WaitSpot.TheVariants as wait
-use Rattle.mutator.specs.Rows.{Mutating, touch_of, touch_at}
-use Rattle.helper.specs.Rows.{Helping, help_touch}
+use Rattle.mutator.specs.Rows.{touch_of, touch_at}
+use Rattle.helper.specs.Rows.{help_touch}
 use Rattle.control_steps.specs.declared.spot.ControlSpot.{ControlSpot}
 use Rattle.control_steps.specs.declared.spot.ControlSpot.TheVariants.{StoreWord}
 use Rattle.control_steps.specs.Rows.{Controlling}
 use Rattle.step_core.specs.Actor.{Machine, mutating, helping, controlling, Actor}
-use Rattle.step_core.specs.Begins.{Begins}
 use Rattle.step_core.specs.History.{history}
 use Rattle.step_core.specs.Machines.{takes_of, plan_of, kind}
 use Rattle.step_core.specs.Pausing.{IsInPause, IsEmpty}

@@ -1,5 +1,5 @@
 -- A region is held while something names it; one that is free is not, so that it can be given again.
-use Rattle.std.specs.Prelude.{ℕ, ◌≡◌, ◌+◌, ◌<◌, false, List, Some, None, slice_get}
+use Rattle.std.specs.Prelude.{ℕ, ◌≡◌, ◌+◌, ◌<◌, List, Some, None, slice_get}
 use Rattle.heap_words.specs.declared.config.Config.{Config}
 use Rattle.heap_words.specs.Words.{Free, Answer, Heap, view}
 use Rattle.regions.specs.Place.{IsOf}
@@ -18,7 +18,7 @@ use Rattle.step_core.specs.History.{history}
 use Rattle.step_core.specs.Machines.{kind}
 use Rattle.step_core.specs.Own.{root_now}
 use Rattle.step_core.specs.Settled.{image_in, settled}
-use Rattle.step_core.specs.Sound.{world_of, is_clearing, StandsFor}
+use Rattle.step_core.specs.Sound.{world_of, StandsFor}
 use Rattle.recycled.specs.InHand.{IsInHandOf}
 
 -- A region is held: in it lies what counts as a root, where an answer leads, what a field of a current copy names, what a machine has
@@ -26,8 +26,7 @@ use Rattle.recycled.specs.InHand.{IsInHandOf}
 pub data IsHeld (c : Config) (w : World) (machines : List Actor) (r : ℕ) : Type 0 where
   by_root : (number index : ℕ) (x : Actor) (m : Mutating) → slice_get machines number ≡ Some x → x.machine ≡ mutating m → index < 16 → IsOf c r (root_now w m.seat m.kept m.spot index)
       → IsHeld c w machines r
-  by_answer : (number : ℕ) (x : Actor) (m : Mutating) → slice_get machines number ≡ Some x → x.machine ≡ mutating m → is_clearing m.spot ≡ false → 1 < w.memory (Answer number)
-      → IsOf c r (w.memory (Answer number)) → IsHeld c w machines r
+  by_answer : (t : ℕ) → t < c.mutators → 1 < w.memory (Answer t) → IsOf c r (w.memory (Answer t)) → IsHeld c w machines r
   by_field : (a refs nums k : ℕ) (name : Name) → w.block a ≡ Some (thing name refs nums) → k < refs → IsOf c r (w.memory (Heap (a + 3 + k))) → IsHeld c w machines r
   by_hand : (number a : ℕ) (x : Actor) → slice_get machines number ≡ Some x → IsInHandOf c x.machine a → IsOf c r a → IsHeld c w machines r
   by_piece : (a : ℕ) (x : Block) → w.block a ≡ Some x → IsOf c r a → IsHeld c w machines r

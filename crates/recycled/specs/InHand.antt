@@ -1,6 +1,6 @@
 -- The addresses that a machine has in hand, by where it stands: those that an access or a reply of its call or unit still needs. What it
 -- keeps of a call or a unit that is done is not in hand.
-use Rattle.std.specs.Prelude.{ℕ, ◌≡◌, ◌⊎◌, ◌+◌, ◌<◌, length}
+use Rattle.std.specs.Prelude.{ℕ, ◌≡◌, ◌⊎◌, ◌<◌, length}
 use Rattle.std.specs.Int.{bit_at}
 use Rattle.heap_words.specs.declared.config.Config.{Config}
 use Rattle.mark_bits.specs.Marks.{address_at}
@@ -17,7 +17,6 @@ use Rattle.load_barrier.specs.declared.evac_spot.EvacSpot.{EvacSpot}
 use Rattle.load_barrier.specs.declared.evac_spot.EvacSpot.TheVariants as evac
 use Rattle.update_refs.specs.declared.spot.UpdateSpot.{UpdateSpot}
 use Rattle.update_refs.specs.declared.spot.UpdateSpot.TheVariants as update
-use Rattle.mutator.specs.declared.spot.Kept.{Kept}
 use Rattle.mutator.specs.declared.spot.Spot.{Spot}
 use Rattle.mutator.specs.declared.spot.Spot.TheVariants.{Loading, OnField, Resolving, Recording, OnNumber, Showing, StoreRoot, Making, Waiting}
 use Rattle.mutator.specs.declared.loads.LoadSpot.{LoadSpot}

@@ -10,6 +10,7 @@ use Rattle.heap_words.specs.Words.{Top, Answer, Ask}
 use Rattle.shen_graph.specs.declared.command.Command.{Command}
 use Rattle.shen_graph.specs.declared.command.Reply.{Reply}
 use Rattle.shen_graph.specs.declared.command.Reply.TheVariants as reply
+use Rattle.shen_graph.specs.Graph.{fresh}
 use Rattle.handshake.specs.declared.enter_spot.EnterSpot.TheVariants.{Raise}
 use Rattle.mutator.specs.declared.spot.Kept.{Kept}
 use Rattle.mutator.specs.declared.spot.Entered.TheVariants.{Waited}
@@ -18,10 +19,11 @@ use Rattle.mutator.specs.declared.waits.WaitSpot.{WaitSpot}
 use Rattle.mutator.specs.declared.waits.WaitSpot.TheVariants as wait
 use Rattle.mutator.specs.Commands.{refs_of, nums_of}
 use Rattle.mutator.specs.Rows.{Mutating}
-use Rattle.heap_world.specs.World.{World, Shared, promised, IsMarkable}
+use Rattle.heap_world.specs.World.{World, Shared, thing, promised, name_at, IsMarkable}
 use Rattle.heap_world.specs.Asking as asking
 use Rattle.heap_world.specs.Asking.{IsPromise}
 use Rattle.heap_world.specs.Rely.{Keeps, KeepsFields, RelyCopies, RelyMarks}
+use Rattle.heap_world.proofs.Updates.{updated_there}
 use Rattle.step_core.specs.Stepped.{IsAnswered, Mine, Row}
 use Rattle.step_core.proofs.Spots.{mutator_at, accessed}
 use Rattle.step_core.proofs.Marking.{marks_in, now_waits, copies_in, fields_in}
@@ -178,7 +180,7 @@ module _ (c : Config) (u : World) (seat made : ℕ) (kept : Kept) (command : Com
         hands = mine.hands;
         facts = ⊎_elim
             (λ given. let more = given.1.1 in let one = eqb-true _ _ full in absurd (omega (arith, more, one)))
-            (λ no. (no.0.settled, no.1.0, no.1.2))
+            (λ no. (no.0.settled, no.1.0, no.1.2, inl (let one = no.1.1 in omega (arith, one))))
             mine.facts;
       }
       by_full false other = ⊎_elim
@@ -226,7 +228,12 @@ module _ (c : Config) (u : World) (seat made : ℕ) (kept : Kept) (command : Com
       copying = mine.copying;
       roots = roots_made has mine.roots;
       hands = λ a words is. mine.hands a words (hand_before has a seat words is).1;
-      facts = (refl, mine.facts.0.1.0, λ a words is. let old = promise_before has a seat words is in old.0 (promise.only a words old.1));
+      facts = (
+        refl,
+        mine.facts.0.1.0,
+        λ a words is. let old = promise_before has a seat words is in old.0 (promise.only a words old.1),
+        inr (fresh u.graph (seat + 1), ap (λ a. name_at ((made_world has).block a)) mine.facts.1 ∙ ap name_at (updated_there u.block address (Some (thing (fresh u.graph (seat + 1)) refs nums)))),
+      );
     }
 
   -- the step that stores the object into the root settles its name

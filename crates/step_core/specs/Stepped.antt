@@ -273,6 +273,10 @@ abbrev pub EnterFacts : World → ℕ → ℕ → Command → Command → Option
 EnterFacts w seat made k command fixed Call = IsBegun made command fixed k
 EnterFacts w seat made k command fixed Waited = IsAnswered w seat made k command fixed
 
+-- the mutator has taken what it was answered: its answer leads to a copy of an object of the graph, or it leads nowhere
+abbrev pub HasTaken : World → ℕ → Type 0
+HasTaken w seat = (w.memory (Answer seat) ≤ 1) ⊎ ((name : Name) × (name_at (w.block (w.memory (Answer seat))) ≡ Some name))
+
 abbrev pub WaitFacts : World → ℕ → ℕ → Command → Command → Option Reply → WaitSpot → Type 0
 WaitFacts w seat made k command fixed wait.StoreRequest = IsAsking w seat made k command fixed asking.nothing
 WaitFacts w seat made k command fixed wait.AskRoom = IsAsking w seat made k command fixed (asking.asks (refs_of k) (nums_of k))
@@ -281,7 +285,7 @@ WaitFacts w seat made k command fixed wait.Poll = IsPolling w seat made k comman
 WaitFacts w seat made k command fixed wait.LoadAnswer = IsAnswered w seat made k command fixed
 WaitFacts w seat made k command fixed (wait.StoreRoot address) =
     IsAsking w seat made k command fixed (asking.given (refs_of k) (nums_of k)) × (w.memory (Answer seat) ≡ address)
-WaitFacts w seat made k command fixed (wait.ClearAnswer reply) = (fixed ≡ Some reply) × (w.memory (Wait seat) ≡ 0) × HasNoPromise w.block seat
+WaitFacts w seat made k command fixed (wait.ClearAnswer reply) = (fixed ≡ Some reply) × (w.memory (Wait seat) ≡ 0) × HasNoPromise w.block seat × HasTaken w seat
 
 -- the machine of a seat resolves an address: objects are evacuated, or references to them updated
 abbrev pub IsResolving : Config → World → (seat address : ℕ) → ResolveSpot → Type 0
