@@ -12,7 +12,7 @@ MACHINE = re.compile(r" *\d+  (?:thread (?P<thread>\d)|helper (?P<helper>\d)|con
 VALUE = r"(a cycle, room|a cycle|room|nothing|\{[\d. ]*\}|copy \d+|\d+, no room|[\d.]+|-)"
 WORDS = (
     "phase|collection set|copiers|claimed work|what is asked for|free regions"
-    r"|(?:grey|black) word \d+|buffer (?:count|entry \d) of thread \d|(?:top|mark start) of region \d+|header of [\d.]+"
+    r"|(?:grey|black) word \d+|buffer (?:count|entry \d) of thread \d|(?:top|mark start|limit) of region \d+|header of [\d.]+"
 )
 ACCESS = re.compile(rf"([a-z ]+?) ({WORDS})(?:: {VALUE}(?: to {VALUE})?)? +{VALUE}(?: |$)")
 
@@ -94,8 +94,8 @@ class Heap:
             return f"{kind} {self.marked(kind)}"
         if kind == "buffer":
             return f"buffer {number}: {self.buffered(number)}"
-        if kind in ("start", "top"):
-            return f"{kind} {number}: {self.word(('mark start' if kind == 'start' else 'top') + f' of region {number}')}"
+        if kind in ("start", "top", "limit"):
+            return f"{kind} {number}: {self.word(('mark start' if kind == 'start' else kind) + f' of region {number}')}"
         if kind == "header":
             return f"header {number}: {self.word(f'header of {number}')}"
         if kind == "asked":

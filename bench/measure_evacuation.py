@@ -100,7 +100,7 @@ class Table(marking.Table):
         paused, phase = words[0], words[self.phase_at]
         counters = [] if paused else [words[roots_at + 16 * thread + COUNTER] for thread in range(self.threads)]
         made = [self.number(address) for address in counters]
-        return Sample(at, paused, phase, sum(tops), made) if paused < 2 and phase < 3 else None
+        return Sample(at, paused, phase, sum(tops), made) if paused < 2 and phase < 4 else None
 
     def number(self, address):
         """The number of the object at this address, or 0 where there is none."""

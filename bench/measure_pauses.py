@@ -11,9 +11,9 @@ those of reading the trace, and mean something only beside each other, from one 
 
 All counts here are exact, and found so:
 
-- The steps of a trace are the events that `shensteps` counts, and its pauses are told by the control's events in the listing: one
-  begins marking where a cycle was asked for or few regions are free, ends it where no unit of it was left, and is a full collection
-  where an allocation waits, or where no unit of evacuation was left.
+- The steps of a trace are the events that `shensteps` counts, and its pauses are told by the control's events in the listing, by the
+  phase that a pause stores and the one before it, and by whether an allocation waits for it. One that finishes a cycle may end in a full
+  collection.
 - A pause loads each word of the image once (place PL) and stores each once (PS). How many words the image has, follows from
   the sizes alone.
 - Full collections alone are made on purpose, on a heap that has all its regions in reserve: there each `new` waits for one, and a trace
@@ -67,26 +67,29 @@ def run(trace, *words):
 
 def told_of(trace, control):
     """The steps that a trace takes, and its pauses by what they do, for the number of its control."""
-    counts, before, line = collections.Counter(), b"", b""
+    counts, waits, phase, line = collections.Counter(), False, 0, b""
     with open(trace, "rb") as source:
         words = (LISTER, "--only", str(control), "--steps", "4000000000")
         with subprocess.Popen(words, stdin=source, stdout=subprocess.PIPE) as child:
             for line in child.stdout:
                 place = line[18:20]
-                if place == b"P1":
-                    counts[kind_of(before)] += 1
-                elif place in (b"I1", b"I2", b"MC", b"EC"):
-                    before = line
+                if place == b"PL" and line[22:].startswith(b"load what is asked for"):
+                    waits = b"room" in line[62:]
+                elif place == b"PS" and line[22:].startswith(b"store phase: "):
+                    then = int(line[22 + len(b"store phase: ") :].split()[0])
+                    counts[kind_of(phase, then, waits)] += 1
+                    phase = then
     if not line.startswith(b"all machines are idle after "):
         stop("a trace is not answered")
     return int(line.split()[-2]), counts
 
 
-def kind_of(line):
-    """What a pause does, by the control's look before it."""
-    if line[18:20] in (b"MC", b"EC"):
-        return "end marking" if line[18:20] == b"MC" else "end evacuation in full"
-    return "collect in full" if b"room" in line[62:] else "begin marking"
+def kind_of(phase, then, waits):
+    """What a pause does, by the phase before and after it and whether an allocation waits for it."""
+    if waits or (phase, then) == (2, 0):
+        return "collect in full" if phase == 0 else "finish a cycle"
+    kinds = {(0, 1): "begin marking", (1, 2): "begin evacuation", (1, 0): "end a cycle without evacuation", (2, 3): "begin updating", (3, 0): "end a cycle"}
+    return kinds[phase, then]
 
 
 def seconds_of(trace):

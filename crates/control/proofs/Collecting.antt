@@ -1,5 +1,5 @@
 -- What a pause needs of the words, for each of the things that it does.
-use Rattle.std.proofs.Common.{◌≡◌, ◌≢◌, ℕ, true, false, arith, sym, ◌∙◌}
+use Rattle.std.proofs.Common.{◌≡◌, ◌≢◌, ℕ, true, false, arith, sym, ◌∙◌, subst}
 use Rattle.std.specs.Prelude.{◌==◌, if◌then◌else◌}
 use Rattle.std.proofs.lemmas.Bool.{cond-true, cond-false, eq-eqb, ne_eqb}
 use Rattle.std.proofs.Math.Path.{fun_ext}
@@ -12,7 +12,9 @@ use Rattle.image_graph.specs.Holds.{HoldsSome}
 use Rattle.mark_laws.specs.Init.{init_marked}
 use Rattle.mark_core.specs.Result.{MarksSome}
 use Rattle.evac_pauses.specs.Collect.{evac_next}
-use Rattle.cycle_pauses.specs.Collect.{is_full_due, next_in_cycle, collected, CanPauseSome}
+use Rattle.finish_laws.specs.Finish.{finished, is_whole}
+use Rattle.cycle_pauses.specs.Ended.{ended}
+use Rattle.cycle_pauses.specs.Collect.{is_room_needed, next_in_cycle, past_marking, room_made, collected, CanPauseSome}
 use Rattle.update_laws.specs.Changes.{init_updated, final_updated}
 
 -- they hold some graph
@@ -27,12 +29,36 @@ can_calm c m can idle = ∥∥₁_elim can (hlevel ℕ_set) (λ some. some.4.unc
 pub can_end : (c : Config) (m : Word → ℕ) → CanPauseSome c m → m Phase ≡ 1 → MarksSome c m
 can_end c m can on = ∥∥₁_map can (λ some. (some.0, some.1, some.2, some.3, some.4.holds, some.4.marking on))
 
--- What each of them makes of the words is what a pause does.
-pub full-collected : (c : Config) (m : Word → ℕ) → is_full_due m ≡ true → full c m ≡ collected c m
-full-collected c m due = fun_ext (λ word. sym (cond-true (is_full_due m) (full c m word) (next_in_cycle c m word) due))
+-- what holds of words holds of the same ones
+pub of-same : (P : Config → (Word → ℕ) → Type 0) (c d : Config) (m n : Word → ℕ) → d ≡ c → n ≡ m → P c m → P d n
+of-same P c d m n config words is = subst (λ e. P e n) (sym config) (subst (P c) (sym words) is)
 
-pub cycle-collected : (c : Config) (m : Word → ℕ) → is_full_due m ≡ false → next_in_cycle c m ≡ collected c m
-cycle-collected c m none = fun_ext (λ word. sym (cond-false (is_full_due m) (full c m word) (next_in_cycle c m word) none))
+-- What ends a cycle is finishing it, with a full collection where that falls short.
+pub whole-ended : (c : Config) (m : Word → ℕ) → is_whole c m ≡ true → finished c m ≡ ended c m
+whole-ended c m whole = fun_ext (λ word. sym (cond-true (is_whole c m) (finished c m word) (full c (finished c m) word) whole))
+
+pub short-ended : (c : Config) (m : Word → ℕ) → is_whole c m ≡ false → full c (finished c m) ≡ ended c m
+short-ended c m short = fun_ext (λ word. sym (cond-false (is_whole c m) (finished c m word) (full c (finished c m) word) short))
+
+-- What each of them makes of the words is what a pause does.
+pub room-collected : (c : Config) (m : Word → ℕ) → is_room_needed m ≡ true → room_made c m ≡ collected c m
+room-collected c m needed = fun_ext (λ word. sym (cond-true (is_room_needed m) (room_made c m word) (next_in_cycle c m word) needed))
+
+pub cycle-collected : (c : Config) (m : Word → ℕ) → is_room_needed m ≡ false → next_in_cycle c m ≡ collected c m
+cycle-collected c m none = fun_ext (λ word. sym (cond-false (is_room_needed m) (room_made c m word) (next_in_cycle c m word) none))
+
+-- and of what makes room
+pub full-made : (c : Config) (m : Word → ℕ) → m Phase ≡ 0 → full c m ≡ room_made c m
+full-made c m idle = fun_ext (λ word. sym (cond-true (m Phase == 0) (full c m word) (ended c (past_marking c m) word) (eq-eqb _ _ idle)))
+
+pub ended-made : (c : Config) (m : Word → ℕ) → m Phase ≢ 0 → ended c (past_marking c m) ≡ room_made c m
+ended-made c m runs = fun_ext (λ word. sym (cond-false (m Phase == 0) (full c m word) (ended c (past_marking c m) word) (ne_eqb _ _ runs)))
+
+pub marking-past : (c : Config) (m : Word → ℕ) → m Phase ≡ 1 → evac_next c m ≡ past_marking c m
+marking-past c m on = fun_ext (λ word. sym (cond-true (m Phase == 1) (evac_next c m word) (m word) (eq-eqb _ _ on)))
+
+pub others-past : (c : Config) (m : Word → ℕ) → m Phase ≢ 1 → m ≡ past_marking c m
+others-past c m other = fun_ext (λ word. sym (cond-false (m Phase == 1) (evac_next c m word) (m word) (ne_eqb _ _ other)))
 
 module _ (c : Config) (m : Word → ℕ) where
   -- what is due from phase 2 on, and from phase 1 on

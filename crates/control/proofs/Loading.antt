@@ -83,7 +83,7 @@ can-idle c m phase cset holds = ∥∥₁_map holds (λ some. (
   some.1.0,
   some.1.1,
   some.1.2,
-  record { holds = some.1.3; phase_is = omega (arith, phase); uncollected = λ none. cset; marking = λ runs. absurd (omega (arith, phase, runs)) },
+  record { holds = some.1.3; phase_is = omega (arith, phase); uncollected = λ none. cset; marking = λ runs. absurd (omega (arith, phase, runs)); ends = λ needed runs. absurd (runs phase) },
 ))
 
 -- an image without an object can be loaded whole, and collected

@@ -1,6 +1,6 @@
 //! What a pause makes of an image.
 
-ghost use Rattle.std.specs.Prelude.{◌≡◌, ◌==◌};
+ghost use Rattle.std.specs.Prelude.{◌≡◌, ◌==◌, true};
 ghost use Rattle.std.specs.Int.{bit_at};
 ghost use Rattle.heap_words.specs.Words.{Phase, Ask, Evac};
 ghost use Rattle.evac_room.specs.Counter as counter;
@@ -9,10 +9,12 @@ ghost use Rattle.mark_laws.specs.Final.{final_marked};
 ghost use Rattle.mark_core.specs.Result.{MarksSome};
 ghost use Rattle.cset_laws.specs.Begun.{CanBegin};
 ghost use Rattle.evac_pauses.specs.Collect.{evac_next};
-ghost use Rattle.cycle_pauses.specs.Collect as due;
-ghost use Rattle.cycle_pauses.specs.Collect.{next_in_cycle, collected, CanPauseSome};
+ghost use Rattle.cycle_pauses.specs.Ended.{ended, CanEnd};
+ghost use Rattle.cycle_pauses.specs.Collect as room;
+ghost use Rattle.cycle_pauses.specs.Collect.{next_in_cycle, room_made, collected, CanPauseSome};
 
 use cset_choice::{begin_evac, choose};
+use degenerated::{Finished, finish};
 use full_cycle::full;
 use image_graph::Image;
 use mark_core::{final_mark, init_mark};
@@ -78,22 +80,51 @@ fn is_out_of_room(image: &Image) -> bool
     image.word(image.config().evac_at()) >= 1 << OUT_OF_ROOM
 }
 
-// Whether the heap is collected in full: a mutator waits for room, or a copier found none.
-fn is_full_due(image: &Image) -> bool
-    ensures { result ≡ due.is_full_due (memory_of image.now) }
+// Whether room is needed now: a mutator waits for it, or a copier found none.
+fn is_room_needed(image: &Image) -> bool
+    ensures { result ≡ room.is_room_needed (memory_of image.now) }
 {
     is_room_asked(image) || phase(image) == EVAC && is_out_of_room(image)
 }
 
-/// Does what a pause does: where a mutator waits for room, or a copier found none, it collects the whole heap; else it goes on to the
-/// next phase of the cycle.
+// Ends a cycle in its pause: it is finished, and where an object or a request found no room the heap is collected in full.
+fn end_cycle(image: &mut Image)
+    requires { CanEnd (config_of image.old) (memory_of image.old) }
+    ensures config { config_of image.new ≡ config_of image.old }
+    ensures words { memory_of image.new ≡ ended (config_of image.old) (memory_of image.old) }
+{
+    match finish(image) {
+        Finished::Whole => {}
+        Finished::Short => full(image),
+    }
+}
+
+// Makes room: where no cycle runs the heap is collected in full. Else the cycle is ended, past its marking.
+fn make_room(image: &mut Image)
+    requires can { CanPauseSome (config_of image.old) (memory_of image.old) }
+    requires needed { room.is_room_needed (memory_of image.old) ≡ true }
+    ensures config { config_of image.new ≡ config_of image.old }
+    ensures words { memory_of image.new ≡ room_made (config_of image.old) (memory_of image.old) }
+{
+    match phase(image) {
+        IDLE => full(image),
+        MARK => {
+            end_mark(image);
+            end_cycle(image);
+        }
+        _ => end_cycle(image),
+    }
+}
+
+/// Does what a pause does: where a mutator waits for room, or a copier found none, it ends the cycle at once, or collects in full
+/// where none runs; else it goes on to the next phase of the cycle.
 pub(crate) fn collect(image: &mut Image)
     requires { CanPauseSome (config_of image.old) (memory_of image.old) }
     ensures config { config_of image.new ≡ config_of image.old }
     ensures words { memory_of image.new ≡ collected (config_of image.old) (memory_of image.old) }
 {
-    if is_full_due(image) {
-        full(image);
+    if is_room_needed(image) {
+        make_room(image);
     } else {
         go_on(image);
     }

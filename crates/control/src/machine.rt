@@ -94,7 +94,7 @@ impl Control {
         self.spot.access(config, word)
     }
 
-    /// Goes on with the word that its access has found. A pause goes on to the next phase of the cycle, or collects the whole heap.
+    /// Goes on with the word that its access has found. A pause goes on to the next phase of the cycle, or makes room.
     pub fn took(&mut self, got: u64) -> Took
         requires busy { is_gone (seen_control self.old).spot ≡ false }
         requires fit { IsFit (config_in self.old) (seen_control self.old) got }

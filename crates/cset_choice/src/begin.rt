@@ -22,8 +22,8 @@ fn is_address(config: Config, word: u64) -> bool
     first <= word && word < first + config.heap_size() as u64
 }
 
-// Whether a word is an address of a region of the collection set.
-fn is_collected(image: &Image, word: u64) -> bool
+/// Whether a word is an address of a region of the collection set, which has regions of the heap alone.
+pub fn is_collected(image: &Image, word: u64) -> bool
     requires { memory_of image.now Cset < 2 ^ (config_of image.now).regions }
     ensures { result ≡ begun.is_collected (config_of image.now) (memory_of image.now) word }
 {

@@ -7,7 +7,7 @@ mod choice;
 mod copy;
 mod live;
 
-pub use begin::begin_evac;
+pub use begin::{begin_evac, is_collected};
 pub use choice::choose;
 pub use copy::copy_out;
 pub use live::live_words;

@@ -1,5 +1,5 @@
 -- The words of an image after a pause, by their names.
-use Rattle.std.proofs.Common.{◌≡◌, ℕ, false, List, ◌++◌, length, replicate, refl, ap}
+use Rattle.std.proofs.Common.{◌≡◌, ℕ, false, List, ◌++◌, length, replicate, refl, ap, ◌∙◌}
 use Rattle.heap_words.specs.declared.config.Config.{Config}
 use Rattle.heap_words.specs.Words.{Word, Pause, Left, End, State, Phase, IsWord, is_image, image_start, table_words, view}
 use Rattle.heap_world.specs.Change.{image_words, image_view}
@@ -10,9 +10,11 @@ use Rattle.pause_laws.proofs.Images.{full_before, image_of_length, word_by_name,
 use Rattle.mark_laws.specs.Init.{init_marked}
 use Rattle.evac_pauses.specs.Collect.{evac_next}
 use Rattle.update_laws.specs.Changes.{init_updated, final_updated}
-use Rattle.cycle_pauses.specs.Collect.{is_full_due, next_in_cycle, collected, collect_image}
+use Rattle.cycle_pauses.specs.Ended.{ended}
+use Rattle.cycle_pauses.specs.Collect.{is_room_needed, next_in_cycle, past_marking, room_made, collected, collect_image}
 use Rattle.cycle_pauses.specs.Laws.{TableIsCollected}
 use Rattle.evac_pauses.proofs.Outside.{of_two, next_before}
+use Rattle.cycle_pauses.proofs.Finished.{ended_before}
 
 -- the beginning of marking leaves the words before the image
 init_before : (c : Config) (m : Word → ℕ) (word : Word) → is_image word ≡ false → init_marked c m word ≡ m word
@@ -43,9 +45,17 @@ cycle_before c m word other =
     (of_two (m Phase == 1) (evac_next c m word) (if m Phase == 2 then init_updated m word else final_updated c m word) (m word) (next_before c m word other)
     (of_two (m Phase == 2) (init_updated m word) (final_updated c m word) (m word) (init_updated_before m word other) (final_updated_before c m word other)))
 
+past_marking_before : (c : Config) (m : Word → ℕ) (word : Word) → is_image word ≡ false → past_marking c m word ≡ m word
+past_marking_before c m word other = of_two (m Phase == 1) (evac_next c m word) (m word) (m word) (next_before c m word other) refl
+
+room_before : (c : Config) (m : Word → ℕ) (word : Word) → is_image word ≡ false → room_made c m word ≡ m word
+room_before c m word other =
+    of_two (m Phase == 0) (full c m word) (ended c (past_marking c m) word) (m word) (full_before c m word other)
+    (ended_before c (past_marking c m) word other ∙ past_marking_before c m word other)
+
 collected_before : (c : Config) (m : Word → ℕ) (word : Word) → is_image word ≡ false → collected c m word ≡ m word
 collected_before c m word other =
-    of_two (is_full_due m) (full c m word) (next_in_cycle c m word) (m word) (full_before c m word other) (cycle_before c m word other)
+    of_two (is_room_needed m) (room_made c m word) (next_in_cycle c m word) (m word) (room_before c m word other) (cycle_before c m word other)
 
 -- a pause keeps the length of the image
 pub collected_length : (c : Config) (image : List ℕ) → length (collect_image c image) ≡ image_words c

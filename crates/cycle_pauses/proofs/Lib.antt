@@ -1,2 +1,4 @@
+pub mod Finished
+pub mod Ends
 pub mod Images
 pub mod Pauses

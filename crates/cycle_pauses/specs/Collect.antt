@@ -1,6 +1,6 @@
--- What a pause makes of the words of an image: a full collection where a mutator waits or a copier found no room, and else what is
--- due by the phase.
-use Rattle.std.specs.Prelude.{ℕ, ◌≡◌, ◌≤◌, ◌+◌, ◌==◌, ◌&&◌, ◌||◌, if◌then◌else◌, Bool, map, Option}
+-- What a pause makes of the words of an image: the next step of the cycle, or, where a mutator waits or a copier found no room, a
+-- collection whose room is there once the pause is over.
+use Rattle.std.specs.Prelude.{ℕ, ◌≡◌, ◌≢◌, ◌≤◌, ◌+◌, ◌==◌, ◌&&◌, ◌||◌, if◌then◌else◌, Bool, true, map, Option}
 use Rattle.std.specs.Int.{bit_at}
 use Rattle.std.specs.List.{range_with_len}
 use Rattle.heap_words.specs.declared.config.Config.{Config}
@@ -17,10 +17,11 @@ use Rattle.mark_laws.specs.Init.{init_marked}
 use Rattle.mark_laws.specs.Facts.{IsMarking}
 use Rattle.evac_pauses.specs.Collect.{evac_next}
 use Rattle.update_laws.specs.Changes.{init_updated, final_updated}
+use Rattle.cycle_pauses.specs.Ended.{ended, CanEnd}
 
--- the heap is collected in full: a mutator waits for room, or a copier found none while objects are evacuated
-abbrev pub is_full_due : (Word → ℕ) → Bool
-is_full_due memory = (bit_at (memory Ask) 1 == 1) || ((memory Phase == 2) && is_out_of_room (memory Evac))
+-- room is needed now: a mutator waits for it, or a copier found none while objects are evacuated
+abbrev pub is_room_needed : (Word → ℕ) → Bool
+is_room_needed memory = (bit_at (memory Ask) 1 == 1) || ((memory Phase == 2) && is_out_of_room (memory Evac))
 
 -- The next step of the cycle: marking begins; it ends and evacuation begins; evacuation ends and the updating of references begins; or
 -- that ends, and the cycle with it.
@@ -29,21 +30,30 @@ next_in_cycle c memory word =
     if memory Phase == 0 then init_marked c memory word
     else (if memory Phase == 1 then evac_next c memory word else (if memory Phase == 2 then init_updated memory word else final_updated c memory word))
 
--- The words after a pause. The heap is collected in full where that is due; else the cycle goes on.
+-- The words past marking, from which a cycle is ended in its pause: where objects are marked, marking ends and evacuation begins.
+abbrev pub past_marking : Config → (Word → ℕ) → Word → ℕ
+past_marking c memory word = if memory Phase == 1 then evac_next c memory word else memory word
+
+-- The words once there is room: where no cycle runs the heap is collected in full, and else the cycle is ended.
+abbrev pub room_made : Config → (Word → ℕ) → Word → ℕ
+room_made c memory word = if memory Phase == 0 then full c memory word else ended c (past_marking c memory) word
+
+-- The words after a pause. Where room is needed it is made; else the cycle goes on.
 abbrev pub collected : Config → (Word → ℕ) → Word → ℕ
-collected c memory word = if is_full_due memory then full c memory word else next_in_cycle c memory word
+collected c memory word = if is_room_needed memory then room_made c memory word else next_in_cycle c memory word
 
 -- the words of the image after it, in the order of their places
 abbrev pub collect_image : Change
 collect_image c image = map (λ k. collected c (image_view c image) (name_of c (image_start c + k))) (range_with_len 0 (image_words c))
 
--- What a pause needs of the words: they hold a graph; nothing is collected while nothing runs; and while objects are marked,
--- what holds then.
+-- What a pause needs of the words: they hold a graph; nothing is collected while nothing runs; while objects are marked, what holds
+-- then; and where room is needed while a cycle runs, the cycle can be ended.
 pub record CanPause (c : Config) (memory : Word → ℕ) (block : Plot) (owner : ℕ → Option ℕ) (p : Promises) (g : Graph) : Type 0 where
   pub holds : HoldsBy c memory block owner p g
   pub phase_is : memory Phase ≤ 3
   pub uncollected : memory Phase ≡ 0 → memory Cset ≡ 0
   pub marking : memory Phase ≡ 1 → IsMarking c memory block
+  pub ends : is_room_needed memory ≡ true → memory Phase ≢ 0 → CanEnd c (past_marking c memory)
 
 -- so it is in some way
 abbrev pub CanPauseSome : Config → (Word → ℕ) → Type 0

@@ -1,11 +1,21 @@
-//! What a pause does: it begins marking, ends it and begins evacuation, ends that and begins the updating of references, ends that,
-//! or collects in full where a mutator waits or a copier found no room. It keeps the graph, and answers who waits. Laws, as
-//! theorems and no code.
+//! What a pause does: it begins marking, ends it and begins evacuation, ends that and begins the updating of references, or ends
+//! that. Where a mutator waits or a copier found no room, it ends the cycle at once, and collects in full where no cycle runs or
+//! ending it does not make enough room. It keeps the graph, and answers who waits. Laws, as theorems and no code.
 #![tactic(auto)]
 
-ghost use Rattle.cycle_pauses.specs.Laws.{RepresentingCanCollect, EndedCanBegin, ImageIsCollected, TableIsCollected, CollectIsPause};
+ghost use Rattle.cycle_pauses.specs.Laws.{EndedIsPaused, SetIsFreedFirst, RepresentingCanCollect, EndedCanBegin, RunningCanEnd, ImageIsCollected, TableIsCollected, CollectIsPause};
 
-/// A law: words that represent a graph are such that a pause can collect.
+/// A law: a cycle that is ended in its pause is what a pause owes. It keeps the graph, and answers each mutator that asks.
+pub fn ended_is_paused()
+    ensures { EndedIsPaused }
+{}
+
+/// A law: where that needs no full collection, each region of the collection set is freed before who waits is served.
+pub fn set_is_freed_first()
+    ensures { SetIsFreedFirst }
+{}
+
+/// A law: words of an image that represent a graph are such that a pause can collect.
 pub fn representing_can_collect()
     ensures { RepresentingCanCollect }
 {}
@@ -13,6 +23,11 @@ pub fn representing_can_collect()
 /// A law: where a pause ends marking, evacuation can begin, of the words that the end of marking leaves.
 pub fn ended_can_begin()
     ensures { EndedCanBegin }
+{}
+
+/// A law: where a pause makes room while a cycle runs, the cycle can be ended.
+pub fn running_can_end()
+    ensures { RunningCanEnd }
 {}
 
 /// A law: the words of an image after a pause are, by their names, those that the pause makes of its words.

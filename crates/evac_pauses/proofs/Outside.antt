@@ -50,7 +50,7 @@ module _ (c : Config) (m : Word → ℕ) (a : ℕ) (can : CanCopyOut c m a) (out
         (cases_lt x (top_address c m out.region)),
   )
 
-  copied_outside : IsZeroOutside c (copied_out c m a)
+  pub copied_outside : IsZeroOutside c (copied_out c m a)
   copied_outside (Heap x) other = let apart = other_heap x other in out.copied.elsewhere x apart.0 apart.1 ∙ nothing (Heap x) other
   copied_outside (Top q) other =
       out.copied.other_tops q (λ same. true≢false (sym (is_word_from c (Top q) (let below = out.below in omega (arith, below, same))) ∙ other)) ∙ nothing (Top q) other
@@ -119,7 +119,7 @@ to_same c m a r (Top q) stays = absurd (stays tt)
 to_same c m a r Free stays = absurd (stays tt)
 to_same c m a r word stays = refl
 
-copied_same : (c : Config) (m : Word → ℕ) (a : ℕ) (word : Word) → (MayChange word → ⊥) → copied_out c m a word ≡ m word
+pub copied_same : (c : Config) (m : Word → ℕ) (a : ℕ) (word : Word) → (MayChange word → ⊥) → copied_out c m a word ≡ m word
 copied_same c m a word fixed = by_room (copy_room c m a)
   where
     by_room : (found : Option ℕ) → copied_in c m a found word ≡ m word

@@ -1,30 +1,26 @@
 -- A pause begins only where it is due, and then all has been copied, or updated.
-use Rattle.std.proofs.Common.{◌≡◌, ◌≢◌, ℕ, ◌+◌, ◌<◌, ◌≤◌, inl, inr, ⊎_elim, true, List, Some, refl, sym, ap, ◌∙◌, subst, arith}
+use Rattle.std.proofs.Common.{◌≡◌, ◌≢◌, ℕ, ◌+◌, ◌<◌, ◌≤◌, true, List, Some, ap, subst, arith}
 use Rattle.std.specs.Prelude.{slice_get}
-use Rattle.std.specs.Int.{bit_at}
 use Rattle.heap_words.specs.declared.config.Config.{Config}
-use Rattle.heap_words.specs.Words.{Phase, Cset, Evac, Claim, Ask, Root, Answer, Heap}
-use Rattle.steps_base.specs.Steps.{Stage, Event, go}
-use Rattle.shen_graph.specs.declared.name.Name.{Name}
-use Rattle.shen_graph.specs.declared.order.Order.{Order}
+use Rattle.heap_words.specs.Words.{Phase, Cset, Evac, Claim, Root, Answer, Heap}
+use Rattle.steps_base.specs.Steps.{Stage, go}
 use Rattle.shen_graph.specs.Graph.{Graph}
 use Rattle.shen_graph.specs.History.{Entry, after, of_thread}
 use Rattle.handshake.specs.Standing.{is_pausing}
-use Rattle.heap_world.specs.World.{World, thing, promised, IsCollected, IsUsable, IsCurrent}
+use Rattle.heap_world.specs.World.{World, promised, IsCollected, IsUsable, IsCurrent}
 use Rattle.heap_world.specs.Asking.{Asking, nothing, asks, refused, given, IsAsked}
-use Rattle.heap_world.specs.Change.{Change, IsDue, IsPause}
+use Rattle.heap_world.specs.Change.{IsDue}
 use Rattle.heap_world.proofs.Updated.{usable_current}
 use Rattle.update_steps.proofs.Done.{units_are_updated, all_is_updated}
 use Rattle.mutator.specs.Rows.{Mutating}
 use Rattle.control_steps.specs.declared.spot.ControlSpot.{ControlSpot}
 use Rattle.control_steps.specs.declared.spot.ControlSpot.TheVariants as control
 use Rattle.control_steps.specs.Rows.{Controlling}
-use Rattle.step_core.specs.Actor.{Machine, mutating, controlling, Actor}
+use Rattle.step_core.specs.Actor.{mutating, Actor}
 use Rattle.step_core.specs.History.{history}
 use Rattle.step_core.specs.Machines.{kind}
 use Rattle.step_core.specs.Pausing.{IsInPause, IsEmpty}
 use Rattle.step_core.specs.Settled.{settled, control_number}
-use Rattle.step_core.specs.Sound.{world_of}
 use Rattle.step_core.specs.Standing.{control_standing}
 use Rattle.step_core.proofs.Asked.{asking_at}
 use Rattle.step_core.proofs.Facts.{IsMachine, IsThread, ControlFacts}

@@ -1,11 +1,11 @@
 -- Which words updating all references changes, where pieces fill the parts in use of regions outside the collection set.
-use Rattle.std.proofs.Common.{◌≡◌, ◌≢◌, ℕ, ◌+◌, ◌-◌, ◌%◌, ◌<◌, ◌≤◌, ◌⊎◌, ◌==◌, ◌&&◌, ◌||◌, nat_le, nat_lt, true, false, zero, suc, Some, ⊎_elim, refl, sym, ap, ◌∙◌, subst, arith}
+use Rattle.std.proofs.Common.{◌≡◌, ◌≢◌, ℕ, ◌+◌, ◌-◌, ◌%◌, ◌<◌, ◌≤◌, ◌⊎◌, ◌==◌, ◌&&◌, nat_le, nat_lt, true, false, zero, suc, Some, ⊎_elim, sym, ap, ◌∙◌, subst, arith}
 use Rattle.std.specs.Int.{bit_at}
-use Rattle.std.proofs.lemmas.Bool.{cond-true, cond-false, cases_eq, cases_lt, eq-eqb, ne_eqb, and_from, and_left, and_right, or_from, or_left, or_right, le-leb, lt-leb, lt-ltb, le-ltb}
+use Rattle.std.proofs.lemmas.Bool.{cond-true, cond-false, cases_eq, cases_lt, eq-eqb, ne_eqb, and_from, and_left, and_right, or_from, or_left, or_right, le-leb, lt-leb, lt-ltb}
 use Rattle.std.proofs.lemmas.Nat.Bits.{bit_at-lt}
 use Rattle.heap_words.specs.declared.config.Config.{Config}
-use Rattle.heap_words.specs.Words.{Word, Cset, Top, Tams, Root, Answer, Black, Heap}
-use Rattle.heap_words.specs.Encoding.{header_word, shape_word, is_forwarded, forwardee_in, refs_in, object_words}
+use Rattle.heap_words.specs.Words.{Word, Cset, Top, Tams, Black, Heap}
+use Rattle.heap_words.specs.Encoding.{header_word, is_forwarded, forwardee_in}
 use Rattle.regions.specs.Place.{base_of, region_with}
 use Rattle.regions.specs.Sets.{IsIn}
 use Rattle.regions.proofs.PlaceLemmas.{regions_tile}
@@ -76,7 +76,7 @@ module _ (c : Config) (m : Word → ℕ) (block : Plot) (plotted : IsPlotted c (
       regions_tile.of_no_other c r a (record { from = from; before = omega (arith, below, most) })
 
   -- the object that has a word is a piece that has it
-  covered : (r k : ℕ) → r < c.regions → (IsIn (m Cset) r → ⊥) → k < m (Top r)
+  pub covered : (r k : ℕ) → r < c.regions → (IsIn (m Cset) r → ⊥) → k < m (Top r)
       → (x : Block) × (block (base_of c r + start r k) ≡ Some x) × (start r k ≤ k) × (k < start r k + words_of x)
   covered r zero inside outside below =
       let x = filled.first r inside below in

@@ -1,3 +1,4 @@
 pub mod Updated
 pub mod Copies
 pub mod Finish
+pub mod Laws

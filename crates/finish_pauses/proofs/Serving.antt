@@ -1,5 +1,5 @@
 -- Who waits is given an object where there is room, while no cycle runs: the words stand for the same graph, with one promise more.
-use Rattle.std.proofs.Common.{◌≡◌, ◌≢◌, ℕ, ◌+◌, ◌*◌, ◌<◌, ◌≤◌, ◌⊎◌, ◌==◌, ◌&&◌, nat_le, nat_lt, Option, Some, None, zero, suc, inl, inr, ⊎_elim, refl, sym, ap, ◌∙◌, subst, arith, w64}
+use Rattle.std.proofs.Common.{◌≡◌, ◌≢◌, ℕ, ◌+◌, ◌*◌, ◌<◌, ◌≤◌, ◌⊎◌, ◌==◌, Option, Some, None, zero, suc, inl, inr, ⊎_elim, refl, sym, ap, ◌∙◌, subst, arith, w64}
 use Rattle.std.specs.Prelude.{bit_and}
 use Rattle.std.specs.Int.{bit_at}
 use Rattle.std.proofs.Math.Nat.{mul-le-mul_right}
@@ -15,10 +15,10 @@ use Rattle.heap_words.specs.Encoding as encoding
 use Rattle.packing.specs.Rooms.{IsLowestRoom}
 use Rattle.packing.proofs.Rooms.{has_room}
 use Rattle.regions.specs.Place.{base_of}
-use Rattle.regions.specs.Sets.{IsIn, all_but}
+use Rattle.regions.specs.Sets.{all_but}
 use Rattle.shen_graph.specs.declared.name.Name.{Name}
-use Rattle.shen_graph.specs.Graph.{Graph, Reference}
-use Rattle.heap_world.specs.World.{Block, thing, moved, spent, hand, promised, filler, words_of, Plot, name_at, Points, IsPlotted, IsFilled, IsParsable, HasContents, AreOwned, AreUnwritten, AreObjects, IsFreeWord, AreCurrent, IsBlank}
+use Rattle.shen_graph.specs.Graph.{Graph}
+use Rattle.heap_world.specs.World.{Block, thing, moved, spent, hand, promised, filler, words_of, Plot, name_at, Points, IsPlotted, IsFilled, IsParsable, HasContents, AreOwned, AreUnwritten, AreObjects, IsFreeWord, IsBlank}
 use Rattle.heap_world.specs.Asking.{Asking, nothing, asks, refused, given, IsRequest, IsPromise, IsAsked}
 use Rattle.heap_world.proofs.Updates.{updated, updated_same, updated_there, updated_else}
 use Rattle.heap_world.proofs.Keeping.{points_stay}
@@ -28,8 +28,8 @@ use Rattle.heap_world.proofs.Joined as joined
 use Rattle.heap_world.proofs.Joined.{CanJoin}
 use Rattle.image_laws.specs.Full.{fresh_word, made_in, served_in, room_for, served}
 use Rattle.image_laws.proofs.Made.{outside_fresh}
-use Rattle.image_laws.proofs.Served.{served_first, turn_idle, turn_waits, before_turn}
-use Rattle.pause_laws.proofs.Holding.{request_reads, waits_for}
+use Rattle.image_laws.proofs.Served.{served_first, turn_idle, turn_waits}
+use Rattle.pause_laws.proofs.Holding.{request_reads}
 use Rattle.mark_pauses.specs.MarkedOut.{AreUnmoved}
 use Rattle.evac_pauses.proofs.Asked.{asked_stays}
 

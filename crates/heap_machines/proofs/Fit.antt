@@ -78,5 +78,5 @@ fit_is_prop c order got (controlling k) = hlevel (whole_is_prop c k.spot k.image
 pub fit_for_control : (c : Config) (spot : ControlSpot) (image : List ℕ) (got : ℕ) → IsWhole c spot image got → UnitGoesOn c spot got → fits_with c spot image got
 fit_for_control c (LoadWord index) image got whole goes = λ last.
     let prop : IsProp (CanPauseSome c (image_view c (image ++ got ∷ []))) = hlevel in
-    ∥∥₁_elim (whole last) prop (λ h. representing_can_collect c (image_view c (image ++ got ∷ [])) h.0 h.1 h.2)
+    ∥∥₁_elim (whole last) prop (λ h. representing_can_collect c (image ++ got ∷ []) h.0 h.1 h.2)
 fit_for_control c _ image got whole goes = goes

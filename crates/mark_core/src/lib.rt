@@ -14,6 +14,7 @@ pub use begin::init_mark;
 pub use close::close_marks;
 pub use dead::free_region;
 pub use end::final_mark;
+pub use look::is_black;
 
 #[cfg(test)]
 mod tests;

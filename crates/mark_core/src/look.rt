@@ -18,8 +18,8 @@ pub(crate) fn is_grey(image: &Image, address: u64) -> bool
     is_marked_in(config, address, word)
 }
 
-/// Whether an address is black.
-pub(crate) fn is_black(image: &Image, address: u64) -> bool
+/// Whether an address is black: what begins there is marked.
+pub fn is_black(image: &Image, address: u64) -> bool
     requires { IsWord (config_of image.now) (Heap address) }
     ensures { result ≡ marks.is_black (config_of image.now) (memory_of image.now) address }
 {

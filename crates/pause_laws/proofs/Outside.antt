@@ -124,7 +124,7 @@ made_outside c m t r inside within room zero' (Grey n) other = zero' (Grey n) ot
 made_outside c m t r inside within room zero' (Black n) other = zero' (Black n) other
 made_outside c m t r inside within room zero' _ other = absurd (true≢false other)
 
-served_outside : (c : Config) (m : Word → ℕ) (n : ℕ) → n ≤ c.mutators → IsZeroOutside c m → IsZeroOutside c (served c m n)
+pub served_outside : (c : Config) (m : Word → ℕ) (n : ℕ) → n ≤ c.mutators → IsZeroOutside c m → IsZeroOutside c (served c m n)
 served_outside c m zero few zero' word other = served_first c m word ∙ zero' word other
 served_outside c m (suc n) few zero' word other =
     let before : IsZeroOutside c (served c m n) = served_outside c m n (omega (arith, few)) zero' in

@@ -1,21 +1,17 @@
 -- When a pause is due: where no unit is left to claim, and then it stays so.
-use Rattle.std.proofs.Common.{◌≡◌, ℕ, ◌+◌, ◌<◌, ◌≤◌, Bool, true, false, refl, sym, ap, ◌∙◌, subst, arith}
+use Rattle.std.proofs.Common.{◌≡◌, ℕ, ◌+◌, ◌<◌, ◌≤◌, Bool, true, false, refl, arith}
 use Rattle.std.specs.Prelude.{◌==◌, nat_lt, if◌then◌else◌}
 use Rattle.std.specs.Int.{bit_at}
 use Rattle.std.proofs.lemmas.Bool.{ltb-false}
-use Rattle.std.proofs.lemmas.Bool.Decides.{nat_tests}
 use Rattle.std.proofs.lemmas.Nat.Bits.{bit_at-lt}
 use Rattle.heap_words.specs.declared.config.Config.{Config}
 use Rattle.heap_words.specs.declared.access.Unit.TheVariants.{Worked, NoneLeft}
 use Rattle.heap_words.specs.Encoding.{refs_in, is_forwarded, forwardee_in}
 use Rattle.heap_words.specs.Words.{Word, Phase, Claim, Ask}
-use Rattle.mark_bits.specs.Marks.{mark_bit}
-use Rattle.steps_base.specs.Touch.{touch, loads, touched}
 use Rattle.load_barrier.specs.declared.spot.ResolveSpot.{ResolveSpot}
 use Rattle.load_barrier.specs.declared.spot.ResolveSpot.TheVariants as resolve
 use Rattle.load_barrier.specs.declared.evac_spot.EvacSpot.{EvacSpot}
 use Rattle.load_barrier.specs.declared.evac_spot.EvacSpot.TheVariants as evac
-use Rattle.load_barrier.specs.Rows as resolves
 use Rattle.load_barrier.specs.UnitRows as evacs
 use Rattle.update_refs.specs.declared.spot.Walk.{Walk}
 use Rattle.update_refs.specs.declared.spot.Visit.{Visit}
@@ -41,11 +37,11 @@ due_stays c u w seat rely due late quiet =
     still : (n : ℕ) → n < 2 → (n ≡ 1 → ⊥) → n ≡ 0
     still n small other = grind (arith, small, other)
 
--- so it is wherever all regions are claimed
+-- A pause is due wherever all regions are claimed,
 pub claimed_due : (c : Config) (memory : Word → ℕ) → c.regions ≤ memory Claim → IsDue c memory
 claimed_due c memory claimed late quiet = claimed
 
--- in phases 0 and 1
+-- in phases 0 and 1,
 pub early_due : (c : Config) (memory : Word → ℕ) → memory Phase ≤ 1 → IsDue c memory
 early_due c memory early late quiet = absurd (omega (arith, early, late))
 
@@ -53,9 +49,9 @@ early_due c memory early late quiet = absurd (omega (arith, early, late))
 pub asked_due : (c : Config) (memory : Word → ℕ) → bit_at (memory Ask) 1 ≡ 1 → IsDue c memory
 asked_due c memory asks late quiet = absurd (omega (arith, asks, quiet))
 
--- Where a unit of evacuation says that none was left, all regions are claimed.
+-- Where a unit of evacuation or of updating says that none was left, all regions are claimed.
 module _ (c : Config) (memory : Word → ℕ) (cset : ℕ) where
-  -- where it goes on that is due then
+  -- so it is where evacuation goes on at a spot
   abbrev AfterEvacuation : EvacSpot → Type 0
   AfterEvacuation at = at ≡ evac.Ended NoneLeft → c.regions ≤ memory Claim
 
@@ -80,7 +76,7 @@ module _ (c : Config) (memory : Word → ℕ) (cset : ℕ) where
   none_left_to_evacuate seat (evac.Resolving address end next at) going = resolve_left address end next _
   none_left_to_evacuate seat (evac.Ended unit) going = absurd (cc (going))
 
-  -- and so it is of updating
+  -- and where updating does
   abbrev AfterUpdating : UpdateSpot → Type 0
   AfterUpdating at = at ≡ update.Ended NoneLeft → c.regions ≤ memory Claim
 

@@ -42,7 +42,7 @@ use Rattle.step_core.proofs.Facts.{IsResting, Scans, ControlFacts, IsAim, IsCont
 use Rattle.step_core.proofs.Images.{words_after, view-placed}
 use Rattle.step_core.proofs.Alike.{is_of_handshake, load_step, store_step}
 use Rattle.step_core.proofs.Marking.{world_with}
-use Rattle.step_core.proofs.Due.{claimed_due, early_due, asked_due, none_left_to_evacuate, none_left_to_update}
+use Rattle.step_core.proofs.Due.{claimed_due, early_due, none_left_to_evacuate, none_left_to_update}
 use Rattle.step_core.proofs.Helpers.{phase_three}
 use Rattle.step_core.proofs.Units.{scans_from, scans_step, scanned_rests, evacuates_from, evacuated_rests, updates_from, updated_rests}
 use Rattle.step_core.proofs.Quiet.{quiet_owes}

@@ -1,5 +1,5 @@
 -- Resolving an address while objects are evacuated, or while references are updated: what both have in common.
-use Rattle.std.proofs.Common.{◌≡◌, ℕ, ◌<◌, ◌⊎◌, inl, inr, true, false, Some, None, refl, sym, ap, ◌∙◌, subst, arith}
+use Rattle.std.proofs.Common.{◌≡◌, ℕ, ◌<◌, ◌⊎◌, inl, inr, true, false, Some, None, sym, ◌∙◌, subst}
 use Rattle.heap_words.specs.declared.config.Config.{Config}
 use Rattle.heap_words.specs.Ranges.{seat_count}
 use Rattle.heap_words.specs.Words.{Phase, Cset, IsWord}

@@ -30,7 +30,7 @@ use Rattle.mutator.specs.declared.resolves.Loaded.TheVariants.{ForRoot, ToCompar
 use Rattle.mutator.specs.Commands.{dst_of, index_of}
 use Rattle.mutator.specs.Rows.{Mutating, after_expected, after_resolve, after_resolved, with_loaded}
 use Rattle.mutator.specs.Fit.{is_ready, resolve_fits}
-use Rattle.heap_world.specs.World.{World, hand, name_at, body_of, Points, IsCollected, HasCopy, TargetIn, UsableIn, Shared}
+use Rattle.heap_world.specs.World.{World, hand, name_at, body_of, Points, IsCollected, TargetIn, UsableIn, Shared}
 use Rattle.heap_world.specs.Rely.{Keeps}
 use Rattle.heap_world.proofs.Pointing.{named_body, copy_cases, named_if_not_0, points_small}
 use Rattle.heap_world.proofs.Unmoved.{usable_unmoved}
@@ -47,7 +47,7 @@ use Rattle.step_core.proofs.Ready.{leaving, ready_of, number_small}
 pub lies_there : (c : Config) (cset a : ℕ) → lies_in_set c cset a ≡ true → IsCollected c cset a
 lies_there c cset a is = eqb-true _ _ is
 
--- what has to be resolved is not null, lies in the collection set, and objects are copied
+-- what has to be resolved is not null, lies in the collection set, and objects are copied or references to them updated
 pub resolved_some : (c : Config) (phase cset got : ℕ) → must_resolve c phase cset got ≡ true → (got ≢ 0) × (2 ≤ phase) × IsCollected c cset got
 resolved_some c phase cset got is = ⊎_elim
     (λ (null : (got == 0) ≡ true). absurd (false≢true (sym (cond-true (got == 0) false (if nat_lt phase copy_phase then false else lies_in_set c cset got) null) ∙ is)))
@@ -60,7 +60,7 @@ resolved_some c phase cset got is = ⊎_elim
     (cases_Bool (nat_lt phase copy_phase)))
     (cases_Bool (got == 0))
 
--- what needs no resolving is null, or objects are not copied, or it does not lie in the set
+-- what needs no resolving is null, or objects are not copied yet, or it does not lie in the set
 pub resolved_none : (c : Config) (phase cset got : ℕ) → must_resolve c phase cset got ≡ false → (got ≡ 0) ⊎ ((phase < 2) ⊎ (IsCollected c cset got → ⊥))
 resolved_none c phase cset got is = ⊎_elim
     (λ (null : (got == 0) ≡ true). inl (eqb-true _ _ null))

@@ -1,0 +1,34 @@
+use Rattle.std.proofs.Common.{◌≡◌, ℕ, true, false, ⊎_elim, sym, ap, ◌∙◌}
+use Rattle.std.proofs.lemmas.Bool.{cases_Bool}
+use Rattle.heap_words.specs.Words.{Word}
+use Rattle.heap_words.specs.declared.config.Config.{Config}
+use Rattle.image_laws.specs.Full.{full}
+use Rattle.image_graph.specs.Holds.{HoldsSome}
+use Rattle.image_graph.specs.State.{config_of, memory_of}
+use Rattle.finish_laws.specs.Finish.{finished, is_whole}
+use Rattle.degenerated.specs.declared.cycle.Finished.{Finished}
+use Rattle.control.proofs.Collecting.{of-same, whole-ended, short-ended}
+use Rattle.control.proofs.collect.end_cycle.Goals as goal
+
+-- what is short is not whole
+not_whole : (result : Finished) (whole : (result ≡ Finished.Whole) → ⊥) (c : Config) (m : Word → ℕ) → ((is_whole c m ≡ true) → result ≡ Finished.Whole) → is_whole c m ≡ false
+not_whole result other c m tells = ⊎_elim (λ (is : is_whole c m ≡ true). absurd (other (tells is))) (λ (none : is_whole c m ≡ false). none) (cases_Bool (is_whole c m))
+
+pub full-requires : goal.full-requires
+full-requires c =
+    of-same HoldsSome (config_of c.args.image.now) (config_of c.finish.new.image) (finished (config_of c.args.image.now) (memory_of c.args.image.now)) (memory_of c.finish.new.image)
+    c.finish.ensures.config c.finish.ensures.words
+    (c.requires.holds
+    (not_whole c.finish.result (λ is. (let differ = sym is ∙ c.in-Short.is in cc)) (config_of c.args.image.now) (memory_of c.args.image.now) c.finish.ensures.whole.1))
+
+pub returns-in-Whole-clause-words : goal.returns-in-Whole-clause-words
+returns-in-Whole-clause-words c =
+    c.finish.ensures.words ∙ whole-ended (config_of c.args.image.now) (memory_of c.args.image.now) (c.finish.ensures.whole.0 c.in-Whole.is)
+
+pub returns-in-Short-clause-words : goal.returns-in-Short-clause-words
+returns-in-Short-clause-words c =
+    c.full.ensures.words
+    ∙ ap (λ (d : Config). full d (memory_of c.finish.new.image)) c.finish.ensures.config
+    ∙ ap (full (config_of c.args.image.now)) c.finish.ensures.words
+    ∙ short-ended (config_of c.args.image.now) (memory_of c.args.image.now)
+    (not_whole c.finish.result (λ is. (let differ = sym is ∙ c.in-Short.is in cc)) (config_of c.args.image.now) (memory_of c.args.image.now) c.finish.ensures.whole.1)

@@ -1,0 +1,158 @@
+-- What finishing a cycle leaves as it was: words before the image stay, and words that are no words of the table read 0 still.
+use Rattle.std.proofs.Common.{◌≡◌, ◌≢◌, ℕ, ◌+◌, ◌*◌, ◌==◌, true, false, Option, Some, None, zero, suc, ⊎_elim, refl, sym, ap, ◌∙◌, subst, arith}
+use Rattle.std.proofs.Math.Logic.{∥∥₁_elim}
+use Rattle.std.proofs.Math.Nat.{ℕ_set}
+use Rattle.std.proofs.lemmas.Bool.{cases_Bool, cases_eq, cond-true, cond-false, eq-eqb, ne_eqb, true≢false}
+use Rattle.heap_words.specs.declared.config.Config.{Config}
+use Rattle.heap_words.specs.Words.{Word, Pause, Left, End, State, Phase, Evac, Ask, Root, Wait, Answer, Top, Heap, is_image}
+use Rattle.shen_graph.specs.Graph.{Graph}
+use Rattle.image_laws.specs.Held.{IsAmong}
+use Rattle.image_laws.specs.Full.{now_in, root_words, kept_in, made_in, served_in, room_for, served, full}
+use Rattle.image_laws.specs.Promised.{with_promised}
+use Rattle.image_laws.proofs.Reached.{can_pack}
+use Rattle.image_laws.proofs.Origin.{kept_inside, lie_apart}
+use Rattle.image_laws.proofs.Walked.{walk_keeps}
+use Rattle.image_laws.proofs.Served.{served_first, turn_idle, turn_waits}
+use Rattle.image_graph.specs.Holds.{Holds}
+use Rattle.pause_laws.proofs.Images.{full_before}
+use Rattle.pause_laws.proofs.Outside.{IsZeroOutside, served_outside, full_outside}
+use Rattle.cset_laws.specs.Copied.{MayChange, copied_out}
+use Rattle.evac_pauses.proofs.Outside.{of_two, copied_outside, copied_same}
+use Rattle.evac_pauses.proofs.Turns.{copies_out}
+use Rattle.update_pauses.proofs.Outside.{final_outside}
+use Rattle.finish_laws.specs.Updated.{updated_word, is_kept_field, all_updated}
+use Rattle.finish_laws.specs.Copies.{is_left, has_copy_room, copied_from, CanCopyFrom, all_copied, is_room_for_all}
+use Rattle.finish_laws.specs.Finish.{set_freed, cycle_finished, finished, is_whole, CanFinish}
+use Rattle.finish_laws.proofs.Copies.{room_found, copied_none, copied_next, copied_stuck, copied_skips}
+use Rattle.finish_laws.proofs.Fields.{low_spared}
+use Rattle.cycle_pauses.specs.Ended.{ended, CanEnd}
+
+-- the same memory at a word
+at_word : (x y : Word → ℕ) (word : Word) → x ≡ y → x word ≡ y word
+at_word x y word is = ap (λ (f : Word → ℕ). f word) is
+
+-- Copying changes words of the heap, tops and the free word alone.
+copied_from_same : (c : Config) (n : ℕ) (m : Word → ℕ) (a : ℕ) (word : Word) → (MayChange word → ⊥) → copied_from c m a n word ≡ m word
+copied_from_same c zero m a word fixed = at_word (copied_from c m a zero) m word (copied_none c m a 0)
+copied_from_same c (suc n) m a word fixed = ⊎_elim
+    (λ (left : is_left c m a ≡ true). ⊎_elim
+    (λ (room : has_copy_room c m a ≡ true).
+    at_word (copied_from c m a (suc n)) (copied_from c (copied_out c m a) (a + 1) n) word (copied_next c m a n left room)
+    ∙ copied_from_same c n (copied_out c m a) (a + 1) word fixed ∙ copied_same c m a word fixed)
+    (λ (none : has_copy_room c m a ≡ false). at_word (copied_from c m a (suc n)) m word (copied_stuck c m a n left none))
+    (cases_Bool (has_copy_room c m a)))
+    (λ (other : is_left c m a ≡ false).
+    at_word (copied_from c m a (suc n)) (copied_from c m (a + 1) n) word (copied_skips c m a n other) ∙ copied_from_same c n m (a + 1) word fixed)
+    (cases_Bool (is_left c m a))
+
+all_copied_same : (c : Config) (m : Word → ℕ) (word : Word) → (MayChange word → ⊥) → all_copied c m word ≡ m word
+all_copied_same c m word fixed =
+    of_two (m Phase == 2) (copied_from c m c.region_words (c.regions * c.region_words) word) (m word) (m word)
+    (copied_from_same c (c.regions * c.region_words) m c.region_words word fixed) refl
+
+-- Serving who waits changes no word that making an object leaves.
+served_same : (c : Config) (m : Word → ℕ) (word : Word) → ((w : Word → ℕ) (t r : ℕ) → made_in c w t r word ≡ w word) → (n : ℕ) → served c m n word ≡ m word
+served_same c m word made zero = served_first c m word
+served_same c m word made (suc n) = ⊎_elim
+    (λ (none : served c m n (Wait n) ≡ 0). turn_idle c m n word none ∙ served_same c m word made n)
+    (λ (some : served c m n (Wait n) ≢ 0).
+    turn_waits c m n word some ∙ by_room (served c m n) (room_for c (served c m n) n) ∙ served_same c m word made n)
+    (cases_eq (served c m n (Wait n)) 0)
+  where
+    by_room : (w : Word → ℕ) (o : Option ℕ) → served_in c w n o word ≡ w word
+    by_room w None = refl
+    by_room w (Some r) = made w n r
+
+-- So words before the image stay where a cycle is finished, ..
+finished_same : (c : Config) (m : Word → ℕ) (word : Word) → ((n : Word → ℕ) → set_freed c (all_updated c n) word ≡ n word) → (MayChange word → ⊥)
+    → ((w : Word → ℕ) (t r : ℕ) → made_in c w t r word ≡ w word) → finished c m word ≡ m word
+finished_same c m word updates fixed made =
+    let copies = all_copied_same c m word fixed in
+    of_two (is_room_for_all c m) (served c (cycle_finished c m) c.mutators word) (all_copied c m word) (m word)
+    (served_same c (cycle_finished c m) word made c.mutators ∙ updates (all_copied c m) ∙ copies) copies
+
+finished_before : (c : Config) (m : Word → ℕ) (word : Word) → is_image word ≡ false → finished c m word ≡ m word
+unfolding made_in
+finished_before c m Pause other = finished_same c m Pause (λ n. refl) (λ never. never) (λ w t r. refl)
+finished_before c m Left other = finished_same c m Left (λ n. refl) (λ never. never) (λ w t r. refl)
+finished_before c m End other = finished_same c m End (λ n. refl) (λ never. never) (λ w t r. refl)
+finished_before c m (State s) other = finished_same c m (State s) (λ n. refl) (λ never. never) (λ w t r. refl)
+finished_before c m _ other = absurd (true≢false other)
+
+-- .. and where it is ended in its pause.
+pub ended_before : (c : Config) (m : Word → ℕ) (word : Word) → is_image word ≡ false → ended c m word ≡ m word
+ended_before c m word other =
+    of_two (is_whole c m) (finished c m word) (full c (finished c m) word) (m word) (finished_before c m word other)
+    (full_before c (finished c m) word other ∙ finished_before c m word other)
+
+-- Words that are no words of the table read 0 once all that is left was copied, ..
+copied_from_outside : (c : Config) (n : ℕ) (m : Word → ℕ) (a : ℕ) → CanCopyFrom c m a n → IsZeroOutside c m → IsZeroOutside c (copied_from c m a n)
+unfolding CanCopyFrom
+copied_from_outside c zero m a can nothing = subst (IsZeroOutside c) (sym (copied_none c m a 0)) nothing
+copied_from_outside c (suc n) m a can nothing = ⊎_elim
+    (λ (left : is_left c m a ≡ true). ⊎_elim
+    (λ (room : has_copy_room c m a ≡ true).
+    let object = (can.0 left).0 in
+    subst (IsZeroOutside c) (sym (copied_next c m a n left room))
+    (copied_from_outside c n (copied_out c m a) (a + 1) ((can.0 left).1 room)
+    (copied_outside c m a object (copies_out c m a object.above object.in_set (room_found c m a room)) nothing)))
+    (λ (none : has_copy_room c m a ≡ false). subst (IsZeroOutside c) (sym (copied_stuck c m a n left none)) nothing)
+    (cases_Bool (has_copy_room c m a)))
+    (λ (other : is_left c m a ≡ false).
+    subst (IsZeroOutside c) (sym (copied_skips c m a n other)) (copied_from_outside c n m (a + 1) (can.1 other) nothing))
+    (cases_Bool (is_left c m a))
+
+all_copied_outside : (c : Config) (m : Word → ℕ) → (m Phase ≡ 2 → CanCopyFrom c m c.region_words (c.regions * c.region_words)) → IsZeroOutside c m → IsZeroOutside c (all_copied c m)
+all_copied_outside c m can nothing word other = ⊎_elim
+    (λ (on : m Phase ≡ 2).
+    cond-true (m Phase == 2) (copied_from c m c.region_words (c.regions * c.region_words) word) (m word) (eq-eqb (m Phase) 2 on)
+    ∙ copied_from_outside c (c.regions * c.region_words) m c.region_words (can on) nothing word other)
+    (λ (off : m Phase ≢ 2).
+    cond-false (m Phase == 2) (copied_from c m c.region_words (c.regions * c.region_words) word) (m word) (ne_eqb (m Phase) 2 off) ∙ nothing word other)
+    (cases_eq (m Phase) 2)
+
+-- .. once all references were updated, ..
+null_updated : (c : Config) (m : Word → ℕ) (v : ℕ) → v ≡ 0 → updated_word c m v ≡ 0
+null_updated c m v null = low_spared c m v (omega (arith, null)) ∙ null
+
+all_updated_outside : (c : Config) (m : Word → ℕ) → IsZeroOutside c m → IsZeroOutside c (all_updated c m)
+all_updated_outside c m nothing (Heap x) other =
+    of_two (is_kept_field c m x) (updated_word c m (m (Heap x))) (m (Heap x)) 0 (null_updated c m (m (Heap x)) (nothing (Heap x) other)) (nothing (Heap x) other)
+all_updated_outside c m nothing (Root t i) other = null_updated c m (m (Root t i)) (nothing (Root t i) other)
+all_updated_outside c m nothing (Answer t) other = null_updated c m (m (Answer t)) (nothing (Answer t) other)
+all_updated_outside c m nothing word other = nothing word other
+
+set_freed_outside : (c : Config) (m : Word → ℕ) → IsZeroOutside c m → IsZeroOutside c (set_freed c m)
+set_freed_outside c m nothing Evac other = refl
+set_freed_outside c m nothing Ask other = refl
+set_freed_outside c m nothing word other = final_outside c m nothing word other
+
+-- .. once the cycle is finished, ..
+finished_outside : (c : Config) (m : Word → ℕ) → CanFinish c m → IsZeroOutside c m → IsZeroOutside c (finished c m)
+finished_outside c m can nothing word other =
+    let copies = all_copied_outside c m can.copies nothing in
+    of_two (is_room_for_all c m) (served c (cycle_finished c m) c.mutators word) (all_copied c m word) 0
+    (served_outside c (cycle_finished c m) c.mutators (omega arith)
+    (set_freed_outside c (all_updated c (all_copied c m)) (all_updated_outside c (all_copied c m) copies)) word other)
+    (copies word other)
+
+-- .. after a full collection, ..
+pub full_zero : (c : Config) (m : Word → ℕ) (g : Graph) → Holds c m g → IsZeroOutside c m → IsZeroOutside c (full c m)
+full_zero c m g holds nothing =
+    let block = holds.0 in
+    let p = holds.2 in
+    let objects = holds.3.objects in
+    let can = can_pack c (λ r. m (Top r)) (λ a. m (Heap a)) block (now_in m) (IsAmong (root_words c m)) (with_promised g p) objects (kept_in c m) (walk_keeps c m block (with_promised g p) objects) in
+    full_outside c m (lie_apart c (λ r. m (Top r)) (λ a. m (Heap a)) block (with_promised g p).object (now_in m) (kept_in c m) can)
+    (λ a some. (kept_inside c (λ r. m (Top r)) (λ a. m (Heap a)) block (with_promised g p).object (now_in m) (kept_in c m) can a some).1) nothing
+
+-- .. and once the cycle is ended in its pause.
+pub ended_outside : (c : Config) (m : Word → ℕ) → CanEnd c m → IsZeroOutside c m → IsZeroOutside c (ended c m)
+ended_outside c m can nothing word other =
+    let finishes = finished_outside c m can.finishes nothing in
+    ⊎_elim
+    (λ (whole : is_whole c m ≡ true). cond-true (is_whole c m) (finished c m word) (full c (finished c m) word) whole ∙ finishes word other)
+    (λ (short : is_whole c m ≡ false).
+    cond-false (is_whole c m) (finished c m word) (full c (finished c m) word) short
+    ∙ ∥∥₁_elim (can.holds short) (hlevel ℕ_set) (λ h. full_zero c (finished c m) h.0 h.1 finishes word other))
+    (cases_Bool (is_whole c m))

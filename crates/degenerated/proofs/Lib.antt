@@ -1,0 +1,5 @@
+pub mod Copying
+pub mod Starts
+pub mod Updating
+pub mod Naming
+pub mod Finishing

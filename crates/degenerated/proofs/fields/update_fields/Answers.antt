@@ -1,0 +1,43 @@
+use Rattle.std.proofs.Common.{◌≡◌, ◌+◌, ℕ, refl, sym, ap, ◌∙◌, subst, arith}
+use Rattle.heap_words.specs.declared.config.Config.{Config}
+use Rattle.heap_words.specs.Words.{Word}
+use Rattle.image_graph.specs.State.{config_of, memory_of}
+use Rattle.finish_laws.specs.Updated.{CanUpdateAll}
+use Rattle.degenerated.specs.Steps.{fields_updated, is_of, is_of_first}
+use Rattle.degenerated.proofs.Updating.{can_still, no_fields, then_updated, none_of_first, one_region_more, regions_apart}
+use Rattle.degenerated.proofs.fields.update_fields.Goals as goal
+
+pub loop-region-init : goal.loop-region-init
+loop-region-init c =
+    let g = config_of c.args.image.now in
+    record { config = refl; words = no_fields g (memory_of c.args.image.now) (is_of_first g 0) (λ x field. none_of_first g x) }
+
+pub update_if_outside-requires-clause-can : goal.update_if_outside-requires-clause-can
+update_if_outside-requires-clause-can c =
+    let g = config_of c.args.image.now in
+    let m : Word → ℕ = memory_of c.args.image.now in
+    let is = c.loop-region.invariant in
+    subst (λ (k : Config). CanUpdateAll k (memory_of c.loop-region.image)) (sym is.config)
+    (subst (CanUpdateAll g) (sym is.words) (can_still g m c.requires (is_of_first g c.loop-region.region)))
+
+pub loop-region-preserved : goal.loop-region-preserved
+loop-region-preserved c =
+    let g = config_of c.args.image.now in
+    let m : Word → ℕ = memory_of c.args.image.now in
+    let r = c.loop-region.region in
+    let now = c.loop-region.image in
+    let is = c.loop-region.invariant in
+    record {
+      config = c.update_if_outside.ensures.config ∙ is.config;
+      words = c.update_if_outside.ensures.words
+          ∙ ap (λ (k : Config). fields_updated k (is_of k r) (memory_of now)) is.config
+          ∙ ap (fields_updated g (is_of g r)) is.words
+          ∙ then_updated g m c.requires (is_of_first g r) (is_of g r) (is_of_first g (r + 1)) (λ x field before. regions_apart g r x before) (λ x field. one_region_more g r x);
+    }
+
+pub returns-clause-words : goal.returns-clause-words
+returns-clause-words c =
+    let g = config_of c.args.image.now in
+    let all : c.loop-region.region ≡ g.regions =
+    omega (arith, c.loop-region-test.false, c.loop-region.auto.region-end, c.regions-region-end.ensures, ap (λ (k : Config). k.regions) c.config-config.ensures) in
+    c.loop-region.invariant.words ∙ ap (λ n. fields_updated g (is_of_first g n) (memory_of c.args.image.now)) all

@@ -1,0 +1,66 @@
+use Rattle.std.proofs.Common.{◌≡◌, ◌+◌, ℕ, sym, ap, ◌∙◌, subst, arith}
+use Rattle.heap_words.specs.declared.config.Config.{Config}
+use Rattle.heap_words.specs.Words.{Word, Heap, IsWord, word_at, write}
+use Rattle.image_graph.specs.State.{config_of, memory_of}
+use Rattle.image_graph.proofs.Steps.{placed_inside}
+use Rattle.finish_laws.specs.Updated.{updated_word}
+use Rattle.degenerated.proofs.Updating.{object_inside, address_inside, no_reference, not_kept, kept_reference, left, set_one}
+use Rattle.degenerated.proofs.fields.update_word.Goals as goal
+
+pub is_reference-requires : goal.is_reference-requires
+is_reference-requires c =
+    let g = config_of c.args.image.now in
+    let m : Word → ℕ = memory_of c.args.image.now in
+    let inside = object_inside g m c.requires.can c.args.address c.requires.outside in
+    subst (λ x. IsWord g (Heap (x + 1))) (sym c.requires.object) (omega (arith, inside.from), omega (arith, inside.to))
+
+pub is_kept-requires : goal.is_kept-requires
+is_kept-requires c =
+    let g = config_of c.args.image.now in
+    let m : Word → ℕ = memory_of c.args.image.now in
+    let inside = object_inside g m c.requires.can c.args.address c.requires.outside in
+    subst (λ x. IsWord g (Heap x)) (sym c.requires.object) (omega (arith, inside.from), omega (arith, inside.to))
+
+pub returns-then-not-is_reference-clause-words : goal.returns-then-not-is_reference-clause-words
+returns-then-not-is_reference-clause-words c =
+    let g = config_of c.args.image.now in
+    let m : Word → ℕ = memory_of c.args.image.now in
+    left g m c.args.address (no_reference g m c.args.address c.args.object c.requires.object (sym c.is_reference.ensures ∙ c.if-not-is_reference.true))
+
+pub returns-then-not-is_kept-clause-words : goal.returns-then-not-is_kept-clause-words
+returns-then-not-is_kept-clause-words c =
+    let g = config_of c.args.image.now in
+    let m : Word → ℕ = memory_of c.args.image.now in
+    left g m c.args.address (not_kept g m c.args.address c.args.object c.requires.object (sym c.is_kept.ensures ∙ c.if-not-is_kept.true))
+
+pub heap_at-at-requires : goal.heap_at-at-requires
+heap_at-at-requires c =
+    let g = config_of c.args.image.now in
+    subst (λ (k : Config). IsWord k (Heap c.args.address)) (sym c.config.ensures) (address_inside g (memory_of c.args.image.now) c.args.address c.requires.outside)
+
+pub word-requires : goal.word-requires
+word-requires c =
+    let g = config_of c.args.image.now in
+    placed_inside g c.config.result (Heap c.args.address) c.heap_at-at.result (sym c.config.ensures)
+    (subst (λ (k : Config). IsWord k (Heap c.args.address)) (sym c.config.ensures) (address_inside g (memory_of c.args.image.now) c.args.address c.requires.outside))
+    c.heap_at-at.ensures
+
+pub set_word-requires : goal.set_word-requires
+set_word-requires c =
+    let g = config_of c.args.image.now in
+    placed_inside g c.config.result (Heap c.args.address) c.heap_at-at.result (sym c.config.ensures)
+    (subst (λ (k : Config). IsWord k (Heap c.args.address)) (sym c.config.ensures) (address_inside g (memory_of c.args.image.now) c.args.address c.requires.outside))
+    c.heap_at-at.ensures
+
+pub returns-clause-words : goal.returns-clause-words
+returns-clause-words c =
+    let g = config_of c.args.image.now in
+    let m : Word → ℕ = memory_of c.args.image.now in
+    let a = c.args.address in
+    let word : IsWord g (Heap a) = address_inside g m a c.requires.outside in
+    let at : c.heap_at-at.result ≡ word_at g (Heap a) = c.heap_at-at.ensures ∙ ap (λ (k : Config). word_at k (Heap a)) c.config.ensures in
+    let read : c.word.result ≡ m (Heap a) = c.word.ensures.named (Heap a) word (sym at) in
+    let value : c.updated-word.result ≡ updated_word g m (m (Heap a)) = c.updated-word.ensures ∙ ap (updated_word g m) read in
+    let field = kept_reference g m a c.args.object c.requires.outside c.requires.object
+    (sym c.is_kept.ensures ∙ c.if-not-is_kept.false) (sym c.is_reference.ensures ∙ c.if-not-is_reference.false) in
+    c.set_word.ensures.named (Heap a) word (sym at) ∙ ap (write m (Heap a)) value ∙ set_one g m a field

@@ -1,0 +1,37 @@
+use Rattle.std.proofs.Common.{◌^◌, ◌<◌, ◌≡◌, ℕ, refl, sym, ap, ◌∙◌, subst, arith}
+use Rattle.heap_words.specs.declared.config.Config.{Config}
+use Rattle.heap_words.specs.Words.{Word, Cset}
+use Rattle.image_graph.specs.State.{config_of, memory_of}
+use Rattle.degenerated.specs.Steps.{row_updated, roots_updated}
+use Rattle.degenerated.proofs.Naming.{no_roots, roots_next}
+use Rattle.degenerated.proofs.update.update_all_roots.Goals as goal
+
+pub loop-mutator-init : goal.loop-mutator-init
+loop-mutator-init c = record { config = refl; words = no_roots (config_of c.args.image.now) (memory_of c.args.image.now) }
+
+pub update_roots-requires-clause-set : goal.update_roots-requires-clause-set
+update_roots-requires-clause-set c =
+    let is = c.loop-mutator.invariant in
+    subst (λ (k : Config). memory_of c.loop-mutator.image Cset < 2 ^ k.regions) (sym is.config)
+    (subst (λ (n : Word → ℕ). n Cset < 2 ^ (config_of c.args.image.now).regions) (sym is.words) c.requires)
+
+pub loop-mutator-preserved : goal.loop-mutator-preserved
+loop-mutator-preserved c =
+    let g = config_of c.args.image.now in
+    let m : Word → ℕ = memory_of c.args.image.now in
+    let t = c.loop-mutator.mutator in
+    let is = c.loop-mutator.invariant in
+    record {
+      config = c.update_roots.ensures.config ∙ is.config;
+      words = c.update_roots.ensures.words
+          ∙ ap (λ (k : Config). row_updated k t 16 (memory_of c.loop-mutator.image)) is.config
+          ∙ ap (row_updated g t 16) is.words
+          ∙ roots_next g m t;
+    }
+
+pub returns-clause-words : goal.returns-clause-words
+returns-clause-words c =
+    let g = config_of c.args.image.now in
+    let all : c.loop-mutator.mutator ≡ g.mutators =
+    omega (arith, c.loop-mutator-test.false, c.loop-mutator.auto.mutator-end, c.mutators-mutator-end.ensures, ap (λ (k : Config). k.mutators) c.config-config.ensures) in
+    c.loop-mutator.invariant.words ∙ ap (λ n. roots_updated g n (memory_of c.args.image.now)) all

@@ -1,0 +1,10 @@
+use Rattle.std.proofs.Common.{◌≡◌}
+use Rattle.image_graph.specs.State.{config_of, memory_of}
+use Rattle.degenerated.specs.Steps.{roots_updated}
+use Rattle.degenerated.proofs.update.update_all_roots.Given as goal
+
+abbrev pub invariant-loop-mutator : goal.invariant-loop-mutator
+invariant-loop-mutator l = record {
+  config : config_of l.image ≡ config_of l.fn.image;
+  words : memory_of l.image ≡ roots_updated (config_of l.fn.image) l.mutator (memory_of l.fn.image);
+}

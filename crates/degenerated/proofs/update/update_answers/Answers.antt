@@ -1,0 +1,43 @@
+use Rattle.std.proofs.Common.{◌≡◌, ◌^◌, ◌<◌, ℕ, refl, sym, ap, ◌∙◌, subst, arith}
+use Rattle.heap_words.specs.declared.config.Config.{Config}
+use Rattle.heap_words.specs.Words.{Word, Cset, Answer, IsWord, word_at, write}
+use Rattle.image_graph.specs.State.{config_of, memory_of}
+use Rattle.finish_laws.specs.Updated.{updated_word}
+use Rattle.degenerated.specs.Steps.{answers_updated}
+use Rattle.degenerated.proofs.Naming.{no_answers, answers_next, answer_still}
+use Rattle.degenerated.proofs.update.update_answers.Goals as goal
+
+pub loop-mutator-init : goal.loop-mutator-init
+loop-mutator-init c = record { config = refl; words = no_answers (config_of c.args.image.now) (memory_of c.args.image.now) }
+
+pub update_place-requires-clause-set : goal.update_place-requires-clause-set
+update_place-requires-clause-set c =
+    let is = c.loop-mutator.invariant in
+    subst (λ (k : Config). memory_of c.loop-mutator.image Cset < 2 ^ k.regions) (sym is.config)
+    (subst (λ (n : Word → ℕ). n Cset < 2 ^ (config_of c.args.image.now).regions) (sym is.words) c.requires)
+
+pub loop-mutator-preserved : goal.loop-mutator-preserved
+loop-mutator-preserved c =
+    let g = config_of c.args.image.now in
+    let m : Word → ℕ = memory_of c.args.image.now in
+    let t = c.loop-mutator.mutator in
+    let below : t < g.mutators = omega (arith, c.loop-mutator-test.true, c.mutators-mutator-end.ensures, ap (λ (k : Config). k.mutators) c.config-config.ensures) in
+    let now = c.loop-mutator.image in
+    let is = c.loop-mutator.invariant in
+    let word : IsWord (config_of now) (Answer t) = subst (λ (k : Config). IsWord k (Answer t)) (sym is.config) below in
+    let at : c.answer_at.result ≡ word_at (config_of now) (Answer t) = c.answer_at.ensures ∙ ap (λ (k : Config). word_at k (Answer t)) (c.config-config.ensures ∙ sym is.config) in
+    record {
+      config = c.update_place.ensures.config ∙ is.config;
+      words = c.update_place.ensures.words (Answer t) word (sym at)
+          ∙ ap (λ (k : Config). write (memory_of now) (Answer t) (updated_word k (memory_of now) (memory_of now (Answer t)))) is.config
+          ∙ ap (λ (n : Word → ℕ). write n (Answer t) (updated_word g n (n (Answer t)))) is.words
+          ∙ ap (λ v. write (answers_updated g t m) (Answer t) (updated_word g m v)) (answer_still g m t)
+          ∙ answers_next g m t;
+    }
+
+pub returns-clause-words : goal.returns-clause-words
+returns-clause-words c =
+    let g = config_of c.args.image.now in
+    let all : c.loop-mutator.mutator ≡ g.mutators =
+    omega (arith, c.loop-mutator-test.false, c.loop-mutator.auto.mutator-end, c.mutators-mutator-end.ensures, ap (λ (k : Config). k.mutators) c.config-config.ensures) in
+    c.loop-mutator.invariant.words ∙ ap (λ n. answers_updated g n (memory_of c.args.image.now)) all

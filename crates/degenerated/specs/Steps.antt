@@ -1,0 +1,49 @@
+-- What the steps of finishing a cycle make of the words of an image.
+use Rattle.std.specs.Prelude.{ℕ, ◌+◌, ◌==◌, ◌&&◌, nat_le, nat_lt, if◌then◌else◌, Bool, true}
+use Rattle.heap_words.specs.declared.config.Config.{Config}
+use Rattle.heap_words.specs.Words.{Word, Root, Answer, Heap}
+use Rattle.regions.specs.Place.{base_of, region_with}
+use Rattle.cset_laws.specs.Copied.{copied_out}
+use Rattle.finish_laws.specs.Updated.{updated_word, is_kept_field}
+use Rattle.finish_laws.specs.Copies.{is_left, has_copy_room}
+
+-- the words after the turn of an address: an object that is left there was copied out, if some region has room
+abbrev pub turn_taken : Config → (Word → ℕ) → ℕ → Word → ℕ
+turn_taken c memory a word = if is_left c memory a then copied_out c memory a word else memory word
+
+-- nothing is left at an address, or it finds room
+abbrev pub has_turn_room : Config → (Word → ℕ) → ℕ → Bool
+has_turn_room c memory a = if is_left c memory a then has_copy_room c memory a else true
+
+-- the words after the references at a set of addresses were updated
+abbrev pub fields_updated : Config → (ℕ → Bool) → (Word → ℕ) → Word → ℕ
+fields_updated c set memory (Heap x) = if set x && is_kept_field c memory x then updated_word c memory (memory (Heap x)) else memory (Heap x)
+fields_updated c set memory word = memory word
+
+-- sets of addresses: one, those of a region below an offset, those of a region, and those of so many regions
+abbrev pub is_at : ℕ → ℕ → Bool
+is_at a x = a == x
+
+abbrev pub is_below : Config → (region offset : ℕ) → ℕ → Bool
+is_below c r k x = nat_le (base_of c r) x && nat_lt x (base_of c r + k)
+
+abbrev pub is_of : Config → (region : ℕ) → ℕ → Bool
+is_of c r x = region_with c x == r
+
+abbrev pub is_of_first : Config → (regions : ℕ) → ℕ → Bool
+is_of_first c n x = nat_lt (region_with c x) n
+
+-- the words after so many roots of a mutator were updated
+abbrev pub row_updated : Config → (mutator roots : ℕ) → (Word → ℕ) → Word → ℕ
+row_updated c t n memory (Root u i) = if (t == u) && nat_lt i n then updated_word c memory (memory (Root u i)) else memory (Root u i)
+row_updated c t n memory word = memory word
+
+-- the words after the roots of so many mutators were updated
+abbrev pub roots_updated : Config → (mutators : ℕ) → (Word → ℕ) → Word → ℕ
+roots_updated c n memory (Root u i) = if nat_lt u n && nat_lt i 16 then updated_word c memory (memory (Root u i)) else memory (Root u i)
+roots_updated c n memory word = memory word
+
+-- the words after the answers of so many mutators were updated
+abbrev pub answers_updated : Config → (mutators : ℕ) → (Word → ℕ) → Word → ℕ
+answers_updated c n memory (Answer u) = if nat_lt u n then updated_word c memory (memory (Answer u)) else memory (Answer u)
+answers_updated c n memory word = memory word

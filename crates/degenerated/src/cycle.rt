@@ -1,0 +1,52 @@
+//! Ends a cycle in one pause.
+
+ghost use Rattle.std.specs.Prelude.{◌≡◌, ◌↔◌, true};
+ghost use Rattle.image_graph.specs.State.{config_of, memory_of};
+ghost use Rattle.finish_laws.specs.Finish.{CanFinish, finished, is_whole, set_freed};
+
+use crate::copies::copy_rest;
+use crate::update::update_all;
+use image_graph::Image;
+use update_core::final_update;
+
+/// How finishing a cycle has ended.
+#[derive(Clone, Copy, Debug, PartialEq, Eq)]
+pub enum Finished {
+    /// Each object that was left was copied out, and each request served.
+    Whole,
+    /// An object that was left found no room, and the rest of the cycle was not done; or it was, and then a request found no
+    /// room.
+    Short,
+}
+
+// Frees the collection set. Nothing is left of the cycle: no copier is counted, and nothing is asked for.
+fn end_cycle(image: &mut Image)
+    ensures config { config_of image.new ≡ config_of image.old }
+    ensures words { memory_of image.new ≡ set_freed (config_of image.old) (memory_of image.old) }
+{
+    final_update(image);
+    let config = image.config();
+    image.set_word(config.evac_at(), 0);
+    image.set_word(config.ask_at(), 0);
+}
+
+/// Ends a cycle in one pause. While objects are evacuated, what is left of the collection set is copied out: Short where an
+/// object finds no room. Then all references are updated, the set is freed, and the cycle is over. At last who waits is
+/// served: Short where a request finds no room. Takes no memory, and time linear in the words of the heap.
+pub fn finish(image: &mut Image) -> Finished
+    requires { CanFinish (config_of image.old) (memory_of image.old) }
+    ensures config { config_of image.new ≡ config_of image.old }
+    ensures words { memory_of image.new ≡ finished (config_of image.old) (memory_of image.old) }
+    ensures whole { (result ≡ Finished.Whole) ↔ (is_whole (config_of image.old) (memory_of image.old) ≡ true) }
+{
+    if !copy_rest(image) {
+        return Finished::Short;
+    }
+    update_all(image);
+    end_cycle(image);
+    if image.give_turns() {
+        Finished::Whole
+    } else {
+        Finished::Short
+    }
+}
