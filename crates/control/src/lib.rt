@@ -1,5 +1,5 @@
-//! The control of a heap: a machine that begins marking and ends it, or collects the whole heap, in pauses, in which no mutator and
-//! no helper is in the heap. While marking or evacuation runs it works on units as the helpers do.
+//! The control of a heap: a machine that takes the steps of a cycle, or makes room, in pauses, in which no mutator and no helper is
+//! in the heap. While objects are marked or evacuated, or references updated, it works on units as the helpers do.
 #![tactic(auto)]
 
 mod collect;

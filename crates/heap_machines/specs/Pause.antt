@@ -2,6 +2,6 @@
 use Rattle.heap_world.specs.Change.{Change}
 use Rattle.cycle_pauses.specs.Collect.{collect_image}
 
--- what a pause makes of the words of its image: it goes on to the next phase of the cycle, or collects in full
+-- what a pause makes of the words of its image: it goes on to the next phase of the cycle, or makes room
 abbrev pub pause_image : Change
 pause_image = collect_image

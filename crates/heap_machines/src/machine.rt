@@ -148,7 +148,7 @@ impl Machine {
     }
 
     /// Goes on with the word that its access has found. A pause of the control goes on to the next phase of the
-    /// cycle, or collects in full.
+    /// cycle, or makes room.
     pub fn took(&mut self, got: u64) -> Took
         requires busy { has_turn self.old ≡ true }
         requires fit { IsFitFor (heap_of self.old) (order_of self.old) got (shown self.old) }

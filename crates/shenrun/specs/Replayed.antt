@@ -15,7 +15,7 @@ use Rattle.shen_core.specs.Progress.{AreIdle}
 use Rattle.trace_grammar.specs.Grammar.{Reads}
 use Rattle.trace_writing.specs.Answer.{IsAnswerText}
 
--- the events of a trace, in a heap whose pauses go on to the next phase of the cycle, or collect in full: those of its
+-- the events of a trace, in a heap whose pauses go on to the next phase of the cycle, or make room: those of its
 -- schedule and of the rounds after it, from the opening on, cut after so many
 abbrev pub events_of : Config → Scripts → List Item → ℕ → List (Event Order)
 events_of c scripts items limit = schedule_events pause_image c scripts items limit (opening c)

@@ -46,4 +46,6 @@ fn main(rt: HostRuntime) -> ExitCode {
 #[cfg(test)]
 mod contended;
 #[cfg(test)]
+mod finished;
+#[cfg(test)]
 mod tests;

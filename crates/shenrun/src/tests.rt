@@ -14,13 +14,13 @@ use std::thread::Threads;
 use table_heap::{Gate, OpenGate};
 
 /// A trace, the words that run it, and what is written: the answer, or the line that stands in its place.
-struct Row {
-    words: &'static [&'static str],
-    trace: &'static str,
-    answer: &'static str,
+pub struct Row {
+    pub words: &'static [&'static str],
+    pub trace: &'static str,
+    pub answer: &'static str,
 }
 
-const REPLAY: &[&str] = &["replay"];
+pub const REPLAY: &[&str] = &["replay"];
 
 const RUN: &[&str] = &["run"];
 
@@ -622,7 +622,7 @@ const HEAD: &str = "shen 1\nheap 4 64 0\nthreads 1 0\n";
 
 /// Runs the program on words and bytes. The source and the sink move at most `piece` bytes a call, and the calls with
 /// these numbers fail.
-fn outcome<R: Threads + Wait + Sync>(
+pub fn outcome<R: Threads + Wait + Sync>(
     rt: &R,
     alloc: Global,
     words: &[&str],
@@ -661,7 +661,7 @@ fn outcome_at<R: Threads + Wait + Sync, G: Gate>(
 }
 
 /// Gives each trace in pieces of several sizes, and looks at the status and at what is written.
-fn answers<R: Threads + Wait + Abort + Sync>(
+pub fn answers<R: Threads + Wait + Abort + Sync>(
     rt: &R,
     alloc: Global,
     rows: &[Row],

@@ -1,5 +1,5 @@
--- The machines of a heap as a kind of machine. A pause of the control goes on to the next phase of the cycle, or collects
--- in full.
+-- The machines of a heap as a kind of machine. A pause of the control goes on to the next phase of the cycle, or makes
+-- room.
 use Rattle.std.specs.Prelude.{[]}
 use Rattle.heap_words.specs.declared.config.Config.{Config}
 use Rattle.shen_graph.specs.declared.command.Command.TheVariants.{Gc}
