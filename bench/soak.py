@@ -35,15 +35,54 @@ SHAPES = [
 ]
 
 
+def tending(rand, rounds):
+    """The commands of a thread that puts small objects below the hub, leaves garbage, and asks for cycles."""
+    lines = []
+    for _ in range(rounds):
+        field = rand.randint(0, 5)
+        for _ in range(rand.randint(1, 3)):
+            refs, nums = rand.choice([(1, 1), (2, 0), (0, 2), (1, 0), (3, 1)])
+            lines.append(f"new 1 {refs} {nums}")
+            if refs and rand.random() < 0.6:
+                lines.append(f"set 1 0 {rand.choice([0, 2, 3])}")
+            lines.append(rand.choice([f"set 0 {field} 1", f"xchg 2 0 {field} 1", f"cas 0 {field} {rand.choice([9, 2])} 1", f"get 3 0 {field}"]))
+        lines += [f"new 5 16 {rand.choice([10, 16])}" for _ in range(rand.choice([0, 0, 1, 1, 2]))] + ["drop 5"]
+        lines += [f"drop {rand.choice([1, 2, 3])}" for _ in range(rand.randint(0, 2))] + ["gc"] * (rand.random() < 0.4)
+        for _ in range(rand.randint(0, 6)):
+            field, one, two = rand.randint(0, 5), rand.choice([1, 2, 3]), rand.choice([1, 2, 9])
+            lines.append(
+                rand.choice([
+                    f"get {one} 0 {field}",
+                    "get 2 1 0",
+                    f"set 0 {field} {two}",
+                    f"cas 0 {field} {one} {two}",
+                    f"xchg 3 0 {field} {two}",
+                    f"wr 1 0 {rand.randint(0, 9)}",
+                    "rd 2 0",
+                    "same 1 2",
+                    f"copy 3 {two}",
+                    "cas 1 0 2 3",
+                ])
+            )
+    return lines
+
+
 def trace(seed):
     """A trace: its heap, the scripts of its threads, and its text."""
     rand = random.Random(seed)
     regions, words, reserve = rand.randint(4, 8), rand.choice([64, 70, 96, 200]), rand.choice([0, 1, 1, 2, 3])
     helpers, commands, shapes = rand.randint(0, 3), rand.randint(4, 60), rand.choice(SHAPES)
-    meets = rand.random() < 0.2
-    scripts = {it: [race(rand) if meets else command(rand, shapes) for _ in range(commands)] for it in range(1, THREADS + 1)}
+    tends, meets = rand.random() < 0.7, rand.random() < 0.5
+    if tends:
+        # Not all threads make objects, so that there are regions for those that do.
+        regions, reserve, makers = rand.randint(6, 8), rand.choice([0, 0, 1]), rand.randint(1, 3)
+        scripts = {it: tending(rand, rand.randint(2, 6)) for it in range(1, THREADS + 1)}
+        for thread in range(makers + 1, THREADS + 1):
+            scripts[thread] = [it for it in scripts[thread] if not it.startswith("new")]
+    else:
+        scripts = {it: [race(rand) if meets else command(rand, shapes) for _ in range(commands)] for it in range(1, THREADS + 1)}
     lines = ["shen 1", f"heap {regions} {words} {reserve}", f"threads {THREADS} {helpers}"]
-    lines += [f"{thread} {scripts[thread][at]}" for at in range(commands) for thread in scripts]
+    lines += [f"{thread} {call}" for thread, script in scripts.items() for call in script]
     most = rand.choice([2, 12, 30])
     items = [f"{rand.randint(1, THREADS + helpers)}:{rand.randint(1, most)}" for _ in range(rand.randint(1, 400))]
     items += [f"{THREADS + helpers + 1}:{rand.choice([1, 2, 3, 30, 300, 2000])}" for _ in range(rand.randint(1, 80))]
