@@ -2,7 +2,7 @@
 import random
 import re
 
-LINE = re.compile(r" *\d+  (\S+(?: \d)?) +(\w\w)  .*?(?:(begins|settles|replies) (.+))?$")
+LINE = re.compile(r" *\d+ +(\S+(?: \d)?) +(\w\w)  .*?(?:(begins|settles|replies) (.+))?$")
 
 
 def command(rand, shapes):

@@ -23,8 +23,8 @@ sys.dont_write_bytecode = True
 from cases import program  # pylint: disable=wrong-import-position
 from settling import Graph, command, race, takes_event  # pylint: disable=wrong-import-position
 
-LINE = re.compile(r" *\d+  (\S+(?: \d)?) +(\w\w)  .*?(?:(begins|settles|replies) (.+))?$")
-PHASE = re.compile(r" *\d+  control +PS  store phase: (\d) ")
+LINE = re.compile(r" *\d+ +(\S+(?: \d)?) +(\w\w)  .*?(?:(begins|settles|replies) (.+))?$")
+PHASE = re.compile(r" *\d+ +control +PS  store phase: (\d) ")
 THREADS = 8
 ROOTS = 16
 SHAPES = [
@@ -187,7 +187,7 @@ def fails(seed, counted):
     counted["traces"] += 1
     counted["commands"] += sum(map(len, scripts.values()))
     counted["full"] += len(re.findall(r"^\d full$", answer, re.M))
-    counted["events"] += len(re.findall(r"^ *\d+  ", listed.stdout, re.M))
+    counted["events"] += len(re.findall(r"^ *\d+ +(?:thread|helper|control)", listed.stdout, re.M))
     return run_fails(scripts, text, []) or run_fails(scripts, text, ["--workers", "1"])
 
 
