@@ -7,8 +7,8 @@ There are two tables. Times mean something only beside each other, from one run,
 
 1. How fast references are updated under `run`, by the control and 0 to 3 helpers, each in a thread of its own, beside one thread that
    works on no field. What is counted are the words below the limits of the regions, of which 16 in 19 are references; the time is that
-   from the first look behind the pause that begins updating to the first that finds all regions claimed. The last units may still be in
-   work then, and the pauses do not count.
+   from the first look behind the pause that begins updating to the first that finds all regions claimed, which may find the next pause
+   wanted already. The last units may still be in work then, and the pauses do not count.
 2. Whole cycles of two threads that churn under `run`, as measure_evacuation.py's second table has them: how many pauses begin and end a
    cycle, how many commands go by for each, and which part of the time outside pauses each phase takes.
 
@@ -29,6 +29,7 @@ from measure_marking import PAUSE_BETWEEN_LOOKS, REGIONS, SHENRUN, text_of, writ
 
 CYCLES = 8
 BOXES = 8
+LEAVES = 7
 BESIDE = 60_000
 COMMANDS = 400_000
 
@@ -81,25 +82,29 @@ def sampled(trace, threads, helpers):
 
 def updatings_of(samples):
     """For each updating that was seen whole, how many words were gone over beside the threads, and in which time."""
-    for (before, _), (state, beside) in zip(found := list(evacuation.stretches(samples)), found[1:]):
-        if (before, state) == ((1, 3), (0, 3)):
-            last = next((it for it in beside if it.claim >= REGIONS), None)
+    found = evacuation.stretches(samples)
+    for (before, _), (state, beside), (after, waited) in zip(found, found[1:], found[2:]):
+        if (before, state, after) == ((1, 3), (0, 3), (1, 3)):
+            last = next((it for it in beside + waited if it.claim >= REGIONS), None)
             if last and last.at > beside[0].at:
                 yield last.limits, last.at - beside[0].at
 
 
+def full_box(box):
+    """Commands that make a box with boxes in it, and put it into root 4's box."""
+    return ["new 5 16 0", *(line for leaf in range(LEAVES) for line in ("new 6 16 0", f"set 5 {leaf} 6")), f"set 4 {box} 5"]
+
+
 def boxes():
-    """The commands of a thread that makes boxes of boxes, all of references, with garbage between them, and has cycles run over them, again
-    and again."""
+    """The commands of a thread that makes boxes of boxes, all of references, puts others into each second place, and has a cycle run over
+    them, again and again."""
     lines = []
     for field in range(BOXES):
-        lines += evacuation.boxes_at(field)
+        lines += ["new 4 16 0", f"set 0 {field} 4", *(line for box in range(16) for line in full_box(box))]
     for cycle in range(CYCLES):
         for field in range(BOXES):
-            lines.append(f"get 4 0 {field}")
-            for box in range(cycle % 2, 16, 2):
-                lines += ["new 5 16 0", f"set 4 {box} 5"]
-        lines += [*evacuation.drops(), "gc", *["same 0 1"] * BESIDE]
+            lines += [f"get 4 0 {field}", *(line for box in range(cycle % 2, 16, 2) for line in full_box(box))]
+        lines += ["drop 4", "drop 5", "drop 6", "gc", *["same 0 1"] * BESIDE]
     return lines
 
 
