@@ -1,0 +1,2 @@
+//! Tests of images, collections and whole runs, by hand-made rows, across the crates that hold them.
+#![tactic(auto)]

@@ -1,0 +1,2 @@
+//! Tests of the machines' atomic steps, by hand-made rows, across the crates that hold them.
+#![tactic(auto)]
