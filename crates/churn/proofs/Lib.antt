@@ -9,7 +9,6 @@ pub mod Refusals
 pub mod Turns
 pub mod Numbers
 pub mod Sums
-pub mod TestLemmas
 pub mod Played
 pub mod OneReach
 pub mod Good

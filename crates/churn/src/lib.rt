@@ -10,9 +10,6 @@ mod summary;
 pub use script::churn_scripts;
 pub use summary::{Summary, summarize};
 
-#[cfg(test)]
-mod tests;
-
 /// A law: no allocation of a run of the workload is refused.
 pub fn none_is_full()
     ensures { NoneIsFull }

@@ -22,6 +22,3 @@ pub enum Failed {
 /// The allocator refused a request for memory.
 #[derive(Clone, Copy, Debug, PartialEq, Eq)]
 pub struct NoMemory;
-
-#[cfg(test)]
-mod tests;

@@ -2,7 +2,6 @@ pub mod TextLemmas
 pub mod OrderLemmas
 pub mod PlainLemmas
 pub mod ReachLemmas
-pub mod StepLemmas
 pub mod ValidLemmas
 pub mod Noted
 pub mod Parts

@@ -8,6 +8,3 @@ mod send;
 
 pub use block::Block;
 pub use send::{WriteFault, write_all};
-
-#[cfg(test)]
-mod tests;

@@ -1,4 +1,4 @@
--- How many objects a command makes, for the tests that run a plain graph.
+-- How many objects a command makes.
 use Rattle.std.proofs.Common.{ℕ, ◌≡◌, ◌+◌, ◌≤◌, true, false, Option, Some, None, ap, arith}
 use Rattle.std.specs.Prelude.{◌==◌, if◌then◌else◌}
 use Rattle.shen_graph.specs.declared.command.Command.{Command}

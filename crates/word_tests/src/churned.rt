@@ -1,0 +1,134 @@
+//! The scripts of a churn as they are written down, what a plain graph answers to them, and how a run is summed up.
+ghost use Rattle.std.specs.Prelude.{◌≡◌, [], ◌∷◌, IfOk};
+ghost use Rattle.shen_graph.specs.declared.command.Command.TheVariants.{Gc};
+
+use crate::graph::answers;
+use churn::{Summary, churn_scripts, summarize};
+use shen_graph::{Command, GraphText, Name, NoMemory, PlainGraph, Reply, Script, Work};
+use std::alloc::Global;
+use std::test::Fail;
+
+// The second thread's script of one round of seed 0.
+const ROUND: [Command; 10] = [
+    Command::New {
+        dst: 1,
+        refs: 16,
+        nums: 0,
+    },
+    Command::Set {
+        obj: 0,
+        field: 2,
+        val: 1,
+    },
+    Command::New {
+        dst: 2,
+        refs: 0,
+        nums: 1,
+    },
+    Command::Wr {
+        obj: 2,
+        index: 0,
+        value: 1,
+    },
+    Command::Set {
+        obj: 1,
+        field: 0,
+        val: 2,
+    },
+    Command::Drop { dst: 2 },
+    Command::Get {
+        dst: 3,
+        src: 1,
+        field: 0,
+    },
+    Command::Rd { obj: 3, index: 0 },
+    Command::Cas {
+        obj: 1,
+        field: 0,
+        expect: 3,
+        val: 3,
+    },
+    Command::Xchg {
+        dst: 4,
+        obj: 1,
+        field: 0,
+        val: 3,
+    },
+];
+
+#[test]
+fn the_script_of_one_round(rt: HostRuntime) -> Result<(), Fail> {
+    let scripts = churn_scripts(rt.alloc(), 0, 1)?;
+    assert_eq!(rt; scripts.len(), 3);
+    assert_eq!(rt; scripts[1].list(), ROUND.as_slice());
+    Ok(())
+}
+
+// The sum of the numbers among replies.
+fn sum_of(replies: &[Reply]) -> u64 {
+    let mut sum: u64 = 0;
+    for reply in replies {
+        if let Reply::Number(number) = reply {
+            sum = sum.saturating_add(*number);
+        }
+    }
+    sum
+}
+
+// Fifty rounds read 8 to 57, which are 1625 in each thread. The hub, three boxes and sixteen objects in each can be
+// reached then.
+#[test]
+fn fifty_rounds_in_a_plain_graph(rt: HostRuntime) -> Result<(), Fail> {
+    let alloc = rt.alloc();
+    let scripts = churn_scripts(alloc, 7, 50)?;
+    let mut plain = PlainGraph::open(alloc, 3)?;
+    assert_eq!(rt; scripts.len(), 3);
+    for turn in 0..3u32 {
+        let commands = scripts[turn as usize].list();
+        assert_eq!(rt; commands.len(), 402);
+        let replies = answers(&rt, alloc, &mut plain, turn + 1, commands)?;
+        assert!(rt; !replies.contains(&Reply::Bad));
+        assert_eq!(rt; sum_of(&replies), 1625);
+    }
+    assert_eq!(rt; plain.reach(alloc)?.len(), 52);
+    Ok(())
+}
+
+// A script of one command.
+fn short_script(alloc: Global) -> Result<Script, NoMemory>
+    ensures { IfOk result (λ script. script ≡ Gc ∷ []) }
+{
+    let mut script = Script::open(alloc)?;
+    script.push(alloc, Command::Gc)?;
+    Ok(script)
+}
+
+#[test]
+fn replies_and_objects_are_counted(rt: HostRuntime) -> Result<(), Fail> {
+    let alloc = rt.alloc();
+    let scripts = [
+        short_script(alloc)?,
+        short_script(alloc)?,
+        short_script(alloc)?,
+    ];
+    let mut work = Work::open(alloc, &scripts)?;
+    work.told(0, Reply::Number(5));
+    work.told(1, Reply::Bad);
+    work.told(2, Reply::Null);
+    let mut text = GraphText::open(alloc, 30, 3)?;
+    text.object(Name::HUB);
+    text.reference(None);
+    text.number(7);
+    let wanted = Summary {
+        seed: 4,
+        count: 2,
+        commands: 3,
+        bad: 1,
+        full: 0,
+        objects: 1,
+        words: 5,
+        sum: 5,
+    };
+    assert_eq!(rt; summarize(4, 2, &work, &text), wanted);
+    Ok(())
+}
