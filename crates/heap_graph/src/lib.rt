@@ -21,6 +21,3 @@ pub use write::write_graph;
 pub fn table_words_stand()
     ensures { (c : Config) (words : List ℕ) (block : Plot) (ghost : Ghost) (g : Graph) → length words ≡ table_words c → Shared c (record { memory = view c words; block = block; ghost = ghost; graph = g }) → ((t i : ℕ) → t < c.mutators → i < 16 → Points block (view c words (Root t i)) (g.root (t + 1) i)) → HasNoMore c.mutators g → WordsStand c.region_words (heap_in c words) (roots_in c words) (λ a. name_at (block a)) g }
 {}
-
-#[cfg(test)]
-mod tests;

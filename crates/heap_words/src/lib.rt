@@ -20,6 +20,3 @@ pub use name::{WordName, words_named};
 pub use place::Place;
 pub use schedule::{Item, NoMemory, Schedule};
 pub use words::{heap_in, roots_in, words_apart};
-
-#[cfg(test)]
-mod tests;

@@ -259,7 +259,8 @@ impl Place {
     pub fn code(self) -> [u8; 2]
         ensures { result ≡ code_of self }
     {
-        CODES[self as usize].1
+        let codes = &CODES;
+        codes[self as usize].1
     }
 
     /// The place of a code, or None where no place has it.

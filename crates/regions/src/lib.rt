@@ -12,6 +12,3 @@ pub use place::{base, region_of, regions_tile};
 pub use rooms::{first_with_room, room};
 pub use sets::{all_but, is_in, lowest, size};
 pub use walk::{next_object, walks_meet_each};
-
-#[cfg(test)]
-mod tests;

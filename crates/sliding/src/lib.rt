@@ -17,6 +17,3 @@ pub use compact::compact_marked;
 pub use copies::follow;
 pub use moves::{renew, slide, slides_to_one_heap};
 pub use places::{assign, place_behind};
-
-#[cfg(test)]
-mod tests;

@@ -9,3 +9,6 @@ mod churned;
 mod graph;
 #[cfg(test)]
 mod sources_sinks;
+mod packed_heaps;
+mod sizes_of_regions;
+mod words_of_tables;

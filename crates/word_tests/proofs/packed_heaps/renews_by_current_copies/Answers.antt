@@ -1,7 +1,7 @@
 -- The heap of the test can be packed, by tests that compute.
 use Rattle.std.proofs.Common.{ℕ, Bool, true, false, List, [], ◌∷◌, arith, refl}
 use Rattle.sliding.proofs.Checked.{marked_if, can_compact_if}
-use Rattle.sliding.proofs.tests.renews_by_current_copies.Goals as goal
+use Rattle.word_tests.proofs.packed_heaps.renews_by_current_copies.Goals as goal
 
 abbrev heap : List ℕ
 heap = 79 ∷ 65536 ∷ 12 ∷ 1 ∷ 65793 ∷ 11 ∷ 8 ∷ 100 ∷ 7 ∷ 7 ∷ 7 ∷ 1 ∷ 65536 ∷ 12 ∷ 7 ∷ 7 ∷ []

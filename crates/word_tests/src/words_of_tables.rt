@@ -1,0 +1,211 @@
+use heap_words::{
+    Access, BadConfig, Config, Place, WordName, count_of, forwarded, forwardee, header_to,
+    name_word, nums_of, refs_of, request_count, request_shape, request_word, shape_of, thread_of,
+    words_of,
+};
+use std::process::Abort;
+use std::test::Fail;
+
+// The numbers of configurations, with the first that is outside its range.
+const CONFIGS: [([usize; 5], Option<BadConfig>); 6] = [
+    ([3, 63, 0, 4, 3], Some(BadConfig::Regions)),
+    ([4, 63, 0, 0, 0], Some(BadConfig::RegionWords)),
+    ([64, 1024, 9, 4, 64], Some(BadConfig::Mutators)),
+    ([64, 1024, 8, 4, 64], Some(BadConfig::Helpers)),
+    ([4, 64, 1, 0, 4], Some(BadConfig::Reserve)),
+    ([64, 1024, 8, 3, 63], None),
+];
+
+#[test]
+fn ranges(rt: HostRuntime) {
+    for ([regions, region_words, mutators, helpers, reserve], fault) in &CONFIGS {
+        let config = Config::new(*regions, *region_words, *mutators, *helpers, *reserve);
+        assert!(rt; config.err() == *fault, "{fault:?}");
+    }
+}
+
+// The words of four regions of 64 words and one mutator, by where they stand: every row of words by hand.
+const SMALLEST: [(usize, WordName); 28] = [
+    (0, WordName::Pause),
+    (1, WordName::Left),
+    (2, WordName::End),
+    (3, WordName::State { seat: 0 }),
+    (4, WordName::Phase),
+    (5, WordName::Cset),
+    (6, WordName::Free),
+    (7, WordName::Evac),
+    (8, WordName::Claim),
+    (9, WordName::Ask),
+    (10, WordName::Top { region: 0 }),
+    (14, WordName::Tams { region: 0 }),
+    (21, WordName::Limit { region: 3 }),
+    (23, WordName::Current { seat: 1 }),
+    (
+        24,
+        WordName::Root {
+            mutator: 0,
+            index: 0,
+        },
+    ),
+    (
+        27,
+        WordName::Root {
+            mutator: 0,
+            index: 3,
+        },
+    ),
+    (
+        39,
+        WordName::Root {
+            mutator: 0,
+            index: 15,
+        },
+    ),
+    (40, WordName::Count { mutator: 0 }),
+    (
+        48,
+        WordName::Buffer {
+            mutator: 0,
+            entry: 7,
+        },
+    ),
+    (49, WordName::Wait { mutator: 0 }),
+    (50, WordName::Answer { mutator: 0 }),
+    (51, WordName::Grey { word: 0 }),
+    (54, WordName::Grey { word: 3 }),
+    (55, WordName::Black { word: 0 }),
+    (58, WordName::Black { word: 3 }),
+    (59, WordName::Heap { address: 64 }),
+    (60, WordName::Heap { address: 65 }),
+    (314, WordName::Heap { address: 319 }),
+];
+
+// Five regions of 65 words, two mutators and a helper: the words that stand by more than one number.
+const WITH_A_HELPER: [(usize, WordName); 12] = [
+    (11, WordName::Ask),
+    (30, WordName::Current { seat: 3 }),
+    (
+        50,
+        WordName::Root {
+            mutator: 1,
+            index: 3,
+        },
+    ),
+    (64, WordName::Count { mutator: 1 }),
+    (
+        75,
+        WordName::Buffer {
+            mutator: 1,
+            entry: 2,
+        },
+    ),
+    (82, WordName::Wait { mutator: 1 }),
+    (84, WordName::Answer { mutator: 1 }),
+    (85, WordName::Grey { word: 0 }),
+    (90, WordName::Grey { word: 5 }),
+    (96, WordName::Black { word: 5 }),
+    (97, WordName::Heap { address: 65 }),
+    (421, WordName::Heap { address: 389 }),
+];
+
+// The words stand in the table of a configuration where the rows say, and it has so many.
+fn stand(rt: &impl Abort, config: Config, rows: &[(usize, WordName)], words: usize) {
+    assert!(rt; config.table_words() == words);
+    for (at, name) in rows {
+        assert!(rt; *at < config.table_words());
+        assert!(rt; config.name_of(*at) == *name, "{at}");
+    }
+}
+
+#[test]
+fn places_of_words(rt: HostRuntime) -> Result<(), Fail> {
+    stand(&rt, Config::new(4, 64, 1, 0, 0)?, &SMALLEST, 315);
+    stand(&rt, Config::new(5, 65, 2, 1, 1)?, &WITH_A_HELPER, 422);
+    Ok(())
+}
+
+#[test]
+fn encodings(rt: HostRuntime) {
+    let rows = [
+        (header_to(256), 1027),
+        (u64::from(forwarded(1027)), 1),
+        (u64::from(forwarded(1)), 0),
+        (u64::from(forwarded(18)), 0),
+        (forwardee(1027), 256),
+        (shape_of(16, 0), 69632),
+        (refs_of(69632), 16),
+        (nums_of(69632), 0),
+        (words_of(69632), 19),
+        (words_of(u64::MAX), 513),
+        (name_word(1, 2), 4294967298),
+        (u64::from(thread_of(4294967298)), 1),
+        (u64::from(count_of(4294967298)), 2),
+        (request_word(3, 65793), 12884967681),
+        (u64::from(request_count(12884967681)), 3),
+        (request_shape(12884967681), 65793),
+    ];
+    agree(&rt, &rows);
+}
+
+// The first number of each row is the second.
+pub fn agree(rt: &impl Abort, rows: &[(u64, u64)]) {
+    for (got, wanted) in rows {
+        assert!(rt; got == wanted, "{got} for {wanted}");
+    }
+}
+
+// Accesses, with what each one finds and makes of it.
+const ACCESSES: [(Access, u64, u64); 9] = [
+    (Access::Load { at: 3 }, 7, 7),
+    (Access::Store { at: 3, value: 5 }, 7, 5),
+    (Access::Swap { at: 3, value: 5 }, 7, 5),
+    (Access::Add { at: 3, value: 5 }, u64::MAX, 4),
+    (Access::Sub { at: 3, value: 5 }, 4, u64::MAX),
+    (Access::And { at: 3, value: 6 }, 3, 2),
+    (Access::Or { at: 3, value: 6 }, 3, 7),
+    (
+        Access::Exchange {
+            at: 3,
+            expect: 1,
+            value: 5,
+        },
+        1,
+        5,
+    ),
+    (
+        Access::Exchange {
+            at: 3,
+            expect: 1,
+            value: 5,
+        },
+        2,
+        2,
+    ),
+];
+
+#[test]
+fn accesses(rt: HostRuntime) {
+    for (access, found, made) in &ACCESSES {
+        assert!(rt; access.at() == 3);
+        assert!(rt; access.made(*found) == *made, "{access:?}");
+    }
+}
+
+// All codes, each once.
+const CODES: &[u8; 162] =
+    b"E1E2E3E4PHCSLVMLH0RLSHFLFSFXCXNLNSNMRSAKBCBLGOBZBEBNTCTTTFTGTUTSIWWSWKWOWPWLWCHLXLXCSLCLCPHIHXGBXSOLOXXWHRMCECUCKXMGMBMOMSMFETESEBULUTUSUBUFUHUXI0IEI1I2P1P2PLPSP3";
+
+// The codes are known, and with another case or in another order they are none.
+#[test]
+fn codes_of_places(rt: HostRuntime) {
+    for pair in CODES.chunks(2) {
+        let place = match *pair {
+            [first, second] => Place::of([first, second]),
+            _ => None,
+        };
+        assert!(rt; place.is_some(), "{pair:?}");
+    }
+    for (code, place) in [(*b"E1", Some(Place::E1)), (*b"e1", None), (*b"1E", None)] {
+        assert!(rt; Place::of(code) == place, "{code:?}");
+    }
+}
