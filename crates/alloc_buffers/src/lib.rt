@@ -21,6 +21,3 @@ pub use take::Take;
 pub fn no_room_has_its_cause()
     ensures { (c : Config) (words : ℕ) (kind : Purpose) (found : List ℕ) (free : ℕ) → HasNoRoom c words kind found free → IsLackOfRoom c words kind found free }
 {}
-
-#[cfg(test)]
-mod tests;

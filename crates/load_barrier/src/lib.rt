@@ -32,6 +32,3 @@ pub use spot::ResolveSpot;
 pub fn answers_are_current()
     ensures { AnswersAreCurrent }
 {}
-
-#[cfg(test)]
-mod tests;

@@ -26,6 +26,3 @@ pub use shows::ShowSpot;
 pub use spot::{Entered, Kept, Spot};
 pub use thread::Mutator;
 pub use waits::WaitSpot;
-
-#[cfg(test)]
-mod tests;

@@ -20,6 +20,3 @@ pub use spot::RememberSpot;
 pub fn recording_is_kept()
     ensures { RecordingIsKept }
 {}
-
-#[cfg(test)]
-mod tests;

@@ -1,2 +1,5 @@
 //! Tests of the machines' atomic steps, by hand-made rows, across the crates that hold them.
 #![tactic(auto)]
+
+#[cfg(test)]
+mod parts_of_calls;
