@@ -1,6 +1,6 @@
 ghost use Rattle.std.specs.Prelude.{◌≡◌, length};
 
-use crate::adders::{Adder, Bundle, Tally, add_in_two, open};
+use shared_steps::adders::{Adder, Bundle, Tally, add_in_two, open};
 use std::test::Fail;
 
 // The adder makes so many steps, if the bundle has it.
@@ -20,27 +20,32 @@ fn steps(bundle: &mut Bundle, tally: &Tally, number: usize, count: usize)
 #[test]
 fn one_waits_for_the_lock(rt: HostRuntime) -> Result<(), Fail> {
     let (tally, mut evens) = open(rt.alloc(), 4)?;
-    assert!(rt; evens.has_all());
+    let all_first = evens.has_all();
     let mut odds = evens.deal(rt.alloc(), &tally, 2, 1)?;
-    assert!(rt; evens.has(0) && !evens.has(1) && evens.has(2) && !evens.has(3));
-    assert!(rt; !odds.has(0) && odds.has(1) && !odds.has(2) && odds.has(3) && !odds.has(4));
+    for (number, has) in [
+        (true, false),
+        (false, true),
+        (true, false),
+        (false, true),
+        (false, false),
+    ]
+    .iter()
+    .enumerate()
+    {
+        assert_eq!(rt; (evens.has(number), odds.has(number)), *has);
+    }
     steps(&mut evens, &tally, 0, 1);
     steps(&mut odds, &tally, 1, 1);
     steps(&mut evens, &tally, 0, 3);
     steps(&mut odds, &tally, 1, 3);
-    assert!(rt; !evens.has_all());
+    assert!(rt; all_first && !evens.has_all());
     evens.join(&tally, odds);
     assert!(rt; evens.has_all());
     let ended = tally.close(evens);
-    assert!(rt; ended.lock == 1 && ended.total == 2 && ended.adders.len() == 4);
-    for (number, adder) in ended.adders.iter().enumerate() {
-        let stands = if number == 1 {
-            Adder::Leaves
-        } else {
-            Adder::Idle
-        };
-        assert!(rt; *adder == Some(stands));
-    }
+    let idle = Some(Adder::Idle);
+    assert_eq!(rt; (ended.lock, ended.total), (1, 2));
+    let stand = [idle, Some(Adder::Leaves), idle, idle];
+    assert!(rt; ended.adders.as_slice() == stand.as_slice());
     Ok(())
 }
 
@@ -49,16 +54,15 @@ fn one_waits_for_the_lock(rt: HostRuntime) -> Result<(), Fail> {
 fn two_threads_add(rt: HostRuntime) -> Result<(), Fail> {
     for _ in 0..20 {
         let ended = add_in_two(&rt, rt.alloc(), 5, 40)?;
-        let mut held: u64 = 0;
-        for adder in ended.adders.iter() {
-            if matches!(
+        let held = ended
+            .adders
+            .iter()
+            .filter(|adder| matches!(
                 adder,
                 Some(Adder::Looks | Adder::Writes { .. } | Adder::Leaves)
-            ) {
-                held = held.wrapping_add(1);
-            }
-        }
-        assert!(rt; ended.adders.len() == 5 && ended.lock == held);
+            ))
+            .count();
+        assert_eq!(rt; (ended.adders.len(), ended.lock), (5, held as u64));
         assert!(rt; 1 <= ended.total && ended.total <= 50);
     }
     Ok(())
