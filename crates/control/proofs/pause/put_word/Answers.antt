@@ -1,4 +1,4 @@
-use Rattle.std.proofs.Common.{◌≡◌, ◌∙◌, ◌+◌, ◌<◌, ℕ, drop, get_or, set, ap, subst, arith}
+use Rattle.std.proofs.Common.{◌≡◌, ◌∙◌, ◌+◌, ◌<◌, drop, get_or, set, ap, subst, arith}
 use Rattle.std.proofs.lemmas.List.{drop-set-add, get_or-set_other}
 use Rattle.heap_words.specs.Words.{image_start}
 use Rattle.image_graph.specs.State.{config_of, words_of}
