@@ -1,5 +1,4 @@
 pub mod Clearing
 pub mod Cleared
 pub mod Images
-pub mod Loading
 pub mod Collecting

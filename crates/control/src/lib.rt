@@ -7,6 +7,3 @@ mod machine;
 mod pause;
 
 pub use machine::Control;
-
-#[cfg(test)]
-mod tests;

@@ -20,6 +20,3 @@ pub fn helpers_stay_inside()
     ensures inside { AccessesAreInside }
     ensures stays { StaysReady }
 {}
-
-#[cfg(test)]
-mod tests;

@@ -19,6 +19,3 @@ pub use spot::ScanSpot;
 pub fn unscanned_is_found()
     ensures { UnscannedIsFound }
 {}
-
-#[cfg(test)]
-mod tests;

@@ -8,8 +8,6 @@ mod hands;
 mod laws;
 mod machines;
 mod steps;
-#[cfg(test)]
-mod tests;
 
 pub use bundles::{close_table, deal_bundle, join_bundle, open_table};
 pub use hands::{all_there, deal_machines, join_machines};

@@ -3,3 +3,6 @@
 
 #[cfg(test)]
 mod parts_of_calls;
+mod adders;
+#[cfg(test)]
+mod units;

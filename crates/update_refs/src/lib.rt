@@ -12,6 +12,3 @@ mod update_unit;
 
 pub use spot::{UpdateSpot, Visit, Walk};
 pub use update_unit::UpdateUnit;
-
-#[cfg(test)]
-mod tests;

@@ -1,5 +1,0 @@
-use Rattle.std.proofs.Common.{◌≡◌, length}
-use Rattle.shared_steps.proofs.tests.steps.Given as goal
-
-abbrev pub invariant-loop : goal.invariant-loop
-invariant-loop l = (l.bundle.seat.table_id ≡ l.fn.bundle.seat.table_id) × (length l.bundle.adders.items ≡ length l.fn.bundle.adders.items)

@@ -1,0 +1,63 @@
+use shared_steps::adders::{Adder, add_in_two, open};
+use std::test::Fail;
+
+// Adders 0 and 2 are in one bundle, 1 and 3 in the other. Adder 2 takes the lock when adder 0 has given it back, and the others ask
+// for it until it has given it back too: then adder 1 takes it.
+#[test]
+fn all_but_one_wait_for_the_lock(rt: HostRuntime) -> Result<(), Fail> {
+    let (tally, mut evens) = open(rt.alloc(), 4)?;
+    let odds = evens.deal(rt.alloc(), &tally, 2, 1)?;
+    for (number, has) in [
+        (true, false),
+        (false, true),
+        (true, false),
+        (false, true),
+        (false, false),
+    ]
+    .iter()
+    .enumerate()
+    {
+        assert_eq!(rt; (evens.has(number), odds.has(number)), *has);
+    }
+    let evens = evens.run(&tally, 4);
+    let odds = odds.run(&tally, 2);
+    let mut evens = evens.run(&tally, 3);
+    let odds = odds.run(&tally, 1);
+    assert!(rt; !evens.has_all());
+    evens.join(&tally, odds);
+    assert!(rt; evens.has_all());
+    let ended = tally.close(evens);
+    let stand = [
+        Some(Adder::Asks),
+        Some(Adder::Looks),
+        Some(Adder::Idle),
+        Some(Adder::Asks),
+    ];
+    assert_eq!(rt; (ended.lock, ended.total), (1, 2));
+    assert!(rt; ended.adders.as_slice() == stand.as_slice());
+    Ok(())
+}
+
+// Whatever the threads do, the lock is 1 exactly where an adder has it.
+#[test]
+fn two_threads_add(rt: HostRuntime) -> Result<(), Fail> {
+    for _ in 0..20 {
+        let ended = add_in_two(&rt, rt.alloc(), 5, 40)?;
+        let mut held = 0u64;
+        for adder in ended.adders.iter() {
+            held = held.wrapping_add(has_lock(*adder));
+        }
+        assert!(rt;
+            ended.adders.len() == 5 && ended.lock == held && 1 <= ended.total && ended.total <= 50
+        );
+    }
+    Ok(())
+}
+
+// 1 for an adder that has the lock.
+fn has_lock(adder: Option<Adder>) -> u64 {
+    match adder {
+        Some(Adder::Looks | Adder::Writes { .. } | Adder::Leaves) => 1,
+        _ => 0,
+    }
+}
