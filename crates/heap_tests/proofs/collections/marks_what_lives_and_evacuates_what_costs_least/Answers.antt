@@ -3,7 +3,7 @@ use Rattle.heap_words.specs.declared.config.Config.{Config}
 use Rattle.image_graph.specs.State.{memory_of}
 use Rattle.mark_core.specs.Result.{MarksSome}
 use Rattle.cset_choice.proofs.Ready.{begins_after}
-use Rattle.cset_choice.proofs.tests.evacuates_what_costs_least.Goals as goal
+use Rattle.heap_tests.proofs.collections.marks_what_lives_and_evacuates_what_costs_least.Goals as goal
 
 pub final_mark-requires : goal.final_mark-requires
 final_mark-requires g c = subst (λ (k : Config). MarksSome k (memory_of c.init_mark.new.image)) (sym c.init_mark.ensures.config) c.init_mark.ensures.marks
@@ -19,9 +19,3 @@ begin_evac-requires-clause-can g c =
     begins_after c.init_mark.new.image c.final_mark.new.image
     (subst (λ (k : Config). MarksSome k (memory_of c.init_mark.new.image)) (sym c.init_mark.ensures.config) c.init_mark.ensures.marks)
     c.final_mark.ensures.config c.final_mark.ensures.words
-
-pub live_words-requires-clause-apart : goal.live_words-requires-clause-apart
-live_words-requires-clause-apart g c =
-    (begins_after c.init_mark.new.image c.final_mark.new.image
-    (subst (λ (k : Config). MarksSome k (memory_of c.init_mark.new.image)) (sym c.init_mark.ensures.config) c.init_mark.ensures.marks)
-    c.final_mark.ensures.config c.final_mark.ensures.words).apart
