@@ -11,6 +11,3 @@ pub use begin::{begin_evac, is_collected};
 pub use choice::choose;
 pub use copy::copy_out;
 pub use live::live_words;
-
-#[cfg(test)]
-mod tests;

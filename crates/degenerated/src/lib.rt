@@ -9,6 +9,3 @@ mod update;
 
 pub use cycle::{Finished, finish};
 pub use update::update_all;
-
-#[cfg(test)]
-mod tests;

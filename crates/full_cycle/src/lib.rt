@@ -10,6 +10,3 @@ mod renew;
 mod walk;
 
 pub use collect::full;
-
-#[cfg(test)]
-mod tests;

@@ -6,3 +6,4 @@ pub mod Blank
 pub mod Packed
 pub mod Shown
 pub mod Parts
+pub mod Read

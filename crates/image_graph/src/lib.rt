@@ -14,6 +14,3 @@ pub use image::Image;
 pub fn holding_stands()
     ensures { HoldingStands }
 {}
-
-#[cfg(test)]
-mod tests;

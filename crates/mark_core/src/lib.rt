@@ -15,6 +15,3 @@ pub use close::close_marks;
 pub use dead::free_region;
 pub use end::final_mark;
 pub use look::is_black;
-
-#[cfg(test)]
-mod tests;

@@ -6,6 +6,3 @@ mod end;
 
 pub use begin::init_update;
 pub use end::{final_update, free_set};
-
-#[cfg(test)]
-mod tests;

@@ -1,8 +1,9 @@
-use Rattle.std.proofs.Common.{◌≡◌, ◌+◌, ◌-◌, ◌++◌, take, drop, arith, sym, ap, ◌∙◌, subst}
+use Rattle.std.proofs.Common.{ℕ, List, ◌≡◌, ◌+◌, ◌-◌, ◌++◌, take, drop, length, arith, sym, ap, ◌∙◌, subst}
 use borrow.Rule.Slice.PartMut.{put_mid}
-use Rattle.heap_words.specs.Words.{Top, word_at}
+use Rattle.heap_words.specs.Words.{Top, word_at, heap_size, heap_in}
+use Rattle.sliding.specs.Table.{CanCompact}
 use Rattle.image_graph.specs.Pack.{IsPacked}
-use Rattle.image_graph.proofs.Packed.{packed_from}
+use Rattle.image_graph.proofs.Packed.{packed_from, heap_behind}
 use Rattle.image_graph.proofs.pack.pack_words.Goals as goal
 
 pub returns : goal.returns
@@ -22,3 +23,30 @@ returns c =
     c.region_words.result c.region_words.ensures c.compact_marked.ensures.slid (λ r inside. c.compact_marked.ensures.tops r (omega (arith, inside))) c.compact_marked.ensures.renews in
     subst (λ k. IsPacked config c.args.marks.now before (put_mid c.top_at-top.result k low tops ++ after_heap) c.compact_marked.new.places) wide
     (subst (λ t. IsPacked config c.args.marks.now before (put_mid t config.regions low tops ++ after_heap) c.compact_marked.new.places) top_is all)
+
+pub top_at-top-requires : goal.top_at-top-requires
+top_at-top-requires c = omega (arith, c.args.config.in_range.least_regions)
+
+pub overflow_add-tops : goal.overflow_add-tops
+overflow_add-tops c = omega (arith, c.top_at-top.ensures, c.regions.ensures, c.args.config.in_range.most_regions, c.args.config.in_range.most_mutators, c.args.config.in_range.most_helpers)
+
+pub offset_bounds-low-top : goal.offset_bounds-low-top
+offset_bounds-low-top c = omega (arith, c.top_at-top.ensures, c.args.config.in_range.most_mutators, c.args.config.in_range.most_helpers)
+
+pub slice_bounds-tops-count : goal.slice_bounds-tops-count
+slice_bounds-tops-count c = omega arith
+
+pub compact_marked-requires-clause-compact : goal.compact_marked-requires-clause-compact
+compact_marked-requires-clause-compact c =
+    let config = c.args.config in
+    let before = c.args.words.now in
+    let heap : heap_in config before ≡ c.split_at_mut-low.result.1.now =
+    heap_behind config before c.requires.table ∙ ap (λ k. drop k before) (sym c.heap_start.ensures.value) ∙ sym c.split_at_mut-low.ensures.back in
+    subst (λ (n : ℕ). CanCompact n c.split_at_mut-low.result.1.now c.args.marks.now) (sym c.region_words.ensures)
+    (subst (λ (w : List ℕ). CanCompact config.region_words w c.args.marks.now) heap c.requires.compact)
+
+pub compact_marked-requires-clause-table : goal.compact_marked-requires-clause-table
+compact_marked-requires-clause-table c =
+    let wide : length c.split_at_mut-low.result.1.now ≡ heap_size c.args.config =
+    omega (arith, c.requires.table, c.heap_start.ensures.value, c.split_at_mut-low.ensures.back_len, c.split_at_mut-low.ensures.front_len) in
+    omega (arith, wide, c.requires.places)

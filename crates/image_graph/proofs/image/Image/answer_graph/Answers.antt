@@ -1,3 +1,5 @@
+use Rattle.std.proofs.Common.{length, ap, ◌∙◌, arith}
+use Rattle.image_graph.proofs.Read.{heap_length, roots_length}
 use Rattle.std.proofs.Common.{subst}
 use Rattle.heap_graph.specs.Shows as texts
 use Rattle.image_graph.proofs.image.Image.answer_graph.Goals as goal
@@ -9,3 +11,35 @@ pub returns-clause-shows : goal.returns-clause-shows
 returns-clause-shows c = λ at g stands.
     subst (λ threads. texts.ShowsGraph c.write_graph.new.text threads g) c.requires.threads
     (c.write_graph.ensures.shows at g (rw (c.region_words.ensures, c.heap_in.ensures, c.deref.ensures.value, c.roots_in.ensures, c.deref-2.ensures.value) stands))
+
+pub heap_in-requires : goal.heap_in-requires
+heap_in-requires c = ap length c.deref.ensures.value ∙ c.args.self.now.all_words
+
+pub roots_in-requires : goal.roots_in-requires
+roots_in-requires c = ap length c.deref-2.ensures.value ∙ c.args.self.now.all_words
+
+pub write_graph-requires-clause-first : goal.write_graph-requires-clause-first
+write_graph-requires-clause-first c = omega (arith, c.region_words.ensures, c.args.self.now.config.in_range.least_words)
+
+pub write_graph-requires-clause-marks : goal.write_graph-requires-clause-marks
+write_graph-requires-clause-marks c =
+    let heap = ap length c.heap_in.ensures ∙ heap_length c.args.self.now.config c.deref.result.now (ap length c.deref.ensures.value ∙ c.args.self.now.all_words) in
+    omega (arith, heap, ap length c.deref_mut.ensures.value, c.args.self.now.all_marks)
+
+pub write_graph-requires-clause-order : goal.write_graph-requires-clause-order
+write_graph-requires-clause-order c =
+    let heap = ap length c.heap_in.ensures ∙ heap_length c.args.self.now.config c.deref.result.now (ap length c.deref.ensures.value ∙ c.args.self.now.all_words) in
+    omega (arith, heap, c.args.self.now.enough_addresses)
+
+pub write_graph-requires-clause-words : goal.write_graph-requires-clause-words
+write_graph-requires-clause-words c =
+    let heap = ap length c.heap_in.ensures ∙ heap_length c.args.self.now.config c.deref.result.now (ap length c.deref.ensures.value ∙ c.args.self.now.all_words) in
+    omega (arith, heap, c.requires.room)
+
+pub write_graph-requires-clause-threads : goal.write_graph-requires-clause-threads
+write_graph-requires-clause-threads c =
+    let roots = ap length c.roots_in.ensures ∙ roots_length c.args.self.now.config c.deref-2.result.now (ap length c.deref-2.ensures.value ∙ c.args.self.now.all_words) in
+    omega (arith, roots, c.requires.threads)
+
+pub write_graph-requires-clause-few : goal.write_graph-requires-clause-few
+write_graph-requires-clause-few c = omega (arith, c.requires.threads, c.args.self.now.config.in_range.most_mutators)

@@ -6,7 +6,8 @@ use Rattle.regions.specs.Place.{base_of}
 use Rattle.image_graph.specs.State.{config_of, memory_of}
 use Rattle.image_graph.specs.Make.{cleared, AreInHeap}
 use Rattle.image_graph.proofs.Room.{room_in_heap}
-use Rattle.image_graph.proofs.Steps.{stored, made_steps}
+use Rattle.image_graph.proofs.Read.{read, word_in, first_in, low_in, low_region, made_inside}
+use Rattle.image_graph.proofs.Steps.{stored, placed_inside, made_steps}
 use Rattle.image_graph.proofs.image.Image.make_object.Goals as goal
 
 pub returns-clause-words : goal.returns-clause-words
@@ -56,3 +57,185 @@ returns-clause-words c =
     (s1 ∙ ap (λ m. write m (Heap a) 1) cleared_is))))))
     ∙ made_steps (config_of c.args.self.now) old t r a c.request_shape-shape.result c.name_word-name.result (c.word-top.result + c.words_of-2.result) (bit_and c.word-free.result c.all_but.result)
     address shape name (omega (arith, top, c.words_of-2.ensures)) (ap (λ k. bit_and k c.all_but.result) free ∙ ap (bit_and (old Free)) c.all_but.ensures.value)
+
+pub wait_at-requires : goal.wait_at-requires
+wait_at-requires c =
+    subst (λ (j : Config). c.args.mutator < j.mutators) (sym c.config-config.ensures) c.requires.mutator
+
+pub word-request-requires : goal.word-request-requires
+word-request-requires c =
+    placed_inside (config_of c.args.self.now) c.config-config.result (Wait c.args.mutator) _ (sym c.config-config.ensures) (subst (λ (j : Config). c.args.mutator < j.mutators) (sym c.config-config.ensures) c.requires.mutator) c.wait_at.ensures
+
+pub top_at-requires : goal.top_at-requires
+top_at-requires c =
+    subst (λ (j : Config). c.args.region < j.regions) (sym c.config-config.ensures) c.requires.region
+
+pub word-top-requires : goal.word-top-requires
+word-top-requires c =
+    placed_inside (config_of c.args.self.now) c.config-config.result (Top c.args.region) _ (sym c.config-config.ensures) (subst (λ (j : Config). c.args.region < j.regions) (sym c.config-config.ensures) c.requires.region) c.top_at.ensures
+
+pub word-free-requires : goal.word-free-requires
+word-free-requires c =
+    placed_inside (config_of c.args.self.now) c.config-config.result Free _ (sym c.config-config.ensures) tt c.free_at.ensures
+
+pub base-requires : goal.base-requires
+base-requires c =
+    subst (λ (j : Config). c.args.region < j.regions) (sym c.config-config.ensures) c.requires.region
+
+pub overflow_add-address : goal.overflow_add-address
+overflow_add-address c =
+    let k = config_of c.args.self.now in
+    let r = c.args.region in
+    let used : c.word-top.result ≡ memory_of c.args.self.now (Top r) =
+    read k _ (memory_of c.args.self.now) (Top r) _ _ c.config-config.ensures c.requires.region c.top_at.ensures c.word-top.ensures.named in
+    let base : c.base.result ≡ base_of k r = c.base.ensures ∙ ap (λ (j : Config). base_of j r) c.config-config.ensures in
+    omega (arith, used, base, c.requires.room, low_region k r c.requires.region)
+
+pub overflow_cast-mutator : goal.overflow_cast-mutator
+overflow_cast-mutator c =
+    omega (arith, c.requires.mutator, (config_of c.args.self.now).in_range.most_mutators)
+
+pub overflow_add-mutator : goal.overflow_add-mutator
+overflow_add-mutator c =
+    omega (arith, c.requires.mutator, (config_of c.args.self.now).in_range.most_mutators)
+
+pub clear-requires : goal.clear-requires
+clear-requires c =
+    let k = config_of c.args.self.now in
+    let m : Word → ℕ = memory_of c.args.self.now in
+    let t = c.args.mutator in
+    let r = c.args.region in
+    let asked : c.word-request.result ≡ m (Wait t) = read k _ m (Wait t) _ _ c.config-config.ensures c.requires.mutator c.wait_at.ensures c.word-request.ensures.named in
+    let used : c.word-top.result ≡ m (Top r) = read k _ m (Top r) _ _ c.config-config.ensures c.requires.region c.top_at.ensures c.word-top.ensures.named in
+    let inside = made_inside k _ m t r _ _ _ _ c.words_of.result c.config-config.ensures c.requires.region c.requires.room c.base.ensures used asked c.request_shape-shape.ensures c.words_of.ensures in
+    record { inside = inside }
+
+pub heap_at-requires : goal.heap_at-requires
+heap_at-requires c =
+    let k = config_of c.args.self.now in
+    let m : Word → ℕ = memory_of c.args.self.now in
+    let t = c.args.mutator in
+    let r = c.args.region in
+    let asked : c.word-request.result ≡ m (Wait t) = read k _ m (Wait t) _ _ c.config-config.ensures c.requires.mutator c.wait_at.ensures c.word-request.ensures.named in
+    let used : c.word-top.result ≡ m (Top r) = read k _ m (Top r) _ _ c.config-config.ensures c.requires.region c.top_at.ensures c.word-top.ensures.named in
+    let inside = made_inside k _ m t r _ _ _ _ c.words_of.result c.config-config.ensures c.requires.region c.requires.room c.base.ensures used asked c.request_shape-shape.ensures c.words_of.ensures in
+    first_in k c.config-config.result _ _ c.config-config.ensures inside (omega (arith, c.words_of.ensures))
+
+pub set_word-requires : goal.set_word-requires
+set_word-requires c =
+    let k = config_of c.args.self.now in
+    let m : Word → ℕ = memory_of c.args.self.now in
+    let t = c.args.mutator in
+    let r = c.args.region in
+    let asked : c.word-request.result ≡ m (Wait t) = read k _ m (Wait t) _ _ c.config-config.ensures c.requires.mutator c.wait_at.ensures c.word-request.ensures.named in
+    let used : c.word-top.result ≡ m (Top r) = read k _ m (Top r) _ _ c.config-config.ensures c.requires.region c.top_at.ensures c.word-top.ensures.named in
+    let inside = made_inside k _ m t r _ _ _ _ c.words_of.result c.config-config.ensures c.requires.region c.requires.room c.base.ensures used asked c.request_shape-shape.ensures c.words_of.ensures in
+    placed_inside (config_of c.clear.new.self) c.config-config.result (Heap (c.base.result + c.word-top.result)) _ (c.clear.ensures.config ∙ sym c.config-config.ensures) (first_in k c.config-config.result _ _ c.config-config.ensures inside (omega (arith, c.words_of.ensures))) c.heap_at.ensures
+
+pub overflow_add-address-2 : goal.overflow_add-address-2
+overflow_add-address-2 c =
+    let k = config_of c.args.self.now in
+    let m : Word → ℕ = memory_of c.args.self.now in
+    let t = c.args.mutator in
+    let r = c.args.region in
+    let asked : c.word-request.result ≡ m (Wait t) = read k _ m (Wait t) _ _ c.config-config.ensures c.requires.mutator c.wait_at.ensures c.word-request.ensures.named in
+    let used : c.word-top.result ≡ m (Top r) = read k _ m (Top r) _ _ c.config-config.ensures c.requires.region c.top_at.ensures c.word-top.ensures.named in
+    let inside = made_inside k _ m t r _ _ _ _ c.words_of.result c.config-config.ensures c.requires.region c.requires.room c.base.ensures used asked c.request_shape-shape.ensures c.words_of.ensures in
+    omega (arith, low_in _ _ _ inside)
+
+pub heap_at-requires-2 : goal.heap_at-requires-2
+heap_at-requires-2 c =
+    let k = config_of c.args.self.now in
+    let m : Word → ℕ = memory_of c.args.self.now in
+    let t = c.args.mutator in
+    let r = c.args.region in
+    let asked : c.word-request.result ≡ m (Wait t) = read k _ m (Wait t) _ _ c.config-config.ensures c.requires.mutator c.wait_at.ensures c.word-request.ensures.named in
+    let used : c.word-top.result ≡ m (Top r) = read k _ m (Top r) _ _ c.config-config.ensures c.requires.region c.top_at.ensures c.word-top.ensures.named in
+    let inside = made_inside k _ m t r _ _ _ _ c.words_of.result c.config-config.ensures c.requires.region c.requires.room c.base.ensures used asked c.request_shape-shape.ensures c.words_of.ensures in
+    word_in k c.config-config.result _ _ 1 c.config-config.ensures inside (omega (arith, c.words_of.ensures))
+
+pub set_word-requires-2 : goal.set_word-requires-2
+set_word-requires-2 c =
+    let k = config_of c.args.self.now in
+    let m : Word → ℕ = memory_of c.args.self.now in
+    let t = c.args.mutator in
+    let r = c.args.region in
+    let asked : c.word-request.result ≡ m (Wait t) = read k _ m (Wait t) _ _ c.config-config.ensures c.requires.mutator c.wait_at.ensures c.word-request.ensures.named in
+    let used : c.word-top.result ≡ m (Top r) = read k _ m (Top r) _ _ c.config-config.ensures c.requires.region c.top_at.ensures c.word-top.ensures.named in
+    let inside = made_inside k _ m t r _ _ _ _ c.words_of.result c.config-config.ensures c.requires.region c.requires.room c.base.ensures used asked c.request_shape-shape.ensures c.words_of.ensures in
+    placed_inside (config_of c.set_word.new.self) c.config-config.result (Heap (c.base.result + c.word-top.result + 1)) _ (c.set_word.ensures.config ∙ c.clear.ensures.config ∙ sym c.config-config.ensures) (word_in k c.config-config.result _ _ 1 c.config-config.ensures inside (omega (arith, c.words_of.ensures))) c.heap_at-2.ensures
+
+pub overflow_add-address-3 : goal.overflow_add-address-3
+overflow_add-address-3 c =
+    let k = config_of c.args.self.now in
+    let m : Word → ℕ = memory_of c.args.self.now in
+    let t = c.args.mutator in
+    let r = c.args.region in
+    let asked : c.word-request.result ≡ m (Wait t) = read k _ m (Wait t) _ _ c.config-config.ensures c.requires.mutator c.wait_at.ensures c.word-request.ensures.named in
+    let used : c.word-top.result ≡ m (Top r) = read k _ m (Top r) _ _ c.config-config.ensures c.requires.region c.top_at.ensures c.word-top.ensures.named in
+    let inside = made_inside k _ m t r _ _ _ _ c.words_of.result c.config-config.ensures c.requires.region c.requires.room c.base.ensures used asked c.request_shape-shape.ensures c.words_of.ensures in
+    omega (arith, low_in _ _ _ inside)
+
+pub heap_at-requires-3 : goal.heap_at-requires-3
+heap_at-requires-3 c =
+    let k = config_of c.args.self.now in
+    let m : Word → ℕ = memory_of c.args.self.now in
+    let t = c.args.mutator in
+    let r = c.args.region in
+    let asked : c.word-request.result ≡ m (Wait t) = read k _ m (Wait t) _ _ c.config-config.ensures c.requires.mutator c.wait_at.ensures c.word-request.ensures.named in
+    let used : c.word-top.result ≡ m (Top r) = read k _ m (Top r) _ _ c.config-config.ensures c.requires.region c.top_at.ensures c.word-top.ensures.named in
+    let inside = made_inside k _ m t r _ _ _ _ c.words_of.result c.config-config.ensures c.requires.region c.requires.room c.base.ensures used asked c.request_shape-shape.ensures c.words_of.ensures in
+    word_in k c.config-config.result _ _ 2 c.config-config.ensures inside (omega (arith, c.words_of.ensures))
+
+pub set_word-requires-3 : goal.set_word-requires-3
+set_word-requires-3 c =
+    let k = config_of c.args.self.now in
+    let m : Word → ℕ = memory_of c.args.self.now in
+    let t = c.args.mutator in
+    let r = c.args.region in
+    let asked : c.word-request.result ≡ m (Wait t) = read k _ m (Wait t) _ _ c.config-config.ensures c.requires.mutator c.wait_at.ensures c.word-request.ensures.named in
+    let used : c.word-top.result ≡ m (Top r) = read k _ m (Top r) _ _ c.config-config.ensures c.requires.region c.top_at.ensures c.word-top.ensures.named in
+    let inside = made_inside k _ m t r _ _ _ _ c.words_of.result c.config-config.ensures c.requires.region c.requires.room c.base.ensures used asked c.request_shape-shape.ensures c.words_of.ensures in
+    placed_inside (config_of c.set_word-2.new.self) c.config-config.result (Heap (c.base.result + c.word-top.result + 2)) _ (c.set_word-2.ensures.config ∙ c.set_word.ensures.config ∙ c.clear.ensures.config ∙ sym c.config-config.ensures) (word_in k c.config-config.result _ _ 2 c.config-config.ensures inside (omega (arith, c.words_of.ensures))) c.heap_at-3.ensures
+
+pub top_at-requires-2 : goal.top_at-requires-2
+top_at-requires-2 c =
+    subst (λ (j : Config). c.args.region < j.regions) (sym c.config-config.ensures) c.requires.region
+
+pub overflow_add-top : goal.overflow_add-top
+overflow_add-top c =
+    let used : c.word-top.result ≡ memory_of c.args.self.now (Top c.args.region) =
+    read (config_of c.args.self.now) _ (memory_of c.args.self.now) (Top c.args.region) _ _ c.config-config.ensures c.requires.region c.top_at.ensures c.word-top.ensures.named in
+    omega (arith, used, c.requires.room, c.words_of-2.ensures, (config_of c.args.self.now).in_range.most_words)
+
+pub set_word-requires-4 : goal.set_word-requires-4
+set_word-requires-4 c =
+    placed_inside (config_of c.set_word-3.new.self) c.config-config.result (Top c.args.region) _ (c.set_word-3.ensures.config ∙ c.set_word-2.ensures.config ∙ c.set_word.ensures.config ∙ c.clear.ensures.config ∙ sym c.config-config.ensures) (subst (λ (j : Config). c.args.region < j.regions) (sym c.config-config.ensures) c.requires.region) c.top_at-2.ensures
+
+pub all_but-requires : goal.all_but-requires
+all_but-requires c =
+    omega (arith, c.requires.region, (config_of c.args.self.now).in_range.most_regions)
+
+pub set_word-requires-5 : goal.set_word-requires-5
+set_word-requires-5 c =
+    placed_inside (config_of c.set_word-4.new.self) c.config-config.result Free _ (c.set_word-4.ensures.config ∙ c.set_word-3.ensures.config ∙ c.set_word-2.ensures.config ∙ c.set_word.ensures.config ∙ c.clear.ensures.config ∙ sym c.config-config.ensures) tt c.free_at-2.ensures
+
+pub answer_at-requires : goal.answer_at-requires
+answer_at-requires c =
+    subst (λ (j : Config). c.args.mutator < j.mutators) (sym c.config-config.ensures) c.requires.mutator
+
+pub set_word-requires-6 : goal.set_word-requires-6
+set_word-requires-6 c =
+    placed_inside (config_of c.set_word-5.new.self) c.config-config.result (Answer c.args.mutator) _ (c.set_word-5.ensures.config ∙ c.set_word-4.ensures.config ∙ c.set_word-3.ensures.config ∙ c.set_word-2.ensures.config ∙ c.set_word.ensures.config ∙ c.clear.ensures.config ∙ sym c.config-config.ensures) (subst (λ (j : Config). c.args.mutator < j.mutators) (sym c.config-config.ensures) c.requires.mutator) c.answer_at.ensures
+
+pub wait_at-requires-2 : goal.wait_at-requires-2
+wait_at-requires-2 c =
+    subst (λ (j : Config). c.args.mutator < j.mutators) (sym c.config-config.ensures) c.requires.mutator
+
+pub set_word-requires-7 : goal.set_word-requires-7
+set_word-requires-7 c =
+    placed_inside (config_of c.set_word-6.new.self) c.config-config.result (Wait c.args.mutator) _ (c.set_word-6.ensures.config ∙ c.set_word-5.ensures.config ∙ c.set_word-4.ensures.config ∙ c.set_word-3.ensures.config ∙ c.set_word-2.ensures.config ∙ c.set_word.ensures.config ∙ c.clear.ensures.config ∙ sym c.config-config.ensures) (subst (λ (j : Config). c.args.mutator < j.mutators) (sym c.config-config.ensures) c.requires.mutator) c.wait_at-2.ensures
+
+pub returns-clause-config : goal.returns-clause-config
+returns-clause-config c =
+    c.set_word-7.ensures.config ∙ c.set_word-6.ensures.config ∙ c.set_word-5.ensures.config ∙ c.set_word-4.ensures.config ∙ c.set_word-3.ensures.config ∙ c.set_word-2.ensures.config ∙ c.set_word.ensures.config ∙ c.clear.ensures.config

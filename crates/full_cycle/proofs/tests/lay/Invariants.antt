@@ -1,9 +1,0 @@
-use Rattle.std.proofs.Common.{◌≡◌}
-use Rattle.image_graph.specs.State.{config_of}
-use Rattle.full_cycle.proofs.tests.lay.Given as goal
-
-abbrev pub invariant-loop-index : goal.invariant-loop-index
-invariant-loop-index g l = config_of l.image ≡ config_of l.fn.image
-
-abbrev pub invariant-loop-index-2 : goal.invariant-loop-index-2
-invariant-loop-index-2 g l = config_of l.image ≡ config_of l.fn.image

@@ -1,0 +1,15 @@
+use Rattle.std.proofs.Common.{ℕ, Bool, List, length, sym, ap, ◌∙◌, subst}
+use Rattle.heap_words.specs.Words.{heap_in}
+use Rattle.sliding.specs.Table.{CanCompact}
+use Rattle.image_graph.proofs.image.Image.pack_found.Goals as goal
+
+pub pack_words-requires-clause-table : goal.pack_words-requires-clause-table
+pack_words-requires-clause-table c = ap length c.deref_mut.ensures.value ∙ c.args.self.now.all_words
+
+pub pack_words-requires-clause-places : goal.pack_words-requires-clause-places
+pack_words-requires-clause-places c = ap length c.deref_mut-2.ensures.value ∙ c.args.self.now.all_places
+
+pub pack_words-requires-clause-compact : goal.pack_words-requires-clause-compact
+pack_words-requires-clause-compact c =
+    subst (λ (w : List ℕ). CanCompact c.args.self.now.config.region_words (heap_in c.args.self.now.config w) c.deref.result.now) (sym c.deref_mut.ensures.value)
+    (subst (λ (s : List Bool). CanCompact c.args.self.now.config.region_words (heap_in c.args.self.now.config c.args.self.now.words.items) s) (sym c.deref.ensures.value) c.requires)
