@@ -8,6 +8,3 @@ pub use trace_scan::number_in;
 pub use trace_writing::{
     Answer, Line, WriteFault, read_traces_can_be_written, write_answer, write_line, write_trace,
 };
-
-#[cfg(test)]
-mod tests;

@@ -1,7 +1,7 @@
 -- How the lines of an answer come together from what is put.
 use Rattle.std.proofs.Common.{◌≡◌, ℕ, zero, suc, ◌+◌, ◌<◌, ◌≤◌, List, [], ◌∷◌, ◌++◌, length, map, take, get_or, codes, sym, ap, ◌∙◌, refl, append_assoc, append-nil, arith}
 use Rattle.std.specs.List.{flat_map, join_with_byte, range_with_len}
-use Rattle.std.proofs.lemmas.List.{take_more, map-id}
+use Rattle.std.proofs.lemmas.List.{take_more, take_all, map-id}
 use Rattle.std.proofs.lemmas.List.Concat.{flat_map-append}
 use Rattle.std.proofs.lemmas.List.Folds.{flat_map-map}
 use Rattle.std.proofs.lemmas.List.FromFn.{map-range_with_len_more}
@@ -31,6 +31,10 @@ pub puts_next : {X : Type 0} {a b c : Stage} (f : X → List ℕ) (xs : List X) 
     → Puts a b (flat_map f (take i xs)) → Puts b c (f x) → Puts a c (flat_map f (take (i + 1) xs))
 puts_next f xs i x d h e p q =
     puts_same (ap (λ y. flat_map f (take i xs) ++ f y) e ∙ flat_map-take_more f xs i d h) (puts_both p q)
+
+-- the texts of all elements were put
+pub puts_all : {X : Type 0} {a b : Stage} (f : X → List ℕ) (xs : List X) (i : ℕ) → length xs ≤ i → Puts a b (flat_map f (take i xs)) → Puts a b (flat_map f xs)
+puts_all f xs i h p = puts_same (ap (flat_map f) (take_all i xs h)) p
 
 -- Loops over numbers.
 

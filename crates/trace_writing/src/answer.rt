@@ -208,6 +208,3 @@ fn put_root_words<K: Sink>(block: &mut Block, sink: &mut K, graph: &GraphText, t
         put_reference(block, sink, graph.root_at(thread, index));
     }
 }
-
-#[cfg(test)]
-mod tests;

@@ -98,6 +98,3 @@ fn write_churn<K: Sink>(sink: &mut K, told: Summary) -> Result<(), WriteFault>
     block.put(sink, b"\n");
     block.finish(sink)
 }
-
-#[cfg(test)]
-mod tests;

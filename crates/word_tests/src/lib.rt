@@ -12,3 +12,4 @@ mod sources_sinks;
 mod packed_heaps;
 mod sizes_of_regions;
 mod words_of_tables;
+mod written;

@@ -1,5 +1,11 @@
-use Rattle.text_writer.proofs.Stages.{puts_both}
+use Rattle.std.proofs.Common.{◌∷◌, sym, ap}
+use Rattle.text_writer.proofs.Stages.{puts_both, puts_same}
+use Rattle.trace_grammar.specs.Spelling.{space}
+use Rattle.trace_writing.specs.Answer.{reference_word}
 use Rattle.trace_writing.proofs.answer.put_reference.Goals as goal
 
 pub returns-in-Some : goal.returns-in-Some
-returns-in-Some g c = rw c.in-Some.is (puts_both c.put.ensures.put c.put_name.ensures)
+returns-in-Some g c = puts_same (ap (λ r. space ∷ reference_word r) (sym c.in-Some.is)) (puts_both c.put.ensures.put c.put_name.ensures)
+
+pub returns-in-None : goal.returns-in-None
+returns-in-None g c = puts_same (ap (λ r. space ∷ reference_word r) (sym c.in-None.is)) c.put-in-None.ensures.put

@@ -1,5 +1,6 @@
-use Rattle.std.proofs.Common.{◌∷◌, ◌++◌, ◌∙◌, ap, sym, append-nil, append_assoc, arith, take}
+use Rattle.std.proofs.Common.{ℕ, List, ◌∷◌, ◌++◌, ◌∙◌, ap, sym, append-nil, append_assoc, arith, take}
 use Rattle.std.specs.Fmt.{decimal}
+use Rattle.std.proofs.lemmas.List.{take_all}
 use Rattle.text_writer.proofs.Stages.{puts_both, puts_same}
 use Rattle.trace_grammar.specs.Spelling.{space, numbers}
 use Rattle.trace_writing.proofs.AnswerLemmas.{flat_map-take_more}
@@ -17,3 +18,8 @@ loop-value-preserved g c =
     (append_assoc word (numbers (take i values)) _
     ∙ ap (λ t. word ++ t) (flat_map-take_more (λ n. space ∷ decimal n) values i _ (omega arith)))
     (puts_both c.loop-value.invariant (puts_both c.put-in-loop-value.ensures.put c.put_number.ensures.put))
+
+pub returns : goal.returns
+returns g c =
+    let word = c.args.word.now in
+    puts_same (ap (λ (values : List ℕ). word ++ numbers values) (take_all c.loop-value.value-index c.args.values.now c.loop-value-test.false)) c.loop-value.invariant
