@@ -42,10 +42,3 @@ fn main(rt: HostRuntime) -> ExitCode {
     let status = shenrun(&rt, rt.alloc(), &words, &mut source, &mut sink, &OpenGate);
     ExitCode::from(status.number())
 }
-
-#[cfg(test)]
-mod contended;
-#[cfg(test)]
-mod finished;
-#[cfg(test)]
-mod tests;
