@@ -10,7 +10,7 @@ use Rattle.step_core.proofs.FirstFacts.{opening_begins}
 use Rattle.shen_core.specs.FromImage.{CanBegin}
 use Rattle.shen_core.specs.State.{machines_of}
 use Rattle.shen_core.proofs.FromImage.{first_from}
-use Rattle.shen_core.proofs.tests.resumed.Goals as goal
+use Rattle.heap_tests.proofs.calls_step_by_step.resumed.Goals as goal
 
 -- the words of the opening can begin its graph
 opening_can_begin : (c : Config) → c.mutators ≡ 1 → CanBegin c (view c (opening_words c)) (0 ∷ []) (first_graph c)
