@@ -3,3 +3,4 @@
 
 #[cfg(test)]
 mod collections;
+mod calls_step_by_step;

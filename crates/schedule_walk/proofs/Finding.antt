@@ -4,17 +4,19 @@ use Rattle.std.specs.Prelude.{is_some}
 use Rattle.std.proofs.lemmas.Bool.{cases_lt}
 use Rattle.heap_words.specs.declared.config.Config.{Config}
 use Rattle.heap_words.specs.Ranges.{seat_count}
+use Rattle.heap_words.specs.declared.schedule.Item.{Item}
+use Rattle.heap_words.specs.declared.schedule.Item.TheVariants.{Steps, Until, Replies}
 use Rattle.steps_base.specs.Steps.{Stage}
 use Rattle.step_core.specs.Actor.{Actor}
 use Rattle.step_core.specs.Settled.{control_number}
-use Rattle.step_core.specs.Schedule.{Scripts, turn, waits, task_of, moves, control_after, next, next_by, after_move}
+use Rattle.step_core.specs.Schedule.{Scripts, turn, waits, waits_then, task_of, moves, move_of, control_after, next, next_by, after_move}
 use Rattle.shen_core.specs.declared.plain.Plain.{Plain}
 use Rattle.shen_core.specs.State.{config_of, seats_of, Shows}
-use Rattle.shen_core.specs.Progress.{Jobs, HasNext, AllIdle, agenda}
+use Rattle.shen_core.specs.Progress.{Jobs, HasNext, AllIdle, IsInSeats, agenda}
 use Rattle.shen_core.proofs.Rounds.{round_pass, round_move, round_again, idle_round}
 use Rattle.schedule_walk.specs.declared.walk.Walk.{Walk}
-use Rattle.schedule_walk.specs.Agendas.{tasks_of, later_in, agenda_in, after_by, agenda_after, HasNoItem}
-use Rattle.schedule_walk.specs.Nexts.{AreIdleFrom, HasSameNext, HasNoNext, IsDue}
+use Rattle.schedule_walk.specs.Agendas.{number_of, tasks_of, tasks_after, later_in, agenda_in, after_by, agenda_after, weight_of, weight_in, IsWalkOf, HasNoItem}
+use Rattle.schedule_walk.specs.Nexts.{IsOver, GoesOn, AreIdleFrom, HasSameNext, HasNoNext, IsDue}
 
 -- an option that has no value
 pub is_none : {A : Type 0} (o : Option A) → is_some o ≡ false → o ≡ None
@@ -125,3 +127,54 @@ pub control_passed : (p : Plain) (jobs : Jobs) (w : Walk) (number : ℕ) → w.c
 control_passed p jobs w number due is has scripts s shows tells =
     ap (λ b. next (config_of p) scripts s (agenda (control_after b ++ (tasks_of w.present ++ later_in w)) w.from)) due
     ∙ ap (λ t. after_move (moves t []) (tasks_of w.present ++ later_in w) w.from (next_by (config_of p) scripts s (tasks_of w.present ++ later_in w) w.from)) (ap (turn scripts s) (sym is) ∙ is_none (turn scripts s number) (has scripts s shows))
+
+-- the machine of an item is one of the heap
+pub item_within : (c : Config) (item : Item) → IsInSeats c item → number_of item < seat_count c.mutators c.helpers
+item_within c (Steps number count) within = within
+item_within c (Until number place) within = within
+item_within c (Replies number count) within = omega arith
+
+-- the item at work is left
+abbrev pub without_item : Walk → Walk
+without_item w = record w { present = None }
+
+pub left_walk : (c : Config) (w : Walk) → IsWalkOf c w → IsWalkOf c (without_item w)
+left_walk c w walk = record { items = walk.items; present = tt; from = walk.from }
+
+-- less is left then
+pub left_less : (w : Walk) (item : Item) (before : ℕ) → w.present ≡ Some item → weight_in w ≤ before → weight_in (without_item w) < before
+left_less w item before present less = let one : weight_of w.present ≡ 1 = ap weight_of present in omega arith
+
+module _ (p : Plain) (jobs : Jobs) (w : Walk) (item : Item) (control : w.control_due ≡ false) (present : w.present ≡ Some item) where
+  -- the item comes first
+  item_first : (scripts : Scripts) (s : Stage Actor) → next (config_of p) scripts s (agenda_in w) ≡ after_move (move_of (config_of p) scripts s (task_of item)) (later_in w) w.from (next_by (config_of p) scripts s (later_in w) w.from)
+  item_first scripts s =
+      ap (λ b. next (config_of p) scripts s (agenda (control_after b ++ (tasks_of w.present ++ later_in w)) w.from)) control
+      ∙ ap (λ o. next (config_of p) scripts s (agenda (tasks_of o ++ later_in w) w.from)) present
+
+  -- it makes the next event where it goes on, and its machine has a turn
+  pub item_due : GoesOn p jobs item → IsInSeats (config_of p) item → HasNext p (number_of item) true → IsDue p jobs w (number_of item)
+  item_due goes within has = record {
+    within = item_within (config_of p) item within;
+    has = has;
+    rounds = λ _ none. absurd (let both : Some item ≡ None = sym present ∙ none in cc);
+    next_is = λ scripts s shows tells e turns.
+        item_first scripts s
+        ∙ ap (λ m. after_move m (later_in w) w.from (next_by (config_of p) scripts s (later_in w) w.from))
+        (goes scripts s shows tells ∙ ap (λ t. moves t (tasks_after (waits_then (config_of p) s t) item)) turns)
+        ∙ ap (λ o. Some (record { event = e; agenda = after_by false o (later_in w) w.from (number_of item) (waits (config_of p) s e) })) (sym present)
+        ∙ ap (λ b. Some (record { event = e; agenda = after_by b w.present (later_in w) w.from (number_of item) (waits (config_of p) s e) })) (sym control);
+  }
+
+  -- it is passed over where it is done
+  pub item_passed : IsOver p jobs item → HasSameNext p jobs (agenda_in w) (agenda_in (without_item w))
+  item_passed over scripts s shows tells =
+      item_first scripts s
+      ∙ ap (λ m. after_move m (later_in w) w.from (next_by (config_of p) scripts s (later_in w) w.from)) (over scripts s shows tells)
+      ∙ sym (ap (λ b. next (config_of p) scripts s (agenda (control_after b ++ later_in w) w.from)) control)
+
+  -- or where its machine has no turn
+  pub item_idle : GoesOn p jobs item → HasNext p (number_of item) false → HasSameNext p jobs (agenda_in w) (agenda_in (without_item w))
+  item_idle goes has = item_passed (λ scripts s shows tells.
+      goes scripts s shows tells
+      ∙ ap (λ t. moves t (tasks_after (waits_then (config_of p) s t) item)) (is_none (turn scripts s (number_of item)) (has scripts s shows)))

@@ -1,7 +1,7 @@
 -- The step of a machine in memory.
 use Rattle.std.proofs.Common.{◌≡◌, ◌<◌, ℕ, true, List, [], ◌∷◌, ◌++◌, length, get_or, map, All, Some, refl, sym, ap, ◌∙◌, subst}
 use Rattle.heap_machines.specs.Pause.{pause_image}
-use Rattle.std.specs.Prelude.{slice_get, slice_set, slice_index, slice_index_or}
+use Rattle.std.specs.Prelude.{slice_get, slice_set, slice_index, slice_index_or, ◌↔◌}
 use Rattle.std.specs.Option.{option_map}
 use Rattle.std.specs.List.{range_with_len}
 use Rattle.std.proofs.lemmas.Option.{slice_get-map, slice_get_read, slice_get_within, get_or_from_slice_get}
@@ -9,15 +9,22 @@ use Rattle.std.proofs.lemmas.List.{set-get_or, map-set, length-map}
 use Rattle.std.proofs.lemmas.List.Elements.{All-set}
 use Rattle.heap_words.specs.declared.config.Config.{Config}
 use Rattle.heap_words.specs.declared.access.Access.{Access}
+use Rattle.heap_words.specs.declared.access.Took.{Took}
+use Rattle.heap_words.specs.declared.access.Took.TheVariants as took
+use Rattle.heap_words.specs.declared.place.Place.TheVariants.{LV}
 use Rattle.heap_words.specs.Access.{table_index}
 use Rattle.heap_words.specs.Ranges.{seat_count}
 use Rattle.shen_graph.specs.declared.order.Order.{Order}
 use Rattle.shen_graph.specs.declared.order.Order.TheVariants.{Nothing}
 use Rattle.heap_machines.specs.declared.machine.Machine.{Machine}
 use Rattle.heap_machines.specs.Shown.{shown, order_of, heap_of, has_turn, no_machine}
+use Rattle.heap_machines.specs.declared.stepped.Stepped.{Stepped}
+use Rattle.heap_machines.specs.declared.stepped.Stepped.TheVariants as stepped
+use Rattle.heap_machines.specs.Answer.{stepped_of, stepped_by, says}
+use Rattle.heap_machines.specs.Roles.{is_mutating}
 use Rattle.heap_machines.proofs.Openings.{first_machines, first_count}
 use Rattle.step_core.specs.Actor as actors
-use Rattle.step_core.specs.Machines.{plan_of, machine_after, kind}
+use Rattle.step_core.specs.Machines.{takes_of, plan_of, place_in, answer_of, machine_after, kind, WaitsIn}
 use Rattle.step_core.specs.Opening.{opening_words, opening_machine, opening}
 use Rattle.step_core.proofs.FirstFacts.{opening_run}
 use Rattle.steps_base.specs.Steps.{accessed}
@@ -37,6 +44,10 @@ pub record IsMade (config : Config) (words new_words : List ℕ) (machines : Lis
 -- a machine that was read is there
 pub from_read : (machines : List Machine) (number : ℕ) (m : Machine) → number < length machines → m ≡ get_or machines number m → slice_get machines number ≡ Some m
 from_read machines number m below value = slice_get_read machines (length machines) number m refl below value
+
+-- where it is put back, nothing has changed
+pub put_back : (machines : List Machine) (number : ℕ) (m : Machine) → m ≡ get_or machines number m → slice_set machines number m ≡ machines
+put_back machines number m value = ap (λ x. slice_set machines number x) value ∙ set-get_or machines number m
 
 -- its heap is that of all
 pub heap_here : (config : Config) (machines : List Machine) (number : ℕ) (m : Machine) → All (λ x. heap_of x ≡ config) machines → slice_get machines number ≡ Some m → heap_of m ≡ config
@@ -62,6 +73,36 @@ none_here machines number m none here =
 -- the machine of a number, in memory
 pub machine_here : (machines : List Machine) (number : ℕ) (m : Machine) → slice_get machines number ≡ Some m → slice_index_or (map shown machines) number no_machine ≡ shown m
 machine_here machines number m here = get_or_from_slice_get (map shown machines) number (shown m) no_machine (shown_here machines number m here)
+
+-- whether it makes a step
+pub turn_here : (machines : List Machine) (number : ℕ) (m : Machine) → slice_get machines number ≡ Some m → takes_of (slice_index_or (map shown machines) number no_machine) (slice_index_or (map order_of machines) number Nothing) ≡ has_turn m
+turn_here machines number m here =
+    ap (λ x. takes_of x (slice_index_or (map order_of machines) number Nothing)) (machine_here machines number m here)
+    ∙ ap (λ order. takes_of (shown m) order) (order_here machines number m here)
+
+-- the place of its next access
+pub place_here : (machines : List Machine) (number : ℕ) (m : Machine) → slice_get machines number ≡ Some m → place_in (slice_index_or (map order_of machines) number Nothing) (slice_index_or (map shown machines) number no_machine) ≡ place_in (order_of m) (shown m)
+place_here machines number m here =
+    ap (λ x. place_in (slice_index_or (map order_of machines) number Nothing) x) (machine_here machines number m here)
+    ∙ ap (λ order. place_in order (shown m)) (order_here machines number m here)
+
+-- no step says that there was none
+pub never_idle : (said : Took) → stepped_of said ≡ stepped.Idle → ⊥
+never_idle took.More is = absurd cc
+never_idle took.Again is = absurd cc
+never_idle took.Done is = absurd cc
+
+-- what was said of the step says that its call has ended
+pub done_only : (said : Took) → stepped_of said ≡ stepped.Done → said ≡ took.Done
+done_only took.More is = absurd cc
+done_only took.Again is = absurd cc
+done_only took.Done is = refl
+
+-- or that it waits
+pub again_only : (said : Took) → stepped_of said ≡ stepped.Again → said ≡ took.Again
+again_only took.More is = absurd cc
+again_only took.Again is = refl
+again_only took.Done is = absurd cc
 
 -- by what the code has read and done
 pub made_from : (config : Config) (words new_words : List ℕ) (machines : List Machine) (number : ℕ) (m n : Machine) (access : Access) (found : ℕ)
@@ -165,3 +206,56 @@ shown_by_none c words machines shows = record { run = opening_run c []; shows = 
 pub machines_count : (c : Config) (machines : List Machine) → map shown machines ≡ map (opening_machine c) (range_with_len 0 (seat_count c.mutators c.helpers)) → length machines ≡ seat_count c.mutators c.helpers
 machines_count c machines machines_are =
     sym (length-map machines shown) ∙ ap length machines_are ∙ sym (ap length (first_machines c)) ∙ length-map (opening c).machines (λ a. a.machine) ∙ first_count c
+
+-- what its step says, by what the code has read
+module _ (config : Config) (words : List ℕ) (machines : List Machine) (number : ℕ) (m : Machine) (access : Access) (found : ℕ) (said : Took) (result : Stepped)
+    (here : slice_get machines number ≡ Some m) (heap : heap_of m ≡ config) (takes : has_turn m ≡ true) (row : access ≡ plan_of (heap_of m) (order_of m) (shown m))
+    (found_is : found ≡ slice_index words (table_index access)) (is : result ≡ stepped_of said) where
+  -- the word that it finds
+  found_here : found ≡ slice_index words (table_index (plan_of config (slice_index_or (map order_of machines) number Nothing) (slice_index_or (map shown machines) number no_machine)))
+  found_here =
+      found_is
+      ∙ ap (λ x. slice_index words (table_index x))
+      (row
+      ∙ ap (λ k. plan_of k (order_of m) (shown m)) heap
+      ∙ ap (λ order. plan_of config order (shown m)) (sym (order_here machines number m here))
+      ∙ ap (λ x. plan_of config (slice_index_or (map order_of machines) number Nothing) x) (sym (machine_here machines number m here)))
+
+  pub says_here : answer_of (heap_of m) (shown m) found ≡ Some said
+      → result ≡ says config (slice_index_or (map shown machines) number no_machine) (slice_index words (table_index (plan_of config (slice_index_or (map order_of machines) number Nothing) (slice_index_or (map shown machines) number no_machine))))
+  says_here answer =
+      is
+      ∙ sym (ap stepped_by answer)
+      ∙ ap (λ k. says k (shown m) found) heap
+      ∙ ap (λ x. says config x found) (sym (machine_here machines number m here))
+      ∙ ap (λ got. says config (slice_index_or (map shown machines) number no_machine) got) found_here
+
+  pub done_here : (said ≡ took.Done) ↔ ((is_mutating (shown m) ≡ true) × (place_in (order_of m) (shown m) ≡ LV))
+      → (result ≡ stepped.Done) ↔ ((takes_of (slice_index_or (map shown machines) number no_machine) (slice_index_or (map order_of machines) number Nothing) ≡ true) × (is_mutating (slice_index_or (map shown machines) number no_machine) ≡ true) × (place_in (slice_index_or (map order_of machines) number Nothing) (slice_index_or (map shown machines) number no_machine) ≡ LV))
+  done_here done =
+      let machine = machine_here machines number m here in
+      let place = place_here machines number m here in (
+        λ ends.
+            let both = done.0 (done_only said (sym is ∙ ends)) in
+            (turn_here machines number m here ∙ takes, ap is_mutating machine ∙ both.0, place ∙ both.1),
+        λ all. is ∙ ap stepped_of (done.1 (sym (ap is_mutating machine) ∙ all.1, sym place ∙ all.2)),
+      )
+
+  pub again_here : (said ≡ took.Again) ↔ WaitsIn (heap_of m) (shown m) found
+      → (result ≡ stepped.Again) ↔ ((takes_of (slice_index_or (map shown machines) number no_machine) (slice_index_or (map order_of machines) number Nothing) ≡ true) × WaitsIn config (slice_index_or (map shown machines) number no_machine) (slice_index words (table_index (plan_of config (slice_index_or (map order_of machines) number Nothing) (slice_index_or (map shown machines) number no_machine)))))
+  again_here again =
+      let machine = machine_here machines number m here in (
+        λ waits. (
+          turn_here machines number m here ∙ takes,
+          subst (λ got. WaitsIn config (slice_index_or (map shown machines) number no_machine) got) found_here
+              (subst (λ x. WaitsIn config x found) (sym machine)
+              (subst (λ k. WaitsIn k (shown m) found) heap (again.0 (again_only said (sym is ∙ waits))))),
+        ),
+        λ all.
+            is
+            ∙ ap stepped_of
+            (again.1
+            (subst (λ k. WaitsIn k (shown m) found) (sym heap)
+            (subst (λ x. WaitsIn config x found) machine
+            (subst (λ got. WaitsIn config (slice_index_or (map shown machines) number no_machine) got) (sym found_here) all.1)))),
+      )

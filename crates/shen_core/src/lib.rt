@@ -8,8 +8,3 @@ mod run;
 pub use heap_machines::Stepped;
 pub use plain::Plain;
 pub use run::Ran;
-
-#[cfg(test)]
-mod mark_tests;
-#[cfg(test)]
-mod tests;

@@ -1,10 +1,19 @@
-use Rattle.std.proofs.Common.{sym, ◌∙◌, subst}
+use Rattle.std.proofs.Common.{◌≡◌, true, Some, refl, sym, ap, ◌∙◌, subst}
+use Rattle.std.specs.Prelude.{◌↔◌}
+use Rattle.std.proofs.lemmas.Bool.{false≢true}
 use Rattle.control.specs.Seen.{config_in, seen_control}
+use Rattle.helper.specs.Seen as helpers
+use Rattle.heap_words.specs.declared.access.Took.TheVariants as took
+use Rattle.heap_words.specs.declared.place.Place.TheVariants.{LV}
+use Rattle.step_core.specs.Actor.{mutating, helping, controlling}
 use Rattle.step_core.specs.Fit.{IsFitFor}
+use Rattle.step_core.specs.Machines.{machine_after, answer_of, place_in, WaitsIn}
 use Rattle.heap_machines.specs.declared.machine.Machine.{Machine}
+use Rattle.heap_machines.specs.Pause.{pause_image}
+use Rattle.heap_machines.specs.Roles.{is_mutating}
 use Rattle.heap_machines.specs.Shown.{shown, order_of, heap_of}
 use Rattle.heap_machines.proofs.Fit.{fit_for_control}
-use Rattle.heap_machines.proofs.Replies.{goes_on}
+use Rattle.heap_machines.proofs.Replies.{goes_on, helps_on}
 use Rattle.heap_machines.proofs.machine.Machine.took.Goals as goal
 
 pub took-requires-in-Control-clause-fit : goal.took-requires-in-Control-clause-fit
@@ -17,3 +26,86 @@ pub returns-in-Control-clause-replied : goal.returns-in-Control-clause-replied
 returns-in-Control-clause-replied c = λ done.
     let k = seen_control c.in-Control.control in
     absurd (goes_on (config_in c.in-Control.control) k.seen k.spot c.args.got (sym c.took-in-Control.ensures.says ∙ done))
+
+pub took-requires-clause-fit : goal.took-requires-clause-fit
+took-requires-clause-fit c = subst (λ (m : Machine). IsFitFor (heap_of m) (order_of m) c.args.got (shown m)) c.in-Mutator.is c.requires.fit
+
+pub returns-in-Mutator-clause-shown : goal.returns-in-Mutator-clause-shown
+returns-in-Mutator-clause-shown c =
+    ap mutating c.took.ensures.seen ∙ ap (λ (m : Machine). machine_after pause_image (heap_of m) (order_of m) c.args.got (shown m)) (sym c.in-Mutator.is)
+
+pub returns-in-Mutator-clause-order : goal.returns-in-Mutator-clause-order
+returns-in-Mutator-clause-order c = c.took.ensures.order
+
+pub returns-in-Mutator-clause-heap : goal.returns-in-Mutator-clause-heap
+returns-in-Mutator-clause-heap c = c.took.ensures.config ∙ ap heap_of (sym c.in-Mutator.is)
+
+pub returns-in-Mutator-clause-answer : goal.returns-in-Mutator-clause-answer
+returns-in-Mutator-clause-answer c =
+    ap (λ (m : Machine). answer_of (heap_of m) (shown m) c.args.got) c.in-Mutator.is ∙ ap Some (sym c.took.ensures.answer)
+
+pub returns-in-Mutator-clause-done : goal.returns-in-Mutator-clause-done
+returns-in-Mutator-clause-done c =
+    subst (λ (m : Machine). (c.took.result ≡ took.Done) ↔ ((is_mutating (shown m) ≡ true) × (place_in (order_of m) (shown m) ≡ LV))) (sym c.in-Mutator.is)
+    (λ done. (refl, c.took.ensures.done.0 done), λ both. c.took.ensures.done.1 both.1)
+
+pub returns-in-Mutator-clause-replied : goal.returns-in-Mutator-clause-replied
+returns-in-Mutator-clause-replied c = c.took.ensures.replied
+
+pub returns-in-Mutator-clause-again : goal.returns-in-Mutator-clause-again
+returns-in-Mutator-clause-again c =
+    subst (λ (m : Machine). (c.took.result ≡ took.Again) ↔ WaitsIn (heap_of m) (shown m) c.args.got) (sym c.in-Mutator.is) c.took.ensures.again
+
+pub took-requires-in-Helper-clause-fit : goal.took-requires-in-Helper-clause-fit
+took-requires-in-Helper-clause-fit c = subst (λ (m : Machine). IsFitFor (heap_of m) (order_of m) c.args.got (shown m)) c.in-Helper.is c.requires.fit
+
+pub returns-in-Helper-clause-shown : goal.returns-in-Helper-clause-shown
+returns-in-Helper-clause-shown c =
+    ap helping c.took-in-Helper.ensures.row ∙ ap (λ (m : Machine). machine_after pause_image (heap_of m) (order_of m) c.args.got (shown m)) (sym c.in-Helper.is)
+
+pub returns-in-Helper-clause-order : goal.returns-in-Helper-clause-order
+returns-in-Helper-clause-order c = refl
+
+pub returns-in-Helper-clause-heap : goal.returns-in-Helper-clause-heap
+returns-in-Helper-clause-heap c = c.took-in-Helper.ensures.config ∙ ap heap_of (sym c.in-Helper.is)
+
+pub returns-in-Helper-clause-answer : goal.returns-in-Helper-clause-answer
+returns-in-Helper-clause-answer c =
+    ap (λ (m : Machine). answer_of (heap_of m) (shown m) c.args.got) c.in-Helper.is ∙ ap Some (sym c.took-in-Helper.ensures.says)
+
+pub returns-in-Helper-clause-done : goal.returns-in-Helper-clause-done
+returns-in-Helper-clause-done c =
+    subst (λ (m : Machine). (c.took-in-Helper.result ≡ took.Done) ↔ ((is_mutating (shown m) ≡ true) × (place_in (order_of m) (shown m) ≡ LV))) (sym c.in-Helper.is)
+    (λ done. absurd (helps_on (helpers.config_of c.in-Helper.helper) (helpers.seen_helper c.in-Helper.helper).spot c.args.got (sym c.took-in-Helper.ensures.says ∙ done)), λ both. absurd (false≢true both.0))
+
+pub returns-in-Helper-clause-replied : goal.returns-in-Helper-clause-replied
+returns-in-Helper-clause-replied c = λ done.
+    absurd (helps_on (helpers.config_of c.in-Helper.helper) (helpers.seen_helper c.in-Helper.helper).spot c.args.got (sym c.took-in-Helper.ensures.says ∙ done))
+
+pub returns-in-Helper-clause-again : goal.returns-in-Helper-clause-again
+returns-in-Helper-clause-again c =
+    subst (λ (m : Machine). (c.took-in-Helper.result ≡ took.Again) ↔ WaitsIn (heap_of m) (shown m) c.args.got) (sym c.in-Helper.is) c.took-in-Helper.ensures.again
+
+pub returns-in-Control-clause-shown : goal.returns-in-Control-clause-shown
+returns-in-Control-clause-shown c =
+    ap controlling c.took-in-Control.ensures.row ∙ ap (λ (m : Machine). machine_after pause_image (heap_of m) (order_of m) c.args.got (shown m)) (sym c.in-Control.is)
+
+pub returns-in-Control-clause-order : goal.returns-in-Control-clause-order
+returns-in-Control-clause-order c = refl
+
+pub returns-in-Control-clause-heap : goal.returns-in-Control-clause-heap
+returns-in-Control-clause-heap c = c.took-in-Control.ensures.config ∙ ap heap_of (sym c.in-Control.is)
+
+pub returns-in-Control-clause-answer : goal.returns-in-Control-clause-answer
+returns-in-Control-clause-answer c =
+    ap (λ (m : Machine). answer_of (heap_of m) (shown m) c.args.got) c.in-Control.is ∙ ap Some (sym c.took-in-Control.ensures.says)
+
+pub returns-in-Control-clause-done : goal.returns-in-Control-clause-done
+returns-in-Control-clause-done c =
+    let k = seen_control c.in-Control.control in
+    subst (λ (m : Machine). (c.took-in-Control.result ≡ took.Done) ↔ ((is_mutating (shown m) ≡ true) × (place_in (order_of m) (shown m) ≡ LV))) (sym c.in-Control.is)
+    (λ done. absurd (goes_on (config_in c.in-Control.control) k.seen k.spot c.args.got (sym c.took-in-Control.ensures.says ∙ done)), λ both. absurd (false≢true both.0))
+
+pub returns-in-Control-clause-again : goal.returns-in-Control-clause-again
+returns-in-Control-clause-again c =
+    subst (λ (m : Machine). (c.took-in-Control.result ≡ took.Again) ↔ WaitsIn (heap_of m) (shown m) c.args.got) (sym c.in-Control.is) c.took-in-Control.ensures.again

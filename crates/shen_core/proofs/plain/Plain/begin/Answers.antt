@@ -1,7 +1,8 @@
-use Rattle.std.proofs.Common.{sym, ap, ◌∙◌, subst, arith}
+use Rattle.shen_graph.specs.declared.order.Order.TheVariants.{Begin}
+use Rattle.std.proofs.Common.{sym, ap, ◌∙◌, subst, arith, ◌<◌, refl}
 use Rattle.std.proofs.lemmas.List.{length-set}
 use Rattle.std.proofs.Math.Logic.{∥∥₁_map}
-use Rattle.step_core.specs.Machines.{may_begin}
+use Rattle.step_core.specs.Machines.{may_begin, made_of_machine, takes_of}
 use Rattle.shen_core.specs.Runs.{IsShownBySome}
 use Rattle.shen_core.proofs.Memory.{from_read, machine_here, ordered_machines, ordered_orders, ordered_heap}
 use Rattle.shen_core.proofs.plain.Plain.begin.Goals as goal
@@ -30,3 +31,27 @@ pub returns-clause-machines : goal.returns-clause-machines
 returns-clause-machines c =
     let here = from_read c.args.self.now.machines.items c.args.number c.index_mut.result.now (omega (arith, c.args.self.now.all_machines, c.requires.number)) c.index_mut.ensures.value in
     ordered_machines c.args.self.now.machines.items c.args.number c.index_mut.result.now c.begin.new.self here c.begin.ensures.shown
+
+pub index_mut-requires : goal.index_mut-requires
+index_mut-requires c =
+    let p = c.args.self.now in
+    omega (arith, p.all_machines, c.requires.number)
+
+pub begin-requires-clause-valid : goal.begin-requires-clause-valid
+begin-requires-clause-valid c = c.requires.valid
+
+pub begin-requires-clause-made : goal.begin-requires-clause-made
+begin-requires-clause-made c =
+    let here = from_read c.args.self.now.machines.items c.args.number c.index_mut.result.now (omega (arith, c.args.self.now.all_machines, c.requires.number)) c.index_mut.ensures.value in
+    subst (λ n. n < 4294967295) (ap made_of_machine (machine_here c.args.self.now.machines.items c.args.number c.index_mut.result.now here)) c.requires.made
+
+pub returns-clause-takes : goal.returns-clause-takes
+returns-clause-takes c =
+    let here = from_read c.args.self.now.machines.items c.args.number c.index_mut.result.now (omega (arith, c.args.self.now.all_machines, c.requires.number)) c.index_mut.ensures.value in
+    ap (λ x. takes_of x (Begin c.args.command)) (machine_here c.args.self.now.machines.items c.args.number c.index_mut.result.now here) ∙ c.begin.ensures.takes
+
+pub returns-clause-words : goal.returns-clause-words
+returns-clause-words c = refl
+
+pub returns-clause-config : goal.returns-clause-config
+returns-clause-config c = refl

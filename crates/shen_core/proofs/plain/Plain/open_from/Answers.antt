@@ -35,3 +35,9 @@ returns-clause-begins c = begins_from c.args.image.config c.args.image.words.ite
 
 pub returns-clause-orders : goal.returns-clause-orders
 returns-clause-orders c = opened_orders c.of.result (map order_of c.in_ok-machines.machines.items) c.of.ensures.orders (All-map (λ order. order ≡ Nothing) order_of c.in_ok-machines.machines.items c.in_ok-machines.ensures.orders)
+
+pub machines_from-requires : goal.machines_from-requires
+machines_from-requires c = c.requires.counts
+
+pub returns-clause-config : goal.returns-clause-config
+returns-clause-config c = c.of.ensures.config ∙ c.config-config.ensures

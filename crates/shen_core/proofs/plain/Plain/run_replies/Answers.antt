@@ -46,3 +46,27 @@ pub returns-after-loop-left-clause-task : goal.returns-after-loop-left-clause-ta
 returns-after-loop-left-clause-task c = λ tasks from.
     runs_then c.args.self.now c.loop-left.self c.loop-left.self c.args.work.now c.loop-left.work c.loop-left.work _ (agenda (replies c.args.number c.args.count ∷ tasks) from) (agenda tasks from) _ c.loop-left.left _ c.loop-left.invariant.config (c.loop-left.invariant.runs tasks from)
     (runs_out c.loop-left.self c.loop-left.work _ _ c.loop-left.left (omega arith))
+
+pub turn-requires-clause-run : goal.turn-requires-clause-run
+turn-requires-clause-run c = c.loop-left.invariant.run
+
+pub returns-in-Idle-clause-run : goal.returns-in-Idle-clause-run
+returns-in-Idle-clause-run c = c.turn.ensures.run
+
+pub returns-in-Idle-clause-config : goal.returns-in-Idle-clause-config
+returns-in-Idle-clause-config c = c.turn.ensures.config ∙ c.loop-left.invariant.config
+
+pub run_control-left-requires : goal.run_control-left-requires
+run_control-left-requires c = c.turn.ensures.run
+
+pub returns-else-list-count-clause-run : goal.returns-else-list-count-clause-run
+returns-else-list-count-clause-run c = c.loop-left.invariant.run
+
+pub returns-else-list-count-clause-config : goal.returns-else-list-count-clause-config
+returns-else-list-count-clause-config c = c.loop-left.invariant.config
+
+pub returns-after-loop-left-clause-run : goal.returns-after-loop-left-clause-run
+returns-after-loop-left-clause-run c = c.loop-left.invariant.run
+
+pub returns-after-loop-left-clause-config : goal.returns-after-loop-left-clause-config
+returns-after-loop-left-clause-config c = c.loop-left.invariant.config

@@ -53,3 +53,24 @@ returns-clause-round c =
     let at : c.loop-number.number ≡ seat_count (config_of c.loop-number.self).mutators (config_of c.loop-number.self).helpers = omega (arith, c.seats-seats.ensures, c.loop-number-test.false, seats) in
     runs_then c.args.self.now c.loop-number.self c.loop-number.self c.args.work.now c.loop-number.work c.loop-number.work _ _ (agenda [] 0) _ c.loop-number.left _ c.loop-number.invariant.config c.loop-number.invariant.runs
     (subst (λ n. Runs c.loop-number.self c.loop-number.work (agenda [] n) c.loop-number.left c.loop-number.self c.loop-number.work (agenda [] 0) c.loop-number.left) (sym at) (round_ends c.loop-number.self c.loop-number.work c.loop-number.left))
+
+pub returns-then-left-eq0-clause-run : goal.returns-then-left-eq0-clause-run
+returns-then-left-eq0-clause-run c = c.loop-number.invariant.run
+
+pub returns-then-left-eq0-clause-config : goal.returns-then-left-eq0-clause-config
+returns-then-left-eq0-clause-config c = c.loop-number.invariant.config
+
+pub returns-then-left-eq0-clause-less : goal.returns-then-left-eq0-clause-less
+returns-then-left-eq0-clause-less c = c.loop-number.invariant.less
+
+pub turn-requires-clause-run : goal.turn-requires-clause-run
+turn-requires-clause-run c = c.loop-number.invariant.run
+
+pub returns-clause-run : goal.returns-clause-run
+returns-clause-run c = c.loop-number.invariant.run
+
+pub returns-clause-config : goal.returns-clause-config
+returns-clause-config c = c.loop-number.invariant.config
+
+pub returns-clause-less : goal.returns-clause-less
+returns-clause-less c = c.loop-number.invariant.less

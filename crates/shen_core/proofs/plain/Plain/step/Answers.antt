@@ -1,24 +1,17 @@
-use Rattle.std.proofs.Common.{◌≡◌, not, length, refl, sym, ap, ◌∙◌, subst, arith}
+use Rattle.std.proofs.Common.{◌≡◌, ◌<◌, not, length, map, All, refl, sym, ap, ◌∙◌, subst, arith}
 use Rattle.std.specs.Prelude.{slice_index}
+use Rattle.std.proofs.lemmas.Bool.{false≢true}
 use Rattle.std.proofs.lemmas.List.{length-set}
 use Rattle.std.proofs.Math.Logic.{∥∥₁_map}
 use Rattle.heap_words.specs.Access.{table_index}
-use Rattle.heap_words.specs.declared.access.Took.{Took}
-use Rattle.heap_words.specs.declared.access.Took.TheVariants as took
-use Rattle.heap_machines.specs.declared.stepped.Stepped.TheVariants as stepped
-use Rattle.heap_machines.specs.Answer.{stepped_of}
-use Rattle.heap_machines.specs.Shown.{shown, order_of}
+use Rattle.heap_words.specs.Words.{table_words}
+use Rattle.heap_machines.specs.Shown.{shown, order_of, heap_of}
 use Rattle.step_core.specs.Machines.{plan_of, reply_in}
 use Rattle.step_core.specs.Fit.{IsFitFor}
-use Rattle.shen_core.proofs.Memory.{from_read, shown_here, heap_here, machine_now, made_from, made_step, made_shown, made_heap, made_orders, made_machines}
+use Rattle.shen_core.specs.Runs.{IsShownBySome}
+use Rattle.shen_core.proofs.Memory.{from_read, put_back, shown_here, heap_here, machine_now, made_from, made_step, made_shown, made_heap, made_orders, made_machines, turn_here, never_idle, done_only, says_here, done_here, again_here}
 use Rattle.shen_core.proofs.Turns.{fit_shown}
 use Rattle.shen_core.proofs.plain.Plain.step.Goals as goal
-
--- what was said of the step says that its call has ended
-done_only : (said : Took) → stepped_of said ≡ stepped.Done → said ≡ took.Done
-done_only took.More is = absurd cc
-done_only took.Again is = absurd cc
-done_only took.Done is = refl
 
 pub took-requires-clause-fit : goal.took-requires-clause-fit
 took-requires-clause-fit c =
@@ -84,3 +77,159 @@ returns-clause-replied c = λ done none.
     let m = c.index_mut-machine.result.now in
     let here = from_read p.machines.items c.args.number m (omega (arith, p.all_machines, c.requires)) c.index_mut-machine.ensures.value in
     c.took.ensures.replied (done_only c.took.result (sym c.of.ensures ∙ done)) (sym (ap reply_in (machine_now p.machines.items c.args.number m c.took.new.self here)) ∙ none)
+
+pub index_mut-machine-requires : goal.index_mut-machine-requires
+index_mut-machine-requires c =
+    let p = c.args.self.now in
+    omega (arith, p.all_machines, c.requires)
+
+pub invariant_of-self : goal.invariant_of-self
+invariant_of-self c =
+    let p = c.args.self.now in
+    let m = c.index_mut-machine.result.now in
+    let back = put_back p.machines.items c.args.number m c.index_mut-machine.ensures.value in
+    record {
+      all_words = p.all_words;
+      all_machines = length-set p.machines.items _ _ ∙ p.all_machines;
+      one_heap = subst (λ xs. All (λ x. heap_of x ≡ p.config) xs) (sym back) p.one_heap;
+      reached = subst (λ xs. ∥ IsShownBySome p.config p.words.items (map shown xs) ∥₁) (sym back) p.reached;
+    }
+
+pub returns-then-is_idle-clause-idle : goal.returns-then-is_idle-clause-idle
+returns-then-is_idle-clause-idle c =
+    let p = c.args.self.now in
+    let m = c.index_mut-machine.result.now in
+    let here = from_read p.machines.items c.args.number m (omega (arith, p.all_machines, c.requires)) c.index_mut-machine.ensures.value in
+    let none = turn_here p.machines.items c.args.number m here ∙ c.is_idle.ensures ∙ ap not c.if-is_idle.true in
+    (λ _. none, λ _. refl)
+
+pub returns-then-is_idle-clause-unchanged : goal.returns-then-is_idle-clause-unchanged
+returns-then-is_idle-clause-unchanged c = λ none.
+    let back = put_back c.args.self.now.machines.items c.args.number c.index_mut-machine.result.now c.index_mut-machine.ensures.value in
+    record { config = refl; words = refl; machines = ap (map shown) back; orders = ap (map order_of) back }
+
+pub returns-then-is_idle-clause-event : goal.returns-then-is_idle-clause-event
+returns-then-is_idle-clause-event c =
+    λ turn.
+    let p = c.args.self.now in
+    let m = c.index_mut-machine.result.now in
+    let here = from_read p.machines.items c.args.number m (omega (arith, p.all_machines, c.requires)) c.index_mut-machine.ensures.value in
+    let none = turn_here p.machines.items c.args.number m here ∙ c.is_idle.ensures ∙ ap not c.if-is_idle.true in
+    absurd (false≢true (sym none ∙ turn))
+
+pub returns-then-is_idle-clause-says : goal.returns-then-is_idle-clause-says
+returns-then-is_idle-clause-says c =
+    λ turn.
+    let p = c.args.self.now in
+    let m = c.index_mut-machine.result.now in
+    let here = from_read p.machines.items c.args.number m (omega (arith, p.all_machines, c.requires)) c.index_mut-machine.ensures.value in
+    let none = turn_here p.machines.items c.args.number m here ∙ c.is_idle.ensures ∙ ap not c.if-is_idle.true in
+    absurd (false≢true (sym none ∙ turn))
+
+pub returns-then-is_idle-clause-machines : goal.returns-then-is_idle-clause-machines
+returns-then-is_idle-clause-machines c =
+    λ turn.
+    let p = c.args.self.now in
+    let m = c.index_mut-machine.result.now in
+    let here = from_read p.machines.items c.args.number m (omega (arith, p.all_machines, c.requires)) c.index_mut-machine.ensures.value in
+    let none = turn_here p.machines.items c.args.number m here ∙ c.is_idle.ensures ∙ ap not c.if-is_idle.true in
+    absurd (false≢true (sym none ∙ turn))
+
+pub returns-then-is_idle-clause-orders : goal.returns-then-is_idle-clause-orders
+returns-then-is_idle-clause-orders c =
+    λ turn.
+    let p = c.args.self.now in
+    let m = c.index_mut-machine.result.now in
+    let here = from_read p.machines.items c.args.number m (omega (arith, p.all_machines, c.requires)) c.index_mut-machine.ensures.value in
+    let none = turn_here p.machines.items c.args.number m here ∙ c.is_idle.ensures ∙ ap not c.if-is_idle.true in
+    absurd (false≢true (sym none ∙ turn))
+
+pub returns-then-is_idle-clause-config : goal.returns-then-is_idle-clause-config
+returns-then-is_idle-clause-config c =
+    refl
+
+pub returns-then-is_idle-clause-done : goal.returns-then-is_idle-clause-done
+returns-then-is_idle-clause-done c =
+    let p = c.args.self.now in
+    let m = c.index_mut-machine.result.now in
+    let here = from_read p.machines.items c.args.number m (omega (arith, p.all_machines, c.requires)) c.index_mut-machine.ensures.value in
+    let none = turn_here p.machines.items c.args.number m here ∙ c.is_idle.ensures ∙ ap not c.if-is_idle.true in
+    (λ is. absurd cc, λ all. absurd (false≢true (sym none ∙ all.0)))
+
+pub returns-then-is_idle-clause-replied : goal.returns-then-is_idle-clause-replied
+returns-then-is_idle-clause-replied c =
+    λ is. absurd cc
+
+pub returns-then-is_idle-clause-again : goal.returns-then-is_idle-clause-again
+returns-then-is_idle-clause-again c =
+    let p = c.args.self.now in
+    let m = c.index_mut-machine.result.now in
+    let here = from_read p.machines.items c.args.number m (omega (arith, p.all_machines, c.requires)) c.index_mut-machine.ensures.value in
+    let none = turn_here p.machines.items c.args.number m here ∙ c.is_idle.ensures ∙ ap not c.if-is_idle.true in
+    (λ is. absurd cc, λ all. absurd (false≢true (sym none ∙ all.0)))
+
+pub plan-requires : goal.plan-requires
+plan-requires c =
+    c.is_idle.ensures ∙ ap not c.if-is_idle.false
+
+pub make_access-found-requires : goal.make_access-found-requires
+make_access-found-requires c =
+    let p = c.args.self.now in
+    let m = c.index_mut-machine.result.now in
+    let here = from_read p.machines.items c.args.number m (omega (arith, p.all_machines, c.requires)) c.index_mut-machine.ensures.value in
+    let heap = heap_here p.config p.machines.items c.args.number m p.one_heap here in
+    let below = subst (λ n. table_index c.plan.result < n) (ap table_words heap ∙ sym p.all_words) c.plan.ensures.inside in
+    subst (λ n. table_index c.plan.result < n) (sym p.words.ok.0) below
+
+pub took-requires-clause-busy : goal.took-requires-clause-busy
+took-requires-clause-busy c =
+    c.is_idle.ensures ∙ ap not c.if-is_idle.false
+
+pub returns-clause-idle : goal.returns-clause-idle
+returns-clause-idle c =
+    let p = c.args.self.now in
+    let m = c.index_mut-machine.result.now in
+    let here = from_read p.machines.items c.args.number m (omega (arith, p.all_machines, c.requires)) c.index_mut-machine.ensures.value in
+    let turn = turn_here p.machines.items c.args.number m here ∙ c.is_idle.ensures ∙ ap not c.if-is_idle.false in
+    (λ is. absurd (never_idle c.took.result (sym c.of.ensures ∙ is)), λ none. absurd (false≢true (sym none ∙ turn)))
+
+pub returns-clause-unchanged : goal.returns-clause-unchanged
+returns-clause-unchanged c =
+    λ none.
+    let p = c.args.self.now in
+    let m = c.index_mut-machine.result.now in
+    let here = from_read p.machines.items c.args.number m (omega (arith, p.all_machines, c.requires)) c.index_mut-machine.ensures.value in
+    let turn = turn_here p.machines.items c.args.number m here ∙ c.is_idle.ensures ∙ ap not c.if-is_idle.false in
+    absurd (false≢true (sym none ∙ turn))
+
+pub returns-clause-says : goal.returns-clause-says
+returns-clause-says c =
+    λ turn.
+    let p = c.args.self.now in
+    let m = c.index_mut-machine.result.now in
+    let here = from_read p.machines.items c.args.number m (omega (arith, p.all_machines, c.requires)) c.index_mut-machine.ensures.value in
+    let heap = heap_here p.config p.machines.items c.args.number m p.one_heap here in
+    says_here p.config p.words.items p.machines.items c.args.number m c.plan.result c.make_access-found.result c.took.result c.of.result here heap (c.is_idle.ensures ∙ ap not c.if-is_idle.false) c.plan.ensures.row
+    c.make_access-found.ensures.got c.of.ensures c.took.ensures.answer
+
+pub returns-clause-config : goal.returns-clause-config
+returns-clause-config c =
+    refl
+
+pub returns-clause-done : goal.returns-clause-done
+returns-clause-done c =
+    let p = c.args.self.now in
+    let m = c.index_mut-machine.result.now in
+    let here = from_read p.machines.items c.args.number m (omega (arith, p.all_machines, c.requires)) c.index_mut-machine.ensures.value in
+    let heap = heap_here p.config p.machines.items c.args.number m p.one_heap here in
+    done_here p.config p.words.items p.machines.items c.args.number m c.plan.result c.make_access-found.result c.took.result c.of.result here heap (c.is_idle.ensures ∙ ap not c.if-is_idle.false) c.plan.ensures.row
+    c.make_access-found.ensures.got c.of.ensures c.took.ensures.done
+
+pub returns-clause-again : goal.returns-clause-again
+returns-clause-again c =
+    let p = c.args.self.now in
+    let m = c.index_mut-machine.result.now in
+    let here = from_read p.machines.items c.args.number m (omega (arith, p.all_machines, c.requires)) c.index_mut-machine.ensures.value in
+    let heap = heap_here p.config p.machines.items c.args.number m p.one_heap here in
+    again_here p.config p.words.items p.machines.items c.args.number m c.plan.result c.make_access-found.result c.took.result c.of.result here heap (c.is_idle.ensures ∙ ap not c.if-is_idle.false) c.plan.ensures.row
+    c.make_access-found.ensures.got c.of.ensures c.took.ensures.again

@@ -1,4 +1,6 @@
-use Rattle.std.proofs.Common.{sym, ◌∙◌, subst, arith}
+use Rattle.std.proofs.lemmas.Bool.{false≢true}
+use Rattle.heap_words.specs.Ranges.{seat_count}
+use Rattle.std.proofs.Common.{sym, ◌∙◌, subst, arith, refl, ◌<◌}
 use Rattle.std.proofs.lemmas.List.{length-map}
 use Rattle.heap_machines.specs.Shown.{shown}
 use Rattle.shen_core.specs.State.{order_at, machines_of}
@@ -169,3 +171,42 @@ returns-in_default-clause-turned c =
       config = c.step-stepped.ensures.config;
     } in
     turned_on _ _ _ _ _ _ facts (none_given _ _ _ _ _ _ facts (λ done. c.in_default.not-Done done))
+
+pub order_next-requires-clause-number : goal.order_next-requires-clause-number
+order_next-requires-clause-number c = c.requires.number
+
+pub order_next-requires-clause-run : goal.order_next-requires-clause-run
+order_next-requires-clause-run c = c.requires.run
+
+pub returns-then-not-order_next-clause-config : goal.returns-then-not-order_next-clause-config
+returns-then-not-order_next-clause-config c = c.order_next.ensures.config
+
+pub returns-then-not-order_next-clause-idle_work : goal.returns-then-not-order_next-clause-idle_work
+returns-then-not-order_next-clause-idle_work c = λ _. refl
+
+pub reply-requires-clause-number : goal.reply-requires-clause-number
+reply-requires-clause-number c = subst (λ k. c.args.number < seat_count k.mutators k.helpers) (sym (c.step-stepped.ensures.config ∙ c.order_next.ensures.config)) c.requires.number
+
+pub step-stepped-requires : goal.step-stepped-requires
+step-stepped-requires c = subst (λ k. c.args.number < seat_count k.mutators k.helpers) (sym c.order_next.ensures.config) c.requires.number
+
+pub returns-in-Done-clause-config : goal.returns-in-Done-clause-config
+returns-in-Done-clause-config c = c.step-stepped.ensures.config ∙ c.order_next.ensures.config
+
+pub returns-in-Done-clause-idle : goal.returns-in-Done-clause-idle
+returns-in-Done-clause-idle c = λ idle. absurd (false≢true (sym (c.step-stepped.ensures.idle.0 idle) ∙ c.order_next.ensures.has ∙ c.if-not-order_next.false))
+
+pub returns-in-Done-clause-idle_work : goal.returns-in-Done-clause-idle_work
+returns-in-Done-clause-idle_work c = λ idle. absurd (false≢true (sym (c.step-stepped.ensures.idle.0 idle) ∙ c.order_next.ensures.has ∙ c.if-not-order_next.false))
+
+pub returns-in_default-clause-config : goal.returns-in_default-clause-config
+returns-in_default-clause-config c = c.step-stepped.ensures.config ∙ c.order_next.ensures.config
+
+pub returns-in_default-clause-idle : goal.returns-in_default-clause-idle
+returns-in_default-clause-idle c = λ idle. absurd (false≢true (sym (c.step-stepped.ensures.idle.0 idle) ∙ c.order_next.ensures.has ∙ c.if-not-order_next.false))
+
+pub returns-in_default-clause-idle_work : goal.returns-in_default-clause-idle_work
+returns-in_default-clause-idle_work c = λ _. refl
+
+pub returns-then-not-order_next-clause-idle : goal.returns-then-not-order_next-clause-idle
+returns-then-not-order_next-clause-idle c = λ _. record { config = c.order_next.ensures.config; words = c.order_next.ensures.words; machines = c.order_next.ensures.machines; orders = c.order_next.ensures.unchanged c.if-not-order_next.true }

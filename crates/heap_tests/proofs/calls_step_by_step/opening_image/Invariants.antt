@@ -1,6 +1,6 @@
 use Rattle.std.proofs.Common.{◌≡◌, take}
 use Rattle.image_graph.specs.State.{config_of, words_of}
-use Rattle.shen_core.proofs.tests.opening_image.Given as goal
+use Rattle.heap_tests.proofs.calls_step_by_step.opening_image.Given as goal
 
 abbrev pub invariant-loop-at : goal.invariant-loop-at
 invariant-loop-at l = record {

@@ -1,0 +1,36 @@
+use Rattle.std.proofs.Common.{◌≡◌, ◌<◌, false, Option, Some, None, refl, sym, ap, ◌∙◌, subst, arith}
+use Rattle.std.specs.Prelude.{is_some}
+use Rattle.std.proofs.lemmas.Bool.{false≢true}
+use borrow.Author.Count.{below_more}
+use Rattle.step_core.specs.Schedule.{turn}
+use Rattle.shen_core.proofs.plain.Plain.any_next.Goals as goal
+
+none_there : {A : Type 0} → (o : Option A) → is_some o ≡ false → o ≡ None
+none_there None is = refl
+none_there (Some x) is = absurd cc
+
+pub loop-number-init : goal.loop-number-init
+loop-number-init c = λ scripts s shows k below. absurd (omega arith)
+
+pub has_next-requires-clause-number : goal.has_next-requires-clause-number
+has_next-requires-clause-number c = subst (λ n. c.loop-number.number < n) c.seats-number-end.ensures c.loop-number-test.true
+
+pub returns-then-has_next-clause-busy : goal.returns-then-has_next-clause-busy
+returns-then-has_next-clause-busy c = λ _ jobs scripts s shows tells idle. false≢true (sym (ap is_some (idle c.loop-number.number (subst (λ n. c.loop-number.number < n) c.seats-number-end.ensures c.loop-number-test.true))) ∙ c.has_next.ensures scripts s shows ∙ c.if-has_next.true)
+
+pub loop-number-preserved : goal.loop-number-preserved
+loop-number-preserved c =
+    λ scripts s shows.
+    below_more (λ k. turn scripts s k ≡ None) c.loop-number.number (c.loop-number.invariant scripts s shows) (none_there _ (c.has_next.ensures scripts s shows ∙ c.if-has_next.false))
+
+pub returns-clause-idle : goal.returns-clause-idle
+returns-clause-idle c = λ _ jobs scripts s shows tells number below. c.loop-number.invariant scripts s shows number (omega (arith, c.seats-number-end.ensures))
+
+pub has_next-requires-clause-orders : goal.has_next-requires-clause-orders
+has_next-requires-clause-orders c = c.requires
+
+pub returns-then-has_next-clause-idle : goal.returns-then-has_next-clause-idle
+returns-then-has_next-clause-idle c = λ is. absurd (false≢true (sym is))
+
+pub returns-clause-busy : goal.returns-clause-busy
+returns-clause-busy c = λ is. absurd (false≢true is)
