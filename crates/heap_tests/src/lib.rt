@@ -2,5 +2,6 @@
 #![tactic(auto)]
 
 #[cfg(test)]
-mod collections;
 mod calls_step_by_step;
+#[cfg(test)]
+mod collections;

@@ -2,7 +2,8 @@
 #![tactic(auto)]
 
 #[cfg(test)]
-mod parts_of_calls;
 mod adders;
+#[cfg(test)]
+mod parts_of_calls;
 #[cfg(test)]
 mod units;

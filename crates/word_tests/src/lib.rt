@@ -8,8 +8,12 @@ mod churned;
 #[cfg(test)]
 mod graph;
 #[cfg(test)]
-mod sources_sinks;
 mod packed_heaps;
+#[cfg(test)]
 mod sizes_of_regions;
+#[cfg(test)]
+mod sources_sinks;
+#[cfg(test)]
 mod words_of_tables;
+#[cfg(test)]
 mod written;
