@@ -42,3 +42,6 @@ fn main(rt: HostRuntime) -> ExitCode {
     let status = shenrun(&rt, rt.alloc(), &words, &mut source, &mut sink, &OpenGate);
     ExitCode::from(status.number())
 }
+
+#[cfg(test)]
+mod gates;
