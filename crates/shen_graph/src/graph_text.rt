@@ -6,6 +6,7 @@ ghost use Rattle.shen_graph.specs.TextLayout.{part, row_at, span_length, Within,
 
 use crate::NoMemory;
 use crate::name::Name;
+use crate::roots::alike;
 use std::alloc::Global;
 use std::marker::Model;
 use std::mem;
@@ -104,17 +105,6 @@ fn gather(
     }
 }
 
-// A row of null roots for each of so many threads.
-fn null_roots(alloc: Global, threads: usize) -> Result<Vec<[Option<Name>; 16]>, NoMemory>
-    ensures { IfOk result (λ roots. roots.items ≡ replicate threads (replicate 16 None)) }
-{
-    let mut roots = Vec::with_capacity(alloc, threads)?;
-    for _thread in 0..threads {
-        roots.push([None; 16])?;
-    }
-    Ok(roots)
-}
-
 // Makes all roots null.
 fn make_null(roots: &mut [[Option<Name>; 16]])
     ensures { roots.new ≡ replicate (length roots.old) (replicate 16 None) }
@@ -129,7 +119,7 @@ impl GraphText {
     pub fn open(alloc: Global, words: usize, mutators: usize) -> Result<GraphText, NoMemory>
         ensures { IfOk result (λ text. text ≡ empty words mutators) }
     {
-        let roots = null_roots(alloc, mutators)?;
+        let roots = alike(alloc, mutators, [None; 16])?;
         Ok(GraphText {
             places: Vec::with_capacity(alloc, words / 3)?,
             references: Vec::with_capacity(alloc, words)?,

@@ -12,6 +12,7 @@ mod graph_text;
 mod name;
 mod order;
 mod plain_graph;
+mod roots;
 mod script;
 mod work;
 

@@ -1,9 +1,9 @@
-ghost use Rattle.std.specs.Prelude.{◌≡◌, ◌≢◌, ◌-◌, ◌^◌, ◌<◌, ◌≤◌, length, None, replicate, position, IsSome, IfOk, OnOk, OnErr, slice_get, slice_set};
+ghost use Rattle.std.specs.Prelude.{◌≡◌, ◌≢◌, ◌-◌, ◌^◌, ◌<◌, ◌≤◌, ◌∷◌, length, None, Some, replicate, position, IsSome, IfOk, OnOk, OnErr, slice_get, slice_set};
 ghost use Rattle.std.specs.List.{flat_map};
 ghost use Rattle.shen_graph.specs.declared.command.Command.TheVariants.{Get, Set, Cas, Xchg, Wr};
 ghost use Rattle.shen_graph.specs.declared.command.Reply.TheVariants.{Full};
 ghost use Rattle.shen_graph.specs.Valid.{IsValid};
-ghost use Rattle.shen_graph.specs.Graph.{blank, field_at, number_at, fresh, with_root, with_field, with_number, with_fresh, named, opening, same_name};
+ghost use Rattle.shen_graph.specs.Graph.{blank, field_at, number_at, fresh, with_root, with_field, with_number, with_fresh, hub, named, opening, same_name};
 ghost use Rattle.shen_graph.specs.Step.{answers, outcome, shown, yes_or_no};
 ghost use Rattle.shen_graph.specs.Reach.{IsReach};
 ghost use Rattle.shen_graph.specs.PlainGraph.{graph_of, threads_of, place_of, root_in};
@@ -12,6 +12,7 @@ ghost use Rattle.shen_graph.specs.Found.{with_name, with_names};
 use crate::NoMemory;
 use crate::command::{Command, Reply};
 use crate::name::Name;
+use crate::roots::alike;
 use std::alloc::Global;
 use std::marker::Model;
 
@@ -95,6 +96,17 @@ fn add_names(found: &mut Vec<Name>, references: &[Option<Name>]) -> Result<(), N
         add_name(found, *reference)?;
     }
     Ok(())
+}
+
+// The roots of nobody, and of so many threads that each name the hub.
+fn first_roots(alloc: Global, mutators: u32) -> Result<Vec<[Option<Name>; 16]>, NoMemory>
+    ensures { IfOk result (λ roots. roots.items ≡ replicate 16 None ∷ replicate mutators (Some hub ∷ replicate 15 None)) }
+{
+    let mut first = [None; 16];
+    first[0] = Some(Name::HUB);
+    let mut roots = alike(alloc, mutators as usize + 1, first)?;
+    roots[0] = [None; 16];
+    Ok(roots)
 }
 
 impl Object {
@@ -250,13 +262,7 @@ impl PlainGraph {
         let hub = Object::blank(alloc, Name::HUB, Command::FIELDS, 0)?;
         let mut objects = Vec::new(alloc);
         objects.push(hub)?;
-        let mut first = [None; 16];
-        first[0] = Some(Name::HUB);
-        let mut roots = Vec::new(alloc);
-        roots.push([None; 16])?;
-        for _thread in 0..mutators {
-            roots.push(first)?;
-        }
+        let roots = first_roots(alloc, mutators)?;
         let counts = vec![in alloc; 0; mutators as usize + 1]?;
         Ok(PlainGraph {
             objects,

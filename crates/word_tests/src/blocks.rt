@@ -1,20 +1,9 @@
 //! What a sink has of text that is put into blocks, whole and where a call of the sink fails.
 use shen_base::MemorySink;
-use std::alloc::{AllocError, Global};
 use std::test::Fail;
 use text_writer::Block;
 
-// 900 times a text, and these digits.
-fn text(alloc: Global, digits: &str) -> Result<Vec<u8>, AllocError> {
-    let mut bytes = Vec::new(alloc);
-    for _ in 0..900 {
-        bytes.extend_from_slice(b"abcdefghij")?;
-    }
-    bytes.extend_from_slice(digits.as_bytes())?;
-    Ok(bytes)
-}
-
-// The sink's call that fails, 0 for none; a number and its digits behind the text; and how many bytes are written. The
+// The sink's call that fails, 0 for none; a number and its digits behind 9000 bytes; and how many bytes are written. The
 // sink takes pieces of 1000 bytes: two blocks of 4096 bytes go in five calls each, the rest of 810 bytes in one.
 const ROWS: [(u64, u64, &str, usize); 11] = [
     (0, 0, "0", 9001),
@@ -36,12 +25,14 @@ fn blocks_join_without_a_seam_and_a_fault_leaves_a_front(rt: HostRuntime) -> Res
     for (failing, number, digits, length) in &ROWS {
         let mut sink = MemorySink::with_room(alloc, 10_000, 1000, vec![in alloc; *failing]?)?;
         let mut block = Block::new();
+        let mut text = Vec::new(alloc);
         for _ in 0..900 {
             block.put(&mut sink, b"abcdefghij");
+            text.extend_from_slice(b"abcdefghij")?;
         }
         block.put_number(&mut sink, *number);
+        text.extend_from_slice(digits.as_bytes())?;
         let is_whole = block.finish(&mut sink).is_ok();
-        let text = text(alloc, digits)?;
         assert!(rt;
             is_whole == (*failing == 0) && text.get(..*length) == Some(sink.bytes()),
             "call {failing}, number {number}"

@@ -1,11 +1,7 @@
 //! The scripts of a churn as they are written down, what a plain graph answers to them, and how a run is summed up.
-ghost use Rattle.std.specs.Prelude.{◌≡◌, [], ◌∷◌, IfOk};
-ghost use Rattle.shen_graph.specs.declared.command.Command.TheVariants.{Gc};
-
 use crate::graph::answers;
 use churn::{Summary, churn_scripts, summarize};
-use shen_graph::{Command, GraphText, Name, NoMemory, PlainGraph, Reply, Script, Work};
-use std::alloc::Global;
+use shen_graph::{Command, GraphText, Name, PlainGraph, Reply, Work};
 use std::test::Fail;
 
 // The second thread's script of one round of seed 0.
@@ -94,23 +90,10 @@ fn fifty_rounds_in_a_plain_graph(rt: HostRuntime) -> Result<(), Fail> {
     Ok(())
 }
 
-// A script of one command.
-fn short_script(alloc: Global) -> Result<Script, NoMemory>
-    ensures { IfOk result (λ script. script ≡ Gc ∷ []) }
-{
-    let mut script = Script::open(alloc)?;
-    script.push(alloc, Command::Gc)?;
-    Ok(script)
-}
-
 #[test]
 fn replies_and_objects_are_counted(rt: HostRuntime) -> Result<(), Fail> {
     let alloc = rt.alloc();
-    let scripts = [
-        short_script(alloc)?,
-        short_script(alloc)?,
-        short_script(alloc)?,
-    ];
+    let scripts = churn_scripts(alloc, 0, 0)?;
     let mut work = Work::open(alloc, &scripts)?;
     work.told(0, Reply::Number(5));
     work.told(1, Reply::Bad);

@@ -1,6 +1,6 @@
-use Rattle.std.proofs.Common.{◌≡◌, ◌≢◌, ◌+◌, ◌<◌, map, take, length, get_or, vec_len, arith, refl, sym, ap, ◌∙◌, get_or-set_other}
+use Rattle.std.proofs.Common.{◌≡◌, ◌≢◌, ◌+◌, ◌<◌, ◌≤◌, map, take, length, get_or, vec_len, arith, refl, sym, ap, ◌∙◌, get_or-set_other}
 use Rattle.std.proofs.lemmas.Grind.{common_steps}
-use Rattle.std.proofs.lemmas.List.{get_or_read, take_more_set, map_more}
+use Rattle.std.proofs.lemmas.List.{get_or_read, take_all, take_more_set, map_more}
 use Rattle.std.proofs.lemmas.List.Sums.{sum_by_more, sum_by_more_le}
 use Rattle.shen_graph.specs.declared.graph_text.Span.{Span}
 use Rattle.shen_graph.specs.declared.graph_text.Place.{Place}
@@ -53,3 +53,72 @@ loop-i-preserved c =
       reference_room = omega (arith, inv.reference_room, c.carry-refs.ensures.capacity);
       number_room = omega (arith, inv.number_room, c.carry-nums.ensures.capacity);
     }
+
+pub returns-clause-rows : goal.returns-clause-rows
+returns-clause-rows c =
+    let i = c.loop-i.i in
+    let all : length c.loop-i.places.items ≤ i = omega (arith, c.loop-i.invariant.length) in
+    let whole : length c.args.places.now.items ≤ i = omega arith in
+    rw (take_all i c.loop-i.places.items all, take_all i c.args.places.now.items whole) at c.loop-i.invariant.rows
+
+pub returns-clause-laid : goal.returns-clause-laid
+returns-clause-laid c =
+    let i = c.loop-i.i in
+    let all : length c.loop-i.places.items ≤ i = omega (arith, c.loop-i.invariant.length) in
+    rw (take_all i c.loop-i.places.items all) at c.loop-i.invariant.laid
+
+pub returns-clause-references : goal.returns-clause-references
+returns-clause-references c =
+    let i = c.loop-i.i in
+    let whole : length c.args.places.now.items ≤ i = omega arith in
+    rw (take_all i c.args.places.now.items whole) at c.loop-i.invariant.references
+
+pub returns-clause-numbers : goal.returns-clause-numbers
+returns-clause-numbers c =
+    let i = c.loop-i.i in
+    let whole : length c.args.places.now.items ≤ i = omega arith in
+    rw (take_all i c.args.places.now.items whole) at c.loop-i.invariant.numbers
+
+pub returns-clause-places : goal.returns-clause-places
+returns-clause-places c = c.loop-i.invariant.length
+
+pub returns-clause-place_room : goal.returns-clause-place_room
+returns-clause-place_room c = c.loop-i.invariant.place_room
+
+pub returns-clause-reference_room : goal.returns-clause-reference_room
+returns-clause-reference_room c = c.loop-i.invariant.reference_room
+
+pub returns-clause-number_room : goal.returns-clause-number_room
+returns-clause-number_room c = c.loop-i.invariant.number_room
+
+pub carry-refs-requires-clause-within : goal.carry-refs-requires-clause-within
+carry-refs-requires-clause-within c =
+    let inv = c.loop-i.invariant in
+    let below : c.loop-i.i < length c.args.places.now.items = omega (arith, inv.length) in
+    let here : Place = c.index-place.result.now in
+    let same : here ≡ get_or c.args.places.now.items c.loop-i.i nowhere = get_or_read c.args.places.now.items c.loop-i.i here below (c.index-place.ensures ∙ inv.left c.loop-i.i here (omega arith)) nowhere in
+    let within = c.requires.within c.loop-i.i nowhere below in
+    rw same (within.0, within.1)
+
+pub carry-refs-requires-clause-room : goal.carry-refs-requires-clause-room
+carry-refs-requires-clause-room c =
+    let inv = c.loop-i.invariant in
+    let below : c.loop-i.i < length c.args.places.now.items = omega (arith, inv.length) in
+    let here : Place = c.index-place.result.now in
+    let same : here ≡ get_or c.args.places.now.items c.loop-i.i nowhere = get_or_read c.args.places.now.items c.loop-i.i here below (c.index-place.ensures ∙ inv.left c.loop-i.i here (omega arith)) nowhere in
+    rw same (omega (arith, inv.references, inv.reference_room, c.requires.room_for_references, sum_by_more_le (λ (p : Place). span_length p.refs) c.args.places.now.items c.loop-i.i nowhere below))
+
+pub carry-nums-requires-clause-within : goal.carry-nums-requires-clause-within
+carry-nums-requires-clause-within c =
+    let inv = c.loop-i.invariant in
+    let below : c.loop-i.i < length c.args.places.now.items = omega (arith, inv.length) in
+    let here : Place = c.index-place.result.now in
+    let same : here ≡ get_or c.args.places.now.items c.loop-i.i nowhere = get_or_read c.args.places.now.items c.loop-i.i here below (c.index-place.ensures ∙ inv.left c.loop-i.i here (omega arith)) nowhere in
+    let within = c.requires.within c.loop-i.i nowhere below in
+    rw same (within.2, within.3)
+
+pub index-place-requires : goal.index-place-requires
+index-place-requires c = omega (arith, c.loop-i.invariant.length)
+
+pub index_mut-requires : goal.index_mut-requires
+index_mut-requires c = omega (arith, c.loop-i.invariant.length)

@@ -10,5 +10,4 @@ returns-clause-graph c =
     let first : Row = record { name = hub; refs = replicate 16 None; nums = [] } in
     let rows : c.push.new.self.items ≡ first ∷ [] = grind (arith, common_steps) in
     let counts : c.in_ok-counts.counts.items ≡ replicate (c.args.mutators + 1) 0 = grind (arith, common_steps) in
-    let done : c.loop-thread._thread ≡ c.args.mutators = omega arith in
-    rw (c.loop-thread.invariant, rows, counts, done) (graph_of-opening c.args.mutators)
+    rw (c.in_ok-roots.ensures, rows, counts) (graph_of-opening c.args.mutators)

@@ -1,0 +1,20 @@
+ghost use Rattle.std.specs.Prelude.{◌≡◌, replicate, IfOk};
+
+use crate::NoMemory;
+use crate::name::Name;
+use std::alloc::Global;
+
+/// The same roots for each of so many threads.
+pub fn alike(
+    alloc: Global,
+    threads: usize,
+    roots: [Option<Name>; 16],
+) -> Result<Vec<[Option<Name>; 16]>, NoMemory>
+    ensures { IfOk result (λ rows. rows.items ≡ replicate threads roots) }
+{
+    let mut rows = Vec::with_capacity(alloc, threads)?;
+    for _thread in 0..threads {
+        rows.push(roots)?;
+    }
+    Ok(rows)
+}
