@@ -27,6 +27,3 @@ pub use leave::LeaveEvac;
 pub use out_of_room::OutOfRoom;
 pub use room::Room;
 pub use spot::RoomSpot;
-
-#[cfg(test)]
-mod tests;

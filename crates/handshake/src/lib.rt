@@ -30,6 +30,3 @@ pub use leave::Leave;
 pub use out::{go_access, leave_access};
 pub use stop::Stop;
 pub use stop_spot::StopSpot;
-
-#[cfg(test)]
-mod tests;

@@ -7,3 +7,5 @@ mod adders;
 mod parts_of_calls;
 #[cfg(test)]
 mod units;
+mod copiers_of_a_heap;
+mod handshakes;
