@@ -3,3 +3,4 @@ pub mod Knows
 pub mod Resolving
 pub mod Every
 pub mod Inside
+pub mod Waiting

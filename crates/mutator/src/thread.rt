@@ -201,6 +201,31 @@ impl Mutator {
     {
         let order = self.order;
         self.order = Order::Nothing;
+        self.go_on(order, got)
+    }
+
+    /// The reply of the last call, until the next one is ordered.
+    pub fn reply(&self) -> Reply
+        requires { reply_at (seen self.now).spot ≢ None }
+        ensures { reply_at (seen self.now).spot ≡ Some result }
+    {
+        match self.spot {
+            Spot::Ended { reply } => reply,
+            _ => unreachable!(),
+        }
+    }
+
+    // Goes on by the order that it had with the word that its access has found.
+    fn go_on(&mut self, order: Order, got: u64) -> Took
+        requires none { order_of self.old ≡ Order.Nothing }
+        requires takes { takes_at (seen self.old).spot (seen self.old).made order ≡ true }
+        requires fit { IsFit (config_of self.old) (seen self.old) order got }
+        ensures seen { seen self.new ≡ next_of (config_of self.old) (seen self.old) order got }
+        ensures order { order_of self.new ≡ Order.Nothing }
+        ensures config { config_of self.new ≡ config_of self.old }
+        ensures answer { result ≡ answer_at (config_of self.old) (seen self.old).kept (seen self.old).spot got }
+        ensures again { (result ≡ Took.Again) ↔ WaitsAt (seen self.old).spot got }
+    {
         match self.spot {
             Spot::Rest | Spot::Ended { .. } => self.obey(order),
             Spot::Entering { at, then } => {
@@ -237,17 +262,6 @@ impl Mutator {
             Spot::Gone => unreachable!(),
         }
         Took::More
-    }
-
-    /// The reply of the last call, until the next one is ordered.
-    pub fn reply(&self) -> Reply
-        requires { reply_at (seen self.now).spot ≢ None }
-        ensures { reply_at (seen self.now).spot ≡ Some result }
-    {
-        match self.spot {
-            Spot::Ended { reply } => reply,
-            _ => unreachable!(),
-        }
     }
 
     // Goes on by its order, once its first access has been made: it enters for a call, or has ended.

@@ -1,13 +1,17 @@
-use Rattle.std.proofs.Common.{sym, ◌∙◌}
-use Rattle.mutator.proofs.Done.{goes_on, makes_go_on}
-use Rattle.mutator.proofs.Again.{says_where_it_waits}
+use Rattle.std.proofs.Common.{sym, ap, ◌∙◌}
+use Rattle.mutator.specs.Rows.{reply_at}
+use Rattle.mutator.specs.Seen.{seen}
+use Rattle.mutator.proofs.Orders.{takes_where_busy}
+use Rattle.mutator.proofs.Leaving.{ends, replies}
 use Rattle.mutator.proofs.thread.Mutator.took.Goals as goal
 
-pub returns-in-OnField-clause-again : goal.returns-in-OnField-clause-again
-returns-in-OnField-clause-again c = rw c.in-OnField.is (rw c.says-in-OnField.ensures (says_where_it_waits c.in-OnField.object c.in-OnField.at c.args.got))
+pub go_on-requires-clause-takes : goal.go_on-requires-clause-takes
+go_on-requires-clause-takes c = takes_where_busy _ _ _ c.requires.busy c.args.self.now.allowed
 
-pub returns-in-Resolving-clause-replied : goal.returns-in-Resolving-clause-replied
-returns-in-Resolving-clause-replied c = λ is. absurd (search (goes_on, sym c.resolve.ensures.answer ∙ is))
+pub returns-clause-done : goal.returns-clause-done
+returns-clause-done c = let m = c.args.self.now in rw c.go_on.ensures.answer (ends m.config m.kept m.order m.spot c.args.got)
 
-pub returns-in-Making-clause-replied : goal.returns-in-Making-clause-replied
-returns-in-Making-clause-replied c = λ is. absurd (search (makes_go_on, sym c.make.ensures.answer ∙ is))
+pub returns-clause-replied : goal.returns-clause-replied
+returns-clause-replied c =
+    let m = c.args.self.now in
+    λ is none. replies m.config (seen m) m.order c.args.got m.spot (sym c.go_on.ensures.answer ∙ is) (sym (ap (λ n. reply_at n.spot) c.go_on.ensures.seen) ∙ none)

@@ -1,0 +1,74 @@
+-- Where a step of a machine that resolves an address says that it waits, or that another was faster.
+use Rattle.std.proofs.Common.{◌≡◌, ◌↔◌, ℕ, refl, sym, ap, ◌∙◌, arith}
+use Rattle.std.proofs.lemmas.Bool.Decides.{nat_tests}
+use Rattle.heap_words.specs.declared.access.Took.{Took}
+use Rattle.heap_words.specs.declared.access.Took.TheVariants.{More, Again, Done}
+use Rattle.heap_words.specs.declared.config.Config.{Config}
+use Rattle.alloc_buffers.specs.declared.spot.Kind.{Kind}
+use Rattle.alloc_buffers.specs.declared.spot.TakeSpot.{TakeSpot}
+use Rattle.alloc_buffers.specs.declared.spot.TakeSpot.TheVariants.{LoadCurrent, LoadTop, LoadFree, TakeRegion, StoreCurrent, StoreTop, Ended}
+use Rattle.alloc_buffers.specs.Rows as takes
+use Rattle.alloc_buffers.specs.Waits as take_waits
+use Rattle.evac_room.specs.declared.spot.RoomSpot.{RoomSpot}
+use Rattle.evac_room.specs.declared.spot.RoomSpot.TheVariants.{Outside, Look, Raise, Inside, Lower, Ask, Mark, Wait, Stopped}
+use Rattle.evac_room.specs.Rows as rooms
+use Rattle.load_barrier.specs.declared.spot.ResolveSpot.{ResolveSpot}
+use Rattle.load_barrier.specs.declared.spot.ResolveSpot.TheVariants.{Resolved}
+use Rattle.load_barrier.specs.Rows.{told, told_by}
+use Rattle.load_barrier.specs.Waits.{RoomWaits}
+
+-- what is told by where a step leads is never that it waits
+told_never : (next : ResolveSpot) → told next ≡ Again → ⊥
+told_never (Resolved answer) is = cc
+told_never _ is = cc
+
+pub told_again : (said : Took) (next : ResolveSpot) → (told_by said next ≡ Again) ↔ (said ≡ Again)
+told_again Again next = (λ is. refl, λ is. refl)
+told_again More next = (λ is. absurd (told_never next is), λ is. cc)
+told_again Done next = (λ is. absurd (told_never next is), λ is. cc)
+
+-- a step of the protocol for room waits by the word that it finds
+pub room_waits : (at : RoomSpot) (got : ℕ) → (rooms.answer_at at got ≡ Again) ↔ RoomWaits at got
+room_waits Look got = grind (arith, nat_tests)
+room_waits (Raise found) got = grind (arith, nat_tests)
+room_waits (Mark found) got = grind (arith, nat_tests)
+room_waits Wait got = grind (arith, nat_tests)
+room_waits Ask got = (λ is. cc, λ waits. absurd waits)
+room_waits Outside got = (λ is. cc, λ waits. absurd waits)
+room_waits Inside got = (λ is. cc, λ waits. absurd waits)
+room_waits Lower got = (λ is. cc, λ waits. absurd waits)
+room_waits Stopped got = (λ is. cc, λ waits. absurd waits)
+
+pub room_part : (said : Took) (next : ResolveSpot) (at : RoomSpot) (got : ℕ) → said ≡ rooms.answer_at at got → (told_by said next ≡ Again) ↔ RoomWaits at got
+room_part said next at got is = (
+  λ again. (room_waits at got).0 (sym is ∙ (told_again said next).0 again),
+  λ waits. (told_again said next).1 (is ∙ (room_waits at got).1 waits),
+)
+
+-- and a step of a taking of room where another machine has taken the region
+current_never : (next : TakeSpot) → takes.says LoadCurrent next ≡ Again → ⊥
+current_never (Ended ended) is = cc
+current_never _ is = cc
+
+top_never : (region : ℕ) (next : TakeSpot) → takes.says (LoadTop region) next ≡ Again → ⊥
+top_never region (Ended ended) is = cc
+top_never region _ is = cc
+
+free_never : (next : TakeSpot) → takes.says LoadFree next ≡ Again → ⊥
+free_never (Ended ended) is = cc
+free_never _ is = cc
+
+take_waits_by : (c : Config) (words : ℕ) (kind : Kind) (at : TakeSpot) (got : ℕ) → (takes.says at (takes.next_at c words kind at got) ≡ Again) ↔ take_waits.WaitsAt at got
+take_waits_by c words kind (TakeRegion region) got = grind (arith, nat_tests)
+take_waits_by c words kind LoadCurrent got = (λ is. absurd (current_never _ is), λ waits. absurd waits)
+take_waits_by c words kind (LoadTop region) got = (λ is. absurd (top_never region _ is), λ waits. absurd waits)
+take_waits_by c words kind LoadFree got = (λ is. absurd (free_never _ is), λ waits. absurd waits)
+take_waits_by c words kind (StoreCurrent region) got = (λ is. cc, λ waits. absurd waits)
+take_waits_by c words kind (StoreTop region top) got = (λ is. cc, λ waits. absurd waits)
+take_waits_by c words kind (Ended taken) got = (λ is. cc, λ waits. absurd waits)
+
+pub take_part : (c : Config) (words : ℕ) (kind : Kind) (said : Took) (next : ResolveSpot) (at there : TakeSpot) (got : ℕ) → said ≡ takes.says at there → there ≡ takes.next_at c words kind at got → (told_by said next ≡ Again) ↔ take_waits.WaitsAt at got
+take_part c words kind said next at there got is row =
+    let by = take_waits_by c words kind at got in
+    let told : said ≡ takes.says at (takes.next_at c words kind at got) = is ∙ ap (takes.says at) row in
+    (λ again. by.0 (sym told ∙ (told_again said next).0 again), λ waits. (told_again said next).1 (told ∙ by.1 waits))

@@ -1,0 +1,17 @@
+-- Where a mutator stands after a step, its next access can be made.
+use Rattle.std.proofs.Common.{◌≡◌, ℕ, true, refl, sym, subst}
+use Rattle.heap_words.specs.declared.config.Config.{Config}
+use Rattle.shen_graph.specs.declared.order.Order.{Order}
+use Rattle.shen_graph.specs.declared.order.Order.TheVariants.{Nothing}
+use Rattle.mutator.specs.declared.spot.Spot.{Spot}
+use Rattle.mutator.specs.Orders.{is_pending}
+use Rattle.mutator.specs.Rows.{Mutating, next_at, next_of}
+use Rattle.mutator.specs.Fit.{IsReady}
+
+-- no order stands everywhere
+pub pending : (spot : Spot) (made : ℕ) (order : Order) → order ≡ Nothing → is_pending spot made order ≡ true
+pending spot made order none = subst (λ o. is_pending spot made o ≡ true) (sym none) refl
+
+-- what a mutator is after a step by the row of its spot, its next access can be made from there
+pub ready_next : (c : Config) (m : Mutating) (order : Order) (got : ℕ) (spot : Spot) (n : Mutating) → m.spot ≡ spot → next_at c m order got spot ≡ n → IsReady c (next_of c m order got) → IsReady c n
+ready_next c m order got spot n is row ready = subst (IsReady c) row (subst (λ s. IsReady c (next_at c m order got s)) is ready)

@@ -1,0 +1,171 @@
+-- A call ends exactly where the mutator leaves, with its reply.
+use Rattle.std.proofs.Common.{◌≡◌, ◌↔◌, ℕ, Some, None, refl, ap}
+use Rattle.heap_words.specs.declared.config.Config.{Config}
+use Rattle.heap_words.specs.declared.place.Place.TheVariants.{LV}
+use Rattle.heap_words.specs.declared.access.Took.TheVariants as took
+use Rattle.shen_graph.specs.declared.order.Order.{Order}
+use Rattle.shen_graph.specs.declared.order.Order.TheVariants.{End}
+use Rattle.shen_graph.specs.declared.command.Reply.{Reply}
+use Rattle.handshake.specs.declared.enter_spot.EnterSpot.{EnterSpot}
+use Rattle.handshake.specs.declared.enter_spot.EnterSpot.TheVariants as enter
+use Rattle.handshake.specs.Rows.{enter_place}
+use Rattle.alloc_buffers.specs.declared.spot.TakeSpot.{TakeSpot}
+use Rattle.alloc_buffers.specs.declared.spot.TakeSpot.TheVariants as take
+use Rattle.alloc_buffers.specs.Rows as takes
+use Rattle.satb_barrier.specs.declared.spot.RememberSpot.{RememberSpot}
+use Rattle.satb_barrier.specs.declared.spot.RememberSpot.TheVariants as record_spot
+use Rattle.satb_barrier.specs.Rows as satb
+use Rattle.evac_room.specs.declared.spot.RoomSpot.{RoomSpot}
+use Rattle.evac_room.specs.declared.spot.RoomSpot.TheVariants as room
+use Rattle.evac_room.specs.Rows as rooms
+use Rattle.load_barrier.specs.declared.copying.CopySpot.{CopySpot}
+use Rattle.load_barrier.specs.declared.copying.CopySpot.TheVariants as copy
+use Rattle.load_barrier.specs.declared.spot.ResolveSpot.{ResolveSpot}
+use Rattle.load_barrier.specs.declared.spot.ResolveSpot.TheVariants as resolve
+use Rattle.load_barrier.specs.Rows as resolves
+use Rattle.mutator.specs.declared.spot.Kept.{Kept}
+use Rattle.mutator.specs.declared.spot.Spot.{Spot}
+use Rattle.mutator.specs.declared.spot.Spot.TheVariants.{Rest, Ended, Entering, Loading, OnField, Resolving, Recording, OnNumber, Showing, Making, Waiting, Leave}
+use Rattle.mutator.specs.declared.loads.LoadSpot.{LoadSpot}
+use Rattle.mutator.specs.declared.loads.LoadSpot.TheVariants as load
+use Rattle.mutator.specs.declared.fields.FieldSpot.{FieldSpot}
+use Rattle.mutator.specs.declared.fields.FieldSpot.TheVariants as field
+use Rattle.mutator.specs.declared.numbers.NumberSpot.{NumberSpot}
+use Rattle.mutator.specs.declared.numbers.NumberSpot.TheVariants as number
+use Rattle.mutator.specs.declared.shows.ShowSpot.{ShowSpot}
+use Rattle.mutator.specs.declared.shows.ShowSpot.TheVariants as show
+use Rattle.mutator.specs.declared.makes.MakeSpot.{MakeSpot}
+use Rattle.mutator.specs.declared.makes.MakeSpot.TheVariants as make
+use Rattle.mutator.specs.declared.waits.WaitSpot.{WaitSpot}
+use Rattle.mutator.specs.declared.waits.WaitSpot.TheVariants as wait
+use Rattle.mutator.specs.Rows.{Mutating, load_place, field_place, number_place, show_place, make_place, first_place, place_at, answer_at, given_at, next_at, reply_at}
+use Rattle.mutator.specs.WaitRows.{wait_place}
+use Rattle.mutator.proofs.Done.{done_gives}
+
+-- no part of a call stands there
+enters_elsewhere : (at : EnterSpot) → enter_place at ≡ LV → ⊥
+enters_elsewhere enter.Raise is = cc
+enters_elsewhere enter.Look is = cc
+enters_elsewhere enter.Lower is = cc
+enters_elsewhere enter.Await is = cc
+enters_elsewhere enter.Inside is = cc
+
+takes_elsewhere : (at : TakeSpot) → takes.place_at at ≡ LV → ⊥
+takes_elsewhere take.LoadCurrent is = cc
+takes_elsewhere (take.LoadTop r) is = cc
+takes_elsewhere take.LoadFree is = cc
+takes_elsewhere (take.TakeRegion r) is = cc
+takes_elsewhere (take.StoreCurrent r) is = cc
+takes_elsewhere (take.StoreTop r top) is = cc
+takes_elsewhere (take.Ended taken) is = cc
+
+records_elsewhere : (at : RememberSpot) → satb.place_at at ≡ LV → ⊥
+records_elsewhere record_spot.LoadCount is = cc
+records_elsewhere (record_spot.LoadEntry e) is = cc
+records_elsewhere (record_spot.MarkEntry e found) is = cc
+records_elsewhere record_spot.ClearCount is = cc
+records_elsewhere (record_spot.StoreEntry e) is = cc
+records_elsewhere (record_spot.StoreCount e) is = cc
+records_elsewhere record_spot.Recorded is = cc
+
+asks_elsewhere : (at : RoomSpot) → rooms.place_at at ≡ LV → ⊥
+asks_elsewhere room.Outside is = cc
+asks_elsewhere room.Look is = cc
+asks_elsewhere (room.Raise found) is = cc
+asks_elsewhere room.Inside is = cc
+asks_elsewhere room.Lower is = cc
+asks_elsewhere room.Ask is = cc
+asks_elsewhere (room.Mark found) is = cc
+asks_elsewhere room.Wait is = cc
+asks_elsewhere room.Stopped is = cc
+
+copies_elsewhere : (at : CopySpot) → resolves.copy_place at ≡ LV → ⊥
+copies_elsewhere (copy.LoadWord words i) is = cc
+copies_elsewhere (copy.StoreWord words i found) is = cc
+copies_elsewhere copy.StoreHeader is = cc
+copies_elsewhere copy.Publish is = cc
+copies_elsewhere (copy.GiveBack answer) is = cc
+
+resolves_elsewhere : (at : ResolveSpot) → resolves.place_at at ≡ LV → ⊥
+resolves_elsewhere (resolve.Entering at) is = asks_elsewhere at is
+resolves_elsewhere (resolve.Taking words at) is = takes_elsewhere at is
+resolves_elsewhere (resolve.Copying copy at) is = copies_elsewhere at is
+resolves_elsewhere (resolve.Stopping at) is = asks_elsewhere at is
+resolves_elsewhere _ is = cc
+
+loads_elsewhere : (at : LoadSpot) → load_place at ≡ LV → ⊥
+loads_elsewhere load.First is = cc
+loads_elsewhere (load.Second a) is = cc
+loads_elsewhere (load.Third a b) is = cc
+loads_elsewhere (load.Shape object b d) is = cc
+
+is_on_field : (at : FieldSpot) → field_place at ≡ LV → ⊥
+is_on_field field.Load is = cc
+is_on_field (field.LoadExpected e v) is = cc
+is_on_field (field.LoadOld v) is = cc
+is_on_field (field.Store v) is = cc
+is_on_field (field.Swap v) is = cc
+is_on_field (field.Exchange f e v) is = cc
+
+is_on_number : (at : NumberSpot) → number_place at ≡ LV → ⊥
+is_on_number number.Load is = cc
+is_on_number number.Store is = cc
+
+shows_elsewhere : (at : ShowSpot) → show_place at ≡ LV → ⊥
+shows_elsewhere show.LoadName is = cc
+shows_elsewhere (show.StoreRoot r) is = cc
+
+makes_elsewhere : (at : MakeSpot) → make_place at ≡ LV → ⊥
+makes_elsewhere (make.Taking take) is = takes_elsewhere take is
+makes_elsewhere _ is = cc
+
+waits_elsewhere : (at : WaitSpot) → wait_place at ≡ LV → ⊥
+waits_elsewhere wait.StoreRequest is = cc
+waits_elsewhere wait.AskRoom is = cc
+waits_elsewhere wait.StepOut is = cc
+waits_elsewhere wait.Poll is = cc
+waits_elsewhere wait.LoadAnswer is = cc
+waits_elsewhere (wait.StoreRoot a) is = cc
+waits_elsewhere (wait.ClearAnswer r) is = cc
+
+begins_elsewhere : (order : Order) → first_place order ≡ LV → ⊥
+begins_elsewhere End is = cc
+begins_elsewhere _ is = cc
+
+-- so a mutator that stands there leaves with a reply
+leaves : (order : Order) (spot : Spot) → place_at order spot ≡ LV → (r : Reply) × (spot ≡ Leave r)
+leaves order (Leave r) is = (r, refl)
+leaves order Rest is = absurd (begins_elsewhere order is)
+leaves order (Ended reply) is = absurd (begins_elsewhere order is)
+leaves order (Entering at next) is = absurd (enters_elsewhere at is)
+leaves order (Loading at) is = absurd (loads_elsewhere at is)
+leaves order (OnField object at) is = absurd (is_on_field at is)
+leaves order (Resolving address at next) is = absurd (resolves_elsewhere at is)
+leaves order (Recording at address next) is = absurd (records_elsewhere at is)
+leaves order (OnNumber object refs at) is = absurd (is_on_number at is)
+leaves order (Showing value at) is = absurd (shows_elsewhere at is)
+leaves order (Making at) is = absurd (makes_elsewhere at is)
+leaves order (Waiting at) is = absurd (waits_elsewhere at is)
+leaves order _ is = absurd (cc)
+
+-- as one that gives a reply does
+gives : (spot : Spot) (r : Reply) → given_at spot ≡ Some r → spot ≡ Leave r
+gives (Leave r) s is = cc
+gives _ s is = absurd (cc)
+
+done_leaves : (c : Config) (kept : Kept) (spot : Spot) (got : ℕ) → answer_at c kept spot got ≡ took.Done → (r : Reply) × (spot ≡ Leave r)
+done_leaves c kept spot got is = let given = done_gives c kept spot got is in (given.0, gives spot given.0 given.1)
+
+-- a call ends exactly there
+pub ends : (c : Config) (kept : Kept) (order : Order) (spot : Spot) (got : ℕ) → (answer_at c kept spot got ≡ took.Done) ↔ (place_at order spot ≡ LV)
+ends c kept order spot got = (
+  λ is. ap (place_at order) (done_leaves c kept spot got is).1,
+  λ is. ap (λ s. answer_at c kept s got) (leaves order spot is).1,
+)
+
+-- and then there is a reply
+pub replies : (c : Config) (m : Mutating) (order : Order) (got : ℕ) (spot : Spot) → answer_at c m.kept spot got ≡ took.Done → reply_at (next_at c m order got spot).spot ≡ None → ⊥
+replies c m order got spot is none =
+    let left = done_leaves c m.kept spot got is in
+    let given : reply_at (next_at c m order got spot).spot ≡ Some left.0 = ap (λ s. reply_at (next_at c m order got s).spot) left.1 in
+    cc

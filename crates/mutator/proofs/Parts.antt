@@ -1,0 +1,31 @@
+-- What a call knows of its resolving.
+use Rattle.std.proofs.Common.{◌≡◌, ◌↔◌, ℕ, true, refl, subst}
+use Rattle.std.proofs.lemmas.Bool.{and_parts}
+use Rattle.heap_words.specs.declared.config.Config.{Config}
+use Rattle.heap_words.specs.declared.access.Took.{Took}
+use Rattle.heap_words.specs.declared.access.Took.TheVariants as took
+use Rattle.load_barrier.specs.declared.spot.ResolveSpot.{ResolveSpot}
+use Rattle.load_barrier.specs.Fit as resolves
+use Rattle.mutator.specs.declared.spot.Kept.{Kept}
+use Rattle.mutator.specs.declared.spot.Spot.{Spot}
+use Rattle.mutator.specs.declared.spot.Spot.TheVariants.{Resolving}
+use Rattle.mutator.specs.declared.resolves.Loaded.{Loaded}
+use Rattle.mutator.specs.Fit.{is_ready, PartFit}
+use Rattle.mutator.specs.WaitRows.{call_says}
+
+-- a call says that it has to look again where its part does
+pub says_again : (said : Took) → (call_says said ≡ took.Again) ↔ (said ≡ took.Again)
+says_again took.Again = (λ is. refl, λ is. refl)
+says_again took.More = (λ is. cc, λ is. cc)
+says_again took.Done = (λ is. cc, λ is. cc)
+
+-- the resolving can make its next access
+resolving_ready : (c : Config) (seat made : ℕ) (kept : Kept) (address : ℕ) (at : ResolveSpot) (next : Loaded) → is_ready c seat made kept (Resolving address at next) ≡ true → resolves.is_ready c seat address at ≡ true
+resolving_ready c seat made kept address at next ready = (and_parts _ _ (and_parts _ _ (and_parts _ _ ready).1).1).0
+
+pub part_ready : (c : Config) (seat made : ℕ) (kept : Kept) (spot : Spot) (address : ℕ) (at : ResolveSpot) (next : Loaded) → spot ≡ Resolving address at next → is_ready c seat made kept spot ≡ true → resolves.is_ready c seat address at ≡ true
+part_ready c seat made kept spot address at next is ready = resolving_ready c seat made kept address at next (subst (λ s. is_ready c seat made kept s ≡ true) is ready)
+
+-- and goes on with a word that is fit for it
+pub part_goes : (c : Config) (seat : ℕ) (kept : Kept) (spot : Spot) (address : ℕ) (at : ResolveSpot) (next : Loaded) (got : ℕ) → spot ≡ Resolving address at next → PartFit c seat kept spot got → resolves.goes_on c seat address kept.phase at got ≡ true
+part_goes c seat kept spot address at next got is fit = (subst (λ s. PartFit c seat kept s got) is fit).0

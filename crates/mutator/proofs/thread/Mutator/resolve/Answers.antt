@@ -1,0 +1,23 @@
+use Rattle.std.proofs.Common.{sym, ap, ◌∙◌}
+use Rattle.mutator.specs.WaitRows.{call_says}
+use Rattle.mutator.proofs.Parts.{says_again, part_ready, part_goes}
+use Rattle.mutator.proofs.thread.Mutator.resolve.Goals as goal
+
+pub after-at-requires-clause-ready : goal.after-at-requires-clause-ready
+after-at-requires-clause-ready c =
+    let m = c.args.self.now in
+    part_ready m.config m.mutator m.made m.kept m.spot c.args.address c.args.at c.args.next c.requires.at m.ready
+
+pub after-at-requires-clause-fit : goal.after-at-requires-clause-fit
+after-at-requires-clause-fit c =
+    let m = c.args.self.now in
+    part_goes m.config m.mutator m.kept m.spot c.args.address c.args.at c.args.next c.args.got c.requires.at c.requires.fit.1
+
+pub returns-clause-answer : goal.returns-clause-answer
+returns-clause-answer c = c.call_says.ensures ∙ ap call_says c.after-at.ensures.says
+
+pub returns-clause-again : goal.returns-clause-again
+returns-clause-again c = (
+  λ is. c.after-at.ensures.again.0 ((says_again _).0 (sym c.call_says.ensures ∙ is)),
+  λ waits. c.call_says.ensures ∙ (says_again _).1 (c.after-at.ensures.again.1 waits),
+)
