@@ -9,13 +9,11 @@ use update_refs::UpdateUnit;
 fn no_unit_is_left(rt: HostRuntime) -> Result<(), Fail> {
     let config = Config::new(4, 64, 1, 0, 0)?;
     let mut scan = ScanUnit::new(config);
-    let scanned = scan.took(8);
+    assert!(rt; scan.took(8) == Took::Done);
+    assert!(rt; scan.answer() == Unit::NoneLeft);
     let mut update = UpdateUnit::new(config, 2);
-    let updated = update.took(4);
-    assert_eq!(rt;
-        [(scanned, scan.answer()), (updated, update.answer())],
-        [(Took::Done, Unit::NoneLeft); 2]
-    );
+    assert!(rt; update.took(4) == Took::Done);
+    assert!(rt; update.answer() == Unit::NoneLeft);
     Ok(())
 }
 
@@ -26,16 +24,12 @@ fn a_unit_is_scanned(rt: HostRuntime) -> Result<(), Fail> {
     let mut scan = ScanUnit::new(config);
     let _ = scan.took(6);
     let _ = scan.took(6);
-    assert_eq!(rt;
-        (scan.is_done(), scan.place(), scan.plan()),
-        (false, Place::MG, Access::Load { at: 53 })
+    assert!(rt;
+        !scan.is_done() && scan.place() == Place::MG && scan.plan() == Access::Load { at: 53 }
     );
     let _ = scan.took(0);
-    let last = scan.took(0);
-    assert_eq!(rt;
-        (last, scan.is_done(), scan.answer()),
-        (Took::Done, true, Unit::Worked)
-    );
+    assert!(rt; scan.took(0) == Took::Done);
+    assert!(rt; scan.is_done() && scan.answer() == Unit::Worked);
     Ok(())
 }
 
@@ -45,17 +39,13 @@ fn a_region_is_updated(rt: HostRuntime) -> Result<(), Fail> {
     let config = Config::new(4, 64, 1, 0, 0)?;
     let mut update = UpdateUnit::new(config, 2);
     let _ = update.took(0);
-    let lost = update.took(1);
+    assert!(rt; update.took(1) == Took::Again);
     let _ = update.took(2);
     let _ = update.took(2);
-    assert_eq!(rt;
-        (lost, update.is_done(), update.place(), update.plan()),
-        (Took::Again, false, Place::UL, Access::Load { at: 20 })
+    assert!(rt;
+        !update.is_done() && update.place() == Place::UL && update.plan() == Access::Load { at: 20 }
     );
-    let last = update.took(0);
-    assert_eq!(rt;
-        (last, update.is_done(), update.answer()),
-        (Took::Done, true, Unit::Worked)
-    );
+    assert!(rt; update.took(0) == Took::Done);
+    assert!(rt; update.is_done() && update.answer() == Unit::Worked);
     Ok(())
 }
