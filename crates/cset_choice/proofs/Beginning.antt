@@ -1,12 +1,12 @@
 -- The beginning of evacuation makes the words that it says.
-use Rattle.std.proofs.Common.{◌≡◌, ◌≢◌, ℕ, ◌==◌, true, false, refl, sym}
+use Rattle.std.proofs.Common.{◌≡◌, ◌≢◌, ℕ, ◌==◌, true, false, Option, Some, None, IsSome, refl, sym}
 use Rattle.std.proofs.lemmas.Bool.{cond-true, cond-false, eq-eqb, ne_eqb}
 use Rattle.std.proofs.Math.Path.{fun_ext}
 use Rattle.heap_words.specs.declared.config.Config.{Config}
 use Rattle.heap_words.specs.Words.{Word, Phase, Cset, Evac, Claim, Heap, write}
 use Rattle.heap_words.specs.Encoding.{is_forwarded}
 use Rattle.image_laws.specs.Full.{now_in}
-use Rattle.cset_laws.specs.Copied.{copied_out}
+use Rattle.cset_laws.specs.Copied.{copied_out, copy_in}
 use Rattle.cset_laws.specs.Begun.{is_collected, moved_out, cleared_at, with_set, roots_cleared, evac_started, evac_spared, evac_begun}
 
 -- the set is stored
@@ -59,3 +59,8 @@ moved_before c m a forwarded = fun_ext (λ w. sym (cond-true (is_forwarded (m (H
 
 pub moved_now : (c : Config) (m : Word → ℕ) (a : ℕ) → is_forwarded (m (Heap a)) ≡ false → copied_out c m a ≡ moved_out c m a
 moved_now c m a plain = fun_ext (λ w. sym (cond-false (is_forwarded (m (Heap a))) (m w) (copied_out c m a w) plain))
+
+-- where some region has room there is a copy
+pub some_copy : (c : Config) (m : Word → ℕ) (room : Option ℕ) → room ≢ None → IsSome (copy_in c m room)
+some_copy c m None some = absurd (some refl)
+some_copy c m (Some r) some = refl

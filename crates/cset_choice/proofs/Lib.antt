@@ -4,3 +4,4 @@ pub mod Copying
 pub mod Turns
 pub mod Beginning
 pub mod Ready
+pub mod Reading

@@ -9,3 +9,4 @@ pub mod Slices
 pub mod Whole
 pub mod Result
 pub mod Again
+pub mod Changed

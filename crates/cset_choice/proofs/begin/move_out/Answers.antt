@@ -1,13 +1,16 @@
-use Rattle.std.proofs.Common.{◌≡◌, ℕ, false, sym, ap, ◌∙◌, subst}
+use Rattle.std.proofs.Common.{◌≡◌, ℕ, true, false, Option, IsSome, refl, sym, ap, ◌∙◌, subst}
+use Rattle.std.proofs.lemmas.Bool.{cond-true}
+use Rattle.cset_laws.specs.Copied.{copy_room}
 use Rattle.heap_words.specs.declared.config.Config.{Config}
 use Rattle.heap_words.specs.Words.{Word, Heap, IsWord, word_at}
-use Rattle.heap_words.specs.Encoding.{is_forwarded}
+use Rattle.heap_words.specs.Encoding.{is_forwarded, forwardee_in}
 use Rattle.image_laws.specs.Full.{now_in}
 use Rattle.image_graph.specs.State.{config_of, memory_of}
 use Rattle.image_graph.proofs.Steps.{placed_inside}
 use Rattle.cset_choice.proofs.Objects.{collected_of_heap}
 use Rattle.cset_choice.proofs.Copying.{copy_is_now}
-use Rattle.cset_choice.proofs.Beginning.{moved_now}
+use Rattle.cset_choice.proofs.Reading.{read}
+use Rattle.cset_choice.proofs.Beginning.{moved_now, moved_before, some_copy}
 use Rattle.cset_choice.proofs.begin.move_out.Goals as goal
 
 pub word-header-requires : goal.word-header-requires
@@ -34,3 +37,39 @@ returns-clause-copy c =
     let m : Word → ℕ = memory_of c.args.image.now in
     let a = c.args.address in
     copy_is_now g m a c.unwrap.result (sym c.copy_out.ensures.copy ∙ c.unwrap.ensures) ∙ ap (λ (n : Word → ℕ). now_in n a) (sym c.copy_out.ensures.words)
+
+pub heap_at-requires : goal.heap_at-requires
+heap_at-requires c = subst (λ (k : Config). IsWord k (Heap c.args.address)) (sym c.config.ensures) (collected_of_heap (config_of c.args.image.now) (memory_of c.args.image.now) c.args.address c.requires.can.set c.requires.collected)
+
+pub copy_out-requires : goal.copy_out-requires
+copy_out-requires c =
+    let g = config_of c.args.image.now in
+    let m : Word → ℕ = memory_of c.args.image.now in
+    let a = c.args.address in
+    let header : c.word-header.result ≡ m (Heap a) =
+    read g _ m (Heap a) _ _ c.config.ensures (collected_of_heap g m a c.requires.can.set c.requires.collected) c.heap_at.ensures c.word-header.ensures.named in
+    c.requires.can.object c.requires.collected (ap is_forwarded (sym header) ∙ sym c.forwarded.ensures ∙ c.if-forwarded.false)
+
+pub unwrap-requires : goal.unwrap-requires
+unwrap-requires c =
+    let g = config_of c.args.image.now in
+    let m : Word → ℕ = memory_of c.args.image.now in
+    let a = c.args.address in
+    let header : c.word-header.result ≡ m (Heap a) =
+    read g _ m (Heap a) _ _ c.config.ensures (collected_of_heap g m a c.requires.can.set c.requires.collected) c.heap_at.ensures c.word-header.ensures.named in
+    subst (λ (o : Option ℕ). IsSome o) (sym c.copy_out.ensures.copy)
+    (some_copy g m (copy_room g m a) (c.requires.can.room c.requires.collected (ap is_forwarded (sym header) ∙ sym c.forwarded.ensures ∙ c.if-forwarded.false)))
+
+pub returns-then-forwarded : goal.returns-then-forwarded
+returns-then-forwarded c =
+    let g = config_of c.args.image.now in
+    let m : Word → ℕ = memory_of c.args.image.now in
+    let a = c.args.address in
+    let header : c.word-header.result ≡ m (Heap a) =
+    read g _ m (Heap a) _ _ c.config.ensures (collected_of_heap g m a c.requires.can.set c.requires.collected) c.heap_at.ensures c.word-header.ensures.named in
+    let moved : is_forwarded (m (Heap a)) ≡ true = ap is_forwarded (sym header) ∙ sym c.forwarded.ensures ∙ c.if-forwarded.true in
+    record {
+      config = refl;
+      words = moved_before g m a moved;
+      copy = c.forwardee.ensures ∙ ap forwardee_in header ∙ sym (cond-true (is_forwarded (m (Heap a))) (forwardee_in (m (Heap a))) a moved);
+    }

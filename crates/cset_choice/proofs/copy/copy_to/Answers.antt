@@ -6,10 +6,11 @@ use Rattle.regions.specs.Place.{base_of}
 use Rattle.image_graph.specs.State.{config_of, memory_of}
 use Rattle.image_graph.specs.Make.{AreInHeap}
 use Rattle.image_graph.proofs.Room.{room_in_heap}
-use Rattle.image_graph.proofs.Steps.{stored}
+use Rattle.image_graph.proofs.Steps.{stored, placed_inside}
 use Rattle.cset_laws.specs.Live.{words_at}
 use Rattle.cset_laws.specs.Copied.{top_address}
 use Rattle.cset_choice.proofs.Objects.{object_in_heap, word_of_heap}
+use Rattle.cset_choice.proofs.Reading.{word_in, first_in, low_in}
 use Rattle.cset_choice.proofs.Copying.{copies_apart, copied_stores}
 use Rattle.cset_choice.proofs.copy.copy_to.Goals as goal
 
@@ -93,3 +94,129 @@ returns-clause-words c =
     (omega (arith, c.edge-top.ensures, words))
     (ap (λ k. bit_and k c.all_but.result) free ∙ ap (bit_and (m Free)) c.all_but.ensures.value)
     (c.header_to.ensures ∙ ap header_word at)
+
+pub overflow_add-address : goal.overflow_add-address
+overflow_add-address c =
+    let k = config_of c.args.image.now in
+    let m : Word → ℕ = memory_of c.args.image.now in
+    let a = c.args.address in
+    let object = object_in_heap k a (words_at m a) c.requires.can.above c.requires.can.of_region c.requires.can.lies in
+    omega (arith, low_in _ _ _ object)
+
+pub heap_at-requires : goal.heap_at-requires
+heap_at-requires c =
+    let k = config_of c.args.image.now in
+    let m : Word → ℕ = memory_of c.args.image.now in
+    let a = c.args.address in
+    let object = object_in_heap k a (words_at m a) c.requires.can.above c.requires.can.of_region c.requires.can.lies in
+    word_in k c.config-config.result a (words_at m a) 1 c.config-config.ensures object (omega arith)
+
+pub word-requires : goal.word-requires
+word-requires c =
+    let k = config_of c.args.image.now in
+    let m : Word → ℕ = memory_of c.args.image.now in
+    let a = c.args.address in
+    let object = object_in_heap k a (words_at m a) c.requires.can.above c.requires.can.of_region c.requires.can.lies in
+    placed_inside k c.config-config.result (Heap (a + 1)) _ (sym c.config-config.ensures) (word_in k c.config-config.result a (words_at m a) 1 c.config-config.ensures object (omega arith)) c.heap_at.ensures
+
+pub edge-top-requires : goal.edge-top-requires
+edge-top-requires c =
+    c.requires.region
+
+pub word-free-requires : goal.word-free-requires
+word-free-requires c =
+    placed_inside (config_of c.args.image.now) c.config-config.result Free _ (sym c.config-config.ensures) tt c.free_at.ensures
+
+pub base-requires : goal.base-requires
+base-requires c =
+    subst (λ (j : Config). c.args.region < j.regions) (sym c.config-config.ensures) c.requires.region
+
+pub overflow_add-copy : goal.overflow_add-copy
+overflow_add-copy c =
+    let k = config_of c.args.image.now in
+    let m : Word → ℕ = memory_of c.args.image.now in
+    let r = c.args.region in
+    let at : base_of k r + m (Top r) ≡ c.base.result + c.edge-top.result =
+    omega (arith, c.base.ensures ∙ ap (λ (j : Config). base_of j r) c.config-config.ensures, c.edge-top.ensures) in
+    let target = subst (λ (x : ℕ). AreInHeap k x (words_at m c.args.address)) at (room_in_heap k r (m (Top r)) (words_at m c.args.address) c.requires.region c.requires.room) in
+    omega (arith, low_in _ _ _ target)
+
+pub heap_at-requires-2 : goal.heap_at-requires-2
+heap_at-requires-2 c =
+    let k = config_of c.args.image.now in
+    let m : Word → ℕ = memory_of c.args.image.now in
+    let r = c.args.region in
+    let at : base_of k r + m (Top r) ≡ c.base.result + c.edge-top.result =
+    omega (arith, c.base.ensures ∙ ap (λ (j : Config). base_of j r) c.config-config.ensures, c.edge-top.ensures) in
+    let target = subst (λ (x : ℕ). AreInHeap k x (words_at m c.args.address)) at (room_in_heap k r (m (Top r)) (words_at m c.args.address) c.requires.region c.requires.room) in
+    first_in k c.config-config.result _ (words_at m c.args.address) c.config-config.ensures target (omega arith)
+
+pub set_word-requires : goal.set_word-requires
+set_word-requires c =
+    let k = config_of c.args.image.now in
+    let m : Word → ℕ = memory_of c.args.image.now in
+    let r = c.args.region in
+    let at : base_of k r + m (Top r) ≡ c.base.result + c.edge-top.result =
+    omega (arith, c.base.ensures ∙ ap (λ (j : Config). base_of j r) c.config-config.ensures, c.edge-top.ensures) in
+    let target = subst (λ (x : ℕ). AreInHeap k x (words_at m c.args.address)) at (room_in_heap k r (m (Top r)) (words_at m c.args.address) c.requires.region c.requires.room) in
+    placed_inside (config_of c.copy_words.new.image) c.config-config.result (Heap (c.base.result + c.edge-top.result)) _ (c.copy_words.ensures.config ∙ sym c.config-config.ensures) (first_in k c.config-config.result _ (words_at m c.args.address) c.config-config.ensures target (omega arith)) c.heap_at-2.ensures
+
+pub top_at-requires : goal.top_at-requires
+top_at-requires c =
+    subst (λ (j : Config). c.args.region < j.regions) (sym c.config-config.ensures) c.requires.region
+
+pub overflow_add-top : goal.overflow_add-top
+overflow_add-top c =
+    omega (arith, c.words_of-words.ensures, c.edge-top.ensures, c.requires.room, (config_of c.args.image.now).in_range.most_words)
+
+pub set_word-requires-2 : goal.set_word-requires-2
+set_word-requires-2 c =
+    placed_inside (config_of c.set_word.new.self) c.config-config.result (Top c.args.region) _ (c.set_word.ensures.config ∙ c.copy_words.ensures.config ∙ sym c.config-config.ensures) (subst (λ (j : Config). c.args.region < j.regions) (sym c.config-config.ensures) c.requires.region) c.top_at.ensures
+
+pub all_but-requires : goal.all_but-requires
+all_but-requires c =
+    omega (arith, c.requires.region, (config_of c.args.image.now).in_range.most_regions)
+
+pub set_word-requires-3 : goal.set_word-requires-3
+set_word-requires-3 c =
+    placed_inside (config_of c.set_word-2.new.self) c.config-config.result Free _ (c.set_word-2.ensures.config ∙ c.set_word.ensures.config ∙ c.copy_words.ensures.config ∙ sym c.config-config.ensures) tt c.free_at-2.ensures
+
+pub heap_at-requires-3 : goal.heap_at-requires-3
+heap_at-requires-3 c =
+    let k = config_of c.args.image.now in
+    let m : Word → ℕ = memory_of c.args.image.now in
+    let a = c.args.address in
+    let object = object_in_heap k a (words_at m a) c.requires.can.above c.requires.can.of_region c.requires.can.lies in
+    first_in k c.config-config.result a (words_at m a) c.config-config.ensures object (omega arith)
+
+pub header_to-requires : goal.header_to-requires
+header_to-requires c =
+    let k = config_of c.args.image.now in
+    let m : Word → ℕ = memory_of c.args.image.now in
+    let r = c.args.region in
+    let at : base_of k r + m (Top r) ≡ c.base.result + c.edge-top.result =
+    omega (arith, c.base.ensures ∙ ap (λ (j : Config). base_of j r) c.config-config.ensures, c.edge-top.ensures) in
+    let target = subst (λ (x : ℕ). AreInHeap k x (words_at m c.args.address)) at (room_in_heap k r (m (Top r)) (words_at m c.args.address) c.requires.region c.requires.room) in
+    omega (arith, low_in _ _ _ target)
+
+pub set_word-requires-4 : goal.set_word-requires-4
+set_word-requires-4 c =
+    let k = config_of c.args.image.now in
+    let m : Word → ℕ = memory_of c.args.image.now in
+    let a = c.args.address in
+    let object = object_in_heap k a (words_at m a) c.requires.can.above c.requires.can.of_region c.requires.can.lies in
+    placed_inside (config_of c.set_word-3.new.self) c.config-config.result (Heap a) _ (c.set_word-3.ensures.config ∙ c.set_word-2.ensures.config ∙ c.set_word.ensures.config ∙ c.copy_words.ensures.config ∙ sym c.config-config.ensures) (first_in k c.config-config.result a (words_at m a) c.config-config.ensures object (omega arith)) c.heap_at-3.ensures
+
+pub returns-clause-config : goal.returns-clause-config
+returns-clause-config c =
+    c.set_word-4.ensures.config ∙ c.set_word-3.ensures.config ∙ c.set_word-2.ensures.config ∙ c.set_word.ensures.config ∙ c.copy_words.ensures.config
+
+pub returns-clause-address : goal.returns-clause-address
+returns-clause-address c =
+    let k = config_of c.args.image.now in
+    let m : Word → ℕ = memory_of c.args.image.now in
+    let r = c.args.region in
+    let at : base_of k r + m (Top r) ≡ c.base.result + c.edge-top.result =
+    omega (arith, c.base.ensures ∙ ap (λ (j : Config). base_of j r) c.config-config.ensures, c.edge-top.ensures) in
+    let target = subst (λ (x : ℕ). AreInHeap k x (words_at m c.args.address)) at (room_in_heap k r (m (Top r)) (words_at m c.args.address) c.requires.region c.requires.room) in
+    sym at

@@ -1,8 +1,9 @@
+use Rattle.cset_choice.proofs.Reading.{word_in, low_in}
 use Rattle.std.proofs.Common.{◌≡◌, ◌+◌, ℕ, sym, ap, ◌∙◌, subst, arith}
 use Rattle.heap_words.specs.declared.config.Config.{Config}
 use Rattle.heap_words.specs.Words.{Word, Heap, IsWord, word_at, write}
 use Rattle.image_graph.specs.State.{config_of, memory_of}
-use Rattle.image_graph.proofs.Steps.{stored}
+use Rattle.image_graph.proofs.Steps.{stored, placed_inside}
 use Rattle.cset_choice.specs.Steps.{words_copied}
 use Rattle.cset_choice.proofs.Objects.{word_of_heap}
 use Rattle.cset_choice.proofs.Copying.{none_copied, still_there, copied_next}
@@ -42,3 +43,28 @@ pub returns-clause-words : goal.returns-clause-words
 returns-clause-words c =
     let all : c.loop-index.index ≡ c.args.words = omega (arith, c.loop-index-test.false, c.loop-index.auto.index-end) in
     c.loop-index.invariant.words ∙ ap (λ n. words_copied c.args.from c.args.to n (memory_of c.args.image.now)) all
+
+pub overflow_add-from : goal.overflow_add-from
+overflow_add-from c = omega (arith, low_in _ _ _ c.requires.from, c.loop-index-test.true)
+
+pub heap_at-requires : goal.heap_at-requires
+heap_at-requires c = word_in (config_of c.args.image.now) c.config-config.result c.args.from c.args.words c.loop-index.index c.config-config.ensures c.requires.from c.loop-index-test.true
+
+pub word-word-requires : goal.word-word-requires
+word-word-requires c =
+    placed_inside (config_of c.loop-index.image) c.config-config.result (Heap (c.args.from + c.loop-index.index)) _ (c.loop-index.invariant.config ∙ sym c.config-config.ensures)
+    (word_in (config_of c.args.image.now) c.config-config.result c.args.from c.args.words c.loop-index.index c.config-config.ensures c.requires.from c.loop-index-test.true) c.heap_at.ensures
+
+pub overflow_add-to : goal.overflow_add-to
+overflow_add-to c = omega (arith, low_in _ _ _ c.requires.to, c.loop-index-test.true)
+
+pub heap_at-requires-in-loop-index : goal.heap_at-requires-in-loop-index
+heap_at-requires-in-loop-index c = word_in (config_of c.args.image.now) c.config-config.result c.args.to c.args.words c.loop-index.index c.config-config.ensures c.requires.to c.loop-index-test.true
+
+pub set_word-requires : goal.set_word-requires
+set_word-requires c =
+    placed_inside (config_of c.loop-index.image) c.config-config.result (Heap (c.args.to + c.loop-index.index)) _ (c.loop-index.invariant.config ∙ sym c.config-config.ensures)
+    (word_in (config_of c.args.image.now) c.config-config.result c.args.to c.args.words c.loop-index.index c.config-config.ensures c.requires.to c.loop-index-test.true) c.heap_at-in-loop-index.ensures
+
+pub returns-clause-config : goal.returns-clause-config
+returns-clause-config c = c.loop-index.invariant.config

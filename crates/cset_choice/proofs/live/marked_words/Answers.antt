@@ -1,8 +1,13 @@
-use Rattle.std.proofs.Common.{◌+◌, ℕ, sym, ◌∙◌, subst}
+use Rattle.std.proofs.Common.{◌≡◌, ◌+◌, ℕ, sym, ap, ◌∙◌, subst, arith}
+use Rattle.std.proofs.lemmas.Bool.{cond-true}
 use Rattle.heap_words.specs.declared.config.Config.{Config}
 use Rattle.heap_words.specs.Words.{Word, Heap, IsWord}
 use Rattle.image_graph.specs.State.{config_of, memory_of}
 use Rattle.image_graph.proofs.Steps.{placed_inside}
+use Rattle.heap_words.specs.Encoding.{object_words}
+use Rattle.mark_laws.specs.Marks.{is_black}
+use Rattle.cset_laws.specs.Live.{words_at}
+use Rattle.cset_choice.proofs.Reading.{read, low_word}
 use Rattle.cset_choice.proofs.Objects.{shape_in_heap}
 use Rattle.cset_choice.proofs.live.marked_words.Goals as goal
 
@@ -21,3 +26,22 @@ word-shape-requires c =
     (subst (λ (k : Config). IsWord k (Heap (c.args.address + 1))) (sym c.config.ensures)
     (shape_in_heap g m c.args.address c.requires.apart c.requires.inside (sym c.is_black.ensures ∙ c.if-is_black.true)))
     c.heap_at.ensures
+
+pub overflow_add-address : goal.overflow_add-address
+overflow_add-address c = omega (arith, low_word (config_of c.args.image.now) _ c.requires.inside)
+
+pub is_black-requires : goal.is_black-requires
+is_black-requires c = c.requires.inside
+
+pub returns-then-is_black-clause-value : goal.returns-then-is_black-clause-value
+returns-then-is_black-clause-value c =
+    let g = config_of c.args.image.now in
+    let m : Word → ℕ = memory_of c.args.image.now in
+    let a = c.args.address in
+    let black = sym c.is_black.ensures ∙ c.if-is_black.true in
+    let shape : c.word-shape.result ≡ m (Heap (a + 1)) =
+    read g _ m (Heap (a + 1)) _ _ c.config.ensures (shape_in_heap g m a c.requires.apart c.requires.inside black) c.heap_at.ensures c.word-shape.ensures.named in
+    c.words_of.ensures ∙ ap object_words shape ∙ sym (cond-true (is_black g m a) (words_at m a) 0 black)
+
+pub returns-then-is_black-clause-bound : goal.returns-then-is_black-clause-bound
+returns-then-is_black-clause-bound c = omega (arith, c.words_of.ensures)

@@ -13,3 +13,12 @@ find-requires-clause-inside c = λ _.
 pub returns-then-word-ne0-clause-noted : goal.returns-then-word-ne0-clause-noted
 returns-then-word-ne0-clause-noted c =
     c.find.ensures.noted ∙ ap (with_address (found_of c.args.image.now)) (c.resolve-copy.ensures ∙ copy_is (memory_of c.args.image.now) c.args.word c.if-word-ne0.true)
+
+pub find-requires-clause-found : goal.find-requires-clause-found
+find-requires-clause-found c = c.requires.found
+
+pub returns-then-word-ne0-clause-unchanged : goal.returns-then-word-ne0-clause-unchanged
+returns-then-word-ne0-clause-unchanged c = c.find.ensures.unchanged
+
+pub returns-then-word-ne0-clause-found : goal.returns-then-word-ne0-clause-found
+returns-then-word-ne0-clause-found c = c.find.ensures.found
