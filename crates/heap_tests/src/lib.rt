@@ -5,3 +5,4 @@
 mod calls_step_by_step;
 #[cfg(test)]
 mod collections;
+mod shared_heap;

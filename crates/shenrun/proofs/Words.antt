@@ -172,3 +172,8 @@ told_by false both = λ p. false≢true (both.1 p)
 pub some_workers : (words : List (List ℕ)) (workers : ℕ) → IsRunBy words workers → 1 ≤ workers
 some_workers words workers (inl one) = omega (arith, one.1)
 some_workers words workers (inr three) = three.1.0
+
+-- no words have no first word
+pub none_begins : {X : Type 0} (f : X → List ℕ) (words : List X) (text : List ℕ) → length words < 1 → BeginWith text (map f words) → ⊥
+none_begins f [] text few begins = begins
+none_begins f (x ∷ xs) text few begins = absurd (omega arith)

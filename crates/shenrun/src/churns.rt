@@ -36,13 +36,13 @@ pub struct Workload {
 }
 
 /// The seed that a whole word spells.
-fn seed_in(word: &[u8]) -> Option<u64>
+fn seed_in(word: &str) -> Option<u64>
     ensures { MatchOption result ((n : ℕ) → n ≤ most_seed → word.now ≡ decimal n → ⊥) (λ n. (n ≤ most_seed) × (word.now ≡ decimal n)) }
 {
-    if word == b"0".as_slice() {
+    if word == "0" {
         Some(0)
     } else {
-        number_in(MOST_SEED, word)
+        number_in(MOST_SEED, word.as_bytes())
     }
 }
 
@@ -52,7 +52,7 @@ pub fn workload_of(words: &[String]) -> Option<Workload>
 {
     match words {
         [word, seed, count] if word.as_str() == "churn" => {
-            let seed = seed_in(seed.as_bytes())?;
+            let seed = seed_in(seed.as_str())?;
             let count = number_in(MOST_ROUNDS, count.as_bytes())?;
             Some(Workload { seed, count })
         }

@@ -12,4 +12,3 @@ pub mod Turning
 pub mod Rounds
 pub mod Starting
 pub mod Ended
-pub mod Looks

@@ -15,8 +15,3 @@ pub use gate::{Gate, OpenGate};
 pub use heap::Heap;
 pub use heap_machines::Stepped;
 pub use machines::{Acting, OfHeaps};
-
-#[cfg(test)]
-mod tests;
-#[cfg(test)]
-mod thread_tests;

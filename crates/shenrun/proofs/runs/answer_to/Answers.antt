@@ -28,3 +28,6 @@ returns-clause-ok g c = λ bytes reads.
     let done : HasCome config scripts c.in_ok-replies.replies c.in_ok-replies.heap = subst (λ (ss : Scripts). HasCome config ss c.in_ok-replies.replies c.in_ok-replies.heap) c.into_vec-scripts.ensures c.in_ok-replies.ensures in
     answered bytes config scripts items c.in_ok-replies.replies c.in_ok-replies.heap c.in_ok-graph.graph reads (count_scripts bytes config scripts items reads) done c.in_ok-graph.ensures.threads
     (c.in_ok-graph.ensures.shows (opening_run config done.reached.events) done.reached.ends)
+
+pub run_scripts-requires-clause-workers : goal.run_scripts-requires-clause-workers
+run_scripts-requires-clause-workers g c κs within = c.requires.workers

@@ -1,8 +1,9 @@
-use Rattle.std.proofs.Common.{ℕ, List, eqb, inl, refl, ap, ◌∙◌}
+use Rattle.std.proofs.Common.{ℕ, List, eqb, inl, refl, sym, ap, ◌∙◌, arith}
 use Rattle.std.specs.Prelude.{codes}
 use Rattle.std.specs.Cmp.Lexicographic.{pointwise}
 use Rattle.std.specs.String.{string_bytes}
-use Rattle.shenrun.proofs.Words.{one_word, three_words, workers_named}
+use Rattle.std.proofs.lemmas.Bool.{false≢true}
+use Rattle.shenrun.proofs.Words.{one_word, three_words, workers_named, none_begins, first_word, run_begins}
 use Rattle.shenrun.proofs.runs.workers_of.Goals as goal
 
 pub returns-in-len1 : goal.returns-in-len1
@@ -21,3 +22,23 @@ returns-in-len3 c =
     (c.if-eq-2.ensures ∙ ap (λ (t : List ℕ). pointwise eqb t (codes "run")) c.as_str-then-words-lt4.ensures.value)
     (c.if-eq-3.ensures ∙ ap (λ (t : List ℕ). pointwise eqb t (codes "--workers")) c.as_str-then-eq-2.ensures.value))
     (rw (← c.as_bytes.ensures.value) c.number_in.ensures)
+
+pub bounds-words-0 : goal.bounds-words-0
+bounds-words-0 c = omega (arith, c.in-len1.len_at_least)
+
+pub bounds-words-0-then-words-lt4 : goal.bounds-words-0-then-words-lt4
+bounds-words-0-then-words-lt4 c = omega (arith, c.in-len3.len_at_least)
+
+pub bounds-words-1 : goal.bounds-words-1
+bounds-words-1 c = omega (arith, c.in-len3.len_at_least)
+
+pub bounds-words-2 : goal.bounds-words-2
+bounds-words-2 c = omega (arith, c.in-len3.len_at_least)
+
+pub returns-in_default : goal.returns-in_default
+returns-in_default c = λ asked. none_begins string_bytes c.args.words.now (codes "run") c.in_default.len_below (run_begins _ asked)
+
+pub returns-in_default-2 : goal.returns-in_default-2
+returns-in_default-2 c = λ asked.
+    false≢true (sym c.if-eq.false ∙ (first_word string_bytes c.args.words.now c.word-item.result (codes "run") c.eq.result c.in-len1.len_at_least c.word-item.is
+    (c.eq.ensures ∙ ap (λ (t : List ℕ). pointwise eqb t (codes "run")) c.as_str.ensures.value)).1 (run_begins _ asked))

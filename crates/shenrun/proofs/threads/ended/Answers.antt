@@ -1,5 +1,5 @@
 use Rattle.std.proofs.Common.{rules, ◌≡◌, ◌+◌, true, false, sym, subst}
-use Rattle.shenrun.specs.Parts.{IsReady}
+use Rattle.shenrun.specs.Parts.{CanRun, IsReady, IsDone}
 use Rattle.shenrun.specs.Started.{IsThread}
 use Rattle.shenrun.proofs.PartLaws.{ended_done}
 use Rattle.shenrun.proofs.Loops.{ran_already, as_given}
@@ -19,3 +19,16 @@ returns-else-not-ran g c = λ scripts workers k is.
     let ready : IsReady h scripts workers k (k + 1) c.in-Running.handle.promise.0.value = subst (IsThread h scripts workers k) c.in-Running.is is in
     let ran : c.join-part.result.ran ≡ true = search rules in
     ran_already h scripts workers k (k + 1) c.in-Running.handle.promise.0.value c.join-part.result ready c.join-part.ensures ran
+
+pub run-requires-after_bounds : goal.run-requires-after_bounds
+run-requires-after_bounds g c κs within =
+    let h = c.args.heap.now in
+    let r = c.requires in
+    let ready : IsReady h r.0 r.1 r.2 (r.2 + 1) c.in-Running.handle.promise.0.value = subst (IsThread h r.0 r.1 r.2) c.in-Running.is r.3 in
+    subst (CanRun h) (sym (as_given c.in-Running.handle.promise.0.value c.join-part.result c.join-part.ensures c.if-not-ran.true)) (record { of = ready.has.of; start = ready.start })
+
+pub returns-in-Over : goal.returns-in-Over
+returns-in-Over g c = λ scripts workers k is.
+    let h = c.args.heap.now in
+    let done : IsDone h scripts workers k (k + 1) c.in-Over.part = subst (IsThread h scripts workers k) c.in-Over.is is in
+    done

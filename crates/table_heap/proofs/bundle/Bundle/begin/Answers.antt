@@ -1,8 +1,9 @@
-use Rattle.std.proofs.Common.{◌<◌, Some, sym, ap, ◌∙◌, subst, arith}
+use Rattle.std.proofs.Common.{refl, ◌<◌, Some, sym, ap, ◌∙◌, subst, arith}
 use Rattle.std.specs.Prelude.{slice_set}
 use Rattle.std.proofs.lemmas.List.{length-set}
 use Rattle.shared_steps.specs.Views.{kept_of}
 use Rattle.shared_steps.proofs.Kept.{kept-set}
+use Rattle.shared_steps.proofs.Numbers.{same_none}
 use Rattle.heap_machines.specs.Shown.{shown, order_of, no_machine}
 use Rattle.std.specs.Option.{option_copied_mut}
 use Rattle.shen_graph.specs.declared.order.Order.TheVariants.{Begin}
@@ -61,3 +62,9 @@ returns-clause-takes c =
     let inside = within shown b.machines.items c.args.number c.requires.here in
     let here = read_here shown b.machines.items c.args.number c.index_mut.result.now m inside c.index_mut.ensures.value (sym c.as_mut.ensures.value ∙ ap option_copied_mut c.in-Some.is) in
     ap (λ x. takes_of x (Begin c.args.command)) (shows_as shown b.machines.items c.args.number m no_machine here) ∙ c.begin.ensures.takes
+
+pub begin-requires-clause-valid : goal.begin-requires-clause-valid
+begin-requires-clause-valid c = c.requires.valid
+
+pub returns-clause-unmoved : goal.returns-clause-unmoved
+returns-clause-unmoved c = record { same = record { table = refl; config = refl; numbers = same_none c.args.self.now.seat.me.0 }; view = refl }

@@ -106,3 +106,6 @@ returns-clause-unchanged c = λ none.
       unmoved = record { same = record { table = refl; config = refl; numbers = same_none b.seat.me.0 }; view = refl };
       orders = put_same order_of b.machines.items c.args.number m n here (c.order_next.ensures.idle none ∙ sym was);
     }
+
+pub returns-clause-unmoved : goal.returns-clause-unmoved
+returns-clause-unmoved c = record { same = record { table = refl; config = refl; numbers = same_none c.args.self.now.seat.me.0 }; view = refl }

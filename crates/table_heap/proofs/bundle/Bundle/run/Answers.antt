@@ -41,3 +41,12 @@ loop-preserved g c =
       same = same_bundle_more c.args.self.now l.self c.round.new.self l.invariant.same c.round.ensures.same;
       jobs = same_jobs_more c.args.self.now l.self c.args.work.now l.work c.round.new.work l.invariant.same l.invariant.jobs c.round.ensures.jobs;
     }
+
+pub round-requires-clause-work : goal.round-requires-clause-work
+round-requires-clause-work g c = λ _ _. c.loop.invariant.work
+
+pub returns-in-Idle-clause-orders : goal.returns-in-Idle-clause-orders
+returns-in-Idle-clause-orders g c = c.round.ensures.work.orders
+
+pub returns-in-Idle-clause-idle : goal.returns-in-Idle-clause-idle
+returns-in-Idle-clause-idle g c = c.round.ensures.idle c.in-Idle.is

@@ -1,6 +1,6 @@
 use Rattle.std.proofs.Common.{◌≤◌, length, All}
 use Rattle.shen_graph.specs.Valid.{IsValid}
-use Rattle.table_heap.proofs.tests.script.Given as goal
+use Rattle.heap_tests.proofs.shared_heap.script.Given as goal
 
 abbrev pub invariant-loop-number : goal.invariant-loop-number
 invariant-loop-number l = All IsValid l.script × (length l.script ≤ l.number)

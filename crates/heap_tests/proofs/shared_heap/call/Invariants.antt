@@ -1,5 +1,5 @@
 use Rattle.table_heap.specs.State.{IsSameBundle}
-use Rattle.table_heap.proofs.thread_tests.call_and_end.Given as goal
+use Rattle.heap_tests.proofs.shared_heap.call.Given as goal
 
 abbrev pub invariant-loop : goal.invariant-loop
 invariant-loop l = IsSameBundle l.fn.bundle l.bundle
