@@ -3,7 +3,8 @@
 
 In a page an indented line that begins with ./shensteps is a command, to be run at the top of the repository; the indented
 lines behind it are what it writes. With --write the pages get what it writes now; read them then. The other listings are of
-random traces, as settling.py makes them and checks them.
+random traces, as settling.py makes them and checks them. A table of calls says what refusals and short listings write, and
+with which status they end. No answer of it was taken from the program.
 
 usage: test_listings.py [--write]
 """
@@ -23,6 +24,33 @@ PROGRAMS = [TOP / "crates" / "shensteps" / "out" / "shensteps", TOP / "out" / "s
 TRACES = 60
 # Each command with each reply that it can be given, where all references are one and all numbers are.
 KINDS = 22
+
+# Words, what is read, the status and what is written.
+FORM = "bad words: the form is shensteps [--steps N] [--from N] [--only MACHINE] [--heap]\n"
+ASKS = "shen 1\nheap 4 64 0\nthreads 1 0\n1 gc\n"
+# The control looks first whether a mutator is left, as in each round after that of the mutator.
+LISTED = """ event  machine   at  access                                  found             says
+-- rounds
+     3  thread 1  E2  load pause word                         0
+     5  thread 1  PH  load phase                              0
+unfinished after 6 steps
+"""
+REFUSED = (
+    "replay",
+    "--steps",
+    "--steps 0",
+    "--steps 4000000001",
+    "--steps 1 --steps 1",
+    "--heap --heap",
+    "--only 13",
+    "--from 01",
+    "--heap ",
+)
+CALLS = [
+    *((words, ASKS, 2, FORM) for words in REFUSED),
+    ("", "heap 1\n", 3, "bad line 1: header wanted\n"),
+    ("--only 1 --steps 6 --from 2", ASKS, 4, LISTED),
+]
 
 
 def written(command):
@@ -67,6 +95,24 @@ def has_bars(program, columns):
     return "[#" in run.stdout
 
 
+def answers(program, words, text, status, wanted):
+    """Whether a call ends with the status, and writes what is wanted."""
+    run = subprocess.run([program, *words.split(" ")] if words else [program], input=text, stdout=subprocess.PIPE, text=True, check=False)
+    if (run.returncode, run.stdout) == (status, wanted):
+        return True
+    print(f"shensteps {words} ends with {run.returncode}, and writes:\n{run.stdout}")
+    return False
+
+
+def tells_full_disk(program):
+    """Whether a call ends with the status of a write that failed."""
+    with open("/dev/full", "w", encoding="utf-8") as full:
+        run = subprocess.run([program, "--heap", "--steps", "9"], input=ASKS, stdout=full, text=True, check=False)
+    if run.returncode != 6:
+        print(f"shensteps ends with {run.returncode} where it cannot write")
+    return run.returncode == 6
+
+
 def is_well():
     """Whether the program does what the pages do not show."""
     program = next((it for it in PROGRAMS if os.access(it, os.X_OK)), None)
@@ -76,7 +122,8 @@ def is_well():
     bars = [has_bars(program, columns) for columns in ("99", "100", "")]
     if bars != [False, True, True]:
         print("the heap does not have bars exactly where a line may have 100 columns")
-    return is_settled_well(program) and bars == [False, True, True]
+    calls = [answers(program, *call) for call in CALLS]
+    return all(calls) and tells_full_disk(program) and is_settled_well(program) and bars == [False, True, True]
 
 
 def main():

@@ -55,6 +55,3 @@ fn main(rt: HostRuntime) -> ExitCode {
     let status = shensteps(rt.alloc(), &words, is_wide(&rt), &mut source, &mut sink);
     ExitCode::from(status.number())
 }
-
-#[cfg(test)]
-mod tests;
