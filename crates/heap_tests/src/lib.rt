@@ -5,4 +5,5 @@
 mod calls_step_by_step;
 #[cfg(test)]
 mod collections;
+#[cfg(test)]
 mod shared_heap;

@@ -4,8 +4,10 @@
 #[cfg(test)]
 mod adders;
 #[cfg(test)]
+mod copiers_of_a_heap;
+#[cfg(test)]
+mod handshakes;
+#[cfg(test)]
 mod parts_of_calls;
 #[cfg(test)]
 mod units;
-mod copiers_of_a_heap;
-mod handshakes;
