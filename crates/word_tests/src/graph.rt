@@ -111,8 +111,8 @@ fn commands_are_answered_and_names_are_reached(rt: HostRuntime) -> Result<(), Fa
     let alloc = rt.alloc();
     let mut plain = PlainGraph::open(alloc, 1)?;
     let replies = answers(&rt, alloc, &mut plain, 1, &COMMANDS)?;
-    assert_eq!(rt; replies.as_slice(), REPLIES.as_slice());
+    assert!(rt; replies.as_slice() == REPLIES.as_slice());
     let names = plain.reach(alloc)?;
-    assert_eq!(rt; names.as_slice(), [Name::HUB, FIRST].as_slice());
+    assert!(rt; names.as_slice() == [Name::HUB, FIRST].as_slice());
     Ok(())
 }
