@@ -51,8 +51,11 @@ const TWO_WITHOUT_ROOM: [Step; 15] = [
 fn play(rt: &impl Abort, copiers: &mut Copiers, steps: &[Step]) {
     for (number, wish, says, word) in steps {
         assert!(rt; copiers.takes(*number, *wish));
-        assert!(rt; copiers.step(*number, *wish) == *says, "{number} {wish:?}");
-        assert!(rt; copiers.word() == *word, "{number} {wish:?}");
+        let said = copiers.step(*number, *wish);
+        assert!(rt;
+            said == *says && copiers.word() == *word,
+            "{number} {wish:?}"
+        );
     }
 }
 

@@ -150,7 +150,7 @@ fn encodings(rt: HostRuntime) {
 // The first number of each row is the second.
 pub fn agree(rt: &impl Abort, rows: &[(u64, u64)]) {
     for (got, wanted) in rows {
-        assert!(rt; got == wanted, "{got} for {wanted}");
+        assert!(rt; got == wanted, "{wanted}");
     }
 }
 
@@ -192,18 +192,21 @@ fn accesses(rt: HostRuntime) {
 }
 
 // All codes, each once.
-const CODES: &[u8; 162] =
-    b"E1E2E3E4PHCSLVMLH0RLSHFLFSFXCXNLNSNMRSAKBCBLGOBZBEBNTCTTTFTGTUTSIWWSWKWOWPWLWCHLXLXCSLCLCPHIHXGBXSOLOXXWHRMCECUCKXMGMBMOMSMFETESEBULUTUSUBUFUHUXI0IEI1I2P1P2PLPSP3";
+const CODES: [[u8; 2]; 81] = [
+    *b"E1", *b"E2", *b"E3", *b"E4", *b"PH", *b"CS", *b"LV", *b"ML", *b"H0", *b"RL", *b"SH", *b"FL",
+    *b"FS", *b"FX", *b"CX", *b"NL", *b"NS", *b"NM", *b"RS", *b"AK", *b"BC", *b"BL", *b"GO", *b"BZ",
+    *b"BE", *b"BN", *b"TC", *b"TT", *b"TF", *b"TG", *b"TU", *b"TS", *b"IW", *b"WS", *b"WK", *b"WO",
+    *b"WP", *b"WL", *b"WC", *b"HL", *b"XL", *b"XC", *b"SL", *b"CL", *b"CP", *b"HI", *b"HX", *b"GB",
+    *b"XS", *b"OL", *b"OX", *b"XW", *b"HR", *b"MC", *b"EC", *b"UC", *b"KX", *b"MG", *b"MB", *b"MO",
+    *b"MS", *b"MF", *b"ET", *b"ES", *b"EB", *b"UL", *b"UT", *b"US", *b"UB", *b"UF", *b"UH", *b"UX",
+    *b"I0", *b"IE", *b"I1", *b"I2", *b"P1", *b"P2", *b"PL", *b"PS", *b"P3",
+];
 
 // The codes are known, and with another case or in another order they are none.
 #[test]
 fn codes_of_places(rt: HostRuntime) {
-    for pair in CODES.chunks(2) {
-        let place = match *pair {
-            [first, second] => Place::of([first, second]),
-            _ => None,
-        };
-        assert!(rt; place.is_some(), "{pair:?}");
+    for code in &CODES {
+        assert!(rt; Place::of(*code).is_some(), "{code:?}");
     }
     for (code, place) in [(*b"E1", Some(Place::E1)), (*b"e1", None), (*b"1E", None)] {
         assert!(rt; Place::of(code) == place, "{code:?}");
