@@ -19,7 +19,7 @@ by_test : (b : Bool) (P : Type 0) → (b ≡ false → P) → (P → b ≡ false
 by_test true P to back = ((λ e. absurd (cc)), (λ p. absurd (let no = back p in cc)))
 by_test false P to back = ((λ e. to refl), (λ p. refl))
 
-never : (More ≡ Again) ↔ ⊥
+pub never : (More ≡ Again) ↔ ⊥
 never = ((λ e. cc), (λ no. absurd no))
 
 pub scanning_waits : (c : Config) (seen : ℕ) (at : ScanSpot) (got : ℕ) → (scanning_says at got ≡ Again) ↔ waits_at c seen (Scanning at) got

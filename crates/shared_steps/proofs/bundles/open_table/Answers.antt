@@ -1,6 +1,5 @@
 -- The opening follows no event.
 use Rattle.std.proofs.Common.{sym, subst, List, ℕ, []}
-use Rattle.std.proofs.lemmas.Result.{IfOk-weaker}
 use Rattle.atomic_table.specs.Table.{opening}
 use Rattle.shared_steps.specs.Views.{whole}
 use Rattle.shared_steps.specs.Rule.{Rule}
@@ -11,6 +10,3 @@ pub of_words-requires : goal.of_words-requires
 of_words-requires g c =
     subst (λ (ws : List ℕ). Rule (g.M.Machines.kind c.args.key.now) (g.M.Machines.opening c.args.key.now) (opening {S = Unit {0}} ws [] (whole (g.M.Machines.opening c.args.key.now).machines))) (sym c.requires)
     (opens (g.M.Machines.kind c.args.key.now) (g.M.Machines.opening c.args.key.now) {S = Unit {0}} [])
-
-pub returns : goal.returns
-returns g c = IfOk-weaker c.of_words.result _ _ (λ t h. (h.5, h.0, h.1, h.2, h.4)) c.of_words.ensures

@@ -90,27 +90,3 @@ pub returns-in-Exchange-clause-took : goal.returns-in-Exchange-clause-took
 returns-in-Exchange-clause-took g c =
     step_told g.M.Machines.kind g.M.Machines.opening c.args.table.now.key c.args.number c.args.seat.now.me c.args.order.now g.G.Turn.key g.G.Turn.number g.G.Turn.order
     c.compare_exchange.result c.compare_exchange.new.seat.me c.requires.turn c.compare_exchange.ensures.2
-
-pub returns-in-Load-clause-table : goal.returns-in-Load-clause-table
-returns-in-Load-clause-table g c = (c.load.ensures.0, c.load.ensures.1)
-
-pub returns-in-Store-clause-table : goal.returns-in-Store-clause-table
-returns-in-Store-clause-table g c = (c.swap.ensures.0, c.swap.ensures.1)
-
-pub returns-in-Swap-clause-table : goal.returns-in-Swap-clause-table
-returns-in-Swap-clause-table g c = (c.swap-in-Swap.ensures.0, c.swap-in-Swap.ensures.1)
-
-pub returns-in-Add-clause-table : goal.returns-in-Add-clause-table
-returns-in-Add-clause-table g c = (c.fetch_add.ensures.0, c.fetch_add.ensures.1)
-
-pub returns-in-Sub-clause-table : goal.returns-in-Sub-clause-table
-returns-in-Sub-clause-table g c = (c.fetch_sub.ensures.0, c.fetch_sub.ensures.1)
-
-pub returns-in-And-clause-table : goal.returns-in-And-clause-table
-returns-in-And-clause-table g c = (c.fetch_and.ensures.0, c.fetch_and.ensures.1)
-
-pub returns-in-Or-clause-table : goal.returns-in-Or-clause-table
-returns-in-Or-clause-table g c = (c.fetch_or.ensures.0, c.fetch_or.ensures.1)
-
-pub returns-in-Exchange-clause-table : goal.returns-in-Exchange-clause-table
-returns-in-Exchange-clause-table g c = (c.compare_exchange.ensures.0, c.compare_exchange.ensures.1)
