@@ -3,3 +3,4 @@ pub mod Starts
 pub mod Updating
 pub mod Naming
 pub mod Finishing
+pub mod Reading

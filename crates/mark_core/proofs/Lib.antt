@@ -8,3 +8,4 @@ pub mod Closing
 pub mod Freeing
 pub mod Ending
 pub mod Some
+pub mod Reading

@@ -1,0 +1,36 @@
+use Rattle.std.proofs.Common.{◌≡◌, ◌<◌, ◌==◌, ◌&&◌, ℕ, Bool, sym, ap, ◌∙◌, subst}
+use Rattle.std.specs.Int.{bit_at}
+use Rattle.std.proofs.lemmas.Bool.{le-leb}
+use Rattle.heap_words.specs.declared.config.Config.{Config}
+use Rattle.heap_words.specs.Words.{Word, Heap, Black, IsWord, bit_words}
+use Rattle.mark_bits.specs.Marks.{mark_word, mark_bit}
+use Rattle.image_graph.specs.State.{config_of, memory_of}
+use Rattle.image_graph.proofs.Steps.{placed_inside}
+use Rattle.mark_core.proofs.Reading.{read}
+use Rattle.mark_core.proofs.look.is_black.Goals as goal
+
+pub mark_word-requires : goal.mark_word-requires
+mark_word-requires c = subst (λ (k : Config). IsWord k (Heap c.args.address)) (sym c.config-config.ensures) c.requires
+
+pub black_at-requires : goal.black_at-requires
+black_at-requires c = c.mark_word.ensures.inside
+
+pub word-word-requires : goal.word-word-requires
+word-word-requires c = placed_inside (config_of c.args.image.now) c.config-config.result (Black c.mark_word.result) _ (sym c.config-config.ensures) c.mark_word.ensures.inside c.black_at.ensures
+
+pub is_marked_in-requires : goal.is_marked_in-requires
+is_marked_in-requires c = subst (λ (k : Config). IsWord k (Heap c.args.address)) (sym c.config-config.ensures) c.requires
+
+pub returns : goal.returns
+returns c =
+    let g = config_of c.args.image.now in
+    let m : Word → ℕ = memory_of c.args.image.now in
+    let a = c.args.address in
+    let n = c.mark_word.result in
+    let at : n ≡ mark_word g a = c.mark_word.ensures.value ∙ ap (λ (j : Config). mark_word j a) c.config-config.ensures in
+    let word : c.word-word.result ≡ m (Black n) =
+    read g _ m (Black n) _ _ c.config-config.ensures (subst (λ (j : Config). n < bit_words j) c.config-config.ensures c.mark_word.ensures.inside) c.black_at.ensures c.word-word.ensures.named in
+    c.is_marked_in.ensures
+    ∙ ap (λ (j : Config). bit_at c.word-word.result (mark_bit j a) == 1) c.config-config.ensures
+    ∙ ap (λ (w : ℕ). bit_at w (mark_bit g a) == 1) (word ∙ ap (λ (q : ℕ). m (Black q)) at)
+    ∙ ap (λ (b : Bool). b && (bit_at (m (Black (mark_word g a))) (mark_bit g a) == 1)) (sym (le-leb g.region_words a c.requires.0))
