@@ -148,6 +148,20 @@ heard_outside c w seat made refs nums kept (Waiting wait.Poll) command fixed out
 heard_outside c w seat made refs nums kept (Waiting at) command fixed out mine is = absurd (cc (out))
 heard_outside c w seat made refs nums kept _ command fixed out mine is = absurd (cc (is))
 
+-- an answer is one of three: none, full, or an address
+none_is_not_full : (n : ℕ) → n ≡ 0 → n ≡ 1 → ⊥
+none_is_not_full n none full = omega arith
+
+none_is_not_given : (n : ℕ) → n ≡ 0 → 1 < n → ⊥
+none_is_not_given n none more = omega arith
+
+full_is_not_given : (n : ℕ) → n ≡ 1 → 1 < n → ⊥
+full_is_not_given n full more = omega arith
+
+-- a mutator is not the control
+mutator_is_not_control : (c : Config) (t : ℕ) → t < c.mutators → t ≢ control_number c
+mutator_is_not_control c t below is = omega arith
+
 -- The mutators in a new image: it stands for the same graph, nobody marks or copies in it, and it answers who asks.
 module _ (c : Config) (words : List ℕ) (u w : World) (t made : ℕ) (kept : Kept) (b : Actor) (x : Asking)
     (asked : IsAsked w.memory w.block w.graph.count t x) (graph : w.graph ≡ u.graph)
@@ -191,10 +205,10 @@ module _ (c : Config) (words : List ℕ) (u w : World) (t made : ℕ) (kept : Ke
           mine = mine_outside spot old.fixed out old.mine (λ e. now) facts;
           seen = record {
             null = λ e. whole ∙ (old.mine.seated.unasked quiet).1;
-            full = λ e. absurd (omega (arith, answer, e));
-            given = λ e. absurd (omega (arith, answer, e));
+            full = λ e. absurd (none_is_not_full _ answer e);
+            given = λ e. absurd (none_is_not_given _ answer e);
           };
-          short = λ e unsettled. absurd (omega (arith, answer, e));
+          short = λ e unsettled. absurd (none_is_not_full _ answer e);
           entries_are = old.entries_are;
         }
 
@@ -206,8 +220,8 @@ module _ (c : Config) (words : List ℕ) (u w : World) (t made : ℕ) (kept : Ke
       number_is = refl;
       valid = old.valid;
       mine = mine_outside spot old.fixed out old.mine (λ e. absurd (false≢true (sym e ∙ waits))) facts;
-      seen = record { null = λ e. absurd (omega (arith, more, e)); full = λ e. absurd (omega (arith, more, e)); given = λ e. other };
-      short = λ e unsettled. absurd (omega (arith, more, e));
+      seen = record { null = λ e. absurd (none_is_not_given _ e more); full = λ e. absurd (full_is_not_given _ e more); given = λ e. other };
+      short = λ e unsettled. absurd (full_is_not_given _ e more);
       entries_are = old.entries_are;
     }
 
@@ -233,9 +247,9 @@ module _ (c : Config) (words : List ℕ) (u w : World) (t made : ℕ) (kept : Ke
       valid = old.valid;
       mine = mine_outside (Waiting wait.Poll) old.fixed refl old.mine (λ e. absurd (false≢true (sym e))) (inr (inr (record { dst = dst_of kept.command; refs = refs_of kept.command; nums = nums_of kept.command; is = making.is; settled = inl making.unsettled }, now)));
       seen = record {
-        null = λ e. absurd (let answer = now.1 in omega (arith, answer, e));
+        null = λ e. absurd (none_is_not_full _ e now.1);
         full = λ e. inr (whole ∙ before, making.unsettled);
-        given = λ e. absurd (let answer = now.1 in omega (arith, answer, e));
+        given = λ e. absurd (full_is_not_given _ now.1 e);
       };
       short = λ e unsettled.
           subst (λ k. IsShort c w.memory w.graph t (words_asked (Some k))) (sym making.is)
@@ -248,11 +262,11 @@ module _ (c : Config) (words : List ℕ) (u w : World) (t made : ℕ) (kept : Ke
     poll_then short answers old (inl waits) = ⊎_elim
         (λ (none_left : IsAsked w.memory w.block w.graph.count t refused × (x ≡ refused)). refused_first short waits.0.1.1 none_left.0 none_left.1 old waits.0.0)
         (λ (has : IsAsked w.memory w.block w.graph.count t (given (refs_of kept.command) (nums_of kept.command))).
-        given_now (Waiting wait.Poll) refl refl (λ e. (let before = waits.0.1.1 in omega (arith, sym whole ∙ e, before))) has.1 old (inr (inl (waits.0.0, has))))
+        given_now (Waiting wait.Poll) refl refl (λ e. none_is_not_full _ waits.0.1.1 (sym whole ∙ e)) has.1 old (inr (inl (waits.0.0, has))))
         (asks_then w.memory w.block w.graph.count t (refs_of kept.command) (nums_of kept.command) x (subst (λ y. Answers y x) (asking_asks _ kept.command waits.0.1.1) answers) asked)
     poll_then short answers old (inr (inl has)) =
         let still = given_then w.memory w.block w.graph.count t (refs_of kept.command) (nums_of kept.command) x (subst (λ y. Answers y x) (asking_given _ kept.command has.1.1) answers) asked in
-        given_now (Waiting wait.Poll) refl refl (λ e. (let before = has.1.1 in omega (arith, sym whole ∙ e, before))) still.1 old (inr (inl (has.0, still)))
+        given_now (Waiting wait.Poll) refl refl (λ e. full_is_not_given _ (sym whole ∙ e) has.1.1) still.1 old (inr (inl (has.0, still)))
     poll_then short answers old (inr (inr is)) =
         let still = refused_then w.memory w.block w.graph.count t x (subst (λ y. Answers y x) (asking_refused _ kept.command is.1.1) answers) asked in
         refused_now (Waiting wait.Poll) refl refl is.1.1 still.1 old (inr (inr (is.0, still)))
@@ -262,7 +276,7 @@ module _ (c : Config) (words : List ℕ) (u w : World) (t made : ℕ) (kept : Ke
         → IsAnswered u t made kept.command b.command old.fixed → Thread w (Entering at Waited)
     enter_then at out answers old (inl has) =
         let still = given_then w.memory w.block w.graph.count t (refs_of kept.command) (nums_of kept.command) x (subst (λ y. Answers y x) (asking_given _ kept.command has.1.1) answers) asked in
-        given_now (Entering at Waited) out refl (λ e. (let before = has.1.1 in omega (arith, sym whole ∙ e, before))) still.1 old (inl (has.0, still))
+        given_now (Entering at Waited) out refl (λ e. full_is_not_given _ (sym whole ∙ e) has.1.1) still.1 old (inl (has.0, still))
     enter_then at out answers old (inr is) =
         let still = refused_then w.memory w.block w.graph.count t x (subst (λ y. Answers y x) (asking_refused _ kept.command is.1.1) answers) asked in
         refused_now (Entering at Waited) out refl is.1.1 still.1 old (inr (is.0, still))
@@ -303,7 +317,7 @@ module _ (c : Config) (words : List ℕ) (block : Plot) (ghost : Ghost) (g : Gra
 
   -- a mutator is not
   mutator_out : AllOutside → (t : ℕ) (b : Actor) (m : Mutating) → t < c.mutators → slice_get machines t ≡ Some b → b.machine ≡ mutating m → is_within (standing_at m.spot) ≡ false
-  mutator_out outside t b m below there is = ap (λ machine. is_within (standing_of machine)) (sym is) ∙ outside t b there (λ e. omega (arith, below, e))
+  mutator_out outside t b m below there is = ap (λ machine. is_within (standing_of machine)) (sym is) ∙ outside t b there (mutator_is_not_control c t below)
 
   -- and has asked for what its spot says
   mutator_asks : (t : ℕ) (b : Actor) (m : Mutating) → slice_get machines t ≡ Some b → b.machine ≡ mutating m → asking t ≡ asking_at m.spot (view c words (Answer t)) m.kept.command
@@ -321,7 +335,7 @@ module _ (c : Config) (words : List ℕ) (block : Plot) (ghost : Ghost) (g : Gra
       → (a more : ℕ) → block a ≡ Some (hand k more) → ⊥
   none_of k b (mutating m) outside is a more here =
       let below : k < c.mutators = subst (λ j. j < c.mutators) is.number_is is.mine.seated.below in
-      none_outside m.kept m.spot a more (outside (λ e. omega (arith, below, e))) (is.mine.hands a more (subst (λ j. block a ≡ Some (hand j more)) (sym is.number_is) here))
+      none_outside m.kept m.spot a more (outside (mutator_is_not_control c k below)) (is.mine.hands a more (subst (λ j. block a ≡ Some (hand j more)) (sym is.number_is) here))
   none_of k b (helping h) outside is a more here = (rests_outside c before k h.spot (outside (λ e. (let below = is.below in omega (arith, below, e)))) is.facts).hands a more here
   none_of k b (controlling h) outside is a more here = still.hands a more (subst (λ j. block a ≡ Some (hand j more)) is.number_is here)
 
