@@ -4,3 +4,4 @@ pub mod Resolving
 pub mod Every
 pub mod Inside
 pub mod Waiting
+pub mod UnitWaiting

@@ -22,6 +22,9 @@ told_never : (next : ResolveSpot) → told next ≡ Again → ⊥
 told_never (Resolved answer) is = cc
 told_never _ is = cc
 
+pub never_told : (next : ResolveSpot) → (told next ≡ Again) ↔ ⊥
+never_told next = (told_never next, λ waits. absurd waits)
+
 pub told_again : (said : Took) (next : ResolveSpot) → (told_by said next ≡ Again) ↔ (said ≡ Again)
 told_again Again next = (λ is. refl, λ is. refl)
 told_again More next = (λ is. absurd (told_never next is), λ is. cc)

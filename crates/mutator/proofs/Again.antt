@@ -1,8 +1,15 @@
--- Where a step at a reference field has to look again.
+-- Where a step of a call has to look again.
 use Rattle.std.proofs.Common.{◌≡◌, ◌↔◌, ℕ, arith}
 use Rattle.std.proofs.lemmas.Bool.Decides.{nat_tests}
 use Rattle.heap_words.specs.declared.access.Took.TheVariants.{Again}
-use Rattle.mutator.specs.declared.spot.Spot.TheVariants.{OnField}
+use Rattle.handshake.specs.declared.enter_spot.EnterSpot.{EnterSpot}
+use Rattle.handshake.specs.declared.enter_spot.EnterSpot.TheVariants as enter
+use Rattle.handshake.specs.Rows.{enter_says}
+use Rattle.mutator.specs.declared.spot.Entered.{Entered}
+use Rattle.mutator.specs.declared.spot.Spot.TheVariants.{OnField, Entering, Waiting}
+use Rattle.mutator.specs.declared.waits.WaitSpot.{WaitSpot}
+use Rattle.mutator.specs.declared.waits.WaitSpot.TheVariants as wait
+use Rattle.mutator.specs.WaitRows.{call_says, wait_says}
 use Rattle.mutator.specs.declared.fields.FieldSpot.{FieldSpot}
 use Rattle.mutator.specs.declared.fields.FieldSpot.TheVariants.{Exchange}
 use Rattle.mutator.specs.Rows.{field_says}
@@ -12,3 +19,21 @@ use Rattle.mutator.specs.Waits.{WaitsAt}
 pub says_where_it_waits : (object : ℕ) (at : FieldSpot) (got : ℕ) → (field_says at got ≡ Again) ↔ WaitsAt (OnField object at) got
 says_where_it_waits object (Exchange found expect value) got = grind (arith, nat_tests)
 says_where_it_waits object _ got = (λ is. cc, λ waits. absurd waits)
+
+-- one that enters where a pause is wanted
+pub enters_where_it_waits : (at : EnterSpot) (next : Entered) (got : ℕ) → (call_says (enter_says at got) ≡ Again) ↔ WaitsAt (Entering at next) got
+enters_where_it_waits enter.Look next got = grind (arith, nat_tests)
+enters_where_it_waits enter.Await next got = grind (arith, nat_tests)
+enters_where_it_waits enter.Raise next got = (λ is. cc, λ waits. absurd waits)
+enters_where_it_waits enter.Lower next got = (λ is. cc, λ waits. absurd waits)
+enters_where_it_waits enter.Inside next got = (λ is. cc, λ waits. absurd waits)
+
+-- and one that waits for its object where there is no answer yet
+pub polls_where_it_waits : (at : WaitSpot) (got : ℕ) → (wait_says at got ≡ Again) ↔ WaitsAt (Waiting at) got
+polls_where_it_waits wait.Poll got = grind (arith, nat_tests)
+polls_where_it_waits wait.StoreRequest got = (λ is. cc, λ waits. absurd waits)
+polls_where_it_waits wait.AskRoom got = (λ is. cc, λ waits. absurd waits)
+polls_where_it_waits wait.StepOut got = (λ is. cc, λ waits. absurd waits)
+polls_where_it_waits wait.LoadAnswer got = (λ is. cc, λ waits. absurd waits)
+polls_where_it_waits (wait.StoreRoot address) got = (λ is. cc, λ waits. absurd waits)
+polls_where_it_waits (wait.ClearAnswer reply) got = (λ is. cc, λ waits. absurd waits)

@@ -1,4 +1,4 @@
-use Rattle.load_barrier.proofs.Waiting.{room_part, take_part}
+use Rattle.load_barrier.proofs.Waiting.{never_told, room_part, take_part}
 use Rattle.alloc_buffers.specs.declared.spot.Kind.TheVariants.{Evacuated}
 use Rattle.load_barrier.proofs.spot.ResolveSpot.after.Goals as goal
 
@@ -10,3 +10,9 @@ returns-in-Taking-clause-again c = rw (c.in-Taking.is, c.told_by-in-Taking.ensur
 
 pub returns-in-Stopping-clause-again : goal.returns-in-Stopping-clause-again
 returns-in-Stopping-clause-again c = rw (c.in-Stopping.is, c.told_by-in-Stopping.ensures.says) (room_part c.says-in-Stopping.result c.after_stop.result c.in-Stopping.at c.args.got c.says-in-Stopping.ensures)
+
+pub returns-in-LoadHeader-clause-again : goal.returns-in-LoadHeader-clause-again
+returns-in-LoadHeader-clause-again c = rw (c.in-LoadHeader.is, c.told.ensures.says) (never_told c.after_header.result)
+
+pub returns-in-Copying-clause-again : goal.returns-in-Copying-clause-again
+returns-in-Copying-clause-again c = rw (c.in-Copying.is, c.told-in-Copying.ensures.says) (never_told c.after-in-Copying.result)

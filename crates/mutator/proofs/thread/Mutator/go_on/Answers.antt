@@ -4,7 +4,7 @@ use Rattle.mutator.specs.declared.spot.Spot.TheVariants.{Entering, LoadPhase, Lo
 use Rattle.mutator.specs.Rows.{Mutating, after_remember}
 use Rattle.mutator.specs.WaitRows.{after_enter}
 use Rattle.mutator.specs.Seen.{seen}
-use Rattle.mutator.proofs.Again.{says_where_it_waits}
+use Rattle.mutator.proofs.Again.{says_where_it_waits, enters_where_it_waits, polls_where_it_waits}
 use Rattle.mutator.proofs.Goes.{pending, ready_next}
 use Rattle.mutator.proofs.thread.Mutator.go_on.Goals as goal
 
@@ -79,3 +79,9 @@ invariant_of-self-in-Showing c =
 
 pub returns-in-OnField-clause-again : goal.returns-in-OnField-clause-again
 returns-in-OnField-clause-again c = rw c.in-OnField.is (rw c.says-in-OnField.ensures (says_where_it_waits c.in-OnField.object c.in-OnField.at c.args.got))
+
+pub returns-in-Entering-clause-again : goal.returns-in-Entering-clause-again
+returns-in-Entering-clause-again c = rw (c.in-Entering.is, c.call_says.ensures, c.says.ensures) (enters_where_it_waits c.in-Entering.at c.in-Entering.then c.args.got)
+
+pub returns-in-Waiting-clause-again : goal.returns-in-Waiting-clause-again
+returns-in-Waiting-clause-again c = rw (c.in-Waiting.is, c.wait.ensures.answer) (polls_where_it_waits c.in-Waiting.at c.args.got)
