@@ -1,5 +1,5 @@
 -- What is known of the bundles of a heap before the first event, and of one whose machines have made steps.
-use Rattle.std.proofs.Common.{◌≡◌, ℕ, zero, suc, ◌+◌, ◌<◌, List, [], ◌∷◌, ◌++◌, length, All, Some, ap, ◌∙◌, arith, ◌%◌, true, None, sym}
+use Rattle.std.proofs.Common.{◌≡◌, ℕ, zero, suc, ◌<◌, List, [], ◌∷◌, ◌++◌, length, All, Some, ap, ◌∙◌, arith, ◌%◌, true, None, sym}
 use Rattle.std.specs.Prelude.{slice_get, ◌==◌, if◌then◌else◌, unwrap_or}
 use Rattle.std.proofs.lemmas.List.{length-append}
 use Rattle.shared_steps.specs.Views.{whole, dealt_to, machine_of, kept_one, is_dealt_to}
