@@ -1,19 +1,13 @@
--- What is known of the bundles of a heap before the first event, and of one whose machines have made steps.
-use Rattle.std.proofs.Common.{◌≡◌, ℕ, zero, suc, ◌<◌, List, [], ◌∷◌, ◌++◌, length, All, Some, ap, ◌∙◌, arith, ◌%◌, true, None, sym}
-use Rattle.std.specs.Prelude.{slice_get, ◌==◌, if◌then◌else◌, unwrap_or}
-use Rattle.std.proofs.lemmas.List.{length-append}
+-- What is known of the bundle of a heap before the first event, and of one whose machines have made steps.
+use Rattle.std.proofs.Common.{◌≡◌, ℕ, ◌<◌, Some, ap, ◌∙◌, arith, ◌%◌, true, None, sym}
+use Rattle.std.specs.Prelude.{◌==◌, if◌then◌else◌, unwrap_or}
 use Rattle.shared_steps.specs.Views.{whole, dealt_to, machine_of, kept_one, is_dealt_to}
 use Rattle.heap_words.specs.declared.config.Config.{Config}
-use Rattle.shen_graph.specs.declared.command.Command.{Command}
-use Rattle.shen_graph.specs.Valid.{IsValid}
-use Rattle.shen_graph.specs.Work.{HasScript, progress_of, begun, opened}
+use Rattle.shen_graph.specs.Work.{begun}
 use Rattle.table_heap.specs.declared.bundle.Bundle.{Bundle}
 use Rattle.table_heap.specs.declared.heap.Heap.{Heap}
 use Rattle.table_heap.specs.Core.{heap_opening, machine_in}
 use Rattle.table_heap.specs.State.{IsOf, IsFresh, view_of, machines_of, machine_at, HasMachine, IsSameBundle}
-use Rattle.table_heap.specs.Running.{Jobs, CanStart}
-use Rattle.table_heap.proofs.Jobs.{has_here}
-use Rattle.table_heap.proofs.Starting.{fresh_can_start}
 use Rattle.std.specs.Option.{is_some}
 use Rattle.std.proofs.lemmas.Bool.Decides.{nat_tests}
 use Rattle.heap_words.specs.Ranges.{seat_count}
@@ -62,44 +56,4 @@ fresh_can_call c h b bundles k number fresh within dealt =
       has = ap is_some is;
       rest = ap (λ o. may_begin (unwrap_or o no_machine)) is ∙ first_free_to_begin c number within;
       made = ap (λ o. made_of_machine (unwrap_or o no_machine)) is ∙ first_made c number;
-    }
-
--- a script that a mutator can start with
-pub record IsScript (script : List Command) : Type 0 where
-  pub valid : All IsValid script
-  pub few : length script < 4294967295
-
--- of two scripts, that of a mutator
-of_two : (one other : List Command) → IsScript one → IsScript other → (jobs : Jobs) → jobs ≡ opened (one ∷ other ∷ []) → (number : ℕ) → number < 2
-    → (script : List Command) × (progress_of jobs number ≡ Some (begun script)) × All IsValid script × (length script < 4294967295)
-of_two one other is other_is jobs are zero within = (one, ap (λ work. progress_of work 0) are, is.valid, is.few)
-of_two one other is other_is jobs are (suc zero) within = (other, ap (λ work. progress_of work 1) are, other_is.valid, other_is.few)
-of_two one other is other_is jobs are (suc (suc n)) within = absurd (omega (arith, within))
-
--- two elements that were taken off a list of two
-two_popped : {A : Type 0} (xs ys zs : List A) (a b : A) → xs ≡ ys ++ b ∷ [] → ys ≡ zs ++ a ∷ [] → length xs ≡ 2 → (slice_get xs 0 ≡ Some a) × (slice_get xs 1 ≡ Some b)
-two_popped xs ys [] a b one two long = let both = one ∙ ap (λ l. l ++ b ∷ []) two in (ap (λ l. slice_get l 0) both, ap (λ l. slice_get l 1) both)
-two_popped xs ys (z ∷ zs) a b one two long =
-    absurd (let e = ap length one ∙ length-append ys (b ∷ []) in let f = ap length two ∙ length-append (z ∷ zs) (a ∷ []) in omega (arith, e, f, long))
-
--- what is known of both
-pub record CanBothStart (h : Heap) (first second : Bundle) (jobs others : Jobs) : Type 0 where
-  pub of : IsOf first h × IsOf second h
-  pub start : CanStart first jobs × CanStart second others
-  pub script : HasScript jobs 0 × HasScript others 1
-
-pub both_can_start : (c : Config) (h : Heap) (all left none : List Bundle) (first second : Bundle) (one other : List Command) (jobs others : Jobs) → all ≡ left ++ second ∷ [] → left ≡ none ++ first ∷ [] → length all ≡ 2 → c.mutators ≡ 2
-    → ((k : ℕ) (b : Bundle) → slice_get all k ≡ Some b → IsFresh h b (dealt_to 2 k (whole (heap_opening c).machines)))
-    → IsScript one → IsScript other → jobs ≡ opened (one ∷ other ∷ []) → others ≡ opened (one ∷ other ∷ []) → CanBothStart h first second jobs others
-both_can_start c h all left none first second one other jobs others popped popped_first count mutators fresh is other_is are others_are =
-    let there = two_popped all left none first second popped popped_first count in
-    let first_is = fresh 0 first there.0 in
-    let second_is = fresh 1 second there.1 in
-    record {
-      of = (first_is.of, second_is.of);
-      start = (
-        fresh_can_start h first c 2 0 jobs first_is (λ number below dealt. of_two one other is other_is jobs are number (omega (arith, below, mutators))),
-        fresh_can_start h second c 2 1 others second_is (λ number below dealt. of_two one other is other_is others others_are number (omega (arith, below, mutators))),
-      );
-      script = (has_here jobs 0 (begun one) (ap (λ work. progress_of work 0) are), has_here others 1 (begun other) (ap (λ work. progress_of work 1) others_are));
     }

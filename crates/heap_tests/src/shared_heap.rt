@@ -1,4 +1,4 @@
-//! Heaps whose machines lie in bundles, which one thread steps, or two.
+//! Heaps whose machines lie in a bundle, which one thread steps.
 ghost use Rattle.std.specs.Prelude.{◌≡◌, ◌<◌, ◌≤◌, true, length, All, IfOk};
 ghost use Rattle.shen_graph.specs.Valid.{IsValid};
 ghost use Rattle.shen_graph.specs.Work.{HasScript};
@@ -9,11 +9,8 @@ ghost use Rattle.table_heap.specs.Running.{CanStart};
 use heap_words::Config;
 use shen_graph::{Command, Name, Reply, Script, Work};
 use std::alloc::Global;
-use std::sync::Wait;
-use std::sync::atomic::{AtomicBool, AtomicU64, Ordering};
+use std::sync::atomic::{AtomicU64, Ordering};
 use std::test::Fail;
-use std::thread;
-use std::thread::Threads;
 use table_heap::{Bundle, Gate, Heap, Stepped};
 
 const MAKE: Command = Command::New {
@@ -34,25 +31,11 @@ const LOAD: Command = Command::Get {
     field: 3,
 };
 
-/// The first object of thread 1, and that of thread 2.
+/// The first object of thread 1.
 const MADE: Reply = Reply::Ref(Name {
     thread: 1,
     count: 1,
 });
-
-const MADE_BY_OTHER: Reply = Reply::Ref(Name {
-    thread: 2,
-    count: 1,
-});
-
-/// What one thread does and the other, which share a heap, and their replies.
-const TAKING: &[Command] = &[LOAD];
-
-const TAKEN: &[Reply] = &[MADE_BY_OTHER];
-
-const GIVING: &[Command] = &[MAKE, STORE, Command::Copy { dst: 2, src: 1 }];
-
-const GIVEN: &[Reply] = &[MADE_BY_OTHER, Reply::Ok, Reply::Ok];
 
 /// The script of a thread that runs alone beside so many helpers, its replies, and how many steps all machines make, where that
 /// is known.
@@ -172,135 +155,7 @@ fn call(heap: &Heap, bundle: &mut Bundle, command: Command) -> Option<Reply>
 
 #[test]
 fn a_mutator_is_stepped(rt: HostRuntime) -> Result<(), Fail> {
-    let (heap, mut bundle, _) = opened(rt.alloc(), 0, TAKING)?;
+    let (heap, mut bundle, _) = opened(rt.alloc(), 0, &[])?;
     assert!(rt; call(&heap, &mut bundle, MAKE) == Some(MADE));
-    Ok(())
-}
-
-// A heap of two mutators in two bundles, each with work in which they do this.
-fn opened_for_two(
-    alloc: Global,
-    commands: &[Command],
-    others: &[Command],
-) -> Result<(Heap, Bundle, Bundle, Work, Work), Fail>
-    ensures heap { IfOk result (λ made. IsOf made.1 made.0 × IsOf made.2 made.0) }
-    ensures start { IfOk result (λ made. CanStart made.1 made.3 × CanStart made.2 made.4) }
-    ensures script { IfOk result (λ made. HasScript made.3 0 × HasScript made.4 1) }
-{
-    let config = Config::new(8, 64, 2, 0, 0)?;
-    let (heap, mut bundles) = Heap::open(alloc, config, 2)?;
-    let Some(second) = bundles.pop() else {
-        unreachable!()
-    };
-    let Some(first) = bundles.pop() else {
-        unreachable!()
-    };
-    let own = script(alloc, commands)?;
-    let others = script(alloc, others)?;
-    let mut scripts = Vec::new(alloc);
-    scripts.push(own)?;
-    scripts.push(others)?;
-    let work = Work::open(alloc, &scripts)?;
-    let other = Work::open(alloc, &scripts)?;
-    Ok((heap, first, second, work, other))
-}
-
-/// A gate that holds machine 0 at its first step until machine 1 has passed so often. It notes where that does not come about.
-#[derive(Drop)]
-struct Held {
-    wanted: u64,
-    first: AtomicBool,
-    second: AtomicU64,
-    late: AtomicBool,
-}
-
-impl Held {
-    fn hold(&self) {
-        for _ in 0..100_000_000u64 {
-            if self.second.load(Ordering::SeqCst) >= self.wanted {
-                return;
-            }
-            thread::yield_now();
-        }
-        self.late.store(true, Ordering::SeqCst);
-    }
-}
-
-impl Gate for Held {
-    fn pass(&self, number: usize) {
-        if number == 1 {
-            self.second.fetch_add(1, Ordering::SeqCst);
-        }
-        if number == 0 && !self.first.swap(true, Ordering::SeqCst) {
-            self.hold();
-        }
-    }
-}
-
-// Runs the machines of a bundle, and says whether a mutator is told these replies.
-fn is_told<R: Wait, G: Gate>(
-    rt: &R,
-    heap: &Heap,
-    gate: &G,
-    mut bundle: Bundle,
-    mut work: Work,
-    number: usize,
-    wanted: &[Reply],
-) -> bool
-    requires heap { IsOf bundle heap.now }
-    requires start { CanStart bundle work }
-    requires script { HasScript work number }
-{
-    bundle.run(rt, heap, &mut work, gate);
-    work.replies(number).list() == wanted
-}
-
-// Runs two bundles, the second in a thread of its own, and says whether their mutators are told these replies.
-fn are_told<R: Threads + Wait + Sync, G: Gate>(
-    rt: &R,
-    heap: &Heap,
-    gate: &G,
-    bundles: (Bundle, Bundle),
-    work: (Work, Work),
-) -> Result<bool, Fail>
-    requires heap { IsOf bundles.0 heap.now × IsOf bundles.1 heap.now }
-    requires start { CanStart bundles.0 work.0 × CanStart bundles.1 work.1 }
-    requires script { HasScript work.0 0 × HasScript work.1 1 }
-{
-    thread::scope(
-        thread::scope_env(),
-        rt,
-        move |scope| -> Result<bool, Fail>
-            requires heap { IsOf bundles.0 heap.now × IsOf bundles.1 heap.now }
-            requires start { CanStart bundles.0 work.0 × CanStart bundles.1 work.1 }
-            requires script { HasScript work.0 0 × HasScript work.1 1 }
-        {
-            let (first, second) = bundles;
-            let (own, other) = work;
-            let told = scope.spawn(
-                move || -> bool
-                    requires heap { IsOf second heap.now }
-                    requires start { CanStart second other }
-                    requires script { HasScript other 1 }
-                { is_told(rt, heap, gate, second, other, 1, GIVEN) },
-            )?;
-            let is_told_here = is_told(rt, heap, gate, first, own, 0, TAKEN);
-            Ok(told.join(rt) && is_told_here)
-        },
-    )
-}
-
-// What one thread stores the other loads, which is held until the store is done.
-#[test]
-fn two_threads_share_a_heap(rt: HostRuntime) -> Result<(), Fail> {
-    let (heap, first, second, work, other) = opened_for_two(rt.alloc(), TAKING, GIVING)?;
-    let gate = Held {
-        wanted: 30,
-        first: AtomicBool::new(false),
-        second: AtomicU64::new(0),
-        late: AtomicBool::new(false),
-    };
-    assert!(rt; are_told(&rt, &heap, &gate, (first, second), (work, other))?);
-    assert!(rt; !gate.late.load(Ordering::SeqCst));
     Ok(())
 }
