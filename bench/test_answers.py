@@ -12,8 +12,9 @@ unfinished. No answer was taken from the program.
 
 The first example is also cut behind each byte, with the end of the input there and with a fault of it, and its answer is written to a
 file that may have so many bytes and no more, and to one that takes none. Traces of 16777216 bytes, of one more and without an end are
-read.
+read. Two threads change one field, and the first stops after each number of steps of its command.
 """
+import itertools
 import json
 import os
 import pty
@@ -166,6 +167,22 @@ def rooms():
                 yield f"{words} does not tell that nothing can be written"
 
 
+def races():
+    """Two threads change one field, which is null. The first stops after so many steps of its command, the second runs to its end, and
+    then the first goes on: the step by which its access changes the field, or finds it changed, decides which comes first."""
+    changes = {"set 0 0 1": 8, "xchg 2 0 0 1": 8, "cas 0 0 2 1": 10}
+    for (command, settles), other, steps in itertools.product(changes.items(), changes, range(13)):
+        trace = f"shen 1\nheap 8 64 0\nthreads 2 0\n1 new 1 0 0\n1 {command}\n2 new 1 0 0\n2 {other}\n! 1=1 2=1{f' 1:{steps}' * (steps > 0)} 2=2\n"
+        graph, replies = Graph(), {}
+        for thread, words in ("1", "new 1 0 0"), ("2", "new 1 0 0"), *[("1", command), ("2", other)][:: 1 if steps >= settles else -1]:
+            replies[thread] = [*replies.get(thread, []), f"{thread} {graph.answer(thread, words)}"]
+        hub = f"object 0.1 {graph.objects['0.1'][0][0]}"
+        status, written = ran(["replay"], trace.encode())
+        lines = written.decode().split("\n")
+        if status or lines[:5] != [*replies["1"], *replies["2"], "graph"] or not lines[5].startswith(hub):
+            yield f"{command}, stopped after {steps} steps beside {other}: {written.decode()}"
+
+
 def longs():
     """Traces that are as long as one may be, and longer."""
     long = 3, f"too long: more than {MOST} bytes\n".encode()
@@ -189,7 +206,7 @@ def main():
         for why in fails(row):
             print(f"{row.title}, {shlex.join(row.words)}: {why}")
             failed += 1
-    for why in (*fronts(), *rooms(), *longs()):
+    for why in (*races(), *fronts(), *rooms(), *longs()):
         print(why)
         failed += 1
     print(f"{number} rows of words, traces and answers were tried, and {failed} failed")
