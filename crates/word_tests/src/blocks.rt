@@ -1,5 +1,7 @@
 //! What a sink has of text that is put into blocks, whole and where a call of the sink fails.
+use crate::sources_sinks::sink;
 use shen_base::MemorySink;
+use std::alloc::{AllocError, Global};
 use std::test::Fail;
 use text_writer::Block;
 
@@ -19,24 +21,33 @@ const ROWS: [(u64, u64, &str, usize); 11] = [
     (11, 12, "12", 8192),
 ];
 
+// The text of 900 times ten letters and these digits.
+fn text(alloc: Global, digits: &str) -> Result<Vec<u8>, AllocError> {
+    let mut text = Vec::new(alloc);
+    for _ in 0..900 {
+        text.extend_from_slice(b"abcdefghij")?;
+    }
+    text.extend_from_slice(digits.as_bytes())?;
+    Ok(text)
+}
+
+// Puts 900 times ten letters and this number into a block, and answers whether there was no fault.
+fn put(sink: &mut MemorySink, number: u64) -> bool {
+    let mut block = Block::new();
+    for _ in 0..900 {
+        block.put(sink, b"abcdefghij");
+    }
+    block.put_number(sink, number);
+    block.finish(sink).is_ok()
+}
+
 #[test]
 fn blocks_join_without_a_seam_and_a_fault_leaves_a_front(rt: HostRuntime) -> Result<(), Fail> {
-    let alloc = rt.alloc();
     for (failing, number, digits, length) in &ROWS {
-        let mut sink = MemorySink::with_room(alloc, 10_000, 1000, vec![in alloc; *failing]?)?;
-        let mut block = Block::new();
-        let mut text = Vec::new(alloc);
-        for _ in 0..900 {
-            block.put(&mut sink, b"abcdefghij");
-            text.extend_from_slice(b"abcdefghij")?;
-        }
-        block.put_number(&mut sink, *number);
-        text.extend_from_slice(digits.as_bytes())?;
-        let is_whole = block.finish(&mut sink).is_ok();
-        assert!(rt;
-            is_whole == (*failing == 0) && text.get(..*length) == Some(sink.bytes()),
-            "call {failing}, number {number}"
-        );
+        let mut sink = sink(rt.alloc(), 10_000, 1000, *failing)?;
+        let is_whole = put(&mut sink, *number);
+        let text = text(rt.alloc(), digits)?;
+        assert!(rt; is_whole == (*failing == 0) && text.get(..*length) == Some(sink.bytes()));
     }
     Ok(())
 }

@@ -40,8 +40,8 @@ fn renews_by_current_copies(rt: HostRuntime) {
     let mut tops = [9; 2];
     compact_marked(8, &marks, &mut heap, &mut places, &mut tops);
     assert!(rt; tops == [8, 0]);
-    for (word, renewed) in [(8, 13), (19, 13), (0, 0)] {
-        assert!(rt; renew(8, &places, word) == renewed, "{word}");
+    for (word, renewed) in &[(8, 13), (19, 13), (0, 0)] {
+        assert!(rt; renew(8, &places, *word) == *renewed);
     }
     assert!(rt;
         heap == [

@@ -8,41 +8,53 @@ use std::test::Fail;
 const TEXT: &[u8; 20] = b"abcdefghijklmnopqrst";
 
 // Whether calls that read at room for 10 answer so, None for Failed, and give so many bytes of the text in all.
-fn reads<S: Source>(
-    alloc: Global,
-    source: &mut S,
-    wanted: &[Option<usize>],
-    given: usize,
-) -> Result<bool, AllocError> {
-    let mut got = Vec::new(alloc);
+fn reads<S: Source>(source: &mut S, text: &[u8], wanted: &[Option<usize>], given: usize) -> bool {
+    let mut left = text;
     let mut is_wanted = true;
     for want in wanted {
         let mut buf = [0u8; 10];
-        match source.read(&mut buf) {
-            Ok(count) => {
-                is_wanted &= *want == Some(count);
-                got.extend_from_slice(&buf[..count])?;
-            }
-            Err(Failed::Failed) => is_wanted &= want.is_none(),
-        }
+        let answer = source.read(&mut buf).ok();
+        let count = answer.unwrap_or(0);
+        is_wanted &= answer == *want && left.get(..count) == buf.get(..count);
+        left = left.get(count..).unwrap_or(&[]);
     }
-    Ok(is_wanted && TEXT.get(..given) == Some(got.as_slice()))
+    is_wanted && text.get(given..) == Some(left)
 }
 
 // Whether calls that write the rest of the text answer so, None for Failed.
-fn writes<K: Sink>(sink: &mut K, wanted: &[Option<usize>]) -> bool {
-    let mut rest = TEXT.as_slice();
+fn writes<K: Sink>(sink: &mut K, text: &[u8], wanted: &[Option<usize>]) -> bool {
+    let mut rest = text;
     let mut is_wanted = true;
     for want in wanted {
-        match sink.write(rest) {
-            Ok(count) => {
-                is_wanted &= *want == Some(count);
-                rest = &rest[count..];
-            }
-            Err(Failed::Failed) => is_wanted &= want.is_none(),
-        }
+        let answer = sink.write(rest).ok();
+        is_wanted &= answer == *want;
+        rest = rest.get(answer.unwrap_or(0)..).unwrap_or(&[]);
     }
     is_wanted
+}
+
+// A source of this text that gives so many bytes at a time, and whose call of this number fails.
+fn source(
+    alloc: Global,
+    text: &[u8],
+    piece: usize,
+    failing: u64,
+) -> Result<MemorySource, AllocError> {
+    let failing = vec![in alloc; failing]?;
+    Ok(MemorySource::new(text.to_vec(alloc)?, piece.max(1), failing))
+}
+
+// A sink that has this room and takes so many bytes at a time, and whose call of this number fails.
+pub fn sink(
+    alloc: Global,
+    room: usize,
+    piece: usize,
+    failing: u64,
+) -> Result<MemorySink, AllocError> {
+    match MemorySink::with_room(alloc, room, piece.max(1), vec![in alloc; failing]?) {
+        Ok(sink) => Ok(sink),
+        Err(_) => Err(AllocError),
+    }
 }
 
 // The size of a piece, the call that fails, what five calls answer, and how many bytes they give.
@@ -54,17 +66,17 @@ const READS: [(usize, u64, [Option<usize>; 5], usize); 4] = [
 ];
 
 #[test]
-fn sources_give_pieces_and_fail_where_they_are_told(rt: HostRuntime) -> Result<(), Fail> {
-    let alloc = rt.alloc();
-    let mut plain = PlainSource::new(TEXT.to_vec(alloc)?);
-    assert!(rt; reads(alloc, &mut plain, &[Some(10), Some(10), Some(0)], 20)?);
+fn a_plain_source_gives_all_that_there_is_room_for(rt: HostRuntime) -> Result<(), Fail> {
+    let mut plain = PlainSource::new(TEXT.to_vec(rt.alloc())?);
+    assert!(rt; reads(&mut plain, TEXT, &[Some(10), Some(10), Some(0)], 20));
+    Ok(())
+}
+
+#[test]
+fn a_memory_source_gives_pieces_and_fails_where_it_is_told(rt: HostRuntime) -> Result<(), Fail> {
     for (piece, failing, wanted, given) in &READS {
-        let failing = [*failing].to_vec(alloc)?;
-        let mut source = MemorySource::new(TEXT.to_vec(alloc)?, (*piece).max(1), failing);
-        assert!(rt;
-            reads(alloc, &mut source, wanted, *given)?,
-            "at piece {piece}"
-        );
+        let mut source = source(rt.alloc(), TEXT, *piece, *failing)?;
+        assert!(rt; reads(&mut source, TEXT, wanted, *given));
     }
     Ok(())
 }
@@ -79,15 +91,10 @@ const WRITES: [(usize, usize, u64, [Option<usize>; 5], usize); 4] = [
 
 #[test]
 fn a_memory_sink_takes_pieces_until_it_is_full(rt: HostRuntime) -> Result<(), Fail> {
-    let alloc = rt.alloc();
     for (room, piece, failing, wanted, taken) in &WRITES {
-        let failing = [*failing].to_vec(alloc)?;
-        let mut sink = MemorySink::with_room(alloc, *room, (*piece).max(1), failing)?;
-        let is_wanted = writes(&mut sink, wanted) && sink.write(&[]) == Ok(0);
-        assert!(rt;
-            is_wanted && TEXT.get(..*taken) == Some(sink.bytes()),
-            "at room {room}, piece {piece}"
-        );
+        let mut sink = sink(rt.alloc(), *room, *piece, *failing)?;
+        let is_wanted = writes(&mut sink, TEXT, wanted) && sink.write(&[]) == Ok(0);
+        assert!(rt; is_wanted && TEXT.get(..*taken) == Some(sink.bytes()));
     }
     Ok(())
 }
@@ -129,27 +136,29 @@ impl<T: Write> Write for Halting<T> {
 }
 
 #[test]
-fn the_adapters_hand_on_bytes_and_faults(rt: HostRuntime) -> Result<(), Fail> {
-    let alloc = rt.alloc();
+fn a_source_of_a_reader_hands_on_bytes(rt: HostRuntime) {
     let text: &[u8] = TEXT;
     let mut source = InSource::new(text);
-    assert!(rt; reads(alloc, &mut source, &[Some(10), Some(10), Some(0)], 20)?);
+    assert!(rt; reads(&mut source, TEXT, &[Some(10), Some(10), Some(0)], 20));
+}
 
-    let mut source = InSource::new(Halting {
-        inner: text,
-        calls: 0,
-    });
+#[test]
+fn a_source_of_a_reader_hands_on_faults(rt: HostRuntime) {
+    let inner: &[u8] = TEXT;
+    let mut source = InSource::new(Halting { inner, calls: 0 });
     let wanted = [Some(8), None, Some(0), Some(8), Some(4), Some(0)];
-    assert!(rt; reads(alloc, &mut source, &wanted, 20)?);
+    assert!(rt; reads(&mut source, TEXT, &wanted, 20));
+}
 
-    let mut written = Vec::new(alloc);
+#[test]
+fn a_sink_of_a_writer_hands_on_bytes_and_faults(rt: HostRuntime) {
+    let mut written = Vec::new(rt.alloc());
     let mut sink = OutSink::new(Halting {
         inner: &mut written,
         calls: 0,
     });
     let wanted = [Some(8), None, None, Some(8), Some(4), Some(0)];
-    assert!(rt; writes(&mut sink, &wanted));
+    let is_wanted = writes(&mut sink, TEXT, &wanted);
     drop(sink);
-    assert!(rt; written.as_slice() == text);
-    Ok(())
+    assert!(rt; is_wanted && written.as_slice() == TEXT.as_slice());
 }

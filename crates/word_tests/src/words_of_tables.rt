@@ -20,7 +20,7 @@ const CONFIGS: [([usize; 5], Option<BadConfig>); 6] = [
 fn ranges(rt: HostRuntime) {
     for ([regions, region_words, mutators, helpers, reserve], fault) in &CONFIGS {
         let config = Config::new(*regions, *region_words, *mutators, *helpers, *reserve);
-        assert!(rt; config.err() == *fault, "{fault:?}");
+        assert!(rt; config.err() == *fault);
     }
 }
 
@@ -112,8 +112,7 @@ const WITH_A_HELPER: [(usize, WordName); 12] = [
 fn stand(rt: &impl Abort, config: Config, rows: &[(usize, WordName)], words: usize) {
     assert!(rt; config.table_words() == words);
     for (at, name) in rows {
-        assert!(rt; *at < config.table_words());
-        assert!(rt; config.name_of(*at) == *name, "{at}");
+        assert!(rt; *at < config.table_words() && config.name_of(*at) == *name);
     }
 }
 
@@ -150,7 +149,7 @@ fn encodings(rt: HostRuntime) {
 // The first number of each row is the second.
 pub fn agree(rt: &impl Abort, rows: &[(u64, u64)]) {
     for (got, wanted) in rows {
-        assert!(rt; got == wanted, "{wanted}");
+        assert!(rt; got == wanted);
     }
 }
 
@@ -186,8 +185,7 @@ const ACCESSES: [(Access, u64, u64); 9] = [
 #[test]
 fn accesses(rt: HostRuntime) {
     for (access, found, made) in &ACCESSES {
-        assert!(rt; access.at() == 3);
-        assert!(rt; access.made(*found) == *made, "{access:?}");
+        assert!(rt; access.at() == 3 && access.made(*found) == *made);
     }
 }
 
@@ -206,9 +204,9 @@ const CODES: [[u8; 2]; 81] = [
 #[test]
 fn codes_of_places(rt: HostRuntime) {
     for code in &CODES {
-        assert!(rt; Place::of(*code).is_some(), "{code:?}");
+        assert!(rt; Place::of(*code).is_some());
     }
-    for (code, place) in [(*b"E1", Some(Place::E1)), (*b"e1", None), (*b"1E", None)] {
-        assert!(rt; Place::of(code) == place, "{code:?}");
+    for (code, place) in &[(*b"E1", Some(Place::E1)), (*b"e1", None), (*b"1E", None)] {
+        assert!(rt; Place::of(*code) == *place);
     }
 }

@@ -2,23 +2,17 @@
 ghost use Rattle.std.specs.Prelude.{◌≡◌, length, IfOk};
 ghost use Rattle.shen_graph.specs.Work.{HasScript};
 
+use crate::sources_sinks::sink;
 use churn::Summary;
 use shen_base::{MemorySink, PlainSource};
 use shen_graph::{GraphText, Script, Work};
 use std::alloc::{AllocError, Global};
+use std::slice::from_ref;
 use std::test::Fail;
 use trace_text::{
     Answer, Line, Why, WriteFault, read_trace, read_traces_can_be_written, write_answer,
     write_line, write_trace,
 };
-
-// A sink that takes `piece` bytes at a time, and whose call of this number fails.
-fn sink(alloc: Global, piece: usize, failing: u64) -> Result<MemorySink, AllocError> {
-    match MemorySink::with_room(alloc, 1000, piece.max(1), vec![in alloc; failing]?) {
-        Ok(sink) => Ok(sink),
-        Err(_) => Err(AllocError),
-    }
-}
 
 // Whether the sink was given this text, and there was no fault; or, where one is wanted, its first bytes, and there was one.
 fn has(
@@ -84,10 +78,10 @@ const LINES: [(Line, &str); 8] = [
 #[test]
 fn each_line_has_its_text(rt: HostRuntime) -> Result<(), Fail> {
     for (line, text) in &LINES {
-        for (piece, failing, front) in SINKS {
-            let mut sink = sink(rt.alloc(), piece, failing)?;
+        for (piece, failing, front) in &SINKS {
+            let mut sink = sink(rt.alloc(), 1000, *piece, *failing)?;
             let ending = write_line(&mut sink, line);
-            assert!(rt; has(&sink, &ending, text, front), "{text}");
+            assert!(rt; has(&sink, &ending, text, *front));
         }
     }
     Ok(())
@@ -143,10 +137,10 @@ fn rewrite(
 #[test]
 fn a_trace_is_written_thread_by_thread(rt: HostRuntime) -> Result<(), Fail> {
     for (text, wanted) in &TRACES {
-        for (piece, failing, front) in SINKS {
-            let mut sink = sink(rt.alloc(), piece, failing)?;
+        for (piece, failing, front) in &SINKS {
+            let mut sink = sink(rt.alloc(), 1000, *piece, *failing)?;
             let ending = rewrite(rt.alloc(), text, &mut sink)?;
-            assert!(rt; has(&sink, &ending, wanted, front), "{wanted}");
+            assert!(rt; has(&sink, &ending, wanted, *front));
         }
     }
     Ok(())
@@ -160,7 +154,7 @@ fn answer(alloc: Global) -> Result<Answer, AllocError>
     let Ok(script) = Script::open(alloc) else {
         return Err(AllocError);
     };
-    let Ok(replies) = Work::open(alloc, &[script]) else {
+    let Ok(replies) = Work::open(alloc, from_ref(&script)) else {
         return Err(AllocError);
     };
     let Ok(graph) = GraphText::open(alloc, 0, 1) else {
@@ -174,10 +168,10 @@ const ANSWER: &str = "graph\nroots 1 - - - - - - - - - - - - - - - -\n";
 #[test]
 fn an_answer_is_written(rt: HostRuntime) -> Result<(), Fail> {
     let answer = answer(rt.alloc())?;
-    for (piece, failing, front) in SINKS {
-        let mut sink = sink(rt.alloc(), piece, failing)?;
+    for (piece, failing, front) in &SINKS {
+        let mut sink = sink(rt.alloc(), 1000, *piece, *failing)?;
         let ending = write_answer(&mut sink, &answer);
-        assert!(rt; has(&sink, &ending, ANSWER, front), "{piece}");
+        assert!(rt; has(&sink, &ending, ANSWER, *front));
     }
     Ok(())
 }
