@@ -1,9 +1,19 @@
-//! Tests of images, collections and whole runs, by hand-made rows, across the crates that hold them.
+//! Tests of images, collections, machines' atomic steps and whole runs, by hand-made rows, across the crates that hold them.
 #![tactic(auto)]
 
+#[cfg(test)]
+mod adders;
 #[cfg(test)]
 mod calls_step_by_step;
 #[cfg(test)]
 mod collections;
 #[cfg(test)]
+mod copiers_of_a_heap;
+#[cfg(test)]
+mod handshakes;
+#[cfg(test)]
+mod parts_of_calls;
+#[cfg(test)]
 mod shared_heap;
+#[cfg(test)]
+mod units;

@@ -1,4 +1,4 @@
-use Rattle.step_tests.proofs.handshakes.stops.Goals as goal
+use Rattle.heap_tests.proofs.handshakes.stops.Goals as goal
 
 pub place-place-requires : goal.place-place-requires
 place-place-requires g c = cc
