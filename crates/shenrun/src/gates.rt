@@ -1,5 +1,4 @@
 //! Machines step in threads of their own, and see each other's stores: what no script can see from outside.
-use crate::status::Status;
 use crate::top::shenrun;
 use shen_base::{MemorySink, MemorySource};
 use std::alloc::Global;
@@ -9,6 +8,7 @@ use std::test::Fail;
 use std::thread;
 use std::thread::Threads;
 use table_heap::Gate;
+use trace_runs::Status;
 
 /// A gate that holds machine 0 in its first pass until machine 1 has passed so often. It notes where that does not come about.
 #[derive(Drop)]

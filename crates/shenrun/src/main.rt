@@ -1,13 +1,6 @@
 //! `shenrun` runs traces of commands on a region heap.
 #![tactic(auto)]
 
-mod churns;
-mod lines;
-mod parts;
-mod replay;
-mod runs;
-mod status;
-mod threads;
 mod top;
 
 use shen_base::{InSource, OutSink};

@@ -8,21 +8,17 @@ ghost use Rattle.heap_words.specs.declared.schedule.Item.{Item};
 ghost use Rattle.shen_graph.specs.declared.command.Command.{Command};
 ghost use Rattle.text_writer.specs.Sending.{outlet};
 ghost use Rattle.trace_grammar.specs.Grammar.{Came, Reads};
-ghost use Rattle.shenrun.specs.Words.{IsReplay, AskRun, AskTrace, IsChurn, AskChurn, BeginWith};
-ghost use Rattle.shenrun.specs.Replayed.{IsReplayed, IsRun};
-ghost use Rattle.shenrun.specs.Churned.{IsChurned};
-ghost use Rattle.shenrun.specs.Answered.{IsAnswered, IsAnswer};
+ghost use Rattle.trace_runs.specs.Words.{IsReplay, AskRun, AskTrace, IsChurn, AskChurn, BeginWith};
+ghost use Rattle.trace_runs.specs.Replayed.{IsReplayed, IsRun};
+ghost use Rattle.trace_runs.specs.Churned.{IsChurned};
+ghost use Rattle.trace_runs.specs.Answered.{IsAnswered, IsAnswer};
 
-use crate::churns::{churn, workload_of};
-use crate::lines::say;
-use crate::replay::alone;
-use crate::runs::{run, workers_of};
-use crate::status::Status;
 use shen_base::{Sink, Source};
 use std::alloc::Global;
 use std::sync::Wait;
 use std::thread::Threads;
 use table_heap::Gate;
+use trace_runs::{Status, alone, churn, run, say, workers_of, workload_of};
 use trace_text::Line;
 
 // Whether this word is the first one.

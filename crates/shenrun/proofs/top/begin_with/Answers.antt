@@ -1,7 +1,7 @@
 use Rattle.std.proofs.Common.{ℕ, List, eqb, ap, ◌∙◌}
 use Rattle.std.specs.Cmp.Lexicographic.{pointwise}
 use Rattle.std.specs.String.{string_bytes}
-use Rattle.shenrun.proofs.Words.{first_word, told_by}
+use Rattle.trace_runs.proofs.Words.{first_word, told_by}
 use Rattle.shenrun.proofs.top.begin_with.Goals as goal
 
 pub returns-in-len1-up : goal.returns-in-len1-up

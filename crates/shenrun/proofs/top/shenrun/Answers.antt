@@ -3,12 +3,12 @@ use Rattle.std.specs.String.{string_bytes}
 use Rattle.trace_writing.specs.Message.{line_text}
 use Rattle.trace_writing.specs.declared.message.Line.TheVariants as line
 use Rattle.text_writer.specs.Sending.{outlet}
-use Rattle.shenrun.specs.declared.status.Status.TheVariants.{BadWords}
-use Rattle.shenrun.specs.Answered.{Input, Output}
-use Rattle.shenrun.proofs.Ends.{said, row_of_ok}
-use Rattle.shenrun.proofs.Complete.{complete, churned}
-use Rattle.shenrun.proofs.Words.{asks_none, replay_is_no_run, replay_is_no_churn}
-use Rattle.shenrun.specs.Words.{AskReplay}
+use Rattle.trace_runs.specs.declared.status.Status.TheVariants.{BadWords}
+use Rattle.trace_runs.specs.Answered.{Input, Output}
+use Rattle.trace_runs.proofs.Ends.{said, row_of_ok}
+use Rattle.trace_runs.proofs.Complete.{complete, churned}
+use Rattle.trace_runs.proofs.Words.{asks_none, replay_is_no_run, replay_is_no_churn}
+use Rattle.trace_runs.specs.Words.{AskReplay}
 use Rattle.shenrun.proofs.top.shenrun.Goals.{then-begin_with-via-then-begin_with, then-begin_with-via-else-begin_with+then-begin_with-2}
 use Rattle.shenrun.proofs.top.shenrun.Goals as goal
 

@@ -1,0 +1,144 @@
+-- The end of a run on threads: all machines are there, and idle.
+use Rattle.std.proofs.Common.{◌≡◌, ℕ, ◌+◌, ◌-◌, ◌<◌, ◌≤◌, ◌&&◌, true, List, length, Option, Some, None, refl, sym, ap, ◌∙◌, subst, arith, mod-lt}
+use Rattle.std.specs.Prelude.{◌%◌, nat_lt, nat_le, slice_get}
+use Rattle.std.specs.Option.{is_some}
+use Rattle.std.proofs.lemmas.Bool.{lt-ltb, false≢true}
+use Rattle.std.proofs.lemmas.Bool.Decides.{nat_tests}
+use Rattle.heap_words.specs.declared.config.Config.{Config}
+use Rattle.heap_words.specs.declared.schedule.Item.{Item}
+use Rattle.heap_words.specs.Ranges.{seat_count}
+use Rattle.steps_base.specs.Steps.{Stage, IsReached}
+use Rattle.shen_graph.specs.GraphText.{Text, names_of, root_of}
+use Rattle.shen_graph.specs.History.{Entry, after, of_thread}
+use Rattle.shen_graph.specs.History as history
+use Rattle.shen_graph.specs.Work as work
+use Rattle.heap_graph.specs.Shows as texts
+use Rattle.heap_machines.specs.Pause.{pause_image}
+use Rattle.shared_steps.specs.Views.{machine_of, whole}
+use Rattle.shared_steps.proofs.Kept.{kept_some}
+use Rattle.shared_steps.proofs.Shown.{machine_of-whole}
+use Rattle.step_core.specs.Actor.{Actor}
+use Rattle.step_core.specs.Machines.{is_resting}
+use Rattle.heap_machines.specs.Roles.{is_mutating}
+use Rattle.step_core.specs.Begins.{first_graph, reached, past}
+use Rattle.step_core.specs.Schedule.{Scripts, turn, turn_of}
+use Rattle.shen_core.specs.Calls.{AllHaveCalled}
+use Rattle.shen_core.specs.Progress.{Jobs, AreIdle}
+use Rattle.table_heap.specs.declared.heap.Heap.{Heap}
+use Rattle.table_heap.specs.declared.closed.Closed.{Closed}
+use Rattle.table_heap.specs.Closed as closed
+use Rattle.table_heap.specs.Closed.{HasAll, IsControlIdle}
+use Rattle.table_heap.specs.Core.{heap_kind, heap_opening, machine_in}
+use Rattle.table_heap.specs.State.{config_of, view_of}
+use Rattle.table_heap.proofs.Ended.{idle_takes, idle_turn}
+use Rattle.table_heap.proofs.Running.{role_at}
+use Rattle.trace_grammar.specs.Grammar.{Reads}
+use Rattle.trace_writing.specs.Answer.{answer_text}
+use Rattle.trace_runs.specs.declared.parts.Part.{Part}
+use Rattle.trace_runs.specs.Parts.{IsDone}
+use Rattle.trace_runs.specs.Replayed.{IsWhole, IsRun}
+use Rattle.trace_runs.specs.Running.{HasCome}
+use Rattle.trace_runs.proofs.Whole as ends
+
+some_from : {A : Type 0} (o : Option A) → is_some o ≡ true → (x : A) × (o ≡ Some x)
+some_from None e = absurd (false≢true e)
+some_from (Some x) e = (x, refl)
+
+-- all are dealt to some bundle
+all_dealt : (x w n m : ℕ) → x < w → n < m → (nat_lt n m && (nat_le 0 x && nat_lt x w)) ≡ true
+all_dealt x w n m low below = grind (arith, nat_tests)
+
+module _ (h : Heap) (scripts : Scripts) (w : ℕ) (all : Part) (some : 0 < w) (done : IsDone h scripts w 0 w all) where
+  machine_there : (n : ℕ) → n < seat_count (config_of h).mutators (config_of h).helpers → is_some (machine_of (view_of all.bundle) n) ≡ true
+  machine_there n below = done.has.machines n ∙ all_dealt (n % w) w n (seat_count (config_of h).mutators (config_of h).helpers) (mod-lt n some) below
+
+  same : all.bundle.config ≡ config_of h
+  same = done.has.of.config
+
+  pub has_all : HasAll all.bundle
+  has_all n below =
+      ap (λ v. is_some (machine_of v n)) (sym all.bundle.kept) ∙ kept_some machine_in (view_of all.bundle) n
+      ∙ machine_there n (subst (λ (c : Config). n < seat_count c.mutators c.helpers) same below)
+
+  pub control_idle : IsControlIdle all.bundle
+  control_idle a here = idle_takes a.machine (done.idle _ a here)
+
+  module _ (end : Closed) (config : closed.config_of end ≡ config_of h) (view : view_of all.bundle ≡ whole (closed.machines_of end))
+      (leads : IsReached (heap_kind (config_of h)) (heap_opening (config_of h)) (closed.stage_of end)) where
+    at : (n : ℕ) → machine_of (view_of all.bundle) n ≡ slice_get (closed.machines_of end) n
+    at n = ap (λ v. machine_of v n) view ∙ machine_of-whole (closed.machines_of end) n
+
+    seen : (n : ℕ) (a : Actor) → slice_get (closed.machines_of end) n ≡ Some a → machine_of (view_of all.bundle) n ≡ Some a
+    seen n a here = at n ∙ here
+
+    pub come : HasCome (config_of h) scripts all.work end
+    come = record {
+      config = config;
+      reached = leads;
+      idle = λ n below. by_actor n (slice_get (closed.machines_of end) n) refl;
+      called = λ t below.
+          let found = some_from (machine_of (view_of all.bundle) t) (machine_there t (omega (arith, below))) in
+          let did = done.done t found.0 found.1 (mutates t found.0 found.1 below) in
+          record { actor = found.0; here = sym (at t) ∙ found.1; called = did.whole };
+      replies = λ t a below here. (done.done t a (seen t a here) (mutates t a (seen t a here) below)).told;
+      jobs_are = λ t below. done.has.jobs t ∙ all_dealt (t % w) w t (config_of h).mutators (mod-lt t some) below;
+    }
+      where
+        mutates : (t : ℕ) (a : Actor) → machine_of (view_of all.bundle) t ≡ Some a → t < (config_of h).mutators → is_mutating a.machine ≡ true
+        mutates t a here below = role_at all.bundle t a here ∙ ap (λ (c : Config). nat_lt t c.mutators) same ∙ lt-ltb t (config_of h).mutators below
+
+        by_actor : (n : ℕ) (o : Option Actor) → slice_get (closed.machines_of end) n ≡ o → turn scripts (closed.stage_of end) n ≡ None
+        by_actor n None e = ap (turn_of scripts n) e
+        by_actor n (Some a) e = idle_turn scripts (closed.stage_of end) n a e (done.idle n a (seen n a e))
+
+-- in the end no mutator has a call in progress
+pub come_rest : (c : Config) (scripts : Scripts) (jobs : Jobs) (end : Closed) → HasCome c scripts jobs end → closed.AllRest end
+come_rest c scripts jobs end done n a below here =
+    let called = done.called n (subst (λ (k : Config). n < k.mutators) done.config below) in
+    let is : called.actor ≡ a = let e = sym called.here ∙ here in cc in
+    ap (λ (x : Actor). is_resting x.machine) (sym is) ∙ called.called.rest
+
+-- ---- the history
+
+module _ (c : Config) (scripts : Scripts) (jobs : Jobs) (end : Closed) (done : HasCome c scripts jobs end) where
+  leads : reached pause_image c done.reached.events ≡ closed.stage_of end
+  leads = done.reached.ends
+
+  called : AllHaveCalled c scripts (reached pause_image c done.reached.events)
+  called = subst (λ s. AllHaveCalled c scripts s) (sym leads) done.called
+
+  -- the history in which the scripts were called, and what it is
+  abbrev pub come_past : List Entry
+  come_past = past pause_image c done.reached.events
+
+  pub come_whole : length scripts ≡ c.mutators → IsWhole c scripts done.reached.events
+  come_whole count = ends.whole c scripts done.reached.events count (subst (λ s. AreIdle c scripts s) (sym leads) done.idle) called
+
+  -- the work has its replies
+  pub come_told : (t : ℕ) → t < c.mutators → work.replies_of jobs t ≡ history.replies_of (of_thread come_past (t + 1))
+  come_told t below =
+      let did = called t below in
+      told t did.actor below did.here ∙ sym (ap history.replies_of (ends.entries_called c scripts done.reached.events t did))
+    where
+      told : (m : ℕ) (a : Actor) → m < c.mutators → slice_get (reached pause_image c done.reached.events).machines m ≡ Some a → work.replies_of jobs m ≡ history.replies_of a.calls
+      told = subst (λ (s : Stage Actor). (m : ℕ) (a : Actor) → m < c.mutators → slice_get s.machines m ≡ Some a → work.replies_of jobs m ≡ history.replies_of a.calls) (sym leads) done.replies
+
+-- ---- the answer
+
+pub answered : (bytes : List ℕ) (c : Config) (scripts : Scripts) (items : List Item) (jobs : Jobs) (end : Closed) (text : Text)
+    → Reads bytes c scripts items → length scripts ≡ c.mutators → (done : HasCome c scripts jobs end) → length text.roots ≡ c.mutators → texts.ShowsGraph text c.mutators (after (first_graph c) (come_past c scripts jobs end done))
+    → IsRun bytes (answer_text (length text.roots) (λ t. work.replies_of jobs (t - 1)) text.rows (root_of text))
+answered bytes c scripts items jobs end text reads count done roots shows = record {
+  config = c;
+  scripts = scripts;
+  items = items;
+  reads = reads;
+  events = done.reached.events;
+  whole = come_whole c scripts jobs end done count;
+  text = record { names = names_of text; reach = shows.reach; text = ends.text_shown c.mutators jobs (come_past c scripts jobs end done) text roots shows replies };
+}
+  where
+    replies : (t : ℕ) → 1 ≤ t → t ≤ c.mutators → work.replies_of jobs (t - 1) ≡ history.replies_of (of_thread (come_past c scripts jobs end done) t)
+    replies t low high =
+        let back : t - 1 + 1 ≡ t = omega arith in
+        come_told c scripts jobs end done (t - 1) (omega arith) ∙ ap (λ n. history.replies_of (of_thread (come_past c scripts jobs end done) n)) back

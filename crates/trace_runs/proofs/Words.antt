@@ -1,0 +1,179 @@
+-- The words of the command line.
+use Rattle.std.proofs.Common.{◌≡◌, ℕ, zero, suc, ◌&&◌, ◌<◌, ◌≤◌, Bool, true, false, eqb, List, [], ◌∷◌, length, get_or, map, inl, inr, refl, sym, ap, subst, ◌∙◌, arith}
+use Rattle.std.specs.Prelude.{codes, Option, Some, None, MatchOption, MatchBool}
+use Rattle.std.specs.Fmt.{decimal}
+use Rattle.std.specs.Cmp.Lexicographic.{pointwise}
+use Rattle.std.proofs.lemmas.Bool.{eqb-true, false≢true}
+use Rattle.std.proofs.lemmas.Fmt.{decimal_digit}
+use Rattle.trace_grammar.specs.Spelling.{IsUpTo}
+use Rattle.trace_runs.specs.Words.{most_seed, most_rounds, IsReplay, AskReplay, IsRunBy, AskRun, AskTrace, IsChurn, AskChurn, Ask, BeginWith}
+use Rattle.std.proofs.lemmas.Bool.Decides.{nat_tests}
+
+same_from_test : (xs ys : List ℕ) → pointwise eqb xs ys ≡ true → xs ≡ ys
+same_from_test [] [] e = refl
+same_from_test [] (y ∷ ys) e = absurd cc
+same_from_test (x ∷ xs) [] e = absurd cc
+same_from_test (x ∷ xs) (y ∷ ys) e = by_head (eqb x y) refl (same_from_test xs ys) e
+  where
+    by_head : (b : Bool) → eqb x y ≡ b → (pointwise eqb xs ys ≡ true → xs ≡ ys) → (b && pointwise eqb xs ys) ≡ true → x ∷ xs ≡ y ∷ ys
+    by_head true h rest t = rw (eqb-true x y h) (ap (λ (zs : List ℕ). y ∷ zs) (rest t))
+    by_head false h rest t = absurd cc
+
+same_number : (n : ℕ) → eqb n n ≡ true
+same_number n = grind (arith, nat_tests)
+
+test_itself : (xs : List ℕ) → pointwise eqb xs xs ≡ true
+test_itself [] = refl
+test_itself (x ∷ xs) = rw (same_number x) (test_itself xs)
+
+-- a list of one, and what its one element is
+pub one_word : {X : Type 0} (f : X → List ℕ) (words : List X) (w : X) (text : List ℕ) (r : Bool) → 1 ≤ length words → length words < 2 → w ≡ get_or words 0 w → r ≡ pointwise eqb (f w) text
+    → (r ≡ true → map f words ≡ text ∷ []) × (map f words ≡ text ∷ [] → r ≡ true)
+one_word f [] w text r some few is e = absurd (omega arith)
+one_word f (x ∷ []) w text r some few is e = (
+  (λ h. ap (λ (t : List ℕ). t ∷ []) (sym (ap f is) ∙ same_from_test (f w) text (sym e ∙ h))),
+  (λ h. let same : f w ≡ text = ap f is ∙ cc in e ∙ ap (λ (t : List ℕ). pointwise eqb t text) same ∙ test_itself text),
+)
+one_word f (x ∷ y ∷ words) w text r some few is e = absurd (omega arith)
+
+-- a list of three, of which the first is known
+pub word_and_two : {X : Type 0} (f : X → List ℕ) (words : List X) (a b c : X) (first : List ℕ) → 3 ≤ length words → length words < 4 → a ≡ get_or words 0 a → b ≡ get_or words 1 b → c ≡ get_or words 2 c
+    → true ≡ pointwise eqb (f a) first → map f words ≡ first ∷ f b ∷ f c ∷ []
+word_and_two f [] a b c first some few at_a at_b at_c e = absurd (omega arith)
+word_and_two f (x ∷ []) a b c first some few at_a at_b at_c e = absurd (omega arith)
+word_and_two f (x ∷ y ∷ []) a b c first some few at_a at_b at_c e = absurd (omega arith)
+word_and_two f (x ∷ y ∷ z ∷ []) a b c first some few at_a at_b at_c e =
+    ap (λ (t : List ℕ). t ∷ f y ∷ f z ∷ []) (sym (ap f at_a) ∙ same_from_test (f a) first (sym e))
+    ∙ ap (λ (t : List ℕ). first ∷ t ∷ f z ∷ []) (sym (ap f at_b))
+    ∙ ap (λ (t : List ℕ). first ∷ f b ∷ t ∷ []) (sym (ap f at_c))
+word_and_two f (x ∷ y ∷ z ∷ w ∷ words) a b c first some few at_a at_b at_c e = absurd (omega arith)
+
+-- a list of three, of which the first two are known
+pub three_words : {X : Type 0} (f : X → List ℕ) (words : List X) (a b c : X) (first second : List ℕ) → 3 ≤ length words → length words < 4 → a ≡ get_or words 0 a → b ≡ get_or words 1 b → c ≡ get_or words 2 c
+    → true ≡ pointwise eqb (f a) first → true ≡ pointwise eqb (f b) second → map f words ≡ first ∷ second ∷ f c ∷ []
+three_words f [] a b c first second some few at_a at_b at_c e h = absurd (omega arith)
+three_words f (x ∷ []) a b c first second some few at_a at_b at_c e h = absurd (omega arith)
+three_words f (x ∷ y ∷ []) a b c first second some few at_a at_b at_c e h = absurd (omega arith)
+three_words f (x ∷ y ∷ z ∷ []) a b c first second some few at_a at_b at_c e h =
+    ap (λ (t : List ℕ). t ∷ f y ∷ f z ∷ []) (sym (ap f at_a) ∙ same_from_test (f a) first (sym e))
+    ∙ ap (λ (t : List ℕ). first ∷ t ∷ f z ∷ []) (sym (ap f at_b) ∙ same_from_test (f b) second (sym h))
+    ∙ ap (λ (t : List ℕ). first ∷ second ∷ t ∷ []) (sym (ap f at_c))
+three_words f (x ∷ y ∷ z ∷ w ∷ words) a b c first second some few at_a at_b at_c e h = absurd (omega arith)
+
+-- what the third word says
+pub steps_named : (words : List (List ℕ)) (number : List ℕ) (r : Option ℕ) → words ≡ codes "replay" ∷ codes "--steps" ∷ number ∷ []
+    → MatchOption r ((n : ℕ) → IsUpTo 4000000000 n → number ≡ decimal n → ⊥) (λ n. IsUpTo 4000000000 n × (number ≡ decimal n))
+    → MatchOption r (AskReplay words → ⊥) (IsReplay words)
+steps_named words number (Some n) are read = inr (are ∙ ap (λ (t : List ℕ). codes "replay" ∷ codes "--steps" ∷ t ∷ []) read.1, read.0)
+steps_named words number None are none = λ asked. by_form asked.0 asked.1
+  where
+    by_form : (steps : ℕ) → IsReplay words steps → ⊥
+    by_form steps (inl one) = absurd (omega (arith, ap length (sym are ∙ one.0)))
+    by_form steps (inr three) = none steps three.1 (third number (decimal steps) (sym are ∙ three.0))
+      where
+        third : (a b : List ℕ) → codes "replay" ∷ codes "--steps" ∷ a ∷ [] ≡ codes "replay" ∷ codes "--steps" ∷ b ∷ [] → a ≡ b
+        third a b e = ap (λ (ws : List (List ℕ)). get_or ws 2 []) e
+
+pub workers_named : (words : List (List ℕ)) (number : List ℕ) (r : Option ℕ) → words ≡ codes "run" ∷ codes "--workers" ∷ number ∷ []
+    → MatchOption r ((n : ℕ) → IsUpTo 12 n → number ≡ decimal n → ⊥) (λ n. IsUpTo 12 n × (number ≡ decimal n))
+    → MatchOption r (AskRun words → ⊥) (IsRunBy words)
+workers_named words number (Some n) are read = inr (are ∙ ap (λ (t : List ℕ). codes "run" ∷ codes "--workers" ∷ t ∷ []) read.1, read.0)
+workers_named words number None are none = λ asked. by_form asked.0 asked.1
+  where
+    by_form : (workers : ℕ) → IsRunBy words workers → ⊥
+    by_form workers (inl one) = absurd (omega (arith, ap length (sym are ∙ one.0)))
+    by_form workers (inr three) = none workers three.1 (third number (decimal workers) (sym are ∙ three.0))
+      where
+        third : (a b : List ℕ) → codes "run" ∷ codes "--workers" ∷ a ∷ [] ≡ codes "run" ∷ codes "--workers" ∷ b ∷ [] → a ≡ b
+        third a b e = ap (λ (ws : List (List ℕ)). get_or ws 2 []) e
+
+-- a seed is 0, or a number from 1 on
+
+pub zero_named : (word : List ℕ) → true ≡ pointwise eqb word (codes "0") → (0 ≤ most_seed) × (word ≡ decimal 0)
+zero_named word e = (omega arith, same_from_test word (codes "0") (sym e) ∙ sym (decimal_digit 0 (omega arith)))
+
+pub seed_named : (word : List ℕ) (r : Option ℕ) → false ≡ pointwise eqb word (codes "0") → MatchOption r ((n : ℕ) → IsUpTo most_seed n → word ≡ decimal n → ⊥) (λ n. IsUpTo most_seed n × (word ≡ decimal n))
+    → MatchOption r ((n : ℕ) → n ≤ most_seed → word ≡ decimal n → ⊥) (λ n. (n ≤ most_seed) × (word ≡ decimal n))
+seed_named word (Some n) other read = (read.0.1, read.1)
+seed_named word None other none = by_number
+  where
+    by_number : (n : ℕ) → n ≤ most_seed → word ≡ decimal n → ⊥
+    by_number zero small is = false≢true (other ∙ ap (λ (t : List ℕ). pointwise eqb t (codes "0")) (is ∙ decimal_digit 0 (omega arith)) ∙ test_itself (codes "0"))
+    by_number (suc n) small is = none (suc n) (omega arith, small) is
+
+-- words of which both are numbers in their ranges ask for a churn
+pub is_churn : (words : List (List ℕ)) (a b : List ℕ) (seed count : ℕ) → words ≡ codes "churn" ∷ a ∷ b ∷ [] → (seed ≤ most_seed) × (a ≡ decimal seed) → IsUpTo most_rounds count × (b ≡ decimal count) → IsChurn words seed count
+is_churn words a b seed count are first second =
+    (are ∙ ap (λ (t : List ℕ). codes "churn" ∷ t ∷ b ∷ []) first.1 ∙ ap (λ (t : List ℕ). codes "churn" ∷ decimal seed ∷ t ∷ []) second.1, first.0, second.0)
+
+-- ---- the first word
+
+begins_as : (words more : List (List ℕ)) (word : List ℕ) → words ≡ word ∷ more → BeginWith word words
+begins_as words more word are = subst (BeginWith word) (sym are) refl
+
+-- who asks for a run begins with it
+pub run_begins : (words : List (List ℕ)) → AskRun words → BeginWith (codes "run") words
+run_begins words asked = by_form asked.0 asked.1
+  where
+    by_form : (workers : ℕ) → IsRunBy words workers → BeginWith (codes "run") words
+    by_form workers (inl one) = begins_as words [] (codes "run") one.0
+    by_form workers (inr three) = begins_as words (codes "--workers" ∷ decimal workers ∷ []) (codes "run") three.0
+
+pub replay_begins : (words : List (List ℕ)) → AskReplay words → BeginWith (codes "replay") words
+replay_begins words asked = by_form asked.0 asked.1
+  where
+    by_form : (steps : ℕ) → IsReplay words steps → BeginWith (codes "replay") words
+    by_form steps (inl one) = begins_as words [] (codes "replay") one.0
+    by_form steps (inr three) = begins_as words (codes "--steps" ∷ decimal steps ∷ []) (codes "replay") three.0
+
+pub churn_begins : (words : List (List ℕ)) → AskChurn words → BeginWith (codes "churn") words
+churn_begins words asked = begins_as words (decimal asked.0 ∷ decimal asked.1.0 ∷ []) (codes "churn") asked.1.1.0
+
+-- words have one first word
+one_first : (a b : List ℕ) (words : List (List ℕ)) → BeginWith a words → BeginWith b words → a ≡ b
+one_first a b [] begins other = absurd begins
+one_first a b (word ∷ words) begins other = sym begins ∙ other
+
+pub replay_is_no_run : (words : List (List ℕ)) → AskReplay words → BeginWith (codes "run") words → ⊥
+replay_is_no_run words asked begins = absurd (omega (arith, ap length (one_first (codes "replay") (codes "run") words (replay_begins words asked) begins)))
+
+pub replay_is_no_churn : (words : List (List ℕ)) → AskReplay words → BeginWith (codes "churn") words → ⊥
+replay_is_no_churn words asked begins = absurd (omega (arith, ap length (one_first (codes "replay") (codes "churn") words (replay_begins words asked) begins)))
+
+pub run_is_no_churn : (words : List (List ℕ)) → AskRun words → BeginWith (codes "churn") words → ⊥
+run_is_no_churn words asked begins = absurd (omega (arith, ap length (one_first (codes "run") (codes "churn") words (run_begins words asked) begins)))
+
+-- who asks for a churn asks for no trace
+pub churn_reads_none : (words : List (List ℕ)) → AskChurn words → AskTrace words → ⊥
+churn_reads_none words asked (inl replay) = replay_is_no_churn words replay (churn_begins words asked)
+churn_reads_none words asked (inr run) = run_is_no_churn words run (churn_begins words asked)
+
+-- words that ask for nothing
+pub asks_none : (words : List (List ℕ)) → (AskReplay words → ⊥) → (AskRun words → ⊥) → (AskChurn words → ⊥) → Ask words → ⊥
+asks_none words replay run churn (inl (inl asked)) = replay asked
+asks_none words replay run churn (inl (inr asked)) = run asked
+asks_none words replay run churn (inr asked) = churn asked
+
+-- a list that is not empty begins with its first word
+pub first_word : {X : Type 0} (f : X → List ℕ) (words : List X) (w : X) (text : List ℕ) (r : Bool) → 1 ≤ length words → w ≡ get_or words 0 w → r ≡ pointwise eqb (f w) text
+    → (r ≡ true → BeginWith text (map f words)) × (BeginWith text (map f words) → r ≡ true)
+first_word f [] w text r some is e = absurd (omega arith)
+first_word f (x ∷ xs) w text r some is e = (
+  (λ h. sym (ap f is) ∙ same_from_test (f w) text (sym e ∙ h)),
+  (λ begins. e ∙ ap (λ (t : List ℕ). pointwise eqb t text) (ap f is ∙ begins) ∙ test_itself text),
+)
+
+-- so the test tells whether it does
+pub told_by : {P : Type 0} (r : Bool) → (r ≡ true → P) × (P → r ≡ true) → MatchBool r P (P → ⊥)
+told_by true both = both.0 refl
+told_by false both = λ p. false≢true (both.1 p)
+
+-- a run has one bundle at least
+pub some_workers : (words : List (List ℕ)) (workers : ℕ) → IsRunBy words workers → 1 ≤ workers
+some_workers words workers (inl one) = omega (arith, one.1)
+some_workers words workers (inr three) = three.1.0
+
+-- no words have no first word
+pub none_begins : {X : Type 0} (f : X → List ℕ) (words : List X) (text : List ℕ) → length words < 1 → BeginWith text (map f words) → ⊥
+none_begins f [] text few begins = begins
+none_begins f (x ∷ xs) text few begins = absurd (omega arith)

@@ -1,0 +1,57 @@
+use Rattle.std.proofs.Common.{rules, ◌≡◌, ◌+◌, length, ap, ◌∙◌, subst, arith}
+use Rattle.trace_runs.specs.Parts.{IsReady}
+use Rattle.trace_runs.proofs.PartLaws.{apart}
+use Rattle.trace_runs.proofs.Loops.{others_ready, last_ready, to_length, longer}
+use Rattle.trace_runs.proofs.parts.together.Goals as goal
+
+pub loop-part-init : goal.loop-part-init
+loop-part-init c =
+    let h = c.args.heap.now in
+    let old = c.args.parts.items in
+    let new = c.pop.new.self.items in
+    let own = c.in-Some.own in
+    let is = c.in-Some.ensures.items in
+    record {
+      fewer = omega (arith, ap length is ∙ longer new own);
+      left = λ scripts workers ready. others_ready h scripts workers old new own is ready;
+      ready = λ scripts workers ready. to_length h scripts workers old new own is (last_ready h scripts workers old new own is ready);
+    }
+
+pub join-own-requires-clause-this : goal.join-own-requires-clause-this
+join-own-requires-clause-this c =
+    let r = c.requires.ready in
+    (last_ready c.args.heap.now r.0 r.1 c.loop-part.parts.items c.pop-in-loop-part.new.self.items c.in-Some-pop.part c.in-Some-pop.ensures.items (c.loop-part.invariant.left r.0 r.1 r.2)).has.of
+
+pub join-own-requires-clause-apart : goal.join-own-requires-clause-apart
+join-own-requires-clause-apart c =
+    let r = c.requires.ready in
+    let h = c.args.heap.now in
+    let old = c.loop-part.parts.items in
+    let new = c.pop-in-loop-part.new.self.items in
+    let p = c.in-Some-pop.part in
+    let is = c.in-Some-pop.ensures.items in
+    apart h r.0 r.1 (length new) (length old) (length c.args.parts.items) p c.loop-part.own
+    (to_length h r.0 r.1 old new p is (last_ready h r.0 r.1 old new p is (c.loop-part.invariant.left r.0 r.1 r.2))).has (c.loop-part.invariant.ready r.0 r.1 r.2).has
+
+pub loop-part-preserved : goal.loop-part-preserved
+loop-part-preserved c =
+    let h = c.args.heap.now in
+    let old = c.loop-part.parts.items in
+    let new = c.pop-in-loop-part.new.self.items in
+    let p = c.in-Some-pop.part in
+    let is = c.in-Some-pop.ensures.items in
+    let was = c.loop-part.invariant in
+    let count : length old ≡ length new + 1 = ap length is ∙ longer new p in
+    record {
+      fewer = omega (arith, count, was.fewer);
+      left = λ scripts workers ready. others_ready h scripts workers old new p is (was.left scripts workers ready);
+      ready = λ scripts workers ready.
+          c.join-own.ensures.ready scripts workers (length new) (length old) (length c.args.parts.items)
+          (to_length h scripts workers old new p is (last_ready h scripts workers old new p is (was.left scripts workers ready)))
+          (was.ready scripts workers ready) (omega (arith, count)) (omega (arith, was.fewer));
+    }
+
+pub returns : goal.returns
+returns c = λ scripts workers ready.
+    let none : length c.loop-part.parts.items ≡ 0 = search rules in
+    subst (λ n. IsReady c.args.heap.now scripts workers n (length c.args.parts.items) c.loop-part.own) none (c.loop-part.invariant.ready scripts workers ready)

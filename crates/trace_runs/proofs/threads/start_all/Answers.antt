@@ -1,0 +1,42 @@
+use Rattle.std.proofs.Common.{rules, ◌≡◌, ◌+◌, ◌<◌, length, ap, ◌∙◌, arith}
+use Rattle.trace_runs.specs.Parts.{CanRun}
+use Rattle.trace_runs.proofs.Loops.{last_ready, next_split, same_split, longer}
+use Rattle.trace_runs.proofs.threads.start_all.Goals as goal
+
+pub start-requires-after_bounds : goal.start-requires-after_bounds
+start-requires-after_bounds g c κs within =
+    let r = c.requires.ready in
+    let w = length c.args.parts.now.items in
+    let ready = last_ready c.args.heap.now r.0 w c.loop-parts.parts.items c.pop.new.self.items c.in-Some.part c.in-Some.ensures.items (c.loop-parts.invariant.split r.0 r.1).here in
+    let can : CanRun c.args.heap.now c.in-Some.part = record { of = ready.has.of; start = ready.start } in
+    can
+
+pub loop-parts-preserved : goal.loop-parts-preserved
+loop-parts-preserved g c =
+    let h = c.args.heap.now in
+    let w = length c.args.parts.now.items in
+    let was = c.loop-parts.invariant in
+    let old = c.loop-parts.parts.items in
+    let new = c.pop.new.self.items in
+    let p = c.in-Some.part in
+    let is = c.in-Some.ensures.items in
+    let threads = c.loop-parts.threads.items in
+    let more = c.push.new.self.items in
+    let grown = c.in-Ok-push.ensures.items in
+    let two : 1 < length old = search rules in
+    let one : length old ≡ length new + 1 = ap length is ∙ longer new p in
+    let count : length more ≡ length threads + 1 = ap length grown ∙ longer threads c.in-Ok.thread in
+    record {
+      some = omega (arith, two, one);
+      count = omega (arith, was.count, one, count);
+      room = search rules;
+      split = λ scripts ready.
+          let split = was.split scripts ready in
+          next_split h scripts w old new p threads more c.in-Ok.thread two is grown
+          (c.in-Ok.ensures.ok scripts w (length new) (last_ready h scripts w old new p is split.here)) split;
+    }
+
+pub returns-in-Err : goal.returns-in-Err
+returns-in-Err g c = λ scripts ready.
+    same_split c.args.heap.now scripts (length c.args.parts.now.items) c.loop-parts.parts.items c.pop.new.self.items c.push-in-Err.new.self.items c.in-Some.part c.in-Err.part c.loop-parts.threads.items
+    c.in-Some.ensures.items c.in-Ok-push-2.ensures.items c.in-Err.ensures.err (c.loop-parts.invariant.split scripts ready)

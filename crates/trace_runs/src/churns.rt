@@ -1,0 +1,112 @@
+//! `churn`: a large workload that is made from a number, on a heap that threads share.
+ghost use Rattle.std.specs.Prelude.{◌≡◌, ◌≤◌, ℕ, List, IfOk, MatchOption, map};
+ghost use Rattle.std.specs.Fmt.{decimal};
+ghost use Rattle.std.specs.String.{string_bytes};
+ghost use Rattle.churn.specs.Laws.{SumsUpTurns};
+ghost use Rattle.text_writer.specs.Sending.{outlet};
+ghost use Rattle.trace_runs.specs.Words.{most_seed, most_rounds, IsChurn, AskChurn};
+ghost use Rattle.trace_runs.specs.Churned.{IsChurnHeap};
+ghost use Rattle.trace_runs.specs.Answered.{Input, IsAnswered};
+
+use crate::lines::say;
+use crate::runs::{MOST_MACHINES, graph_of, run_scripts};
+use crate::status::Status;
+use churn::{Summary, churn_scripts, summarize};
+use heap_words::{Config, NoMemory};
+use shen_base::Sink;
+use std::alloc::Global;
+use std::sync::Wait;
+use std::thread::Threads;
+use table_heap::Gate;
+use trace_text::{Line, number_in};
+
+/// The largest number from which a churn is made.
+const MOST_SEED: u64 = 1_000_000;
+
+/// The most rounds of each thread of a churn.
+const MOST_ROUNDS: u64 = 20_000;
+
+/// What the scripts of a churn are made from.
+#[derive(Clone, Copy, Debug, PartialEq, Eq)]
+pub struct Workload {
+    /// The number that all sizes and values depend on, 0 to 1000000.
+    pub seed: u64,
+    /// The rounds of each thread, 1 to 20000.
+    pub count: u64,
+}
+
+/// The seed that a whole word spells.
+fn seed_in(word: &str) -> Option<u64>
+    ensures { MatchOption result ((n : ℕ) → n ≤ most_seed → word.now ≡ decimal n → ⊥) (λ n. (n ≤ most_seed) × (word.now ≡ decimal n)) }
+{
+    if word == "0" {
+        Some(0)
+    } else {
+        number_in(MOST_SEED, word.as_bytes())
+    }
+}
+
+/// What a churn is to be made from, where the words ask for one: `churn SEED COUNT`.
+pub fn workload_of(words: &[String]) -> Option<Workload>
+    ensures { MatchOption result (AskChurn (map string_bytes words.now) → ⊥) (λ w. IsChurn (map string_bytes words.now) w.seed w.count) }
+{
+    match words {
+        [word, seed, count] if word.as_str() == "churn" => {
+            let seed = seed_in(seed.as_str())?;
+            let count = number_in(MOST_ROUNDS, count.as_bytes())?;
+            Some(Workload { seed, count })
+        }
+        _ => None,
+    }
+}
+
+/// The sizes of the heap of a churn.
+fn churn_heap() -> Config
+    ensures { IsChurnHeap result }
+{
+    let Ok(config) = Config::new(16, 256, 3, 2, 2) else {
+        unreachable!()
+    };
+    config
+}
+
+/// Runs the scripts of a churn on a heap of their own, each machine in a thread of its own, and sums up the replies and the
+/// graph that the heap stands for in the end.
+fn summary_of<R: Threads + Wait + Sync, G: Gate>(
+    rt: &R,
+    alloc: Global,
+    workload: Workload,
+    gate: &G,
+) -> Result<Summary, NoMemory>
+    requires seed { workload.seed ≤ most_seed }
+    requires count { workload.count ≤ most_rounds }
+    ensures { IfOk result (SumsUpTurns workload.seed workload.count) }
+{
+    let Workload { seed, count } = workload;
+    let config = churn_heap();
+    let Ok(scripts) = churn_scripts(alloc, seed, count) else {
+        return Err(NoMemory);
+    };
+    let (replies, mut heap) = run_scripts(rt, alloc, config, scripts, MOST_MACHINES, gate)?;
+    let graph = graph_of(alloc, config, &mut heap)?;
+    Ok(summarize(seed, count, &replies, &graph))
+}
+
+/// Runs a churn and writes its summary, or the one line that says that there is no memory.
+pub fn churn<R: Threads + Wait + Sync, K: Sink, G: Gate>(
+    rt: &R,
+    alloc: Global,
+    workload: Workload,
+    sink: &mut K,
+    gate: &G,
+) -> Status
+    requires seed { workload.seed ≤ most_seed }
+    requires count { workload.count ≤ most_rounds }
+    ensures { (words : List (List ℕ)) (input : Input) → IsChurn words workload.seed workload.count → IsAnswered words input
+        (record { before = outlet (K.written sink.old) (K.faults sink.old) (K.calls sink.old); after = outlet (K.written sink.new) (K.faults sink.new) (K.calls sink.new) }) result }
+{
+    match summary_of(rt, alloc, workload, gate) {
+        Ok(summary) => say(sink, Line::Churn(summary), Status::Ok),
+        Err(NoMemory) => say(sink, Line::NoMemory, Status::NoMemory),
+    }
+}

@@ -1,0 +1,61 @@
+//! What the commands read and write: a trace comes in, and an answer or one line goes out.
+ghost use Rattle.std.specs.Prelude.{◌≡◌, ◌<◌, ℕ, List, IfOk, IfErr, OnOk, length};
+ghost use Rattle.shen_graph.specs.Work.{HasScript};
+ghost use Rattle.text_writer.specs.Sending.{outlet};
+ghost use Rattle.trace_grammar.specs.Grammar.{Came, Reads};
+ghost use Rattle.trace_writing.specs.Message.{line_text};
+ghost use Rattle.trace_writing.specs.Answer.{text_of};
+ghost use Rattle.trace_runs.specs.Ends.{EndsWith};
+ghost use Rattle.trace_runs.specs.Words.{AskTrace};
+ghost use Rattle.trace_runs.specs.Answered.{IsAnswered};
+
+use crate::status::Status;
+use shen_base::{Sink, Source};
+use std::alloc::Global;
+use trace_text::{Answer, Line, Trace, TraceFault, read_trace, write_answer, write_line};
+
+/// Writes the one line of a status, or the lines of a churn.
+pub fn say<K: Sink>(sink: &mut K, line: Line, status: Status) -> Status
+    ensures { EndsWith (line_text line) status result (outlet (K.written sink.old) (K.faults sink.old) (K.calls sink.old))
+        (outlet (K.written sink.new) (K.faults sink.new) (K.calls sink.new)) }
+{
+    match write_line(sink, &line) {
+        Ok(()) => status,
+        Err(_) => Status::WriteFault,
+    }
+}
+
+/// Writes an answer.
+pub fn give<K: Sink>(sink: &mut K, answer: &Answer) -> Status
+    requires { (mutator : ℕ) → mutator < length answer.now.graph.roots → HasScript answer.now.replies mutator }
+    ensures { EndsWith (text_of answer.now) Status.Ok result (outlet (K.written sink.old) (K.faults sink.old) (K.calls sink.old))
+        (outlet (K.written sink.new) (K.faults sink.new) (K.calls sink.new)) }
+{
+    match write_answer(sink, answer) {
+        Ok(()) => Status::Ok,
+        Err(_) => Status::WriteFault,
+    }
+}
+
+/// Reads a trace. Where what came is none, or the source or memory fails, the one line that says so is written.
+pub fn taken<S: Source, K: Sink>(
+    alloc: Global,
+    source: &mut S,
+    sink: &mut K,
+) -> Result<Trace, Status>
+    ensures ok { IfOk result (λ trace. (bytes : List ℕ) × Came (S.left source.old) (S.left source.new) bytes × Reads bytes trace.config trace.scripts trace.schedule) }
+    ensures unused { OnOk result (sink.new ≡ sink.old) }
+    ensures refused { IfErr result (λ status. (words : List (List ℕ)) → AskTrace words → IsAnswered words
+        (record { before = S.left source.old; after = S.left source.new; faults_before = S.faults source.old; faults_after = S.faults source.new })
+        (record { before = outlet (K.written sink.old) (K.faults sink.old) (K.calls sink.old); after = outlet (K.written sink.new) (K.faults sink.new) (K.calls sink.new) }) status) }
+{
+    match read_trace(alloc, source) {
+        Ok(trace) => Ok(trace),
+        Err(TraceFault::BadLine { line, why }) => {
+            Err(say(sink, Line::BadLine { line, why }, Status::BadTrace))
+        }
+        Err(TraceFault::TooLong { .. }) => Err(say(sink, Line::TooLong, Status::BadTrace)),
+        Err(TraceFault::ReadFault) => Err(say(sink, Line::ReadFault, Status::ReadFault)),
+        Err(TraceFault::NoMemory) => Err(say(sink, Line::NoMemory, Status::NoMemory)),
+    }
+}
