@@ -8,6 +8,8 @@ ghost use Rattle.alloc_buffers.specs.Seen.{IsFit};
 
 use heap_words::{Access, Config, Place, Took};
 use regions::{all_but, base, is_in, lowest, size};
+use std::fmt;
+use std::fmt::{Debug, Formatter, Write};
 
 /// What the room is for.
 #[derive(Clone, Copy, Debug, PartialEq, Eq)]
@@ -28,7 +30,7 @@ pub enum Taken {
 }
 
 /// Where a machine stands that takes room.
-#[derive(Clone, Copy, Debug, PartialEq, Eq)]
+#[derive(Clone, Copy)]
 pub enum TakeSpot {
     /// It loads the current region of its seat.
     LoadCurrent,
@@ -172,6 +174,13 @@ impl TakeSpot {
             (_, TakeSpot::Ended { .. }) => Took::Done,
             _ => Took::More,
         }
+    }
+}
+
+/// Written as the place of its next access.
+impl Debug for TakeSpot {
+    fn fmt<W: Write>(&self, f: &mut Formatter<W>) -> fmt::Result {
+        self.place().fmt(f)
     }
 }
 

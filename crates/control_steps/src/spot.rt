@@ -13,6 +13,8 @@ use load_barrier::EvacSpot;
 use regions::size;
 use scan_steps::ScanSpot;
 use update_refs::UpdateSpot;
+use std::fmt;
+use std::fmt::{Debug, Formatter, Write};
 
 // The bits of what is asked for: a cycle, and room for an object.
 const CYCLE: u32 = 0;
@@ -40,7 +42,7 @@ pub struct LastPause {
 }
 
 /// Where the control stands.
-#[derive(Clone, Copy, Debug, PartialEq, Eq)]
+#[derive(Clone, Copy)]
 pub enum ControlSpot {
     /// It loads how many mutators have not ended.
     LookLeft,
@@ -192,6 +194,13 @@ impl ControlSpot {
             ControlSpot::Go => (ControlSpot::LookLeft, Took::More),
             ControlSpot::StoreEnd | ControlSpot::Gone => (ControlSpot::Gone, Took::More),
         }
+    }
+}
+
+/// Written as the place of its next access.
+impl Debug for ControlSpot {
+    fn fmt<W: Write>(&self, f: &mut Formatter<W>) -> fmt::Result {
+        self.place().fmt(f)
     }
 }
 

@@ -6,9 +6,11 @@ ghost use Rattle.handshake.specs.Rows as rows;
 
 use crate::values::{IN, OUT, UNWANTED};
 use heap_words::{Access, Config, Place, Took};
+use std::fmt;
+use std::fmt::{Debug, Formatter, Write};
 
 /// Where a mutator or a helper stands that enters the heap.
-#[derive(Clone, Copy, Debug, PartialEq, Eq)]
+#[derive(Clone, Copy)]
 pub enum EnterSpot {
     /// It stores into its state word that it is in.
     Raise,
@@ -39,7 +41,7 @@ impl EnterSpot {
     pub fn is_entered(self) -> bool
         ensures { result ≡ rows.is_entered self }
     {
-        self == EnterSpot::Inside
+        matches!(self, EnterSpot::Inside)
     }
 
     /// The next access, of the machine of a seat of a mutator or a helper.
@@ -90,5 +92,12 @@ impl EnterSpot {
             EnterSpot::Inside => Took::Done,
             _ => Took::More,
         }
+    }
+}
+
+/// Written as the place of its next access.
+impl Debug for EnterSpot {
+    fn fmt<W: Write>(&self, f: &mut Formatter<W>) -> fmt::Result {
+        self.place().fmt(f)
     }
 }

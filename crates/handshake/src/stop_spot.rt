@@ -7,9 +7,11 @@ ghost use Rattle.handshake.specs.Rows as rows;
 
 use crate::values::{OUT, WANTED};
 use heap_words::{Access, Config, Place, Took};
+use std::fmt;
+use std::fmt::{Debug, Formatter, Write};
 
 /// Where the control stands that stops the mutators and helpers for a pause.
-#[derive(Clone, Copy, Debug, PartialEq, Eq)]
+#[derive(Clone, Copy)]
 pub enum StopSpot {
     /// It stores that a pause is wanted.
     Raise,
@@ -37,7 +39,7 @@ impl StopSpot {
     pub fn is_stopped(self) -> bool
         ensures { result ≡ rows.is_stopped self }
     {
-        self == StopSpot::Stopped
+        matches!(self, StopSpot::Stopped)
     }
 
     /// The next access. A seat that it checks is one of a mutator or a helper.
@@ -84,6 +86,13 @@ impl StopSpot {
             StopSpot::Stopped => Took::Done,
             _ => Took::More,
         }
+    }
+}
+
+/// Written as the place of its next access.
+impl Debug for StopSpot {
+    fn fmt<W: Write>(&self, f: &mut Formatter<W>) -> fmt::Result {
+        self.place().fmt(f)
     }
 }
 

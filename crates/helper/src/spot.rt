@@ -11,6 +11,8 @@ use heap_words::{Access, Config, Place, Took};
 use load_barrier::EvacSpot;
 use scan_steps::ScanSpot;
 use update_refs::UpdateSpot;
+use std::fmt;
+use std::fmt::{Debug, Formatter, Write};
 
 // The phase in which there is no work for a helper.
 const IDLE: u64 = 0;
@@ -22,7 +24,7 @@ const MARK: u64 = 1;
 const EVAC: u64 = 2;
 
 /// Where a helper stands.
-#[derive(Clone, Copy, Debug, PartialEq, Eq)]
+#[derive(Clone, Copy)]
 pub enum HelpSpot {
     /// It loads whether the control has ended.
     LoadEnd,
@@ -151,6 +153,13 @@ impl HelpSpot {
             HelpSpot::Leave => (HelpSpot::LoadEnd, Took::More),
             HelpSpot::Gone => (HelpSpot::Gone, Took::More),
         }
+    }
+}
+
+/// Written as the place of its next access.
+impl Debug for HelpSpot {
+    fn fmt<W: Write>(&self, f: &mut Formatter<W>) -> fmt::Result {
+        self.place().fmt(f)
     }
 }
 

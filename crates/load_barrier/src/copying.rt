@@ -8,12 +8,14 @@ ghost use Rattle.load_barrier.specs.Fit.{copy_ready};
 use crate::spot::ResolveSpot;
 use heap_words::{Access, Config, Place, forwardee, header_to};
 use regions::{base, region_of};
+use std::fmt;
+use std::fmt::{Debug, Formatter, Write};
 
 // The header of an object that is its own current copy.
 const PLAIN_HEADER: u64 = 1;
 
 /// Where a machine stands that copies an object into room of its own.
-#[derive(Clone, Copy, Debug, PartialEq, Eq)]
+#[derive(Clone, Copy)]
 pub enum CopySpot {
     /// It loads a word of the object.
     LoadWord {
@@ -108,6 +110,13 @@ impl CopySpot {
             CopySpot::GiveBack { answer } => return ResolveSpot::Leaving { answer },
         };
         ResolveSpot::Copying { copy, at }
+    }
+}
+
+/// Written as the place of its next access.
+impl Debug for CopySpot {
+    fn fmt<W: Write>(&self, f: &mut Formatter<W>) -> fmt::Result {
+        self.place().fmt(f)
     }
 }
 

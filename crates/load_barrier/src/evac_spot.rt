@@ -13,9 +13,11 @@ use crate::spot::ResolveSpot;
 use heap_words::{Access, Config, Place, Took, Unit};
 use mark_bits::{is_marked_in, mark_word};
 use regions::{base, is_in, next_object};
+use std::fmt;
+use std::fmt::{Debug, Formatter, Write};
 
 /// Where a machine stands that claims a unit of evacuation, a region, and copies what is marked there.
-#[derive(Clone, Copy, Debug, PartialEq, Eq)]
+#[derive(Clone, Copy)]
 pub enum EvacSpot {
     /// It loads how many units were claimed.
     LoadClaim,
@@ -157,6 +159,13 @@ impl EvacSpot {
             }
             EvacSpot::Ended { .. } => told(self),
         }
+    }
+}
+
+/// Written as the place of its next access.
+impl Debug for EvacSpot {
+    fn fmt<W: Write>(&self, f: &mut Formatter<W>) -> fmt::Result {
+        self.place().fmt(f)
     }
 }
 

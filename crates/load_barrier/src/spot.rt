@@ -11,12 +11,14 @@ use crate::copying::CopySpot;
 use alloc_buffers::{Kind, TakeSpot, Taken};
 use evac_room::RoomSpot;
 use heap_words::{Access, Config, Place, Took, forwarded, forwardee, words_of};
+use std::fmt;
+use std::fmt::{Debug, Formatter, Write};
 
 // The phase in which references are updated, and objects are copied no more.
 const UPDATE: u64 = 3;
 
 /// Where a machine stands that resolves an address of the collection set.
-#[derive(Clone, Copy, Debug, PartialEq, Eq)]
+#[derive(Clone, Copy)]
 pub enum ResolveSpot {
     /// It loads the object's header.
     LoadHeader,
@@ -139,6 +141,13 @@ impl ResolveSpot {
             }),
             ResolveSpot::Resolved { .. } => told(self),
         }
+    }
+}
+
+/// Written as the place of its next access.
+impl Debug for ResolveSpot {
+    fn fmt<W: Write>(&self, f: &mut Formatter<W>) -> fmt::Result {
+        self.place().fmt(f)
     }
 }
 

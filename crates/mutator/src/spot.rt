@@ -15,6 +15,8 @@ use heap_words::{Place, Took};
 use load_barrier::ResolveSpot;
 use satb_barrier::RememberSpot;
 use shen_graph::{Command, Order, Reply};
+use std::fmt;
+use std::fmt::{Debug, Formatter, Write};
 
 /// What a call keeps of its start.
 #[derive(Clone, Copy, Debug, PartialEq, Eq)]
@@ -63,7 +65,7 @@ pub(crate) fn call_says(said: Took) -> Took
 
 /// Where a mutator stands, with what its next step needs beside what the call keeps: a spot of its own, or that of a part
 /// of a call. An address counts words, and 0 is the null reference.
-#[derive(Clone, Copy, Debug, PartialEq, Eq)]
+#[derive(Clone, Copy)]
 pub enum Spot {
     /// Before its first call.
     Rest,
@@ -179,6 +181,13 @@ impl Spot {
             Spot::Leave { .. } => Place::LV,
             Spot::Gone => Place::ML,
         }
+    }
+}
+
+/// Written as the place of its next access; between two calls as with no order.
+impl Debug for Spot {
+    fn fmt<W: Write>(&self, f: &mut Formatter<W>) -> fmt::Result {
+        self.place(Order::Nothing).fmt(f)
     }
 }
 

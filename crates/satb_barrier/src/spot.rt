@@ -6,12 +6,14 @@ ghost use Rattle.satb_barrier.specs.Rows as rows;
 
 use heap_words::{Access, Config, Place, Took};
 use mark_bits::grey_access;
+use std::fmt;
+use std::fmt::{Debug, Formatter, Write};
 
 // The last entry of a buffer.
 const LAST_ENTRY: usize = 7;
 
 /// Where a mutator stands that records an address in its buffer.
-#[derive(Clone, Copy, Debug, PartialEq, Eq)]
+#[derive(Clone, Copy)]
 pub enum RememberSpot {
     /// It loads the count of its entries.
     LoadCount,
@@ -126,5 +128,12 @@ impl RememberSpot {
             RememberSpot::StoreCount { .. } | RememberSpot::Recorded => Took::Done,
             _ => Took::More,
         }
+    }
+}
+
+/// Written as the place of its next access.
+impl Debug for RememberSpot {
+    fn fmt<W: Write>(&self, f: &mut Formatter<W>) -> fmt::Result {
+        self.place().fmt(f)
     }
 }

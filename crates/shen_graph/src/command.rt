@@ -1,5 +1,6 @@
 ghost use Rattle.std.specs.Prelude.{◌≡◌, IsTrue, ◌↔◌};
 ghost use Rattle.shen_graph.specs.Valid.{IsValid, is_valid};
+ghost use Rattle.shen_graph.specs.Valid as valid;
 
 use crate::name::Name;
 
@@ -103,9 +104,6 @@ impl Command {
         ensures valid { IsTrue result ↔ IsValid self.now }
         ensures test { result ≡ is_valid self.now }
     {
-        let is_root = |root: u32| root < Command::ROOTS;
-        let is_size = |fields: u32| fields <= Command::FIELDS;
-        let is_index = |index: u32| index <= Command::LAST_INDEX;
         match *self {
             Command::New { dst, refs, nums } => is_root(dst) && is_size(refs) && is_size(nums),
             Command::Get { dst, src, field } => is_root(dst) && is_root(src) && is_index(field),
@@ -131,4 +129,22 @@ impl Command {
             Command::Gc => true,
         }
     }
+}
+
+fn is_root(root: u32) -> bool
+    ensures { result ≡ valid.is_root root }
+{
+    root < Command::ROOTS
+}
+
+fn is_size(fields: u32) -> bool
+    ensures { result ≡ valid.is_size fields }
+{
+    fields <= Command::FIELDS
+}
+
+fn is_index(index: u32) -> bool
+    ensures { result ≡ valid.is_index index }
+{
+    index <= Command::LAST_INDEX
 }

@@ -9,6 +9,8 @@ ghost use Rattle.update_refs.specs.Ends.{WaitsAt};
 use heap_words::{Access, Config, Place, Took, Unit, forwarded, forwardee, refs_of};
 use mark_bits::{is_marked_in, mark_word};
 use regions::{base, is_in, next_object, region_of};
+use std::fmt;
+use std::fmt::{Debug, Formatter, Write};
 
 /// A walk over the objects of a region, with the words of the region that end it and say which objects are kept.
 #[derive(Clone, Copy, Debug, PartialEq, Eq)]
@@ -33,7 +35,7 @@ pub struct Visit {
 }
 
 /// Where a machine stands that claims a unit of updating and updates it.
-#[derive(Clone, Copy, Debug, PartialEq, Eq)]
+#[derive(Clone, Copy)]
 pub enum UpdateSpot {
     /// It loads how many units were claimed.
     LoadClaim,
@@ -206,6 +208,13 @@ impl UpdateSpot {
             _ if self.after(config, cset, got).is_ended() => Took::Done,
             _ => Took::More,
         }
+    }
+}
+
+/// Written as the place of its next access.
+impl Debug for UpdateSpot {
+    fn fmt<W: Write>(&self, f: &mut Formatter<W>) -> fmt::Result {
+        self.place().fmt(f)
     }
 }
 
