@@ -12,9 +12,9 @@ use heap_words::{Access, Config, Place, Took, Unit};
 use load_barrier::EvacSpot;
 use regions::size;
 use scan_steps::ScanSpot;
-use update_refs::UpdateSpot;
 use std::fmt;
 use std::fmt::{Debug, Formatter, Write};
+use update_refs::UpdateSpot;
 
 // The bits of what is asked for: a cycle, and room for an object.
 const CYCLE: u32 = 0;

@@ -10,9 +10,9 @@ use handshake::{EnterSpot, leave_access};
 use heap_words::{Access, Config, Place, Took};
 use load_barrier::EvacSpot;
 use scan_steps::ScanSpot;
-use update_refs::UpdateSpot;
 use std::fmt;
 use std::fmt::{Debug, Formatter, Write};
+use update_refs::UpdateSpot;
 
 // The phase in which there is no work for a helper.
 const IDLE: u64 = 0;
