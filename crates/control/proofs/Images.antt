@@ -89,7 +89,3 @@ image-loaded c i table config long same =
     same_number_lists (image_in i) (image_from c table) (all ∙ sym rest) (λ k below.
     let inside : k < image_words c = omega (arith, below, all) in
     same k inside ∙ sym (get_or-drop (image_start c) table k 0))
-
--- by name they are the words of the table's image
-pub memory-loaded : (c : Config) (i : Image) (table : List ℕ) → IsClear i → config_of i ≡ c → image_in i ≡ image_from c table → memory_of i ≡ image_view c (image_from c table)
-memory-loaded c i table clear config is = memory-image_in i clear ∙ ap (λ d. image_view d (image_in i)) config ∙ ap (image_view c) is

@@ -1,8 +1,8 @@
 -- The choice from a table of what lives in each region.
-use Rattle.std.proofs.Common.{◌≡◌, ◌≢◌, ℕ, ◌+◌, ◌-◌, ◌*◌, ◌/◌, ◌%◌, ◌^◌, ◌<◌, ◌≤◌, ◌==◌, ◌&&◌, ◌||◌, nat_lt, nat_le, not, cond, if◌then◌else◌, Bool, true, false, zero, suc, List, length, slice_index, slice_set, replicate, IsTrue, ◌↔◌, ⊎_elim, refl, sym, ap, ◌∙◌, arith}
+use Rattle.std.proofs.Common.{◌≡◌, ◌≢◌, ℕ, ◌+◌, ◌-◌, ◌*◌, ◌/◌, ◌%◌, ◌^◌, ◌<◌, ◌≤◌, ◌==◌, ◌&&◌, ◌||◌, nat_lt, nat_le, not, cond, if◌then◌else◌, Bool, true, false, zero, suc, List, length, slice_index, slice_set, replicate, ⊎_elim, refl, sym, ap, ◌∙◌, arith}
 use Rattle.std.specs.Int.{bit_at}
 use Rattle.std.specs.Int.RustNames.{bit_or}
-use Rattle.std.proofs.lemmas.Bool.{cond_both, cases_eq, eq-eqb, ne_eqb, true≢false}
+use Rattle.std.proofs.lemmas.Bool.{cond_both, cases_eq, eq-eqb}
 use Rattle.std.proofs.Math.ListN.{length-set, length-replicate}
 use Rattle.std.proofs.lemmas.List.{get_or-replicate, get_or-set_same, get_or-set_other}
 use Rattle.std.proofs.lemmas.Nat.{or_comm, or_shifted, one_shl}
@@ -10,7 +10,7 @@ use Rattle.std.proofs.lemmas.Nat.Bits.{bit_at_above, bit_at-lt}
 use Rattle.heap_words.specs.declared.config.Config.{Config}
 use Rattle.heap_words.specs.Words.{Word, Free, Top, Tams}
 use Rattle.packing.proofs.Sums.{sum_same}
-use Rattle.regions.specs.Sets.{IsIn, members_below}
+use Rattle.regions.specs.Sets.{members_below}
 use Rattle.mark_laws.specs.Marks.{bits_of}
 use Rattle.mark_laws.proofs.Bits.{one, bits_at}
 use Rattle.mark_laws.specs.Final.{is_current}
@@ -61,13 +61,6 @@ bit_joined set r few small =
   where
     once : (y : ℕ) → y ≡ 1 * y
     once y = omega arith
-
--- what the answer of a test for members says
-pub not_a_member : (answer : Bool) (set r : ℕ) → (IsTrue answer ↔ IsIn set r) → answer ≡ false → (bit_at set r == 1) ≡ false
-not_a_member answer set r tells denied = ne_eqb (bit_at set r) 1 (λ is. true≢false (sym (tells.1 is) ∙ denied))
-
-pub a_member : (answer : Bool) (set r : ℕ) → (IsTrue answer ↔ IsIn set r) → answer ≡ true → (bit_at set r == 1) ≡ true
-a_member answer set r tells told = eq-eqb (bit_at set r) 1 (tells.0 told)
 
 -- where all else of a candidate holds, its garbage decides
 pub garbage_decides : (c : Config) (m : Word → ℕ) (r : ℕ) → bit_at (m Free) r ≡ 0 → is_current c m r ≡ false → m (Top r) ≡ m (Tams r)

@@ -1,7 +1,7 @@
 -- What the stores of copying make.
-use Rattle.std.proofs.Common.{◌≡◌, ◌≢◌, ℕ, ◌+◌, ◌-◌, ◌<◌, ◌≤◌, ◌⊎◌, ◌==◌, ◌&&◌, nat_le, nat_lt, cond, bit_and, Option, Some, None, false, inl, inr, refl, sym, ap, ◌∙◌, subst, ⊎_elim, arith}
+use Rattle.std.proofs.Common.{◌≡◌, ◌≢◌, ℕ, ◌+◌, ◌-◌, ◌<◌, ◌≤◌, ◌⊎◌, ◌==◌, ◌&&◌, nat_le, nat_lt, cond, bit_and, Option, Some, None, inl, inr, refl, sym, ap, ◌∙◌, subst, ⊎_elim, arith}
 use Rattle.std.specs.Int.{bit_at}
-use Rattle.std.proofs.lemmas.Bool.{cases_eq, cond-true, cond-false, eq-eqb}
+use Rattle.std.proofs.lemmas.Bool.{cases_eq, cond-true, eq-eqb}
 use Rattle.std.proofs.lemmas.Bool.Decides.{nat_tests}
 use Rattle.std.proofs.lemmas.Option.{none-some, same_Some}
 use Rattle.std.proofs.Math.Path.{fun_ext}
@@ -108,21 +108,6 @@ module _ (c : Config) (m : Word → ℕ) (a r : ℕ) where
   pub header_names_copy : copied_to c m a r (Heap a) ≡ header_word to
   unfolding copied_to
   header_names_copy = cond-true (a == a) (header_word to) _ (eq-eqb a a refl)
-
--- a region of the set has no room
-pub full_in_set : (w set : ℕ) (top : ℕ → ℕ) (r n : ℕ) → 0 < n → IsIn set r → w < tops_outside w set top r + n
-full_in_set w set top r n some member =
-    let full : tops_outside w set top r ≡ w = cond-true (bit_at set r == 1) w (top r) (eq-eqb (bit_at set r) 1 member) in
-    omega (arith, full, some)
-
--- room outside the set
-pub room_tells : (w set : ℕ) (top : ℕ → ℕ) (r n : ℕ) → top r ≤ w → (bit_at set r == 1) ≡ false → nat_le n (w - top r) ≡ nat_le (tops_outside w set top r + n) w
-room_tells w set top r n within outside =
-    let own : tops_outside w set top r ≡ top r = cond-false (bit_at set r == 1) w (top r) outside in
-    plain (top r) within ∙ ap (λ t. nat_le (t + n) w) (sym own)
-  where
-    plain : (t : ℕ) → t ≤ w → nat_le n (w - t) ≡ nat_le (t + n) w
-    plain t below = grind (arith, nat_tests)
 
 -- the region that is found
 pub found_room : (c : Config) (m : Word → ℕ) (a r : ℕ) → copy_room c m a ≡ Some r

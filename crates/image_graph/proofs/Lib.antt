@@ -2,7 +2,6 @@ pub mod Same
 pub mod Steps
 pub mod Room
 pub mod Turns
-pub mod Blank
 pub mod Packed
 pub mod Shown
 pub mod Parts

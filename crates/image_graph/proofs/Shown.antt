@@ -4,7 +4,6 @@ use Rattle.std.proofs.Common.{◌≡◌, ℕ, ◌+◌, ◌<◌, ◌&&◌, true, 
 use Rattle.std.specs.Prelude.{if◌then◌else◌}
 use Rattle.std.proofs.lemmas.Bool.{cond-true, cond-false, cases_Bool, and_from, le-leb, lt-ltb, true≢false}
 use Rattle.std.proofs.lemmas.Option.{none-some, same_Some, slice_get_within}
-use Rattle.std.proofs.Math.Logic.{∥∥₁_map}
 use Rattle.heap_words.specs.declared.config.Config.{Config}
 use Rattle.heap_words.specs.Words.{Word, Top, Root, Heap, table_words, heap_in, roots_in, view}
 use Rattle.heap_words.specs.Encoding.{refs_in, object_words}
@@ -17,7 +16,7 @@ use Rattle.heap_world.specs.Roots.{is_root_of, HasNoMore}
 use Rattle.heap_world.specs.World.{Block, thing, moved, spent, hand, promised, filler, Plot, name_at, Points, IsThing}
 use Rattle.image_laws.proofs.Named.{thing_at}
 use Rattle.heap_graph.specs.Walk.{has}
-use Rattle.heap_graph.specs.Shows.{WordsStand, StandForSome}
+use Rattle.heap_graph.specs.Shows.{WordsStand}
 use Rattle.heap_world.specs.Objects.{IsObject}
 use Rattle.heap_world.proofs.Pointing.{named_thing}
 use Rattle.image_laws.proofs.Standing.{own_copy}
@@ -29,7 +28,7 @@ use Rattle.image_laws.proofs.Reached.{held_is_reached, refs_read, named_object, 
 use Rattle.image_laws.proofs.Promised.{same_reference-true, reaches_promised}
 use Rattle.image_laws.proofs.Roots.{root_among}
 use Rattle.image_laws.proofs.Walked.{walk_keeps}
-use Rattle.image_graph.specs.Holds.{HoldsBy, HoldsSome}
+use Rattle.image_graph.specs.Holds.{HoldsBy}
 
 -- a piece, if it is an object that is not promised
 abbrev old_piece : Promises → Option Block → Option Block
@@ -247,9 +246,3 @@ module _ (c : Config) (words : List ℕ) (block : Plot) (owner : ℕ → Option 
 
   pub holding_stands : (at : ℕ → Option Name) × WordsStand c.region_words (heap_in c words) (roots_in c words) at g
   holding_stands = (names, copies_stand c words block names g long are_copies (roots c memory block owner p g holds) (no_more c memory block owner p g holds))
-
-pub holding_stands_some : (c : Config) (words : List ℕ) → length words ≡ table_words c → HoldsSome c (view c words)
-    → StandForSome c.region_words (heap_in c words) (roots_in c words)
-holding_stands_some c words long holds = ∥∥₁_map holds (λ h.
-    let stands = holding_stands c words h.1.0 h.1.1 h.1.2 h.0 long h.1.3 in
-    (stands.0, (h.0, stands.1)))

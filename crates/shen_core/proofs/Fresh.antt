@@ -1,26 +1,23 @@
 -- A heap that was just opened, with work of which nothing was done.
-use Rattle.std.proofs.Common.{◌≡◌, ◌<◌, ◌≤◌, ℕ, ◌+◌, true, List, [], ◌∷◌, ◌++◌, length, get_or, map, All, Some, None, refl, sym, ap, ◌∙◌, subst, arith}
+use Rattle.std.proofs.Common.{◌≡◌, ◌<◌, ◌≤◌, ℕ, true, List, [], length, get_or, map, All, Some, None, refl, sym, ap, ◌∙◌, subst, arith}
 use Rattle.std.specs.Prelude.{slice_get, IsSome, unwrap_or}
 use Rattle.std.specs.Option.{option_map}
-use Rattle.std.proofs.lemmas.List.{length-append}
-use Rattle.std.proofs.lemmas.List.Elements.{All-push}
 use Rattle.std.proofs.lemmas.List.FromFn.{get_or-map-range_with_len}
 use Rattle.std.proofs.lemmas.Option.{slice_get-get_or}
 use Rattle.std.proofs.lemmas.Bool.{false≢true}
 use Rattle.heap_words.specs.declared.config.Config.{Config}
 use Rattle.heap_words.specs.Ranges.{seat_count}
-use Rattle.shen_graph.specs.declared.command.Command.{Command}
 use Rattle.shen_graph.specs.Valid.{IsValid}
 use Rattle.shen_graph.specs.Work as work
 use Rattle.shen_graph.specs.declared.order.Order.TheVariants.{Nothing}
-use Rattle.heap_machines.proofs.Openings.{first_is, first_machines, first_made, first_rests, first_free_to_begin}
+use Rattle.heap_machines.proofs.Openings.{first_is, first_machines, first_made, first_rests}
 use Rattle.step_core.specs.Actor.{Machine}
 use Rattle.heap_machines.specs.Shown.{no_machine}
 use Rattle.step_core.specs.Opening.{opening_machine, opening}
 use Rattle.step_core.specs.Schedule.{Scripts, nth_script}
 use Rattle.shen_core.specs.declared.plain.Plain.{Plain}
 use Rattle.shen_core.specs.State.{config_of, orders_of, machines_of, Shows}
-use Rattle.step_core.specs.Machines.{is_resting, may_begin, made_of_machine}
+use Rattle.step_core.specs.Machines.{is_resting, made_of_machine}
 use Rattle.shen_core.specs.Progress.{CanRun, Tells, IsRunnable}
 
 -- nothing was done of a script
@@ -40,10 +37,6 @@ made_first c machines k is below = ap made_of_machine (machine_first c machines 
 -- a mutator rests
 rests_first : (c : Config) (machines : List Machine) (t : ℕ) → map (λ a. a.machine) (opening c).machines ≡ machines → t < c.mutators → is_resting (get_or machines t no_machine) ≡ true
 rests_first c machines t is below = ap is_resting (machine_first c machines t is (omega arith)) ∙ first_rests c t below
-
--- and may be given a command
-pub begins_first : (c : Config) (machines : List Machine) (t : ℕ) → map (λ a. a.machine) (opening c).machines ≡ machines → t < c.mutators → may_begin (get_or machines t no_machine) ≡ true
-begins_first c machines t is below = ap may_begin (machine_first c machines t is (omega arith)) ∙ first_free_to_begin c t below
 
 -- a heap that was just opened can run scripts of commands that can be given
 pub can_run_first : (p : Plain) (scripts : Scripts) → Shows p (opening (config_of p)) → All (λ order. order ≡ Nothing) (orders_of p) → (config_of p).mutators ≡ length scripts → length scripts ≤ 8 → All IsRunnable scripts → CanRun p (work.opened scripts)
@@ -71,11 +64,3 @@ tells_first c scripts count few = record {
 -- scripts that are put together one after the other
 pub served_none : (scripts : Scripts) → scripts ≡ [] → All IsRunnable scripts
 served_none scripts none = subst (λ xs. All IsRunnable xs) (sym none) (λ k d below. absurd (omega arith))
-
--- one script more
-pub served_push : (before after : Scripts) (script : List Command) → after ≡ before ++ script ∷ [] → All IsRunnable before → IsRunnable script → All IsRunnable after
-served_push before after script grown served one = subst (λ xs. All IsRunnable xs) (sym grown) (All-push IsRunnable before script served one)
-
--- the number of scripts with one more
-pub length_pushed : (before after : Scripts) (script : List Command) → after ≡ before ++ script ∷ [] → length after ≡ length before + 1
-length_pushed before after script grown = ap length grown ∙ length-append before (script ∷ [])

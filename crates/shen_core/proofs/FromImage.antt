@@ -46,9 +46,6 @@ other_is c counts memory number b none is =
     ap (λ x. if x then fresh_helper number else control_from memory) (sym is)
     ∙ ap (λ x. if x then mutating (mutator_after number (slice_index counts number)) else (if nat_lt number (c.mutators + c.helpers) then fresh_helper number else control_from memory)) (sym none)
 
-pub helper_is : (c : Config) (counts : List ℕ) (memory : Word → ℕ) (number : ℕ) → (number < c.mutators → ⊥) → number < c.mutators + c.helpers → fresh_helper number ≡ machine_from c counts memory number
-helper_is c counts memory number none below = other_is c counts memory number true (le-ltb number c.mutators (omega arith)) (lt-ltb number (c.mutators + c.helpers) below)
-
 pub control_is : (c : Config) (counts : List ℕ) (memory : Word → ℕ) (number : ℕ) → number ≡ c.mutators + c.helpers → control_from memory ≡ machine_from c counts memory number
 control_is c counts memory number is = other_is c counts memory number false (le-ltb number c.mutators (omega arith)) (le-ltb number (c.mutators + c.helpers) (omega arith))
 

@@ -3,7 +3,7 @@ use Rattle.std.proofs.Common.{◌≡◌, ℕ, ◌+◌, ◌-◌, ◌%◌, ◌^◌
 use Rattle.std.proofs.lemmas.List.{get_or_past}
 use Rattle.std.proofs.lemmas.Bool.{cond-true, cond-false, not-true, cases_Bool, cases_lt, and_from, or_cases, eqb-true, and_parts, leb-true, ltb-true, lt-ltb, agree_below, agree_below_at, true≢false}
 use Rattle.heap_words.specs.Encoding.{object_words, refs_in, is_forwarded, forwardee_in}
-use Rattle.sliding.specs.Table.{kept_of, word_of, now_of, IsMarkedHeap, AreInTable, LeadsToKept, CanCompact}
+use Rattle.sliding.specs.Table.{kept_of, word_of, now_of, IsMarkedHeap, LeadsToKept, CanCompact}
 use Rattle.sliding.proofs.Flags.{kept_marked, kept_unmarked, kept_below}
 
 -- the words of the object at an index
@@ -17,13 +17,6 @@ fits w heap marks k = cond (get_or marks k false) (nat_le ((w + k) % w + words h
 -- a marked object ends before another behind it
 abbrev ends_before : List ℕ → List Bool → ℕ → ℕ → Bool
 ends_before heap marks j k = cond (get_or marks j false && (get_or marks k false && nat_lt j k)) (nat_le (j + words heap j) k) true
-
--- its references are null or addresses of the heap
-abbrev refers : ℕ → List ℕ → ℕ → ℕ → Bool
-refers w heap k i = (get_or heap (k + (3 + i)) 0 == 0) || (nat_le w (get_or heap (k + (3 + i)) 0) && nat_lt (get_or heap (k + (3 + i)) 0) (w + length heap))
-
-abbrev all_refer : ℕ → List ℕ → List Bool → ℕ → Bool
-all_refer w heap marks k = cond (get_or marks k false) (agree_below (refers w heap k) (λ i. true) (refs_in (get_or heap (k + 1) 0))) true
 
 abbrev yes : ℕ → Bool
 yes k = true
@@ -93,28 +86,6 @@ marked_if w heap marks some flags small one two = record {
         let parts = and_parts (nat_le ((w + k) % w + words heap k) w) (nat_le (k + words heap k) (length heap))
         (sym (cond-true (get_or marks k false) (nat_le ((w + k) % w + words heap k) w && nat_le (k + words heap k) (length heap)) true set) ∙ row) in
         (leb-true ((w + k) % w + words heap k) w parts.0, leb-true (k + words heap k) (length heap) parts.1)
-
--- so are its references
-pub in_table_if : (w : ℕ) (heap places : List ℕ) (marks : List Bool) → length places ≡ length heap
-    → agree_below (all_refer w heap marks) yes (length marks) ≡ true → AreInTable w (kept_of w heap marks) (word_of w heap) places
-in_table_if w heap places marks same all a i some few differs =
-    let at = marked_index w heap marks a some in
-    let k = a - w in
-    let row = agree_below_at (all_refer w heap marks) yes (length marks) k all at.2 in
-    let refs = sym (cond-true (get_or marks k false) (agree_below (refers w heap k) (λ i. true) (refs_in (get_or heap (k + 1) 0))) true at.1) ∙ row in
-    let shape_index : a + 1 - w ≡ k + 1 = omega (arith, at.0) in
-    let shape : refs_in (word_of w heap (a + 1)) ≡ refs_in (get_or heap (k + 1) 0) = ap (λ j. refs_in (get_or heap j 0)) shape_index in
-    let one = agree_below_at (refers w heap k) (λ i. true) (refs_in (get_or heap (k + 1) 0)) i refs (omega (arith, few, shape)) in
-    let word_index : a + (3 + i) - w ≡ k + (3 + i) = omega (arith, at.0) in
-    let word : word_of w heap (a + (3 + i)) ≡ get_or heap (k + (3 + i)) 0 = ap (λ j. get_or heap j 0) word_index in
-    ⊎_elim
-    (λ (null : (get_or heap (k + (3 + i)) 0 == 0) ≡ true). absurd (differs (word ∙ eqb-true (get_or heap (k + (3 + i)) 0) 0 null)))
-    (λ (address : (nat_le w (get_or heap (k + (3 + i)) 0) && nat_lt (get_or heap (k + (3 + i)) 0) (w + length heap)) ≡ true).
-    let parts = and_parts (nat_le w (get_or heap (k + (3 + i)) 0)) (nat_lt (get_or heap (k + (3 + i)) 0) (w + length heap)) address in
-    let low = leb-true w (get_or heap (k + (3 + i)) 0) parts.0 in
-    let high = ltb-true (get_or heap (k + (3 + i)) 0) (w + length heap) parts.1 in
-    (omega (arith, low, word), omega (arith, high, word, same)))
-    (or_cases (get_or heap (k + (3 + i)) 0 == 0) (nat_le w (get_or heap (k + (3 + i)) 0) && nat_lt (get_or heap (k + (3 + i)) 0) (w + length heap)) one)
 
 -- a marked object has not moved, and its references are null or lead to marked objects
 abbrev own : List ℕ → List Bool → ℕ → Bool

@@ -27,9 +27,6 @@ in_memory b number a here = ap (λ v. machine_of v number) (sym b.kept) ∙ show
 pub at_number : (b : Bundle) (number : ℕ) (a : Actor) → machine_of (view_of b) number ≡ Some a → machine_at b number ≡ a.machine
 at_number b number a here = ap (λ o. unwrap_or o no_machine) (in_memory b number a here)
 
-pub has_number : (b : Bundle) (number : ℕ) (a : Actor) → machine_of (view_of b) number ≡ Some a → HasMachine b number
-has_number b number a here = ap is_some (in_memory b number a here)
-
 -- and a machine in memory is one of the view
 pub in_view : (b : Bundle) (number : ℕ) → HasMachine b number → (a : Actor) × (machine_of (view_of b) number ≡ Some a)
 in_view b number here = by_machine (machine_of (view_of b) number) refl

@@ -21,7 +21,7 @@ use Rattle.heap_machines.specs.Turn.{order_for}
 use Rattle.heap_machines.proofs.Replies.{done_gives, other_gives, given_after}
 use Rattle.heap_machines.proofs.Turns.{role_stays}
 use Rattle.table_heap.specs.declared.bundle.Bundle.{Bundle}
-use Rattle.table_heap.specs.State.{view_of, orders_of, machine_at, order_at, IsUnmoved, IsUnchanged, IsStep}
+use Rattle.table_heap.specs.State.{view_of, orders_of, machine_at, order_at, IsUnmoved, IsStep}
 use Rattle.table_heap.specs.Running.{Jobs, HasNoOrder, EachMutator, IsAtWorkOn, AreAtWork, next_for, AreSameJobs}
 use Rattle.table_heap.proofs.Core.{kind_took}
 use Rattle.shen_graph.proofs.Noted.{progress_other, script_kept}
@@ -179,10 +179,3 @@ module _ (old mid new : Bundle) (jobs : Jobs) (number : ℕ) (said : Stepped) (m
           numbers = λ t. numbers_kept jobs number r t has;
           others = λ t none. progress_other jobs number r t (λ same. false≢true (sym (none was (ap (machine_of (view_of old)) same ∙ here)) ∙ role));
         }
-
--- a machine that has no turn
-pub turned_idle : (old new : Bundle) (jobs : Jobs) → IsUnchanged old new → AreAtWork old jobs → AreAtWork new jobs
-turned_idle old new jobs same before = record {
-  orders = λ k order there. before.orders k order (ap (λ v. machine_of v k) (sym same.orders) ∙ there);
-  mutators = λ k a there role. before.mutators k a (ap (λ v. machine_of v k) (sym same.unmoved.view) ∙ there) role;
-}

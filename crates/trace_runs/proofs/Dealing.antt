@@ -62,13 +62,6 @@ is_left workers done number = not (nat_lt (number % workers) done)
 abbrev pub left_after : ℕ → ℕ → List (List Command) → Jobs
 left_after workers done scripts = picked (is_left workers done) (opened scripts)
 
--- before the first all are left
-pub all_left : (workers : ℕ) (scripts : List (List Command)) → opened scripts ≡ left_after workers 0 scripts
-all_left workers scripts = same_work (opened scripts) (left_after workers 0 scripts) refl refl (λ t. sym (progress_of-picked (is_left workers 0) (opened scripts) t refl ∙ by (t % workers) (progress_of (opened scripts) t)))
-  where
-    by : (n : ℕ) (o : Option Progress) → (if not (nat_lt n 0) then o else None) ≡ o
-    by n o = grind (arith, nat_tests)
-
 -- and after each there is one less
 pub one_less : (workers done : ℕ) (scripts : List (List Command)) → left_over workers done (left_after workers done scripts) ≡ left_after workers (done + 1) scripts
 one_less workers done scripts = same_work _ (left_after workers (done + 1) scripts) refl refl (λ t.

@@ -168,11 +168,6 @@ pub told_by : {P : Type 0} (r : Bool) → (r ≡ true → P) × (P → r ≡ tru
 told_by true both = both.0 refl
 told_by false both = λ p. false≢true (both.1 p)
 
--- a run has one bundle at least
-pub some_workers : (words : List (List ℕ)) (workers : ℕ) → IsRunBy words workers → 1 ≤ workers
-some_workers words workers (inl one) = omega (arith, one.1)
-some_workers words workers (inr three) = three.1.0
-
 -- no words have no first word
 pub none_begins : {X : Type 0} (f : X → List ℕ) (words : List X) (text : List ℕ) → length words < 1 → BeginWith text (map f words) → ⊥
 none_begins f [] text few begins = begins
