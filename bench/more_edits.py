@@ -4,10 +4,11 @@
 usage: more_edits.py [NAME..]    tries them, and notes in bench/edits/tried.txt each crate of which every edit was refused
        more_edits.py --check     says of which crates the edits have to be tried again; it ends with 1 where there are such
 
-The gate tries the edits of crates/NAME/must-fail: the classical wrong bodies of this collector. Those here hold each other
-contract to account, and each must be refused. Whether it is depends on the crate's text, on what it and the crates below it
-define in specs/, and on the edits; bench/edits/tried.txt has a checksum of these, so a crate whose contracts changed has to be
-tried again before the change can land. Nothing here is proved by that file: it says when edits were tried, and of what.
+The gate tries the edits of crates/NAME/must-fail, three or more for each crate with code. Those here show what is close to what one
+of those shows, and each must be refused too. Whether it is depends on the crate's text, on what it and the crates below it
+define in specs/, and on the edits; bench/edits/tried.txt has a checksum of these, so that a crate whose text or definitions changed
+is tried again before the change can land. Contracts that a crate below has in its own text are not in it. The file is a record that
+whoever runs this leaves, and proves nothing: the gate itself tries none of these edits.
 
 They are tried on a throwaway copy of the crates as they stand, without the edits of the gate, by `rt ci NAME..`, which takes
 what the gate proved on this machine: a crate costs one check of its own and ten to thirty seconds for each edit. An edit that is
@@ -96,7 +97,8 @@ def refusals(names):
 
 
 def main(words):
-    known = sorted(it for it in os.listdir(EDITS) if os.path.isdir(os.path.join(EDITS, it)))
+    # (git keeps no empty folder, and one with no edit has none to be refused)
+    known = sorted(it for it in os.listdir(EDITS) if files_in(os.path.join(EDITS, it)))
     stands_on, noted = below(), tried()
     noted = {name: sum for name, sum in noted.items() if name in known}
     if words == ["--check"]:
