@@ -1,4 +1,5 @@
 mod Causes
+pub mod Accesses
 pub mod TakeStays
 pub mod Takes
 pub mod TakePart

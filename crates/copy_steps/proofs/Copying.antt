@@ -94,12 +94,7 @@ module _ (c : Config) (u w : World) (seat a words : ℕ) (unit : Option ℕ) (at
         ),
       ) can_take.records_none can_take.scans_none
   taken (take.Ended NoRoom) can_take = after_taking (Stopping Ask) refl (λ b more is. can_take.hands b more is) refl (body, body_there, tt) can_take.records_none can_take.scans_none
-  taken take.LoadCurrent can_take = goes_on take.LoadCurrent refl (λ b more is. can_take.hands b more is) can_take
-  taken (take.LoadTop region) can_take = goes_on (take.LoadTop region) refl (λ b more is. can_take.hands b more is) can_take
-  taken take.LoadFree can_take = goes_on take.LoadFree refl (λ b more is. can_take.hands b more is) can_take
-  taken (take.TakeRegion region) can_take = goes_on (take.TakeRegion region) refl (λ b more is. can_take.hands b more is) can_take
-  taken (take.StoreCurrent region) can_take = goes_on (take.StoreCurrent region) refl (λ b more is. can_take.hands b more is) can_take
-  taken (take.StoreTop region top) can_take = goes_on (take.StoreTop region top) refl (λ b more is. can_take.hands b more is) can_take
+  taken next can_take = goes_on next refl (λ b more is. can_take.hands b more is) can_take
 
 module _ (c : Config) (u : World) (seat a : ℕ) (unit : Option ℕ) (shared : Shared c u) where
   -- a step of a taking of room

@@ -4,8 +4,7 @@ use Rattle.heap_words.specs.declared.config.Config.{Config}
 use Rattle.heap_words.specs.Ranges.{seat_count}
 use Rattle.heap_words.specs.Words.{Top, Heap, IsWord}
 use Rattle.steps_base.specs.Touch.{loads}
-use Rattle.alloc_buffers.specs.declared.spot.TakeSpot.{TakeSpot}
-use Rattle.alloc_buffers.specs.declared.spot.TakeSpot.TheVariants as take
+use Rattle.alloc_buffers.proofs.Accesses.{accesses_elsewhere}
 use Rattle.heap_world.specs.World.{World, hand, Body, body_at, body_words, Shared}
 use Rattle.heap_world.specs.Part.{Part}
 use Rattle.heap_world.proofs.Apart.{far, one_piece}
@@ -96,20 +95,11 @@ module _ (c : Config) (u : World) (seat a d k : ℕ) (b : Body) (shared : Shared
       inr (copy, refl, one, omega (arith, same, one))
   copy_spares copy (GiveBack answer) can word = absurd (cc (word))
 
-  take_spares : (words : ℕ) (at : TakeSpot) → IsSpared (Taking words at)
-  take_spares words take.LoadCurrent word = inl refl
-  take_spares words (take.LoadTop region) word = inl refl
-  take_spares words take.LoadFree word = inl refl
-  take_spares words (take.TakeRegion region) word = absurd (cc (word))
-  take_spares words (take.StoreCurrent region) word = absurd (cc (word))
-  take_spares words (take.StoreTop region top) word = absurd (cc (word))
-  take_spares words (take.Ended taken) word = inl refl
-
   spares_at : (at : ResolveSpot) → CanResolve c u seat a at → IsSpared at
   spares_at LoadHeader can word = inl refl
   spares_at (Entering at) can word = absurd (cc (word))
   spares_at LoadShape can word = inl refl
-  spares_at (Taking words at) can word = take_spares words at word
+  spares_at (Taking words at) can word = absurd (accesses_elsewhere seat words at (Heap (d + k)) refl word)
   spares_at (Copying copy at) can word = copy_spares copy at can word
   spares_at (Leaving answer) can word = absurd (cc (word))
   spares_at (Stopping at) can word = absurd (cc (word))

@@ -24,9 +24,7 @@ use Rattle.handshake.specs.declared.enter_spot.EnterSpot.TheVariants as enter
 use Rattle.handshake.specs.declared.stop_spot.StopSpot.{StopSpot}
 use Rattle.handshake.specs.declared.stop_spot.StopSpot.TheVariants as stop
 use Rattle.handshake.specs.Rows.{enter_touch, stop_touch}
-use Rattle.alloc_buffers.specs.declared.spot.TakeSpot.{TakeSpot}
-use Rattle.alloc_buffers.specs.declared.spot.TakeSpot.TheVariants as take
-use Rattle.alloc_buffers.specs.Rows as takes
+use Rattle.alloc_buffers.proofs.Accesses.{accesses_elsewhere}
 use Rattle.satb_barrier.specs.declared.spot.RememberSpot.{RememberSpot}
 use Rattle.satb_barrier.specs.declared.spot.RememberSpot.TheVariants as remember
 use Rattle.satb_barrier.specs.Rows as satb
@@ -274,17 +272,8 @@ module _ (c : Config) (w : World) (shared : Shared c w) (d k : ℕ) (b : Body) (
   show_mild seat value command show.LoadName word = inl refl
   show_mild seat value command (show.StoreRoot reply) word = absurd (cc (word))
 
-  take_mild : (seat words : ℕ) (at : TakeSpot) → IsMild seat (takes.touch_at seat words at)
-  take_mild seat words take.LoadCurrent word = inl refl
-  take_mild seat words (take.LoadTop region) word = inl refl
-  take_mild seat words take.LoadFree word = inl refl
-  take_mild seat words (take.Ended taken) word = inl refl
-  take_mild seat words (take.TakeRegion region) word = absurd (cc (word))
-  take_mild seat words (take.StoreCurrent region) word = absurd (cc (word))
-  take_mild seat words (take.StoreTop region top) word = absurd (cc (word))
-
   make_mild : (seat made : ℕ) (kept command : Command) (fixed : Option Reply) (at : MakeSpot) → MakeFacts c w seat made kept command fixed at → IsMild seat (make_touch seat made kept at)
-  make_mild seat made kept command fixed (make.Taking at) facts word = take_mild seat _ at word
+  make_mild seat made kept command fixed (make.Taking at) facts word = absurd (accesses_elsewhere seat _ at (Heap (d + k)) refl word)
   make_mild seat made kept command fixed (make.StoreWord address done) facts word = absurd (room_far seat address done _ facts.1.room facts.2 (one_address _ _ word))
   make_mild seat made kept command fixed (make.StoreRoot address) facts word = absurd (cc (word))
 

@@ -9,9 +9,8 @@ use Rattle.heap_words.proofs.Stores.{is_word_true}
 use Rattle.regions.specs.Place.{region_with}
 use Rattle.regions.proofs.PlaceLemmas.{regions_tile}
 use Rattle.mark_bits.proofs.Marking.{word_inside}
-use Rattle.alloc_buffers.specs.declared.spot.TakeSpot.{TakeSpot}
-use Rattle.alloc_buffers.specs.declared.spot.TakeSpot.TheVariants as take
 use Rattle.alloc_buffers.specs.Rows as takes
+use Rattle.alloc_buffers.proofs.Accesses.{in_image}
 use Rattle.load_barrier.specs.declared.copying.CopySpot.{CopySpot}
 use Rattle.load_barrier.specs.declared.copying.CopySpot.TheVariants.{LoadWord, StoreWord, StoreHeader, Publish, GiveBack}
 use Rattle.load_barrier.specs.declared.spot.ResolveSpot.{ResolveSpot}
@@ -74,15 +73,6 @@ evacuation_inside c seat (evac.Resolving address end next at) ready =
     resolve_inside c seat address at (and_parts _ _ parts.0).0 (and_parts _ _ (and_parts _ _ parts.1).1).0
 evacuation_inside c seat (evac.Ended unit) ready = tt
 
-take_image : (seat words : ℕ) (at : TakeSpot) → is_image (takes.touch_at seat words at).word ≡ true
-take_image seat words take.LoadCurrent = refl
-take_image seat words (take.LoadTop region) = refl
-take_image seat words take.LoadFree = refl
-take_image seat words (take.TakeRegion region) = refl
-take_image seat words (take.StoreCurrent region) = refl
-take_image seat words (take.StoreTop region top) = refl
-take_image seat words (take.Ended taken) = refl
-
 copy_image : (c : Config) (address copy : ℕ) (at : CopySpot) → is_image (resolves.copy_touch c address copy at).word ≡ true
 copy_image c address copy (LoadWord words index) = refl
 copy_image c address copy (StoreWord words index found) = refl
@@ -95,7 +85,7 @@ pub resolve_image : (c : Config) (seat address : ℕ) (at : ResolveSpot) → is_
 resolve_image c seat address LoadHeader = refl
 resolve_image c seat address (Entering at) = refl
 resolve_image c seat address LoadShape = refl
-resolve_image c seat address (Taking words at) = take_image seat words at
+resolve_image c seat address (Taking words at) = in_image seat words at
 resolve_image c seat address (Copying copy at) = copy_image c address copy at
 resolve_image c seat address (Leaving answer) = refl
 resolve_image c seat address (Stopping at) = refl

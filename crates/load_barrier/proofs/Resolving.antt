@@ -5,12 +5,13 @@ use Rattle.std.proofs.lemmas.Bool.{cond-true, cond-false}
 use Rattle.std.proofs.lemmas.Bool.Decides.{nat_tests}
 use Rattle.heap_words.specs.declared.config.Config.{Config}
 use Rattle.heap_words.specs.Encoding.{plain_header, header_word, is_forwarded, forwardee_in, object_words}
-use Rattle.heap_words.specs.Words.{Word, Evac, Heap, Free, Top, Current}
+use Rattle.heap_words.specs.Words.{Word, Evac, Heap}
 use Rattle.steps_base.specs.Touch.{touch, touched, loads, formed}
 use Rattle.heap_world.proofs.Keeping.{load_keeps}
 use Rattle.alloc_buffers.specs.declared.spot.Taken.TheVariants.{At, NoRoom}
 use Rattle.alloc_buffers.specs.declared.spot.TakeSpot.{TakeSpot}
 use Rattle.alloc_buffers.specs.declared.spot.TakeSpot.TheVariants as take
+use Rattle.alloc_buffers.proofs.Accesses.{others_stay}
 use Rattle.evac_room.specs.Counter.{count_of, is_out_of_room, marked}
 use Rattle.evac_room.specs.declared.spot.RoomSpot.TheVariants.{Outside, Look, Raise, Inside, Lower, Ask, Mark, Wait, Stopped}
 use Rattle.evac_room.specs.Rows as rooms
@@ -242,22 +243,13 @@ module _ (c : Config) (seat address phase : ℕ) (memory : Word → ℕ) where
   loaded word next can = subst (λ m. Can phase address m next) (load_keeps memory word) can
 
   step_take : (words : ℕ) (at : TakeSpot) → Can phase address memory (Taking words at) → Next (Taking words at)
-  step_take words take.LoadCurrent can =
-      loaded (Current seat) (after_take words (take_next c words take.LoadCurrent (memory (Current seat))))
-      (take_leads phase address (λ a. memory (Heap a)) (memory Evac) words (take_next c words take.LoadCurrent (memory (Current seat))) can.header (can.counted refl) can.knows.0)
-  step_take words (take.LoadTop region) can =
-      loaded (Top region) (after_take words (take_next c words (take.LoadTop region) (memory (Top region))))
-      (take_leads phase address (λ a. memory (Heap a)) (memory Evac) words (take_next c words (take.LoadTop region) (memory (Top region))) can.header (can.counted refl) can.knows.0)
-  step_take words take.LoadFree can =
-      loaded Free (after_take words (take_next c words take.LoadFree (memory Free)))
-      (take_leads phase address (λ a. memory (Heap a)) (memory Evac) words (take_next c words take.LoadFree (memory Free)) can.header (can.counted refl) can.knows.0)
-  step_take words (take.TakeRegion region) can =
-      take_leads phase address (λ a. memory (Heap a)) (memory Evac) words (take_next c words (take.TakeRegion region) (memory Free)) can.header (can.counted refl) can.knows.0
-  step_take words (take.StoreCurrent region) can =
-      take_leads phase address (λ a. memory (Heap a)) (memory Evac) words (take_next c words (take.StoreCurrent region) (memory (Current seat))) can.header (can.counted refl) can.knows.0
-  step_take words (take.StoreTop region top) can =
-      take_leads phase address (λ a. memory (Heap a)) (memory Evac) words (take_next c words (take.StoreTop region top) (memory (Top region))) can.header (can.counted refl) can.knows.0
-  step_take words (take.Ended taken) can = absurd (cc (can.knows.1))
+  step_take words at can =
+      let heap_stays : (a : ℕ) → after (Taking words at) (Heap a) ≡ memory (Heap a) = λ a. others_stay seat words memory at (Heap a) refl in
+      let evac_stays : after (Taking words at) Evac ≡ memory Evac = others_stay seat words memory at Evac refl in
+      take_leads phase address (λ a. after (Taking words at) (Heap a)) (after (Taking words at) Evac) words (take_next c words at (found_at (Taking words at)))
+      (subst IsHeader (sym (heap_stays address)) can.header)
+      (subst (λ n. 1 ≤ count_of n) (sym evac_stays) (can.counted refl))
+      (can.knows.0 ∙ ap object_words (sym (heap_stays (address + 1))))
 
   step_copy : (copy : ℕ) (at : CopySpot) → IsApart (λ a. memory (Heap a)) address (Copying copy Publish) → Can phase address memory (Copying copy at) → Next (Copying copy at)
   step_copy copy (LoadWord words index) apart can = loaded (Heap (address + index)) (Copying copy (StoreWord words index (memory (Heap (address + index))))) (record {

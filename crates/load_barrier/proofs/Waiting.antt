@@ -6,9 +6,9 @@ use Rattle.heap_words.specs.declared.access.Took.TheVariants.{More, Again, Done}
 use Rattle.heap_words.specs.declared.config.Config.{Config}
 use Rattle.alloc_buffers.specs.declared.spot.Kind.{Kind}
 use Rattle.alloc_buffers.specs.declared.spot.TakeSpot.{TakeSpot}
-use Rattle.alloc_buffers.specs.declared.spot.TakeSpot.TheVariants.{LoadCurrent, LoadTop, LoadFree, TakeRegion, StoreCurrent, StoreTop, Ended}
 use Rattle.alloc_buffers.specs.Rows as takes
 use Rattle.alloc_buffers.specs.Waits as take_waits
+use Rattle.alloc_buffers.proofs.Accesses.{says_where_it_waits}
 use Rattle.evac_room.specs.declared.spot.RoomSpot.{RoomSpot}
 use Rattle.evac_room.specs.declared.spot.RoomSpot.TheVariants.{Outside, Look, Raise, Inside, Lower, Ask, Mark, Wait, Stopped}
 use Rattle.evac_room.specs.Rows as rooms
@@ -49,29 +49,8 @@ room_part said next at got is = (
 )
 
 -- and a step of a taking of room where another machine has taken the region
-current_never : (next : TakeSpot) → takes.says LoadCurrent next ≡ Again → ⊥
-current_never (Ended ended) is = cc
-current_never _ is = cc
-
-top_never : (region : ℕ) (next : TakeSpot) → takes.says (LoadTop region) next ≡ Again → ⊥
-top_never region (Ended ended) is = cc
-top_never region _ is = cc
-
-free_never : (next : TakeSpot) → takes.says LoadFree next ≡ Again → ⊥
-free_never (Ended ended) is = cc
-free_never _ is = cc
-
-take_waits_by : (c : Config) (words : ℕ) (kind : Kind) (at : TakeSpot) (got : ℕ) → (takes.says at (takes.next_at c words kind at got) ≡ Again) ↔ take_waits.WaitsAt at got
-take_waits_by c words kind (TakeRegion region) got = grind (arith, nat_tests)
-take_waits_by c words kind LoadCurrent got = (λ is. absurd (current_never _ is), λ waits. absurd waits)
-take_waits_by c words kind (LoadTop region) got = (λ is. absurd (top_never region _ is), λ waits. absurd waits)
-take_waits_by c words kind LoadFree got = (λ is. absurd (free_never _ is), λ waits. absurd waits)
-take_waits_by c words kind (StoreCurrent region) got = (λ is. cc, λ waits. absurd waits)
-take_waits_by c words kind (StoreTop region top) got = (λ is. cc, λ waits. absurd waits)
-take_waits_by c words kind (Ended taken) got = (λ is. cc, λ waits. absurd waits)
-
 pub take_part : (c : Config) (words : ℕ) (kind : Kind) (said : Took) (next : ResolveSpot) (at there : TakeSpot) (got : ℕ) → said ≡ takes.says at there → there ≡ takes.next_at c words kind at got → (told_by said next ≡ Again) ↔ take_waits.WaitsAt at got
 take_part c words kind said next at there got is row =
-    let by = take_waits_by c words kind at got in
+    let by = says_where_it_waits c words kind at got in
     let told : said ≡ takes.says at (takes.next_at c words kind at got) = is ∙ ap (takes.says at) row in
     (λ again. by.0 (sym told ∙ (told_again said next).0 again), λ waits. (told_again said next).1 (told ∙ by.1 waits))

@@ -2,18 +2,25 @@
 use Rattle.std.proofs.Common.{◌≡◌, ◌↔◌, ℕ, arith}
 use Rattle.std.proofs.lemmas.Bool.Decides.{nat_tests}
 use Rattle.heap_words.specs.declared.access.Took.TheVariants.{Again}
+use Rattle.heap_words.specs.declared.config.Config.{Config}
+use Rattle.shen_graph.specs.declared.command.Command.{Command}
 use Rattle.handshake.specs.declared.enter_spot.EnterSpot.{EnterSpot}
 use Rattle.handshake.specs.declared.enter_spot.EnterSpot.TheVariants as enter
 use Rattle.handshake.specs.Rows.{enter_says}
+use Rattle.alloc_buffers.specs.declared.spot.Kind.TheVariants.{Fresh}
+use Rattle.alloc_buffers.proofs.Accesses as taking
 use Rattle.mutator.specs.declared.spot.Entered.{Entered}
-use Rattle.mutator.specs.declared.spot.Spot.TheVariants.{OnField, Entering, Waiting}
+use Rattle.mutator.specs.declared.spot.Spot.TheVariants.{OnField, Entering, Making, Waiting}
+use Rattle.mutator.specs.declared.makes.MakeSpot.{MakeSpot}
+use Rattle.mutator.specs.declared.makes.MakeSpot.TheVariants.{Taking}
 use Rattle.mutator.specs.declared.waits.WaitSpot.{WaitSpot}
 use Rattle.mutator.specs.declared.waits.WaitSpot.TheVariants as wait
 use Rattle.mutator.specs.WaitRows.{call_says, wait_says}
 use Rattle.mutator.specs.declared.fields.FieldSpot.{FieldSpot}
 use Rattle.mutator.specs.declared.fields.FieldSpot.TheVariants.{Exchange}
-use Rattle.mutator.specs.Rows.{field_says}
+use Rattle.mutator.specs.Rows.{words_of, field_says, make_says}
 use Rattle.mutator.specs.Waits.{WaitsAt}
+use Rattle.mutator.proofs.Parts.{says_again}
 
 -- a step at a field says Again exactly where an exchange finds another reference
 pub says_where_it_waits : (object : ℕ) (at : FieldSpot) (got : ℕ) → (field_says at got ≡ Again) ↔ WaitsAt (OnField object at) got
@@ -27,6 +34,12 @@ enters_where_it_waits enter.Await next got = grind (arith, nat_tests)
 enters_where_it_waits enter.Raise next got = (λ is. cc, λ waits. absurd waits)
 enters_where_it_waits enter.Lower next got = (λ is. cc, λ waits. absurd waits)
 enters_where_it_waits enter.Inside next got = (λ is. cc, λ waits. absurd waits)
+
+-- one that makes an object where its taking of room does
+pub makes_where_it_waits : (c : Config) (command : Command) (at : MakeSpot) (got : ℕ) → (make_says c command at got ≡ Again) ↔ WaitsAt (Making at) got
+makes_where_it_waits c command (Taking take) got =
+    let by = taking.says_where_it_waits c (words_of command) Fresh take got in (λ is. by.0 ((says_again _).0 is), λ waits. (says_again _).1 (by.1 waits))
+makes_where_it_waits c command _ got = (λ is. cc, λ waits. absurd waits)
 
 -- and one that waits for its object where there is no answer yet
 pub polls_where_it_waits : (at : WaitSpot) (got : ℕ) → (wait_says at got ≡ Again) ↔ WaitsAt (Waiting at) got

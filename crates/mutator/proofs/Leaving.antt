@@ -10,8 +10,8 @@ use Rattle.handshake.specs.declared.enter_spot.EnterSpot.{EnterSpot}
 use Rattle.handshake.specs.declared.enter_spot.EnterSpot.TheVariants as enter
 use Rattle.handshake.specs.Rows.{enter_place}
 use Rattle.alloc_buffers.specs.declared.spot.TakeSpot.{TakeSpot}
-use Rattle.alloc_buffers.specs.declared.spot.TakeSpot.TheVariants as take
 use Rattle.alloc_buffers.specs.Rows as takes
+use Rattle.alloc_buffers.proofs.Accesses.{stands_elsewhere}
 use Rattle.satb_barrier.specs.declared.spot.RememberSpot.{RememberSpot}
 use Rattle.satb_barrier.specs.declared.spot.RememberSpot.TheVariants as record_spot
 use Rattle.satb_barrier.specs.Rows as satb
@@ -51,13 +51,7 @@ enters_elsewhere enter.Await is = cc
 enters_elsewhere enter.Inside is = cc
 
 takes_elsewhere : (at : TakeSpot) → takes.place_at at ≡ LV → ⊥
-takes_elsewhere take.LoadCurrent is = cc
-takes_elsewhere (take.LoadTop r) is = cc
-takes_elsewhere take.LoadFree is = cc
-takes_elsewhere (take.TakeRegion r) is = cc
-takes_elsewhere (take.StoreCurrent r) is = cc
-takes_elsewhere (take.StoreTop r top) is = cc
-takes_elsewhere (take.Ended taken) is = cc
+takes_elsewhere at is = stands_elsewhere at LV refl is
 
 records_elsewhere : (at : RememberSpot) → satb.place_at at ≡ LV → ⊥
 records_elsewhere record_spot.LoadCount is = cc

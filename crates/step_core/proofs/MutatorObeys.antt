@@ -11,7 +11,7 @@ use Rattle.shen_graph.specs.declared.order.Order.TheVariants.{Nothing, Begin, En
 use Rattle.shen_graph.specs.declared.command.Reply.{Reply}
 use Rattle.heap_words.specs.Words.{Left}
 use Rattle.steps_base.specs.Touch.{touch, subtracts}
-use Rattle.alloc_buffers.specs.declared.spot.TakeSpot.TheVariants as take_spot
+use Rattle.alloc_buffers.proofs.Accesses.{in_image}
 use Rattle.satb_barrier.specs.declared.spot.RememberSpot.{RememberSpot}
 use Rattle.satb_barrier.specs.declared.spot.RememberSpot.TheVariants.{LoadCount, LoadEntry, MarkEntry, ClearCount, StoreEntry, StoreCount, Recorded}
 use Rattle.handshake.specs.declared.enter_spot.EnterSpot.{EnterSpot}
@@ -45,7 +45,7 @@ use Rattle.mutator.specs.Fit.{is_outside, numbers_fit, stores_fit, IsReady}
 use Rattle.step_core.specs.Standing.{wait_standing, standing_at}
 use Rattle.step_core.proofs.Within.{goes_on_in}
 use Rattle.mutator.specs.WaitRows.{after_enter}
-use Rattle.mutator.specs.Rows.{Mutating, first_touch, begun, touch_at, touch_of, next_of}
+use Rattle.mutator.specs.Rows.{Mutating, words_of, first_touch, begun, touch_at, touch_of, next_of}
 
 -- whether a mutator has not ended
 abbrev pub has_not_ended : Spot → Bool
@@ -104,13 +104,7 @@ show_image c seat made value kept order show.LoadName = refl
 show_image c seat made value kept order (show.StoreRoot reply) = refl
 
 make_image : (c : Config) (seat made : ℕ) (kept : Kept) (order : Order) (at : MakeSpot) → is_image (touch_at c seat made kept order (Making at)).word ≡ true
-make_image c seat made kept order (make.Taking take_spot.LoadCurrent) = refl
-make_image c seat made kept order (make.Taking (take_spot.LoadTop region)) = refl
-make_image c seat made kept order (make.Taking take_spot.LoadFree) = refl
-make_image c seat made kept order (make.Taking (take_spot.TakeRegion region)) = refl
-make_image c seat made kept order (make.Taking (take_spot.StoreCurrent region)) = refl
-make_image c seat made kept order (make.Taking (take_spot.StoreTop region top)) = refl
-make_image c seat made kept order (make.Taking (take_spot.Ended taken)) = refl
+make_image c seat made kept order (make.Taking take) = in_image seat (words_of kept.command) take
 make_image c seat made kept order (make.StoreWord address done) = refl
 make_image c seat made kept order (make.StoreRoot address) = refl
 

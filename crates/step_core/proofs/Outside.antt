@@ -16,9 +16,7 @@ use Rattle.mutator.specs.declared.fields.FieldSpot.TheVariants as fields
 use Rattle.mutator.specs.declared.numbers.NumberSpot.TheVariants as numbers
 use Rattle.mutator.specs.declared.shows.ShowSpot.TheVariants as show
 use Rattle.mutator.specs.declared.makes.MakeSpot.TheVariants as make
-use Rattle.alloc_buffers.specs.declared.spot.TakeSpot.TheVariants as take
-use Rattle.alloc_buffers.specs.declared.spot.TakeSpot.{TakeSpot}
-use Rattle.alloc_buffers.specs.Rows as takes
+use Rattle.alloc_buffers.proofs.Accesses.{others_stay}
 use Rattle.load_barrier.specs.declared.copying.CopySpot.{CopySpot}
 use Rattle.load_barrier.specs.declared.copying.CopySpot.TheVariants as copying
 use Rattle.load_barrier.specs.declared.spot.ResolveSpot.{ResolveSpot}
@@ -27,7 +25,7 @@ use Rattle.load_barrier.specs.Rows as resolves
 use Rattle.mutator.specs.declared.waits.WaitSpot.TheVariants as wait
 use Rattle.satb_barrier.specs.declared.spot.RememberSpot.TheVariants as remember
 use Rattle.mutator.specs.Orders.{takes_at}
-use Rattle.mutator.specs.Rows.{touch_at, given_at}
+use Rattle.mutator.specs.Rows.{words_of, touch_at, given_at}
 use Rattle.steps_base.specs.Touch.{touched}
 use Rattle.mutator.specs.Told.{told_at}
 use Rattle.shen_graph.specs.declared.command.Command.{Command}
@@ -91,15 +89,6 @@ outside_given Gone out = refl
 outside_given _ out = cc
 
 -- no step of a resolving is of an answer
-take_answer : (memory : Word → ℕ) (seat words t : ℕ) (at : TakeSpot) → touched memory (takes.touch_at seat words at) (Answer t) ≡ memory (Answer t)
-take_answer memory seat words t take.LoadCurrent = refl
-take_answer memory seat words t (take.LoadTop region) = refl
-take_answer memory seat words t take.LoadFree = refl
-take_answer memory seat words t (take.TakeRegion region) = refl
-take_answer memory seat words t (take.StoreCurrent region) = refl
-take_answer memory seat words t (take.StoreTop region top) = refl
-take_answer memory seat words t (take.Ended taken) = refl
-
 copy_answer : (c : Config) (memory : Word → ℕ) (address copy t : ℕ) (at : CopySpot) → touched memory (resolves.copy_touch c address copy at) (Answer t) ≡ memory (Answer t)
 copy_answer c memory address copy t (copying.LoadWord words index) = refl
 copy_answer c memory address copy t (copying.StoreWord words index found) = refl
@@ -111,7 +100,7 @@ resolve_answer : (c : Config) (memory : Word → ℕ) (seat address t : ℕ) (at
 resolve_answer c memory seat address t resolve.LoadHeader = refl
 resolve_answer c memory seat address t (resolve.Entering at) = refl
 resolve_answer c memory seat address t resolve.LoadShape = refl
-resolve_answer c memory seat address t (resolve.Taking words at) = take_answer memory seat words t at
+resolve_answer c memory seat address t (resolve.Taking words at) = others_stay seat words memory at (Answer t) refl
 resolve_answer c memory seat address t (resolve.Copying copy at) = copy_answer c memory address copy t at
 resolve_answer c memory seat address t (resolve.Leaving answer) = refl
 resolve_answer c memory seat address t (resolve.Stopping at) = refl
@@ -152,13 +141,7 @@ answer_before c memory seat made kept order (OnNumber object refs numbers.Load) 
 answer_before c memory seat made kept order (OnNumber object refs numbers.Store) now = now
 answer_before c memory seat made kept order (Showing value show.LoadName) now = now
 answer_before c memory seat made kept order (Showing value (show.StoreRoot reply)) now = now
-answer_before c memory seat made kept order (Making (make.Taking take.LoadCurrent)) now = now
-answer_before c memory seat made kept order (Making (make.Taking (take.LoadTop region))) now = now
-answer_before c memory seat made kept order (Making (make.Taking take.LoadFree)) now = now
-answer_before c memory seat made kept order (Making (make.Taking (take.TakeRegion region))) now = now
-answer_before c memory seat made kept order (Making (make.Taking (take.StoreCurrent region))) now = now
-answer_before c memory seat made kept order (Making (make.Taking (take.StoreTop region top))) now = now
-answer_before c memory seat made kept order (Making (make.Taking (take.Ended taken))) now = now
+answer_before c memory seat made kept order (Making (make.Taking take)) now = sym (others_stay seat (words_of kept.command) memory take (Answer seat) refl) ∙ now
 answer_before c memory seat made kept order (Making (make.StoreWord address done)) now = now
 answer_before c memory seat made kept order (Making (make.StoreRoot address)) now = now
 answer_before c memory seat made kept order (Waiting wait.StoreRequest) now = now

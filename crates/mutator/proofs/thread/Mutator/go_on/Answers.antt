@@ -4,7 +4,7 @@ use Rattle.mutator.specs.declared.spot.Spot.TheVariants.{Entering, LoadPhase, Lo
 use Rattle.mutator.specs.Rows.{Mutating, after_remember}
 use Rattle.mutator.specs.WaitRows.{after_enter}
 use Rattle.mutator.specs.Seen.{seen}
-use Rattle.mutator.proofs.Again.{says_where_it_waits, enters_where_it_waits, polls_where_it_waits}
+use Rattle.mutator.proofs.Again.{says_where_it_waits, enters_where_it_waits, makes_where_it_waits, polls_where_it_waits}
 use Rattle.mutator.proofs.Goes.{pending, ready_next}
 use Rattle.mutator.proofs.thread.Mutator.go_on.Goals as goal
 
@@ -85,3 +85,6 @@ returns-in-Entering-clause-again c = rw (c.in-Entering.is, c.call_says.ensures, 
 
 pub returns-in-Waiting-clause-again : goal.returns-in-Waiting-clause-again
 returns-in-Waiting-clause-again c = rw (c.in-Waiting.is, c.wait.ensures.answer) (polls_where_it_waits c.in-Waiting.at c.args.got)
+
+pub returns-in-Making-clause-again : goal.returns-in-Making-clause-again
+returns-in-Making-clause-again c = let m = c.args.self.now in rw (c.in-Making.is, c.make.ensures.answer) (makes_where_it_waits m.config m.kept.command c.in-Making.at c.args.got)
