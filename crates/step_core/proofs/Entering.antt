@@ -8,8 +8,10 @@ use Rattle.heap_words.specs.Words.{Pause, State, Phase}
 use Rattle.steps_base.specs.Touch.{touch, stores, touched}
 use Rattle.shen_graph.specs.declared.command.Command.{Command}
 use Rattle.shen_graph.specs.declared.command.Reply.{Reply}
+use Rattle.shen_graph.specs.declared.order.Order.TheVariants.{Nothing}
 use Rattle.handshake.specs.declared.enter_spot.EnterSpot.{EnterSpot}
 use Rattle.handshake.specs.declared.enter_spot.EnterSpot.TheVariants.{Raise, Look, Lower, Await, Inside}
+use Rattle.handshake.specs.Rows.{enter_touch, enter_next}
 use Rattle.mutator.specs.declared.spot.Kept.{Kept}
 use Rattle.mutator.specs.declared.spot.Entered.{Entered}
 use Rattle.mutator.specs.declared.spot.Entered.TheVariants.{Call, Waited}
@@ -19,13 +21,14 @@ use Rattle.mutator.specs.Orders.{is_waiting}
 use Rattle.mutator.specs.Rows.{Mutating}
 use Rattle.mutator.specs.WaitRows.{after_enter}
 use Rattle.mutator.specs.Fit.{is_ready, is_outside}
-use Rattle.heap_world.specs.World.{World}
-use Rattle.heap_world.specs.Rely.{Keeps, KeepsFields, RelyCopies, RelyMarks}
+use Rattle.heap_world.specs.World.{World, Shared}
+use Rattle.heap_world.specs.Rely.{Keeps, RelyCopies, RelyMarks}
 use Rattle.heap_world.proofs.Keeping.{rely_same, keeps_of}
 use Rattle.heap_world.proofs.Marked.{same_marks}
-use Rattle.step_core.specs.Stepped.{Mine, Row}
+use Rattle.step_core.specs.Stepped.{Mine, Stepped, Row}
 use Rattle.step_core.proofs.Spots.{mutator_at}
-use Rattle.step_core.proofs.Marking.{marks_in, marking_relied, copies_in, copying_relied, fields_in}
+use Rattle.step_core.proofs.Marking.{marks_in, marking_relied, copies_in, copying_relied}
+use Rattle.step_core.proofs.EnterSteps.{entered_world, enters}
 use Rattle.heap_world.proofs.Copies.{same_copies}
 use Rattle.step_core.proofs.Stable.{root_stays, enter_stays, seated_stays}
 use Rattle.step_core.proofs.Loading.{looks}
@@ -42,9 +45,6 @@ state_marks c u seat j value = marks_in c u (state_world u seat value).memory u.
 -- nor is it one of evacuation
 state_copies : (c : Config) (u : World) (seat j value : ℕ) → RelyCopies c j u (state_world u seat value)
 state_copies c u seat j value = copies_in c u (state_world u seat value).memory u.graph j refl refl (λ r. refl) (λ a. refl)
-
-state_fields : (c : Config) (u : World) (seat value : ℕ) → KeepsFields c u (state_world u seat value)
-state_fields c u seat value = fields_in c u (state_world u seat value).memory u.graph (λ r. refl) (λ r. refl) refl (λ a. refl)
 
 pub state_keeps : (c : Config) (u : World) (seat j value : ℕ) → Keeps c j u (state_world u seat value)
 state_keeps c u seat j value = let marks = state_marks c u seat j value in let kept = marks.keeps in let copies = state_copies c u seat j value in let kept_copies = copies.keeps in search (arith, nat_tests, kept, kept_copies)
@@ -94,34 +94,32 @@ module _ (c : Config) (u : World) (seat made : ℕ) (kept : Kept) (command : Com
   mine_inside Call mine = record { seated = mine.seated; ready = refl; marking = mine.marking; copying = mine.copying; roots = mine.roots; hands = mine.hands; facts = mine.facts }
   mine_inside Waited mine = record { seated = mine.seated; ready = ready_of _ true (lt-ltb _ _ mine.seated.below) refl; marking = mine.marking; copying = mine.copying; roots = mine.roots; hands = mine.hands; facts = mine.facts }
 
+  -- a step of an entering is a step of the mutator
+  lifted : (at : EnterSpot) (next : Entered) → Shared c u → Mine c (entered_world u seat at) (at_spot (after_enter next (enter_next at (u.memory (enter_touch seat at).word)))) command fixed
+      → Stepped c u (at_spot (Entering at next)) command Nothing fixed
+  lifted at next shared mine =
+      let step = enters c u seat at (λ w. Mine c w (at_spot (after_enter next (enter_next at (u.memory (enter_touch seat at).word)))) command fixed) shared mine in
+      record {
+        world = step.world;
+        memory = step.memory;
+        graph = step.graph;
+        legal = tt;
+        settles = λ r e. cc;
+        shared = step.shared;
+        mine = step.own;
+        others = step.others;
+      }
+
   -- the steps of an entering
   pub at_enter : (at : EnterSpot) (next : Entered) → Row c u (at_spot (Entering at next)) command fixed
-  at_enter Raise next shared mine = record {
-    world = state_world u seat 1;
-    memory = refl;
-    graph = refl;
-    legal = tt;
-    settles = λ r e. cc;
-    shared = shared;
-    mine = mine_stored Raise next mine 1 Look refl;
-    others = λ j d. let marks = state_marks c u seat j 1 in let copies = state_copies c u seat j 1 in let kept_fields = state_fields c u seat 1 in search (arith, nat_tests, marks, copies, kept_fields);
-  }
-  at_enter Look next shared mine = looks c u (at_spot (Entering Look next)) Pause command fixed refl refl refl shared (by_pause (u.memory Pause == 0))
+  at_enter Raise next shared mine = lifted Raise next shared (mine_stored Raise next mine 1 Look refl)
+  at_enter Look next shared mine = lifted Look next shared (by_pause (u.memory Pause == 0))
     where
       by_pause : (b : Bool) → Mine c u (at_spot (after_enter next (if b then Inside else Lower))) command fixed
       by_pause true = mine_inside next mine
       by_pause false = mine_on Look next mine Lower refl
-  at_enter Lower next shared mine = record {
-    world = state_world u seat 0;
-    memory = refl;
-    graph = refl;
-    legal = tt;
-    settles = λ r e. cc;
-    shared = shared;
-    mine = mine_stored Lower next mine 0 Await refl;
-    others = λ j d. let marks = state_marks c u seat j 0 in let copies = state_copies c u seat j 0 in let kept_fields = state_fields c u seat 0 in search (arith, nat_tests, marks, copies, kept_fields);
-  }
-  at_enter Await next shared mine = looks c u (at_spot (Entering Await next)) Pause command fixed refl refl refl shared (by_pause (u.memory Pause == 0))
+  at_enter Lower next shared mine = lifted Lower next shared (mine_stored Lower next mine 0 Await refl)
+  at_enter Await next shared mine = lifted Await next shared (by_pause (u.memory Pause == 0))
     where
       by_pause : (b : Bool) → Mine c u (at_spot (after_enter next (if b then Raise else Await))) command fixed
       by_pause true = mine_on Await next mine Raise refl

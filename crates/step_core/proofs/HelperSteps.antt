@@ -1,10 +1,10 @@
 -- What the steps of a helper owe.
-use Rattle.std.proofs.Common.{◌≡◌, ◌≢◌, ℕ, ◌<◌, Bool, true, false, refl, sym, ◌∙◌, subst, arith}
+use Rattle.std.proofs.Common.{◌≡◌, ℕ, ◌<◌, Bool, true, false, refl, sym, ◌∙◌, subst, arith}
 use Rattle.std.specs.Prelude.{◌==◌, if◌then◌else◌}
-use Rattle.std.proofs.lemmas.Bool.{and_parts, eqb-false, eqb-true, cond-false, ne_eqb}
+use Rattle.std.proofs.lemmas.Bool.{and_parts, eqb-false, eqb-true}
 use Rattle.heap_words.specs.declared.config.Config.{Config}
 use Rattle.heap_words.specs.Ranges.{seat_count}
-use Rattle.heap_words.specs.Words.{End, Phase, Pause, Cset, State, write}
+use Rattle.heap_words.specs.Words.{End, Phase, Cset, State, write}
 use Rattle.handshake.specs.declared.enter_spot.EnterSpot.{EnterSpot}
 use Rattle.handshake.specs.declared.enter_spot.EnterSpot.TheVariants as enter
 use Rattle.handshake.specs.Rows.{enter_next}
@@ -30,6 +30,7 @@ use Rattle.mark_steps.proofs.Parts.{scanning_steps}
 use Rattle.heap_world.specs.World.{World, Shared}
 use Rattle.heap_world.specs.Part.{PartStep}
 use Rattle.step_core.proofs.Alike.{load_step, store_step}
+use Rattle.step_core.proofs.EnterSteps.{states_stay, entered_world, enters}
 use Rattle.step_core.proofs.Facts.{IsResting, Scans, HelpFacts, IsHelper}
 use Rattle.step_core.proofs.Helpers.{is_off, phase_three}
 use Rattle.step_core.proofs.Units.{scans_from, scans_step, scanned_rests, evacuates_from, evacuated_rests, updates_from, updated_rests}
@@ -86,18 +87,16 @@ module _ (c : Config) (u : World) (seat : ℕ) (shared : Shared c u) where
   load_end : IsHelper c u seat (helper_at LoadEnd) → Step LoadEnd
   load_end is = load_step c u seat End _ shared (stands_then u LoadEnd is tt (of_two u (got LoadEnd == 1) Gone (Entering enter.Raise) (λ yes. is.facts) (λ no. is.facts)))
 
-  states : (value k : ℕ) → k ≢ seat → write u.memory (State seat) value (State k) ≡ u.memory (State k)
-  states value k differs = cond-false (seat == k) _ _ (ne_eqb seat k (λ e. differs (sym e)))
+  rests_still : (at : EnterSpot) → IsResting u seat → IsResting (entered_world u seat at) seat
+  rests_still enter.Raise rests = rests
+  rests_still enter.Lower rests = rests
+  rests_still _ rests = rests
 
   -- it enters
   enter_step : (at : EnterSpot) → IsHelper c u seat (helper_at (Entering at)) → Step (Entering at)
-  enter_step enter.Raise is =
-      store_step c u seat (State seat) 1 _ refl (states 1) shared (stands_then (world_with u (write u.memory (State seat) 1) u.graph) (Entering enter.Raise) is tt is.facts)
-  enter_step enter.Look is = load_step c u seat Pause _ shared (stands_then u (Entering enter.Look) is tt (enters_at u (enter_next enter.Look (got (Entering enter.Look))) is.facts))
-  enter_step enter.Lower is =
-      store_step c u seat (State seat) 0 _ refl (states 0) shared (stands_then (world_with u (write u.memory (State seat) 0) u.graph) (Entering enter.Lower) is tt is.facts)
-  enter_step enter.Await is = load_step c u seat Pause _ shared (stands_then u (Entering enter.Await) is tt (enters_at u (enter_next enter.Await (got (Entering enter.Await))) is.facts))
-  enter_step enter.Inside is = load_step c u seat Pause _ shared (stands_then u (Entering enter.Inside) is tt is.facts)
+  enter_step at is =
+      let there : World = entered_world u seat at in
+      enters c u seat at _ shared (stands_then there (Entering at) is tt (enters_at there (enter_next at (got (Entering at))) (rests_still at is.facts)))
 
   -- it loads the phase, and the collection set
   load_phase : IsHelper c u seat (helper_at LoadPhase) → Step LoadPhase
@@ -162,7 +161,7 @@ module _ (c : Config) (u : World) (seat : ℕ) (shared : Shared c u) where
 
   -- it leaves
   leave_step : IsHelper c u seat (helper_at Leave) → Step Leave
-  leave_step is = store_step c u seat (State seat) 0 _ refl (states 0) shared (stands_then (world_with u (write u.memory (State seat) 0) u.graph) Leave is tt is.facts)
+  leave_step is = store_step c u seat (State seat) 0 _ refl (states_stay u seat 0) shared (stands_then (world_with u (write u.memory (State seat) 0) u.graph) Leave is tt is.facts)
 
   -- wherever it stands
   by_spot : (spot : HelpSpot) → is_gone spot ≡ false → IsHelper c u seat (helper_at spot) → Step spot

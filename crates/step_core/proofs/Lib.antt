@@ -15,6 +15,7 @@ pub mod RootStores
 pub mod Stores
 pub mod Recording
 pub mod Ready
+pub mod EnterSteps
 pub mod Entering
 pub mod Waiting
 pub mod Takes
