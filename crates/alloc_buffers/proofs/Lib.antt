@@ -2,4 +2,3 @@ mod Causes
 pub mod Accesses
 pub mod TakeStays
 pub mod Takes
-pub mod TakePart

@@ -1,12 +1,11 @@
 -- Resolving an address as a part: any machine that has a seat can have it inside.
-use Rattle.std.proofs.Common.{◌≡◌, ◌≢◌, ◌⊎◌, ℕ, ◌+◌, ◌<◌, Option, Some, inl, inr, refl, ap, ◌∙◌, arith}
+use Rattle.std.proofs.Common.{◌≡◌, ◌≢◌, ◌⊎◌, ℕ, ◌+◌, ◌<◌, Some, inl, inr, refl, ap, ◌∙◌, arith}
 use Rattle.heap_words.specs.declared.config.Config.{Config}
 use Rattle.heap_words.specs.Ranges.{seat_count}
 use Rattle.heap_words.specs.Words.{Top, Heap, IsWord}
 use Rattle.steps_base.specs.Touch.{loads}
 use Rattle.alloc_buffers.proofs.Accesses.{accesses_elsewhere}
 use Rattle.heap_world.specs.World.{World, hand, Body, body_at, body_words, Shared}
-use Rattle.heap_world.specs.Part.{Part}
 use Rattle.heap_world.proofs.Apart.{far, one_piece}
 use Rattle.heap_world.proofs.Copies.{counted_one}
 use Rattle.heap_world.proofs.Pointing.{body_piece}
@@ -14,31 +13,14 @@ use Rattle.load_barrier.specs.declared.copying.CopySpot.{CopySpot}
 use Rattle.load_barrier.specs.declared.copying.CopySpot.TheVariants.{LoadWord, StoreWord, StoreHeader, Publish, GiveBack}
 use Rattle.load_barrier.specs.declared.spot.ResolveSpot.{ResolveSpot}
 use Rattle.load_barrier.specs.declared.spot.ResolveSpot.TheVariants.{LoadHeader, Entering, LoadShape, Taking, Copying, Leaving, Stopping, LoadAgain, Resolved}
-use Rattle.load_barrier.specs.Rows.{touch_at, next_at, is_resolved}
+use Rattle.load_barrier.specs.Rows.{touch_at}
 use Rattle.load_barrier.specs.Fit.{LeavesFit}
-use Rattle.load_barrier.specs.UnitRows.{copy_phase}
 use Rattle.load_barrier.proofs.Inside.{resolve_inside}
 use Rattle.copy_steps.specs.Resolving.{CanResolve}
-use Rattle.copy_steps.specs.Laws.{CanResolveFor, ResolvingSteps}
+use Rattle.copy_steps.specs.Laws.{ResolvingSteps}
 use Rattle.copy_steps.proofs.Bodies.{copy_piece, piece_begins, room_no_copy}
 use Rattle.copy_steps.proofs.Stays.{can_resolve_stays}
 use Rattle.copy_steps.proofs.Ending.{each_resolve}
-
--- which address is resolved, and for which unit of work, if for one
-pub record Asked : Type 0 where
-  pub address : ℕ
-  pub unit : Option ℕ
-
--- the rows, the facts and the proofs of resolving an address
-abbrev pub resolve_part : Part ResolveSpot Asked
-resolve_part = record {
-  touch = λ c seat asked at. touch_at c seat asked.address at;
-  next = λ c asked at got. next_at c asked.address copy_phase at got;
-  ended = λ at. is_resolved at;
-  facts = λ c seat asked w at. CanResolveFor c w seat asked.address asked.unit at;
-  stable = λ c u w seat asked at shared rely can. record { resolves = can_resolve_stays c u w seat asked.address shared rely at can.resolves; working = rely.copies.working ∙ can.working };
-  step = λ c u seat asked at going shared can. each_resolve c u seat asked.address asked.unit shared at going can;
-}
 
 module _ (c : Config) (u : World) (seat a : ℕ) (shared : Shared c u) where
   -- who leaves is counted

@@ -12,11 +12,10 @@ use Rattle.mark_bits.proofs.Marking.{word_inside}
 use Rattle.shen_graph.specs.declared.name.Name.{Name}
 use Rattle.heap_world.specs.World.{World, Block, thing, moved, Body, body_at, body_words, HasCopy, IsCaredFor, Shared}
 use Rattle.heap_world.specs.Rely.{Rely}
-use Rattle.heap_world.specs.Part.{Part}
 use Rattle.heap_world.proofs.Pointing.{piece_inside, copy_cases}
 use Rattle.load_barrier.specs.declared.evac_spot.EvacSpot.{EvacSpot}
 use Rattle.load_barrier.specs.declared.evac_spot.EvacSpot.TheVariants.{LoadClaim, ClaimUnit, LoadTop, LoadShape, LoadMark, Resolving, Ended}
-use Rattle.load_barrier.specs.UnitRows.{touch_at, next_at, is_ended}
+use Rattle.load_barrier.specs.UnitRows.{touch_at, is_ended}
 use Rattle.load_barrier.specs.Fit as resolve
 use Rattle.load_barrier.specs.UnitFit.{has_shape, is_walkable, is_ready, PartFit}
 use Rattle.copy_steps.specs.Laws.{ResolvingSteps}
@@ -152,23 +151,9 @@ module _ (resolving : ResolvingSteps) where
     inside = λ c u seat cset at shared can. unit_inside resolving c u seat cset at shared can;
   }
 
-  -- the rows, the facts and the proofs of working on a unit
-  abbrev pub evac_part_by : Part EvacSpot ℕ
-  evac_part_by = record {
-    touch = λ c seat cset at. touch_at c seat at;
-    next = λ c cset at got. next_at c cset at got;
-    ended = λ at. is_ended at;
-    facts = λ c seat cset w at. CanEvacuate c w seat cset at;
-    stable = λ c u w seat cset at shared rely can. can_evacuate_stays resolving c u w seat shared rely cset at can;
-    step = λ c u seat cset at going shared can. evacuates c u seat cset at going shared can;
-  }
-
 -- as resolving is proved
 pub evacuating_steps : EvacuatingSteps
 evacuating_steps = evacuating_by resolving_steps
-
-abbrev pub evac_part : Part EvacSpot ℕ
-evac_part = evac_part_by resolving_steps
 
 -- a header that leads to a copy is one of an object that is forwarded
 leads_is_forwarded : (header to : ℕ) → header ≡ header_word to → is_forwarded header ≡ true

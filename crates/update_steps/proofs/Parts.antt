@@ -8,7 +8,6 @@ use Rattle.steps_base.specs.Touch.{loads}
 use Rattle.mark_bits.proofs.Marking.{word_inside}
 use Rattle.shen_graph.specs.declared.name.Name.{Name}
 use Rattle.heap_world.specs.World.{World, Block, moved, words_of, Body, body_at, body_words, IsCollected, Shared}
-use Rattle.heap_world.specs.Part.{Part}
 use Rattle.heap_world.proofs.Apart.{one_piece}
 use Rattle.heap_world.proofs.Keeping.{keeps_of}
 use Rattle.heap_world.proofs.Pointing.{body_piece, piece_inside}
@@ -16,8 +15,8 @@ use Rattle.update_refs.specs.declared.spot.Walk.{Walk}
 use Rattle.update_refs.specs.declared.spot.Visit.{Visit}
 use Rattle.update_refs.specs.declared.spot.UpdateSpot.{UpdateSpot}
 use Rattle.update_refs.specs.declared.spot.UpdateSpot.TheVariants.{LoadClaim, ClaimUnit, LoadLimit, LoadTams, LoadShape, LoadBlack, LoadField, LoadHeader, ExchangeField, Ended}
-use Rattle.update_refs.specs.Rows.{touch_at, next_at, is_ended, walk_fits, visit_fits, has_field, is_ready}
-use Rattle.update_steps.specs.Updating.{IsWalkedTo, HasShape, HasField, UpdateFacts, CanUpdate}
+use Rattle.update_refs.specs.Rows.{touch_at, walk_fits, visit_fits, has_field, is_ready}
+use Rattle.update_steps.specs.Updating.{IsWalkedTo, HasShape, HasField, UpdateFacts}
 use Rattle.update_steps.specs.Laws.{spot_then, UpdatingSteps}
 use Rattle.update_steps.proofs.Facts.{can_update_stays}
 use Rattle.update_steps.proofs.Pieces.{limit_short, tams_short, piece_shape, shape_words}
@@ -141,15 +140,4 @@ updating_steps = record {
       ready_there c step.world step.shared step.own.phase (spot_then c u cset at) step.own.facts;
   inside = λ c u seat cset at shared can. update_inside c u shared can.phase at can.facts;
   spares = λ c u seat cset at d k b shared can is inside below word. update_spares c u shared can.phase at d k b can.facts is inside below word;
-}
-
--- the rows, the facts and the proofs of working on a unit
-abbrev pub update_part : Part UpdateSpot ℕ
-update_part = record {
-  touch = λ c seat cset at. touch_at c at;
-  next = λ c cset at got. next_at c cset at got;
-  ended = λ at. is_ended at;
-  facts = λ c seat cset w at. CanUpdate c w seat cset at;
-  stable = λ c u w seat cset at shared rely can. can_update_stays c u w seat cset at shared (keeps_of c seat u w rely) rely can;
-  step = λ c u seat cset at going shared can. each_updates c u seat cset at going shared can;
 }
