@@ -40,7 +40,7 @@ use Rattle.step_core.specs.Machines.{command_at, told_word, told_storing, told_b
 use Rattle.step_core.specs.Settled.{mixed, settled, settled_by, image_of, control_number}
 use Rattle.step_core.specs.Sound.{world_of}
 use Rattle.step_core.specs.Standing.{standing_at, standing_of}
-use Rattle.step_core.specs.Stepped.{IsPolling, IsAnswered, IsAsking, Mine}
+use Rattle.step_core.proofs.Stepped.{IsPolling, IsAnswered, IsAsking, Mine}
 use Rattle.step_core.proofs.Asked.{promised_given}
 use Rattle.step_core.proofs.Beginning.{goes_begins}
 use Rattle.step_core.proofs.Crowds.{get_right, sum_below_le, open_of, open_below, next_is, crowded_longer, crowded_none, crowded_one}

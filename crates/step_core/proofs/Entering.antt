@@ -23,7 +23,7 @@ use Rattle.heap_world.specs.World.{World}
 use Rattle.heap_world.specs.Rely.{Keeps, KeepsFields, RelyCopies, RelyMarks}
 use Rattle.heap_world.proofs.Keeping.{rely_same, keeps_of}
 use Rattle.heap_world.proofs.Marked.{same_marks}
-use Rattle.step_core.specs.Stepped.{Mine, Row}
+use Rattle.step_core.proofs.Stepped.{Mine, Row}
 use Rattle.step_core.proofs.Spots.{mutator_at}
 use Rattle.step_core.proofs.Marking.{marks_in, marking_relied, copies_in, copying_relied, fields_in}
 use Rattle.heap_world.proofs.Copies.{same_copies}

@@ -1,3 +1,4 @@
+pub mod Stepped
 pub mod Spots
 pub mod Settling
 pub mod Marking

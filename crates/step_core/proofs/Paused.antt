@@ -37,7 +37,7 @@ use Rattle.step_core.specs.Actor.{Machine, mutating, helping, controlling, Actor
 use Rattle.step_core.specs.Settled.{mixed, settled_by, control_number}
 use Rattle.step_core.specs.Own.{root_now, IsInHand}
 use Rattle.step_core.specs.Standing.{standing_at, standing_of}
-use Rattle.step_core.specs.Stepped.{recording_of, has_phase, has_set, copies_at, HasMarkingBy, HasCopyingBy, IsMaking, IsPolling, IsAnswered, SpotFacts, Mine}
+use Rattle.step_core.proofs.Stepped.{recording_of, has_phase, has_set, copies_at, HasMarkingBy, HasCopyingBy, IsMaking, IsPolling, IsAnswered, SpotFacts, Mine}
 use Rattle.step_core.specs.Threads.{IsSettled}
 use Rattle.step_core.proofs.Facts.{IsSeen, IsShort, AreRead, IsThread, IsResting, IsMachine, PromisedToMutators, Owes, words_promised}
 use Rattle.step_core.proofs.Asked.{asking_by, asking_asks, asking_refused, asking_given, asking_at, asking_in, asking_of, asked_same, polling_asked, answered_asked, nothing_then, refused_then, given_then, asks_then, promised_given}

@@ -29,7 +29,7 @@ use Rattle.control_steps.specs.Rows.{Controlling}
 use Rattle.control_steps.specs.Ready.{is_ready}
 use Rattle.step_core.specs.Actor.{Machine, mutating, helping, controlling, Actor, fresh_helper}
 use Rattle.step_core.specs.Machines.{HasNumber, IsIdle}
-use Rattle.step_core.specs.Stepped.{HasMarkingBy, HasCopyingBy, Mine}
+use Rattle.step_core.proofs.Stepped.{HasMarkingBy, HasCopyingBy, Mine}
 use Rattle.step_core.proofs.Facts.{IsSeen, IsShort, IsThread, IsResting, HelpFacts, ControlFacts, IsAim, IsMachine, words_promised}
 use Rattle.step_core.proofs.Helpers.{help_stays, control_stays}
 use Rattle.step_core.proofs.Spots.{mutator_at}

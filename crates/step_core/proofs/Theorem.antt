@@ -51,7 +51,7 @@ use Rattle.step_core.specs.Machines.{takes_of, plan_of, took_of, machine_after, 
 use Rattle.step_core.specs.Pausing.{IsInPause, IsHelper, IsEmpty}
 use Rattle.step_core.specs.Settled.{settled, control_number}
 use Rattle.step_core.specs.Sound.{world_of, IsMutator, IsOfHeap, FindsFit, IsSound}
-use Rattle.step_core.specs.Stepped.{SpotFacts}
+use Rattle.step_core.proofs.Stepped.{SpotFacts}
 use Rattle.step_core.proofs.Adapter.{gives_settled}
 use Rattle.step_core.proofs.Beginning.{goes_begins}
 use Rattle.step_core.proofs.Crowding.{run_crowded}
