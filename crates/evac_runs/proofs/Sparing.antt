@@ -80,7 +80,7 @@ use Rattle.control_steps.specs.declared.spot.ControlSpot.TheVariants as control
 use Rattle.control_steps.specs.Rows.{control_seat, control_touch, access_with}
 use Rattle.control_steps.specs.Ready.{is_ready}
 use Rattle.step_core.specs.Settled.{stored_image}
-use Rattle.step_core.specs.Stepped.{FieldFacts, NumberFacts, MakeFacts, IsResolving, SpotFacts, Mine}
+use Rattle.step_core.proofs.Stepped.{FieldFacts, NumberFacts, MakeFacts, IsResolving, SpotFacts, Mine}
 use Rattle.step_core.proofs.Facts.{HelpFacts, ControlFacts, IsHelper}
 use Rattle.step_core.proofs.Helpers.{help_word}
 use Rattle.step_core.proofs.Ordered.{order_word}

@@ -30,7 +30,7 @@ use Rattle.mutator.specs.declared.makes.MakeSpot.TheVariants as make
 use Rattle.mutator.specs.declared.waits.WaitSpot.{WaitSpot}
 use Rattle.mutator.specs.declared.waits.WaitSpot.TheVariants as wait
 use Rattle.mutator.specs.Commands.{roots_of, dst_of, index_of}
-use Rattle.step_core.specs.Stepped.{IsRootWord, HasObject, IsCas, IsSet, IsCopy, IsDrop, NameTheSame, LoadFacts, FieldFacts, LoadedFacts, RecordFacts, NumberFacts, ShowFacts, MakeFacts, WaitFacts, SpotFacts}
+use Rattle.step_core.proofs.Stepped.{IsRootWord, HasObject, IsCas, IsSet, IsCopy, IsDrop, NameTheSame, LoadFacts, FieldFacts, LoadedFacts, RecordFacts, NumberFacts, ShowFacts, MakeFacts, WaitFacts, SpotFacts}
 use Rattle.recycled.specs.InHand.{IsLoadHand, IsFieldHand, IsLoadedHand, IsOverwrittenHand, IsResolveHand, IsRememberHand, IsMakeHand, IsWaitHand, IsMutatorHand}
 use Rattle.recycled.proofs.Free.{IsElsewhere, piece_elsewhere, null_elsewhere, named_elsewhere, points_elsewhere, target_elsewhere, usable_elsewhere}
 use Rattle.recycled.proofs.Parts.{same_apart, either_apart, resolve_hand, follow_hand, remember_hand}

@@ -28,7 +28,7 @@ use Rattle.step_core.specs.Machines.{kind}
 use Rattle.step_core.specs.Own.{root_now}
 use Rattle.step_core.specs.Settled.{settled}
 use Rattle.step_core.specs.Sound.{world_of, IsMutator, StandsFor}
-use Rattle.step_core.specs.Stepped.{Mine}
+use Rattle.step_core.proofs.Stepped.{Mine}
 use Rattle.step_core.proofs.Beginning.{goes_begins}
 use Rattle.step_core.proofs.Facts.{HelpFacts, ControlFacts, IsMachine, IsThread}
 use Rattle.step_core.proofs.Induction.{Goes, goes_run}

@@ -30,7 +30,7 @@ use Rattle.step_core.specs.Actor.{mutating, controlling, Actor, entries_of, comm
 use Rattle.step_core.specs.Machines.{took_of}
 use Rattle.step_core.specs.Settled.{settled_by}
 use Rattle.step_core.specs.Standing.{standing_at}
-use Rattle.step_core.specs.Stepped.{SpotFacts, Stepped, fixed_by, graph_by}
+use Rattle.step_core.proofs.Stepped.{SpotFacts, Stepped, fixed_by, graph_by}
 use Rattle.step_core.proofs.Entries.{graph_settled, legal_settled, entries_settled, command_valid, own_more, other_more}
 use Rattle.step_core.proofs.Facts.{IsSeen, IsShort, IsThread, IsAim, IsMachine, PromisedToMutators, Owes}
 use Rattle.step_core.proofs.Images.{words_after}

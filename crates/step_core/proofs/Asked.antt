@@ -14,7 +14,7 @@ use Rattle.heap_world.specs.World.{World, Plot}
 use Rattle.heap_world.specs.Asking.{Asking, nothing, asks, refused, given, IsPromise, IsAsked}
 use Rattle.heap_world.specs.Change.{Answers, words_given}
 use Rattle.step_core.specs.Actor.{Machine, mutating, Actor}
-use Rattle.step_core.specs.Stepped.{IsPolling, IsAnswered}
+use Rattle.step_core.proofs.Stepped.{IsPolling, IsAnswered}
 use Rattle.step_core.proofs.Facts.{words_promised}
 
 -- what a waiting mutator has asked for, by its answer and its command

@@ -16,7 +16,7 @@ use Rattle.mutator.specs.Rows.{Mutating, begun}
 use Rattle.mutator.specs.Orders.{is_next}
 use Rattle.heap_world.specs.World.{World, hand, Points}
 use Rattle.step_core.specs.Actor.{command_by}
-use Rattle.step_core.specs.Stepped.{IsSeatedIn, HasMarkingBy, HasCopyingBy, Mine, Row, OrderedRow}
+use Rattle.step_core.proofs.Stepped.{IsSeatedIn, HasMarkingBy, HasCopyingBy, Mine, Row, OrderedRow}
 use Rattle.step_core.proofs.Spots.{mutator_at, accessed_by, accessed}
 use Rattle.step_core.proofs.Marking.{marks_in, still_waits, copies_in, fields_in}
 use Rattle.step_core.proofs.Ready.{leaving, rest_ready}

@@ -4,7 +4,7 @@ use Rattle.heap_words.specs.declared.config.Config.{Config}
 use Rattle.heap_world.specs.World.{World}
 use Rattle.heap_world.specs.Part.{SameWork}
 use Rattle.heap_world.specs.Rely.{KeepsCopies}
-use Rattle.step_core.specs.Stepped.{HasCopyingBy}
+use Rattle.step_core.proofs.Stepped.{HasCopyingBy}
 
 pub copying_kept : (c : Config) (u w : World) (seat : ℕ) (copies : Bool) (loaded : ℕ) (knows : Bool) → SameWork u w seat → KeepsCopies c u w → HasCopyingBy u seat copies loaded knows → HasCopyingBy w seat copies loaded knows
 copying_kept c u w seat copies loaded knows same keeps copying = record {

@@ -25,7 +25,7 @@ use Rattle.heap_world.specs.World.{World, Shared}
 use Rattle.heap_world.specs.Rely.{Keeps, RelyCopies, RelyMarks}
 use Rattle.heap_world.proofs.Keeping.{rely_same, keeps_of}
 use Rattle.heap_world.proofs.Marked.{same_marks}
-use Rattle.step_core.specs.Stepped.{Mine, Stepped, Row}
+use Rattle.step_core.proofs.Stepped.{Mine, Stepped, Row}
 use Rattle.step_core.proofs.Spots.{mutator_at}
 use Rattle.step_core.proofs.Marking.{marks_in, marking_relied, copies_in, copying_relied}
 use Rattle.step_core.proofs.EnterSteps.{entered_world, enters}

@@ -16,7 +16,7 @@ use Rattle.mutator.specs.declared.spot.Spot.TheVariants.{Rest, Ended}
 use Rattle.mutator.specs.Orders.{is_valid, takes_at}
 use Rattle.step_core.specs.Threads.{IsSettled}
 use Rattle.step_core.specs.Actor.{entry_of, entries_of, command_by}
-use Rattle.step_core.specs.Stepped.{graph_by, LegalBy}
+use Rattle.step_core.proofs.Stepped.{graph_by, LegalBy}
 
 -- the graph after two histories
 pub after-append : (g : Graph) (past more : List Entry) → after g (past ++ more) ≡ after (after g past) more

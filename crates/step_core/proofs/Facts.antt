@@ -32,7 +32,7 @@ use Rattle.evac_steps.specs.Evacuating.{CanEvacuate}
 use Rattle.update_steps.specs.Updating.{CanUpdate}
 use Rattle.step_core.specs.Actor.{Machine, mutating, helping, controlling, Actor, entries_of}
 use Rattle.step_core.specs.Threads.{IsSettled}
-use Rattle.step_core.specs.Stepped.{Mine}
+use Rattle.step_core.proofs.Stepped.{Mine}
 use Rattle.step_core.specs.Sound.{world_of}
 
 -- How an answer in the table, the one that counts, and the settled reply of the call go together. Table and what counts differ

@@ -28,7 +28,7 @@ use Rattle.satb_barrier.specs.declared.spot.RememberSpot.TheVariants.{LoadCount}
 use Rattle.mark_steps.specs.Laws.{with_in_hand}
 use Rattle.heap_world.specs.World.{World, Points, Shared}
 use Rattle.heap_world.proofs.Keeping.{load_keeps}
-use Rattle.step_core.specs.Stepped.{HasObject, IsCas, Mine, Stepped, Row}
+use Rattle.step_core.proofs.Stepped.{HasObject, IsCas, Mine, Stepped, Row}
 use Rattle.step_core.proofs.Stable.{set_stays}
 use Rattle.step_core.proofs.Overwriting.{record_ready, Overwrites, overwrites_of}
 use Rattle.step_core.proofs.Spots.{mutator_at}

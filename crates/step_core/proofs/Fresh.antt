@@ -15,7 +15,7 @@ use Rattle.mutator.specs.declared.spot.Kept.{Kept}
 use Rattle.mutator.specs.Commands.{dst_of, refs_of, nums_of}
 use Rattle.mutator.specs.Rows.{Mutating}
 use Rattle.heap_world.specs.World.{World, Block, thing, moved, spent, hand, promised, filler, words_of, Body, body_at, IsMarkable, Shared}
-use Rattle.step_core.specs.Stepped.{IsFilling, Mine, Row}
+use Rattle.step_core.proofs.Stepped.{IsFilling, Mine, Row}
 use Rattle.heap_world.specs.Rely.{Rely}
 use Rattle.step_core.proofs.Spots.{mutator_at, accessed}
 use Rattle.step_core.proofs.Ready.{leaving, word_ready, fresh_ready}

@@ -26,7 +26,7 @@ use Rattle.heap_world.proofs.Copies.{CopiesStay, rely_copies}
 use Rattle.heap_world.proofs.Marked.{rely_marks}
 use Rattle.heap_world.proofs.Fields.{fields_stored}
 use Rattle.heap_world.proofs.NewObject.{new_object, stays, names_stay, things_stay, old_hand, old_promise, parsable_again, objects_again, owned_again, unwritten_again, markable_again, marking_again, evacuating_again, updating_again, given_again, with_count, count_own}
-use Rattle.step_core.specs.Stepped.{IsMaking, LegalBy, graph_by}
+use Rattle.step_core.proofs.Stepped.{IsMaking, LegalBy, graph_by}
 use Rattle.step_core.proofs.Settling.{legal_answer, graph_answer}
 use Rattle.heap_world.proofs.RootChanges.{roots_written, usable_written}
 

@@ -13,7 +13,7 @@ use Rattle.shen_graph.specs.History.{is_full}
 use Rattle.mutator.specs.Rows.{after_field}
 use Rattle.mutator.specs.Commands.{dst_of}
 use Rattle.heap_world.specs.World.{World, hand, body_of, Points, UsableIn, Shared}
-use Rattle.step_core.specs.Stepped.{IsSeatedIn, HasMarkingBy, HasCopyingBy, Mine}
+use Rattle.step_core.proofs.Stepped.{IsSeatedIn, HasMarkingBy, HasCopyingBy, Mine}
 use Rattle.step_core.proofs.Spots.{mutator_at}
 use Rattle.heap_world.proofs.Pointing.{named_body, body_piece, piece_word, points_small, null_if_0, named_if_not_0}
 use Rattle.step_core.proofs.Ready.{ready_of, number_small}

@@ -1,3 +1,4 @@
+pub mod Stepped
 pub mod Spots
 pub mod Settling
 pub mod Marking
@@ -41,6 +42,9 @@ pub mod Refusing
 pub mod Entries
 pub mod Roots
 pub mod Owing
+pub mod Ends
+pub mod GoOn
+pub mod FitProps
 pub mod Roles
 pub mod Reading
 pub mod Polling

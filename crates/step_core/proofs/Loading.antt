@@ -13,7 +13,7 @@ use Rattle.shen_graph.specs.declared.order.Order.TheVariants.{Nothing}
 use Rattle.mutator.specs.Rows.{Mutating, touch_of, next_of, given_at}
 use Rattle.mutator.specs.Told.{told_of}
 use Rattle.heap_world.specs.World.{World, Shared}
-use Rattle.step_core.specs.Stepped.{Mine, Stepped}
+use Rattle.step_core.proofs.Stepped.{Mine, Stepped}
 use Rattle.heap_world.proofs.Keeping.{load_keeps, rely_same}
 use Rattle.step_core.proofs.Marking.{marks_in, copies_in, fields_in}
 use Rattle.step_core.proofs.Settling.{legal_answer, graph_answer}

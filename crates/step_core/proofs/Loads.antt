@@ -24,7 +24,7 @@ use Rattle.mutator.specs.Commands.{roots_of, root_of, is_on_object, lacks_object
 use Rattle.mutator.specs.Rows.{Mutating, first_spot, after_first, first_of_set, with_part}
 use Rattle.mutator.specs.Told.{name_the_same}
 use Rattle.heap_world.specs.World.{World, hand, name_at, Points, Shared}
-use Rattle.step_core.specs.Stepped.{IsRootWord, HasRoot, HasObject, HasFirst, HasRoots, IsBegun, IsSet, IsSeatedIn, HasMarkingBy, HasCopyingBy, Mine, Stepped, Row}
+use Rattle.step_core.proofs.Stepped.{IsRootWord, HasRoot, HasObject, HasFirst, HasRoots, IsBegun, IsSet, IsSeatedIn, HasMarkingBy, HasCopyingBy, Mine, Stepped, Row}
 use Rattle.step_core.proofs.Spots.{mutator_at}
 use Rattle.step_core.proofs.Marking.{covered_unmarked}
 use Rattle.step_core.proofs.Ready.{leaving, ready_of, number_small}

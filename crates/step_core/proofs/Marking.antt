@@ -12,7 +12,7 @@ use Rattle.heap_world.specs.Rely.{KeepsMarks, KeepsFields, RelyMarks, RelyCopies
 use Rattle.heap_world.proofs.Marked.{rely_marks}
 use Rattle.heap_world.proofs.Copies.{same_plot, rely_copies}
 use Rattle.heap_world.proofs.Fields.{fields_kept}
-use Rattle.step_core.specs.Stepped.{HasMarkingBy, HasCopyingBy}
+use Rattle.step_core.proofs.Stepped.{HasMarkingBy, HasCopyingBy}
 
 -- another memory and another graph
 abbrev pub world_with : World → (Word → ℕ) → Graph → World

@@ -18,7 +18,7 @@ use Rattle.mutator.specs.Commands.{root_of, is_on_object, has_part}
 use Rattle.mutator.specs.Rows.{name_in}
 use Rattle.mutator.specs.Told.{name_the_same, shown_word}
 use Rattle.heap_world.specs.World.{World, thing, name_at, body_of, Points, UsableIn, IsThing, Shared}
-use Rattle.step_core.specs.Stepped.{HasObject, NameTheSame, NameOthers}
+use Rattle.step_core.proofs.Stepped.{HasObject, NameTheSame, NameOthers}
 use Rattle.heap_world.proofs.Pointing.{named_body, copy_cases, piece_word, null_if_0}
 
 -- name words are equal exactly where their names are

@@ -32,7 +32,7 @@ use Rattle.shen_graph.specs.declared.command.Command.{Command}
 use Rattle.shen_graph.specs.declared.command.Reply.{Reply}
 use Rattle.heap_world.specs.World.{World}
 use Rattle.step_core.specs.Standing.{standing_at}
-use Rattle.step_core.specs.Stepped.{Mine}
+use Rattle.step_core.proofs.Stepped.{Mine}
 use Rattle.step_core.proofs.Spots.{mutator_at}
 
 -- one of the same

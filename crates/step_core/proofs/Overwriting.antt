@@ -29,7 +29,7 @@ use Rattle.heap_world.proofs.Marked.{same_marks}
 use Rattle.heap_world.proofs.Objects.{stored}
 use Rattle.heap_world.proofs.Unmoved.{unmoved}
 use Rattle.heap_world.proofs.Pointing.{named_thing, named_if_not_0, piece_small}
-use Rattle.step_core.specs.Stepped.{HasMarkingBy, Stepped}
+use Rattle.step_core.proofs.Stepped.{HasMarkingBy, Stepped}
 use Rattle.step_core.proofs.Marking.{covered_found, covered_unmarked, rely_twice}
 use Rattle.step_core.proofs.Ready.{number_small}
 

@@ -22,7 +22,7 @@ use Rattle.heap_world.proofs.Pointing.{named_piece, piece_word}
 use Rattle.heap_world.proofs.Pieces.{some_words}
 use Rattle.handshake.specs.Standing.{is_within}
 use Rattle.step_core.specs.Standing.{standing_at}
-use Rattle.step_core.specs.Stepped.{Mine}
+use Rattle.step_core.proofs.Stepped.{Mine}
 use Rattle.step_core.proofs.Naming.{field_in}
 use Rattle.step_core.proofs.Resolves.{resolving_fits}
 use Rattle.step_core.proofs.Resolving.{going_now}

@@ -24,7 +24,7 @@ use Rattle.mutator.specs.Orders.{is_between_calls}
 use Rattle.mutator.specs.Rows.{Mutating}
 use Rattle.mutator.proofs.Orders.{in_call}
 use Rattle.heap_world.specs.World.{World}
-use Rattle.step_core.specs.Stepped.{Row, OrderedRow, Stepped}
+use Rattle.step_core.proofs.Stepped.{Row, OrderedRow, Stepped}
 use Rattle.step_core.proofs.Calls.{at_rest, at_ended, at_ask, at_leave}
 use Rattle.step_core.proofs.Entering.{at_enter, at_load_phase}
 use Rattle.step_core.proofs.Waiting.{each_wait}

@@ -23,7 +23,7 @@ use Rattle.heap_world.specs.World.{Ghost, World, Plot, Shared}
 use Rattle.heap_world.proofs.Keeping.{rely_same}
 use Rattle.step_core.specs.Actor.{mutating, Actor, entries_of}
 use Rattle.step_core.specs.Settled.{mixed}
-use Rattle.step_core.specs.Stepped.{IsPolling, IsAnswered}
+use Rattle.step_core.proofs.Stepped.{IsPolling, IsAnswered}
 use Rattle.step_core.specs.Threads.{IsSettled}
 use Rattle.step_core.proofs.Facts.{IsSeen, IsThread, PromisedToMutators, Owes}
 use Rattle.step_core.proofs.Roles.{machine_stays}

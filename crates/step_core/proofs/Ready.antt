@@ -21,7 +21,7 @@ use Rattle.mutator.specs.declared.spot.Kept.{Kept}
 use Rattle.mutator.specs.Commands.{dst_of, refs_of, nums_of}
 use Rattle.mutator.specs.Fit.{is_ready, is_next_object, is_going}
 use Rattle.heap_world.specs.World.{World, hand, promised, Plot, Points, IsPlotted}
-use Rattle.step_core.specs.Stepped.{IsMaking, IsSeatedIn, Mine}
+use Rattle.step_core.proofs.Stepped.{IsMaking, IsSeatedIn, Mine}
 use Rattle.step_core.proofs.Spots.{mutator_at}
 use Rattle.heap_world.proofs.Pointing.{piece_word, piece_small}
 

@@ -27,7 +27,7 @@ use Rattle.heap_world.proofs.Unmoved.{usable_unmoved}
 use Rattle.heap_words.specs.Words.{Phase}
 use Rattle.step_core.proofs.Copying.{copying_kept}
 use Rattle.step_core.specs.Own.{root_now, root_recording}
-use Rattle.step_core.specs.Stepped.{IsSeatedIn, HasMarkingBy, HasCopyingBy, RecordFacts, Mine, Row}
+use Rattle.step_core.proofs.Stepped.{IsSeatedIn, HasMarkingBy, HasCopyingBy, RecordFacts, Mine, Row}
 use Rattle.step_core.proofs.Spots.{mutator_at}
 use Rattle.step_core.proofs.Stable.{root_stays, now_stays, record_stays, seated_stays}
 use Rattle.step_core.proofs.Fields.{store_ready}

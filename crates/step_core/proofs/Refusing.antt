@@ -12,7 +12,7 @@ use Rattle.mutator.specs.declared.spot.Entered.TheVariants.{Call, Waited}
 use Rattle.mutator.specs.declared.waits.WaitSpot.TheVariants as wait
 use Rattle.heap_world.specs.World.{World}
 use Rattle.heap_world.specs.Asking.{refused, IsAsked}
-use Rattle.step_core.specs.Stepped.{IsRefused, SpotFacts, Mine}
+use Rattle.step_core.proofs.Stepped.{IsRefused, SpotFacts, Mine}
 use Rattle.step_core.proofs.Spots.{mutator_at}
 
 module _ (c : Config) (w : World) (seat made : ℕ) (kept : Kept) (command : Command) (full : w.memory (Answer seat) ≡ 1) where

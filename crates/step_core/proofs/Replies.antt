@@ -25,7 +25,7 @@ use Rattle.mutator.specs.Commands.{index_of}
 use Rattle.mutator.specs.Told.{name_the_same}
 use Rattle.step_core.proofs.Naming.{names_agree, not_one, one_reference}
 use Rattle.step_core.specs.Sound.{has_settled}
-use Rattle.step_core.specs.Stepped.{IsCas, NameTheSame, NameOthers, IsPolling, IsAnswered, SpotFacts}
+use Rattle.step_core.proofs.Stepped.{IsCas, NameTheSame, NameOthers, IsPolling, IsAnswered, SpotFacts}
 use Rattle.step_core.proofs.Facts.{IsSeen}
 
 -- between two calls no reply is settled that is not given

@@ -13,7 +13,7 @@ use Rattle.mutator.specs.Orders.{is_waiting}
 use Rattle.heap_world.specs.World.{World}
 use Rattle.heap_world.specs.Asking.{nothing, asks, refused, given}
 use Rattle.step_core.specs.Sound.{is_clearing, HasAsked}
-use Rattle.step_core.specs.Stepped.{IsMaking, IsAsking, IsPolling, Mine}
+use Rattle.step_core.proofs.Stepped.{IsMaking, IsAsking, IsPolling, Mine}
 use Rattle.step_core.proofs.Replies.{answered_polls}
 use Rattle.step_core.proofs.Spots.{mutator_at}
 

@@ -14,7 +14,7 @@ use Rattle.update_steps.proofs.Following.{following_steps}
 use Rattle.heap_world.specs.World.{World, Body, hand, HasCopy, body_at, IsCollected, Shared}
 use Rattle.heap_world.specs.Rely.{Rely}
 use Rattle.heap_world.specs.Part.{PartStep}
-use Rattle.step_core.specs.Stepped.{IsResolving}
+use Rattle.step_core.proofs.Stepped.{IsResolving}
 
 -- The address lies in the collection set and is that of a copy. The counter counts the machine where it copies; it has no room in hand but
 -- for its copy, and neither records nor scans; and it can make its next access.

@@ -35,7 +35,7 @@ use Rattle.heap_world.specs.Rely.{Keeps}
 use Rattle.heap_world.proofs.Pointing.{named_body, copy_cases, named_if_not_0, points_small}
 use Rattle.heap_world.proofs.Unmoved.{usable_unmoved}
 use Rattle.step_core.specs.Own.{root_resolving}
-use Rattle.step_core.specs.Stepped.{IsCas, IsCompared, LoadedFacts, IsResolving, IsSeatedIn, HasMarkingBy, HasCopyingBy, Mine, Row}
+use Rattle.step_core.proofs.Stepped.{IsCas, IsCompared, LoadedFacts, IsResolving, IsSeatedIn, HasMarkingBy, HasCopyingBy, Mine, Row}
 use Rattle.step_core.proofs.Spots.{mutator_at}
 use Rattle.step_core.proofs.Naming.{same_words, one_reference, not_one, copied, word_in}
 use Rattle.step_core.proofs.Stable.{root_stays, now_stays, seated_stays, resolved_stays}

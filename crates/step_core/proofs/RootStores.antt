@@ -19,7 +19,7 @@ use Rattle.shen_graph.specs.declared.order.Order.TheVariants.{Nothing}
 use Rattle.mutator.specs.Commands.{dst_of}
 use Rattle.mutator.specs.Rows.{Mutating, touch_of}
 use Rattle.heap_world.specs.World.{World, Points, IsUsable, UsableIn, Shared}
-use Rattle.step_core.specs.Stepped.{IsSeatedIn, Mine, Stepped, Row}
+use Rattle.step_core.proofs.Stepped.{IsSeatedIn, Mine, Stepped, Row}
 use Rattle.step_core.proofs.Spots.{mutator_at, accessed}
 use Rattle.step_core.proofs.Marking.{marks_in, copies_in, fields_in}
 use Rattle.step_core.proofs.Settling.{legal_answer, graph_answer}

@@ -6,7 +6,7 @@ use Rattle.shen_graph.specs.Graph.{Graph}
 use Rattle.shen_graph.specs.Step.{outcome, answers}
 use Rattle.shen_graph.specs.History.{after_entry, is_full}
 use Rattle.step_core.specs.Actor.{entry_of}
-use Rattle.step_core.specs.Stepped.{LegalBy, graph_by}
+use Rattle.step_core.proofs.Stepped.{LegalBy, graph_by}
 
 -- the outcome's own answer is legal
 pub legal_answer : (g : Graph) (seat : ℕ) (k : Command) (r : Reply) → is_full r ≡ false → (outcome g (seat + 1) k).reply ≡ r → LegalBy g seat k (Some r)

@@ -27,7 +27,7 @@ use Rattle.mutator.specs.Commands.{dst_of, index_of, number_of}
 use Rattle.mutator.specs.Rows.{Mutating, touch_of, next_of, given_at, overwritten, after_swap}
 use Rattle.mutator.specs.Told.{told_of}
 use Rattle.heap_world.specs.World.{World, Points, TargetIn, IsThing, IsCovered, IsCurrent, Shared}
-use Rattle.step_core.specs.Stepped.{IsRootWord, HasObject, NameTheSame, IsCas, IsXchg, Mine, Stepped, Row}
+use Rattle.step_core.proofs.Stepped.{IsRootWord, HasObject, NameTheSame, IsCas, IsXchg, Mine, Stepped, Row}
 use Rattle.heap_world.proofs.Updates.{updated}
 use Rattle.heap_world.proofs.Updated.{usable_current}
 use Rattle.step_core.proofs.Ready.{leaving}

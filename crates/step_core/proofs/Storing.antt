@@ -28,7 +28,7 @@ use Rattle.control_steps.proofs.Ready.{stays_ready}
 use Rattle.step_core.specs.Actor.{mutating, controlling, Actor, entries_of}
 use Rattle.step_core.specs.Machines.{command_at, told_word}
 use Rattle.step_core.specs.Settled.{mixed, stored_image, settled_by, control_number}
-use Rattle.step_core.specs.Stepped.{Mine}
+use Rattle.step_core.proofs.Stepped.{Mine}
 use Rattle.step_core.specs.Threads.{IsSettled}
 use Rattle.step_core.proofs.Entries.{entries_settled, own_more, other_more}
 use Rattle.step_core.proofs.Facts.{IsThread, IsAim, ControlFacts, IsControl, IsMachine, AreRead, PromisedToMutators, Owes}

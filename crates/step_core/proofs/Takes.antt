@@ -26,7 +26,7 @@ use Rattle.shen_graph.specs.declared.order.Order.TheVariants.{Nothing}
 use Rattle.mutator.specs.Commands.{refs_of, nums_of}
 use Rattle.mutator.specs.Rows.{Mutating, after_take}
 use Rattle.mutator.specs.Fit.{is_next_object, is_going}
-use Rattle.step_core.specs.Stepped.{HasMarkingBy, HasCopyingBy, Mine, Row, Stepped}
+use Rattle.step_core.proofs.Stepped.{HasMarkingBy, HasCopyingBy, Mine, Row, Stepped}
 use Rattle.step_core.proofs.Stable.{root_stays, asked_stays, seated_stays}
 use Rattle.step_core.proofs.Spots.{mutator_at}
 use Rattle.step_core.proofs.Ready.{seated_waiting, taking_ready, word_ready, request_ready}

@@ -24,7 +24,7 @@ use Rattle.heap_world.specs.Asking as asking
 use Rattle.heap_world.specs.Asking.{IsPromise}
 use Rattle.heap_world.specs.Rely.{Keeps, KeepsFields, RelyCopies, RelyMarks}
 use Rattle.heap_world.proofs.Updates.{updated_there}
-use Rattle.step_core.specs.Stepped.{IsAnswered, Mine, Row}
+use Rattle.step_core.proofs.Stepped.{IsAnswered, Mine, Row}
 use Rattle.step_core.proofs.Spots.{mutator_at, accessed}
 use Rattle.step_core.proofs.Marking.{marks_in, now_waits, copies_in, fields_in}
 use Rattle.step_core.proofs.Stable.{asking_stays, heard_stays}

@@ -1,7 +1,6 @@
 pub mod Actor
 pub mod Opening
 pub mod History
-pub mod Stepped
 pub mod Settled
 pub mod Machines
 pub mod Threads
