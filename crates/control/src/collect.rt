@@ -3,7 +3,7 @@
 ghost use Rattle.std.specs.Prelude.{◌≡◌, ◌==◌, true};
 ghost use Rattle.std.specs.Int.{bit_at};
 ghost use Rattle.heap_words.specs.Words.{Phase, Ask, Evac};
-ghost use Rattle.evac_room.specs.Counter as counter;
+ghost use Rattle.heap_words.specs.Counter as counter;
 ghost use Rattle.image_graph.specs.State.{config_of, memory_of};
 ghost use Rattle.mark_laws.specs.Final.{final_marked};
 ghost use Rattle.mark_core.specs.Result.{MarksSome};

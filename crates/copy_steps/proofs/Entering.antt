@@ -7,7 +7,7 @@ use Rattle.heap_words.specs.declared.config.Config.{Config}
 use Rattle.heap_words.specs.Encoding.{header_word}
 use Rattle.heap_words.specs.Words.{Evac, Heap, is_word}
 use Rattle.alloc_buffers.specs.declared.spot.TakeSpot.TheVariants as take
-use Rattle.evac_room.specs.Counter.{count_of, is_out_of_room}
+use Rattle.heap_words.specs.Counter.{count_of, is_out_of_room}
 use Rattle.evac_room.specs.declared.spot.RoomSpot.TheVariants.{Look, Raise, Inside, Stopped}
 use Rattle.evac_room.specs.Spot.{is_counted}
 use Rattle.heap_world.specs.World.{World, Body, body_at, body_words, HasCopy, Shared}

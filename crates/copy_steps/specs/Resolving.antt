@@ -6,7 +6,7 @@ use Rattle.heap_words.specs.Ranges.{seat_count}
 use Rattle.heap_words.specs.Words.{Phase, Cset, Evac, Heap}
 use Rattle.shen_graph.specs.declared.name.Name.{Name}
 use Rattle.alloc_buffers.specs.Facts.{CanTake}
-use Rattle.evac_room.specs.Counter.{is_out_of_room, IsQuiet}
+use Rattle.heap_words.specs.Counter.{is_out_of_room, IsQuiet}
 use Rattle.evac_room.specs.declared.spot.RoomSpot.{RoomSpot}
 use Rattle.evac_room.specs.declared.spot.RoomSpot.TheVariants.{Wait}
 use Rattle.heap_world.specs.World.{World, thing, moved, hand, Body, body_at, body_words, IsCollected, HasCopy, TargetIn}

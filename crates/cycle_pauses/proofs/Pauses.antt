@@ -12,7 +12,7 @@ use Rattle.heap_words.specs.declared.config.Config.{Config}
 use Rattle.heap_words.specs.Ranges.{seat_count}
 use Rattle.heap_words.specs.Words.{Word, Phase, Cset, Evac, Ask, Current, is_word, image_start, view}
 use Rattle.heap_words.proofs.Stores.{is_word_true, view_none}
-use Rattle.evac_room.specs.Counter.{is_out_of_room}
+use Rattle.heap_words.specs.Counter.{is_out_of_room}
 use Rattle.shen_graph.specs.Graph.{Graph}
 use Rattle.heap_world.specs.World.{Plot}
 use Rattle.heap_world.specs.Asking.{Asking, asks}

@@ -6,7 +6,7 @@ use Rattle.std.specs.List.{range_with_len}
 use Rattle.heap_words.specs.declared.config.Config.{Config}
 use Rattle.heap_words.specs.Words.{Word, Phase, Cset, Evac, Ask, image_start}
 use Rattle.heap_words.specs.Rows.{name_of}
-use Rattle.evac_room.specs.Counter.{is_out_of_room}
+use Rattle.heap_words.specs.Counter.{is_out_of_room}
 use Rattle.shen_graph.specs.Graph.{Graph}
 use Rattle.heap_world.specs.World.{Plot}
 use Rattle.heap_world.specs.Change.{Change, image_words, image_view}

@@ -5,7 +5,7 @@ use Rattle.std.specs.Int.{bit_at}
 use Rattle.std.specs.Int.Bits.{or_add_and}
 use Rattle.std.proofs.lemmas.Bool.Decides.{nat_tests}
 use Rattle.std.proofs.lemmas.Nat.Bits.{and_pow}
-use Rattle.evac_room.specs.Counter.{count_of, is_out_of_room, marked}
+use Rattle.heap_words.specs.Counter.{count_of, is_out_of_room, marked}
 
 pub bit_63 : (word : ℕ) → word < 2 ^ 64 → (is_out_of_room word ≡ true) ↔ (bit_at word 63 ≡ 1)
 bit_63 word below = (λ out. grind (arith, nat_tests), λ bit. grind (arith, nat_tests))

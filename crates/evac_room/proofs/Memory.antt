@@ -14,7 +14,7 @@ use Rattle.steps_base.proofs.Runs.{reached_none, reached_more, reached_has}
 use Rattle.evac_room.specs.declared.copier.Copier.{Copier}
 use Rattle.evac_room.specs.declared.wish.Wish.{Wish}
 use Rattle.evac_room.specs.declared.wish.Copying.{Copying}
-use Rattle.evac_room.specs.Counter.{IsQuiet}
+use Rattle.heap_words.specs.Counter.{IsQuiet}
 use Rattle.evac_room.specs.declared.spot.RoomSpot.{RoomSpot}
 use Rattle.evac_room.specs.declared.spot.RoomSpot.TheVariants.{Outside, Lower}
 use Rattle.evac_room.specs.Rows.{next_at, IsFit}

@@ -6,7 +6,7 @@ use Rattle.steps_base.specs.Touch.{formed}
 use Rattle.heap_words.specs.declared.access.Took.TheVariants.{More, Again, Done}
 use Rattle.evac_room.specs.declared.wish.Copying.{Copying}
 use Rattle.evac_room.specs.declared.wish.Copying.TheVariants as copying
-use Rattle.evac_room.specs.Counter.{count_of, is_out_of_room, marked, IsQuiet}
+use Rattle.heap_words.specs.Counter.{count_of, is_out_of_room, marked, IsQuiet}
 use Rattle.evac_room.specs.declared.spot.RoomSpot.{RoomSpot}
 use Rattle.evac_room.specs.declared.spot.RoomSpot.TheVariants.{Outside, Look, Raise, Inside, Lower, Ask, Mark, Wait, Stopped}
 use Rattle.evac_room.specs.Spot.{is_at_rest, is_counted}

@@ -1,4 +1,3 @@
-pub mod Counter
 pub mod Spot
 pub mod Rows
 pub mod Seen

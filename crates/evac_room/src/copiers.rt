@@ -21,7 +21,7 @@ pub struct Copiers {
 impl Copiers {
     ghost use Rattle.std.specs.Prelude.{◌<◌, ◌≢◌, true, false, Some, IfOk};
     ghost use Rattle.steps_base.specs.Steps.{act};
-    ghost use Rattle.evac_room.specs.Counter.{count_of, is_out_of_room, IsQuiet};
+    ghost use Rattle.heap_words.specs.Counter.{count_of, is_out_of_room, IsQuiet};
     ghost use Rattle.evac_room.specs.Core.{takes_at, answer_to, counted};
     ghost use Rattle.evac_room.specs.State.{word_of, spots_of, spot_at, stage_of};
 

@@ -1,5 +1,5 @@
 ghost use Rattle.std.specs.Prelude.{◌≡◌};
-ghost use Rattle.evac_room.specs.Counter as counter;
+ghost use Rattle.heap_words.specs.Counter as counter;
 
 /// Bit 63 of the word that counts the copiers: a copier found no room.
 const OUT_OF_ROOM: u64 = 9223372036854775808;

@@ -19,7 +19,7 @@ impl EnterEvac {
     ghost use Rattle.std.specs.Prelude.{false, Some, ◌↔◌, ◌<◌};
     ghost use Rattle.heap_words.specs.Access.{table_index};
     ghost use Rattle.heap_words.specs.Words.{table_words};
-    ghost use Rattle.evac_room.specs.Counter.{IsQuiet};
+    ghost use Rattle.heap_words.specs.Counter.{IsQuiet};
     ghost use Rattle.evac_room.specs.Spot.{is_at_rest};
     ghost use Rattle.evac_room.specs.Rows.{place_at, access_of, next_at, answer_at};
     ghost use Rattle.evac_room.specs.Seen.{spot_of_enter, config_of_enter, room_at};

@@ -5,7 +5,7 @@ ghost use Rattle.std.specs.Prelude.{ℕ, ◌≡◌, ◌≢◌, ◌≤◌, ◌<�
 ghost use Rattle.steps_base.specs.Steps.{Event};
 ghost use Rattle.evac_room.specs.declared.wish.Wish.{Wish};
 ghost use Rattle.std.specs.Int.{bit_at};
-ghost use Rattle.evac_room.specs.Counter.{count_of, is_out_of_room, marked, IsQuiet};
+ghost use Rattle.heap_words.specs.Counter.{count_of, is_out_of_room, marked, IsQuiet};
 ghost use Rattle.evac_room.specs.declared.spot.RoomSpot.{RoomSpot};
 ghost use Rattle.evac_room.specs.declared.spot.RoomSpot.TheVariants.{Inside};
 ghost use Rattle.evac_room.specs.Rows.{IsFit};

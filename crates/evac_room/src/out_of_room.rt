@@ -17,7 +17,7 @@ impl OutOfRoom {
     ghost use Rattle.std.specs.Prelude.{false, ◌<◌, ◌↔◌};
     ghost use Rattle.heap_words.specs.Access.{table_index};
     ghost use Rattle.heap_words.specs.Words.{table_words};
-    ghost use Rattle.evac_room.specs.Counter.{count_of as counted_in};
+    ghost use Rattle.heap_words.specs.Counter.{count_of as counted_in};
     ghost use Rattle.evac_room.specs.Spot.{is_at_rest};
     ghost use Rattle.evac_room.specs.Rows.{place_at, access_of, next_at, answer_at};
     ghost use Rattle.evac_room.specs.Seen.{spot_of_stop, config_of_stop};

@@ -10,7 +10,7 @@ use Rattle.shen_graph.specs.declared.order.Order.{Order}
 use Rattle.shen_graph.specs.Graph.{Graph}
 use Rattle.shen_graph.specs.History.{after}
 use Rattle.mark_bits.specs.Marks.{HasMark}
-use Rattle.evac_room.specs.Counter.{is_out_of_room}
+use Rattle.heap_words.specs.Counter.{is_out_of_room}
 use Rattle.heap_world.specs.World.{thing, IsCollected}
 use Rattle.heap_world.specs.Change.{Change, IsDue, IsPause}
 use Rattle.control_steps.specs.declared.spot.ControlSpot.{ControlSpot}

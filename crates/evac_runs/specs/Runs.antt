@@ -14,7 +14,7 @@ use Rattle.shen_graph.specs.declared.order.Order.{Order}
 use Rattle.shen_graph.specs.Graph.{Graph}
 use Rattle.shen_graph.specs.History.{after}
 use Rattle.mark_bits.specs.Marks.{HasMark}
-use Rattle.evac_room.specs.Counter.{is_out_of_room, IsQuiet}
+use Rattle.heap_words.specs.Counter.{is_out_of_room, IsQuiet}
 use Rattle.heap_world.specs.World.{World, thing, moved, Body, body_at, body_words, IsCollected}
 use Rattle.heap_world.specs.Change.{Change, IsPause}
 use Rattle.copy_steps.specs.Resolving.{IsCopied}

@@ -8,7 +8,7 @@ use Rattle.steps_base.specs.Touch.{loads}
 use Rattle.regions.specs.Place.{region_with}
 use Rattle.regions.specs.Sets.{IsIn}
 use Rattle.mark_bits.specs.Marks.{HasMark}
-use Rattle.evac_room.specs.Counter.{is_out_of_room}
+use Rattle.heap_words.specs.Counter.{is_out_of_room}
 use Rattle.heap_world.specs.World.{World, Body, body_at, body_words, Shared, IsCollected}
 use Rattle.heap_world.specs.Rely.{KeepsCopies, Rely}
 use Rattle.heap_world.specs.Part.{PartStep}

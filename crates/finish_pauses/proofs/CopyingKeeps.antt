@@ -11,12 +11,11 @@ use Rattle.shen_graph.specs.declared.name.Name.{Name}
 use Rattle.shen_graph.specs.Graph.{Graph}
 use Rattle.heap_world.specs.World.{thing, Plot, Ghost, no_snapshot, body_of, body_at, IsCollected, IsMarkable, HasCopy, IsCounted, IsSweptTo, IsCaredFor, IsEvacuating}
 use Rattle.heap_world.specs.Asking.{Asking}
-use Rattle.heap_world.specs.Represents.{Represents}
+use Rattle.heap_world.specs.Represents.{Represents, RepresentsByCopies}
 use Rattle.heap_world.proofs.Pointing.{piece_inside}
 use Rattle.heap_world.proofs.Copies.{none_in_0}
 use Rattle.heap_world.proofs.Unmarked.{none_marked_in}
 use Rattle.cset_laws.specs.Copied.{MayChange}
-use Rattle.pause_laws.specs.ByCopies.{RepresentsByCopies}
 use Rattle.pause_laws.proofs.ByCopies.{by_copies}
 use Rattle.finish_laws.specs.Copies.{CanCopyFrom, copied_from, is_room_from, all_copied, is_room_for_all}
 use Rattle.finish_pauses.specs.Copying.{CopyingKeeps, LeftCanBeCopied}
@@ -144,6 +143,7 @@ module _ (c : Config) (m : Word → ℕ) (g : Graph) (asking : ℕ → Asking) (
         updated = λ high. absurd (omega (arith, high, on_still));
       };
       roots = s.roots;
+      usable = tt;
       none = s.between.no_hands;
       asked = s.asked;
       heard = λ t refs nums inside is. ap (λ k. bit_at k 1) (s.same Ask (λ never. never)) ∙ r.heard t refs nums inside is;

@@ -13,9 +13,9 @@ use Rattle.regions.proofs.PlaceLemmas.{regions_tile}
 use Rattle.shen_graph.specs.Graph.{Graph}
 use Rattle.heap_world.specs.World.{Block, thing, moved, spent, hand, promised, filler, words_of, IsCollected}
 use Rattle.heap_world.specs.Asking.{Asking}
+use Rattle.heap_world.specs.Represents.{RepresentsByCopies}
 use Rattle.heap_world.proofs.Pieces.{some_words, beside}
 use Rattle.cset_laws.specs.Live.{words_at}
-use Rattle.pause_laws.specs.ByCopies.{RepresentsByCopies}
 use Rattle.finish_laws.specs.Updated.{start_of, CanUpdateAll}
 use Rattle.finish_laws.specs.Copies.{all_copied}
 use Rattle.finish_laws.proofs.Fields.{covered}

@@ -6,9 +6,8 @@ use Rattle.shen_graph.specs.declared.name.Name.{Name}
 use Rattle.shen_graph.specs.Graph.{Graph}
 use Rattle.heap_world.specs.World.{thing, IsCollected}
 use Rattle.heap_world.specs.Asking.{Asking}
-use Rattle.heap_world.specs.Represents.{Represents}
+use Rattle.heap_world.specs.Represents.{Represents, RepresentsByCopies}
 use Rattle.cset_laws.specs.Copied.{MayChange}
-use Rattle.pause_laws.specs.ByCopies.{RepresentsByCopies}
 use Rattle.finish_laws.specs.Copies.{CanCopyFrom, all_copied, is_room_for_all}
 
 -- The words stand for the same graph, but that roots may name old copies; where all found room no object has its current copy in the

@@ -6,3 +6,4 @@ pub mod Words
 pub mod Access
 pub mod Rows
 pub mod Name
+pub mod Counter

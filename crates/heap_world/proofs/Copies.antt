@@ -7,7 +7,7 @@ use Rattle.heap_words.specs.Ranges.{seat_count}
 use Rattle.heap_words.specs.Words.{Cset, Evac, Top, Heap}
 use Rattle.regions.specs.Sets.{IsIn}
 use Rattle.regions.specs.Place.{region_with}
-use Rattle.evac_room.specs.Counter.{is_out_of_room, IsQuiet}
+use Rattle.heap_words.specs.Counter.{is_out_of_room, IsQuiet}
 use Rattle.shen_graph.specs.declared.name.Name.{Name}
 use Rattle.heap_world.specs.World.{World, Block, thing, moved, spent, words_of, Plot, Body, body_at, body_words, IsCollected, IsCounted, IsEvacuating, copiers}
 use Rattle.heap_world.specs.Rely.{KeepsCopies, RelyCopies}

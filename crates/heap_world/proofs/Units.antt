@@ -7,7 +7,7 @@ use Rattle.heap_words.specs.Ranges.{seat_count}
 use Rattle.heap_words.specs.Words.{Phase, Cset, Evac, Claim, Top, Limit, Heap}
 use Rattle.regions.specs.Place.{base_of, region_with, IsOf}
 use Rattle.regions.proofs.PlaceLemmas.{regions_tile}
-use Rattle.evac_room.specs.Counter.{is_out_of_room}
+use Rattle.heap_words.specs.Counter.{is_out_of_room}
 use Rattle.shen_graph.specs.declared.name.Name.{Name}
 use Rattle.heap_world.specs.World.{World, Block, thing, words_of, Plot, Scan, IsPlotted, IsCollected, IsYoung, IsCurrent, IsToUpdate, IsUpdating, Shared}
 

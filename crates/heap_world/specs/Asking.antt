@@ -1,5 +1,6 @@
 -- What a mutator that waits, or has no call in progress, has asked for: its request, its answer, and what a pause made for it.
 use Rattle.std.specs.Prelude.{ℕ, ◌≡◌, ◌+◌, ◌<◌, ◌≤◌, Some}
+use Rattle.heap_words.specs.declared.config.Config.{Config}
 use Rattle.heap_words.specs.Encoding.{shape_word, fresh_word, request_code}
 use Rattle.heap_words.specs.Words.{Word, Wait, Answer, Heap}
 use Rattle.heap_world.specs.World.{Plot, promised}
@@ -15,6 +16,10 @@ pub data Asking : Type 0 where
 -- no object is promised to the mutator of a seat
 abbrev pub HasNoPromise : Plot → ℕ → Type 0
 HasNoPromise block seat = (a words : ℕ) → block a ≡ Some (promised seat words) → ⊥
+
+-- what is promised is promised to mutators
+abbrev pub PromisedToMutators : Config → Plot → Type 0
+PromisedToMutators c block = (a seat words : ℕ) → block a ≡ Some (promised seat words) → seat < c.mutators
 
 -- its word asks for its next object, of so many references and numbers
 pub record IsRequest (memory : Word → ℕ) (count : ℕ → ℕ) (t refs nums : ℕ) : Type 0 where

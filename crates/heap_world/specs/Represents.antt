@@ -5,8 +5,8 @@ use Rattle.heap_words.specs.declared.config.Config.{Config}
 use Rattle.heap_words.specs.Ranges.{seat_count}
 use Rattle.heap_words.specs.Words.{Word, Cset, Evac, Ask, Root}
 use Rattle.shen_graph.specs.Graph.{Graph}
-use Rattle.heap_world.specs.World.{hand, promised, Plot, Ghost, Points, AreUsable, Shared}
-use Rattle.heap_world.specs.Asking.{Asking, asks, IsAsked}
+use Rattle.heap_world.specs.World.{hand, Plot, Ghost, Points, AreUsable, Shared}
+use Rattle.heap_world.specs.Asking.{Asking, asks, IsAsked, PromisedToMutators}
 use Rattle.heap_world.specs.Roots.{HasNoMore}
 
 -- no machine is about to record an address, or scans an object
@@ -20,18 +20,28 @@ pub record NobodyCopies (c : Config) (ghost : Ghost) : Type 0 where
   pub works_none : (seat : ℕ) → seat < seat_count c.mutators c.helpers → ghost.working seat ≡ None
 
 -- There is a way to divide the regions into objects of the graph and objects promised to mutators, with no room in hand, and
--- nobody marks or copies; each mutator's roots stand for its thread's roots and may be used, and it has asked for what is said; the word of what is asked has
--- the bit that a mutator waits, where one does; and the graph has no other roots.
-pub record Represents (c : Config) (memory : Word → ℕ) (g : Graph) (asking : ℕ → Asking) : Type 0 where
+-- nobody marks or copies; each mutator's roots stand for its thread's roots, and it has asked for what is said; the word of what is asked has
+-- the bit that a mutator waits, where one does; and the graph has no other roots. What is asked of the root words besides is a variable, of
+-- the division.
+pub record RepresentsWith (AsksOfRoots : Plot → Type 0) (c : Config) (memory : Word → ℕ) (g : Graph) (asking : ℕ → Asking) : Type 0 where
   pub block : Plot
   pub ghost : Ghost
   pub shared : Shared c (record { memory = memory; block = block; ghost = ghost; graph = g })
   pub roots : (t i : ℕ) → t < c.mutators → i < 16 → Points block (memory (Root t i)) (g.root (t + 1) i)
-  pub usable : AreUsable c (memory Cset) (memory Evac) block (λ t i. memory (Root t i))
+  pub usable : AsksOfRoots block
   pub none : (a seat words : ℕ) → block a ≡ Some (hand seat words) → ⊥
   pub asked : (t : ℕ) → t < c.mutators → IsAsked memory block g.count t (asking t)
   pub heard : (t refs nums : ℕ) → t < c.mutators → asking t ≡ asks refs nums → bit_at (memory Ask) 1 ≡ 1
-  pub promised_to : (a seat words : ℕ) → block a ≡ Some (promised seat words) → seat < c.mutators
+  pub promised_to : PromisedToMutators c block
   pub unmarking : NobodyMarks c ghost
   pub uncopying : NobodyCopies c ghost
   pub no_more : HasNoMore c.mutators g
+
+-- words represent a graph: each root word may be used besides
+abbrev pub Represents : Config → (Word → ℕ) → Graph → (ℕ → Asking) → Type 0
+Represents c memory = RepresentsWith (λ block. AreUsable c (memory Cset) (memory Evac) block (λ t i. memory (Root t i))) c memory
+
+-- They do so by copies: a root word need not be usable. It names an object by a copy that may not be the current one, or that may be about
+-- to be copied.
+abbrev pub RepresentsByCopies : Config → (Word → ℕ) → Graph → (ℕ → Asking) → Type 0
+RepresentsByCopies = RepresentsWith (λ block. Unit {0})

@@ -10,7 +10,7 @@ use Rattle.regions.specs.Sets.{IsIn}
 use Rattle.shen_graph.specs.declared.name.Name.{Name}
 use Rattle.shen_graph.specs.Graph.{Reference, Object, Graph}
 use Rattle.mark_bits.specs.Marks.{address_at, mark_at, HasMark}
-use Rattle.evac_room.specs.Counter.{count_of, is_out_of_room, IsQuiet}
+use Rattle.heap_words.specs.Counter.{count_of, is_out_of_room, IsQuiet}
 use Rattle.heap_world.specs.Objects.{Refers, IsObject}
 
 -- A piece of the part of a region that is in use: the current copy of an object of a name, with so many references and numbers; an

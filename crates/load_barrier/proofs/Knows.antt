@@ -6,7 +6,7 @@ use Rattle.std.proofs.lemmas.Bool.Decides.{nat_tests}
 use Rattle.heap_words.specs.Encoding.{plain_header, header_word, is_forwarded, forwardee_in, object_words}
 use Rattle.heap_words.specs.Words.{Word, Evac, Heap}
 use Rattle.alloc_buffers.specs.Rows as takes
-use Rattle.evac_room.specs.Counter.{count_of, IsQuiet}
+use Rattle.heap_words.specs.Counter.{count_of, IsQuiet}
 use Rattle.evac_room.specs.declared.spot.RoomSpot.{RoomSpot}
 use Rattle.evac_room.specs.declared.spot.RoomSpot.TheVariants.{Look, Raise, Ask, Mark, Wait}
 use Rattle.evac_room.proofs.Steps.{Mine, mine_stays}

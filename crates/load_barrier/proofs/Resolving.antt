@@ -12,7 +12,7 @@ use Rattle.alloc_buffers.specs.declared.spot.Taken.TheVariants.{At, NoRoom}
 use Rattle.alloc_buffers.specs.declared.spot.TakeSpot.{TakeSpot}
 use Rattle.alloc_buffers.specs.declared.spot.TakeSpot.TheVariants as take
 use Rattle.alloc_buffers.proofs.Accesses.{others_stay}
-use Rattle.evac_room.specs.Counter.{count_of, is_out_of_room, marked}
+use Rattle.heap_words.specs.Counter.{count_of, is_out_of_room, marked}
 use Rattle.evac_room.specs.declared.spot.RoomSpot.TheVariants.{Outside, Look, Raise, Inside, Lower, Ask, Mark, Wait, Stopped}
 use Rattle.evac_room.specs.Rows as rooms
 use Rattle.load_barrier.specs.declared.copying.CopySpot.{CopySpot}

@@ -4,7 +4,7 @@ use Rattle.heap_words.specs.declared.config.Config.{Config}
 use Rattle.heap_words.specs.Encoding.{plain_header, is_forwarded, object_words}
 use Rattle.heap_words.specs.Words.{Word, Evac, Heap}
 use Rattle.steps_base.specs.Touch.{touched}
-use Rattle.evac_room.specs.Counter.{count_of, is_out_of_room, IsQuiet}
+use Rattle.heap_words.specs.Counter.{count_of, is_out_of_room, IsQuiet}
 use Rattle.evac_room.specs.Spot.{is_counted}
 use Rattle.load_barrier.specs.declared.copying.CopySpot.TheVariants.{Publish}
 use Rattle.load_barrier.specs.declared.spot.ResolveSpot.{ResolveSpot}

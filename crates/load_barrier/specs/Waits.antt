@@ -1,6 +1,6 @@
 -- Where a step of a machine that resolves an address says that it waits, or that another was faster, by the word that it finds.
 use Rattle.std.specs.Prelude.{ℕ, ◌≡◌, ◌≢◌, true}
-use Rattle.evac_room.specs.Counter.{is_out_of_room, count_of}
+use Rattle.heap_words.specs.Counter.{is_out_of_room, count_of}
 use Rattle.evac_room.specs.declared.spot.RoomSpot.{RoomSpot}
 use Rattle.evac_room.specs.declared.spot.RoomSpot.TheVariants.{Look, Raise, Mark, Wait}
 use Rattle.alloc_buffers.specs.Waits as takes

@@ -12,7 +12,7 @@ use Rattle.mark_bits.specs.Marks.{mark_bit}
 use Rattle.heap_graph.specs.Walk.{has}
 use Rattle.heap_world.specs.World.{Block, thing, moved, promised, filler, Plot, Snapshot, Ghost, name_at, Points, IsThing, AreObjects, AreUnwritten, AreMarks, IsMarkable, IsYoung, IsNoted, IsToScan, IsTracedAt, IsLed, KeepsSnapshot, IsEvacuating, IsUsable, AreUsable}
 use Rattle.heap_world.specs.Asking.{Asking, asks, given, IsAsked}
-use Rattle.heap_world.specs.Represents.{Represents}
+use Rattle.heap_world.specs.Represents.{Represents, RepresentsByCopies}
 use Rattle.heap_world.proofs.Keeping.{usable_now}
 use Rattle.heap_world.proofs.Copies.{none_evacuated}
 use Rattle.image_laws.specs.Held.{IsAmong}
@@ -21,7 +21,6 @@ use Rattle.image_laws.specs.Promised.{Promises}
 use Rattle.image_laws.proofs.Reached.{none_at_0, refs_read, words_read}
 use Rattle.image_laws.proofs.Roots.{root_among, answer_among}
 use Rattle.image_graph.specs.Holds.{HoldsBy}
-use Rattle.pause_laws.specs.ByCopies.{RepresentsByCopies}
 use Rattle.pause_laws.proofs.ByCopies.{by_copies}
 use Rattle.pause_laws.proofs.Promises.{promises_of}
 use Rattle.pause_laws.proofs.Before.{promised_at}

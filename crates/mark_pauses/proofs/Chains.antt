@@ -12,12 +12,11 @@ use Rattle.shen_graph.specs.Graph.{Graph, Reference}
 use Rattle.mark_bits.specs.Marks.{mark_word, mark_bit, HasMark}
 use Rattle.heap_world.specs.World.{Block, thing, moved, spent, promised, filler, Snapshot, IsCollected, IsMarkable, IsYoung, IsNoted, was_at, IsToScan, IsTracedAt, IsLed, name_at}
 use Rattle.heap_world.specs.Asking.{Asking}
-use Rattle.heap_world.specs.Represents.{Represents}
+use Rattle.heap_world.specs.Represents.{Represents, RepresentsByCopies}
 use Rattle.heap_world.proofs.Pointing.{piece_inside, named_thing, named_if_not_0}
 use Rattle.heap_world.proofs.Pieces.{some_words}
 use Rattle.heap_world.proofs.Copies.{none_in_0}
 use Rattle.image_laws.proofs.Reached.{refs_read}
-use Rattle.pause_laws.specs.ByCopies.{RepresentsByCopies}
 use Rattle.pause_laws.proofs.ByCopies.{by_copies}
 use Rattle.pause_laws.proofs.Before.{live, live_at, object_at}
 use Rattle.pause_laws.proofs.Current.{Kind, is_current, is_old, kind_at, held_current}

@@ -11,14 +11,13 @@ use Rattle.shen_graph.specs.declared.name.Name.{Name}
 use Rattle.shen_graph.specs.Graph.{Graph}
 use Rattle.heap_world.specs.World.{Block, thing, moved, spent, hand, promised, filler, Plot, Ghost, no_snapshot, name_at, AreObjects, IsFreeWord, AreCurrent, AreRooms, IsMarkable, IsYoung}
 use Rattle.heap_world.specs.Asking.{Asking, IsAsked}
-use Rattle.heap_world.specs.Represents.{Represents}
+use Rattle.heap_world.specs.Represents.{Represents, RepresentsByCopies}
 use Rattle.heap_world.proofs.Pieces.{object_reads}
 use Rattle.heap_world.proofs.Keeping.{points_stay}
 use Rattle.mark_bits.specs.Marks.{HasMark}
 use Rattle.image_laws.specs.Promised.{Promises}
 use Rattle.image_graph.specs.Holds.{HoldsBy}
 use Rattle.image_graph.specs.State.{IsSomeSeats}
-use Rattle.pause_laws.specs.ByCopies.{RepresentsByCopies}
 use Rattle.pause_laws.proofs.ByCopies.{by_copies}
 use Rattle.pause_laws.proofs.Promises.{promises_of}
 use Rattle.pause_laws.proofs.Dead.{plain}

@@ -10,8 +10,8 @@ use Rattle.shen_graph.specs.Graph.{Graph, Object, blank, fresh, same_reference}
 use Rattle.shen_graph.proofs.PlainLemmas.{same_name-itself}
 use Rattle.heap_world.specs.World.{Block, thing, moved, spent, hand, promised, filler, words_of, Plot, name_at, body_of, IsPlotted, IsFilled, IsThing, IsMarkable}
 use Rattle.heap_world.specs.Asking.{Asking, nothing, asks, refused, given, IsPromise, IsAsked}
-use Rattle.pause_laws.specs.ByCopies.{RepresentsByCopies}
 use Rattle.heap_world.specs.Roots.{is_root_of}
+use Rattle.heap_world.specs.Represents.{RepresentsByCopies}
 use Rattle.heap_world.proofs.Pointing.{named_body, copy_cases}
 use Rattle.heap_world.proofs.Pieces.{object_reads}
 use Rattle.heap_world.proofs.Keeping.{points_stay}

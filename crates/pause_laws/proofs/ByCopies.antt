@@ -4,8 +4,7 @@ use Rattle.heap_words.specs.declared.config.Config.{Config}
 use Rattle.heap_words.specs.Words.{Word}
 use Rattle.shen_graph.specs.Graph.{Graph}
 use Rattle.heap_world.specs.Asking.{Asking}
-use Rattle.heap_world.specs.Represents.{Represents}
-use Rattle.pause_laws.specs.ByCopies.{RepresentsByCopies}
+use Rattle.heap_world.specs.Represents.{Represents, RepresentsByCopies}
 
 abbrev pub by_copies : (c : Config) (m : Word → ℕ) (g : Graph) (asking : ℕ → Asking) → Represents c m g asking → RepresentsByCopies c m g asking
 by_copies c m g asking r = record {
@@ -13,6 +12,7 @@ by_copies c m g asking r = record {
   ghost = r.ghost;
   shared = r.shared;
   roots = r.roots;
+  usable = tt;
   none = r.none;
   asked = r.asked;
   heard = r.heard;

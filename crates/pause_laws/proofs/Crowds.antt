@@ -11,8 +11,8 @@ use Rattle.packing.proofs.Sums.{sum_next, sum_none, sum_both, sum_of_none, sum_f
 use Rattle.packing.proofs.Rooms.{all_full}
 use Rattle.shen_graph.specs.Graph.{Graph}
 use Rattle.heap_world.specs.Asking.{Asking, nothing, asks, refused, given, IsRequest, IsAsked}
-use Rattle.pause_laws.specs.ByCopies.{RepresentsByCopies}
 use Rattle.heap_world.specs.Change.{words_given, IsCrowded}
+use Rattle.heap_world.specs.Represents.{RepresentsByCopies}
 use Rattle.image_laws.specs.Full.{packed_in, asked_in, full}
 use Rattle.image_laws.specs.Promised.{Promises, words_if, promised_words}
 use Rattle.image_laws.specs.Served.{tops_at_turn, given_in}

@@ -12,7 +12,7 @@ use Rattle.shen_graph.specs.Reach.{IsReachable}
 use Rattle.shen_graph.specs.Reach as reach
 use Rattle.heap_world.specs.World.{Block, thing, moved, spent, hand, promised, filler, Plot, name_at, body_of, Points, IsCollected, IsMarkable}
 use Rattle.heap_world.specs.Asking.{Asking}
-use Rattle.pause_laws.specs.ByCopies.{RepresentsByCopies}
+use Rattle.heap_world.specs.Represents.{RepresentsByCopies}
 use Rattle.heap_world.proofs.Pointing.{named_body, named_piece, named_if_not_0, copy_cases}
 use Rattle.image_laws.specs.Held.{IsHeld, from_root, from_field, IsAmong, IsCopy, HoldsGraph}
 use Rattle.image_laws.specs.Full.{now_in, root_words}

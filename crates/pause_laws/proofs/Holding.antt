@@ -12,7 +12,7 @@ use Rattle.shen_graph.specs.declared.name.Name.{Name}
 use Rattle.shen_graph.specs.Graph.{Graph, Object, blank, fresh, same_reference}
 use Rattle.heap_world.specs.World.{IsCollected}
 use Rattle.heap_world.specs.Asking.{Asking, nothing, asks, refused, given, IsRequest, IsAsked}
-use Rattle.pause_laws.specs.ByCopies.{RepresentsByCopies}
+use Rattle.heap_world.specs.Represents.{RepresentsByCopies}
 use Rattle.image_laws.specs.Full.{now_in}
 use Rattle.image_laws.specs.Promised.{Promises, AreFresh}
 use Rattle.image_laws.specs.Serving.{asked_shape, asked_name, IsAsking}

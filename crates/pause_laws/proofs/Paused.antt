@@ -14,7 +14,7 @@ use Rattle.shen_graph.specs.Graph.{Graph, Object, fresh}
 use Rattle.shen_graph.specs.Reach as reach
 use Rattle.heap_world.specs.World.{thing, promised, Plot, name_at}
 use Rattle.heap_world.specs.Asking.{Asking, nothing, asks, refused, given}
-use Rattle.pause_laws.specs.ByCopies.{RepresentsByCopies}
+use Rattle.heap_world.specs.Represents.{RepresentsByCopies}
 use Rattle.image_laws.specs.Held.{IsHeld, IsAmong, AreKept}
 use Rattle.image_laws.specs.Pack.{CanPack}
 use Rattle.image_laws.specs.Plot.{packed_block}

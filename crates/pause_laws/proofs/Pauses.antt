@@ -5,8 +5,8 @@ use Rattle.heap_words.specs.Words.{Word}
 use Rattle.shen_graph.specs.Graph.{Graph}
 use Rattle.heap_world.specs.Asking.{Asking}
 use Rattle.heap_world.specs.Change.{image_view, IsPaused}
+use Rattle.heap_world.specs.Represents.{RepresentsByCopies}
 use Rattle.image_laws.specs.Full.{full}
-use Rattle.pause_laws.specs.ByCopies.{RepresentsByCopies}
 use Rattle.pause_laws.specs.Laws.{RepresentingHolds, ImageIsFull, TableIsFull, FullFromCopies, FullIsPause}
 use Rattle.pause_laws.proofs.ByCopies.{by_copies}
 use Rattle.pause_laws.proofs.Holding.{holds_some}

@@ -4,11 +4,10 @@ use Rattle.heap_words.specs.declared.config.Config.{Config}
 use Rattle.heap_words.specs.Words.{Word, image_start, table_words, view}
 use Rattle.shen_graph.specs.Graph.{Graph}
 use Rattle.heap_world.specs.Asking.{Asking}
-use Rattle.heap_world.specs.Represents.{Represents}
+use Rattle.heap_world.specs.Represents.{Represents, RepresentsByCopies}
 use Rattle.heap_world.specs.Change.{image_words, image_view, IsPaused, IsPause}
 use Rattle.image_laws.specs.Full.{full}
 use Rattle.image_graph.specs.Holds.{HoldsSome}
-use Rattle.pause_laws.specs.ByCopies.{RepresentsByCopies}
 use Rattle.pause_laws.specs.Image.{full_image}
 
 -- Words that represent a graph, with what mutators have asked for, hold a graph in the sense of the full collection.

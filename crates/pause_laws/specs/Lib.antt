@@ -1,3 +1,2 @@
-pub mod ByCopies
 pub mod Image
 pub mod Laws

@@ -5,7 +5,7 @@ use Rattle.heap_words.specs.declared.config.Config.{Config}
 use Rattle.heap_words.specs.Words.{Word, Pause, Left, End, Phase, Cset, Evac, Claim, Ask, State, Top, Tams, Limit, Current, Root, Count, Buffer, Wait, Answer, Grey, Heap, write}
 use Rattle.steps_base.specs.Touch.{touch, loads, stores}
 use Rattle.heap_world.specs.World.{World, IsCollected, TargetIn, Shared}
-use Rattle.evac_room.specs.Counter.{IsQuiet}
+use Rattle.heap_words.specs.Counter.{IsQuiet}
 use Rattle.shen_graph.specs.declared.name.Name.{Name}
 use Rattle.heap_world.specs.Rely.{Keeps, Rely}
 use Rattle.heap_world.specs.Part.{PartStep}

@@ -15,7 +15,8 @@ use Rattle.shen_graph.specs.Reach.{IsReach, size}
 use Rattle.shen_graph.specs.History.{Entry, after, EachIsLegal, of_thread}
 use Rattle.mutator.specs.Orders.{is_valid}
 use Rattle.mutator.specs.Rows.{Mutating}
-use Rattle.heap_world.specs.World.{Ghost, World, Plot, hand, promised, Shared}
+use Rattle.heap_world.specs.World.{Ghost, World, Plot, hand, Shared}
+pub use Rattle.heap_world.specs.Asking.{PromisedToMutators}
 use Rattle.heap_world.specs.Change.{image_words, IsDue}
 use Rattle.heap_world.specs.Roots.{HasNoMore}
 use Rattle.control_steps.specs.declared.spot.ControlSpot.{ControlSpot}
@@ -130,10 +131,6 @@ abbrev pub IsMachine : Config → List ℕ → World → List Entry → ℕ → 
 IsMachine c words w entries number a (mutating m) = IsThread c words w entries number a m
 IsMachine c words w entries number a (helping h) = IsHelper c w number h
 IsMachine c words w entries number a (controlling k) = IsControl c words w number k
-
--- what is promised is promised to mutators
-abbrev pub PromisedToMutators : Config → Plot → Type 0
-PromisedToMutators c block = (a seat words : ℕ) → block a ≡ Some (promised seat words) → seat < c.mutators
 
 -- The stage stands for the graph after the history of a run that began with a graph, the history is legal and of the heap's
 -- threads, and each machine is where it should be.

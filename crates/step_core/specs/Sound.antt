@@ -24,8 +24,8 @@ use Rattle.mutator.specs.declared.waits.WaitSpot.TheVariants as wait
 use Rattle.mutator.specs.Commands.{refs_of, nums_of}
 use Rattle.mutator.specs.Orders.{is_between_calls}
 use Rattle.mutator.specs.Rows.{Mutating, given_at}
-use Rattle.heap_world.specs.World.{Ghost, World, Plot, hand, promised, Shared}
-use Rattle.heap_world.specs.Asking.{Asking, asks, given, IsAsked}
+use Rattle.heap_world.specs.World.{Ghost, World, Plot, hand, Shared}
+use Rattle.heap_world.specs.Asking.{Asking, asks, given, IsAsked, PromisedToMutators}
 use Rattle.heap_world.specs.Roots.{HasNoMore}
 use Rattle.step_core.specs.Actor.{mutating, Actor, entries_of}
 use Rattle.step_core.specs.Machines.{takes_of, plan_of, HasNumber, IsFitFor}
@@ -83,7 +83,7 @@ pub record StandsFor (c : Config) (s : Stage Actor) (g : Graph) : Type 0 where
   pub ghost : Ghost
   pub shared : Shared c (world_of c s block ghost g)
   pub in_hand : (a seat words : ℕ) → block a ≡ Some (hand seat words) → seat < seat_count c.mutators c.helpers
-  pub promised_to : (a seat words : ℕ) → block a ≡ Some (promised seat words) → seat < c.mutators
+  pub promised_to : PromisedToMutators c block
   pub mutators : (number : ℕ) (a : Actor) (m : Mutating) → IsMutator s number a m → HasItsOwn (world_of c s block ghost g) m
   pub asked : (number : ℕ) (a : Actor) (m : Mutating) → IsMutator s number a m → is_clearing m.spot ≡ false → HasAsked (world_of c s block ghost g) a.command m
 

@@ -7,7 +7,7 @@ use Rattle.heap_words.specs.declared.config.Config.{Config}
 use Rattle.heap_words.specs.Words.{Word, Phase, Cset, Free, Evac, Claim, Top, Tams, Limit, Root, Count, Buffer, Grey, Black, Heap}
 use Rattle.regions.specs.Place.{region_with}
 use Rattle.regions.specs.Sets.{IsIn}
-use Rattle.evac_room.specs.Counter.{is_out_of_room}
+use Rattle.heap_words.specs.Counter.{is_out_of_room}
 use Rattle.shen_graph.specs.declared.name.Name.{Name}
 use Rattle.shen_graph.specs.Graph.{Graph}
 use Rattle.heap_world.specs.World.{thing, Ghost, no_snapshot, IsCollected, IsYoung, IsToUpdate, IsEvacuating, IsUpdating, IsUsable}

@@ -1,7 +1,7 @@
 use Rattle.std.proofs.Common.{sym, subst}
 use Rattle.std.proofs.Math.Logic.{∥∥₁_map}
 use Rattle.std.proofs.Math.Bool.{Bool-set}
-use Rattle.evac_room.specs.Counter.{IsQuiet}
+use Rattle.heap_words.specs.Counter.{IsQuiet}
 use Rattle.evac_room.proofs.Memory.{IsFit-prop, IsQuiet-prop, from_memory, spot_here, takes_here, made_from, made_event, made_reached, made_few, made_answer, made_keeps, made_says, found_fits}
 use Rattle.evac_room.proofs.copiers.Copiers.step.Goals as goal
 
