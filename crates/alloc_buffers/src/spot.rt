@@ -105,7 +105,7 @@ impl TakeSpot {
             TakeSpot::LoadFree => Access::Load {
                 at: config.free_at(),
             },
-            // keeps IsFreeWord
+            // keeps IsFreeWord and AreSetAside
             TakeSpot::TakeRegion { region } => Access::And {
                 at: config.free_at(),
                 value: all_but(region),
@@ -116,6 +116,7 @@ impl TakeSpot {
                 value: region as u64 + 1,
             },
             // keeps IsPlotted, IsFilled and AreRooms
+            // keeps KeepsSnapshot.floors, KeepsSnapshot.young, IsUpdating.limits and IsUpdating.young
             TakeSpot::StoreTop { region, top } => Access::Store {
                 at: config.top_at(region),
                 value: top + words,

@@ -130,6 +130,7 @@ impl ControlSpot {
             ControlSpot::LookLeft => Access::Load {
                 at: config.left_at(),
             },
+            // keeps IsEndWord
             ControlSpot::StoreEnd => Access::Store {
                 at: config.end_at(),
                 value: 1,
@@ -147,6 +148,7 @@ impl ControlSpot {
             ControlSpot::LoadWord { index } => Access::Load {
                 at: config.image_start() + index,
             },
+            // keeps settled, IsAim, IsSeen and IsThread.short
             ControlSpot::StoreWord { index } => Access::Store {
                 at: config.image_start() + index,
                 value: word,

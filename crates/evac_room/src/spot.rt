@@ -73,12 +73,15 @@ impl RoomSpot {
         let at = config.evac_at();
         match self {
             RoomSpot::Look | RoomSpot::Ask | RoomSpot::Wait => Access::Load { at },
+            // keeps IsCounted of heap_world, IsPhased, Target and KeepsCopies
             RoomSpot::Raise { found } => Access::Exchange {
                 at,
                 expect: found,
                 value: found + 1,
             },
+            // keeps IsCounted of heap_world and KeepsCopies
             RoomSpot::Lower => Access::Sub { at, value: 1 },
+            // keeps IsCounted of heap_world, AreCaredFor and KeepsCopies
             RoomSpot::Mark { found } => Access::Exchange {
                 at,
                 expect: found,

@@ -52,10 +52,12 @@ impl EnterSpot {
         ensures inside { table_index result < table_words config }
     {
         match self {
+            // keeps IsShaken
             EnterSpot::Raise => Access::Store {
                 at: config.state_at(seat),
                 value: IN,
             },
+            // keeps IsShaken
             EnterSpot::Lower => Access::Store {
                 at: config.state_at(seat),
                 value: OUT,

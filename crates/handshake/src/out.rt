@@ -13,6 +13,7 @@ pub fn leave_access(config: Config, seat: usize) -> Access
     ensures row { result ≡ placed config (leave_touch seat) }
     ensures inside { table_index result < table_words config }
 {
+    // keeps IsShaken
     Access::Store {
         at: config.state_at(seat),
         value: OUT,
@@ -24,6 +25,7 @@ pub fn go_access(config: Config) -> Access
     ensures row { result ≡ placed config go_touch }
     ensures inside { table_index result < table_words config }
 {
+    // keeps IsShaken
     Access::Store {
         at: config.pause_at(),
         value: UNWANTED,

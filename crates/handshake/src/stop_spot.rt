@@ -50,6 +50,7 @@ impl StopSpot {
         ensures inside { table_index result < table_words config }
     {
         match self {
+            // keeps IsShaken
             StopSpot::Raise => Access::Store {
                 at: config.pause_at(),
                 value: WANTED,

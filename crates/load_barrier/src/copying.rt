@@ -69,14 +69,18 @@ impl CopySpot {
             CopySpot::LoadWord { index, .. } => Access::Load {
                 at: config.heap_at(address + index),
             },
+            // keeps AreObjects and RelyCopies: the word is in hand
             CopySpot::StoreWord { index, found, .. } => Access::Store {
                 at: config.heap_at(copy + index),
                 value: found,
             },
+            // keeps AreObjects and HaveMoved: the word is in hand
             CopySpot::StoreHeader => Access::Store {
                 at: config.heap_at(copy),
                 value: PLAIN_HEADER,
             },
+            // keeps HaveMoved, AreObjects, AreKept of heap_world and Target
+            // keeps KeepsSnapshot.kept, IsWalkedTo of evac_steps and NameTheSame
             CopySpot::Publish => Access::Exchange {
                 at: config.heap_at(address),
                 expect: PLAIN_HEADER,
@@ -127,6 +131,7 @@ fn give_back(config: Config, copy: u64) -> Access
     ensures inside { table_index result < table_words config }
 {
     let region = region_of(config, copy);
+    // keeps IsPlotted, IsFilled, AreRooms and AreKept of heap_world
     Access::Store {
         at: config.top_at(region),
         value: copy - base(config, region),

@@ -99,6 +99,7 @@ impl EvacSpot {
             EvacSpot::LoadClaim => Access::Load {
                 at: config.claim_at(),
             },
+            // keeps AreCaredFor and KeepsFields
             EvacSpot::ClaimUnit { unit } => Access::Exchange {
                 at: config.claim_at(),
                 expect: unit,

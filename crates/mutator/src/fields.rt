@@ -75,9 +75,11 @@ impl FieldSpot {
             FieldSpot::Load | FieldSpot::LoadExpected { .. } | FieldSpot::LoadOld { .. } => {
                 Access::Load { at }
             }
-            // These three keep AreObjects.
+            // keeps AreObjects, AreTraced, RelyCopies, IsUpdating.renewed and KeepsFields
             FieldSpot::Store { value } => Access::Store { at, value },
+            // keeps AreObjects, AreTraced, RelyCopies, KeepsFields and HasItsOwn.roots
             FieldSpot::Swap { value } => Access::Swap { at, value },
+            // keeps AreObjects, AreTraced, RelyCopies, KeepsFields and HasFound.still
             FieldSpot::Exchange { found, value, .. } => Access::Exchange {
                 at,
                 expect: found,

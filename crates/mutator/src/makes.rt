@@ -60,12 +60,13 @@ impl MakeSpot {
         let (refs, nums) = size_of(command);
         match self {
             MakeSpot::Taking { take } => take.access(config, seat, 3 + refs as u64 + nums as u64),
-            // keeps AreObjects: the words are in hand
+            // keeps AreObjects, AreUnwritten and IsFilling: the words are in hand
             MakeSpot::StoreWord { address, done } => Access::Store {
                 at: config.heap_at(address + done),
                 value: fresh_word(seat, made, refs, nums, done),
             },
-            // keeps AreObjects, AreRooms and IsGiven
+            // keeps HasItsOwn.roots, IsSeated.usable, AreObjects, AreRooms and IsGiven
+            // keeps KeepsSnapshot.older and IsUpdating.outside
             MakeSpot::StoreRoot { address } => Access::Store {
                 at: config.root_at(seat, dst_of(command) as usize),
                 value: address,

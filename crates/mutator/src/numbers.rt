@@ -38,7 +38,7 @@ impl NumberSpot {
         let at = config.heap_at(object + 3 + refs + index_of(command) as u64);
         match self {
             NumberSpot::Load => Access::Load { at },
-            // keeps AreObjects
+            // keeps AreObjects and RelyCopies
             NumberSpot::Store => Access::Store {
                 at,
                 value: number_of(command),

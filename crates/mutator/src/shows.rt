@@ -42,7 +42,7 @@ impl ShowSpot {
             ShowSpot::LoadName => Access::Load {
                 at: config.heap_at(value + 2),
             },
-            // keeps HasItsOwn.roots
+            // keeps HasItsOwn.roots and IsSeated.usable
             ShowSpot::StoreRoot { .. } => Access::Store {
                 at: config.root_at(seat, dst_of(command) as usize),
                 value,

@@ -163,18 +163,17 @@ impl Mutator {
             },
             Spot::Loading { at } => at.access(config, seat, command),
             Spot::OnField { object, at } => at.access(config, object, command),
-            // keeps IsCounted, HaveMoved and AreObjects
             Spot::Resolving { address, at, .. } => at.access(config, seat, address),
-            // keeps IsBuffer
             Spot::Recording { at, address, .. } => at.access(config, seat, address),
             Spot::OnNumber { object, refs, at } => at.access(config, object, refs, command),
             Spot::Showing { value, at } => at.access(config, seat, value, command),
-            // keeps HasItsOwn.roots
+            // keeps HasItsOwn.roots and IsSeated.usable
             Spot::StoreRoot { value } => Access::Store {
                 at: config.root_at(seat, dst_of(command) as usize),
                 value,
             },
             Spot::Making { at } => at.access(config, seat, self.made, command),
+            // keeps IsHeard and IsDue of heap_world
             Spot::AskCycle => Access::Or {
                 at: config.ask_at(),
                 value: 1,
@@ -341,6 +340,7 @@ fn first_access(config: Config, seat: usize, order: Order) -> Access
 {
     let at = config.left_at();
     match order {
+        // keeps IsCounted of handshake
         Order::End => Access::Sub { at, value: 1 },
         _ => EnterSpot::Raise.access(config, seat),
     }

@@ -63,10 +63,12 @@ impl WaitSpot {
         ensures { result ≡ placed config (rows.wait_touch seat made command self) }
     {
         match self {
+            // keeps IsAsked
             WaitSpot::StoreRequest => Access::Store {
                 at: config.wait_at(seat),
                 value: request(made, command),
             },
+            // keeps IsHeard and IsDue of heap_world
             WaitSpot::AskRoom => Access::Or {
                 at: config.ask_at(),
                 value: 2,
@@ -75,11 +77,13 @@ impl WaitSpot {
             WaitSpot::Poll | WaitSpot::LoadAnswer => Access::Load {
                 at: config.answer_at(seat),
             },
-            // keeps HasItsOwn.roots and IsGiven
+            // keeps HasItsOwn.roots, IsSeated.usable, AreObjects and IsGiven
+            // keeps KeepsSnapshot.older and HaveMoved.spents
             WaitSpot::StoreRoot { address } => Access::Store {
                 at: config.root_at(seat, dst_of(command) as usize),
                 value: address,
             },
+            // keeps IsSeated.unasked and IsSeen
             WaitSpot::ClearAnswer { .. } => Access::Store {
                 at: config.answer_at(seat),
                 value: 0,

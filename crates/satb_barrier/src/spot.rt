@@ -83,14 +83,17 @@ impl RememberSpot {
                 at: config.buffer_at(mutator, entry),
             },
             RememberSpot::MarkEntry { found, .. } => grey_access(config, found),
+            // keeps AreTraced, KeepsMarks and ScanFacts: the entries are grey
             RememberSpot::ClearCount => Access::Store {
                 at: config.count_at(mutator),
                 value: 0,
             },
+            // keeps KeepsMarks: the entry does not count yet
             RememberSpot::StoreEntry { entry } => Access::Store {
                 at: config.buffer_at(mutator, entry),
                 value: address,
             },
+            // keeps KeepsSnapshot.entries, AreTraced and IsCovered
             RememberSpot::StoreCount { entry } => Access::Store {
                 at: config.count_at(mutator),
                 value: entry as u64 + 1,

@@ -216,6 +216,7 @@ fn claim_access(config: Config, unit: u64) -> Access
     ensures row { result ≡ placed config (rows.touch_at config (ScanSpot.ClaimUnit unit)) }
     ensures inside { table_index result < table_words config }
 {
+    // keeps KeepsFields: the word of the claims only grows
     Access::Exchange {
         at: config.claim_at(),
         expect: unit,

@@ -230,6 +230,7 @@ fn claim_access(config: Config, unit: u64) -> Access
     ensures row { result ≡ placed config (rows.touch_at config (UpdateSpot.ClaimUnit unit)) }
     ensures inside { table_index result < table_words config }
 {
+    // keeps IsUpdating.renewed and KeepsFields
     Access::Exchange {
         at: config.claim_at(),
         expect: unit,
@@ -254,6 +255,7 @@ fn exchange_of_heap(config: Config, address: u64, expect: u64, value: u64) -> Ac
     ensures row { result ≡ Access.Exchange (word_at config (Heap address)) expect value }
     ensures inside { table_index result < table_words config }
 {
+    // keeps AreObjects, IsUpdating.renewed, KeepsFields and HasFound.still
     Access::Exchange {
         at: config.heap_at(address),
         expect,
