@@ -1,8 +1,13 @@
 ghost use Rattle.std.specs.Prelude.{◌≡◌};
-ghost use Rattle.heap_words.specs.Access.{table_index, made_of};
+ghost use Rattle.heap_words.specs.Access.{table_index, made_of, numbers_of, same_access};
+ghost use Rattle.std.specs.Cmp.{partial_equiv_from_equiv, on_equiv, nat_eq_equiv};
+ghost use Rattle.std.specs.Cmp.Lexicographic.{lists_equiv};
+
+use std::fmt;
+use std::fmt::{Debug, Formatter, Write};
 
 /// One access of one word of the table, at the place `at`.
-#[derive(Clone, Copy, Debug, PartialEq, Eq)]
+#[derive(Clone, Copy)]
 pub enum Access {
     /// Reads the word.
     Load {
@@ -95,6 +100,52 @@ impl Access {
                 if found == expect { value } else { found }
             }
         }
+    }
+}
+
+// The kinds of accesses, in their order.
+const KINDS: [&str; 8] = [
+    "Load", "Store", "Swap", "Add", "Sub", "And", "Or", "Exchange",
+];
+
+impl Access {
+    // Its kind, its place, what it writes and what it expects; 0 where it has no such number.
+    fn numbers(&self) -> [u64; 4]
+        ensures { result ≡ numbers_of self.now }
+    {
+        match *self {
+            Access::Load { at } => [0, at as u64, 0, 0],
+            Access::Store { at, value } => [1, at as u64, value, 0],
+            Access::Swap { at, value } => [2, at as u64, value, 0],
+            Access::Add { at, value } => [3, at as u64, value, 0],
+            Access::Sub { at, value } => [4, at as u64, value, 0],
+            Access::And { at, value } => [5, at as u64, value, 0],
+            Access::Or { at, value } => [6, at as u64, value, 0],
+            Access::Exchange { at, expect, value } => [7, at as u64, value, expect],
+        }
+    }
+}
+
+impl PartialEq for Access {
+    ghost eq = { same_access };
+
+    ghost laws = { partial_equiv_from_equiv (on_equiv numbers_of (lists_equiv nat_eq_equiv)) };
+
+    fn eq(&self, other: &Access) -> bool {
+        self.numbers() == other.numbers()
+    }
+}
+
+impl Eq for Access {
+    ghost laws = { on_equiv numbers_of (lists_equiv nat_eq_equiv) };
+}
+
+/// Written as its kind, its place, what it writes and what it expects.
+impl Debug for Access {
+    fn fmt<W: Write>(&self, f: &mut Formatter<W>) -> fmt::Result {
+        let [kind, at, value, expect] = self.numbers();
+        let kinds = &KINDS;
+        (kinds[kind as usize % 8], at, value, expect).fmt(f)
     }
 }
 

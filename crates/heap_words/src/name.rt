@@ -1,12 +1,16 @@
 ghost use Rattle.std.specs.Prelude.{◌≡◌, ◌+◌, ◌*◌, ◌<◌};
 ghost use Rattle.heap_words.specs.Words.{Word, IsWord, word_at, table_words, image_start, roots_start};
 ghost use Rattle.heap_words.specs.Rows.{name_of, AreNamed, AreReadWhole};
-ghost use Rattle.heap_words.specs.Name.{word_of};
+ghost use Rattle.heap_words.specs.Name.{word_of, numbers_of, same_name};
+ghost use Rattle.std.specs.Cmp.{partial_equiv_from_equiv, on_equiv, nat_eq_equiv};
+ghost use Rattle.std.specs.Cmp.Lexicographic.{lists_equiv};
 
 use super::config::Config;
+use std::fmt;
+use std::fmt::{Debug, Formatter, Write};
 
 /// A word of the table by what it is for. Mutators, seats, regions and words of bits are counted from 0.
-#[derive(Clone, Copy, Debug, PartialEq, Eq)]
+#[derive(Clone, Copy)]
 pub enum WordName {
     /// Whether a pause is wanted or runs.
     Pause,
@@ -54,6 +58,68 @@ pub enum WordName {
     Heap { address: u64 },
 }
 
+// The kinds of names, in their order.
+const KINDS: [&str; 22] = [
+    "Pause", "Left", "End", "State", "Phase", "Cset", "Free", "Evac", "Claim", "Ask", "Top",
+    "Tams", "Limit", "Current", "Root", "Count", "Buffer", "Wait", "Answer", "Grey", "Black",
+    "Heap",
+];
+
+impl WordName {
+    // Its kind and its numbers; 0 where it has no such number.
+    fn numbers(&self) -> [u64; 3]
+        ensures { result ≡ numbers_of self.now }
+    {
+        match *self {
+            WordName::Pause => [0, 0, 0],
+            WordName::Left => [1, 0, 0],
+            WordName::End => [2, 0, 0],
+            WordName::State { seat } => [3, seat as u64, 0],
+            WordName::Phase => [4, 0, 0],
+            WordName::Cset => [5, 0, 0],
+            WordName::Free => [6, 0, 0],
+            WordName::Evac => [7, 0, 0],
+            WordName::Claim => [8, 0, 0],
+            WordName::Ask => [9, 0, 0],
+            WordName::Top { region } => [10, region as u64, 0],
+            WordName::Tams { region } => [11, region as u64, 0],
+            WordName::Limit { region } => [12, region as u64, 0],
+            WordName::Current { seat } => [13, seat as u64, 0],
+            WordName::Root { mutator, index } => [14, mutator as u64, index as u64],
+            WordName::Count { mutator } => [15, mutator as u64, 0],
+            WordName::Buffer { mutator, entry } => [16, mutator as u64, entry as u64],
+            WordName::Wait { mutator } => [17, mutator as u64, 0],
+            WordName::Answer { mutator } => [18, mutator as u64, 0],
+            WordName::Grey { word } => [19, word as u64, 0],
+            WordName::Black { word } => [20, word as u64, 0],
+            WordName::Heap { address } => [21, address, 0],
+        }
+    }
+}
+
+impl PartialEq for WordName {
+    ghost eq = { same_name };
+
+    ghost laws = { partial_equiv_from_equiv (on_equiv numbers_of (lists_equiv nat_eq_equiv)) };
+
+    fn eq(&self, other: &WordName) -> bool {
+        self.numbers() == other.numbers()
+    }
+}
+
+impl Eq for WordName {
+    ghost laws = { on_equiv numbers_of (lists_equiv nat_eq_equiv) };
+}
+
+/// Written as its kind with its numbers.
+impl Debug for WordName {
+    fn fmt<W: Write>(&self, f: &mut Formatter<W>) -> fmt::Result {
+        let [kind, first, second] = self.numbers();
+        let kinds = &KINDS;
+        (kinds[kind as usize % 22], first, second).fmt(f)
+    }
+}
+
 impl Config {
     /// The name of the word that stands at this place of the table: it undoes the places of all words.
     pub fn name_of(&self, at: usize) -> WordName
@@ -62,6 +128,15 @@ impl Config {
         ensures word { IsWord self.now (word_of result) }
         ensures place { word_at self.now (word_of result) ≡ at }
         ensures only { (word : Word) → IsWord self.now word → word_at self.now word ≡ at → word ≡ word_of result }
+    {
+        self.name_there(at)
+    }
+
+    // The word that stands at this place.
+    fn name_there(&self, at: usize) -> WordName
+        requires { at < table_words self.now }
+        ensures word { IsWord self.now (word_of result) }
+        ensures place { word_at self.now (word_of result) ≡ at }
     {
         if at < self.image_start() {
             self.outer_name(at)

@@ -2,8 +2,11 @@ ghost use Rattle.std.specs.Prelude.{◌≡◌, ◌≢◌, ◌↔◌, IsTrue, IfS
 ghost use Rattle.heap_words.specs.Place.{code_of, same_place};
 ghost use Rattle.heap_words.specs.declared.place.Place.{Place};
 
+use std::fmt;
+use std::fmt::{Debug, Formatter, Write};
+
 /// The place of a machine: the access that it makes next. Each has a code of two letters or digits.
-#[derive(Clone, Copy, Debug, PartialEq, Eq)]
+#[derive(Clone, Copy, PartialEq, Eq)]
 pub enum Place {
     /// Entering: stores IN into the state word of the seat.
     E1,
@@ -283,5 +286,14 @@ impl Place {
         ensures test { result ≡ same_place self other }
     {
         self == other
+    }
+}
+
+/// Written as its code.
+impl Debug for Place {
+    fn fmt<W: Write>(&self, f: &mut Formatter<W>) -> fmt::Result {
+        let [one, two] = self.code();
+        f.write_char(char::from(one))?;
+        f.write_char(char::from(two))
     }
 }

@@ -5,12 +5,12 @@ use std::alloc::Global;
 use std::marker::Model;
 
 /// The allocator had no memory.
-#[derive(Clone, Copy, Debug, PartialEq, Eq)]
+#[derive(Clone, Copy, Debug)]
 pub struct NoMemory;
 
 /// A piece of a schedule. `number` is that of a machine, counted from 0: the mutators, the helpers,
 /// the control.
-#[derive(Clone, Copy, Debug, PartialEq, Eq)]
+#[derive(Clone, Copy, Debug)]
 pub enum Item {
     /// The machine makes `count` steps, or fewer if it becomes idle.
     Steps {
