@@ -1,8 +1,8 @@
 -- How many words the workload can have in use.
-use Rattle.std.proofs.Common.{ℕ, zero, suc, ◌≡◌, ◌≤◌, ◌⊎◌, false, List, [], ◌∷◌, ◌++◌, length, get_or, Some, None, refl, ap, ◌∙◌, sym, subst, inl, inr, arith, length-append}
-use Rattle.std.specs.Prelude.{Contains, All, slice_get}
+use Rattle.std.proofs.Common.{ℕ, zero, suc, ◌≡◌, ◌≤◌, ◌⊎◌, Bool, true, false, List, [], ◌∷◌, ◌++◌, length, get_or, Some, None, refl, ap, ◌∙◌, sym, subst, inl, inr, arith, length-append}
+use Rattle.std.specs.Prelude.{Contains, All, slice_get, ◌==◌}
 use Rattle.std.specs.List.{AllByRecursion, IsDistinct}
-use Rattle.std.proofs.lemmas.Bool.Decides.{nat_tests}
+use Rattle.std.proofs.lemmas.Bool.Decides.{Decides-eqb, Decides-and}
 use Rattle.std.proofs.lemmas.List.{get_or_default}
 use Rattle.std.proofs.lemmas.List.Elements.{Contains-append_left, Contains-append_right}
 use Rattle.std.proofs.lemmas.List.Sums.{sum_by-le}
@@ -152,10 +152,20 @@ known_named g n known =
 -- names in their order differ
 
 before_apart : (a b : Name) → IsBefore a b → same_name a b ≡ false
-before_apart a b before = grind (arith, nat_tests)
+before_apart a b before = at (same_name a b) refl
+  where
+    at : (same : Bool) → same_name a b ≡ same → same ≡ false
+    at false is = refl
+    at true is =
+        let both = (Decides-and (a.thread == b.thread) (a.count == b.count) (Decides-eqb a.thread b.thread) (Decides-eqb a.count b.count)).0 is in
+        elim before [ inl less ↦ absurd (omega (arith, less, both.0)) | inr w ↦ absurd (omega (arith, w.1, both.1)) ]
 
 pub before_join : (a b c : Name) → IsBefore a b → IsBefore b c → IsBefore a c
-before_join a b c ab bc = grind (arith, nat_tests)
+before_join a b c ab bc =
+    elim ab [
+      | inl x ↦ elim bc [ inl y ↦ inl (omega (arith, x, y)) | inr y ↦ inl (omega (arith, x, y.0)) ]
+      | inr x ↦ elim bc [ inl y ↦ inl (omega (arith, x.0, y)) | inr y ↦ inr (x.0 ∙ y.0, omega (arith, x.1, y.1)) ]
+    ]
 
 before_all : (a : Name) (ns : List Name) → ((b : Name) (ms : List Name) → ns ≡ b ∷ ms → IsBefore a b) → InOrder ns → AllByRecursion (λ y. same_name a y ≡ false) ns
 before_all a [] first order = tt

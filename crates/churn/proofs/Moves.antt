@@ -1,8 +1,8 @@
 -- What changes of one thread's part keep.
 use Rattle.std.proofs.Common.{ℕ, ◌≡◌, ◌+◌, ◌<◌, ◌≤◌, Bool, true, false, List, [], length, get_or, set, eqb, replicate, Some, None, refl, ap, ◌∙◌, sym, subst, inl, inr, arith, get_or-set_same, get_or-set_other, length-set}
 use Rattle.std.specs.Prelude.{◌≢◌, ◌==◌, ◌&&◌, if◌then◌else◌, unwrap_or}
-use Rattle.std.proofs.lemmas.Bool.{cases_lt}
-use Rattle.std.proofs.lemmas.Bool.Decides.{nat_tests, eqb_tells}
+use Rattle.std.proofs.lemmas.Bool.{cases_lt, ne_eqb}
+use Rattle.std.proofs.lemmas.Bool.Decides.{Decides-eqb, eqb_tells}
 use Rattle.std.proofs.lemmas.List.{get_or_past, get_or-replicate, length-replicate}
 use Rattle.shen_graph.specs.declared.name.Name.{Name}
 use Rattle.shen_graph.specs.Graph.{Graph, Object, Reference, named, hub, same_name, with_root, with_object, with_named, with_fresh, blank}
@@ -94,13 +94,13 @@ field_other g m n o f e = ap (λ (x : Object). get_or x.refs f None) (named_othe
 
 -- a thread's objects are not the hub, nor those of another
 not_hub : (t n : ℕ) → IsThread t → same_name hub (own t n) ≡ false
-not_hub t n is = grind (arith, nat_tests)
+not_hub t n is = rw (ne_eqb 0 t (λ (same : 0 ≡ t). omega (arith, is.0))) refl
 
 pub not_hub_too : (t n : ℕ) → IsThread t → same_name (own t n) hub ≡ false
-not_hub_too t n is = grind (arith, nat_tests)
+not_hub_too t n is = rw (ne_eqb t 0 (λ (same : t ≡ 0). omega (arith, is.0))) refl
 
 not_another : (u k t n : ℕ) → u ≢ t → same_name (own u k) (own t n) ≡ false
-not_another u k t n apart = grind (arith, nat_tests)
+not_another u k t n apart = rw (ne_eqb u t apart) refl
 
 own_object-tidy : (g : Graph) (t n : ℕ) (o : Object) → Tidy g → IsThread t → Fits t n o → Tidy (with_object g (own t n) o)
 own_object-tidy g t n o tidy thread fits =
@@ -184,10 +184,10 @@ with_fresh-tidy g t o tidy thread fits =
     eqb_other u out = elim (eqb_tells u t) [ inl w ↦ absurd (out (subst IsThread (sym w.1) thread)) | inr w ↦ w.0 ]
 
 pub eqb_itself : (t : ℕ) → eqb t t ≡ true
-eqb_itself t = grind (arith, nat_tests)
+eqb_itself t = (Decides-eqb t t).1 refl
 
 pub eqb_apart : (u t : ℕ) → u ≢ t → eqb u t ≡ false
-eqb_apart u t apart = grind (arith, nat_tests)
+eqb_apart u t apart = ne_eqb u t apart
 
 fresh-frame : (g : Graph) (t u : ℕ) (o : Object) → IsThread t → u ≢ t → Same u g (with_fresh g t o)
 fresh-frame g t u o thread apart =

@@ -1,7 +1,6 @@
 -- There is one list of the names that can be reached in a graph.
 use Rattle.std.proofs.Common.{◌≡◌, List, [], ◌∷◌, refl, ap, ◌∙◌, sym, subst, inl, inr, arith}
 use Rattle.std.specs.Prelude.{Contains}
-use Rattle.std.proofs.lemmas.Bool.Decides.{nat_tests}
 use Rattle.std.proofs.lemmas.List.Elements.{Contains-append_right}
 use Rattle.shen_graph.specs.declared.name.Name.{Name}
 use Rattle.shen_graph.specs.Graph.{Graph}
@@ -10,7 +9,11 @@ use Rattle.shen_graph.proofs.ReachLemmas.{Contains-nil, Contains-cons_cases}
 use Rattle.churn.proofs.Bounds.{before_join}
 
 before_not : (a b : Name) → IsBefore a b → IsBefore b a → ⊥
-before_not a b ab ba = grind (arith, nat_tests)
+before_not a b ab ba =
+    elim ab [
+      | inl x ↦ elim ba [ inl y ↦ omega (arith, x, y) | inr y ↦ omega (arith, x, y.0) ]
+      | inr x ↦ elim ba [ inl y ↦ omega (arith, x.0, y) | inr y ↦ omega (arith, x.1, y.1) ]
+    ]
 
 before_each : (a : Name) (ns : List Name) (x : Name) → InOrder (a ∷ ns) → Contains ns x → IsBefore a x
 before_each a [] x order there = absurd (Contains-nil x there)

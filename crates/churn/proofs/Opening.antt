@@ -1,9 +1,9 @@
 -- How the workload begins.
-use Rattle.std.proofs.Common.{ℕ, zero, suc, ◌≡◌, ◌≤◌, ◌⊎◌, true, false, List, [], ◌∷◌, ◌++◌, length, get_or, Some, None, refl, ap, ◌∙◌, sym, subst, inl, inr, arith}
+use Rattle.std.proofs.Common.{ℕ, zero, suc, ◌≡◌, ◌≤◌, ◌⊎◌, Bool, true, false, List, [], ◌∷◌, ◌++◌, length, get_or, Some, None, refl, ap, ◌∙◌, sym, subst, inl, inr, arith}
 use Rattle.std.specs.Prelude.{if◌then◌else◌, ◌&&◌, ◌==◌, nat_le}
 use Rattle.std.specs.List.{AllByRecursion, flat_map, range_with_len}
-use Rattle.std.proofs.lemmas.Bool.{cases_lt}
-use Rattle.std.proofs.lemmas.Bool.Decides.{nat_tests}
+use Rattle.std.proofs.lemmas.Bool.{cases_lt, ne_eqb, false≢true}
+use Rattle.std.proofs.lemmas.Bool.Decides.{leb_tells}
 use Rattle.std.proofs.lemmas.List.{get_or_past}
 use Rattle.shen_graph.specs.declared.command.Command.TheVariants.{Set}
 use Rattle.shen_graph.specs.Graph.{Object, named, hub, opening}
@@ -23,9 +23,23 @@ thread_cases t is =
       | inr more ↦ elim (cases_lt t 3) [ inl two ↦ inr (inl (omega arith)) | inr three ↦ inr (inr (omega arith)) ]
     ]
 
+-- three tests together
+third_false : (a b c : Bool) → c ≡ false → (a && b && c) ≡ false
+third_false true true c e = e
+third_false true false c e = refl
+third_false false b c e = refl
+
+first_two : (a b c : Bool) → (a && b && c) ≡ true → (a ≡ true) × (b ≡ true)
+first_two true true c e = (refl, refl)
+first_two true false c e = absurd (false≢true e)
+first_two false b c e = absurd (false≢true e)
+
+from_test : (m n : ℕ) → nat_le m n ≡ true → m ≤ n
+from_test m n e = elim (leb_tells m n) [ inl w ↦ w.1 | inr w ↦ absurd (false≢true (sym w.0 ∙ e)) ]
+
 pub begins_none : (t r : ℕ) → 1 ≤ r → (opening 3).root t r ≡ None
 begins_none t r low =
-    let e : (nat_le 1 t && nat_le t 3 && (r == 0)) ≡ false = grind (arith, nat_tests) in
+    let e : (nat_le 1 t && nat_le t 3 && (r == 0)) ≡ false = third_false (nat_le 1 t) (nat_le t 3) (r == 0) (ne_eqb r 0 (λ (none : r ≡ 0). omega (arith, low))) in
     rw e refl
 
 begins_out : (t r : ℕ) → (IsThread t → ⊥) → (opening 3).root t r ≡ None
@@ -33,9 +47,8 @@ begins_out t r out = at (nat_le 1 t && nat_le t 3 && (r == 0)) refl
   where
     at : (b : _) → (nat_le 1 t && nat_le t 3 && (r == 0)) ≡ b → (if b then Some hub else None) ≡ None
     at true is =
-        let low : 1 ≤ t = grind (arith, nat_tests) in
-        let high : t ≤ 3 = grind (arith, nat_tests) in
-        absurd (out (low, high))
+        let both = first_two (nat_le 1 t) (nat_le t 3) (r == 0) is in
+        absurd (out (from_test 1 t both.0, from_test t 3 both.1))
     at false is = refl
 
 begins_bare : (t n : ℕ) → IsThread t → named (opening 3) (Some (own t n)) ≡ record { refs = []; nums = [] }
