@@ -55,7 +55,7 @@ def definitions(crate):
                 comment.append(line.lstrip()[2:].strip())
                 continue
             found = DEFINITION.match(line)
-            if found and module != "Lib":
+            if found and module != "Lib" and found[1] != "use":
                 yield module, found[1], " ".join(comment)
             comment = []
 
@@ -151,11 +151,24 @@ def cited(text, imports):
                 yield crate, module, name
 
 
+def handed_on():
+    """Of each name that a file of specs/ hands on by `pub use`: the crate, the file and the name of its definition."""
+    there = {}
+    for crate in crates():
+        for path in files_in(crate, "specs", ".antt"):
+            module = os.path.splitext(os.path.relpath(path, os.path.join(TOP, "crates", crate, "specs")))[0].replace(os.sep, ".")
+            for of, other, names in re.findall(r"^pub use Rattle\.(\w+)\.specs\.([\w.]+)\.\{([^}]*)\}", text_of(path), re.M):
+                there.update({(crate, module, name.strip()): (of, other, name.strip()) for name in names.split(",")})
+    return there
+
+
 def index():
     citing = {}
+    aliases = handed_on()
     for crate in crates():
         for name, text, imports in contracts(crate):
             for key in cited(text, imports):
+                key = aliases.get(key, key)
                 place = citing.setdefault(key, {})
                 place.setdefault(crate, {})[name] = None
     out = [HEAD]

@@ -91,7 +91,7 @@ module _ (c : Config) (g : Graph) (s : Stage Actor) (h : List Entry) (goes : Goe
       answers = answer_outside;
       fields = λ a refs nums k name is below some inside.
           current_outside (settled c s (Heap (a + 3 + k)))
-          (all_is_updated c (the_world c g s h goes) goes.follows.shared on (λ seat seated. (idle c g s h goes pause empty seat seated).1) all a refs nums k name is below) some inside;
+          (all_is_updated c (the_world c g s h goes) goes.follows.shared on (λ seat seated. (idle c g s h goes pause seat seated).1) all a refs nums k name is below) some inside;
     }
 
 pub pauses_come_when_due : PausesComeWhenDue

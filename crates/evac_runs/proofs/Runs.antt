@@ -24,17 +24,16 @@ use Rattle.step_core.specs.Actor.{Machine, mutating, helping, controlling, Actor
 use Rattle.step_core.specs.Begins.{Begins}
 use Rattle.step_core.specs.History.{history}
 use Rattle.step_core.specs.Machines.{takes_of, plan_of, kind}
-use Rattle.step_core.specs.Pausing.{IsInPause, IsEmpty}
+use Rattle.step_core.specs.Pausing.{IsInPause}
 use Rattle.step_core.specs.Settled.{image_in, settled, control_number}
 use Rattle.step_core.specs.Sound.{world_of, IsMutator, StandsFor}
 use Rattle.step_core.specs.Standing.{control_standing}
 use Rattle.step_core.proofs.Beginning.{goes_begins}
 use Rattle.step_core.proofs.Facts.{IsMachine, IsThread, IsResting, ControlFacts}
-use Rattle.step_core.proofs.Helpers.{rests_outside}
 use Rattle.step_core.proofs.Induction.{Goes, goes_run}
 use Rattle.step_core.proofs.Requests.{has_asked}
-use Rattle.step_core.proofs.Roles.{machine_there}
-use Rattle.step_core.proofs.Theorem.{run_pauses}
+use Rattle.step_core.proofs.Roles.{machine_there, number_of, below_control, rests_there}
+use Rattle.step_core.proofs.Theorem.{outside_in_pause}
 use Rattle.evac_runs.specs.Runs.{HaveHeaders, HeadersLeadInRuns, IsPublishing, IsSparing, AreSpared, CopiesAreSpared, AreAllForwarded, AllIsForwardedInRuns}
 use Rattle.evac_runs.proofs.Sparing.{helper_mild, control_mild, mutator_spare}
 
@@ -102,7 +101,7 @@ module _ (c : Config) (g : Graph) (s : Stage Actor) (h : List Entry) (goes : Goe
     spared = λ number x order a k b here takes out inside is below same. spares number order a k b inside is below x x.machine (goes.follows.machines number x here) takes out same;
   }
 
-  module _ (pause : IsInPause c s) (empty : IsEmpty c s) where
+  module _ (pause : IsInPause c s) where
     -- the control rests in a pause
     control_rests : (number : ℕ) (spot : ControlSpot) → is_pausing (control_standing spot) ≡ true → ControlFacts c the_world number spot → IsResting the_world number
     control_rests number (Scanning at) on facts = absurd (cc (on))
@@ -117,21 +116,21 @@ module _ (c : Config) (g : Graph) (s : Stage Actor) (h : List Entry) (goes : Goe
     abbrev pub IsIdleSeat : ℕ → Type 0
     IsIdleSeat number = (goes.follows.ghost.working number ≡ None) × (goes.follows.ghost.scanning number ≡ None)
 
-    idle_at : (number : ℕ) (x : Actor) (machine : Machine) → slice_get s.machines number ≡ Some x → x.machine ≡ machine → IsMachine c s.words the_world (of_thread h (number + 1)) number x machine → IsIdleSeat number
-    idle_at number x (mutating m) here role facts = subst IsIdleSeat facts.number_is (facts.mine.copying.works_none, facts.mine.marking.scans)
-    idle_at number x (helping m) here role facts = let rests = rests_outside c the_world number m.spot (empty.no_helper number x m (record { here = here; is = role })) facts.facts in (rests.works_none, rests.scans_none)
-    idle_at number x (controlling m) here role facts =
-        let there : slice_get s.machines (control_number c) ≡ Some x = ap (λ n. slice_get s.machines n) (sym facts.number_is) ∙ here in
-        let same : x ≡ pause.actor = same_Some x pause.actor (sym there ∙ pause.here) in
-        let spots : controlling m ≡ controlling pause.control = sym role ∙ ap (λ y. y.machine) same ∙ pause.is in
-        let one : m ≡ pause.control = (let both = spots in cc) in
-        let rests = control_rests number m.spot (ap (λ y. is_pausing (control_standing y.spot)) one ∙ pause.pausing) facts.facts in
-        (rests.works_none, rests.scans_none)
+    control_still : (number : ℕ) (x : Actor) → slice_get s.machines number ≡ Some x → number ≡ control_number c → IsResting the_world number
+    control_still number x here is =
+        let same : x ≡ pause.actor = same_Some x pause.actor (sym here ∙ ap (λ n. slice_get s.machines n) is ∙ pause.here) in
+        let role : x.machine ≡ controlling pause.control = ap (λ y. y.machine) same ∙ pause.is in
+        let facts = subst (λ machine. IsMachine c s.words the_world (of_thread h (number + 1)) number x machine) role (goes.follows.machines number x here) in
+        control_rests number pause.control.spot pause.pausing facts.facts
 
     pub idle : (number : ℕ) → number < seat_count c.mutators c.helpers → IsIdleSeat number
     idle number below =
         let there = machine_there c s.words the_world h s.machines goes.follows.seats number below in
-        idle_at number there.0 there.0.machine there.1 refl (goes.follows.machines number there.0 there.1)
+        let facts = goes.follows.machines number there.0 there.1 in
+        let has = number_of c s.words the_world (of_thread h (number + 1)) number there.0 there.0.machine facts in
+        let rests = rests_there c s.words the_world (of_thread h (number + 1)) number there.0 there.0.machine
+        (λ other. outside_in_pause c s goes.shaken pause number there.0 (below_control c number there.0.machine has other) there.1) (control_still number there.0 there.1) facts in
+        (rests.works_none, rests.scans_none)
 
     -- each marked object of the set is forwarded
     pub are_forwarded : AreAllForwarded c s
@@ -149,4 +148,4 @@ copies_are_spared change law c s g begins events = are_spared c g (go (kind chan
 
 pub all_is_forwarded_in_runs : AllIsForwardedInRuns
 all_is_forwarded_in_runs change law c s g begins events pause =
-    are_forwarded c g (go (kind change c) s events) (history change c s events) (stage_goes change law c s g begins events) pause (run_pauses change law c s g begins events pause)
+    are_forwarded c g (go (kind change c) s events) (history change c s events) (stage_goes change law c s g begins events) pause

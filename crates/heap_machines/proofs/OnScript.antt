@@ -10,7 +10,7 @@ use Rattle.shen_graph.specs.declared.command.Reply.{Reply}
 use Rattle.shen_graph.specs.declared.order.Order.{Order}
 use Rattle.shen_graph.specs.declared.order.Order.TheVariants.{Nothing, Begin}
 use Rattle.shen_graph.specs.History.{Entry, commands_of}
-use Rattle.step_core.specs.Actor.{Machine, mutating, helping, controlling, Actor, command_by}
+use Rattle.step_core.specs.Actor.{Machine, mutating, Actor, command_by}
 use Rattle.mutator.specs.declared.spot.Spot.{Spot}
 use Rattle.mutator.specs.declared.spot.Spot.TheVariants.{Rest, Ended, Gone}
 use Rattle.mutator.specs.Orders.{is_between_calls, takes_commands}
@@ -19,7 +19,8 @@ use Rattle.step_core.specs.Machines.{takes_of, machine_after, ended_by, took_of,
 use Rattle.heap_machines.specs.Turn.{order_for}
 use Rattle.heap_machines.specs.Roles.{given_in, is_mutating}
 use Rattle.heap_machines.specs.Scripts.{IsOnScript, HasDoneScript}
-use Rattle.heap_machines.proofs.Turns.{turn_in_call, turn_at_rest, rest_takes}
+use Rattle.heap_machines.proofs.Turns.{turn_at_rest, rest_takes}
+use Rattle.step_core.proofs.Roles.{turn_in_call}
 use Rattle.heap_machines.proofs.Replies.{given_after, ended_none, ended_some, busy_after, begun_after, ended_after}
 
 -- the first elements and the next are one more
@@ -148,8 +149,7 @@ script_done script a role on idle = by_may (may_begin a.machine) refl
         never (Ended reply) busy none = cc
         never Gone busy none = cc
         never _ busy none = cc
-    goes_on (helping h) role busy none = cc
-    goes_on (controlling k) role busy none = cc
+    goes_on _ role busy none = cc
 
     by_rest : may_begin a.machine ≡ false → (b : Bool) → is_resting a.machine ≡ b → HasDoneScript script a
     by_rest may true rest = record { rest = rest; commands = on.done ∙ past_end script (length a.calls) (on.ended rest may) }

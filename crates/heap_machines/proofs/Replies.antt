@@ -2,24 +2,7 @@
 use Rattle.std.proofs.Common.{◌≡◌, ℕ, ◌+◌, ◌≤◌, true, false, List, [], ◌∷◌, ◌++◌, map, Option, Some, None, refl, ap, ◌∙◌, arith}
 use Rattle.std.proofs.lemmas.List.{map-append}
 use Rattle.heap_words.specs.declared.config.Config.{Config}
-use Rattle.std.specs.Prelude.{◌==◌, Bool, if◌then◌else◌}
-use Rattle.heap_words.specs.declared.access.Took.{Took}
-use Rattle.heap_words.specs.declared.access.Took.TheVariants.{More, Again, Done}
-use Rattle.handshake.specs.declared.stop_spot.StopSpot.TheVariants as stop
-use Rattle.control_steps.specs.declared.spot.ControlSpot.{ControlSpot}
-use Rattle.handshake.specs.declared.enter_spot.EnterSpot.TheVariants.{Await}
-use Rattle.scan_steps.specs.declared.spot.ScanSpot.TheVariants as scan
-use Rattle.scan_steps.specs.Rows.{has_unit}
-use Rattle.helper.specs.declared.spot.HelpSpot.{HelpSpot}
-use Rattle.helper.specs.declared.spot.HelpSpot.TheVariants as help
-use Rattle.helper.specs.Rows as helpers
-use Rattle.load_barrier.specs.declared.evac_spot.EvacSpot.{EvacSpot}
-use Rattle.load_barrier.specs.declared.evac_spot.EvacSpot.TheVariants as evac
-use Rattle.load_barrier.specs.UnitRows as evacs
-use Rattle.update_refs.specs.declared.spot.UpdateSpot.TheVariants as update
-use Rattle.update_refs.specs.Rows as updates
-use Rattle.control_steps.specs.declared.spot.ControlSpot.TheVariants.{LookFree, Scanning, Evacuating, Updating, Stopping}
-use Rattle.control_steps.specs.Rows.{says_at, wants_pause, evacuating_says}
+use Rattle.heap_words.specs.declared.access.Took.TheVariants.{Done}
 use Rattle.shen_graph.specs.declared.command.Command.{Command}
 use Rattle.shen_graph.specs.declared.command.Reply.{Reply}
 use Rattle.shen_graph.specs.declared.order.Order.{Order}
@@ -37,62 +20,17 @@ use Rattle.mutator.specs.declared.makes.MakeSpot.TheVariants as make
 use Rattle.mutator.specs.Orders.{is_between_calls, takes_commands}
 use Rattle.mutator.specs.Rows.{Mutating, begun, given_at, answer_at, reply_at, next_at, after_remember}
 use Rattle.mutator.proofs.Done as ends
-use Rattle.step_core.specs.Actor.{Machine, mutating, helping, controlling, Actor, entries_of}
+use Rattle.step_core.specs.Actor.{Machine, mutating, Actor, entries_of}
 use Rattle.heap_world.specs.Change.{Change}
 use Rattle.step_core.specs.Machines.{machine_after, answer_of, ended_by, reply_in, is_resting, may_begin, made_of_machine, recorded_at_hand, at_hand, at_hand_of}
 use Rattle.heap_machines.specs.Roles.{given_in, is_mutating}
+use Rattle.step_core.proofs.Roles.{others_go_on}
 use Rattle.heap_machines.proofs.GoesOn.{call_goes_on}
-
--- a step that says one of two things, of which neither is Done, is not done
-not_done : (b : Bool) (one other : Took) → (one ≡ Done → ⊥) → (other ≡ Done → ⊥) → (if b then one else other) ≡ Done → ⊥
-not_done true one other first second is = first is
-not_done false one other first second is = second is
-
--- nor is one of a helper that evacuates
-evacuates_on : (at : EvacSpot) (said : Took) → helpers.evacuating_says at said ≡ Done → ⊥
-evacuates_on evac.LoadClaim Done is = cc
-evacuates_on evac.LoadClaim More is = cc
-evacuates_on evac.LoadClaim Again is = cc
-evacuates_on _ Done is = cc
-evacuates_on _ More is = cc
-evacuates_on _ Again is = cc
-
--- a helper ends no call
-pub helps_on : (c : Config) (spot : HelpSpot) (got : ℕ) → helpers.says_at c spot got ≡ Done → ⊥
-helps_on c (help.Entering Await) got is = not_done (got == 0) More Again (λ e. cc) (λ e. cc) is
-helps_on c (help.Entering at) got is = cc
-helps_on c help.LoadPhase got is = not_done (got == 0) Again More (λ e. cc) (λ e. cc) is
-helps_on c (help.Scanning scan.LoadClaim) got is = not_done (has_unit c got) More Again (λ e. cc) (λ e. cc) is
-helps_on c (help.Scanning (scan.ClaimUnit unit)) got is = not_done (got == unit) More Again (λ e. cc) (λ e. cc) is
-helps_on c (help.Scanning at) got is = cc
-helps_on c (help.Evacuating cset at) got is = evacuates_on at (evacs.says_at c cset at got) is
-helps_on c (help.Updating cset update.LoadClaim) got is = not_done (updates.has_unit c got) More Again (λ e. cc) (λ e. cc) is
-helps_on c (help.Updating cset (update.ClaimUnit unit)) got is = not_done (got == unit) More Again (λ e. cc) (λ e. cc) is
-helps_on c (help.Updating cset at) got is = cc
-helps_on c _ got is = cc
-
--- nor does the control
-works_on : (said : Took) → evacuating_says said ≡ Done → ⊥
-works_on Done is = cc
-works_on More is = cc
-works_on Again is = cc
-
-pub goes_on : (c : Config) (seen : ℕ) (spot : ControlSpot) (got : ℕ) → says_at c seen spot got ≡ Done → ⊥
-goes_on c seen LookFree got is = not_done (wants_pause c seen got) More Again (λ e. cc) (λ e. cc) is
-goes_on c seen (Scanning (scan.ClaimUnit unit)) got is = not_done (got == unit) More Again (λ e. cc) (λ e. cc) is
-goes_on c seen (Scanning at) got is = cc
-goes_on c seen (Evacuating cset at) got is = works_on (evacs.says_at c cset at got) is
-goes_on c seen (Updating cset (update.ClaimUnit unit)) got is = not_done (got == unit) More Again (λ e. cc) (λ e. cc) is
-goes_on c seen (Updating cset at) got is = cc
-goes_on c seen (Stopping (stop.Check seat)) got is = not_done (got == 0) More Again (λ e. cc) (λ e. cc) is
-goes_on c seen (Stopping at) got is = cc
-goes_on c seen _ got is = cc
 
 -- a step that ends a call gives a reply
 pub done_gives : (c : Config) (machine : Machine) (got : ℕ) → answer_of c machine got ≡ Some Done → (r : Reply) × (given_in machine ≡ Some r)
 done_gives c (mutating m) got done = ends.done_gives c m.kept m.spot got (let said = done in cc)
-done_gives c (helping h) got done = absurd (helps_on c h.spot got (let said = done in cc))
-done_gives c (controlling k) got done = absurd (goes_on c k.seen k.spot got (let said = done in cc))
+done_gives c other got done = absurd (others_go_on c other got refl done)
 
 -- no other step does
 pub other_gives : (c : Config) (machine : Machine) (got : ℕ) → (answer_of c machine got ≡ Some Done → ⊥) → given_in machine ≡ None
@@ -101,8 +39,7 @@ other_gives c (mutating m) got other = by_spot m.spot other
     by_spot : (spot : Spot) → (Some (answer_at c m.kept spot got) ≡ Some Done → ⊥) → given_at spot ≡ None
     by_spot (Leave r) other = absurd (other refl)
     by_spot _ other = refl
-other_gives c (helping h) got other = refl
-other_gives c (controlling k) got other = refl
+other_gives c _ got other = refl
 
 -- A machine that has given a reply: it has the reply, rests, and may go on. It has made no object, and the reply was at hand.
 pub record HasGiven (machine next : Machine) (r : Reply) : Type 0 where
@@ -148,8 +85,7 @@ given_after change c order got (mutating m) r gives = record {
     at_hand_then : (spot : Spot) → given_at spot ≡ Some r → at_hand spot ≡ 1
     at_hand_then (Leave q) is = refl
     at_hand_then _ is = absurd cc
-given_after change c order got (helping h) r gives = absurd cc
-given_after change c order got (controlling k) r gives = absurd cc
+given_after change c order got _ r gives = absurd cc
 
 -- between two calls no reply is at hand
 pub rest_at_hand : (machine : Machine) → is_resting machine ≡ true → at_hand_of machine ≡ 0
@@ -160,8 +96,7 @@ rest_at_hand (mutating m) rest = by_spot m.spot rest
     by_spot (Waiting at) is = absurd cc
     by_spot (Recording at address next) is = absurd cc
     by_spot _ is = refl
-rest_at_hand (helping h) rest = refl
-rest_at_hand (controlling k) rest = refl
+rest_at_hand _ rest = refl
 
 -- an order makes no object
 begun_made : (order : Order) (m : Mutating) → (begun order m).made ≡ m.made
@@ -192,14 +127,12 @@ none_after change c order got (mutating m) none = by_spot m.spot none
     by_spot (Waiting at) none = omega arith
     by_spot (Leave r) none = absurd cc
     by_spot _ none = omega arith
-none_after change c order got (helping h) none = omega arith
-none_after change c order got (controlling k) none = omega arith
+none_after change c order got _ none = omega arith
 
 -- a machine in a call goes on with it, if it gives no reply
 pub busy_after : (change : Change) (c : Config) (got : ℕ) (machine : Machine) → is_resting machine ≡ false → given_in machine ≡ None → is_resting (machine_after change c Nothing got machine) ≡ false
 busy_after change c got (mutating m) busy none = call_goes_on c m got m.spot busy none
-busy_after change c got (helping h) busy none = refl
-busy_after change c got (controlling k) busy none = refl
+busy_after change c got _ busy none = refl
 
 -- a mutator that begins a command is in a call then
 pub begun_after : (change : Change) (c : Config) (command : Command) (got : ℕ) (machine : Machine) → may_begin machine ≡ true → is_resting (machine_after change c (Begin command) got machine) ≡ false
@@ -209,8 +142,7 @@ begun_after change c command got (mutating m) may = by_spot m.spot may
     by_spot Rest may = refl
     by_spot (Ended reply) may = refl
     by_spot _ may = absurd cc
-begun_after change c command got (helping h) may = refl
-begun_after change c command got (controlling k) may = refl
+begun_after change c command got _ may = refl
 
 -- and one that ends is in none
 pub ended_after : (change : Change) (c : Config) (got : ℕ) (machine : Machine) → may_begin machine ≡ true → is_resting (machine_after change c End got machine) ≡ true
@@ -220,19 +152,16 @@ ended_after change c got (mutating m) may = by_spot m.spot may
     by_spot Rest may = refl
     by_spot (Ended reply) may = refl
     by_spot _ may = absurd cc
-ended_after change c got (helping h) may = absurd cc
-ended_after change c got (controlling k) may = absurd cc
+ended_after change c got _ may = absurd cc
 
 -- the call that a step ends has the reply that it gives
 pub ended_none : (command : Command) (machine : Machine) → given_in machine ≡ None → ended_by command machine ≡ []
 ended_none command (mutating m) none = ap (entries_of m.seat command) none
-ended_none command (helping h) none = refl
-ended_none command (controlling k) none = refl
+ended_none command _ none = refl
 
 pub ended_some : (command : Command) (machine : Machine) (r : Reply) → given_in machine ≡ Some r → (e : Entry) × (ended_by command machine ≡ e ∷ []) × (e.command ≡ command) × (e.reply ≡ r)
 ended_some command (mutating m) r gives = (record { thread = m.seat + 1; command = command; reply = r }, ap (entries_of m.seat command) gives, refl, refl)
-ended_some command (helping h) r gives = absurd cc
-ended_some command (controlling k) r gives = absurd cc
+ended_some command _ r gives = absurd cc
 
 -- a reply as a list
 abbrev pub listed : Option Reply → List Reply
@@ -246,8 +175,7 @@ ended_replies command (mutating m) = by_given (given_at m.spot)
     by_given : (o : Option Reply) → map (λ e. e.reply) (entries_of m.seat command o) ≡ listed o
     by_given None = refl
     by_given (Some r) = refl
-ended_replies command (helping h) = refl
-ended_replies command (controlling k) = refl
+ended_replies command _ = refl
 
 -- the replies of an actor's calls after its step
 pub took_replies : (a : Actor) → map (λ e. e.reply) (a.calls ++ ended_by a.command a.machine) ≡ map (λ e. e.reply) a.calls ++ listed (given_in a.machine)

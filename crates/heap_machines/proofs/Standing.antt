@@ -25,22 +25,22 @@ use Rattle.control.specs.Image.{image_from, IsLoadedFrom}
 use Rattle.heap_machines.specs.Roles.{CanShow}
 use Rattle.heap_graph.specs.Shows.{WordsStand}
 use Rattle.heap_graph.proofs.Tables.{table_stands}
-use Rattle.step_core.specs.Actor.{Machine, mutating, helping, controlling, Actor, entries_of}
+use Rattle.step_core.specs.Actor.{Machine, mutating, Actor, entries_of}
 use Rattle.step_core.specs.Own.{root_now}
-use Rattle.step_core.specs.Machines.{is_resting, HasNumber}
+use Rattle.step_core.specs.Machines.{is_resting}
 use Rattle.step_core.specs.Settled.{settled, settled_by, stored_image, image_in, image_of, control_number}
 use Rattle.step_core.specs.Sound.{world_of, IsSound}
 use Rattle.step_core.specs.Begins.{Run, ending, history_in, graph_after}
 use Rattle.heap_machines.specs.Pause.{pause_image}
 use Rattle.heap_machines.proofs.Pauses.{heap_pauses}
 use Rattle.step_core.proofs.Facts.{IsAim}
+use Rattle.step_core.proofs.Roles.{control_of}
 use Rattle.step_core.proofs.Theorem.{run_sound, run_aims}
 
 -- a machine that rests is a mutator between two calls
 rest_parts : (machine : Machine) → is_resting machine ≡ true → (m : Mutating) × (machine ≡ mutating m) × (is_between_calls m.spot ≡ true)
 rest_parts (mutating m) rest = (m, refl, rest)
-rest_parts (helping h) rest = absurd cc
-rest_parts (controlling k) rest = absurd cc
+rest_parts _ rest = absurd cc
 
 -- between two calls the root's word counts
 root_between_calls : (w : World) (seat index : ℕ) (kept : Kept) (spot : Spot) → is_between_calls spot ≡ true → root_now w seat kept spot index ≡ w.memory (Root seat index)
@@ -111,11 +111,8 @@ module _ (c : Config) (run : Run c) (rest : (t : ℕ) (a : Actor) → t < c.muta
 
   -- the control can work on them
   pub can_show : (a : Actor) → slice_get (ending pause_image c run).machines (control_number c) ≡ Some a → CanShow image a.machine
-  can_show a here = by_machine a.machine refl
-    where
-      by_machine : (machine : Machine) → a.machine ≡ machine → CanShow image machine
-      by_machine (mutating m) is = absurd (let number = subst (HasNumber c (control_number c)) is (sound.of_heap.roles (control_number c) a here) in omega (arith, number.1))
-      by_machine (helping h) is = absurd (let number = subst (HasNumber c (control_number c)) is (sound.of_heap.roles (control_number c) a here) in omega (arith, number.1))
-      by_machine (controlling k) is =
-          let aims = run_aims pause_image heap_pauses c run.start run.graph run.begins run.events (control_number c) a k here is in
-          loaded_by k.spot k.image (ap image_in (sym is) ∙ ap image_of (sym here) ∙ calm) aims.0 aims.1
+  can_show a here =
+      let role = control_of c (control_number c) a.machine (sound.of_heap.roles (control_number c) a here) refl in
+      let k = role.0 in
+      let aims = run_aims pause_image heap_pauses c run.start run.graph run.begins run.events (control_number c) a k here role.1 in
+      subst (λ machine. CanShow image machine) (sym role.1) (loaded_by k.spot k.image (ap image_in (sym role.1) ∙ ap image_of (sym here) ∙ calm) aims.0 aims.1)

@@ -1,4 +1,5 @@
--- What the events see of a machine in memory.
+-- What the events see of a machine in memory: the one file of this crate's definitions that tells the roles apart, since memory has the
+-- machines of its own.
 use Rattle.std.specs.Prelude.{Bool}
 use Rattle.heap_words.specs.declared.config.Config.{Config}
 use Rattle.shen_graph.specs.declared.order.Order.{Order}

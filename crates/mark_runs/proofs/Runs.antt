@@ -13,7 +13,8 @@ use Rattle.cycle_pauses.proofs.Pauses.{collect_is_pause}
 use Rattle.control_steps.specs.declared.spot.ControlSpot.{ControlSpot}
 use Rattle.control_steps.specs.declared.spot.ControlSpot.TheVariants.{LoadWord}
 use Rattle.step_core.specs.Actor.{Machine, controlling}
-use Rattle.step_core.specs.Fit.{IsWhole, IsFitFor}
+use Rattle.step_core.specs.Fit.{IsWhole}
+use Rattle.step_core.specs.Machines.{IsFitFor}
 use Rattle.step_core.proofs.Theorem.{found_fit, every_run}
 use Rattle.mark_runs.specs.Runs.{AreMarkedThrough, MarkingComesInRuns, ReachableAreMarkedInRuns}
 

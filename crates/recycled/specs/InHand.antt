@@ -143,7 +143,7 @@ IsControlHand c (control.Evacuating cset at) a = IsEvacHand at a
 IsControlHand c (control.Updating cset at) a = IsUpdateHand at a
 IsControlHand c _ a = ⊥
 
--- and of any machine
+-- and of any machine, by its role
 abbrev pub IsInHandOf : Config → Machine → ℕ → Type 0
 IsInHandOf c (mutating m) a = IsMutatorHand m.kept.command m.spot a
 IsInHandOf c (helping h) a = IsHelpHand c h.spot a

@@ -14,14 +14,15 @@ use Rattle.heap_graph.specs.Shows.{WordsStand}
 use Rattle.shen_graph.specs.declared.name.Name.{Name}
 use Rattle.control_steps.specs.declared.spot.ControlSpot.{ControlSpot}
 use Rattle.control_steps.specs.declared.spot.ControlSpot.TheVariants.{LoadWord, StoreWord}
+use Rattle.control_steps.specs.Rows.{Controlling}
 use Rattle.control.specs.Image.{image_from, IsLoadedFrom}
-use Rattle.heap_machines.specs.Roles.{CanShow}
+use Rattle.heap_machines.specs.Roles.{CanShowBy, CanShow}
 use Rattle.heap_machines.proofs.Standing as standing
-use Rattle.step_core.specs.Actor.{Machine, mutating, helping, controlling, Actor}
+use Rattle.step_core.specs.Actor.{Machine, Actor}
 use Rattle.heap_machines.specs.Shown.{no_machine}
 use Rattle.step_core.specs.Begins.{Run, ending, graph_after}
 use Rattle.step_core.specs.Settled.{image_in, image_of, control_number}
-use Rattle.step_core.specs.Machines.{is_resting}
+use Rattle.step_core.specs.Machines.{control_in, is_resting}
 use Rattle.shen_core.specs.Runs.{Shows, IsShownBySome}
 use Rattle.shen_core.proofs.Events.{shown_actor}
 
@@ -32,9 +33,11 @@ loaded_is_prop table (StoreWord index) image = hlevel
 loaded_is_prop table _ image = hlevel
 
 can_show_is_prop : (table : List ℕ) (machine : Machine) → IsProp (CanShow table machine)
-can_show_is_prop table (mutating m) = hlevel
-can_show_is_prop table (helping h) = hlevel
-can_show_is_prop table (controlling k) = loaded_is_prop table k.spot k.image
+can_show_is_prop table machine = by_control (control_in machine)
+  where
+    by_control : (o : Option Controlling) → IsProp (CanShowBy table o)
+    by_control None = hlevel
+    by_control (Some k) = loaded_is_prop table k.spot k.image
 
 module _ (c : Config) (words : List ℕ) (machines : List Machine) (rest : (number : ℕ) → number < c.mutators → is_resting (slice_index_or machines number no_machine) ≡ true)
     (calm : image_in (slice_index_or machines (control_number c) no_machine) ≡ None) (run : Run c) (shows : Shows words machines (ending pause_image c run)) where

@@ -21,7 +21,7 @@ use Rattle.shen_graph.specs.declared.order.Order.TheVariants.{Nothing}
 use Rattle.heap_machines.specs.declared.stepped.Stepped.{Stepped}
 use Rattle.heap_machines.specs.declared.stepped.Stepped.TheVariants as stepped
 use Rattle.heap_machines.specs.Answer.{stepped_of, stepped_by, says}
-use Rattle.heap_machines.proofs.Turns.{says_some}
+use Rattle.step_core.proofs.Roles.{says_some}
 use Rattle.heap_machines.proofs.Replies.{listed, took_replies, done_gives, other_gives, given_after}
 use Rattle.heap_machines.proofs.Names.{HasNames, names_on, names_noted}
 use Rattle.heap_machines.proofs.OnScript.{begins, goes_on_with}

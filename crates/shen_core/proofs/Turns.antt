@@ -16,19 +16,18 @@ use Rattle.shen_graph.specs.declared.command.Command.{Command}
 use Rattle.shen_graph.specs.Work as work
 use Rattle.shen_graph.specs.Valid.{IsValid}
 use Rattle.shen_graph.specs.declared.order.Order.{Order}
-use Rattle.heap_machines.proofs.Turns.{role_of, order_alike, rest_is_mutating, begins_at_rest, order_of_script}
+use Rattle.heap_machines.proofs.Turns.{order_alike, rest_is_mutating, begins_at_rest, order_of_script}
+use Rattle.step_core.proofs.Roles.{role_of, fit_is_prop}
 use Rattle.heap_machines.proofs.Names.{command_fits}
 use Rattle.step_core.specs.Actor.{Machine, Actor}
 use Rattle.heap_machines.specs.Shown.{no_machine}
-use Rattle.step_core.specs.Machines.{takes_of, plan_of, order_by, is_machine_at, is_resting, may_begin, made_of_machine, kind}
+use Rattle.step_core.specs.Machines.{takes_of, plan_of, order_by, is_machine_at, is_resting, may_begin, made_of_machine, kind, IsFitFor}
 use Rattle.heap_machines.specs.Roles.{is_mutating}
 use Rattle.heap_machines.specs.Turn.{order_for}
-use Rattle.step_core.specs.Fit.{IsFitFor}
 use Rattle.step_core.specs.Begins.{ending}
 use Rattle.step_core.specs.Schedule.{Scripts, nth_script, turn, turn_of, is_at_place, is_actor_at}
 use Rattle.heap_words.specs.declared.place.Place.{Place}
 use Rattle.step_core.proofs.Theorem.{run_sound, found_fit}
-use Rattle.heap_machines.proofs.Fit.{fit_is_prop}
 use Rattle.shen_core.specs.declared.plain.Plain.{Plain}
 use Rattle.shen_core.specs.State.{config_of, words_of, machines_of, machine_at, Shows}
 use Rattle.shen_core.specs.Runs.{IsShownBySome, event}

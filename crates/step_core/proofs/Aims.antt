@@ -13,10 +13,10 @@ use Rattle.control_steps.specs.declared.spot.ControlSpot.{ControlSpot}
 use Rattle.control_steps.specs.declared.spot.ControlSpot.TheVariants.{LoadWord, StoreWord}
 use Rattle.control_steps.specs.Rows.{Controlling}
 use Rattle.step_core.specs.Actor.{controlling, Actor}
-use Rattle.step_core.specs.Machines.{HasNumber}
+use Rattle.step_core.specs.Machines.{HasNumber, standing_of}
 use Rattle.step_core.specs.Settled.{control_number}
 use Rattle.step_core.specs.Sound.{world_of}
-use Rattle.step_core.specs.Standing.{control_standing, standing_of}
+use Rattle.step_core.specs.Standing.{control_standing}
 use Rattle.step_core.proofs.Facts.{IsAim, Follows}
 use Rattle.step_core.proofs.Held.{IsKept}
 use Rattle.step_core.proofs.Roles.{number_of}

@@ -7,7 +7,7 @@ use Rattle.heap_words.specs.Words.{Phase, Cset, view}
 use Rattle.steps_base.specs.Steps.{Stage}
 use Rattle.shen_graph.specs.Graph.{Graph}
 use Rattle.heap_world.specs.World.{Shared}
-use Rattle.step_core.specs.Actor.{Machine, mutating, helping, controlling, Actor}
+use Rattle.step_core.specs.Actor.{Machine, controlling, Actor}
 use Rattle.step_core.specs.Machines.{HasNumber, IsIdle}
 use Rattle.step_core.specs.Settled.{stored_image, image_in, image_of, settled, settled_by, control_number}
 use Rattle.step_core.specs.Threads.{IsSettled}
@@ -20,9 +20,8 @@ use Rattle.step_core.proofs.Roles.{machine_there, machine_begins}
 
 -- an idle control holds no image
 idle_holds : (c : Config) (phase cset : ℕ) (g : Graph) (machine : Machine) → HasNumber c (control_number c) machine → IsIdle phase cset g (control_number c) machine → image_in machine ≡ None
-idle_holds c phase cset g (mutating m) number calm = absurd (let below = number.1 in omega (arith, below))
-idle_holds c phase cset g (helping h) number calm = absurd (let below = number.2 in omega (arith, below))
 idle_holds c phase cset g (controlling h) number calm = ap (λ spot. stored_image spot h.image) calm.0
+idle_holds c phase cset g _ number calm = refl
 
 -- What holds of a stage that begins a graph.
 module _ (c : Config) (s : Stage Actor) (g : Graph) (begins : Begins c s g) where

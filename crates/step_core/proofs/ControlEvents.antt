@@ -39,11 +39,10 @@ use Rattle.control_steps.specs.declared.spot.ControlSpot.TheVariants.{LookLeft, 
 use Rattle.control_steps.specs.Rows.{Controlling, control_access, seen_after, is_gone}
 use Rattle.control_steps.specs.Ready.{is_ready}
 use Rattle.step_core.specs.Actor.{controlling, Actor}
-use Rattle.step_core.specs.Machines.{took_of, kind, told_storing}
+use Rattle.step_core.specs.Machines.{took_of, kind, told_storing, standing_of}
 use Rattle.step_core.specs.Settled.{stored_image, settled_by, image_in, image_of, control_number}
 use Rattle.step_core.specs.Sound.{world_of}
 use Rattle.step_core.specs.Fit.{StandsForSome}
-use Rattle.step_core.specs.Standing.{standing_of}
 use Rattle.step_core.proofs.Facts.{IsResting, IsControl, IsMachine, Follows, Owes, AreRead}
 use Rattle.step_core.proofs.Images.{words_after, found-placed, image_grows}
 use Rattle.step_core.proofs.Helpers.{is_off}

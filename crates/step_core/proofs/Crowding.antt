@@ -32,14 +32,14 @@ use Rattle.heap_world.specs.Asking.{nothing, asks, refused, given, IsAsked}
 use Rattle.heap_world.specs.Change.{Change, IsPause}
 use Rattle.control_steps.specs.declared.spot.ControlSpot.{ControlSpot}
 use Rattle.control_steps.specs.declared.spot.ControlSpot.TheVariants.{StoreWord}
-use Rattle.step_core.specs.Actor.{Machine, mutating, helping, controlling, Actor, entry_of, entries_of, command_by}
+use Rattle.step_core.specs.Actor.{Machine, mutating, controlling, Actor, entry_of, entries_of, command_by}
 use Rattle.step_core.specs.Begins.{Begins}
 use Rattle.step_core.specs.Begun.{begun_by, begun}
-use Rattle.step_core.specs.History.{told_of_machine, told, history}
-use Rattle.step_core.specs.Machines.{command_at, told_word, told_storing, told_by, takes_of, is_resting, kind}
+use Rattle.step_core.specs.History.{told_of_machine, told, history, told_by}
+use Rattle.step_core.specs.Machines.{command_at, told_word, told_storing, takes_of, is_resting, kind, standing_of}
 use Rattle.step_core.specs.Settled.{mixed, settled, settled_by, image_of, control_number}
 use Rattle.step_core.specs.Sound.{world_of}
-use Rattle.step_core.specs.Standing.{standing_at, standing_of}
+use Rattle.step_core.specs.Standing.{standing_at}
 use Rattle.step_core.proofs.Stepped.{IsPolling, IsAnswered, IsAsking, Mine}
 use Rattle.step_core.proofs.Asked.{promised_given}
 use Rattle.step_core.proofs.Beginning.{goes_begins}
@@ -233,8 +233,8 @@ module _ (change : Change) (c : Config) (g : Graph) (s : Stage Actor) (past : Li
   by_role : (number : ℕ) (order : Order) (command : Command) (calls : List Entry) (machine : Machine) → slice_get s.machines number ≡ Some (record { machine = machine; command = command; calls = calls })
       → Crowded (told_by c s (record { machine = machine; command = command; calls = calls }) order machine)
   by_role number order command calls (mutating m) here = quiet _ (mutator_not_full (settled c s) m (command_by order command))
-  by_role number order command calls (helping h) here = none
   by_role number order command calls (controlling k) here = by_spot number k.seen k.phase k.cset k.image command calls k.spot here
+  by_role number order command calls _ here = none
 
   told_crowded : (e : Event Order) → Crowded (told c s e)
   unfolding told

@@ -1,6 +1,6 @@
 -- The commands that threads have begun: an event takes none away.
 use Rattle.std.proofs.Common.{◌≡◌, ℕ, ◌<◌, ◌≤◌, ⊎_elim, Bool, true, false, List, [], ◌∷◌, ◌++◌, length, get_or, Option, Some, None, refl, sym, ap, ◌∙◌, subst, arith}
-use Rattle.std.specs.Prelude.{◌==◌, ◌&&◌, take, slice_get, slice_index_or, slice_set, if◌then◌else◌}
+use Rattle.std.specs.Prelude.{◌==◌, take, slice_get, slice_index_or, slice_set, if◌then◌else◌}
 use Rattle.std.specs.Option.{option_map}
 use Rattle.std.proofs.lemmas.Bool.{cases_eq}
 use Rattle.std.proofs.lemmas.List.{append-nil, map-append, length-map, length-take-le, length-set, get_or-take}
@@ -12,7 +12,6 @@ use Rattle.steps_base.proofs.Places.{slice_get-set_same, slice_get-set_other}
 use Rattle.shen_graph.specs.declared.command.Command.{Command}
 use Rattle.shen_graph.specs.declared.order.Order.{Order}
 use Rattle.shen_graph.specs.declared.order.Order.TheVariants.{Nothing, Begin, End}
-use Rattle.shen_graph.specs.Order.{is_nothing}
 use Rattle.shen_graph.specs.History.{Entry, commands_of}
 use Rattle.handshake.specs.declared.enter_spot.EnterSpot.{EnterSpot}
 use Rattle.handshake.specs.declared.enter_spot.EnterSpot.TheVariants.{Inside}
@@ -29,10 +28,11 @@ use Rattle.mutator.specs.Rows.{Mutating, next_at, given_at}
 use Rattle.mutator.specs.WaitRows.{after_enter, wait_next}
 use Rattle.mutator.proofs.Orders.{in_call}
 use Rattle.heap_world.specs.Change.{Change}
-use Rattle.step_core.specs.Actor.{Machine, mutating, helping, controlling, Actor, entry_of, entries_of, command_by}
+use Rattle.step_core.specs.Actor.{Machine, mutating, Actor, entry_of, entries_of, command_by}
 use Rattle.step_core.specs.Begun.{begun_by, begun}
 use Rattle.step_core.specs.Machines.{takes_of, plan_of, took_of, kind}
 use Rattle.step_core.specs.Standing.{standing_at}
+use Rattle.step_core.proofs.Roles.{takes_nothing}
 use Rattle.step_core.proofs.Crowds.{get_left, Extends, AreLonger}
 use Rattle.step_core.proofs.Within.{IsIn, goes_on_in}
 
@@ -118,18 +118,17 @@ module _ (c : Config) (m : Mutating) (order : Order) (got : ℕ) (command : Comm
   grows_at (Making at) takes = call_grows (Making at) refl takes (stays_in_call (Making at) refl)
   grows_at AskCycle takes = call_grows AskCycle refl takes (stays_in_call AskCycle refl)
 
--- an order that a helper or the control takes is none
-control_grows : (order : Order) (b : Bool) (command : Command) (calls : List Entry) → (is_nothing order && b) ≡ true → Extends (commands_of calls ++ command ∷ []) (commands_of (calls ++ []) ++ command_by order command ∷ [])
-control_grows Nothing b command calls takes = extends_same _ _ (ap (λ es. commands_of es ++ command ∷ []) (sym (append-nil calls)))
-control_grows (Begin k) b command calls takes = absurd (cc (takes))
-control_grows End b command calls takes = absurd (cc (takes))
+-- who takes no order begins nothing
+others_grow : (order : Order) (command : Command) (calls : List Entry) → order ≡ Nothing → Extends (commands_of calls ++ command ∷ []) (commands_of (calls ++ []) ++ command_by order command ∷ [])
+others_grow Nothing command calls none = extends_same _ _ (ap (λ es. commands_of es ++ command ∷ []) (sym (append-nil calls)))
+others_grow (Begin k) command calls none = absurd (cc (none))
+others_grow End command calls none = absurd (cc (none))
 
--- the commands of a machine, by its role
+-- the commands of a machine
 machine_grows : (change : Change) (c : Config) (order : Order) (got : ℕ) (command : Command) (calls : List Entry) (machine : Machine) → takes_of machine order ≡ true
     → Extends (begun_by (record { machine = machine; command = command; calls = calls })) (begun_by (took_of change c (record { machine = machine; command = command; calls = calls }) order got machine))
 machine_grows change c order got command calls (mutating m) takes = grows_at c m order got command calls m.spot takes
-machine_grows change c order got command calls (helping h) takes = control_grows order _ command calls takes
-machine_grows change c order got command calls (controlling k) takes = control_grows order _ command calls takes
+machine_grows change c order got command calls other takes = others_grow order command calls (takes_nothing other order refl takes)
 
 -- The scripts of a stage, by the numbers of its mutators.
 module _ (c : Config) (s : Stage Actor) (seats : length s.machines ≡ seat_count c.mutators c.helpers) where

@@ -1,54 +1,45 @@
 -- The handshake and the count where runs begin.
-use Rattle.std.proofs.Common.{◌≡◌, ℕ, ◌<◌, ◌≤◌, true, false, refl, ap, arith}
+use Rattle.std.proofs.Common.{◌≡◌, ℕ, ◌<◌, ◌≤◌, true, false, refl, sym, ap, subst, arith}
 use Rattle.heap_words.specs.declared.config.Config.{Config}
 use Rattle.heap_words.specs.Words.{Phase, Cset, view}
 use Rattle.steps_base.specs.Steps.{Stage}
 use Rattle.shen_graph.specs.Graph.{Graph}
-use Rattle.handshake.specs.Standing.{outside, idle, control_seat}
+use Rattle.handshake.specs.Standing.{idle, control_seat}
 use Rattle.handshake.specs.Shaken.{IsShaken}
 use Rattle.handshake.specs.Left.{IsCounted}
 use Rattle.handshake.proofs.Beginnings.{shaken_begins, counted_begins, there_is}
 use Rattle.mutator.specs.declared.spot.Spot.{Spot}
 use Rattle.mutator.specs.declared.spot.Spot.TheVariants.{Rest, Ended}
 use Rattle.mutator.specs.Orders.{takes_commands}
-use Rattle.step_core.specs.Actor.{Machine, mutating, helping, controlling, Actor}
-use Rattle.step_core.specs.Machines.{HasNumber, IsIdle}
+use Rattle.step_core.specs.Actor.{Machine, mutating, Actor}
+use Rattle.step_core.specs.Machines.{HasNumber, IsIdle, standing_of}
 use Rattle.step_core.specs.Begins.{Begins}
-use Rattle.step_core.specs.Standing.{standing_at, help_standing, control_standing, standing_of}
+use Rattle.step_core.specs.Standing.{control_standing}
 use Rattle.step_core.proofs.MutatorObeys.{has_not_ended}
-use Rattle.step_core.proofs.MachinesObey.{standing, is_left_of, is_left}
+use Rattle.step_core.proofs.MachinesObey.{standing, is_left}
+use Rattle.step_core.proofs.Roles.{is_left_of, mutator_of, control_of, idle_outside}
 
-rests_outside : (spot : Spot) → takes_commands spot ≡ true → standing_at spot ≡ outside
-rests_outside Rest takes = refl
-rests_outside (Ended reply) takes = refl
-rests_outside _ takes = absurd (cc (takes))
-
+-- a mutator that takes commands has not ended
 rests_left : (spot : Spot) → takes_commands spot ≡ true → has_not_ended spot ≡ true
 rests_left Rest takes = refl
 rests_left (Ended reply) takes = refl
 rests_left _ takes = absurd (cc (takes))
 
--- an idle machine of a seat is outside, and the control's is idle
-idle_outside : (c : Config) (phase cset : ℕ) (g : Graph) (number : ℕ) (machine : Machine) → HasNumber c number machine → IsIdle phase cset g number machine → number < control_seat c → standing_of machine ≡ outside
-idle_outside c phase cset g number (mutating m) has is below = rests_outside m.spot is.1
-idle_outside c phase cset g number (helping h) has is below = ap help_standing is
-idle_outside c phase cset g number (controlling k) has is below = absurd (omega (arith, has, below))
-
+-- the idle control is idle in the handshake
 control_idle : (c : Config) (phase cset : ℕ) (g : Graph) (number : ℕ) (machine : Machine) → HasNumber c number machine → IsIdle phase cset g number machine → number ≡ control_seat c → standing_of machine ≡ idle
-control_idle c phase cset g number (mutating m) has is e = absurd (omega (arith, has.1, e))
-control_idle c phase cset g number (helping h) has is e = absurd (omega (arith, has.2, e))
-control_idle c phase cset g number (controlling k) has is e = ap control_standing is.0
+control_idle c phase cset g number machine has is e =
+    let role = control_of c number machine has e in
+    subst (λ x. IsIdle phase cset g number x → standing_of x ≡ idle) (sym role.1) (λ calm. ap control_standing calm.0) is
 
 -- the mutators have not ended, and no other machine is counted
 mutator_left : (c : Config) (phase cset : ℕ) (g : Graph) (number : ℕ) (machine : Machine) → HasNumber c number machine → IsIdle phase cset g number machine → number < c.mutators → is_left_of machine ≡ true
-mutator_left c phase cset g number (mutating m) has is below = rests_left m.spot is.1
-mutator_left c phase cset g number (helping h) has is below = absurd (omega (arith, has.1, below))
-mutator_left c phase cset g number (controlling k) has is below = absurd (omega (arith, has, below))
+mutator_left c phase cset g number machine has is below =
+    let role = mutator_of c number machine has below in
+    subst (λ x. IsIdle phase cset g number x → is_left_of x ≡ true) (sym role.1) (λ calm. rests_left role.0.spot calm.1) is
 
 other_left : (c : Config) (number : ℕ) (machine : Machine) → HasNumber c number machine → c.mutators ≤ number → is_left_of machine ≡ false
 other_left c number (mutating m) has above = absurd (omega (arith, has.1, above))
-other_left c number (helping h) has above = refl
-other_left c number (controlling k) has above = refl
+other_left c number _ has above = refl
 
 module _ (c : Config) (s : Stage Actor) (g : Graph) (begins : Begins c s g) where
   pub begins_shaken : IsShaken c standing s

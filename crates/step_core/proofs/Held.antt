@@ -9,9 +9,9 @@ use Rattle.handshake.specs.Shaken.{IsShaken}
 use Rattle.handshake.proofs.Still.{pause_empty}
 use Rattle.control_steps.specs.declared.spot.ControlSpot.{ControlSpot}
 use Rattle.control_steps.specs.declared.spot.ControlSpot.TheVariants.{StoreWord}
-use Rattle.step_core.specs.Actor.{Machine, mutating, helping, controlling, Actor}
+use Rattle.step_core.specs.Actor.{Machine, controlling, Actor}
 use Rattle.step_core.specs.Settled.{stored_image, image_in, image_of, control_number}
-use Rattle.step_core.specs.Standing.{standing_of}
+use Rattle.step_core.specs.Machines.{standing_of}
 use Rattle.step_core.proofs.MachinesObey.{standing}
 
 -- the handshake is kept in a stage
@@ -20,13 +20,12 @@ IsKept c s = IsShaken c standing s
 
 -- while an image counts the control works in a pause
 pub holding_pauses : (machine : Machine) (image : List ℕ) → image_in machine ≡ Some image → is_pausing (standing_of machine) ≡ true
-holding_pauses (mutating m) image is = absurd (cc (is))
-holding_pauses (helping h) image is = absurd (cc (is))
 holding_pauses (controlling k) image is = by_spot k.spot is
   where
     by_spot : (spot : ControlSpot) → stored_image spot k.image ≡ Some image → is_pausing (standing_of (controlling (record k { spot = spot }))) ≡ true
     by_spot (StoreWord index) held = refl
     by_spot _ held = absurd (cc (held))
+holding_pauses _ image is = absurd (cc (is))
 
 module _ (c : Config) (s : Stage Actor) where
   -- the image that counts in the stage

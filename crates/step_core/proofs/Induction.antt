@@ -13,19 +13,18 @@ use Rattle.shen_graph.specs.History.{Entry, after, of_thread}
 use Rattle.handshake.proofs.Shaking.{shaken_step}
 use Rattle.handshake.proofs.Counting.{counted_step}
 use Rattle.handshake.specs.Left.{IsCounted}
-use Rattle.heap_world.specs.World.{World}
 use Rattle.heap_world.specs.Change.{Change, IsPause}
 use Rattle.helper.specs.Rows as help
 use Rattle.control_steps.specs.Rows.{is_gone}
 use Rattle.step_core.specs.Actor.{Machine, mutating, helping, controlling, Actor}
-use Rattle.step_core.specs.Machines.{takes_of, kind, told_by}
-use Rattle.step_core.specs.History.{told_of_machine, told, history}
+use Rattle.step_core.specs.Machines.{takes_of, kind}
+use Rattle.step_core.specs.History.{told_of_machine, told, history, told_by}
 use Rattle.step_core.specs.Sound.{world_of}
 use Rattle.step_core.proofs.Facts.{IsMachine, Follows}
-use Rattle.step_core.proofs.MachinesObey.{CanGo, standing, is_left, event_obeys, event_counts}
+use Rattle.step_core.proofs.MachinesObey.{standing, is_left, event_obeys, event_counts}
 use Rattle.step_core.proofs.Helpers.{is_off}
 use Rattle.step_core.proofs.Held.{IsKept}
-use Rattle.step_core.proofs.Roles.{number_of}
+use Rattle.step_core.proofs.Roles.{number_of, can_go}
 use Rattle.step_core.proofs.MutatorEvents.{follows_mutator}
 use Rattle.step_core.proofs.HelperEvents.{follows_helper}
 use Rattle.step_core.proofs.ControlEvents.{by_spot}
@@ -51,12 +50,6 @@ pub record Goes (c : Config) (g : Graph) (s : Stage Actor) (past : List Entry) :
   pub follows : Follows c g s past
   pub shaken : IsKept c s
   pub counted : IsCounted c is_left s
-
--- a machine that is where it should be can make its next access
-pub can_go : (c : Config) (words : List ℕ) (w : World) (entries : List Entry) (number : ℕ) (a : Actor) (machine : Machine) → IsMachine c words w entries number a machine → CanGo c machine
-can_go c words w es number a (mutating m) is = is.mine.ready
-can_go c words w es number a (helping h) is = is.ready
-can_go c words w es number a (controlling k) is = is.ready
 
 -- an event, of a machine that is there or not
 pub goes_event : (change : Change) → IsPause change → (c : Config) (g : Graph) (s : Stage Actor) (past : List Entry) (e : Event Order) → Goes c g s past → Goes c g (act (kind change c) s e) (past ++ told c s e)

@@ -41,6 +41,9 @@ pub mod Refusing
 pub mod Entries
 pub mod Roots
 pub mod Owing
+pub mod Ends
+pub mod GoOn
+pub mod FitProps
 pub mod Roles
 pub mod Reading
 pub mod Polling

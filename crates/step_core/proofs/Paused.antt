@@ -33,19 +33,20 @@ use Rattle.heap_world.specs.Change.{Change, Answers, IsDue, IsPause, IsPaused, i
 use Rattle.heap_world.specs.Represents.{NobodyMarks, NobodyCopies, Represents}
 use Rattle.heap_world.specs.Roots.{HasNoMore}
 use Rattle.control_steps.specs.declared.spot.ControlSpot.TheVariants.{StoreWord}
-use Rattle.step_core.specs.Actor.{Machine, mutating, helping, controlling, Actor}
+use Rattle.step_core.specs.Actor.{Machine, mutating, controlling, Actor}
 use Rattle.step_core.specs.Settled.{mixed, settled_by, control_number}
-use Rattle.step_core.specs.Own.{root_now, IsInHand}
-use Rattle.step_core.specs.Standing.{standing_at, standing_of}
+use Rattle.step_core.specs.Own.{root_now}
+use Rattle.step_core.specs.Standing.{standing_at}
+use Rattle.step_core.specs.Machines.{standing_of}
 use Rattle.step_core.proofs.Stepped.{recording_of, has_phase, has_set, copies_at, HasMarkingBy, HasCopyingBy, IsMaking, IsPolling, IsAnswered, SpotFacts, Mine}
 use Rattle.step_core.specs.Threads.{IsSettled}
 use Rattle.step_core.proofs.Facts.{IsSeen, IsShort, AreRead, IsThread, IsResting, IsMachine, PromisedToMutators, Owes, words_promised}
 use Rattle.step_core.proofs.Asked.{asking_by, asking_asks, asking_refused, asking_given, asking_at, asking_in, asking_of, asked_same, polling_asked, answered_asked, nothing_then, refused_then, given_then, asks_then, promised_given}
 use Rattle.step_core.proofs.Images.{mixed_whole}
-use Rattle.step_core.proofs.Helpers.{rests_outside, help_outside}
 use Rattle.step_core.proofs.Pauses.{open_world}
 use Rattle.step_core.proofs.Replies.{answered_polls}
-use Rattle.step_core.proofs.Roles.{full_settled, machine_there, mutator_there, unmarking_by, uncopying_by, rests_by}
+use Rattle.step_core.proofs.Roles.{full_settled, machine_there, mutator_there, unmarking_by, uncopying_by, rests_by, rests_there, outside_goes_on}
+use Rattle.step_core.proofs.Within.{records_outside, copies_outside}
 use Rattle.step_core.proofs.Spots.{mutator_at}
 
 -- an image has words
@@ -61,25 +62,7 @@ root_outside w seat kept (Waiting at) i out = refl
 root_outside w seat kept Gone i out = refl
 root_outside w seat kept _ i out = cc
 
--- and no room
-none_outside : (kept : Kept) (spot : Spot) (a words : ℕ) → is_within (standing_at spot) ≡ false → IsInHand kept spot a words → ⊥
-none_outside kept Rest a words out is = is
-none_outside kept (Ended reply) a words out is = is
-none_outside kept (Entering at then_on) a words out is = is
-none_outside kept (Waiting at) a words out is = is
-none_outside kept Gone a words out is = is
-none_outside kept _ a words out is = cc
-
--- it is about to record nothing
-records_outside : (spot : Spot) → is_within (standing_at spot) ≡ false → recording_of spot ≡ None
-records_outside Rest out = refl
-records_outside (Ended reply) out = refl
-records_outside (Entering at then_on) out = refl
-records_outside (Waiting at) out = refl
-records_outside Gone out = refl
-records_outside _ out = absurd (cc (out))
-
--- and its call has not loaded the phase, or knows it no more
+-- its call has not loaded the phase, or knows it no more
 phase_outside : (spot : Spot) → is_within (standing_at spot) ≡ false → has_phase spot ≡ false
 phase_outside Rest out = refl
 phase_outside (Ended reply) out = refl
@@ -94,15 +77,7 @@ marking_outside c w seat loaded spot out unmarking below =
     subst (λ in_hand. HasMarkingBy w seat in_hand loaded (has_phase spot)) (sym (records_outside spot out))
     (subst (λ knows. HasMarkingBy w seat None loaded knows) (sym (phase_outside spot out)) (unmarking_by c w seat loaded unmarking below))
 
--- it copies nothing, and its call has not loaded the collection set, or knows it no more
-copies_outside : (spot : Spot) → is_within (standing_at spot) ≡ false → copies_at spot ≡ false
-copies_outside Rest out = refl
-copies_outside (Ended reply) out = refl
-copies_outside (Entering at then_on) out = refl
-copies_outside (Waiting at) out = refl
-copies_outside Gone out = refl
-copies_outside _ out = absurd (cc (out))
-
+-- nor the collection set
 set_outside : (spot : Spot) → is_within (standing_at spot) ≡ false → has_set spot ≡ false
 set_outside Rest out = refl
 set_outside (Ended reply) out = refl
@@ -323,26 +298,15 @@ module _ (c : Config) (words : List ℕ) (block : Plot) (ghost : Ghost) (g : Gra
   mutator_asks : (t : ℕ) (b : Actor) (m : Mutating) → slice_get machines t ≡ Some b → b.machine ≡ mutating m → asking t ≡ asking_at m.spot (view c words (Answer t)) m.kept.command
   mutator_asks t b m there is = ap (λ o. asking_of o (view c words (Answer t))) there ∙ ap (λ machine. asking_in machine (view c words (Answer t))) is
 
-  -- the machine of a seat neither marks nor copies, nor does it work on a unit
-  record IsIdleSeat (seat : ℕ) : Type 0 where
-    pub records_none : ghost.recording seat ≡ None
-    pub scans_none : ghost.scanning seat ≡ None
-    pub copies_none : ghost.copying seat ≡ false
-    pub works_none : ghost.working seat ≡ None
+  -- every machine rests
+  all_rest : AllKnown → AllOutside → (seat : ℕ) → seat < seat_count c.mutators c.helpers → IsResting before seat
+  all_rest known outside seat below =
+      let there = machine_there c words before past machines seats seat below in
+      rests_there c words before (of_thread past (seat + 1)) seat there.0 there.0.machine (outside seat there.0 there.1) (λ e. subst (IsResting before) (sym e) still) (known seat there.0 there.1)
 
   -- nobody has room in hand
-  none_of : (k : ℕ) (b : Actor) (machine : Machine) → (k ≢ control_number c → is_within (standing_of machine) ≡ false) → IsMachine c words before (of_thread past (k + 1)) k b machine
-      → (a more : ℕ) → block a ≡ Some (hand k more) → ⊥
-  none_of k b (mutating m) outside is a more here =
-      let below : k < c.mutators = subst (λ j. j < c.mutators) is.number_is is.mine.seated.below in
-      none_outside m.kept m.spot a more (outside (mutator_is_not_control c k below)) (is.mine.hands a more (subst (λ j. block a ≡ Some (hand j more)) (sym is.number_is) here))
-  none_of k b (helping h) outside is a more here = (rests_outside c before k h.spot (outside (λ e. (let below = is.below in omega (arith, below, e)))) is.facts).hands a more here
-  none_of k b (controlling h) outside is a more here = still.hands a more (subst (λ j. block a ≡ Some (hand j more)) is.number_is here)
-
   pub no_hands : Shared c before → AllKnown → AllOutside → (a seat more : ℕ) → block a ≡ Some (hand seat more) → ⊥
-  no_hands shared known outside a seat more here =
-      let there = machine_there c words before past machines seats seat (shared.owned.rooms a seat more here).seated in
-      none_of seat there.0 there.0.machine (outside seat there.0 there.1) (known seat there.0 there.1) a more here
+  no_hands shared known outside a seat more here = (all_rest known outside seat (shared.owned.rooms a seat more here).seated).hands a more here
 
   -- what it has asked for stands in the words
   asked_there : AllKnown → AllOutside → (t : ℕ) → t < c.mutators → IsAsked (view c words) block g.count t (asking t)
@@ -365,30 +329,6 @@ module _ (c : Config) (words : List ℕ) (block : Plot) (ghost : Ghost) (g : Gra
       let asks_so : asking_at m.spot (view c words (Answer m.seat)) m.kept.command ≡ asks refs nums =
       ap (λ j. asking_at m.spot (view c words (Answer j)) m.kept.command) thread.number_is ∙ sym (mutator_asks t there.0 m there.2 there.3) ∙ is in
       heard_outside c before m.seat m.made refs nums m.kept m.spot there.0.command thread.fixed out thread.mine asks_so
-
-  -- every machine rests
-  rests_of : (k : ℕ) (b : Actor) (machine : Machine) → (k ≢ control_number c → is_within (standing_of machine) ≡ false) → IsMachine c words before (of_thread past (k + 1)) k b machine → IsIdleSeat k
-  rests_of k b (mutating m) outside is =
-      let below : k < c.mutators = subst (λ j. j < c.mutators) is.number_is is.mine.seated.below in
-      let out = outside (λ e. omega (arith, below, e)) in
-      subst IsIdleSeat is.number_is
-      (record {
-        records_none = is.mine.marking.records ∙ records_outside m.spot out;
-        scans_none = is.mine.marking.scans;
-        copies_none = is.mine.copying.copies_is ∙ copies_outside m.spot out;
-        works_none = is.mine.copying.works_none;
-      })
-  rests_of k b (helping h) outside is =
-      let rests = rests_outside c before k h.spot (outside (λ e. (let below = is.below in omega (arith, below, e)))) is.facts in
-      record { records_none = rests.records_none; scans_none = rests.scans_none; copies_none = rests.copies_none; works_none = rests.works_none }
-  rests_of k b (controlling h) outside is =
-      subst IsIdleSeat (sym is.number_is)
-      (record { records_none = still.records_none; scans_none = still.scans_none; copies_none = still.copies_none; works_none = still.works_none })
-
-  all_rest : AllKnown → AllOutside → (seat : ℕ) → seat < seat_count c.mutators c.helpers → IsIdleSeat seat
-  all_rest known outside seat below =
-      let there = machine_there c words before past machines seats seat below in
-      rests_of seat there.0 there.0.machine (outside seat there.0 there.1) (known seat there.0 there.1)
 
   nobody_marks : AllKnown → AllOutside → NobodyMarks c ghost
   nobody_marks known outside = record {
@@ -477,15 +417,10 @@ module _ (c : Config) (words : List ℕ) (block : Plot) (ghost : Ghost) (g : Gra
     -- any machine but the control
     machine_then : (k : ℕ) (b : Actor) (machine : Machine) → slice_get machines k ≡ Some b → b.machine ≡ machine → k ≢ control_number c → is_within (standing_of machine) ≡ false
         → IsMachine c words before (of_thread past (k + 1)) k b machine → IsMachine c words then_world (of_thread past (k + 1)) k b machine
-    machine_then k b (mutating m) there is other out thread = mutator_then k b m there is out thread
-    machine_then k b (helping h) there is other out thread = record {
-      number_is = thread.number_is;
-      ready = thread.ready;
-      facts = help_outside c then_world k h.spot out (rests_by c then_world k paused.stands.unmarking paused.stands.uncopying (λ a more. paused.stands.none a k more) (let below = thread.below in omega (arith, below)));
-      least = thread.least;
-      below = thread.below;
-    }
-    machine_then k b (controlling h) there is other out thread = absurd (other thread.number_is)
+    machine_then k b machine there is other out facts =
+        outside_goes_on c words before then_world (of_thread past (k + 1)) k b machine other out
+        (λ seated. rests_by c then_world k paused.stands.unmarking paused.stands.uncopying (λ a more. paused.stands.none a k more) seated)
+        (λ m role. mutator_then k b m there (is ∙ role) (ap (λ x. is_within (standing_of x)) (sym role) ∙ out)) facts
 
     -- what the control owes
     pub paused_owes : (seen : ℕ) (command : Command) (calls : List Entry) → Owes c words words before past (control_number c) machines (settled_by c words (Some (change c image))) []

@@ -36,7 +36,7 @@ use Rattle.control_steps.specs.declared.spot.ControlSpot.{ControlSpot}
 use Rattle.control_steps.specs.declared.spot.ControlSpot.TheVariants.{LookLeft, StoreEnd, LookAsked, LookFree, Scanning, Evacuating, Updating, Stopping, Go}
 use Rattle.control_steps.specs.Rows.{Controlling, control_touch, control_next, stopping, after_scan, after_evacuation, after_updating, begins_pause, begins_unit, unasked, wants_pause}
 use Rattle.control_steps.proofs.Ready.{stays_ready}
-use Rattle.step_core.specs.Actor.{Machine, mutating, helping, controlling, Actor}
+use Rattle.step_core.specs.Actor.{Machine, controlling, Actor}
 use Rattle.step_core.specs.Settled.{stored_image, settled_by, control_number}
 use Rattle.step_core.proofs.Facts.{IsResting, Scans, ControlFacts, IsAim, IsControl, IsMachine, PromisedToMutators, Owes}
 use Rattle.step_core.proofs.Images.{words_after, view-placed}
@@ -50,9 +50,8 @@ use Rattle.step_core.proofs.Quiet.{quiet_owes}
 -- another machine is no control
 pub no_other_control : (c : Config) (words : List ℕ) (u : World) (entries : List Entry) (k : ℕ) (b : Actor) (machine : Machine) → k ≢ control_number c → IsMachine c words u entries k b machine
     → (control : Controlling) → machine ≡ controlling control → ⊥
-no_other_control c words u entries k b (mutating m) other is control same = cc
-no_other_control c words u entries k b (helping h) other is control same = cc
 no_other_control c words u entries k b (controlling h) other is control same = other is.number_is
+no_other_control c words u entries k b _ other is control same = cc
 
 -- the world of a stage in which the table counts
 abbrev pub open_world : Config → List ℕ → Plot → Ghost → Graph → World

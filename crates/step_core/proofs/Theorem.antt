@@ -45,9 +45,9 @@ use Rattle.control_steps.proofs.Ready.{accesses_inside}
 use Rattle.step_core.specs.Actor.{Machine, mutating, helping, controlling, Actor}
 use Rattle.step_core.specs.Begins.{Begins, Run, ending, history_in, first_graph, reached, past}
 use Rattle.step_core.specs.Begun.{begun}
-use Rattle.step_core.specs.Fit.{IsFitFor, IsWhole}
+use Rattle.step_core.specs.Fit.{IsWhole}
 use Rattle.step_core.specs.History.{told, history}
-use Rattle.step_core.specs.Machines.{takes_of, plan_of, took_of, machine_after, kind}
+use Rattle.step_core.specs.Machines.{takes_of, plan_of, took_of, machine_after, kind, IsFitFor, standing_of}
 use Rattle.step_core.specs.Pausing.{IsInPause, IsHelper, IsEmpty}
 use Rattle.step_core.specs.Settled.{settled, control_number}
 use Rattle.step_core.specs.Sound.{world_of, IsMutator, IsOfHeap, FindsFit, IsSound}
@@ -61,7 +61,7 @@ use Rattle.step_core.proofs.Images.{found-placed}
 use Rattle.step_core.proofs.ControlEvents.{whole_stands, scan_fit, evac_fit, update_fit}
 use Rattle.step_core.proofs.Helpers.{help_leaves_image, help_word, help_fits, help_fits_outside}
 use Rattle.step_core.proofs.PartFits.{part_fits, part_outside, within_call}
-use Rattle.step_core.proofs.Held.{held_image, outside_held}
+use Rattle.step_core.proofs.Held.{IsKept, held_image, outside_held}
 use Rattle.step_core.proofs.Images.{settled_found}
 use Rattle.mutator.proofs.Orders.{in_call}
 use Rattle.step_core.proofs.Induction.{Goes, goes_event, goes_run}
@@ -69,7 +69,7 @@ use Rattle.step_core.proofs.MachinesObey.{standing, is_left}
 use Rattle.step_core.proofs.MutatorObeys.{has_not_ended}
 use Rattle.step_core.proofs.Ordered.{order_word}
 use Rattle.step_core.proofs.Outside.{outside_touch}
-use Rattle.step_core.specs.Standing.{standing_at, help_standing, standing_of}
+use Rattle.step_core.specs.Standing.{standing_at, help_standing}
 use Rattle.step_core.proofs.Replies.{unsettled_at_rest, unsettled_before, settled_after}
 use Rattle.step_core.proofs.Requests.{has_asked}
 use Rattle.step_core.proofs.Roles.{number_of, mutator_of, machine_there}
@@ -294,7 +294,13 @@ module _ (change : Change) (law : IsPause change) (c : Config) (g : Graph) (s : 
       let facts = subst (λ machine. IsMachine c s.words the_world (of_thread h (number + 1)) number a machine) is (known number a here) in
       (facts.ready, facts.aims)
 
--- In a pause no mutator and no helper is in the heap, and each leaves the image alone.
+-- In a pause no machine but the control is in the heap.
+pub outside_in_pause : (c : Config) (s : Stage Actor) → IsKept c s → IsInPause c s → (number : ℕ) (a : Actor) → number < control_number c → slice_get s.machines number ≡ Some a → is_within (standing_of a.machine) ≡ false
+outside_in_pause c s shaken pause number a below here =
+    let same : shaken.control ≡ pause.actor = same_Some shaken.control pause.actor (sym shaken.there ∙ pause.here) in
+    pause_empty c standing s shaken (ap is_pausing (ap standing same ∙ ap standing_of pause.is) ∙ pause.pausing) number a below here
+
+-- No mutator and no helper is, and each leaves the image alone.
 pause_is_empty : (change : Change) → IsPause change → (c : Config) (g : Graph) (s : Stage Actor) (h : List Entry) → Goes c g s h → IsInPause c s → IsEmpty c s
 pause_is_empty change law c g s h goes pause = record {
   nobody = out;
@@ -303,21 +309,16 @@ pause_is_empty change law c g s h goes pause = record {
   only_polls = λ number a m order here takes. outside_touch c m.seat m.made m.kept order m.spot (out number a m here) takes;
 }
   where
-    pausing : is_pausing (standing goes.shaken.control) ≡ true
-    pausing =
-        let same : goes.shaken.control ≡ pause.actor = same_Some goes.shaken.control pause.actor (sym goes.shaken.there ∙ pause.here) in
-        ap is_pausing (ap standing same ∙ ap standing_of pause.is) ∙ pause.pausing
-
     out : (number : ℕ) (a : Actor) (m : Mutating) → IsMutator s number a m → is_within (standing_at m.spot) ≡ false
     out number a m here =
         let thread = thread_of change law c g s h goes number a m here in
         let below : number < control_number c = (let less = subst (λ k. k < c.mutators) thread.number_is thread.mine.seated.below in omega (arith, less)) in
-        ap (λ machine. is_within (standing_of machine)) (sym here.is) ∙ pause_empty c standing s goes.shaken pausing number a below here.here
+        ap (λ machine. is_within (standing_of machine)) (sym here.is) ∙ outside_in_pause c s goes.shaken pause number a below here.here
 
     help_out : (number : ℕ) (a : Actor) (m : Helping) → IsHelper s number a m → is_within (help_standing m.spot) ≡ false
     help_out number a m here =
         let facts = subst (λ machine. IsMachine c s.words (world_of c s goes.follows.block goes.follows.ghost (after g h)) (of_thread h (number + 1)) number a machine) here.is (goes.follows.machines number a here.here) in
-        ap (λ machine. is_within (standing_of machine)) (sym here.is) ∙ pause_empty c standing s goes.shaken pausing number a facts.below here.here
+        ap (λ machine. is_within (standing_of machine)) (sym here.is) ∙ outside_in_pause c s goes.shaken pause number a facts.below here.here
 
 module _ (change : Change) (law : IsPause change) (c : Config) (s : Stage Actor) (g : Graph) (begins : Begins c s g) where
   -- in each stage that events lead to all goes as it should

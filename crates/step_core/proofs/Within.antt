@@ -1,5 +1,5 @@
--- Where a mutator goes on that is in the heap: it stays in the heap until it leaves.
-use Rattle.std.proofs.Common.{◌≡◌, ℕ, Bool, true, false, refl}
+-- Where a mutator goes on that is in the heap: it stays in the heap until it leaves. Outside it has nothing in hand.
+use Rattle.std.proofs.Common.{◌≡◌, ℕ, Bool, true, false, None, refl}
 use Rattle.std.specs.Prelude.{◌==◌, nat_lt, length, if◌then◌else◌}
 use Rattle.heap_words.specs.declared.config.Config.{Config}
 use Rattle.shen_graph.specs.declared.command.Command.{Command}
@@ -15,7 +15,8 @@ use Rattle.satb_barrier.specs.declared.spot.RememberSpot.{RememberSpot}
 use Rattle.satb_barrier.specs.declared.spot.RememberSpot.TheVariants.{LoadCount, Recorded}
 use Rattle.satb_barrier.specs.Rows as satb
 use Rattle.mutator.specs.declared.spot.Spot.{Spot}
-use Rattle.mutator.specs.declared.spot.Spot.TheVariants.{Entering, LoadPhase, LoadSet, Loading, OnField, Resolving, Recording, OnNumber, Showing, StoreRoot, Making, AskCycle, Waiting, Leave}
+use Rattle.mutator.specs.declared.spot.Kept.{Kept}
+use Rattle.mutator.specs.declared.spot.Spot.TheVariants.{Rest, Ended, Gone, Entering, LoadPhase, LoadSet, Loading, OnField, Resolving, Recording, OnNumber, Showing, StoreRoot, Making, AskCycle, Waiting, Leave}
 use Rattle.mutator.specs.declared.spot.Entered.{Entered}
 use Rattle.mutator.specs.declared.spot.Entered.TheVariants.{Call, Waited}
 use Rattle.mutator.specs.declared.loads.LoadSpot.TheVariants as load
@@ -36,7 +37,9 @@ use Rattle.mutator.specs.declared.waits.WaitSpot.TheVariants as wait
 use Rattle.mutator.specs.Commands.{roots_of, lacks_object, has_part}
 use Rattle.mutator.specs.Rows.{Mutating, first_spot, after_roots, after_first, with_part, is_to_record, overwritten, after_recording, after_remember, after_resolved, after_resolve, with_loaded, after_take, take_next, next_at}
 use Rattle.mutator.specs.WaitRows.{after_enter}
+use Rattle.step_core.specs.Own.{IsInHand}
 use Rattle.step_core.specs.Standing.{standing_at, wait_standing}
+use Rattle.step_core.proofs.Stepped.{recording_of, copies_at}
 
 -- a spot in the heap
 abbrev pub IsIn : Spot → Type 0
@@ -150,3 +153,30 @@ goes_on_in c m order got (Entering enter.Inside next) is = goes_in next
     goes_in Call = refl
     goes_in Waited = refl
 goes_on_in c m order got _ is = cc
+
+-- a mutator that is not in the heap has no room in hand
+pub none_outside : (kept : Kept) (spot : Spot) (a words : ℕ) → is_within (standing_at spot) ≡ false → IsInHand kept spot a words → ⊥
+none_outside kept Rest a words out is = is
+none_outside kept (Ended reply) a words out is = is
+none_outside kept (Entering at then_on) a words out is = is
+none_outside kept (Waiting at) a words out is = is
+none_outside kept Gone a words out is = is
+none_outside kept _ a words out is = cc
+
+-- it is about to record nothing
+pub records_outside : (spot : Spot) → is_within (standing_at spot) ≡ false → recording_of spot ≡ None
+records_outside Rest out = refl
+records_outside (Ended reply) out = refl
+records_outside (Entering at then_on) out = refl
+records_outside (Waiting at) out = refl
+records_outside Gone out = refl
+records_outside _ out = absurd (cc (out))
+
+-- and it copies nothing
+pub copies_outside : (spot : Spot) → is_within (standing_at spot) ≡ false → copies_at spot ≡ false
+copies_outside Rest out = refl
+copies_outside (Ended reply) out = refl
+copies_outside (Entering at then_on) out = refl
+copies_outside (Waiting at) out = refl
+copies_outside Gone out = refl
+copies_outside _ out = absurd (cc (out))

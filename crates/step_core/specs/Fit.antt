@@ -1,17 +1,12 @@
--- Which words machines can go on from, by their roles.
+-- Which words the control can go on from as it reads an image.
 use Rattle.std.specs.Prelude.{ℕ, ◌≡◌, ◌+◌, List, [], ◌∷◌, ◌++◌}
 use Rattle.heap_words.specs.declared.config.Config.{Config}
-use Rattle.shen_graph.specs.declared.order.Order.{Order}
 use Rattle.shen_graph.specs.Graph.{Graph}
 use Rattle.heap_world.specs.Asking.{Asking}
 use Rattle.heap_world.specs.Represents.{Represents}
 use Rattle.heap_world.specs.Change.{image_view, image_words}
-use Rattle.mutator.specs.Fit.{IsFit}
-use Rattle.helper.specs.Ready as help
-use Rattle.control_steps.specs.Ready.{UnitGoesOn}
 use Rattle.control_steps.specs.declared.spot.ControlSpot.{ControlSpot}
 use Rattle.control_steps.specs.declared.spot.ControlSpot.TheVariants.{LoadWord}
-use Rattle.step_core.specs.Actor.{Machine, mutating, helping, controlling}
 
 -- an image stands for some graph, with the requests of some threads
 abbrev pub StandsForSome : Config → List ℕ → Type 0
@@ -21,9 +16,3 @@ StandsForSome c image = ∥ ((g : Graph) × (asking : ℕ → Asking) × Represe
 abbrev pub IsWhole : Config → ControlSpot → List ℕ → ℕ → Type 0
 IsWhole c (LoadWord index) image got = index + 1 ≡ image_words c → StandsForSome c (image ++ got ∷ [])
 IsWhole c _ image got = Unit {0}
-
--- a machine can go on from a word
-abbrev pub IsFitFor : Config → Order → ℕ → Machine → Type 0
-IsFitFor c order got (mutating m) = IsFit c m order got
-IsFitFor c order got (helping h) = help.IsFit c h got
-IsFitFor c order got (controlling k) = IsWhole c k.spot k.image got × UnitGoesOn c k.spot got

@@ -5,8 +5,13 @@ use Rattle.heap_world.specs.Change.{Change}
 use Rattle.steps_base.specs.Steps.{Stage, Event, act}
 use Rattle.shen_graph.specs.declared.order.Order.{Order}
 use Rattle.shen_graph.specs.History.{Entry}
-use Rattle.step_core.specs.Actor.{Actor}
-use Rattle.step_core.specs.Machines.{takes_of, told_by, kind}
+use Rattle.step_core.specs.Actor.{Machine, Actor}
+use Rattle.step_core.specs.Machines.{takes_of, told_with, kind}
+use Rattle.step_core.specs.Settled.{settled}
+
+-- the entries that a step of a machine settles
+abbrev pub told_by : Config → Stage Actor → Actor → Order → Machine → List Entry
+told_by c s a order machine = told_with c (settled c s) s a order machine
 
 -- the entries that an event of this machine settles
 abbrev pub told_of_machine : Config → Stage Actor → Event Order → Option Actor → List Entry

@@ -1,5 +1,6 @@
--- What machines do, by their roles: the orders that they take, their accesses, what follows, what they say, and what their
--- accesses settle. Each function has one clause a role, and no other file of definitions tells the roles apart.
+-- What machines do, by their roles: the orders that they take, their accesses, what follows, what they say, what their accesses settle,
+-- where they stand, and what they can go on from. Each function has one clause a role. Two files of definitions tell the roles apart
+-- besides: `Shown.antt` of heap_machines, for the machines in memory, and `InHand.antt` of recycled, for the addresses in hand.
 use Rattle.std.specs.Prelude.{ℕ, ◌≡◌, ◌+◌, ◌<◌, ◌≤◌, ◌==◌, Bool, true, false, ◌&&◌, List, [], ◌++◌, length, Option, Some, None, slice_get, slice_index, if◌then◌else◌}
 use Rattle.heap_words.specs.declared.config.Config.{Config}
 use Rattle.heap_words.specs.declared.access.Access.{Access}
@@ -21,6 +22,7 @@ use Rattle.shen_graph.specs.declared.order.Order.TheVariants.{Nothing, Begin, En
 use Rattle.shen_graph.specs.Order.{is_nothing}
 use Rattle.shen_graph.specs.Graph.{Graph}
 use Rattle.shen_graph.specs.History.{Entry}
+use Rattle.handshake.specs.Standing.{Standing}
 use Rattle.mutator.specs.declared.spot.Spot.{Spot}
 use Rattle.mutator.specs.declared.spot.Spot.TheVariants.{Recording, Waiting, Leave}
 use Rattle.mutator.specs.declared.overwrites.Overwritten.{Overwritten}
@@ -29,17 +31,21 @@ use Rattle.mutator.specs.declared.waits.WaitSpot.TheVariants as wait
 use Rattle.mutator.specs.Orders.{is_between_calls, takes_commands, takes_at}
 use Rattle.mutator.specs.Rows.{touch_of, next_of, given_at, answer_at, reply_at, place_at}
 use Rattle.mutator.specs.Told.{told_of}
+use Rattle.mutator.specs.Fit.{IsFit}
 use Rattle.mutator.specs.Waits.{WaitsAt}
 use Rattle.helper.specs.declared.spot.HelpSpot.TheVariants.{LoadEnd}
 use Rattle.helper.specs.Rows as help
 use Rattle.helper.specs.Rows.{help_place, help_touch, help_next, help_says}
 use Rattle.helper.specs.Waits as helpers
+use Rattle.helper.specs.Ready as ready
 use Rattle.control_steps.specs.declared.spot.ControlSpot.{ControlSpot}
 use Rattle.control_steps.specs.declared.spot.ControlSpot.TheVariants.{LookLeft, StoreWord}
-use Rattle.control_steps.specs.Rows.{control_place, control_access, control_next, control_says, is_gone}
+use Rattle.control_steps.specs.Rows.{Controlling, control_place, control_access, control_next, control_says, is_gone}
 use Rattle.control_steps.specs.Waits as control
+use Rattle.control_steps.specs.Ready.{UnitGoesOn}
 use Rattle.step_core.specs.Actor.{Machine, mutating, helping, controlling, Actor, entries_of, command_by}
-use Rattle.step_core.specs.Settled.{settled}
+use Rattle.step_core.specs.Fit.{IsWhole}
+use Rattle.step_core.specs.Standing.{standing_at, help_standing, control_standing}
 
 -- whether it takes the order
 abbrev pub takes_of : Machine → Order → Bool
@@ -90,22 +96,37 @@ abbrev pub told_storing : Config → Stage Actor → ControlSpot → List ℕ �
 told_storing c s (StoreWord index) image = told_word s.machines (name_of c (image_start c + index)) (slice_index s.words (image_start c + index)) (slice_index image index)
 told_storing c s _ image = []
 
--- what its step settles: entries of any threads
-abbrev pub told_by : Config → Stage Actor → Actor → Order → Machine → List Entry
-told_by c s a order (mutating m) = entries_of m.seat (command_by order a.command) (told_of (settled c s) m)
-told_by c s a order (helping h) = []
-told_by c s a order (controlling k) = told_storing c s k.spot k.image
+-- what its step settles, by the words that count: entries of any threads
+abbrev pub told_with : Config → (Word → ℕ) → Stage Actor → Actor → Order → Machine → List Entry
+told_with c memory s a order (mutating m) = entries_of m.seat (command_by order a.command) (told_of memory m)
+told_with c memory s a order (helping h) = []
+told_with c memory s a order (controlling k) = told_storing c s k.spot k.image
+
+-- the image that counts, if one does: while the control writes it back
+abbrev pub stored_image : ControlSpot → List ℕ → Option (List ℕ)
+stored_image (StoreWord index) image = Some image
+stored_image _ image = None
+
+-- and of a machine
+abbrev pub image_in : Machine → Option (List ℕ)
+image_in (controlling k) = stored_image k.spot k.image
+image_in _ = None
 
 -- what a mutator does between two calls: it begins the command that follows in its script, and ends where there is none
 abbrev pub next_order : Option Command → Order
 next_order None = End
 next_order (Some command) = Begin command
 
--- What it does on its turn, by its script and the calls that it has ended: in a call it goes on. It is idle where it has ended.
+-- What it does on its turn, by the command that would follow. In a call it goes on, and so does a helper, and the control. Between two
+-- calls a mutator begins that command, and ends where there is none. It is idle where it has ended.
+abbrev pub order_for : Option Command → Machine → Option Order
+order_for next (mutating m) = if takes_commands m.spot then Some (next_order next) else (if is_between_calls m.spot then None else Some Nothing)
+order_for next (helping h) = if help.is_gone h.spot then None else Some Nothing
+order_for next (controlling k) = if is_gone k.spot then None else Some Nothing
+
+-- and by its script and the calls that it has ended
 abbrev pub order_by : List Command → List Entry → Machine → Option Order
-order_by script calls (mutating m) = if takes_commands m.spot then Some (next_order (slice_get script (length calls))) else (if is_between_calls m.spot then None else Some Nothing)
-order_by script calls (helping h) = if help.is_gone h.spot then None else Some Nothing
-order_by script calls (controlling k) = if is_gone k.spot then None else Some Nothing
+order_by script calls machine = order_for (slice_get script (length calls)) machine
 
 -- whether its next access, under what it does on its turn, stands at a place. A machine that is idle stands nowhere
 abbrev pub is_machine_at : Place → Machine → Option Order → Bool
@@ -117,6 +138,21 @@ abbrev pub reply_in : Machine → Option Reply
 reply_in (mutating m) = reply_at m.spot
 reply_in _ = None
 
+-- the reply that its step gives, if it ends a call
+abbrev pub given_in : Machine → Option Reply
+given_in (mutating m) = given_at m.spot
+given_in _ = None
+
+-- whether it is a mutator
+abbrev pub is_mutating : Machine → Bool
+is_mutating (mutating m) = true
+is_mutating _ = false
+
+-- the control that it is, if it is the control
+abbrev pub control_in : Machine → Option Controlling
+control_in (controlling k) = Some k
+control_in _ = None
+
 -- whether it is a mutator without a call in progress
 abbrev pub is_resting : Machine → Bool
 is_resting (mutating m) = is_between_calls m.spot
@@ -126,6 +162,23 @@ is_resting _ = false
 abbrev pub may_begin : Machine → Bool
 may_begin (mutating m) = takes_commands m.spot
 may_begin _ = false
+
+-- whether it has ended, of a machine that says so: the control
+abbrev pub has_ended_of : Machine → Bool
+has_ended_of (controlling k) = is_gone k.spot
+has_ended_of _ = false
+
+-- where it stands, as far as entering, leaving and stopping go
+abbrev pub standing_of : Machine → Standing
+standing_of (mutating m) = standing_at m.spot
+standing_of (helping h) = help_standing h.spot
+standing_of (controlling k) = control_standing k.spot
+
+-- whether it can go on from a word
+abbrev pub IsFitFor : Config → Order → ℕ → Machine → Type 0
+IsFitFor c order got (mutating m) = IsFit c m order got
+IsFitFor c order got (helping h) = ready.IsFit c h got
+IsFitFor c order got (controlling k) = IsWhole c k.spot k.image got × UnitGoesOn c k.spot got
 
 -- where its step that finds this word says that it waits
 abbrev pub WaitsIn : Config → Machine → ℕ → Type 0

@@ -4,23 +4,14 @@ use Rattle.heap_words.specs.declared.config.Config.{Config}
 use Rattle.heap_words.specs.Words.{Word, view, is_image}
 use Rattle.heap_world.specs.Change.{image_view}
 use Rattle.steps_base.specs.Steps.{Stage}
-use Rattle.control_steps.specs.declared.spot.ControlSpot.{ControlSpot}
-use Rattle.control_steps.specs.declared.spot.ControlSpot.TheVariants.{StoreWord}
-use Rattle.step_core.specs.Actor.{Machine, controlling, Actor}
+use Rattle.step_core.specs.Actor.{Actor}
+pub use Rattle.step_core.specs.Machines.{stored_image, image_in}
 
 -- a table in which the words of an image count as the image has them
 abbrev pub mixed : Config → List ℕ → List ℕ → Word → ℕ
 mixed c words image word = if is_image word then image_view c image word else view c words word
 
--- the image that counts, if one does: while the control writes it back
-abbrev pub stored_image : ControlSpot → List ℕ → Option (List ℕ)
-stored_image (StoreWord index) image = Some image
-stored_image _ image = None
-
-abbrev pub image_in : Machine → Option (List ℕ)
-image_in (controlling k) = stored_image k.spot k.image
-image_in _ = None
-
+-- the image that counts, if one does
 abbrev pub image_of : Option Actor → Option (List ℕ)
 image_of None = None
 image_of (Some a) = image_in a.machine

@@ -28,8 +28,7 @@ use Rattle.heap_world.specs.World.{Ghost, World, Plot, hand, promised, Shared}
 use Rattle.heap_world.specs.Asking.{Asking, asks, given, IsAsked}
 use Rattle.heap_world.specs.Roots.{HasNoMore}
 use Rattle.step_core.specs.Actor.{mutating, Actor, entries_of}
-use Rattle.step_core.specs.Machines.{takes_of, plan_of, HasNumber}
-use Rattle.step_core.specs.Fit.{IsFitFor}
+use Rattle.step_core.specs.Machines.{takes_of, plan_of, HasNumber, IsFitFor}
 use Rattle.step_core.specs.Settled.{settled}
 use Rattle.step_core.specs.Own.{HasItsOwn}
 use Rattle.step_core.specs.Begun.{begun}

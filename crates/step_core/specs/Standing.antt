@@ -8,7 +8,6 @@ use Rattle.helper.specs.declared.spot.HelpSpot.{HelpSpot}
 use Rattle.helper.specs.declared.spot.HelpSpot.TheVariants as help
 use Rattle.control_steps.specs.declared.spot.ControlSpot.{ControlSpot}
 use Rattle.control_steps.specs.declared.spot.ControlSpot.TheVariants.{Stopping, LoadWord, StoreWord, Go}
-use Rattle.step_core.specs.Actor.{Machine, mutating, helping, controlling}
 
 -- an allocation that waits is outside while it looks for its answer
 abbrev pub wait_standing : WaitSpot → Standing
@@ -38,8 +37,3 @@ control_standing (LoadWord index) = works
 control_standing (StoreWord index) = works
 control_standing Go = goes
 control_standing _ = idle
-
-abbrev pub standing_of : Machine → Standing
-standing_of (mutating m) = standing_at m.spot
-standing_of (helping h) = help_standing h.spot
-standing_of (controlling k) = control_standing k.spot

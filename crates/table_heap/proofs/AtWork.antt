@@ -21,7 +21,8 @@ use Rattle.heap_machines.specs.Turn.{order_for}
 use Rattle.heap_machines.proofs.OnScript.{script_step, script_done}
 use Rattle.heap_machines.proofs.Replies.{listed, took_replies, given_after}
 use Rattle.heap_machines.proofs.Names.{HasNames, names_on, names_noted, command_fits}
-use Rattle.heap_machines.proofs.Turns.{turn_in_call, turn_at_rest}
+use Rattle.heap_machines.proofs.Turns.{turn_at_rest}
+use Rattle.step_core.proofs.Roles.{turn_in_call}
 use Rattle.table_heap.specs.Running.{Jobs, CanStartOn, IsAtWork, IsAtWorkOn, IsIdleForGood, HasDone}
 use Rattle.table_heap.proofs.Jobs.{progress_there, script_here, replies_here}
 

@@ -12,12 +12,11 @@ use Rattle.heap_machines.specs.declared.machine.Machine as memory
 use Rattle.heap_machines.specs.declared.machine.Machine.TheVariants as memories
 use Rattle.heap_machines.specs.Shown.{shown, has_turn}
 use Rattle.heap_machines.specs.Roles.{is_mutating}
-use Rattle.step_core.specs.Actor.{Machine, mutating, helping, controlling, Actor}
+use Rattle.step_core.specs.Actor.{Machine, controlling, Actor}
 use Rattle.heap_machines.specs.Pause.{pause_image}
 use Rattle.heap_machines.proofs.Pauses.{heap_pauses}
 use Rattle.step_core.specs.Begins.{Run, first_graph}
-use Rattle.step_core.specs.Fit.{IsFitFor}
-use Rattle.step_core.specs.Machines.{takes_of, plan_of, took_of, kind}
+use Rattle.step_core.specs.Machines.{takes_of, plan_of, took_of, kind, IsFitFor}
 use Rattle.step_core.specs.Opening.{opening_words, opening}
 use Rattle.step_core.specs.Settled.{stored_image, image_in, image_of}
 use Rattle.step_core.proofs.FirstFacts.{opening_begins}
@@ -55,9 +54,8 @@ gone_is_calm (StoreWord index) image gone = absurd cc
 gone_is_calm _ image gone = refl
 
 machine_is_calm : (machine : Machine) → takes_of machine Nothing ≡ false → image_in machine ≡ None
-machine_is_calm (mutating m) idle = refl
-machine_is_calm (helping h) idle = refl
 machine_is_calm (controlling k) idle = gone_is_calm k.spot k.image idle
+machine_is_calm _ idle = refl
 
 pub idle_is_calm : (o : Option Actor) → ((a : Actor) → o ≡ Some a → takes_of a.machine Nothing ≡ false) → image_of o ≡ None
 idle_is_calm None idle = refl
@@ -66,5 +64,4 @@ idle_is_calm (Some a) idle = machine_is_calm a.machine (idle a refl)
 -- a machine that is no mutator and has no turn takes no order
 pub no_turn : (m : memory.Machine) → is_mutating (shown m) ≡ false → has_turn m ≡ false → takes_of (shown m) Nothing ≡ false
 no_turn (memories.Mutator m) other none = absurd cc
-no_turn (memories.Helper h) other none = none
-no_turn (memories.Control k) other none = none
+no_turn _ other none = none

@@ -17,8 +17,7 @@ use Rattle.heap_machines.proofs.Turns.{role_stays}
 use Rattle.step_core.specs.Actor.{Actor}
 use Rattle.heap_machines.specs.Roles.{is_mutating}
 use Rattle.heap_machines.specs.Pause.{pause_image}
-use Rattle.step_core.specs.Fit.{IsFitFor}
-use Rattle.step_core.specs.Machines.{takes_of, plan_of, machine_after}
+use Rattle.step_core.specs.Machines.{takes_of, plan_of, machine_after, IsFitFor}
 use Rattle.table_heap.specs.Core.{heap_kind, heap_opening, machine_in}
 use Rattle.table_heap.specs.Known.{IsOfHeap, AreOfHeap}
 use Rattle.table_heap.proofs.Core.{kind_takes, kind_plan, kind_took, found_fits}

@@ -31,7 +31,7 @@ use Rattle.heap_machines.proofs.Pauses.{heap_pauses}
 use Rattle.heap_machines.specs.Shown.{no_machine}
 use Rattle.heap_machines.specs.Scripts.{HasDoneScript}
 use Rattle.heap_machines.proofs.Standing.{entries_at_rest}
-use Rattle.step_core.specs.Actor.{Machine, mutating, helping, controlling, Actor}
+use Rattle.step_core.specs.Actor.{Machine, controlling, Actor}
 use Rattle.step_core.specs.Schedule.{Scripts, nth_script, turn_of}
 use Rattle.step_core.specs.Begun.{begun_by, begun}
 use Rattle.step_core.specs.Settled.{control_number, stored_image, image_in}
@@ -130,9 +130,8 @@ gone_stores_none _ image idle = refl
 
 -- a machine that is idle stores no image
 idle_stores_none : (script : List Command) (calls : List Entry) (machine : Machine) → order_by script calls machine ≡ None → image_in machine ≡ None
-idle_stores_none script calls (mutating m) idle = refl
-idle_stores_none script calls (helping h) idle = refl
 idle_stores_none script calls (controlling k) idle = gone_stores_none k.spot k.image idle
+idle_stores_none script calls _ idle = refl
 
 nothing_of : {A B : Type 0} (f : A → B) (o : Option A) → option_map f o ≡ None → o ≡ None
 nothing_of f None h = refl

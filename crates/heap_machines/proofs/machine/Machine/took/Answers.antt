@@ -6,14 +6,13 @@ use Rattle.helper.specs.Seen as helpers
 use Rattle.heap_words.specs.declared.access.Took.TheVariants as took
 use Rattle.heap_words.specs.declared.place.Place.TheVariants.{LV}
 use Rattle.step_core.specs.Actor.{mutating, helping, controlling}
-use Rattle.step_core.specs.Fit.{IsFitFor}
-use Rattle.step_core.specs.Machines.{machine_after, answer_of, place_in, WaitsIn}
+use Rattle.step_core.specs.Machines.{machine_after, answer_of, place_in, WaitsIn, IsFitFor}
 use Rattle.heap_machines.specs.declared.machine.Machine.{Machine}
 use Rattle.heap_machines.specs.Pause.{pause_image}
 use Rattle.heap_machines.specs.Roles.{is_mutating}
 use Rattle.heap_machines.specs.Shown.{shown, order_of, heap_of}
 use Rattle.heap_machines.proofs.Fit.{fit_for_control}
-use Rattle.heap_machines.proofs.Replies.{goes_on, helps_on}
+use Rattle.step_core.proofs.GoOn.{goes_on, helps_on}
 use Rattle.heap_machines.proofs.machine.Machine.took.Goals as goal
 
 pub took-requires-in-Control-clause-fit : goal.took-requires-in-Control-clause-fit

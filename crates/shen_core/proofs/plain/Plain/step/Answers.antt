@@ -6,8 +6,7 @@ use Rattle.std.proofs.Math.Logic.{∥∥₁_map}
 use Rattle.heap_words.specs.Access.{table_index}
 use Rattle.heap_words.specs.Words.{table_words}
 use Rattle.heap_machines.specs.Shown.{shown, order_of, heap_of}
-use Rattle.step_core.specs.Machines.{plan_of, reply_in}
-use Rattle.step_core.specs.Fit.{IsFitFor}
+use Rattle.step_core.specs.Machines.{plan_of, reply_in, IsFitFor}
 use Rattle.shen_core.specs.Runs.{IsShownBySome}
 use Rattle.shen_core.proofs.Memory.{from_read, put_back, shown_here, heap_here, machine_now, made_from, made_step, made_shown, made_heap, made_orders, made_machines, turn_here, never_idle, done_only, says_here, done_here, again_here}
 use Rattle.shen_core.proofs.Turns.{fit_shown}
