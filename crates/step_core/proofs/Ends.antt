@@ -43,7 +43,6 @@ use Rattle.control_steps.specs.declared.spot.ControlSpot.{ControlSpot}
 use Rattle.control_steps.specs.declared.spot.ControlSpot.TheVariants as control
 use Rattle.control_steps.specs.Rows.{control_seat, is_gone, access_with, next_spot, stopping, after_scan, after_evacuation, after_updating, begins_pause, begins_unit, unasked, wants_pause}
 use Rattle.control_steps.specs.Ready.{is_ready}
-use Rattle.step_core.specs.Ending.{has_ended}
 use Rattle.step_core.proofs.MutatorObeys.{StaysIn, stays_in, waits_in, given_order, given_ended}
 use Rattle.step_core.proofs.ControlObeys.{scan_image}
 
