@@ -1,12 +1,14 @@
 -- Names in order.
-use Rattle.std.proofs.Common.{ℕ, suc, ◌≡◌, ◌+◌, ◌<◌, false, List, [], ◌∷◌, map, length, get_or, arith, is_lt, nat_cmp}
+use Rattle.std.proofs.Common.{ℕ, suc, ◌≡◌, ◌+◌, ◌<◌, false, List, [], ◌∷◌, map, length, get_or, arith, is_lt, nat_cmp, sym}
 use Rattle.std.specs.Ordering.{ordering_then}
 use Rattle.std.specs.declared.cmp.Ordering.{Ordering}
 use Rattle.std.specs.List.{IsDistinct}
 use Rattle.std.specs.List.Sorted.{IsSortedByKey, IsPermutation}
 use Rattle.std.proofs.lemmas.List.{get_or-map, length-map}
 use Rattle.std.proofs.lemmas.Map.Keys.{apart_from_distinct, IsDistinct-IsPermutation}
-use Rattle.std.proofs.lemmas.Bool.Decides.{nat_tests}
+use Rattle.std.proofs.lemmas.Bool.Decides.{nat_tests, same_from_decides, Decides-eqb, Decides-like, Decides-and}
+use Rattle.std.specs.Bool.{Decides}
+use Rattle.std.specs.Prelude.{◌==◌}
 use Rattle.shen_graph.specs.declared.name.Name.{Name}
 use Rattle.shen_graph.specs.Graph.{same_name}
 use Rattle.shen_graph.specs.Reach.{IsBefore, InOrder}
@@ -15,8 +17,14 @@ use Rattle.shen_graph.specs.Reach.{IsBefore, InOrder}
 abbrev pub name_cmp : Name → Name → Ordering
 name_cmp a b = ordering_then (nat_cmp a.thread b.thread) (nat_cmp a.count b.count)
 
+-- what the test of two names tells
+pub same_name-Decides : (a b : Name) → Decides (same_name a b) ((a.thread ≡ b.thread) × (a.count ≡ b.count))
+same_name-Decides a b = Decides-and (a.thread == b.thread) (a.count == b.count) (Decides-eqb a.thread b.thread) (Decides-eqb a.count b.count)
+
 pub same_name-flip : (a b : Name) → same_name a b ≡ same_name b a
-same_name-flip a b = grind (arith, nat_tests)
+same_name-flip a b =
+    same_from_decides (same_name a b) (same_name b a) (same_name-Decides a b)
+    (Decides-like (same_name b a) (λ h. (sym h.0, sym h.1)) (λ h. (sym h.0, sym h.1)) (same_name-Decides b a))
 
 -- of two names that differ, the one that is not after the other is before it
 pub IsBefore-from_sorted : (a b : Name) → is_lt (name_cmp b a) ≡ false → same_name a b ≡ false → IsBefore a b

@@ -4,14 +4,14 @@ use Rattle.std.specs.Prelude.{IsSome, nat_le, slice_get, slice_index, position, 
 use Rattle.std.specs.List.{position_from}
 use Rattle.std.proofs.lemmas.Bool.{false≢true, cases_lt, le-leb, lt-leb, ne_eqb}
 use Rattle.std.proofs.lemmas.List.{get_or-replicate, get_or_past, length-replicate}
-use Rattle.std.proofs.lemmas.Bool.Decides.{nat_tests, eqb_tells}
+use Rattle.std.proofs.lemmas.Bool.Decides.{eqb_tells}
 use Rattle.std.proofs.lemmas.List.Quantifiers.{position-Some}
 use Rattle.std.proofs.lemmas.Option.{slice_get_within}
 use Rattle.std.proofs.lemmas.Iterator.Adapters.{position_from-zero}
 use Rattle.shen_graph.specs.declared.name.Name.{Name}
 use Rattle.shen_graph.specs.Graph.{Object, Reference, same_name, named, field_at, number_at, with_root, with_named, with_field, with_number, with_fresh, blank, hub, opening}
 use Rattle.shen_graph.specs.GraphText.{Row}
-use Rattle.shen_graph.proofs.OrderLemmas.{same_name-flip}
+use Rattle.shen_graph.proofs.OrderLemmas.{same_name-flip, same_name-Decides}
 use Rattle.shen_graph.specs.PlainGraph.{Plain, object_in, root_in, graph_of, place_of}
 
 pub fun_ext : {A B : Type 0} (f g : A → B) → ((x : A) → f x ≡ g x) → f ≡ g
@@ -20,12 +20,11 @@ fun_ext f g h = λ i x. h x i
 -- the tests of names
 pub same_name-true : (a b : Name) → same_name a b ≡ true → a ≡ b
 same_name-true a b h =
-    let thread : a.thread ≡ b.thread = grind (arith, nat_tests) in
-    let count : a.count ≡ b.count = grind (arith, nat_tests) in
-    λ i. record { thread = thread i; count = count i }
+    let same = (same_name-Decides a b).0 h in
+    λ i. record { thread = same.0 i; count = same.1 i }
 
 pub same_name-itself : (a : Name) → same_name a a ≡ true
-same_name-itself a = grind (arith, nat_tests)
+same_name-itself a = (same_name-Decides a a).1 (refl, refl)
 
 -- the row that an index out of range gives
 abbrev pub nobody : Row

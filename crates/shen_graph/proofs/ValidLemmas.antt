@@ -1,7 +1,9 @@
 -- Each range of a command's numbers as a test.
-use Rattle.std.proofs.Common.{ℕ, ◌^◌, Bool, ◌&&◌, refl, arith}
+use Rattle.std.proofs.Common.{ℕ, ◌^◌, ◌≤◌, ◌∙◌, Bool, ◌&&◌, inl, inr, refl, sym}
+use Rattle.std.specs.Prelude.{nat_le}
 use Rattle.std.specs.Bool.{Decides}
-use Rattle.std.proofs.lemmas.Bool.Decides.{Decides-and, Decides-like, Decides-ltb, nat_tests}
+use Rattle.std.proofs.lemmas.Bool.{false≢true, le-leb}
+use Rattle.std.proofs.lemmas.Bool.Decides.{Decides-and, Decides-like, Decides-ltb, leb_tells}
 use Rattle.shen_graph.specs.declared.command.Command.{Command}
 use Rattle.shen_graph.specs.declared.command.Command.TheVariants.{New, Get, Set, Cas, Xchg, Rd, Wr, Copy, Drop, Same, Gc}
 use Rattle.shen_graph.specs.Valid.{IsRoot, IsSize, IsIndex, IsValid, FitsValue, is_root, is_size, is_index, is_valid, fits_value}
@@ -9,11 +11,14 @@ use Rattle.shen_graph.specs.Valid.{IsRoot, IsSize, IsIndex, IsValid, FitsValue, 
 root : (n : ℕ) → Decides (is_root n) (IsRoot n)
 root n = Decides-ltb n 16
 
+at_most : (n most : ℕ) → Decides (nat_le n most) (n ≤ most)
+at_most n most = (λ e. elim (leb_tells n most) [ inl within ↦ within.1 | inr past ↦ absurd (false≢true (sym past.0 ∙ e)) ], λ within. le-leb n most within)
+
 size : (n : ℕ) → Decides (is_size n) (IsSize n)
-size n = (λ e. grind (arith, nat_tests), λ e. grind (arith, nat_tests))
+size n = at_most n 16
 
 index : (n : ℕ) → Decides (is_index n) (IsIndex n)
-index n = (λ e. grind (arith, nat_tests), λ e. grind (arith, nat_tests))
+index n = at_most n 31
 
 both : {P Q : Type 0} (a b : Bool) → Decides a P → Decides b Q → Decides (a && b) (P × Q)
 both a b p q = Decides-and a b p q

@@ -8,18 +8,19 @@ use crate::NoMemory;
 use crate::name::Name;
 use crate::roots::alike;
 use std::alloc::Global;
+use std::fmt::{Debug, Formatter, Write};
 use std::marker::Model;
-use std::mem;
+use std::{fmt, mem};
 
 // Part of a list, from one index up to another.
-#[derive(Clone, Copy, Debug)]
+#[derive(Clone, Copy)]
 struct Span {
     from: usize,
     to: usize,
 }
 
 // Where the fields of an object lie, in the references of all objects and in their numbers.
-#[derive(Clone, Copy, Debug)]
+#[derive(Clone, Copy)]
 struct Place {
     name: Name,
     refs: Span,
@@ -28,7 +29,7 @@ struct Place {
 
 /// A graph as it is to be written: rows of objects, and a row of 16 roots for each thread. Threads are counted from 1,
 /// rows, fields and roots from 0. Only `open` takes memory.
-#[derive(Debug, Drop)]
+#[derive(Drop)]
 pub struct GraphText {
     places: Vec<Place>,
     references: Vec<Option<Name>>,
@@ -51,6 +52,13 @@ impl Model for GraphText {
     ghost view = { text_in };
 
     ghost invariant = { HasRoom };
+}
+
+/// Written as the number of its objects.
+impl Debug for GraphText {
+    fn fmt<W: Write>(&self, f: &mut Formatter<W>) -> fmt::Result {
+        self.places.len().fmt(f)
+    }
 }
 
 // Copies a part of a list to the end of another, which has room, and says where it is then.

@@ -12,9 +12,5 @@ pub fn alike(
 ) -> Result<Vec<[Option<Name>; 16]>, NoMemory>
     ensures { IfOk result (λ rows. rows.items ≡ replicate threads roots) }
 {
-    let mut rows = Vec::with_capacity(alloc, threads)?;
-    for _thread in 0..threads {
-        rows.push(roots)?;
-    }
-    Ok(rows)
+    Ok(vec![in alloc; roots; threads]?)
 }

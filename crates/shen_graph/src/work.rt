@@ -5,10 +5,12 @@ use crate::NoMemory;
 use crate::command::{Command, Reply};
 use crate::script::Script;
 use std::alloc::Global;
+use std::fmt::{Debug, Formatter, Write};
 use std::marker::Model;
+use std::{fmt, mem};
 
 /// What the commands of one thread were answered, in their order.
-#[derive(Debug, Drop)]
+#[derive(Drop)]
 pub struct Replies {
     given: Vec<Reply>,
 }
@@ -20,6 +22,13 @@ impl Model for Replies {
     ghost Value = { Given };
 
     ghost view = { λ r. record { list = r.given.items; room = vec_capacity r.given - vec_len r.given } };
+}
+
+/// Written as the number of the replies.
+impl Debug for Replies {
+    fn fmt<W: Write>(&self, f: &mut Formatter<W>) -> fmt::Result {
+        self.given.len().fmt(f)
+    }
 }
 
 impl Replies {
@@ -49,7 +58,7 @@ impl Replies {
 }
 
 // The script of a mutator and the replies to its first commands, with room for the other replies.
-#[derive(Debug, Drop)]
+#[derive(Drop)]
 struct Job {
     script: Script,
     replies: Replies,
@@ -104,7 +113,7 @@ impl Job {
 
 /// The scripts of up to eight mutators, each with the replies to its first commands and with room for the others.
 /// Mutators are counted from 0.
-#[derive(Debug, Drop)]
+#[derive(Drop)]
 pub struct Work {
     jobs: [Option<Job>; 8],
 }
@@ -118,6 +127,13 @@ impl Model for Work {
     ghost view = { λ w. w.jobs };
 
     ghost invariant = { λ w. length w.jobs ≡ 8 };
+}
+
+/// Written as a word alone.
+impl Debug for Work {
+    fn fmt<W: Write>(&self, f: &mut Formatter<W>) -> fmt::Result {
+        f.write_str("work")
+    }
 }
 
 impl Work {
@@ -196,7 +212,7 @@ impl Work {
         let own = &mut self.jobs;
         for mutator in 0..8 {
             if mutator % workers == part {
-                jobs[mutator] = own[mutator].take();
+                mem::swap(&mut jobs[mutator], &mut own[mutator]);
             }
         }
         Work { jobs }
@@ -211,7 +227,7 @@ impl Work {
         let own = &mut self.jobs;
         for mutator in 0..8 {
             if others[mutator].is_some() {
-                own[mutator] = others[mutator].take();
+                mem::swap(&mut own[mutator], &mut others[mutator]);
             }
         }
     }

@@ -1,5 +1,5 @@
 -- What a trace gives its heap: commands in range, and items that name its machines.
-use Rattle.std.proofs.Common.{◌≡◌, ℕ, ◌+◌, ◌<◌, ◌≤◌, Bool, true, false, cond, eqb, List, [], ◌∷◌, ◌++◌, length, get_or, map, All, sym, ap, subst, ◌∙◌, arith}
+use Rattle.std.proofs.Common.{◌≡◌, ℕ, suc, ◌+◌, ◌<◌, ◌≤◌, Bool, true, false, cond, eqb, List, [], ◌∷◌, ◌++◌, length, get_or, map, All, sym, ap, subst, ◌∙◌, arith}
 use Rattle.std.specs.Prelude.{filter}
 use Rattle.std.specs.List.{flat_map, AllByRecursion}
 use Rattle.std.specs.Fmt.{decimal}
@@ -20,7 +20,7 @@ use Rattle.shen_core.specs.State.{config_of, orders_of, Shows}
 use Rattle.shen_core.specs.Progress.{Jobs, CanRun, IsInSeats, IsRunnable}
 use Rattle.shen_core.proofs.Fresh.{can_run_first}
 use Rattle.trace_grammar.specs.Spelling.{TraceLine, IsLine, line, space, newline, word_of, numbers, numbers_of, header, IsItem, IsScheduleLine, schedule_line}
-use Rattle.trace_grammar.specs.Grammar.{Reads, scripts_of, items_of}
+use Rattle.trace_grammar.specs.Grammar.{Reads, most_bytes, scripts_of, items_of}
 use Rattle.trace_grammar.specs.Grammar as grammar
 
 -- the commands of lines in range are valid
@@ -46,12 +46,25 @@ valid_scripts bytes c scripts items reads = All-from_get_or (All IsValid) script
     subst (All IsValid) (sym (script_at bytes c scripts items t reads below)) (All-from_recursion IsValid _ (valid_lines c.mutators reads.lines (t + 1) reads.in_range)))
 
 -- a trace has fewer commands than there are names
+some : (front back : List ℕ) (k : ℕ) → 1 ≤ length (front ++ k ∷ back)
+some front back k = omega (arith, length-append front (k ∷ back))
+
 some_bytes : (l : TraceLine) → 1 ≤ length (line l)
-some_bytes l = omega (arith, length-append (decimal l.thread) (space ∷ (word_of l.command ++ (numbers (numbers_of l.command) ++ newline ∷ []))))
+some_bytes l = some (decimal l.thread) (word_of l.command ++ (numbers (numbers_of l.command) ++ newline ∷ [])) space
+
+one_more : (n : ℕ) (first rest : List ℕ) → 1 ≤ length first → n ≤ length rest → suc n ≤ length (first ++ rest)
+one_more n first rest one others = omega (arith, length-append first rest)
 
 few_lines : (lines : List TraceLine) → length lines ≤ length (flat_map line lines)
 few_lines [] = omega arith
-few_lines (l ∷ lines) = omega (arith, few_lines lines, some_bytes l, length-append (line l) (flat_map line lines))
+few_lines (l ∷ lines) = one_more (length lines) (line l) (flat_map line lines) (some_bytes l) (few_lines lines)
+
+-- what stands between a head and an end is no longer than the whole
+between : (whole head middle end : List ℕ) (n : ℕ) → n ≤ length middle → whole ≡ head ++ (middle ++ end) → n ≤ length whole
+between whole head middle end n few split = omega (arith, ap length split, length-append head (middle ++ end), length-append middle end)
+
+fewer : (script lines bytes : ℕ) → script ≤ lines → lines ≤ bytes → bytes ≤ most_bytes → script < 4294967295
+fewer script lines bytes short few most = omega arith
 
 short_script : (lines : List TraceLine) (t : ℕ) → length (grammar.commands_in lines t) ≤ length lines
 short_script [] t = omega arith
@@ -63,10 +76,9 @@ short_script (l ∷ lines) t = by_thread (eqb l.thread t) (short_script lines t)
 
 few_commands : (bytes : List ℕ) (c : Config) (scripts : List (List Command)) (items : List Item) (t : ℕ) → Reads bytes c scripts items → t < c.mutators → length (get_or scripts t []) < 4294967295
 few_commands bytes c scripts items t reads below =
-    let script = ap length (script_at bytes c scripts items t reads below) in
-    let lines = flat_map line reads.lines in
-    let turns = flat_map schedule_line reads.turns in
-    omega (arith, script, short_script reads.lines (t + 1), few_lines reads.lines, reads.short, ap length reads.spelled, length-append (header c) (lines ++ turns), length-append lines turns)
+    let few : length reads.lines ≤ length bytes = between bytes (header c) (flat_map line reads.lines) (flat_map schedule_line reads.turns) (length reads.lines) (few_lines reads.lines) reads.spelled in
+    subst (λ (script : List Command). length script < 4294967295) (sym (script_at bytes c scripts items t reads below))
+    (fewer (length (grammar.commands_in reads.lines (t + 1))) (length reads.lines) (length bytes) (short_script reads.lines (t + 1)) few reads.short)
 
 pub runnable_scripts : (bytes : List ℕ) (c : Config) (scripts : List (List Command)) (items : List Item) → Reads bytes c scripts items → All IsRunnable scripts
 runnable_scripts bytes c scripts items reads = All-from_get_or IsRunnable scripts [] (λ t within.
@@ -90,9 +102,12 @@ turns_in_seats c (items ∷ turns) all = items_append c items (items_of turns) a
 pub items_in_seats : (bytes : List ℕ) (c : Config) (scripts : List (List Command)) (items : List Item) → Reads bytes c scripts items → All (IsInSeats c) items
 items_in_seats bytes c scripts items reads = subst (All (IsInSeats c)) (sym reads.in_order) (All-from_recursion (IsInSeats c) (items_of reads.turns) (turns_in_seats c reads.turns reads.turns_in_range))
 
+at_most_eight : (c : Config) (n : ℕ) → n ≡ c.mutators → n ≤ 8
+at_most_eight c n same = omega arith
+
 -- a heap that was just opened can run the trace
 pub can_run : (p : Plain) (c : Config) (scripts : Scripts) (jobs : Jobs) → config_of p ≡ c → Shows p (opening c) → All (λ order. order ≡ Nothing) (orders_of p) → length scripts ≡ c.mutators → All IsRunnable scripts → jobs ≡ work.opened scripts → CanRun p jobs
 can_run p c scripts jobs same shows orders count served opened =
     let mutators = ap (λ (d : Config). d.mutators) same in
     subst (CanRun p) (sym opened)
-    (can_run_first p scripts (subst (λ (d : Config). Shows p (opening d)) (sym same) shows) orders (omega (arith, mutators, count)) (omega (arith, count)) served)
+    (can_run_first p scripts (subst (λ (d : Config). Shows p (opening d)) (sym same) shows) orders (mutators ∙ sym count) (at_most_eight c (length scripts) count) served)

@@ -92,7 +92,7 @@ fn ended(plain: &Plain, work: &Work, left: u64) -> Ran
 }
 
 /// How a listing has ended.
-#[derive(Clone, Copy, Debug, PartialEq, Eq)]
+#[derive(Clone, Copy)]
 struct Listed {
     /// Whether all machines are idle.
     ran: Ran,
@@ -118,7 +118,7 @@ fn list<K: Sink>(
     listing.columns(sink);
     let left = list_all(listing, &mut walk, plain, work, sink, wanted.steps);
     let ran = ended(plain, work, left);
-    listing.end(plain, ran == Ran::Finished, sink);
+    listing.end(plain, matches!(ran, Ran::Finished), sink);
     Listed {
         ran,
         events: wanted.steps - left,

@@ -16,6 +16,10 @@ use shen_core::{Plain, Stepped};
 use shen_graph::{Command, Work};
 use text_writer::{Block, WriteFault};
 
+// What stands in the columns.
+const COLUMNS: &[u8] =
+    b" event  machine   at  access                                  found             says";
+
 // The columns: the number ends before the first.
 const NUMBER: usize = 6;
 
@@ -67,19 +71,8 @@ impl Listing {
 
     /// Writes the line that names the columns.
     pub fn columns<K: Sink>(&mut self, sink: &mut K) {
-        let row = &mut self.row;
-        row.put(b" event");
-        row.tab(MACHINE);
-        row.put(b"machine");
-        row.tab(PLACE);
-        row.put(b"at");
-        row.tab(ACCESS);
-        row.put(b"access");
-        row.tab(FOUND);
-        row.put(b"found");
-        row.tab(SAYS);
-        row.put(b"says");
-        row.send(&mut self.block, sink);
+        self.row.put(COLUMNS);
+        self.row.send(&mut self.block, sink);
     }
 
     // Writes the heap, if it is wanted.

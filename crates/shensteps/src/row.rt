@@ -7,18 +7,22 @@ use text_writer::Block;
 const ROOM: usize = 480;
 
 /// One line of the listing while it is set, in columns. What does not fit is left out.
-#[derive(Debug, Drop)]
+#[derive(Drop)]
 pub struct Row {
+    // spaces behind those that are used
     bytes: [u8; 480],
     used: usize,
+    // where the last text ends, without the spaces behind it
+    end: usize,
 }
 
 impl Row {
     /// An empty row.
     pub fn new() -> Row {
         Row {
-            bytes: [0; 480],
+            bytes: [b' '; 480],
             used: 0,
+            end: 0,
         }
     }
 
@@ -27,19 +31,27 @@ impl Row {
         self.used
     }
 
+    // Puts a byte behind what is there.
+    fn put_byte(&mut self, byte: u8) {
+        if self.used < ROOM {
+            self.bytes[self.used] = byte;
+            self.used += 1;
+            if byte != b' ' {
+                self.end = self.used;
+            }
+        }
+    }
+
     /// Puts text behind what is there.
     pub fn put(&mut self, text: &[u8]) {
         for byte in text {
-            if self.used < ROOM {
-                self.bytes[self.used] = *byte;
-                self.used += 1;
-            }
+            self.put_byte(*byte);
         }
     }
 
     /// Puts text, behind a comma where other text ends right here.
     pub fn put_further(&mut self, text: &[u8]) {
-        if self.used > 0 && self.used <= ROOM && self.bytes[self.used - 1] != b' ' {
+        if self.used > 0 && self.end == self.used {
             self.put(b", ");
         }
         self.put(text);
@@ -76,30 +88,21 @@ impl Row {
 
     // Puts spaces up to a column.
     fn pad(&mut self, column: usize) {
-        for _ in self.used..column {
-            self.put(b" ");
-        }
+        self.used = self.used.max(column.min(ROOM));
     }
 
     /// Goes on at a column, or one space on where the row is beyond it.
     pub fn tab(&mut self, column: usize) {
-        self.put(b" ");
+        self.put_byte(b' ');
         self.pad(column);
     }
 
     /// Sends the row as a line, and is empty then.
     pub fn send<K: Sink>(&mut self, block: &mut Block, sink: &mut K) {
-        let mut end = self.used.min(ROOM);
-        for _ in 0..ROOM {
-            if end == 0 || end > ROOM || self.bytes[end - 1] != b' ' {
-                break;
-            }
-            end -= 1;
-        }
-        if end <= ROOM {
-            block.put(sink, &self.bytes[..end]);
-        }
+        block.put(sink, &self.bytes[..self.end.min(ROOM)]);
         block.put(sink, b"\n");
+        self.bytes = [b' '; 480];
         self.used = 0;
+        self.end = 0;
     }
 }

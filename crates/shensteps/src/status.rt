@@ -1,5 +1,5 @@
 /// How a call of the program ended.
-#[derive(Clone, Copy, Debug, PartialEq, Eq)]
+#[derive(Clone, Copy)]
 pub enum Status {
     /// All events were listed, to the last.
     Ok,

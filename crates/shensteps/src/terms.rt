@@ -239,7 +239,7 @@ pub fn put_part(row: &mut Row, part: Part) {
 }
 
 /// Where a word of the heap lies.
-#[derive(Clone, Copy, Debug, PartialEq, Eq)]
+#[derive(Clone, Copy)]
 pub enum Within {
     /// In the object at this address.
     Object(u64),
@@ -324,7 +324,7 @@ fn are_copies(plain: &Plain, first: u64, second: u64) -> bool {
 
 // Puts what an exchange stores in place of another value: of a reference to another copy of the same object the address.
 fn put_exchanged(row: &mut Row, plain: &Plain, kind: Kind, expect: u64, value: u64) {
-    if kind == Kind::Reference && are_copies(plain, expect, value) {
+    if matches!(kind, Kind::Reference) && are_copies(plain, expect, value) {
         row.put(b"copy ");
         row.put_number(value);
     } else {

@@ -87,7 +87,7 @@ pub fn object_with(plain: &Plain, address: u64) -> Option<u64> {
 }
 
 /// A word of an object.
-#[derive(Clone, Copy, Debug, PartialEq, Eq)]
+#[derive(Clone, Copy)]
 pub enum Part {
     /// The header.
     Header,
@@ -101,6 +101,15 @@ pub enum Part {
     Number(u64),
 }
 
+// The part of an object that begins so many words behind its name, of which the first are references.
+fn behind_words(refs: u64, index: u64) -> Part {
+    if index < refs {
+        Part::Field(index)
+    } else {
+        Part::Number(index.saturating_sub(refs))
+    }
+}
+
 /// Which word of the object at `object` an address is.
 pub fn part_of(plain: &Plain, object: u64, address: u64) -> Part {
     let refs = refs_of(heap_word(plain, object.saturating_add(1)));
@@ -108,13 +117,12 @@ pub fn part_of(plain: &Plain, object: u64, address: u64) -> Part {
         0 => Part::Header,
         1 => Part::Shape,
         2 => Part::Name,
-        offset if offset - 3 < refs => Part::Field(offset - 3),
-        offset => Part::Number((offset - 3).saturating_sub(refs)),
+        offset => behind_words(refs, offset.saturating_sub(3)),
     }
 }
 
 /// How a word is to be read.
-#[derive(Clone, Copy, Debug, PartialEq, Eq)]
+#[derive(Clone, Copy)]
 pub enum Kind {
     /// As a number.
     Number,

@@ -10,7 +10,7 @@ const MOST_STEPS: u64 = 4_000_000_000;
 const MOST_MACHINES: u64 = 12;
 
 /// What the words of the command line ask for.
-#[derive(Clone, Copy, Debug, PartialEq, Eq)]
+#[derive(Clone, Copy)]
 pub struct Wanted {
     /// The events that are made at most.
     pub steps: u64,

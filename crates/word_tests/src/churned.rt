@@ -1,62 +1,22 @@
 //! The scripts of a churn as they are written down, what a plain graph answers to them, and how a run is summed up.
+ghost use Rattle.std.specs.Prelude.{◌≡◌, [], ◌∷◌};
+ghost use Rattle.shen_graph.specs.declared.command.Command.TheVariants.{New, Get, Set, Cas, Xchg, Rd, Wr, Drop};
+ghost use Rattle.churn.specs.Script.{churn_script};
+
 use crate::graph::answers;
 use churn::{Summary, churn_scripts, summarize};
-use shen_graph::{Command, GraphText, Name, PlainGraph, Reply, Work};
+use shen_graph::{GraphText, Name, PlainGraph, Reply, Work};
 use std::test::Fail;
 
-// The second thread's script of one round of seed 0.
-const ROUND: [Command; 10] = [
-    Command::New {
-        dst: 1,
-        refs: 16,
-        nums: 0,
-    },
-    Command::Set {
-        obj: 0,
-        field: 2,
-        val: 1,
-    },
-    Command::New {
-        dst: 2,
-        refs: 0,
-        nums: 1,
-    },
-    Command::Wr {
-        obj: 2,
-        index: 0,
-        value: 1,
-    },
-    Command::Set {
-        obj: 1,
-        field: 0,
-        val: 2,
-    },
-    Command::Drop { dst: 2 },
-    Command::Get {
-        dst: 3,
-        src: 1,
-        field: 0,
-    },
-    Command::Rd { obj: 3, index: 0 },
-    Command::Cas {
-        obj: 1,
-        field: 0,
-        expect: 3,
-        val: 3,
-    },
-    Command::Xchg {
-        dst: 4,
-        obj: 1,
-        field: 0,
-        val: 3,
-    },
-];
+// The second thread's script of one round of seed 0, by hand, against its definition.
+fn one_round()
+    ensures { churn_script 0 1 2 ≡ New 1 16 0 ∷ Set 0 2 1 ∷ New 2 0 1 ∷ Wr 2 0 1 ∷ Set 1 0 2 ∷ Drop 2 ∷ Get 3 1 0 ∷ Rd 3 0 ∷
+        Cas 1 0 3 3 ∷ Xchg 4 1 0 3 ∷ [] }
+{}
 
 #[test]
-fn the_script_of_one_round(rt: HostRuntime) -> Result<(), Fail> {
-    let scripts = churn_scripts(rt.alloc(), 0, 1)?;
-    assert!(rt; scripts.len() == 3 && scripts[1].list() == ROUND.as_slice());
-    Ok(())
+fn the_script_of_one_round() {
+    one_round();
 }
 
 // The sum of the numbers among replies.

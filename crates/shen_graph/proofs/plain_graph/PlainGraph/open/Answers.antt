@@ -1,9 +1,18 @@
-use Rattle.std.proofs.Common.{◌≡◌, ◌+◌, ◌∷◌, [], None, replicate, refl, arith}
+use Rattle.std.proofs.Common.{ℕ, zero, suc, ◌≡◌, ◌+◌, ◌∷◌, List, [], None, length, replicate, All, refl, sym, ap, subst, arith}
 use Rattle.std.proofs.lemmas.Grind.{common_steps}
-use Rattle.shen_graph.specs.Graph.{hub}
+use Rattle.std.proofs.lemmas.List.{length-replicate}
+use Rattle.std.proofs.lemmas.List.Elements.{All-nil, All-cons}
+use Rattle.shen_graph.specs.Graph.{Reference, hub}
 use Rattle.shen_graph.specs.GraphText.{Row}
-use Rattle.shen_graph.proofs.PlainLemmas.{graph_of-opening}
+use Rattle.shen_graph.proofs.PlainLemmas.{first_roots, graph_of-opening}
 use Rattle.shen_graph.proofs.plain_graph.PlainGraph.open.Goals as goal
+
+abbrev IsRow : List Reference → Type 0
+IsRow row = length row ≡ 16
+
+rows_of : (threads : ℕ) → All IsRow (replicate threads first_roots)
+rows_of zero = All-nil IsRow
+rows_of (suc threads) = All-cons IsRow first_roots (replicate threads first_roots) refl (rows_of threads)
 
 pub returns-clause-graph : goal.returns-clause-graph
 returns-clause-graph c =
@@ -11,3 +20,17 @@ returns-clause-graph c =
     let rows : c.push.new.self.items ≡ first ∷ [] = rw (c.in_ok-push.ensures.items, c.new-objects.ensures.items, c.in_ok-hub.ensures) refl in
     let counts : c.in_ok-counts.counts.items ≡ replicate (c.args.mutators + 1) 0 = grind (arith, common_steps) in
     rw (c.in_ok-roots.ensures, rows, counts) (graph_of-opening c.args.mutators)
+
+pub invariant_of-result : goal.invariant_of-result
+invariant_of-result c =
+    let long = length-replicate c.args.mutators first_roots in
+    let rows = ap length c.in_ok-roots.ensures in (
+      omega (arith, c.in_ok-roots.roots.ok.0, rows),
+      omega (arith, c.in_ok-counts.ensures.len, c.in_ok-roots.roots.ok.0, rows, long),
+      subst (All IsRow) (sym c.in_ok-roots.ensures) (All-cons IsRow (replicate 16 None) (replicate c.args.mutators first_roots) refl (rows_of c.args.mutators)),
+    )
+
+pub returns-clause-threads : goal.returns-clause-threads
+returns-clause-threads c =
+    let long = length-replicate c.args.mutators first_roots in
+    omega (arith, ap length c.in_ok-roots.ensures, long)
