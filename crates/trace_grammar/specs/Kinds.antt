@@ -70,3 +70,17 @@ Suit Copy ns = (slice_index ns 0 ≤ 15) × (slice_index ns 1 ≤ 15)
 Suit Drop ns = slice_index ns 0 ≤ 15
 Suit Same ns = (slice_index ns 0 ≤ 15) × (slice_index ns 1 ≤ 15)
 Suit Gc ns = Unit {0}
+
+-- a command of the kind is on a field or a number of an object
+abbrev pub IsOnObject : CommandKind → Type 0
+IsOnObject New = ⊥
+IsOnObject Get = Unit {0}
+IsOnObject Set = Unit {0}
+IsOnObject Cas = Unit {0}
+IsOnObject Xchg = Unit {0}
+IsOnObject Rd = Unit {0}
+IsOnObject Wr = Unit {0}
+IsOnObject Copy = ⊥
+IsOnObject Drop = ⊥
+IsOnObject Same = ⊥
+IsOnObject Gc = ⊥

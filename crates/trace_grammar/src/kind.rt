@@ -1,6 +1,6 @@
 //! The kinds of commands.
 ghost use Rattle.std.specs.Prelude.{◌≡◌};
-ghost use Rattle.trace_grammar.specs.Kinds.{word, limits, command_from, Suit};
+ghost use Rattle.trace_grammar.specs.Kinds.{word, limits, command_from, Suit, IsOnObject};
 
 use shen_graph::Command;
 
@@ -64,13 +64,40 @@ impl CommandKind {
         requires { Suit self numbers }
         ensures { result ≡ command_from self numbers }
     {
-        let [first, second, third, fourth] = numbers;
+        let [first, second, third, _] = numbers;
         match self {
             CommandKind::New => Command::New {
                 dst: first as u32,
                 refs: second as u32,
                 nums: third as u32,
             },
+            CommandKind::Copy => Command::Copy {
+                dst: first as u32,
+                src: second as u32,
+            },
+            CommandKind::Drop => Command::Drop { dst: first as u32 },
+            CommandKind::Same => Command::Same {
+                a: first as u32,
+                b: second as u32,
+            },
+            CommandKind::Gc => Command::Gc,
+            CommandKind::Get
+            | CommandKind::Set
+            | CommandKind::Cas
+            | CommandKind::Xchg
+            | CommandKind::Rd
+            | CommandKind::Wr => self.command_on_object(numbers),
+        }
+    }
+
+    // The same, of a kind that is on a field or a number of an object.
+    fn command_on_object(self, numbers: [u64; 4]) -> Command
+        requires object { IsOnObject self }
+        requires numbers { Suit self numbers }
+        ensures { result ≡ command_from self numbers }
+    {
+        let [first, second, third, fourth] = numbers;
+        match self {
             CommandKind::Get => Command::Get {
                 dst: first as u32,
                 src: second as u32,
@@ -102,16 +129,11 @@ impl CommandKind {
                 index: second as u32,
                 value: third,
             },
-            CommandKind::Copy => Command::Copy {
-                dst: first as u32,
-                src: second as u32,
-            },
-            CommandKind::Drop => Command::Drop { dst: first as u32 },
-            CommandKind::Same => Command::Same {
-                a: first as u32,
-                b: second as u32,
-            },
-            CommandKind::Gc => Command::Gc,
+            CommandKind::New
+            | CommandKind::Copy
+            | CommandKind::Drop
+            | CommandKind::Same
+            | CommandKind::Gc => unreachable!(),
         }
     }
 }

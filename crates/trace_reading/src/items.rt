@@ -6,7 +6,7 @@ ghost use Rattle.trace_grammar.specs.Spelling.{IsItem, aim, item};
 ghost use Rattle.trace_grammar.specs.Front.{BeginsWith, BeginsWithNone, IsAny, IsItemOf};
 
 use heap_words::{Config, Item, Place};
-use trace_scan::positive_at;
+use trace_grammar::positive_at;
 
 /// The most steps, or replies, of an item.
 const MOST_COUNT: u64 = 4_000_000_000;

@@ -4,7 +4,7 @@ ghost use Rattle.std.specs.Option.{option_map};
 ghost use Rattle.trace_grammar.specs.Scanning.{command_at, line_at};
 
 use shen_graph::Command;
-use trace_scan::{kind_at, numbers_at, positive_at, text_at};
+use trace_grammar::{kind_at, numbers_at, positive_at, text_at};
 
 /// The command at the front, and what is behind its numbers.
 #[tactic(auto, unfolding(trace_grammar::specs::Scanning::command_at))]
@@ -21,9 +21,17 @@ fn command_at(bytes: &[u8]) -> Option<(Command, &[u8])>
 pub(crate) fn line_at(threads: u32, bytes: &[u8]) -> Option<(u64, Command, &[u8])>
     ensures { option_map (λ x. (record { thread = x.0; command = x.1 }, x.2.now)) result ≡ line_at threads bytes.now }
 {
-    let (thread, rest) = positive_at(u64::from(threads), bytes)?;
-    let rest = text_at(b" ", rest)?;
-    let (command, rest) = command_at(rest)?;
-    let rest = text_at(b"\n", rest)?;
+    let Some((thread, rest)) = positive_at(u64::from(threads), bytes) else {
+        return None;
+    };
+    let Some(rest) = text_at(b" ", rest) else {
+        return None;
+    };
+    let Some((command, rest)) = command_at(rest) else {
+        return None;
+    };
+    let Some(rest) = text_at(b"\n", rest) else {
+        return None;
+    };
     Some((thread, command, rest))
 }

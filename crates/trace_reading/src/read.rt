@@ -23,9 +23,8 @@ use heap_words::{Config, Schedule};
 use shen_base::Source;
 use shen_graph::Script;
 use std::alloc::Global;
-use trace_grammar::{Scripts, Trace};
+use trace_grammar::{Scripts, Trace, numbers_at, text_at};
 use trace_refusals::{body_refusal, head_refusal};
-use trace_scan::{numbers_at, text_at};
 
 /// The numbers at the head of a trace, and the bytes behind its three lines.
 #[tactic(auto, unfolding(trace_grammar::specs::Scanning::sizes_at))]

@@ -15,8 +15,8 @@ use crate::fault::{LineFault, TraceFault};
 use crate::items::item_at;
 use heap_words::{Config, Schedule};
 use std::alloc::Global;
+use trace_grammar::text_at;
 use trace_refusals::body_refusal;
-use trace_scan::text_at;
 
 /// Takes a space and an item, and adds the item to the schedule.
 fn take_item<'a>(

@@ -9,8 +9,7 @@ ghost use Rattle.trace_refusals.specs.Refused as stage;
 
 use crate::numbers::{is_number, numbers_cause};
 use crate::parts::{count_words, cut, next_word};
-use trace_grammar::Why;
-use trace_scan::value_of;
+use trace_grammar::{Why, value_of};
 
 /// Why a line is none of this title and of numbers in these ranges.
 fn title_cause(title: &[u8], ranges: &[(u64, u64)], text: &[u8]) -> Option<Why>
@@ -95,7 +94,7 @@ fn behind_line(bytes: &[u8]) -> &[u8]
 }
 
 /// A line of the head that is refused.
-#[derive(Clone, Copy, Debug, PartialEq, Eq)]
+#[derive(Clone, Copy, Debug)]
 pub struct Refusal {
     /// The line, counted from 1.
     pub line: u64,

@@ -6,8 +6,7 @@ ghost use Rattle.trace_refusals.specs.Causes.{counted_cause, until_cause, item_c
 use crate::numbers::{is_number, range_cause};
 use crate::parts::next_word;
 use heap_words::{Config, Place};
-use trace_grammar::Why;
-use trace_scan::digits_at;
+use trace_grammar::{Why, digits_at};
 
 /// The most steps, or replies, of an item.
 const MOST_COUNT: u64 = 4_000_000_000;

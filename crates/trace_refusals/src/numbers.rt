@@ -4,8 +4,7 @@ ghost use Rattle.std.specs.Str.Parse.{AllDigits};
 ghost use Rattle.trace_refusals.specs.Causes.{is_number, range_cause, number_cause, numbers_cause, parts_behind};
 
 use crate::parts::next_word;
-use trace_grammar::Why;
-use trace_scan::{digits_at, is_numeral, value_of};
+use trace_grammar::{Why, digits_at, is_numeral, value_of};
 
 /// Digits with no needless zero in front.
 pub(crate) fn is_number(word: &[u8]) -> bool

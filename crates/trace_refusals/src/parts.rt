@@ -1,6 +1,6 @@
 //! Lines and words.
 ghost use Rattle.std.specs.Prelude.{◌≡◌, ◌∷◌, [], ◌==◌, true, false, if◌then◌else◌, ◌<◌, ◌≤◌, length, IfSome, MatchOption};
-ghost use Rattle.std.specs.List.{prefix_len, count_by};
+ghost use Rattle.std.specs.List.{prefix_len};
 ghost use Rattle.trace_refusals.specs.Causes.{parts, parts_behind};
 
 /// What stands before the first such byte, and the bytes from it on.
@@ -15,7 +15,12 @@ pub(crate) fn cut(separator: u8, bytes: &[u8]) -> (&[u8], &[u8])
 fn before(separator: u8, bytes: &[u8]) -> usize
     ensures { result ≡ prefix_len (λ b. if b == separator then false else true) bytes.now }
 {
-    bytes.iter().take_while(|byte| **byte != separator).count()
+    for (count, byte) in bytes.iter().enumerate() {
+        if *byte == separator {
+            return count;
+        }
+    }
+    bytes.len()
 }
 
 /// The next word, and the bytes from the space behind it on.
@@ -33,16 +38,11 @@ pub(crate) fn next_word(words: &[u8]) -> Option<(&[u8], &[u8])>
 pub(crate) fn count_words(words: &[u8]) -> usize
     ensures { result ≡ length (parts_behind 32 words.now) }
 {
-    if words.len() == 0 {
-        0
-    } else {
-        spaces(&words[1..]) + 1
+    let mut count = 0;
+    let mut rest = words;
+    'words: while let Some((_, behind)) = next_word(rest) {
+        count += 1;
+        rest = behind;
     }
-}
-
-/// How many spaces there are.
-fn spaces(text: &[u8]) -> usize
-    ensures { result ≡ count_by (λ b. b == 32) text.now }
-{
-    text.iter().filter(|byte| **byte == b' ').count()
+    count
 }

@@ -144,3 +144,7 @@ answer_text_same threads replies others rows root other same_replies same_roots 
     let objects = flat_map object_line rows in
     ap (λ t. t ++ (graph ++ (objects ++ flat_map (λ t. roots_line t (root t)) (range_with_len 1 threads)))) said
     ∙ ap (λ t. flat_map (λ t. flat_map (reply_line t) (others t)) (range_with_len 1 threads) ++ (graph ++ (objects ++ t))) held
+
+-- a label and its number were put, and then the others
+pub puts_told : {a b c : Stage} (label number others : List ℕ) → Puts a b (label ++ number) → Puts b c others → Puts a c (label ++ (number ++ others))
+puts_told label number others p q = puts_same (append_assoc label number others) (puts_both p q)

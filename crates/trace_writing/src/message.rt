@@ -1,17 +1,19 @@
 ghost use Rattle.std.specs.Prelude.{[], ◌∷◌, ◌++◌, codes};
 ghost use Rattle.std.specs.Fmt.{decimal};
-ghost use Rattle.text_writer.specs.Sending.{Writes, outlet};
+ghost use Rattle.text_writer.specs.Sending.{Puts, Writes, outlet, stage};
 ghost use Rattle.trace_grammar.specs.Spelling.{newline};
 ghost use Rattle.trace_grammar.specs.Why.{text_of as why_text};
 ghost use Rattle.trace_writing.specs.Message.{line_text, summary_text};
 
 use churn::Summary;
 use shen_base::Sink;
+use std::fmt;
+use std::fmt::{Debug, Formatter, Write};
 use text_writer::{Block, WriteFault, write_all};
 use trace_grammar::Why;
 
 /// The one line that stands in the place of an answer, or the lines of a churn.
-#[derive(Clone, Copy, Debug, PartialEq, Eq)]
+#[derive(Clone, Copy)]
 pub enum Line {
     /// The words of the command line are outside their grammar: `bad words`.
     BadWords,
@@ -28,6 +30,21 @@ pub enum Line {
     /// What a run of the workload told: eight lines, `churn SEED COUNT`, `threads 3`, and then `commands`, `bad`, `full`,
     /// `objects`, `words` and `sum`, each with its number.
     Churn(Summary),
+}
+
+/// Written as the name of the line.
+impl Debug for Line {
+    fn fmt<W: Write>(&self, f: &mut Formatter<W>) -> fmt::Result {
+        f.write_str(match self {
+            Line::BadWords => "BadWords",
+            Line::BadLine { .. } => "BadLine",
+            Line::TooLong => "TooLong",
+            Line::Unfinished { .. } => "Unfinished",
+            Line::ReadFault => "ReadFault",
+            Line::NoMemory => "NoMemory",
+            Line::Churn(_) => "Churn",
+        })
+    }
 }
 
 /// Writes the line to the sink. It takes no memory, and calls the sink at most once per byte. After `WriteFault` a front
@@ -53,8 +70,7 @@ fn write_bad_line<K: Sink>(sink: &mut K, line: u64, why: Why) -> Result<(), Writ
         (outlet (K.written sink.new) (K.faults sink.new) (K.calls sink.new)) (codes "bad line " ++ (decimal line ++ (codes ": " ++ (why_text why ++ newline ∷ [])))) }
 {
     let mut block = Block::new();
-    block.put(sink, b"bad line ");
-    block.put_number(sink, line);
+    put_told(&mut block, sink, b"bad line ", line);
     block.put(sink, b": ");
     block.put(sink, why.text());
     block.put(sink, b"\n");
@@ -67,8 +83,7 @@ fn write_unfinished<K: Sink>(sink: &mut K, steps: u64) -> Result<(), WriteFault>
         (outlet (K.written sink.new) (K.faults sink.new) (K.calls sink.new)) (codes "unfinished after " ++ (decimal steps ++ codes " steps\n")) }
 {
     let mut block = Block::new();
-    block.put(sink, b"unfinished after ");
-    block.put_number(sink, steps);
+    put_told(&mut block, sink, b"unfinished after ", steps);
     block.put(sink, b" steps\n");
     block.finish(sink)
 }
@@ -79,22 +94,24 @@ fn write_churn<K: Sink>(sink: &mut K, told: Summary) -> Result<(), WriteFault>
         (outlet (K.written sink.new) (K.faults sink.new) (K.calls sink.new)) (summary_text told ++ newline ∷ []) }
 {
     let mut block = Block::new();
-    block.put(sink, b"churn ");
-    block.put_number(sink, told.seed);
-    block.put(sink, b" ");
-    block.put_number(sink, told.count);
-    block.put(sink, b"\nthreads 3\ncommands ");
-    block.put_number(sink, told.commands);
-    block.put(sink, b"\nbad ");
-    block.put_number(sink, told.bad);
-    block.put(sink, b"\nfull ");
-    block.put_number(sink, told.full);
-    block.put(sink, b"\nobjects ");
-    block.put_number(sink, told.objects);
-    block.put(sink, b"\nwords ");
-    block.put_number(sink, told.words);
-    block.put(sink, b"\nsum ");
-    block.put_number(sink, told.sum);
+    put_told(&mut block, sink, b"churn ", told.seed);
+    put_told(&mut block, sink, b" ", told.count);
+    put_told(&mut block, sink, b"\nthreads 3\ncommands ", told.commands);
+    put_told(&mut block, sink, b"\nbad ", told.bad);
+    put_told(&mut block, sink, b"\nfull ", told.full);
+    put_told(&mut block, sink, b"\nobjects ", told.objects);
+    put_told(&mut block, sink, b"\nwords ", told.words);
+    put_told(&mut block, sink, b"\nsum ", told.sum);
     block.put(sink, b"\n");
     block.finish(sink)
+}
+
+// Puts what a number is of, and the number.
+fn put_told<K: Sink>(block: &mut Block, sink: &mut K, label: &[u8], number: u64)
+    ensures { Puts (stage (K.written sink.old) (K.faults sink.old) (K.calls sink.old) block.old)
+        (stage (K.written sink.new) (K.faults sink.new) (K.calls sink.new) block.new)
+        (label.now ++ decimal number) }
+{
+    block.put(sink, label);
+    block.put_number(sink, number);
 }

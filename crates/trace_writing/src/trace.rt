@@ -1,5 +1,5 @@
 //! Traces as text.
-ghost use Rattle.std.specs.Prelude.{ℕ, List, ◌≡◌, ◌+◌, ◌≤◌, ◌++◌, length};
+ghost use Rattle.std.specs.Prelude.{ℕ, List, ◌≡◌, ◌+◌, ◌≤◌, ◌++◌, length, take};
 ghost use Rattle.std.specs.List.{flat_map, AllByRecursion};
 ghost use Rattle.shen_graph.specs.declared.command.Command.{Command as Asked};
 ghost use Rattle.heap_words.specs.declared.config.Config.{Config as Sizes};
@@ -119,46 +119,56 @@ fn put_command<K: Sink>(block: &mut Block, sink: &mut K, command: Command)
         (stage (K.written sink.new) (K.faults sink.new) (K.calls sink.new) block.new)
         (word_of command ++ numbers (numbers_of command)) }
 {
+    let (values, count) = numbers_of(command);
+    put_word(block, sink, word_of(command), &values[..count]);
+}
+
+// The word of a command.
+fn word_of(command: Command) -> &'static [u8]
+    ensures { result.now ≡ word_of command }
+{
     match command {
-        Command::New { dst, refs, nums } => {
-            put_word(block, sink, b"new", &[dst as u64, refs as u64, nums as u64])
-        }
-        Command::Get { dst, src, field } => {
-            put_word(block, sink, b"get", &[dst as u64, src as u64, field as u64])
-        }
-        Command::Set { obj, field, val } => {
-            put_word(block, sink, b"set", &[obj as u64, field as u64, val as u64])
-        }
+        Command::New { .. } => b"new",
+        Command::Get { .. } => b"get",
+        Command::Set { .. } => b"set",
+        Command::Cas { .. } => b"cas",
+        Command::Xchg { .. } => b"xchg",
+        Command::Rd { .. } => b"rd",
+        Command::Wr { .. } => b"wr",
+        Command::Copy { .. } => b"copy",
+        Command::Drop { .. } => b"drop",
+        Command::Same { .. } => b"same",
+        Command::Gc => b"gc",
+    }
+}
+
+// The numbers of a command, which are the first so many.
+fn numbers_of(command: Command) -> ([u64; 4], usize)
+    ensures numbers { take result.1 result.0 ≡ numbers_of command }
+    ensures few { result.1 ≤ 4 }
+{
+    match command {
+        Command::New { dst, refs, nums } => ([dst as u64, refs as u64, nums as u64, 0], 3),
+        Command::Get { dst, src, field } => ([dst as u64, src as u64, field as u64, 0], 3),
+        Command::Set { obj, field, val } => ([obj as u64, field as u64, val as u64, 0], 3),
         Command::Cas {
             obj,
             field,
             expect,
             val,
-        } => put_word(
-            block,
-            sink,
-            b"cas",
-            &[obj as u64, field as u64, expect as u64, val as u64],
-        ),
+        } => ([obj as u64, field as u64, expect as u64, val as u64], 4),
         Command::Xchg {
             dst,
             obj,
             field,
             val,
-        } => put_word(
-            block,
-            sink,
-            b"xchg",
-            &[dst as u64, obj as u64, field as u64, val as u64],
-        ),
-        Command::Rd { obj, index } => put_word(block, sink, b"rd", &[obj as u64, index as u64]),
-        Command::Wr { obj, index, value } => {
-            put_word(block, sink, b"wr", &[obj as u64, index as u64, value])
-        }
-        Command::Copy { dst, src } => put_word(block, sink, b"copy", &[dst as u64, src as u64]),
-        Command::Drop { dst } => put_word(block, sink, b"drop", &[dst as u64]),
-        Command::Same { a, b } => put_word(block, sink, b"same", &[a as u64, b as u64]),
-        Command::Gc => put_word(block, sink, b"gc", &[]),
+        } => ([dst as u64, obj as u64, field as u64, val as u64], 4),
+        Command::Rd { obj, index } => ([obj as u64, index as u64, 0, 0], 2),
+        Command::Wr { obj, index, value } => ([obj as u64, index as u64, value, 0], 3),
+        Command::Copy { dst, src } => ([dst as u64, src as u64, 0, 0], 2),
+        Command::Drop { dst } => ([dst as u64, 0, 0, 0], 1),
+        Command::Same { a, b } => ([a as u64, b as u64, 0, 0], 2),
+        Command::Gc => ([0, 0, 0, 0], 0),
     }
 }
 

@@ -1,8 +1,20 @@
 use Rattle.std.proofs.Common.{append_assoc}
 use Rattle.trace_writing.proofs.message.write_line.Goals as goal
 
+pub returns-in-BadWords : goal.returns-in-BadWords
+returns-in-BadWords g c = rw c.in-BadWords.is c.write_all.ensures
+
 pub returns-in-BadLine : goal.returns-in-BadLine
 returns-in-BadLine g c = rw c.in-BadLine.is (simp append_assoc c.write_bad_line.ensures)
 
 pub returns-in-TooLong : goal.returns-in-TooLong
 returns-in-TooLong g c = rw c.in-TooLong.is c.write_all-in-TooLong.ensures
+
+pub returns-in-ReadFault : goal.returns-in-ReadFault
+returns-in-ReadFault g c = rw c.in-ReadFault.is c.write_all-in-ReadFault.ensures
+
+pub returns-in-NoMemory : goal.returns-in-NoMemory
+returns-in-NoMemory g c = rw c.in-NoMemory.is c.write_all-in-NoMemory.ensures
+
+pub returns-in-Churn : goal.returns-in-Churn
+returns-in-Churn g c = rw c.in-Churn.is c.write_churn.ensures

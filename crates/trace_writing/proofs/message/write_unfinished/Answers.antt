@@ -1,6 +1,9 @@
-use Rattle.text_writer.proofs.Stages.{puts_both, taken_by_new}
+use Rattle.std.proofs.Common.{codes}
+use Rattle.std.specs.Fmt.{decimal}
+use Rattle.text_writer.proofs.Stages.{taken_by_new}
+use Rattle.trace_writing.proofs.AnswerLemmas.{puts_told}
 use Rattle.trace_writing.proofs.message.write_unfinished.Goals as goal
 
 pub returns : goal.returns
 returns g c =
-    c.finish.ensures.ended _ _ (taken_by_new c.new-block.ensures (puts_both c.put.ensures.put (puts_both c.put_number.ensures.put c.put-2.ensures.put)))
+    c.finish.ensures.ended _ _ (taken_by_new c.new-block.ensures (puts_told (codes "unfinished after ") (decimal c.args.steps) _ c.put_told.ensures c.put.ensures.put))

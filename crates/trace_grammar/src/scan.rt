@@ -18,7 +18,12 @@ pub fn text_at<'a>(text: &[u8], bytes: &'a [u8]) -> Option<&'a [u8]>
 pub fn digits_at(bytes: &[u8]) -> usize
     ensures { result ≡ digit_count bytes.now }
 {
-    bytes.iter().take_while(|b| b.is_ascii_digit()).count()
+    for (count, byte) in bytes.iter().enumerate() {
+        if !byte.is_ascii_digit() {
+            return count;
+        }
+    }
+    bytes.len()
 }
 
 /// The number that these digits spell, if a u64 holds it.
@@ -49,7 +54,7 @@ pub fn is_numeral(digits: &[u8]) -> bool
 }
 
 /// The number that these digits spell, at most a limit.
-#[tactic(auto, unfolding(trace_grammar::specs::Scanning::numeral))]
+#[tactic(auto, unfolding(crate::specs::Scanning::numeral))]
 fn numeral(limit: u64, digits: &[u8]) -> Option<u64>
     requires { AllDigits 10 digits.now }
     ensures { result ≡ numeral limit digits.now }
@@ -62,7 +67,7 @@ fn numeral(limit: u64, digits: &[u8]) -> Option<u64>
 }
 
 /// The number that the digits at the front spell, at most a limit, and the bytes behind it.
-#[tactic(auto, unfolding(trace_grammar::specs::Scanning::number_at))]
+#[tactic(auto, unfolding(crate::specs::Scanning::number_at))]
 fn number_at(limit: u64, bytes: &[u8]) -> Option<(u64, &[u8])>
     ensures { option_map (λ x. (x.0, x.1.now)) result ≡ number_at limit bytes.now }
 {
@@ -72,7 +77,7 @@ fn number_at(limit: u64, bytes: &[u8]) -> Option<(u64, &[u8])>
 }
 
 /// The number from 1 on that the digits at the front spell, at most a limit, and the bytes behind it.
-#[tactic(auto, unfolding(trace_grammar::specs::Scanning::positive_at))]
+#[tactic(auto, unfolding(crate::specs::Scanning::positive_at))]
 pub fn positive_at(limit: u64, bytes: &[u8]) -> Option<(u64, &[u8])>
     ensures { option_map (λ x. (x.0, x.1.now)) result ≡ positive_at limit bytes.now }
 {
@@ -93,7 +98,7 @@ pub fn number_in(most: u64, text: &[u8]) -> Option<u64>
 }
 
 /// The number after a space, at most a limit.
-#[tactic(auto, unfolding(trace_grammar::specs::Scanning::spaced_at))]
+#[tactic(auto, unfolding(crate::specs::Scanning::spaced_at))]
 fn spaced_at(limit: u64, bytes: &[u8]) -> Option<(u64, &[u8])>
     ensures { option_map (λ x. (x.0, x.1.now)) result ≡ spaced_at limit bytes.now }
 {

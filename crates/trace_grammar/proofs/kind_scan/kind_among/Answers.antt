@@ -1,6 +1,6 @@
 use Rattle.std.proofs.Common.{sym}
-use Rattle.trace_scan.proofs.Turns.{kind_found, kind_goes_on, kinds_end}
-use Rattle.trace_scan.proofs.kind.kind_among.Goals as goal
+use Rattle.trace_grammar.proofs.Turns.{kind_found, kind_goes_on, kinds_end}
+use Rattle.trace_grammar.proofs.kind_scan.kind_among.Goals as goal
 
 pub loop-kind-preserved : goal.loop-kind-preserved
 loop-kind-preserved c =

@@ -4,8 +4,8 @@ ghost use Rattle.std.specs.Option.{option_map};
 ghost use Rattle.trace_grammar.specs.Kinds.{kinds};
 ghost use Rattle.trace_grammar.specs.Scanning.{kind_among};
 
+use crate::kind::CommandKind;
 use crate::scan::text_at;
-use trace_grammar::CommandKind;
 
 /// The first of these kinds whose word stands at the front, and what is behind the word.
 fn kind_among<'a>(kinds: &[CommandKind], bytes: &'a [u8]) -> Option<(CommandKind, &'a [u8])>

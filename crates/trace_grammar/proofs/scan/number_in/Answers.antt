@@ -1,7 +1,7 @@
 use Rattle.std.proofs.Common.{sym, arith}
 use Rattle.trace_grammar.proofs.ReadItems.{number_read, no_number, whole_number, no_whole_number, no_more_number, no_bytes}
 use Rattle.trace_grammar.proofs.ScheduleLines.{not_empty}
-use Rattle.trace_scan.proofs.scan.number_in.Goals as goal
+use Rattle.trace_grammar.proofs.scan.number_in.Goals as goal
 
 pub returns-in_err-number : goal.returns-in_err-number
 returns-in_err-number c = rw c.from_residual.ensures (no_whole_number c.args.most c.args.text.now (no_number c.args.most c.args.text.now (omega arith) c.in_err-number.ensures))

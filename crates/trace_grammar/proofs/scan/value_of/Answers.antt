@@ -3,7 +3,7 @@ use Rattle.std.specs.Str.Parse.{digits_value}
 use Rattle.std.proofs.lemmas.Str.Parse.{digits_value-take-le}
 use Rattle.std.proofs.lemmas.Str.Parse.{digit_at}
 use Rattle.trace_grammar.proofs.Digits.{value_more}
-use Rattle.trace_scan.proofs.scan.value_of.Goals as goal
+use Rattle.trace_grammar.proofs.scan.value_of.Goals as goal
 
 pub with_digit-requires : goal.with_digit-requires
 with_digit-requires c = digit_at c.args.digits.now c.loop-digit.digit-index c.requires c.loop-digit-test.true
