@@ -1,7 +1,7 @@
 -- Where a step of a call has to look again.
 use Rattle.std.proofs.Common.{◌≡◌, ◌↔◌, ℕ, arith}
 use Rattle.std.proofs.lemmas.Bool.Decides.{nat_tests}
-use Rattle.heap_words.specs.declared.access.Took.TheVariants.{Again}
+use Rattle.heap_words.specs.declared.access.Took.TheVariants.{More, Again}
 use Rattle.handshake.specs.declared.enter_spot.EnterSpot.{EnterSpot}
 use Rattle.handshake.specs.declared.enter_spot.EnterSpot.TheVariants as enter
 use Rattle.handshake.specs.Rows.{enter_says}
@@ -14,6 +14,10 @@ use Rattle.mutator.specs.declared.fields.FieldSpot.{FieldSpot}
 use Rattle.mutator.specs.declared.fields.FieldSpot.TheVariants.{Exchange}
 use Rattle.mutator.specs.Rows.{field_says}
 use Rattle.mutator.specs.Waits.{WaitsAt}
+
+-- one that says that there is more to do does not say it
+pub never : (More ≡ Again) ↔ ⊥
+never = (λ is. cc, λ no. absurd no)
 
 -- a step at a field says Again exactly where an exchange finds another reference
 pub says_where_it_waits : (object : ℕ) (at : FieldSpot) (got : ℕ) → (field_says at got ≡ Again) ↔ WaitsAt (OnField object at) got
