@@ -12,7 +12,7 @@ use std::fmt;
 use std::fmt::{Debug, Formatter, Write};
 
 /// What the room is for.
-#[derive(Clone, Copy, Debug, PartialEq, Eq)]
+#[derive(Clone, Copy, Debug)]
 pub enum Kind {
     /// For a new object: it leaves the reserve of free regions to copies.
     Fresh,

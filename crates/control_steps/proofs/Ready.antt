@@ -30,7 +30,7 @@ use Rattle.heap_world.specs.Change.{image_words}
 use Rattle.control_steps.specs.declared.spot.ControlSpot.{ControlSpot}
 use Rattle.control_steps.specs.declared.spot.ControlSpot.TheVariants.{LookLeft, StoreEnd, LookAsked, LookFree, Scanning, Evacuating, Updating, Stopping, LoadWord, StoreWord, Go, Gone}
 use Rattle.control_steps.specs.Rows.{control_seat, control_touch, after_scan, after_evacuation, after_updating, stopping, begins_pause, begins_unit, unasked, wants_pause}
-use Rattle.control_steps.specs.Ready.{is_ready, AccessesAreInside, StaysReady}
+use Rattle.control_steps.specs.Ready.{is_ready, UnitGoesOn, AccessesAreInside, StaysReady}
 
 -- of two spots
 of_two : (c : Config) (b : Bool) (x y : ControlSpot) → (b ≡ true → is_ready c x ≡ true) → (b ≡ false → is_ready c y ≡ true) → is_ready c (if b then x else y) ≡ true
@@ -68,6 +68,13 @@ updates_on c cset at ready = search arith
 begins_ready : (c : Config) (phase cset : ℕ) → is_ready c (begins_unit phase cset) ≡ true
 begins_ready c phase cset = of_two c (phase == 1) (Scanning scan.LoadClaim) (if phase == 2 then Evacuating cset evac.LoadClaim else Updating cset update.LoadClaim) (λ e. refl)
     (λ e. of_two c (phase == 2) (Evacuating cset evac.LoadClaim) (Updating cset update.LoadClaim) (λ e. refl) (λ e. refl))
+
+-- what is known of a spot is known of it under its own name
+pub ready_at : (c : Config) (spot at : ControlSpot) → spot ≡ at → is_ready c spot ≡ true → is_ready c at ≡ true
+ready_at c spot at is ready = subst (λ s. is_ready c s ≡ true) is ready
+
+pub goes_at : (c : Config) (spot at : ControlSpot) (got : ℕ) → spot ≡ at → UnitGoesOn c spot got → UnitGoesOn c at got
+goes_at c spot at got is goes = subst (λ s. UnitGoesOn c s got) is goes
 
 pub stays_ready : StaysReady
 stays_ready c phase cset seen LookLeft got ready goes = of_two c (got == 0) StoreEnd LookAsked (λ e. refl) (λ e. refl)

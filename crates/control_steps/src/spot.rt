@@ -168,6 +168,17 @@ impl ControlSpot {
         ensures says { result.1 ≡ rows.says_at config last.seen self got }
         ensures again { (result.1 ≡ Took.Again) ↔ waits_at config last.seen self got }
     {
+        self.next(config, last, got)
+    }
+
+    // The same by its rows alone. That its numbers stay in range follows from them.
+    fn next(self, config: Config, last: LastPause, got: u64) -> (ControlSpot, Took)
+        requires ready { is_ready config self ≡ true }
+        requires fit { UnitGoesOn config self got }
+        ensures row { result.0 ≡ rows.next_spot config last.phase last.cset last.seen self got }
+        ensures says { result.1 ≡ rows.says_at config last.seen self got }
+        ensures again { (result.1 ≡ Took.Again) ↔ waits_at config last.seen self got }
+    {
         match self {
             ControlSpot::LookLeft if got == 0 => (ControlSpot::StoreEnd, Took::More),
             ControlSpot::LookLeft => (ControlSpot::LookAsked, Took::More),

@@ -9,7 +9,7 @@ use crate::wish::{Copying, Wish};
 use heap_words::{Access, Config, Took};
 
 // One copier: at rest, or with the machine of its call, which also says how its last call ended.
-#[derive(Debug, Drop)]
+#[derive(Drop)]
 pub(crate) enum Copier {
     Outside,
     Entering(EnterEvac),
@@ -45,7 +45,7 @@ impl Copier {
             return true;
         }
         let inside = match self {
-            Copier::Entering(enter) => enter.answer() == Room::Inside,
+            Copier::Entering(enter) => matches!(enter.answer(), Room::Inside),
             Copier::Outside | Copier::Leaving(_) | Copier::Stopping(_) => false,
         };
         match wish {

@@ -1,5 +1,5 @@
 /// What a copier may do once its call has ended.
-#[derive(Clone, Copy, Debug, PartialEq, Eq)]
+#[derive(Clone, Copy, Debug)]
 pub enum Room {
     /// It is counted, and may copy.
     Inside,

@@ -1,5 +1,5 @@
 /// What a copier at rest is to do.
-#[derive(Clone, Copy, Debug, PartialEq, Eq)]
+#[derive(Clone, Copy, Debug)]
 pub enum Wish {
     /// To copy: outside only.
     Enter,

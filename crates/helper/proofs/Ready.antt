@@ -1,7 +1,7 @@
 -- A helper can make its next access wherever it goes on.
 use Rattle.std.proofs.Common.{◌≡◌, ℕ, ◌+◌, ◌<◌, Bool, true, false, refl, sym, subst, arith}
 use Rattle.std.specs.Prelude.{◌==◌, if◌then◌else◌}
-use Rattle.std.proofs.lemmas.Bool.{and_parts, and_from, ltb-true}
+use Rattle.std.proofs.lemmas.Bool.{and_parts, and_from, ltb-true, false≢true}
 use Rattle.std.proofs.lemmas.Bool.Decides.{nat_tests}
 use Rattle.heap_words.specs.declared.config.Config.{Config}
 use Rattle.heap_words.specs.Access.{table_index}
@@ -72,6 +72,18 @@ spot_stays c seat (Evacuating cset at) got fits goes = evacuates_on c seat cset 
 spot_stays c seat (Updating cset at) got fits goes = updates_on c seat cset (updates.next_at c cset at got) goes
 spot_stays c seat Leave got fits goes = refl
 spot_stays c seat Gone got fits goes = refl
+
+-- what is known of a spot is known of it under its own name
+pub fits_at : (c : Config) (seat : ℕ) (spot at : HelpSpot) → spot ≡ at → spot_fits c seat spot ≡ true → spot_fits c seat at ≡ true
+fits_at c seat spot at is fits = subst (λ s. spot_fits c seat s ≡ true) is fits
+
+pub goes_at : (c : Config) (seat : ℕ) (spot at : HelpSpot) (got : ℕ) → spot ≡ at → UnitGoesOn c seat spot got → UnitGoesOn c seat at got
+goes_at c seat spot at got is goes = subst (λ s. UnitGoesOn c seat s got) is goes
+
+-- a part that goes on has not ended
+pub not_ended : (ended : Bool) → (if ended then false else true) ≡ true → ended ≡ false
+not_ended true goes = absurd (false≢true goes)
+not_ended false goes = refl
 
 pub stays_ready : StaysReady
 stays_ready c h got ready goes = let parts = and_parts _ _ ready in and_from _ _ parts.0 (spot_stays c h.seat h.spot got parts.1 goes)

@@ -126,6 +126,17 @@ impl HelpSpot {
         ensures says { result.1 ≡ rows.says_at config self got }
         ensures again { (result.1 ≡ Took.Again) ↔ waits_at config self got }
     {
+        self.next(config, seat, got)
+    }
+
+    // The same by its rows alone. That its numbers stay in range follows from them.
+    fn next(self, config: Config, seat: usize, got: u64) -> (HelpSpot, Took)
+        requires fits { spot_fits config seat self ≡ true }
+        requires fit { UnitGoesOn config seat self got }
+        ensures row { result.0 ≡ rows.next_spot config self got }
+        ensures says { result.1 ≡ rows.says_at config self got }
+        ensures again { (result.1 ≡ Took.Again) ↔ waits_at config self got }
+    {
         match self {
             HelpSpot::LoadEnd if got == 1 => (HelpSpot::Gone, Took::More),
             HelpSpot::LoadEnd => (

@@ -1,7 +1,7 @@
 -- Where a step of a call has to look again.
 use Rattle.std.proofs.Common.{◌≡◌, ◌↔◌, ℕ, arith}
 use Rattle.std.proofs.lemmas.Bool.Decides.{nat_tests}
-use Rattle.heap_words.specs.declared.access.Took.TheVariants.{Again}
+use Rattle.heap_words.specs.declared.access.Took.TheVariants.{More, Again}
 use Rattle.heap_words.specs.declared.config.Config.{Config}
 use Rattle.shen_graph.specs.declared.command.Command.{Command}
 use Rattle.handshake.specs.declared.enter_spot.EnterSpot.{EnterSpot}
@@ -21,6 +21,10 @@ use Rattle.mutator.specs.declared.fields.FieldSpot.TheVariants.{Exchange}
 use Rattle.mutator.specs.Rows.{words_of, field_says, make_says}
 use Rattle.mutator.specs.Waits.{WaitsAt}
 use Rattle.mutator.proofs.Parts.{says_again}
+
+-- one that says that there is more to do does not say it
+pub never : (More ≡ Again) ↔ ⊥
+never = (λ is. cc, λ no. absurd no)
 
 -- a step at a field says Again exactly where an exchange finds another reference
 pub says_where_it_waits : (object : ℕ) (at : FieldSpot) (got : ℕ) → (field_says at got ≡ Again) ↔ WaitsAt (OnField object at) got

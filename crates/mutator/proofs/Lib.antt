@@ -5,3 +5,4 @@ pub mod Making
 pub mod Leaving
 pub mod Parts
 pub mod Goes
+pub mod Inside

@@ -6,6 +6,8 @@ use crate::shows::after_field;
 use crate::spot::Spot;
 use satb_barrier::RememberSpot;
 use shen_graph::Reply;
+use std::fmt;
+use std::fmt::{Debug, Formatter, Write};
 
 /// Whether a reference that is overwritten in a phase has to be recorded: objects are marked, and it is not null.
 pub(crate) fn is_to_record(phase: u64, found: u64) -> bool
@@ -15,7 +17,7 @@ pub(crate) fn is_to_record(phase: u64, found: u64) -> bool
 }
 
 /// What a mutator does once the reference that it overwrites is recorded.
-#[derive(Clone, Copy, Debug, PartialEq, Eq)]
+#[derive(Clone, Copy)]
 pub enum Overwritten {
     /// It stores another one into the field where it was found.
     Set {
@@ -80,5 +82,16 @@ impl Overwritten {
             Overwritten::Xchg => after_field(found),
             Overwritten::Cas => Spot::Leave { reply: Reply::Yes },
         }
+    }
+}
+
+/// Written as what it does then.
+impl Debug for Overwritten {
+    fn fmt<W: Write>(&self, f: &mut Formatter<W>) -> fmt::Result {
+        f.write_str(match self {
+            Overwritten::Set { .. } => "Set",
+            Overwritten::Xchg => "Xchg",
+            Overwritten::Cas => "Cas",
+        })
     }
 }

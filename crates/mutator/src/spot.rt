@@ -19,7 +19,7 @@ use std::fmt;
 use std::fmt::{Debug, Formatter, Write};
 
 /// What a call keeps of its start.
-#[derive(Clone, Copy, Debug, PartialEq, Eq)]
+#[derive(Clone, Copy, Debug)]
 pub struct Kept {
     /// Its command.
     pub command: Command,
@@ -30,7 +30,7 @@ pub struct Kept {
 }
 
 /// What a mutator does once it is inside.
-#[derive(Clone, Copy, Debug, PartialEq, Eq)]
+#[derive(Clone, Copy, Debug)]
 pub enum Entered {
     /// It begins a call.
     Call,

@@ -149,6 +149,14 @@ impl Mutator {
         ensures row { result ≡ placed (config_of self.now) (touch_of (config_of self.now) (seen self.now) (order_of self.now)) }
         ensures inside { table_index result < table_words (config_of self.now) }
     {
+        self.access()
+    }
+
+    // The same by its spot. That it is inside follows from what a mutator's numbers are.
+    fn access(&self) -> Access
+        requires { is_idle self.now ≡ false }
+        ensures { result ≡ placed (config_of self.now) (touch_of (config_of self.now) (seen self.now) (order_of self.now)) }
+    {
         let config = self.config;
         let seat = self.mutator;
         let command = self.kept.command;

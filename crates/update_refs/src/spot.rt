@@ -13,7 +13,7 @@ use std::fmt;
 use std::fmt::{Debug, Formatter, Write};
 
 /// A walk over the objects of a region, with the words of the region that end it and say which objects are kept.
-#[derive(Clone, Copy, Debug, PartialEq, Eq)]
+#[derive(Clone, Copy, Debug)]
 pub struct Walk {
     /// The region, counted from 0.
     pub region: usize,
@@ -24,7 +24,7 @@ pub struct Walk {
 }
 
 /// An object that a walk has come to.
-#[derive(Clone, Copy, Debug, PartialEq, Eq)]
+#[derive(Clone, Copy, Debug)]
 pub struct Visit {
     /// The walk.
     pub walk: Walk,

@@ -1,0 +1,44 @@
+-- The next access of a mutator is one of a word of the table.
+use Rattle.std.proofs.Common.{◌≡◌, ℕ, ◌<◌, Bool, true, false, ◌&&◌, cond, refl, sym, subst}
+use Rattle.std.proofs.lemmas.Bool.{and_parts, false≢true}
+use Rattle.heap_words.specs.declared.config.Config.{Config}
+use Rattle.heap_words.specs.Access.{table_index}
+use Rattle.heap_words.specs.Words.{IsWord, is_word, word_at, table_words}
+use Rattle.heap_words.proofs.Rows.{word_inside}
+use Rattle.heap_words.proofs.Stores.{is_word_true}
+use Rattle.steps_base.specs.Touch.{Touch, placed}
+use Rattle.steps_base.proofs.Touches.{table_index-access_at}
+use Rattle.shen_graph.specs.declared.order.Order.{Order}
+use Rattle.shen_graph.specs.declared.order.Order.TheVariants.{Nothing, Begin, End}
+use Rattle.mutator.specs.declared.spot.Kept.{Kept}
+use Rattle.mutator.specs.declared.spot.Spot.{Spot}
+use Rattle.mutator.specs.declared.spot.Spot.TheVariants.{Rest, Ended}
+use Rattle.mutator.specs.Rows.{touch_at}
+use Rattle.mutator.specs.Fit.{is_ready, stores_fit, numbers_fit}
+
+-- between two calls too, where the access is by the order
+touch_word : (c : Config) (seat made : ℕ) (kept : Kept) (order : Order) (spot : Spot) → is_word c (touch_at c seat made kept Nothing spot).word ≡ true → IsWord c (touch_at c seat made kept order spot).word
+touch_word c seat made kept End Rest is = tt
+touch_word c seat made kept Nothing Rest is = is_word_true c (touch_at c seat made kept Nothing Rest).word is
+touch_word c seat made kept (Begin command) Rest is = is_word_true c (touch_at c seat made kept Nothing Rest).word is
+touch_word c seat made kept End (Ended reply) is = tt
+touch_word c seat made kept Nothing (Ended reply) is = is_word_true c (touch_at c seat made kept Nothing Rest).word is
+touch_word c seat made kept (Begin command) (Ended reply) is = is_word_true c (touch_at c seat made kept Nothing Rest).word is
+touch_word c seat made kept order spot is = is_word_true c (touch_at c seat made kept Nothing spot).word is
+
+-- an access of a word is inside the table
+placed_inside : (c : Config) (t : Touch) → IsWord c t.word → table_index (placed c t) < table_words c
+placed_inside c t is = subst (λ k. k < table_words c) (sym (table_index-access_at (word_at c t.word) t.form)) (word_inside c t.word is)
+
+pub touch_inside : (c : Config) (seat made : ℕ) (kept : Kept) (order : Order) (spot : Spot) → is_word c (touch_at c seat made kept Nothing spot).word ≡ true → table_index (placed c (touch_at c seat made kept order spot)) < table_words c
+touch_inside c seat made kept order spot is = placed_inside c (touch_at c seat made kept order spot) (touch_word c seat made kept order spot is)
+
+-- where a mutator that is ready stands at a spot, the numbers of the access are in range, and so are those of the spot
+pub ready_at : (c : Config) (seat made : ℕ) (kept : Kept) (spot at : Spot) → spot ≡ at → is_ready c seat made kept spot ≡ true
+    → ((is_word c (touch_at c seat made kept Nothing at).word && stores_fit c seat made kept at) ≡ true) × (numbers_fit c seat made kept at ≡ true)
+ready_at c seat made kept spot at is ready = and_parts _ _ (subst (λ s. is_ready c seat made kept s ≡ true) is ready)
+
+-- a part that goes on has not ended
+pub not_ended : (ended : Bool) → cond ended false true ≡ true → ended ≡ false
+not_ended true goes = absurd (false≢true goes)
+not_ended false goes = refl
