@@ -29,12 +29,18 @@ pub struct Heap {
 }
 
 // Machines, each in its place.
-fn placed(alloc: Global, machines: Vec<Machine>) -> Result<Vec<Option<Machine>>, NoMemory>
+fn placed(alloc: Global, mut machines: Vec<Machine>) -> Result<Vec<Option<Machine>>, NoMemory>
     ensures { IfOk result (λ places. places.items ≡ whole machines.items) }
 {
-    let Ok(places) = machines.into_iter().map(Some).collect(alloc) else {
+    let Ok(mut places) = Vec::with_capacity(alloc, machines.len()) else {
         return Err(NoMemory);
     };
+    machines.reverse();
+    while let Some(machine) = machines.pop() {
+        let Ok(()) = places.push(Some(machine)) else {
+            return Err(NoMemory);
+        };
+    }
     Ok(places)
 }
 

@@ -12,7 +12,7 @@ use shen_graph::{Command, Work};
 use std::sync::Wait;
 
 // What the machines of a bundle did in a round.
-#[derive(Clone, Copy, Debug, PartialEq, Eq)]
+#[derive(Clone, Copy)]
 enum Round {
     // None made a step.
     Idle,

@@ -1,0 +1,11 @@
+use Rattle.std.proofs.Common.{◌≡◌, ◌++◌, vec_len}
+use mathlib.Core.List.{reverse}
+use Rattle.shared_steps.specs.Views.{whole}
+use Rattle.table_heap.proofs.heap.placed.Given as goal
+
+-- those that are left come behind those that are placed, the last one first
+abbrev pub invariant-loop-machine : goal.invariant-loop-machine
+invariant-loop-machine l = l.places.items ++ whole (reverse l.machines.items) ≡ whole l.fn.machines.items
+
+abbrev pub decreases-loop-machine : goal.decreases-loop-machine
+decreases-loop-machine l = vec_len l.machines
