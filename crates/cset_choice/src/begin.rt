@@ -49,7 +49,7 @@ fn move_out(image: &mut Image, address: u64) -> u64
     copy_out(image, address).unwrap()
 }
 
-// Clears a place of the table: if it names an object of the collection set, it names the object's copy then.
+// Clears the word at an index of the table: if it names an object of the collection set, it names the object's copy then.
 fn clear(image: &mut Image, at: usize)
     requires at { at < table_words (config_of image.old) }
     requires can { CanClear (config_of image.old) (memory_of image.old) (slice_index (words_of image.old) at) }

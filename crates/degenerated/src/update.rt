@@ -9,7 +9,7 @@ ghost use Rattle.degenerated.specs.Steps.{row_updated, roots_updated, answers_up
 use crate::fields::{update_fields, updated};
 use image_graph::Image;
 
-// Updates the word at a place of the table.
+// Updates the word at an index of the table.
 fn update_place(image: &mut Image, at: usize)
     requires at { at < table_words (config_of image.old) }
     requires set { memory_of image.old Cset < 2 ^ (config_of image.old).regions }

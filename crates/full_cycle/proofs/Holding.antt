@@ -12,7 +12,7 @@ use Rattle.shen_graph.specs.declared.name.Name.{Name}
 use Rattle.shen_graph.specs.Graph.{Graph, Reference}
 use Rattle.heap_world.specs.World.{Plot, thing, name_at}
 use Rattle.heap_world.proofs.Pointing.{piece_inside, named_if_not_0}
-use Rattle.image_laws.specs.Held.{IsHeld, from_root, from_field, IsAmong, AreKept}
+use Rattle.image_laws.specs.Held.{IsHeld, from_root, from_field, IsAmong, AreHeldKept}
 use Rattle.image_laws.specs.Pack.{CanPack}
 use Rattle.image_laws.specs.Plot.{heap_end}
 use Rattle.image_laws.specs.Full.{now_in, root_words, copies_of, field_words, kept_in}
@@ -48,7 +48,7 @@ module _ (c : Config) (memory : Word → ℕ) (block : Plot) (owner : ℕ → Op
   abbrev kept : ℕ → ℕ
   kept = kept_in c memory
 
-  are : AreKept heap Held kept
+  are : AreHeldKept heap Held kept
   are = walk_keeps c memory block more holds.objects
 
   can : CanPack c top heap block more.object now kept

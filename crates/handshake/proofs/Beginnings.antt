@@ -6,7 +6,7 @@ use Rattle.heap_words.specs.declared.config.Config.{Config}
 use Rattle.heap_words.specs.Ranges.{seat_count}
 use Rattle.heap_words.specs.Words.{Pause, Left, State, table_words, view}
 use Rattle.steps_base.specs.Steps.{Stage}
-use Rattle.handshake.specs.Standing.{Standing, outside, idle, state_word, pause_word, is_within, IsSeated, control_seat}
+use Rattle.handshake.specs.Standing.{Standing, outside, idle, state_word, pause_word, is_within, HasSeat, control_seat}
 use Rattle.handshake.specs.Shaken.{IsShaken}
 use Rattle.handshake.specs.Left.{IsCounted}
 use Rattle.handshake.proofs.Counting.{weight, count_by-cons}
@@ -39,15 +39,15 @@ shaken_begins {R} c standing s control words machines there is_idle out pause st
   checked = λ seat r below here checked. ap is_within (out seat r below here);
 }
   where
-    by_seat : (seat : ℕ) (r : R) → slice_get s.machines seat ≡ Some r → (b : Bool) → nat_eq seat (control_seat c) ≡ b → IsSeated c seat (standing r)
+    by_seat : (seat : ℕ) (r : R) → slice_get s.machines seat ≡ Some r → (b : Bool) → nat_eq seat (control_seat c) ≡ b → HasSeat c seat (standing r)
     by_seat seat r here true is =
         let e : seat ≡ control_seat c = grind (arith, nat_tests) in
         let at : slice_get s.machines (control_seat c) ≡ Some r = subst (λ k. slice_get s.machines k ≡ Some r) e here in
         let same : control ≡ r = cc (at, there) in
-        subst (IsSeated c seat) (sym is_idle ∙ ap standing same) e
+        subst (HasSeat c seat) (sym is_idle ∙ ap standing same) e
     by_seat seat r here false is =
         let below : seat < control_seat c = grind (arith, nat_tests, get_below s.machines seat r here, machines) in
-        subst (IsSeated c seat) (sym (out seat r below here)) below
+        subst (HasSeat c seat) (sym (out seat r below here)) below
 
 -- as many are counted as stand first
 count_first : {R : Type 0} (p : R → Bool) (xs : List R) (n : ℕ) → n ≤ length xs

@@ -15,7 +15,7 @@ use Rattle.steps_base.proofs.Runs.{go-none, go-first}
 use Rattle.steps_base.proofs.Laws.{act_cases}
 use Rattle.handshake.specs.declared.stop_spot.StopSpot.TheVariants.{Check, Stopped}
 use Rattle.handshake.specs.Rows.{after_seat}
-use Rattle.handshake.specs.Standing.{Standing, outside, looks, backs, inside, leaves, idle, stops, checks, works, goes, state_word, pause_word, is_within, is_pausing, is_free, is_checked, IsSeated, control_seat, stop_standing}
+use Rattle.handshake.specs.Standing.{Standing, outside, looks, backs, inside, leaves, idle, stops, checks, works, goes, state_word, pause_word, is_within, is_pausing, is_free, is_checked, HasSeat, control_seat, stop_standing}
 use Rattle.handshake.specs.Obeys.{is_load, IsHarmless, Enters, StaysOut, Looks, GoesOut, GoesOn, Stops, Checks, EndsPause, Obeys}
 use Rattle.handshake.specs.Shaken.{IsShaken, EventObeys, EachObeys}
 use Rattle.handshake.proofs.Words.{KeepsWords, elsewhere_keeps, load_keeps, pause_stored, pause_stored_states, state_stored, state_stored_pause, state_stored_other}
@@ -28,7 +28,7 @@ within_state leaves is = refl
 within_state _ is = absurd (cc (is))
 
 -- and is one of a mutator or helper
-within_seated : (c : Config) (seat : ℕ) (w : Standing) → seat < control_seat c → is_within w ≡ true → IsSeated c seat w
+within_seated : (c : Config) (seat : ℕ) (w : Standing) → seat < control_seat c → is_within w ≡ true → HasSeat c seat w
 within_seated c seat inside below is = below
 within_seated c seat leaves below is = below
 within_seated c seat _ below is = absurd (cc (is))
@@ -44,7 +44,7 @@ free_unchecked idle seat is = refl
 free_unchecked stops seat is = refl
 free_unchecked _ seat is = absurd (cc (is))
 
-free_seated : (c : Config) (seat : ℕ) (w : Standing) → seat ≡ control_seat c → is_free w ≡ true → IsSeated c seat w
+free_seated : (c : Config) (seat : ℕ) (w : Standing) → seat ≡ control_seat c → is_free w ≡ true → HasSeat c seat w
 free_seated c seat idle e is = e
 free_seated c seat stops e is = e
 free_seated c seat _ e is = absurd (cc (is))
@@ -54,7 +54,7 @@ pausing_pause works is = refl
 pausing_pause goes is = refl
 pausing_pause _ is = absurd (cc (is))
 
-pausing_seated : (c : Config) (seat : ℕ) (w : Standing) → seat ≡ control_seat c → is_pausing w ≡ true → IsSeated c seat w
+pausing_seated : (c : Config) (seat : ℕ) (w : Standing) → seat ≡ control_seat c → is_pausing w ≡ true → HasSeat c seat w
 pausing_seated c seat works e is = e
 pausing_seated c seat goes e is = e
 pausing_seated c seat _ e is = absurd (cc (is))
@@ -87,10 +87,10 @@ nothing_below : (seat : ℕ) → nat_lt seat 0 ≡ true → ⊥
 nothing_below seat is = grind (arith, nat_tests)
 
 -- where the control stands after a seat
-after_seated : (c : Config) (number seat : ℕ) → number ≡ control_seat c → IsSeated c number (stop_standing (after_seat c seat))
+after_seated : (c : Config) (number seat : ℕ) → number ≡ control_seat c → HasSeat c number (stop_standing (after_seat c seat))
 after_seated c number seat is_control = by_test (nat_lt (seat + 1) (control_seat c)) refl
   where
-    by_test : (b : Bool) → nat_lt (seat + 1) (control_seat c) ≡ b → IsSeated c number (stop_standing (if b then Check (seat + 1) else Stopped))
+    by_test : (b : Bool) → nat_lt (seat + 1) (control_seat c) ≡ b → HasSeat c number (stop_standing (if b then Check (seat + 1) else Stopped))
     by_test true is = (is_control, ltb-true _ _ is)
     by_test false is = is_control
 
@@ -119,7 +119,7 @@ module _ {R : Type 0} (c : Config) (standing : R → Standing) (s : Stage R) (sh
   found access = slice_index s.words (table_index access)
 
   -- a mutator or helper that makes no store into its state word
-  quiet_keeps : (access : Access) → number < control_seat c → KeepsWords c s.words (accessed access s.words) → IsSeated c number (standing new)
+  quiet_keeps : (access : Access) → number < control_seat c → KeepsWords c s.words (accessed access s.words) → HasSeat c number (standing new)
       → state_word (standing old) ≡ state_word (standing new)
       → (is_checked (standing shaken.control) number ≡ true → is_within (standing new) ≡ false)
       → IsShaken c standing (after access)
@@ -129,7 +129,7 @@ module _ {R : Type 0} (c : Config) (standing : R → Standing) (s : Stage R) (sh
       (λ seat low apart. keeps.states seat low) out
 
   -- a mutator or helper that stores into its state word, and is not in the heap then
-  stores_keeps : (access : Access) (value : ℕ) → access ≡ placed c (touch (State number) (stores value)) → number < control_seat c → IsSeated c number (standing new)
+  stores_keeps : (access : Access) (value : ℕ) → access ≡ placed c (touch (State number) (stores value)) → number < control_seat c → HasSeat c number (standing new)
       → value ≡ state_word (standing new) → is_within (standing new) ≡ false → IsShaken c standing (after access)
   stores_keeps access value is below seated same out = subst (λ a. IsShaken c standing (after a)) (sym is)
       (seat_keeps c standing s shaken number old new here (accessed (placed c (touch (State number) (stores value))) s.words) (length-set s.words _ _) below seated
@@ -143,7 +143,7 @@ module _ {R : Type 0} (c : Config) (standing : R → Standing) (s : Stage R) (sh
   old_control is_control = let there = subst (λ n. slice_get s.machines n ≡ Some old) is_control here in cc (there, shaken.there)
 
   -- the control uses other words
-  control_quiet : (access : Access) → number ≡ control_seat c → KeepsWords c s.words (accessed access s.words) → IsSeated c number (standing new)
+  control_quiet : (access : Access) → number ≡ control_seat c → KeepsWords c s.words (accessed access s.words) → HasSeat c number (standing new)
       → pause_word (standing old) ≡ pause_word (standing new)
       → ((seat : ℕ) (r : R) → seat < control_seat c → slice_get s.machines seat ≡ Some r → is_checked (standing new) seat ≡ true → is_within (standing r) ≡ false)
       → IsShaken c standing (after access)
@@ -153,7 +153,7 @@ module _ {R : Type 0} (c : Config) (standing : R → Standing) (s : Stage R) (sh
       keeps.states checked
 
   -- the control stores into the pause word
-  control_stores : (access : Access) (value : ℕ) → access ≡ placed c (touch Pause (stores value)) → number ≡ control_seat c → IsSeated c number (standing new)
+  control_stores : (access : Access) (value : ℕ) → access ≡ placed c (touch Pause (stores value)) → number ≡ control_seat c → HasSeat c number (standing new)
       → value ≡ pause_word (standing new)
       → ((seat : ℕ) (r : R) → seat < control_seat c → slice_get s.machines seat ≡ Some r → is_checked (standing new) seat ≡ true → is_within (standing r) ≡ false)
       → IsShaken c standing (after access)
@@ -172,10 +172,10 @@ module _ {R : Type 0} (c : Config) (standing : R → Standing) (s : Stage R) (sh
       → Enters c number access next ⊎ StaysOut c access next → standing new ≡ next (found access) → IsShaken c standing (after access)
   outside_keeps access next below out (inl enters) is =
       let looking : standing new ≡ looks = is ∙ enters.next_is _ in
-      stores_keeps access 1 enters.access_is below (subst (IsSeated c number) (sym looking) below) (sym (ap state_word looking)) (ap is_within looking)
+      stores_keeps access 1 enters.access_is below (subst (HasSeat c number) (sym looking) below) (sym (ap state_word looking)) (ap is_within looking)
   outside_keeps access next below out (inr stays) is =
       let staying : standing new ≡ outside = is ∙ stays.next_is _ in
-      quiet_keeps access below (keeps stays.harmless) (subst (IsSeated c number) (sym staying) below) (out ∙ sym (ap state_word staying)) (λ checked. ap is_within staying)
+      quiet_keeps access below (keeps stays.harmless) (subst (HasSeat c number) (sym staying) below) (out ∙ sym (ap state_word staying)) (λ checked. ap is_within staying)
     where
       keeps : IsHarmless c access → KeepsWords c s.words (accessed access s.words)
       keeps (inl reads) = load_keeps c s.words access reads
@@ -196,19 +196,19 @@ module _ {R : Type 0} (c : Config) (standing : R → Standing) (s : Stage R) (sh
       by_word true zero_is =
           let none : found access ≡ 0 = grind (arith, nat_tests) in
           let entered : standing new ≡ inside = is ∙ ap next none ∙ look.enters in
-          quiet_keeps access below keeps (subst (IsSeated c number) (sym entered) below) (in_heap ∙ sym (ap state_word entered))
+          quiet_keeps access below keeps (subst (HasSeat c number) (sym entered) below) (in_heap ∙ sym (ap state_word entered))
           (λ checked. absurd (omega (arith, none, found_is, checked_pause (standing shaken.control) number checked)))
       by_word false zero_not =
           let some : found access ≢ 0 = grind (arith, nat_tests) in
           let off : standing new ≡ backs = is ∙ look.backs_off _ some in
-          quiet_keeps access below keeps (subst (IsSeated c number) (sym off) below) (in_heap ∙ sym (ap state_word off)) (λ checked. ap is_within off)
+          quiet_keeps access below keeps (subst (HasSeat c number) (sym off) below) (in_heap ∙ sym (ap state_word off)) (λ checked. ap is_within off)
 
   -- a step out
   goes_out_keeps : (access : Access) (next : ℕ → Standing) → number < control_seat c
       → GoesOut c number access next → standing new ≡ next (found access) → IsShaken c standing (after access)
   goes_out_keeps access next below out is =
       let left : standing new ≡ outside = is ∙ out.next_is _ in
-      stores_keeps access 0 out.access_is below (subst (IsSeated c number) (sym left) below) (sym (ap state_word left)) (ap is_within left)
+      stores_keeps access 0 out.access_is below (subst (HasSeat c number) (sym left) below) (sym (ap state_word left)) (ap is_within left)
 
   -- a step in the heap
   within_keeps : (access : Access) (next : ℕ → Standing) → number < control_seat c → is_within (standing old) ≡ true
@@ -233,7 +233,7 @@ module _ {R : Type 0} (c : Config) (standing : R → Standing) (s : Stage R) (sh
       → Stops c access next → standing new ≡ next (found access) → IsShaken c standing (after access)
   stops_keeps access next is_control stop is =
       let checking : standing new ≡ checks 0 = is ∙ stop.next_is _ in
-      control_stores access 1 stop.access_is is_control (subst (IsSeated c number) (sym checking) (is_control, some_seat c)) (sym (ap pause_word checking))
+      control_stores access 1 stop.access_is is_control (subst (HasSeat c number) (sym checking) (is_control, some_seat c)) (sym (ap pause_word checking))
       (λ seat r low there checked. absurd (nothing_below seat (sym (ap (λ w. is_checked w seat) checking) ∙ checked)))
 
   -- the control checks a seat
@@ -259,7 +259,7 @@ module _ {R : Type 0} (c : Config) (standing : R → Standing) (s : Stage R) (sh
       by_word true zero_is =
           let none : found access ≡ 0 = grind (arith, nat_tests) in
           let on : standing new ≡ stop_standing (after_seat c seat) = is ∙ ap next none ∙ check.goes_on in
-          control_quiet access is_control keeps (subst (IsSeated c number) (sym on) (after_seated c number seat is_control))
+          control_quiet access is_control keeps (subst (HasSeat c number) (sym on) (after_seated c number seat is_control))
           (ap pause_word old_is ∙ sym (after_pause c seat) ∙ sym (ap pause_word on))
           (λ other r below there checked. by_seat other r below there (after_checked c seat other below (sym (ap (λ w. is_checked w other) on) ∙ checked)) (nat_eq other seat) refl)
         where
@@ -272,7 +272,7 @@ module _ {R : Type 0} (c : Config) (standing : R → Standing) (s : Stage R) (sh
       by_word false zero_not =
           let some : found access ≢ 0 = grind (arith, nat_tests) in
           let waiting : standing new ≡ checks seat = is ∙ check.waits _ some in
-          control_quiet access is_control keeps (subst (IsSeated c number) (sym waiting) (is_control, low))
+          control_quiet access is_control keeps (subst (HasSeat c number) (sym waiting) (is_control, low))
           (ap pause_word old_is ∙ sym (ap pause_word waiting))
           (λ other r below there checked. before other r below there (ltb-true other seat (sym (ap (λ w. is_checked w other) waiting) ∙ checked)))
 
@@ -290,11 +290,11 @@ module _ {R : Type 0} (c : Config) (standing : R → Standing) (s : Stage R) (sh
       → EndsPause c access next → standing new ≡ next (found access) → IsShaken c standing (after access)
   goes_keeps access next is_control ends is =
       let free : standing new ≡ idle = is ∙ ends.next_is _ in
-      control_stores access 0 ends.access_is is_control (subst (IsSeated c number) (sym free) is_control) (sym (ap pause_word free))
+      control_stores access 0 ends.access_is is_control (subst (HasSeat c number) (sym free) is_control) (sym (ap pause_word free))
       (λ seat r low there checked. absurd (cc (checked, ap (λ w. is_checked w seat) free)))
 
   -- the step of a machine that stands so, if it obeys
-  obeys_keeps : (access : Access) (next : ℕ → Standing) (w : Standing) → standing old ≡ w → IsSeated c number w → Obeys c number w access next
+  obeys_keeps : (access : Access) (next : ℕ → Standing) (w : Standing) → standing old ≡ w → HasSeat c number w → Obeys c number w access next
       → standing new ≡ next (found access) → IsShaken c standing (after access)
   obeys_keeps access next outside old_is seated obeys is = outside_keeps access next seated (ap state_word old_is) obeys is
   obeys_keeps access next looks old_is seated obeys is = looks_keeps access next seated (ap state_word old_is) obeys is

@@ -6,7 +6,7 @@ use Rattle.heap_words.specs.declared.config.Config.{Config}
 use Rattle.heap_words.specs.Words.{Pause, State, view}
 use Rattle.steps_base.specs.Steps.{Stage}
 use Rattle.steps_base.proofs.Places.{slice_get-set_same, slice_get-set_other}
-use Rattle.handshake.specs.Standing.{Standing, state_word, pause_word, is_within, is_checked, IsSeated, control_seat}
+use Rattle.handshake.specs.Standing.{Standing, state_word, pause_word, is_within, is_checked, HasSeat, control_seat}
 use Rattle.handshake.specs.Shaken.{IsShaken}
 
 -- What holds of the new machine at its number, and of the old ones elsewhere, holds of each machine after a step.
@@ -30,13 +30,13 @@ module _ {R : Type 0} (c : Config) (standing : R → Standing) (s : Stage R) (sh
   stepped = record { words = words; machines = slice_set s.machines number new }
 
   -- where each machine is seated after the step
-  seated_then : IsSeated c number (standing new) → (k : ℕ) (r : R) → slice_get (slice_set s.machines number new) k ≡ Some r → IsSeated c k (standing r)
-  seated_then is k r at_k = machine_cases s.machines number old new here k r at_k (λ x. IsSeated c k (standing x))
-      (λ e. subst (λ n. IsSeated c n (standing new)) (sym e) is)
+  seated_then : HasSeat c number (standing new) → (k : ℕ) (r : R) → slice_get (slice_set s.machines number new) k ≡ Some r → HasSeat c k (standing r)
+  seated_then is k r at_k = machine_cases s.machines number old new here k r at_k (λ x. HasSeat c k (standing x))
+      (λ e. subst (λ n. HasSeat c n (standing new)) (sym e) is)
       (λ apart at_old. shaken.seated k r at_old)
 
   -- the step of a mutator or helper
-  pub seat_keeps : number < control_seat c → IsSeated c number (standing new)
+  pub seat_keeps : number < control_seat c → HasSeat c number (standing new)
       → view c words Pause ≡ view c s.words Pause
       → view c words (State number) ≡ state_word (standing new)
       → ((seat : ℕ) → seat < control_seat c → seat ≢ number → view c words (State seat) ≡ view c s.words (State seat))
@@ -57,7 +57,7 @@ module _ {R : Type 0} (c : Config) (standing : R → Standing) (s : Stage R) (sh
   }
 
   -- the step of the control
-  pub control_keeps : number ≡ control_seat c → IsSeated c number (standing new)
+  pub control_keeps : number ≡ control_seat c → HasSeat c number (standing new)
       → view c words Pause ≡ pause_word (standing new)
       → ((seat : ℕ) → seat < control_seat c → view c words (State seat) ≡ view c s.words (State seat))
       → ((seat : ℕ) (r : R) → seat < control_seat c → slice_get s.machines seat ≡ Some r → is_checked (standing new) seat ≡ true → is_within (standing r) ≡ false)

@@ -7,7 +7,7 @@ use Rattle.heap_words.specs.Access.{table_index}
 use Rattle.heap_words.specs.Words.{State, image_start}
 use Rattle.steps_base.specs.Touch.{touch, stores, placed}
 use Rattle.steps_base.specs.Steps.{MachineKind, Stage}
-use Rattle.handshake.specs.Standing.{Standing, outside, looks, backs, inside, leaves, idle, stops, checks, works, goes, is_within, is_pausing, IsSeated, control_seat}
+use Rattle.handshake.specs.Standing.{Standing, outside, looks, backs, inside, leaves, idle, stops, checks, works, goes, is_within, is_pausing, HasSeat, control_seat}
 use Rattle.handshake.specs.Obeys.{is_load, IsHarmless, Obeys}
 use Rattle.handshake.specs.Shaken.{IsShaken, IsPausing, IsStill}
 use Rattle.handshake.proofs.Shaking.{pausing_checked}
@@ -21,7 +21,7 @@ state_below : (c : Config) (access : Access) (seat value : ℕ) → seat < contr
 state_below c access seat value below is = inr (subst (λ a. table_index a < image_start c) (sym is) (omega (arith, below)))
 
 -- a machine that is not in the heap, of a mutator or helper, only reads the image
-pub without_reads : (c : Config) (seat : ℕ) (w : Standing) (access : Access) (next : ℕ → Standing) → seat < control_seat c → IsSeated c seat w → is_within w ≡ false → Obeys c seat w access next
+pub without_reads : (c : Config) (seat : ℕ) (w : Standing) (access : Access) (next : ℕ → Standing) → seat < control_seat c → HasSeat c seat w → is_within w ≡ false → Obeys c seat w access next
     → OnlyReads c access
 without_reads c seat outside access next below seated out (inl enters) = state_below c access seat 1 below enters.access_is
 without_reads c seat outside access next below seated out (inr stays) = by_harm stays.harmless

@@ -4,7 +4,7 @@ use Rattle.heap_words.specs.declared.config.Config.{Config}
 use Rattle.heap_words.specs.Access.{table_index}
 use Rattle.heap_words.specs.Words.{Pause, State, image_start, table_words, view}
 use Rattle.steps_base.specs.Steps.{MachineKind, Stage, Event, IsEvent, act}
-use Rattle.handshake.specs.Standing.{Standing, state_word, pause_word, is_within, is_pausing, is_checked, IsSeated, control_seat}
+use Rattle.handshake.specs.Standing.{Standing, state_word, pause_word, is_within, is_pausing, is_checked, HasSeat, control_seat}
 use Rattle.handshake.specs.Obeys.{Obeys, is_load}
 
 -- The state words and the pause word say where the machines stand, and no machine is in the heap whose seat the control has
@@ -13,7 +13,7 @@ pub record IsShaken {R : Type 0} (c : Config) (standing : R → Standing) (s : S
   pub words : length s.words ≡ table_words c
   pub control : R
   pub there : slice_get s.machines (control_seat c) ≡ Some control
-  pub seated : (seat : ℕ) (r : R) → slice_get s.machines seat ≡ Some r → IsSeated c seat (standing r)
+  pub seated : (seat : ℕ) (r : R) → slice_get s.machines seat ≡ Some r → HasSeat c seat (standing r)
   pub pause : view c s.words Pause ≡ pause_word (standing control)
   pub states : (seat : ℕ) (r : R) → seat < control_seat c → slice_get s.machines seat ≡ Some r → view c s.words (State seat) ≡ state_word (standing r)
   pub checked : (seat : ℕ) (r : R) → seat < control_seat c → slice_get s.machines seat ≡ Some r → is_checked (standing control) seat ≡ true → is_within (standing r) ≡ false

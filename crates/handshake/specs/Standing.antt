@@ -64,13 +64,13 @@ abbrev pub control_seat : Config → ℕ
 control_seat c = c.mutators + c.helpers
 
 -- whose standing it is: that of a machine with this seat
-abbrev pub IsSeated : Config → ℕ → Standing → Type 0
-IsSeated c seat idle = seat ≡ control_seat c
-IsSeated c seat stops = seat ≡ control_seat c
-IsSeated c seat (checks other) = (seat ≡ control_seat c) × (other < control_seat c)
-IsSeated c seat works = seat ≡ control_seat c
-IsSeated c seat goes = seat ≡ control_seat c
-IsSeated c seat _ = seat < control_seat c
+abbrev pub HasSeat : Config → ℕ → Standing → Type 0
+HasSeat c seat idle = seat ≡ control_seat c
+HasSeat c seat stops = seat ≡ control_seat c
+HasSeat c seat (checks other) = (seat ≡ control_seat c) × (other < control_seat c)
+HasSeat c seat works = seat ≡ control_seat c
+HasSeat c seat goes = seat ≡ control_seat c
+HasSeat c seat _ = seat < control_seat c
 
 -- where a machine stands that enters
 abbrev pub enter_standing : EnterSpot → Standing

@@ -1,11 +1,11 @@
--- What an access does to the word at its place.
+-- What an access does to the word at its index.
 use Rattle.std.specs.Prelude.{ℕ, ◌+◌, ◌-◌, ◌%◌, ◌^◌, ◌==◌, bit_and, bit_or, if◌then◌else◌, Bool, List, [], ◌∷◌}
 use Rattle.std.specs.Cmp.Lexicographic.{pointwise}
 use Rattle.std.specs.Ordering.{on}
 use Rattle.heap_words.specs.declared.access.Access.{Access}
 use Rattle.heap_words.specs.declared.access.Access.TheVariants.{Load, Store, Swap, Add, Sub, And, Or, Exchange}
 
--- the place of the word
+-- the index of the word
 abbrev pub table_index : Access → ℕ
 table_index (Load at) = at
 table_index (Store at value) = at
@@ -32,16 +32,16 @@ abbrev pub got_of : Access → ℕ → ℕ
 got_of access found = found
 
 -- an access as its kind, its place, what it writes and what it expects
-abbrev pub numbers_of : Access → List ℕ
-numbers_of (Load at) = 0 ∷ at ∷ 0 ∷ 0 ∷ []
-numbers_of (Store at value) = 1 ∷ at ∷ value ∷ 0 ∷ []
-numbers_of (Swap at value) = 2 ∷ at ∷ value ∷ 0 ∷ []
-numbers_of (Add at value) = 3 ∷ at ∷ value ∷ 0 ∷ []
-numbers_of (Sub at value) = 4 ∷ at ∷ value ∷ 0 ∷ []
-numbers_of (And at value) = 5 ∷ at ∷ value ∷ 0 ∷ []
-numbers_of (Or at value) = 6 ∷ at ∷ value ∷ 0 ∷ []
-numbers_of (Exchange at expect value) = 7 ∷ at ∷ value ∷ expect ∷ []
+abbrev pub access_numbers : Access → List ℕ
+access_numbers (Load at) = 0 ∷ at ∷ 0 ∷ 0 ∷ []
+access_numbers (Store at value) = 1 ∷ at ∷ value ∷ 0 ∷ []
+access_numbers (Swap at value) = 2 ∷ at ∷ value ∷ 0 ∷ []
+access_numbers (Add at value) = 3 ∷ at ∷ value ∷ 0 ∷ []
+access_numbers (Sub at value) = 4 ∷ at ∷ value ∷ 0 ∷ []
+access_numbers (And at value) = 5 ∷ at ∷ value ∷ 0 ∷ []
+access_numbers (Or at value) = 6 ∷ at ∷ value ∷ 0 ∷ []
+access_numbers (Exchange at expect value) = 7 ∷ at ∷ value ∷ expect ∷ []
 
 -- whether two accesses are one
 abbrev pub same_access : Access → Access → Bool
-same_access = on numbers_of (pointwise ◌==◌)
+same_access = on access_numbers (pointwise ◌==◌)

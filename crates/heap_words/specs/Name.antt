@@ -32,30 +32,30 @@ word_of (code.Black word) = Black word
 word_of (code.Heap address) = Heap address
 
 -- a name as its kind and its numbers
-abbrev pub numbers_of : WordName → List ℕ
-numbers_of code.Pause = 0 ∷ 0 ∷ 0 ∷ []
-numbers_of code.Left = 1 ∷ 0 ∷ 0 ∷ []
-numbers_of code.End = 2 ∷ 0 ∷ 0 ∷ []
-numbers_of (code.State seat) = 3 ∷ seat ∷ 0 ∷ []
-numbers_of code.Phase = 4 ∷ 0 ∷ 0 ∷ []
-numbers_of code.Cset = 5 ∷ 0 ∷ 0 ∷ []
-numbers_of code.Free = 6 ∷ 0 ∷ 0 ∷ []
-numbers_of code.Evac = 7 ∷ 0 ∷ 0 ∷ []
-numbers_of code.Claim = 8 ∷ 0 ∷ 0 ∷ []
-numbers_of code.Ask = 9 ∷ 0 ∷ 0 ∷ []
-numbers_of (code.Top region) = 10 ∷ region ∷ 0 ∷ []
-numbers_of (code.Tams region) = 11 ∷ region ∷ 0 ∷ []
-numbers_of (code.Limit region) = 12 ∷ region ∷ 0 ∷ []
-numbers_of (code.Current seat) = 13 ∷ seat ∷ 0 ∷ []
-numbers_of (code.Root mutator index) = 14 ∷ mutator ∷ index ∷ []
-numbers_of (code.Count mutator) = 15 ∷ mutator ∷ 0 ∷ []
-numbers_of (code.Buffer mutator entry) = 16 ∷ mutator ∷ entry ∷ []
-numbers_of (code.Wait mutator) = 17 ∷ mutator ∷ 0 ∷ []
-numbers_of (code.Answer mutator) = 18 ∷ mutator ∷ 0 ∷ []
-numbers_of (code.Grey word) = 19 ∷ word ∷ 0 ∷ []
-numbers_of (code.Black word) = 20 ∷ word ∷ 0 ∷ []
-numbers_of (code.Heap address) = 21 ∷ address ∷ 0 ∷ []
+abbrev pub name_numbers : WordName → List ℕ
+name_numbers code.Pause = 0 ∷ 0 ∷ 0 ∷ []
+name_numbers code.Left = 1 ∷ 0 ∷ 0 ∷ []
+name_numbers code.End = 2 ∷ 0 ∷ 0 ∷ []
+name_numbers (code.State seat) = 3 ∷ seat ∷ 0 ∷ []
+name_numbers code.Phase = 4 ∷ 0 ∷ 0 ∷ []
+name_numbers code.Cset = 5 ∷ 0 ∷ 0 ∷ []
+name_numbers code.Free = 6 ∷ 0 ∷ 0 ∷ []
+name_numbers code.Evac = 7 ∷ 0 ∷ 0 ∷ []
+name_numbers code.Claim = 8 ∷ 0 ∷ 0 ∷ []
+name_numbers code.Ask = 9 ∷ 0 ∷ 0 ∷ []
+name_numbers (code.Top region) = 10 ∷ region ∷ 0 ∷ []
+name_numbers (code.Tams region) = 11 ∷ region ∷ 0 ∷ []
+name_numbers (code.Limit region) = 12 ∷ region ∷ 0 ∷ []
+name_numbers (code.Current seat) = 13 ∷ seat ∷ 0 ∷ []
+name_numbers (code.Root mutator index) = 14 ∷ mutator ∷ index ∷ []
+name_numbers (code.Count mutator) = 15 ∷ mutator ∷ 0 ∷ []
+name_numbers (code.Buffer mutator entry) = 16 ∷ mutator ∷ entry ∷ []
+name_numbers (code.Wait mutator) = 17 ∷ mutator ∷ 0 ∷ []
+name_numbers (code.Answer mutator) = 18 ∷ mutator ∷ 0 ∷ []
+name_numbers (code.Grey word) = 19 ∷ word ∷ 0 ∷ []
+name_numbers (code.Black word) = 20 ∷ word ∷ 0 ∷ []
+name_numbers (code.Heap address) = 21 ∷ address ∷ 0 ∷ []
 
 -- whether two names are one
 abbrev pub same_name : WordName → WordName → Bool
-same_name = on numbers_of (pointwise ◌==◌)
+same_name = on name_numbers (pointwise ◌==◌)

@@ -1,4 +1,4 @@
--- Which word stands at a place of the table, and that the words say all of a table.
+-- Which word has an index of the table, and that the words say all of a table.
 use Rattle.std.specs.Prelude.{◌≡◌, ℕ, ◌+◌, ◌-◌, ◌*◌, ◌/◌, ◌%◌, ◌<◌, nat_lt, if◌then◌else◌, List, [], ◌∷◌, length}
 use Rattle.heap_words.specs.Ranges.{seat_count}
 use Rattle.heap_words.specs.declared.config.Config.{Config}
@@ -35,14 +35,14 @@ abbrev pub word_in : List Row → ℕ → Word
 word_in [] before = Pause
 word_in (row ∷ more) before = if nat_lt before row.size then row.word before else word_in more (before - row.size)
 
--- the word at a place of the table
+-- the word at an index of the table
 unfoldable pub name_of : Config → ℕ → Word
-name_of c place = word_in (rows c) place
+name_of c index = word_in (rows c) index
 
--- each place of the table has a word, and each word is that of its place
+-- each index of the table has a word, and each word is that of its index
 pub record AreNamed : Type 0 where
-  pub is_word : (c : Config) (place : ℕ) → place < table_words c → IsWord c (name_of c place)
-  pub there : (c : Config) (place : ℕ) → place < table_words c → word_at c (name_of c place) ≡ place
+  pub is_word : (c : Config) (index : ℕ) → index < table_words c → IsWord c (name_of c index)
+  pub there : (c : Config) (index : ℕ) → index < table_words c → word_at c (name_of c index) ≡ index
   pub back : (c : Config) (word : Word) → IsWord c word → name_of c (word_at c word) ≡ word
 
 -- two tables in which all words read the same are one

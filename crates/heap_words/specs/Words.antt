@@ -165,7 +165,7 @@ is_image End = false
 is_image (State seat) = false
 is_image _ = true
 
--- each word stands in the table, two names never stand at one place, and the image is the end of the table
+-- each word stands in the table, two names never have one index, and the image is the end of the table
 pub record AreApart : Type 0 where
   pub inside : (config : Config) (word : Word)
       → IsWord config word → word_at config word < table_words config
@@ -174,7 +174,7 @@ pub record AreApart : Type 0 where
   pub image : (config : Config) (word : Word)
       → IsWord config word → is_image word ≡ nat_le (image_start config) (word_at config word)
 
--- a number that is stored at a word's place is stored at its name, and at no other
+-- a number that is stored at a word's index is stored at its name, and at no other
 pub record IsStoreOfOne : Type 0 where
   pub read : (config : Config) (words : List ℕ) (word : Word)
       → IsWord config word → view config words word ≡ slice_index words (word_at config word)

@@ -1,64 +1,64 @@
 ghost use Rattle.std.specs.Prelude.{◌≡◌};
-ghost use Rattle.heap_words.specs.Access.{table_index, made_of, numbers_of, same_access};
+ghost use Rattle.heap_words.specs.Access.{table_index, made_of, access_numbers, same_access};
 ghost use Rattle.std.specs.Cmp.{partial_equiv_from_equiv, on_equiv, nat_eq_equiv};
 ghost use Rattle.std.specs.Cmp.Lexicographic.{lists_equiv};
 
 use std::fmt;
 use std::fmt::{Debug, Formatter, Write};
 
-/// One access of one word of the table, at the place `at`.
+/// One access of one word of the table, at the index `at`.
 #[derive(Clone, Copy)]
 pub enum Access {
     /// Reads the word.
     Load {
-        /// The place.
+        /// The index.
         at: usize,
     },
     /// Writes the word.
     Store {
-        /// The place.
+        /// The index.
         at: usize,
         /// What is written.
         value: u64,
     },
     /// Reads the word and writes it.
     Swap {
-        /// The place.
+        /// The index.
         at: usize,
         /// What is written.
         value: u64,
     },
     /// Adds to the word, modulo 2^64.
     Add {
-        /// The place.
+        /// The index.
         at: usize,
         /// What is added.
         value: u64,
     },
     /// Subtracts from the word, modulo 2^64.
     Sub {
-        /// The place.
+        /// The index.
         at: usize,
         /// What is subtracted.
         value: u64,
     },
     /// Keeps those bits of the word that are also bits of `value`.
     And {
-        /// The place.
+        /// The index.
         at: usize,
         /// The bits that may stay.
         value: u64,
     },
     /// Sets the bits of `value` in the word.
     Or {
-        /// The place.
+        /// The index.
         at: usize,
         /// The bits that are set.
         value: u64,
     },
     /// Writes the word where it is `expect` (compare and exchange), and leaves it where not.
     Exchange {
-        /// The place.
+        /// The index.
         at: usize,
         /// What the word must be.
         expect: u64,
@@ -68,7 +68,7 @@ pub enum Access {
 }
 
 impl Access {
-    /// The place of the word that is accessed.
+    /// The index of the word that is accessed.
     pub fn at(self) -> usize
         ensures { result ≡ table_index self }
     {
@@ -111,7 +111,7 @@ const KINDS: [&str; 8] = [
 impl Access {
     // Its kind, its place, what it writes and what it expects; 0 where it has no such number.
     fn numbers(&self) -> [u64; 4]
-        ensures { result ≡ numbers_of self.now }
+        ensures { result ≡ access_numbers self.now }
     {
         match *self {
             Access::Load { at } => [0, at as u64, 0, 0],
@@ -129,7 +129,7 @@ impl Access {
 impl PartialEq for Access {
     ghost eq = { same_access };
 
-    ghost laws = { partial_equiv_from_equiv (on_equiv numbers_of (lists_equiv nat_eq_equiv)) };
+    ghost laws = { partial_equiv_from_equiv (on_equiv access_numbers (lists_equiv nat_eq_equiv)) };
 
     fn eq(&self, other: &Access) -> bool {
         self.numbers() == other.numbers()
@@ -137,7 +137,7 @@ impl PartialEq for Access {
 }
 
 impl Eq for Access {
-    ghost laws = { on_equiv numbers_of (lists_equiv nat_eq_equiv) };
+    ghost laws = { on_equiv access_numbers (lists_equiv nat_eq_equiv) };
 }
 
 /// Written as its kind, its place, what it writes and what it expects.

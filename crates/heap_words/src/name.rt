@@ -1,7 +1,7 @@
 ghost use Rattle.std.specs.Prelude.{◌≡◌, ◌+◌, ◌*◌, ◌<◌};
 ghost use Rattle.heap_words.specs.Words.{Word, IsWord, word_at, table_words, image_start, roots_start};
 ghost use Rattle.heap_words.specs.Rows.{name_of, AreNamed, AreReadWhole};
-ghost use Rattle.heap_words.specs.Name.{word_of, numbers_of, same_name};
+ghost use Rattle.heap_words.specs.Name.{word_of, name_numbers, same_name};
 ghost use Rattle.std.specs.Cmp.{partial_equiv_from_equiv, on_equiv, nat_eq_equiv};
 ghost use Rattle.std.specs.Cmp.Lexicographic.{lists_equiv};
 
@@ -68,7 +68,7 @@ const KINDS: [&str; 22] = [
 impl WordName {
     // Its kind and its numbers; 0 where it has no such number.
     fn numbers(&self) -> [u64; 3]
-        ensures { result ≡ numbers_of self.now }
+        ensures { result ≡ name_numbers self.now }
     {
         match *self {
             WordName::Pause => [0, 0, 0],
@@ -100,7 +100,7 @@ impl WordName {
 impl PartialEq for WordName {
     ghost eq = { same_name };
 
-    ghost laws = { partial_equiv_from_equiv (on_equiv numbers_of (lists_equiv nat_eq_equiv)) };
+    ghost laws = { partial_equiv_from_equiv (on_equiv name_numbers (lists_equiv nat_eq_equiv)) };
 
     fn eq(&self, other: &WordName) -> bool {
         self.numbers() == other.numbers()
@@ -108,7 +108,7 @@ impl PartialEq for WordName {
 }
 
 impl Eq for WordName {
-    ghost laws = { on_equiv numbers_of (lists_equiv nat_eq_equiv) };
+    ghost laws = { on_equiv name_numbers (lists_equiv nat_eq_equiv) };
 }
 
 /// Written as its kind with its numbers.
@@ -121,7 +121,7 @@ impl Debug for WordName {
 }
 
 impl Config {
-    /// The name of the word that stands at this place of the table: it undoes the places of all words.
+    /// The name of the word that has this index in the table: it undoes the indices of all words.
     pub fn name_of(&self, at: usize) -> WordName
         requires { at < table_words self.now }
         ensures name { word_of result ≡ name_of self.now at }
@@ -249,7 +249,7 @@ impl Config {
     }
 }
 
-/// A law: each place of the table is that of one word, and all words together say all of a table.
+/// A law: each index of the table is that of one word, and all words together say all of a table.
 pub fn words_named()
     ensures named { AreNamed }
     ensures whole { AreReadWhole }

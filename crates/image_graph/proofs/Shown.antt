@@ -21,7 +21,7 @@ use Rattle.heap_world.specs.Objects.{IsObject}
 use Rattle.heap_world.proofs.Pointing.{named_thing}
 use Rattle.image_laws.proofs.Standing.{own_copy}
 use Rattle.heap_graph.proofs.Tables.{AreCopies, copies_stand}
-use Rattle.image_laws.specs.Held.{IsHeld, from_root, from_field, IsAmong, AreKept}
+use Rattle.image_laws.specs.Held.{IsHeld, from_root, from_field, IsAmong, AreHeldKept}
 use Rattle.image_laws.specs.Full.{now_in, root_words, held_in, kept_in}
 use Rattle.image_laws.specs.Promised.{Promises, with_promised}
 use Rattle.image_laws.proofs.Reached.{held_is_reached, refs_read, named_object, none_at_0}
@@ -70,7 +70,7 @@ module _ (c : Config) (m : Word → ℕ) (block : Plot) (owner : ℕ → Option 
   abbrev shown : Plot
   shown a = if has (held_in c m) (now_in m a) then old_piece p (block a) else None
 
-  are : AreKept heap Held (kept_in c m)
+  are : AreHeldKept heap Held (kept_in c m)
   are = walk_keeps c m block more holds.objects
 
   found_held : (a : ℕ) → has (held_in c m) a ≡ true → Held a

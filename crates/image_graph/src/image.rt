@@ -61,7 +61,7 @@ impl Image {
         self.config
     }
 
-    /// The word at a place of the table.
+    /// The word at an index of the table.
     pub fn word(&self, at: usize) -> u64
         requires { at < table_words (config_of self.now) }
         ensures value { result ≡ slice_index (words_of self.now) at }
@@ -70,7 +70,7 @@ impl Image {
         self.words[at]
     }
 
-    /// Puts a value at a place of the table. No other word changes, nor which objects were found, nor their new places.
+    /// Puts a value at an index of the table. No other word changes, nor which objects were found, nor their new places.
     pub fn set_word(&mut self, at: usize, value: u64)
         requires { at < table_words (config_of self.old) }
         ensures config { config_of self.new ≡ config_of self.old }

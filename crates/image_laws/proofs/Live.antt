@@ -9,7 +9,7 @@ use Rattle.shen_graph.specs.declared.name.Name.{Name}
 use Rattle.shen_graph.specs.Graph.{Graph, named, hub}
 use Rattle.shen_graph.specs.Reach.{IsReachable, IsReach, size}
 use Rattle.heap_world.specs.World.{Plot, thing}
-use Rattle.image_laws.specs.Held.{IsHeld, AreKept, HoldsGraph}
+use Rattle.image_laws.specs.Held.{IsHeld, AreHeldKept, HoldsGraph}
 use Rattle.image_laws.proofs.Reached.{held_is_reached, named_object, words_read}
 
 -- The object that is kept at an address: one of the graph, reachable, of so many words.
@@ -22,7 +22,7 @@ pub record KeptOne (block : Plot) (g : Graph) (kept : ℕ → ℕ) (a : ℕ) : T
   pub words : kept a ≡ size (named g (Some name))
 
 module _ (c : Config) (top heap : ℕ → ℕ) (block : Plot) (now kept : ℕ → ℕ) (IsRoot : ℕ → Type 0) (g : Graph)
-    (holds : HoldsGraph c top heap block now IsRoot g) (are : AreKept heap (IsHeld now heap IsRoot) kept) where
+    (holds : HoldsGraph c top heap block now IsRoot g) (are : AreHeldKept heap (IsHeld now heap IsRoot) kept) where
   pub kept_one : (a : ℕ) → 0 < kept a → KeptOne block g kept a
   kept_one a some =
       let held = are.only a some in

@@ -12,7 +12,7 @@ use Rattle.shen_graph.specs.Reach.{IsReachable, IsReach, size}
 use Rattle.shen_graph.specs.Reach as reach
 use Rattle.shen_graph.proofs.PlainLemmas.{same_name-true, same_name-itself}
 use Rattle.heap_world.specs.World.{Plot}
-use Rattle.image_laws.specs.Held.{IsHeld, AreKept, HoldsGraph}
+use Rattle.image_laws.specs.Held.{IsHeld, AreHeldKept, HoldsGraph}
 use Rattle.image_laws.specs.Promised.{Promises, with_promised, AreFresh, words_if, promised_words}
 use Rattle.image_laws.proofs.Live.{KeptOne, kept_one, one_name}
 
@@ -68,7 +68,7 @@ module _ (threads : ℕ) (g : Graph) (p : Promises) (fresh : AreFresh threads g 
       (reaches_promised m reached)
 
 module _ (c : Config) (top heap : ℕ → ℕ) (block : Plot) (now kept : ℕ → ℕ) (IsRoot : ℕ → Type 0) (g : Graph) (p : Promises)
-    (holds : HoldsGraph c top heap block now IsRoot (with_promised g p)) (are : AreKept heap (IsHeld now heap IsRoot) kept)
+    (holds : HoldsGraph c top heap block now IsRoot (with_promised g p)) (are : AreHeldKept heap (IsHeld now heap IsRoot) kept)
     (fresh : AreFresh c.mutators g p) (names : List Name) (reach_is : IsReach g names) where
   abbrev count : ℕ
   count = length names

@@ -9,7 +9,7 @@ use Rattle.shen_graph.specs.Reach.{IsReachable}
 use Rattle.shen_graph.specs.Reach as reach
 use Rattle.heap_world.specs.World.{Plot, thing, name_at, IsPlotted}
 use Rattle.heap_world.proofs.Pointing.{piece_inside, named_piece, named_if_not_0}
-use Rattle.image_laws.specs.Held.{IsHeld, from_root, from_field, AreKept, HoldsGraph}
+use Rattle.image_laws.specs.Held.{IsHeld, from_root, from_field, AreHeldKept, HoldsGraph}
 use Rattle.image_laws.specs.Laws.{HeldAreReachable}
 use Rattle.image_laws.specs.Pack.{CanPack}
 
@@ -78,7 +78,7 @@ module _ (c : Config) (top heap : ℕ → ℕ) (block : Plot) (now : ℕ → ℕ
   held_are_reachable = record { only = held_is_reached; all = reached_is_held }
 
   -- what is kept where exactly the held objects are kept
-  pub can_pack : (kept : ℕ → ℕ) → AreKept heap (IsHeld now heap IsRoot) kept → CanPack c top heap block g.object now kept
+  pub can_pack : (kept : ℕ → ℕ) → AreHeldKept heap (IsHeld now heap IsRoot) kept → CanPack c top heap block g.object now kept
   can_pack kept are = record {
     plotted = holds.plotted;
     things = λ a some.

@@ -10,7 +10,7 @@ use Rattle.heap_graph.proofs.Marks.{has-range}
 use Rattle.shen_graph.specs.Graph.{Graph}
 use Rattle.heap_world.specs.World.{Plot, thing}
 use Rattle.heap_world.proofs.Pointing.{piece_inside}
-use Rattle.image_laws.specs.Held.{IsHeld, from_root, from_field, IsAmong, AreKept, HoldsGraph}
+use Rattle.image_laws.specs.Held.{IsHeld, from_root, from_field, IsAmong, AreHeldKept, HoldsGraph}
 use Rattle.image_laws.specs.Full.{now_in, root_words, field_words, copies_of, held_in, kept_in}
 use Rattle.image_laws.proofs.Reached.{held_is_reached}
 use Rattle.image_laws.proofs.Found.{has_map, map_has, range_has, roots_found, found_held, found_closed}
@@ -85,7 +85,7 @@ module _ (c : Config) (memory : Word → ℕ) (block : Plot) (g : Graph)
       (ap (has (fields a)) (sym (copied word some)) ∙ map_has copy (field_words memory a) word is)
 
   -- exactly the held objects are kept, by their words
-  pub walk_keeps : AreKept heap Held (kept_in c memory)
+  pub walk_keeps : AreHeldKept heap Held (kept_in c memory)
   walk_keeps = record {
     words = λ a held. cond-true (has (held_in c memory) a) (object_words (heap (a + 1))) 0 (held_is_found a held);
     only = λ a some. ⊎_elim

@@ -17,7 +17,7 @@ abbrev pub IsAmong : List ℕ → ℕ → Type 0
 IsAmong roots word = has roots word ≡ true
 
 -- how many words each held object has, and 0 for each other address
-pub record AreKept (heap : ℕ → ℕ) (Held : ℕ → Type 0) (kept : ℕ → ℕ) : Type 0 where
+pub record AreHeldKept (heap : ℕ → ℕ) (Held : ℕ → Type 0) (kept : ℕ → ℕ) : Type 0 where
   pub words : (a : ℕ) → Held a → kept a ≡ object_words (heap (a + 1))
   pub only : (a : ℕ) → 0 < kept a → Held a
 

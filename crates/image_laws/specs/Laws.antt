@@ -8,7 +8,7 @@ use Rattle.shen_graph.specs.declared.name.Name.{Name}
 use Rattle.shen_graph.specs.Graph.{Graph, Object, Reference}
 use Rattle.shen_graph.specs.Reach.{IsReachable}
 use Rattle.heap_world.specs.World.{World, no_ghost, Plot, thing, Points, IsPlotted, IsFilled, AreObjects, IsFreeWord, IsGiven, Shared}
-use Rattle.image_laws.specs.Held.{IsHeld, IsAmong, AreKept, HoldsGraph}
+use Rattle.image_laws.specs.Held.{IsHeld, IsAmong, AreHeldKept, HoldsGraph}
 use Rattle.image_laws.specs.Plot.{AreThings, heap_end, packed_block}
 use Rattle.image_laws.specs.Full.{packed, now_in, root_words, kept_in}
 
@@ -35,7 +35,7 @@ packed_world c now kept memory block g = record {
 -- the words before packing stand for a graph, and exactly what the root words lead to is kept
 pub record IsBeforePacking (c : Config) (memory : Word → ℕ) (block : Plot) (g : Graph) (now kept : ℕ → ℕ) (roots : List ℕ) : Type 0 where
   pub holds : HoldsGraph c (λ r. memory (Top r)) (λ a. memory (Heap a)) block now (IsAmong roots) g
-  pub kept_are : AreKept (λ a. memory (Heap a)) (IsHeld now (λ a. memory (Heap a)) (IsAmong roots)) kept
+  pub kept_are : AreHeldKept (λ a. memory (Heap a)) (IsHeld now (λ a. memory (Heap a)) (IsAmong roots)) kept
 
 -- After packing the words stand for the same graph: pieces fill the regions and are the graph's objects, what a root word
 -- stood for it stands for once renewed, and nobody has a region. What all machines share then holds, where the graph's names
@@ -58,4 +58,4 @@ PackingKeepsGraph = (c : Config) (memory : Word → ℕ) (block : Plot) (g : Gra
 abbrev pub KeptAreHeld : Type 0
 KeptAreHeld = (c : Config) (memory : Word → ℕ) (block : Plot) (g : Graph)
     → HoldsGraph c (λ r. memory (Top r)) (λ a. memory (Heap a)) block (now_in memory) (IsAmong (root_words c memory)) g
-    → AreKept (λ a. memory (Heap a)) (IsHeld (now_in memory) (λ a. memory (Heap a)) (IsAmong (root_words c memory))) (kept_in c memory)
+    → AreHeldKept (λ a. memory (Heap a)) (IsHeld (now_in memory) (λ a. memory (Heap a)) (IsAmong (root_words c memory))) (kept_in c memory)

@@ -6,7 +6,7 @@ use Rattle.shen_graph.specs.declared.name.Name.{Name}
 use Rattle.shen_graph.specs.Graph.{Reference, Graph, named, blank, same_reference}
 use Rattle.shen_graph.specs.Reach.{IsReachable, IsReach, size}
 use Rattle.heap_world.specs.World.{Plot}
-use Rattle.image_laws.specs.Held.{IsHeld, IsAmong, AreKept, HoldsGraph}
+use Rattle.image_laws.specs.Held.{IsHeld, IsAmong, AreHeldKept, HoldsGraph}
 
 -- for each thread, counted from 1, the reference that its answer stands for, and the sizes of that object
 pub record Promises : Type 0 where
@@ -40,12 +40,12 @@ promised_words p t = words_if (p.ref t) (3 + p.refs t + p.nums t)
 -- What is kept has no more words than what the graph reaches, ..
 abbrev pub KeptAreLive : Type 0
 KeptAreLive = (c : Config) (top heap : ℕ → ℕ) (block : Plot) (now kept : ℕ → ℕ) (roots : List ℕ) (g : Graph) (names : List Name)
-    → HoldsGraph c top heap block now (IsAmong roots) g → AreKept heap (IsHeld now heap (IsAmong roots)) kept → IsReach g names
+    → HoldsGraph c top heap block now (IsAmong roots) g → AreHeldKept heap (IsHeld now heap (IsAmong roots)) kept → IsReach g names
     → (end : ℕ) → sum_below kept end ≤ sum_by (λ n. size (named g (Some n))) names
 
 -- .. and where objects are promised, no more than that and what is promised.
 abbrev pub KeptAreLiveOrPromised : Type 0
 KeptAreLiveOrPromised = (c : Config) (top heap : ℕ → ℕ) (block : Plot) (now kept : ℕ → ℕ) (roots : List ℕ) (g : Graph) (p : Promises) (names : List Name)
-    → HoldsGraph c top heap block now (IsAmong roots) (with_promised g p) → AreKept heap (IsHeld now heap (IsAmong roots)) kept
+    → HoldsGraph c top heap block now (IsAmong roots) (with_promised g p) → AreHeldKept heap (IsHeld now heap (IsAmong roots)) kept
     → AreFresh c.mutators g p → IsReach g names
     → (end : ℕ) → sum_below kept end ≤ sum_by (λ n. size (named g (Some n))) names + sum_below (promised_words p) (c.mutators + 1)

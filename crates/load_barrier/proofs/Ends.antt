@@ -13,20 +13,20 @@ use Rattle.evac_room.specs.declared.spot.RoomSpot.TheVariants as room
 use Rattle.evac_room.specs.Rows as rooms
 use Rattle.load_barrier.specs.declared.spot.ResolveSpot.{ResolveSpot}
 use Rattle.load_barrier.specs.declared.spot.ResolveSpot.TheVariants.{Entering, Taking, Stopping, Resolved}
-use Rattle.load_barrier.specs.Rows.{next_at, says_at, is_resolved, told, told_by, after_enter, after_take, after_stop, take_next}
+use Rattle.load_barrier.specs.Rows.{next_at, says_at, is_resolved, says_of, says_by, after_enter, after_take, after_stop, take_next}
 
-told_resolved : (next : ResolveSpot) → told next ≡ Done → is_resolved next ≡ true
-told_resolved (Resolved answer) done = refl
-told_resolved next done = absurd (cc (done))
+says_resolved : (next : ResolveSpot) → says_of next ≡ Done → is_resolved next ≡ true
+says_resolved (Resolved answer) done = refl
+says_resolved next done = absurd (cc (done))
 
-resolved_told : (next : ResolveSpot) → is_resolved next ≡ true → told next ≡ Done
+resolved_told : (next : ResolveSpot) → is_resolved next ≡ true → says_of next ≡ Done
 resolved_told (Resolved answer) resolved = refl
 resolved_told next resolved = absurd (cc (resolved))
 
-told_is : (next : ResolveSpot) → (told next ≡ Done) ↔ (is_resolved next ≡ true)
-told_is next = (told_resolved next, resolved_told next)
+told_is : (next : ResolveSpot) → (says_of next ≡ Done) ↔ (is_resolved next ≡ true)
+told_is next = (says_resolved next, resolved_told next)
 
-told_by_is : (said : Took) (next : ResolveSpot) → is_resolved next ≡ false → (told_by said next ≡ Done) ↔ (is_resolved next ≡ true)
+told_by_is : (said : Took) (next : ResolveSpot) → is_resolved next ≡ false → (says_by said next ≡ Done) ↔ (is_resolved next ≡ true)
 told_by_is Again next going = ((λ done. absurd (cc (done))), (λ resolved. absurd (cc (going, resolved))))
 told_by_is said next going = told_is next
 

@@ -14,21 +14,21 @@ use Rattle.evac_room.specs.declared.spot.RoomSpot.TheVariants.{Outside, Look, Ra
 use Rattle.evac_room.specs.Rows as rooms
 use Rattle.load_barrier.specs.declared.spot.ResolveSpot.{ResolveSpot}
 use Rattle.load_barrier.specs.declared.spot.ResolveSpot.TheVariants.{Resolved}
-use Rattle.load_barrier.specs.Rows.{told, told_by}
+use Rattle.load_barrier.specs.Rows.{says_of, says_by}
 use Rattle.load_barrier.specs.Waits.{RoomWaits}
 
--- what is told by where a step leads is never that it waits
-told_never : (next : ResolveSpot) → told next ≡ Again → ⊥
-told_never (Resolved answer) is = cc
-told_never _ is = cc
+-- what a step says by where it leads is never that it waits
+says_never : (next : ResolveSpot) → says_of next ≡ Again → ⊥
+says_never (Resolved answer) is = cc
+says_never _ is = cc
 
-pub never_told : (next : ResolveSpot) → (told next ≡ Again) ↔ ⊥
-never_told next = (told_never next, λ waits. absurd waits)
+pub never_says : (next : ResolveSpot) → (says_of next ≡ Again) ↔ ⊥
+never_says next = (says_never next, λ waits. absurd waits)
 
-pub told_again : (said : Took) (next : ResolveSpot) → (told_by said next ≡ Again) ↔ (said ≡ Again)
-told_again Again next = (λ is. refl, λ is. refl)
-told_again More next = (λ is. absurd (told_never next is), λ is. cc)
-told_again Done next = (λ is. absurd (told_never next is), λ is. cc)
+pub says_again : (said : Took) (next : ResolveSpot) → (says_by said next ≡ Again) ↔ (said ≡ Again)
+says_again Again next = (λ is. refl, λ is. refl)
+says_again More next = (λ is. absurd (says_never next is), λ is. cc)
+says_again Done next = (λ is. absurd (says_never next is), λ is. cc)
 
 -- a step of the protocol for room waits by the word that it finds
 pub room_waits : (at : RoomSpot) (got : ℕ) → (rooms.answer_at at got ≡ Again) ↔ RoomWaits at got
@@ -42,15 +42,15 @@ room_waits Inside got = (λ is. cc, λ waits. absurd waits)
 room_waits Lower got = (λ is. cc, λ waits. absurd waits)
 room_waits Stopped got = (λ is. cc, λ waits. absurd waits)
 
-pub room_part : (said : Took) (next : ResolveSpot) (at : RoomSpot) (got : ℕ) → said ≡ rooms.answer_at at got → (told_by said next ≡ Again) ↔ RoomWaits at got
+pub room_part : (said : Took) (next : ResolveSpot) (at : RoomSpot) (got : ℕ) → said ≡ rooms.answer_at at got → (says_by said next ≡ Again) ↔ RoomWaits at got
 room_part said next at got is = (
-  λ again. (room_waits at got).0 (sym is ∙ (told_again said next).0 again),
-  λ waits. (told_again said next).1 (is ∙ (room_waits at got).1 waits),
+  λ again. (room_waits at got).0 (sym is ∙ (says_again said next).0 again),
+  λ waits. (says_again said next).1 (is ∙ (room_waits at got).1 waits),
 )
 
 -- and a step of a taking of room where another machine has taken the region
-pub take_part : (c : Config) (words : ℕ) (kind : Kind) (said : Took) (next : ResolveSpot) (at there : TakeSpot) (got : ℕ) → said ≡ takes.says at there → there ≡ takes.next_at c words kind at got → (told_by said next ≡ Again) ↔ take_waits.WaitsAt at got
+pub take_part : (c : Config) (words : ℕ) (kind : Kind) (said : Took) (next : ResolveSpot) (at there : TakeSpot) (got : ℕ) → said ≡ takes.says at there → there ≡ takes.next_at c words kind at got → (says_by said next ≡ Again) ↔ take_waits.WaitsAt at got
 take_part c words kind said next at there got is row =
     let by = says_where_it_waits c words kind at got in
-    let told : said ≡ takes.says at (takes.next_at c words kind at got) = is ∙ ap (takes.says at) row in
-    (λ again. by.0 (sym told ∙ (told_again said next).0 again), λ waits. (told_again said next).1 (told ∙ by.1 waits))
+    let said_it : said ≡ takes.says at (takes.next_at c words kind at got) = is ∙ ap (takes.says at) row in
+    (λ again. by.0 (sym said_it ∙ (says_again said next).0 again), λ waits. (says_again said next).1 (said_it ∙ by.1 waits))

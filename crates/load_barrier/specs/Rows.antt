@@ -134,18 +134,18 @@ is_resolved (Resolved answer) = true
 is_resolved _ = false
 
 -- what a step says by where it leads: it is done once the address is resolved
-abbrev pub told : ResolveSpot → Took
-told (Resolved answer) = Done
-told _ = More
+abbrev pub says_of : ResolveSpot → Took
+says_of (Resolved answer) = Done
+says_of _ = More
 
 -- what a step of a part says: again where the part says so, and else by where it leads
-abbrev pub told_by : Took → ResolveSpot → Took
-told_by Again next = Again
-told_by _ next = told next
+abbrev pub says_by : Took → ResolveSpot → Took
+says_by Again next = Again
+says_by _ next = says_of next
 
 -- what the step says
 abbrev pub says_at : Config → ℕ → ℕ → ResolveSpot → ℕ → Took
-says_at c address phase (Entering at) got = told_by (rooms.answer_at at got) (after_enter (rooms.next_at at got))
-says_at c address phase (Taking words at) got = told_by (takes.says at (take_next c words at got)) (after_take words (take_next c words at got))
-says_at c address phase (Stopping at) got = told_by (rooms.answer_at at got) (after_stop (rooms.next_at at got))
-says_at c address phase at got = told (next_at c address phase at got)
+says_at c address phase (Entering at) got = says_by (rooms.answer_at at got) (after_enter (rooms.next_at at got))
+says_at c address phase (Taking words at) got = says_by (takes.says at (take_next c words at got)) (after_take words (take_next c words at got))
+says_at c address phase (Stopping at) got = says_by (rooms.answer_at at got) (after_stop (rooms.next_at at got))
+says_at c address phase at got = says_of (next_at c address phase at got)

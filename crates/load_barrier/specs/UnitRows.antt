@@ -89,18 +89,18 @@ is_ended (Ended unit) = true
 is_ended _ = false
 
 -- what a step says by where it leads: it is done once the unit is, or none was left
-abbrev pub told : EvacSpot → Took
-told (Ended unit) = Done
-told _ = More
+abbrev pub says_of : EvacSpot → Took
+says_of (Ended unit) = Done
+says_of _ = More
 
 -- what a step of a resolving says: again where the resolving says so, and else by where it leads
-abbrev pub told_by : Took → EvacSpot → Took
-told_by Again next = Again
-told_by _ next = told next
+abbrev pub says_by : Took → EvacSpot → Took
+says_by Again next = Again
+says_by _ next = says_of next
 
 -- what the step says: again where another machine has claimed the unit, or the resolving waits
 abbrev pub says_at : Config → ℕ → EvacSpot → ℕ → Took
-says_at c cset (ClaimUnit unit) got = if got == unit then told (after_claim cset unit) else Again
+says_at c cset (ClaimUnit unit) got = if got == unit then says_of (after_claim cset unit) else Again
 says_at c cset (Resolving address end next at) got =
-    told_by (resolves.says_at c address copy_phase at got) (after_resolve c cset address end next (resolves.next_at c address copy_phase at got))
-says_at c cset spot got = told (next_at c cset spot got)
+    says_by (resolves.says_at c address copy_phase at got) (after_resolve c cset address end next (resolves.next_at c address copy_phase at got))
+says_at c cset spot got = says_of (next_at c cset spot got)

@@ -128,23 +128,23 @@ impl EvacSpot {
         ensures again { (result.1 ≡ Took.Again) ↔ WaitsAt self got }
     {
         match self {
-            EvacSpot::LoadClaim if got < config.regions() as u64 => told(EvacSpot::ClaimUnit {
+            EvacSpot::LoadClaim if got < config.regions() as u64 => led(EvacSpot::ClaimUnit {
                 unit: got,
             }),
-            EvacSpot::LoadClaim => told(NONE_LEFT),
-            EvacSpot::ClaimUnit { unit } if got == unit => told(after_claim(cset, unit as usize)),
+            EvacSpot::LoadClaim => led(NONE_LEFT),
+            EvacSpot::ClaimUnit { unit } if got == unit => led(after_claim(cset, unit as usize)),
             EvacSpot::ClaimUnit { .. } => (EvacSpot::LoadClaim, Took::Again),
             EvacSpot::LoadTop { region } => {
                 let from = base(config, region);
-                told(walk_on(from, from + got))
+                led(walk_on(from, from + got))
             }
-            EvacSpot::LoadShape { address, end } => told(EvacSpot::LoadMark {
+            EvacSpot::LoadShape { address, end } => led(EvacSpot::LoadMark {
                 address,
                 end,
                 next: next_object(address, got),
             }),
             EvacSpot::LoadMark { address, end, next } => {
-                told(after_mark(config, address, end, next, got))
+                led(after_mark(config, address, end, next, got))
             }
             EvacSpot::Resolving {
                 address,
@@ -153,12 +153,12 @@ impl EvacSpot {
                 at,
             } => {
                 let (at, said) = at.after(config, seat, address, COPY, got);
-                told_by(
+                led_by(
                     said,
                     after_resolve(config, seat, cset, address, end, next, at),
                 )
             }
-            EvacSpot::Ended { .. } => told(self),
+            EvacSpot::Ended { .. } => led(self),
         }
     }
 }
@@ -171,9 +171,9 @@ impl Debug for EvacSpot {
 }
 
 // The step leads there: it is done once the unit is, or none was left.
-fn told(next: EvacSpot) -> (EvacSpot, Took)
+fn led(next: EvacSpot) -> (EvacSpot, Took)
     ensures spot { result.0 ≡ next }
-    ensures says { result.1 ≡ rows.told next }
+    ensures says { result.1 ≡ rows.says_of next }
 {
     match next {
         EvacSpot::Ended { .. } => (next, Took::Done),
@@ -182,13 +182,13 @@ fn told(next: EvacSpot) -> (EvacSpot, Took)
 }
 
 // The step of a resolving that has said so leads there.
-fn told_by(said: Took, next: EvacSpot) -> (EvacSpot, Took)
+fn led_by(said: Took, next: EvacSpot) -> (EvacSpot, Took)
     ensures spot { result.0 ≡ next }
-    ensures says { result.1 ≡ rows.told_by said next }
+    ensures says { result.1 ≡ rows.says_by said next }
 {
     match said {
         Took::Again => (next, Took::Again),
-        _ => told(next),
+        _ => led(next),
     }
 }
 

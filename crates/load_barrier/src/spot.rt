@@ -123,23 +123,23 @@ impl ResolveSpot {
         ensures again { (result.1 ≡ Took.Again) ↔ WaitsAt self got }
     {
         match self {
-            ResolveSpot::LoadHeader => told(after_header(address, phase, got)),
-            ResolveSpot::Entering { at } => told_by(at.says(got), after_enter(at.after(got))),
-            ResolveSpot::LoadShape => told(ResolveSpot::Taking {
+            ResolveSpot::LoadHeader => led(after_header(address, phase, got)),
+            ResolveSpot::Entering { at } => led_by(at.says(got), after_enter(at.after(got))),
+            ResolveSpot::LoadShape => led(ResolveSpot::Taking {
                 words: words_of(got),
                 at: TakeSpot::LoadCurrent,
             }),
             ResolveSpot::Taking { words, at } => {
                 let next = at.after(config, seat, words, Kind::Evacuated, got);
-                told_by(at.says(next), after_take(words, next))
+                led_by(at.says(next), after_take(words, next))
             }
-            ResolveSpot::Copying { copy, at } => told(at.after(config, address, copy, got)),
-            ResolveSpot::Leaving { answer } => told(ResolveSpot::Resolved { answer }),
-            ResolveSpot::Stopping { at } => told_by(at.says(got), after_stop(at.after(got))),
-            ResolveSpot::LoadAgain => told(ResolveSpot::Resolved {
+            ResolveSpot::Copying { copy, at } => led(at.after(config, address, copy, got)),
+            ResolveSpot::Leaving { answer } => led(ResolveSpot::Resolved { answer }),
+            ResolveSpot::Stopping { at } => led_by(at.says(got), after_stop(at.after(got))),
+            ResolveSpot::LoadAgain => led(ResolveSpot::Resolved {
                 answer: current_copy(address, got),
             }),
-            ResolveSpot::Resolved { .. } => told(self),
+            ResolveSpot::Resolved { .. } => led(self),
         }
     }
 }
@@ -152,9 +152,9 @@ impl Debug for ResolveSpot {
 }
 
 // The step leads there: it is done once the address is resolved.
-fn told(next: ResolveSpot) -> (ResolveSpot, Took)
+fn led(next: ResolveSpot) -> (ResolveSpot, Took)
     ensures spot { result.0 ≡ next }
-    ensures says { result.1 ≡ rows.told next }
+    ensures says { result.1 ≡ rows.says_of next }
 {
     match next {
         ResolveSpot::Resolved { .. } => (next, Took::Done),
@@ -163,13 +163,13 @@ fn told(next: ResolveSpot) -> (ResolveSpot, Took)
 }
 
 // The step of a part that has said so leads there.
-fn told_by(said: Took, next: ResolveSpot) -> (ResolveSpot, Took)
+fn led_by(said: Took, next: ResolveSpot) -> (ResolveSpot, Took)
     ensures spot { result.0 ≡ next }
-    ensures says { result.1 ≡ rows.told_by said next }
+    ensures says { result.1 ≡ rows.says_by said next }
 {
     match said {
         Took::Again => (next, Took::Again),
-        _ => told(next),
+        _ => led(next),
     }
 }
 

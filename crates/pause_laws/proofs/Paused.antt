@@ -15,7 +15,7 @@ use Rattle.shen_graph.specs.Reach as reach
 use Rattle.heap_world.specs.World.{thing, promised, Plot, name_at}
 use Rattle.heap_world.specs.Asking.{Asking, nothing, asks, refused, given}
 use Rattle.heap_world.specs.Represents.{RepresentsByCopies}
-use Rattle.image_laws.specs.Held.{IsHeld, IsAmong, AreKept}
+use Rattle.image_laws.specs.Held.{IsHeld, IsAmong, AreHeldKept}
 use Rattle.image_laws.specs.Pack.{CanPack}
 use Rattle.image_laws.specs.Plot.{packed_block}
 use Rattle.image_laws.specs.Full.{packed_in, now_in, root_words, kept_in, asked_in, packed, full}
@@ -89,7 +89,7 @@ module _ (c : Config) (m : Word → ℕ) (g : Graph) (asking : ℕ → Asking) (
       sym (same_Some (asked_name after at.0) n (sym new.ref ∙ own)) ∙ asked_next at.0 at.1 new.waits ∙ ap (fresh g) (sym at.2))
       (promise_after c after p at.0 c.mutators)
 
-  kept_are : AreKept (λ a. m (Heap a)) (IsHeld (now_in m) (λ a. m (Heap a)) (IsAmong (root_words c m))) kept
+  kept_are : AreHeldKept (λ a. m (Heap a)) (IsHeld (now_in m) (λ a. m (Heap a)) (IsAmong (root_words c m))) kept
   kept_are = walk_keeps c m (plain c m g asking r) (with_promised g p) (holds_by c m g asking r).objects
 
   -- an object that has a piece then had one before

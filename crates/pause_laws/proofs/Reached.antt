@@ -16,7 +16,7 @@ use Rattle.heap_graph.specs.Walk.{has}
 use Rattle.heap_world.specs.World.{thing, promised, Plot, name_at}
 use Rattle.heap_world.specs.Asking.{Asking}
 use Rattle.heap_world.specs.Represents.{RepresentsByCopies}
-use Rattle.image_laws.specs.Held.{IsHeld, IsAmong, AreKept, HoldsGraph}
+use Rattle.image_laws.specs.Held.{IsHeld, IsAmong, AreHeldKept, HoldsGraph}
 use Rattle.image_laws.specs.Full.{now_in, root_words, held_in, kept_in}
 use Rattle.image_laws.specs.Promised.{Promises, with_promised}
 use Rattle.image_laws.proofs.Reached.{held_is_reached, reached_is_held}
@@ -82,7 +82,7 @@ module _ (c : Config) (m : Word → ℕ) (g : Graph) (asking : ℕ → Asking) (
   holds : HoldsGraph c (λ s. m (Top s)) heap block (now_in m) IsRoot more
   holds = live_holds c m g asking r
 
-  are : AreKept heap (IsHeld (now_in m) heap IsRoot) (kept_in c m)
+  are : AreHeldKept heap (IsHeld (now_in m) heap IsRoot) (kept_in c m)
   are = walk_keeps c m block more holds
 
   -- the larger graph reaches what the graph does

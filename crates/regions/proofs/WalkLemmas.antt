@@ -6,7 +6,7 @@ use Rattle.std.proofs.lemmas.List.Elements.{Contains-append_right, Contains-get_
 use Rattle.std.proofs.lemmas.List.Kept.{AllPairs-cons}
 use Rattle.std.proofs.lemmas.List.Sums.{sum_by-cons}
 use Rattle.regions.specs.Place.{base_of}
-use Rattle.regions.specs.Walk.{object_words_at, Walks, met_within, met_from, IsParsable, MeetsExactly, WalksMeetEach, WalkGoesOn, WalkStaysInRegion}
+use Rattle.regions.specs.Walk.{object_words_at, Walks, met_within, met_from, IsParsableStretch, MeetsExactly, WalksMeetEach, WalkGoesOn, WalkStaysInRegion}
 
 -- an element of a list with a head is the head or a later one
 head_or_later_at : (k a : ℕ) (later : List ℕ) (x : ℕ) → k < length (a ∷ later) → get_or (a ∷ later) k x ≡ x → (a ≡ x) ⊎ Contains later x
@@ -132,8 +132,8 @@ walks_meet_each words from end addresses walk = record {
 }
 
 -- what stands behind the first thing is parsable too
-parsable_later : (Begins : ℕ → Type 0) (words : ℕ → ℕ) (from end : ℕ) → IsParsable Begins words from end → from < end
-    → IsParsable Begins words (from + words from) end
+parsable_later : (Begins : ℕ → Type 0) (words : ℕ → ℕ) (from end : ℕ) → IsParsableStretch Begins words from end → from < end
+    → IsParsableStretch Begins words (from + words from) end
 parsable_later Begins words from end parsable below = record {
   order = parsable.inside from (parsable.first below) (omega arith) below;
   first = λ on. parsable.next from (parsable.first below) (omega arith) on;
@@ -143,7 +143,7 @@ parsable_later Begins words from end parsable below = record {
   apart = λ a b begins_a begins_b above. parsable.apart a b begins_a begins_b (omega arith);
 }
 
-parsable_walks : (steps : ℕ) (Begins : ℕ → Type 0) (words : ℕ → ℕ) (from end : ℕ) → IsParsable Begins words from end
+parsable_walks : (steps : ℕ) (Begins : ℕ → Type 0) (words : ℕ → ℕ) (from end : ℕ) → IsParsableStretch Begins words from end
     → end ≤ from + steps → Walks words from end (met_within steps words from end)
 parsable_walks zero Begins words from end parsable enough = omega (arith, parsable.order)
 parsable_walks (suc steps) Begins words from end parsable enough =
@@ -160,7 +160,7 @@ parsable_walks (suc steps) Begins words from end parsable enough =
     (λ test. let past : end ≤ from = ltb-false from end test in omega (arith, parsable.order))
 
 -- at each address that is met a thing begins
-parsable_begins : (Begins : ℕ → Type 0) (words : ℕ → ℕ) (from end : ℕ) (addresses : List ℕ) → IsParsable Begins words from end
+parsable_begins : (Begins : ℕ → Type 0) (words : ℕ → ℕ) (from end : ℕ) (addresses : List ℕ) → IsParsableStretch Begins words from end
     → Walks words from end addresses → (x : ℕ) → Contains addresses x → Begins x
 parsable_begins Begins words from end [] parsable walk x h = absurd (omega (arith, h.1))
 parsable_begins Begins words from end (a ∷ later) parsable walk x h =
@@ -175,7 +175,7 @@ parsable_begins Begins words from end (a ∷ later) parsable walk x h =
     (head_or_later a later x h)
 
 -- where the heap is parsable, a walk meets exactly what begins there
-pub parsable_is_walked : (Begins : ℕ → Type 0) (words : ℕ → ℕ) (from end : ℕ) → IsParsable Begins words from end
+pub parsable_is_walked : (Begins : ℕ → Type 0) (words : ℕ → ℕ) (from end : ℕ) → IsParsableStretch Begins words from end
     → MeetsExactly Begins words from end (met_from words from end)
 parsable_is_walked Begins words from end parsable =
     let walk = parsable_walks (end - from) Begins words from end parsable (omega (arith, parsable.order)) in

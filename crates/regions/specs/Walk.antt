@@ -43,7 +43,7 @@ pub record MeetsEach (words : ℕ → ℕ) (from end : ℕ) (addresses : List �
 
 -- What stands from one address to the end can be walked (heap parsability), as facts about each thing: the first one,
 -- the one behind each, and no two in one word. `Begins a` says that a thing begins at the address a.
-pub record IsParsable (Begins : ℕ → Type 0) (words : ℕ → ℕ) (from end : ℕ) : Type 0 where
+pub record IsParsableStretch (Begins : ℕ → Type 0) (words : ℕ → ℕ) (from end : ℕ) : Type 0 where
   pub order : from ≤ end
   pub first : from < end → Begins from
   pub next : (a : ℕ) → Begins a → from ≤ a → a + words a < end → Begins (a + words a)
@@ -64,7 +64,7 @@ WalksMeetEach = (words : ℕ → ℕ) (from end : ℕ) (addresses : List ℕ) �
 -- where the heap is parsable the walk comes to the end, and meets exactly what begins there
 abbrev pub ParsableIsWalked : Type 0
 ParsableIsWalked =
-    (begins : ℕ → Bool) (words : ℕ → ℕ) (from end : ℕ) → IsParsable (λ a. IsTrue (begins a)) words from end
+    (begins : ℕ → Bool) (words : ℕ → ℕ) (from end : ℕ) → IsParsableStretch (λ a. IsTrue (begins a)) words from end
     → MeetsExactly (λ a. IsTrue (begins a)) words from end (met_from words from end)
 
 -- a walk that has come so far goes on to the address behind, which is not past the end

@@ -16,7 +16,7 @@ use Rattle.shen_core.specs.Progress.{Jobs, HasNext, AllIdle, IsInSeats, agenda}
 use Rattle.shen_core.proofs.Rounds.{round_pass, round_move, round_again, idle_round}
 use Rattle.schedule_walk.specs.declared.walk.Walk.{Walk}
 use Rattle.schedule_walk.specs.Agendas.{number_of, tasks_of, tasks_after, later_in, agenda_in, after_by, agenda_after, weight_of, weight_in, IsWalkOf, HasNoItem}
-use Rattle.schedule_walk.specs.Nexts.{IsOver, GoesOn, AreIdleFrom, HasSameNext, HasNoNext, IsDue}
+use Rattle.schedule_walk.specs.Nexts.{IsOver, GoesOn, AreIdleFrom, HasSameNext, HasNoNext, IsDueNext}
 
 -- an option that has no value
 pub is_none : {A : Type 0} (o : Option A) → is_some o ≡ false → o ≡ None
@@ -99,7 +99,7 @@ rounds_none p jobs w none within later sooner scripts s shows tells =
     ap (next (config_of p) scripts s) (only_rounds w none) ∙ none_round p w.from within later sooner scripts s shows
 
 -- its event is the next one
-pub rounds_due : (p : Plain) (jobs : Jobs) (w : Walk) (number : ℕ) → HasNoItem w → number < seats_of p → HasNext p number true → IsDue p jobs (with_from w number) number
+pub rounds_due : (p : Plain) (jobs : Jobs) (w : Walk) (number : ℕ) → HasNoItem w → number < seats_of p → HasNext p number true → IsDueNext p jobs (with_from w number) number
 rounds_due p jobs w number none below has = record {
   within = below;
   has = has;
@@ -111,7 +111,7 @@ rounds_due p jobs w number none below has = record {
 }
 
 -- the control makes its step
-pub control_is_due : (p : Plain) (jobs : Jobs) (w : Walk) (number : ℕ) → w.control_due ≡ true → number ≡ control_number (config_of p) → number < seats_of p → HasNext p number true → IsDue p jobs w number
+pub control_is_due : (p : Plain) (jobs : Jobs) (w : Walk) (number : ℕ) → w.control_due ≡ true → number ≡ control_number (config_of p) → number < seats_of p → HasNext p number true → IsDueNext p jobs w number
 control_is_due p jobs w number due is below has = record {
   within = below;
   has = has;
@@ -153,7 +153,7 @@ module _ (p : Plain) (jobs : Jobs) (w : Walk) (item : Item) (control : w.control
       ∙ ap (λ o. next (config_of p) scripts s (agenda (tasks_of o ++ later_in w) w.from)) present
 
   -- it makes the next event where it goes on, and its machine has a turn
-  pub item_due : GoesOn p jobs item → IsInSeats (config_of p) item → HasNext p (number_of item) true → IsDue p jobs w (number_of item)
+  pub item_due : GoesOn p jobs item → IsInSeats (config_of p) item → HasNext p (number_of item) true → IsDueNext p jobs w (number_of item)
   item_due goes within has = record {
     within = item_within (config_of p) item within;
     has = has;

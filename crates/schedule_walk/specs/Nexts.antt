@@ -43,7 +43,7 @@ abbrev pub HasNoNext : Plain → Jobs → Agenda → Type 0
 HasNoNext p jobs todo = (scripts : Scripts) (s : Stage Actor) → Shows p s → Tells (config_of p) scripts jobs s → next (config_of p) scripts s todo ≡ None
 
 -- The machine has a turn, and its event is the next one of the walk; what is to be done then is what the walk notes.
-pub record IsDue (p : Plain) (jobs : Jobs) (w : Walk) (number : ℕ) : Type 0 where
+pub record IsDueNext (p : Plain) (jobs : Jobs) (w : Walk) (number : ℕ) : Type 0 where
   pub within : number < seats_of p
   pub has : HasNext p number true
   pub rounds : w.control_due ≡ false → w.present ≡ None → drop w.begun w.schedule ≡ []

@@ -94,7 +94,7 @@ impl Walk {
     ghost use Rattle.step_core.specs.Schedule.{agenda_of};
     ghost use Rattle.shen_core.specs.Progress.{AllIdle};
     ghost use Rattle.schedule_walk.specs.Agendas.{agenda_in, agenda_after, weight_in, IsWalkOf, HasNoItem};
-    ghost use Rattle.schedule_walk.specs.Nexts.{HasSameNext, HasNoNext, IsDue, MakesNext, RunsOn};
+    ghost use Rattle.schedule_walk.specs.Nexts.{HasSameNext, HasNoNext, IsDueNext, MakesNext, RunsOn};
 
     /// The walk before the first event of a schedule.
     pub fn open(schedule: Schedule) -> Walk
@@ -156,7 +156,7 @@ impl Walk {
         requires control { self.old.control_due ≡ false }
         ensures walk { IsWalkOf (config_of plain.now) self.new }
         ensures same { HasSameNext plain.now work.now (agenda_in self.old) (agenda_in self.new) }
-        ensures due { IfSome result (λ number. IsDue plain.now work.now self.new number) }
+        ensures due { IfSome result (λ number. IsDueNext plain.now work.now self.new number) }
         ensures none { result ≡ None → HasNoItem self.new }
     {
         while let Some(item) = self.item() {
@@ -176,7 +176,7 @@ impl Walk {
         requires none { HasNoItem self.old }
         ensures walk { IsWalkOf (config_of plain.now) self.new }
         ensures same { HasSameNext plain.now work.now (agenda_in self.old) (agenda_in self.new) }
-        ensures due { IfSome result (λ number. IsDue plain.now work.now self.new number) }
+        ensures due { IfSome result (λ number. IsDueNext plain.now work.now self.new number) }
         ensures none { result ≡ None → HasNoNext plain.now work.now (agenda_in self.new) }
         ensures idle { result ≡ None → AllIdle plain.now work.now }
     {
@@ -198,7 +198,7 @@ impl Walk {
         requires walk { IsWalkOf (config_of plain.now) self.old }
         ensures walk { IsWalkOf (config_of plain.now) self.new }
         ensures same { HasSameNext plain.now work.now (agenda_in self.old) (agenda_in self.new) }
-        ensures due { IfSome result (λ number. IsDue plain.now work.now self.new number) }
+        ensures due { IfSome result (λ number. IsDueNext plain.now work.now self.new number) }
         ensures none { result ≡ None → self.new.control_due ≡ false }
     {
         if !self.control_due {
@@ -219,7 +219,7 @@ impl Walk {
         requires walk { IsWalkOf (config_of plain.now) self.old }
         ensures walk { IsWalkOf (config_of plain.now) self.new }
         ensures same { HasSameNext plain.now work.now (agenda_in self.old) (agenda_in self.new) }
-        ensures due { IfSome result (λ number. IsDue plain.now work.now self.new number) }
+        ensures due { IfSome result (λ number. IsDueNext plain.now work.now self.new number) }
         ensures none { result ≡ None → HasNoNext plain.now work.now (agenda_in self.new) }
         ensures idle { result ≡ None → AllIdle plain.now work.now }
     {

@@ -15,7 +15,7 @@ use Rattle.shen_graph.specs.History.{Entry}
 use Rattle.shen_graph.specs.declared.order.Order.{Order}
 use Rattle.step_core.specs.Actor.{Machine, Actor}
 use Rattle.step_core.specs.Machines.{takes_of, plan_of, machine_after, kind}
-use Rattle.shen_core.specs.Runs.{Shows, event, IsOneEvent}
+use Rattle.shen_core.specs.Runs.{WordsShow, event, IsOneEvent}
 
 -- where a map of an option is a value, there is one before it
 pub from_map : {A B : Type 0} (f : A → B) (o : Option A) (y : B) → option_map f o ≡ Some y → (x : A) × (o ≡ Some x) × (f x ≡ y)
@@ -23,7 +23,7 @@ from_map f None y is = cc
 from_map f (Some x) y is = (x, refl, same_Some _ _ is)
 
 -- the machine of a number, in a stage that memory shows
-pub shown_actor : (words : List ℕ) (machines : List Machine) (s : Stage Actor) (number : ℕ) (machine : Machine) → Shows words machines s → slice_get machines number ≡ Some machine → (a : Actor) × (slice_get s.machines number ≡ Some a) × (a.machine ≡ machine)
+pub shown_actor : (words : List ℕ) (machines : List Machine) (s : Stage Actor) (number : ℕ) (machine : Machine) → WordsShow words machines s → slice_get machines number ≡ Some machine → (a : Actor) × (slice_get s.machines number ≡ Some a) × (a.machine ≡ machine)
 shown_actor words machines s number machine shows here =
     from_map (λ a. a.machine) (slice_get s.machines number) machine
     (sym (slice_get-map (λ a. a.machine) s.machines number) ∙ ap (λ ms. slice_get ms number) shows.machines_are ∙ here)
@@ -42,14 +42,14 @@ module _ (c : Config) (words : List ℕ) (machines : List Machine) (number : ℕ
   stepped_machines = slice_set machines number (machine_after pause_image c order found machine)
 
   -- the event, in a stage that memory shows
-  pub shown_event : (s : Stage Actor) → Shows words machines s → slice_get machines number ≡ Some machine → takes_of machine order ≡ true → (a : Actor) × IsEvent (kind pause_image c) s (event number order) a × (a.machine ≡ machine)
+  pub shown_event : (s : Stage Actor) → WordsShow words machines s → slice_get machines number ≡ Some machine → takes_of machine order ≡ true → (a : Actor) × IsEvent (kind pause_image c) s (event number order) a × (a.machine ≡ machine)
   unfolding kind
   shown_event s shows here takes =
       let found = shown_actor words machines s number machine shows here in
       (found.0, record { here = found.1; takes = ap (λ x. takes_of x order) found.2 ∙ takes }, found.2)
 
   -- memory shows the stage after its step
-  moved_shows : (s : Stage Actor) (command : Command) (calls : List Entry) → Shows words machines s → Shows stepped_words stepped_machines (moved (kind pause_image c) s number (record { machine = machine; command = command; calls = calls }) order)
+  moved_shows : (s : Stage Actor) (command : Command) (calls : List Entry) → WordsShow words machines s → WordsShow stepped_words stepped_machines (moved (kind pause_image c) s number (record { machine = machine; command = command; calls = calls }) order)
   unfolding kind
   moved_shows s command calls shows = record {
     words_are = ap (accessed (plan_of c order machine)) shows.words_are;
@@ -59,12 +59,12 @@ module _ (c : Config) (words : List ℕ) (machines : List Machine) (number : ℕ
   }
 
   -- so it does after its event
-  pub shows_step : (s : Stage Actor) → Shows words machines s → slice_get machines number ≡ Some machine → takes_of machine order ≡ true → Shows stepped_words stepped_machines (act (kind pause_image c) s (event number order))
+  pub shows_step : (s : Stage Actor) → WordsShow words machines s → slice_get machines number ≡ Some machine → takes_of machine order ≡ true → WordsShow stepped_words stepped_machines (act (kind pause_image c) s (event number order))
   unfolding kind
   shows_step s shows here takes =
       let found = shown_event s shows here takes in
-      subst (λ x. Shows stepped_words stepped_machines x) (sym (act-event (kind pause_image c) s (event number order) found.0 found.1))
-      (subst (λ x. Shows stepped_words stepped_machines (moved (kind pause_image c) s number (record { machine = x; command = found.0.command; calls = found.0.calls }) order)) (sym found.2)
+      subst (λ x. WordsShow stepped_words stepped_machines x) (sym (act-event (kind pause_image c) s (event number order) found.0 found.1))
+      (subst (λ x. WordsShow stepped_words stepped_machines (moved (kind pause_image c) s number (record { machine = x; command = found.0.command; calls = found.0.calls }) order)) (sym found.2)
       (moved_shows s found.0.command found.0.calls shows))
 
   -- the step is one event
@@ -73,6 +73,6 @@ module _ (c : Config) (words : List ℕ) (machines : List Machine) (number : ℕ
     is_event = λ s shows. let found = shown_event s shows here takes in (found.0, found.1);
     acts = λ s shows. shows_step s shows here takes;
     goes_on = λ start events shows.
-        subst (λ x. Shows stepped_words stepped_machines x) (sym (go-step (kind pause_image c) start events (event number order)))
+        subst (λ x. WordsShow stepped_words stepped_machines x) (sym (go-step (kind pause_image c) start events (event number order)))
         (shows_step (go (kind pause_image c) start events) shows here takes);
   }

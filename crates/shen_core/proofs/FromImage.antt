@@ -26,7 +26,7 @@ use Rattle.step_core.specs.Begins.{Begins, IsNew}
 use Rattle.heap_machines.specs.declared.machine.Machine.{Machine}
 use Rattle.shen_core.specs.declared.plain.Plain.{Plain}
 use Rattle.shen_core.specs.State.{words_of, machines_of, orders_of}
-use Rattle.shen_core.specs.Runs.{Shows, IsShownBySome}
+use Rattle.shen_core.specs.Runs.{WordsShow, IsShownBySome}
 use Rattle.shen_core.specs.FromImage.{control_from, machine_from, actor_from, stage_from, CanBegin}
 
 -- one machine more
@@ -100,20 +100,20 @@ begins_from c words counts long g can = record {
 
 -- memory shows the stage
 pub shows_from : (c : Config) (words counts held : List ℕ) (machines : List Machine) → held ≡ words → map shown machines ≡ map (machine_from c counts (view c words)) (range_with_len 0 (seat_count c.mutators c.helpers))
-    → Shows held (map shown machines) (stage_from c words counts)
+    → WordsShow held (map shown machines) (stage_from c words counts)
 unfolding stage_from
 shows_from c words counts held machines words_are machines_are = record { words_are = sym words_are; machines_are = stage_machines c words counts ∙ sym machines_are }
 
 -- so some run has led there, of no event
-pub shown_from : (c : Config) (words counts held : List ℕ) (machines : List actors.Machine) → length words ≡ table_words c → Shows held machines (stage_from c words counts) → ∥ ((g : Graph) × CanBegin c (view c words) counts g) ∥₁
+pub shown_from : (c : Config) (words counts held : List ℕ) (machines : List actors.Machine) → length words ≡ table_words c → WordsShow held machines (stage_from c words counts) → ∥ ((g : Graph) × CanBegin c (view c words) counts g) ∥₁
     → ∥ IsShownBySome c held machines ∥₁
 shown_from c words counts held machines long shows some = ∥∥₁_map some (λ can. record {
   run = record { start = stage_from c words counts; graph = can.0; begins = begins_from c words counts long can.0 can.1; events = [] };
-  shows = subst (λ s. Shows held machines s) (sym (go-none (kind pause_image c) (stage_from c words counts))) shows;
+  shows = subst (λ s. WordsShow held machines s) (sym (go-none (kind pause_image c) (stage_from c words counts))) shows;
 })
 
 -- what is known of a heap of words and machines
-pub opened_shows : (p : Plain) (words : List ℕ) (machines : List actors.Machine) (s : Stage Actor) → words_of p ≡ words → machines_of p ≡ machines → Shows words machines s → Shows (words_of p) (machines_of p) s
+pub opened_shows : (p : Plain) (words : List ℕ) (machines : List actors.Machine) (s : Stage Actor) → words_of p ≡ words → machines_of p ≡ machines → WordsShow words machines s → WordsShow (words_of p) (machines_of p) s
 opened_shows p words machines s words_are machines_are shows = record { words_are = shows.words_are ∙ sym words_are; machines_are = shows.machines_are ∙ sym machines_are }
 
 pub opened_orders : (p : Plain) (orders : List Order) → orders_of p ≡ orders → All (λ order. order ≡ Nothing) orders → All (λ order. order ≡ Nothing) (orders_of p)

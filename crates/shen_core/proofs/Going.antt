@@ -18,7 +18,7 @@ use Rattle.heap_words.specs.Ranges.{seat_count}
 use Rattle.shen_graph.specs.Work as work
 use Rattle.shen_core.proofs.Events.{shown_actor}
 use Rattle.shen_core.proofs.Turns.{machine_within}
-use Rattle.shen_core.specs.Progress.{Jobs, Goes, Tells, WentOn, Runs, DoesTask, agenda, Turned, HasTurned, IsPassed, IsMoved}
+use Rattle.shen_core.specs.Progress.{Jobs, Goes, Tells, WentOn, Runs, DoesTask, agenda, Turned, HasTurned, IsPassed, IsMovedOn}
 use Rattle.heap_machines.specs.declared.stepped.Stepped.{Stepped}
 use Rattle.heap_machines.specs.declared.stepped.Stepped.TheVariants.{More, Again, Done, Idle}
 
@@ -102,7 +102,7 @@ waiting_of Again = true
 waiting_of _ = false
 
 -- a turn that is not idle makes an event
-pub moved_of : (c : Config) (scripts : Scripts) (s : Stage Actor) (number : ℕ) (q : Plain) (later : Jobs) (result : Stepped) → (result ≡ Idle → ⊥) → Turned c scripts s number q later result → IsMoved c scripts s number q later (waiting_of result)
+pub moved_of : (c : Config) (scripts : Scripts) (s : Stage Actor) (number : ℕ) (q : Plain) (later : Jobs) (result : Stepped) → (result ≡ Idle → ⊥) → Turned c scripts s number q later result → IsMovedOn c scripts s number q later (waiting_of result)
 moved_of c scripts s number q later More busy turned = turned
 moved_of c scripts s number q later Again busy turned = turned
 moved_of c scripts s number q later Done busy turned = turned

@@ -23,7 +23,7 @@ use Rattle.heap_machines.specs.Shown.{no_machine}
 use Rattle.step_core.specs.Begins.{Run, ending, graph_after}
 use Rattle.step_core.specs.Settled.{image_in, image_of, control_number}
 use Rattle.step_core.specs.Machines.{control_in, is_resting}
-use Rattle.shen_core.specs.Runs.{Shows, IsShownBySome}
+use Rattle.shen_core.specs.Runs.{WordsShow, IsShownBySome}
 use Rattle.shen_core.proofs.Events.{shown_actor}
 
 -- that the control can work on words is one fact
@@ -40,7 +40,7 @@ can_show_is_prop table machine = by_control (control_in machine)
     by_control (Some k) = loaded_is_prop table k.spot k.image
 
 module _ (c : Config) (words : List ℕ) (machines : List Machine) (rest : (number : ℕ) → number < c.mutators → is_resting (slice_index_or machines number no_machine) ≡ true)
-    (calm : image_in (slice_index_or machines (control_number c) no_machine) ≡ None) (run : Run c) (shows : Shows words machines (ending pause_image c run)) where
+    (calm : image_in (slice_index_or machines (control_number c) no_machine) ≡ None) (run : Run c) (shows : WordsShow words machines (ending pause_image c run)) where
   -- the machine of an actor of the stage
   pub machine_of : (number : ℕ) (a : Actor) → slice_get (ending pause_image c run).machines number ≡ Some a → a.machine ≡ slice_index_or machines number no_machine
   machine_of number a here =

@@ -30,7 +30,7 @@ use Rattle.step_core.proofs.FirstFacts.{opening_run}
 use Rattle.steps_base.specs.Steps.{accessed}
 use Rattle.steps_base.proofs.Places.{slice_get-set_same}
 use Rattle.steps_base.proofs.Runs.{go-none}
-use Rattle.shen_core.specs.Runs.{Shows, event, IsShownBySome, IsOneEvent, next_by}
+use Rattle.shen_core.specs.Runs.{WordsShow, event, IsShownBySome, IsOneEvent, next_by}
 use Rattle.shen_core.proofs.Events.{one_event}
 
 -- a machine of these has made its access, and has taken its word
@@ -194,13 +194,13 @@ ordered_heap config machines number m n here same one_heap =
     All-set (λ y. heap_of y ≡ config) machines number n (same ∙ heap_here config machines number m one_heap here) one_heap
 
 -- memory shows the opening
-pub shows_opening : (c : Config) (words : List ℕ) (machines : List Machine) → words ≡ opening_words c → map shown machines ≡ map (opening_machine c) (range_with_len 0 (seat_count c.mutators c.helpers)) → Shows words (map shown machines) (opening c)
+pub shows_opening : (c : Config) (words : List ℕ) (machines : List Machine) → words ≡ opening_words c → map shown machines ≡ map (opening_machine c) (range_with_len 0 (seat_count c.mutators c.helpers)) → WordsShow words (map shown machines) (opening c)
 unfolding opening
 shows_opening c words machines words_are machines_are = record { words_are = sym words_are; machines_are = first_machines c ∙ sym machines_are }
 
 -- so no event led to it
-pub shown_by_none : (c : Config) (words : List ℕ) (machines : List actors.Machine) → Shows words machines (opening c) → IsShownBySome c words machines
-shown_by_none c words machines shows = record { run = opening_run c []; shows = subst (λ s. Shows words machines s) (sym (go-none (kind pause_image c) (opening c))) shows }
+pub shown_by_none : (c : Config) (words : List ℕ) (machines : List actors.Machine) → WordsShow words machines (opening c) → IsShownBySome c words machines
+shown_by_none c words machines shows = record { run = opening_run c []; shows = subst (λ s. WordsShow words machines s) (sym (go-none (kind pause_image c) (opening c))) shows }
 
 -- there is a machine for each seat
 pub machines_count : (c : Config) (machines : List Machine) → map shown machines ≡ map (opening_machine c) (range_with_len 0 (seat_count c.mutators c.helpers)) → length machines ≡ seat_count c.mutators c.helpers

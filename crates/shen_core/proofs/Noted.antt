@@ -31,8 +31,8 @@ use Rattle.step_core.specs.Machines.{takes_of, plan_of, answer_of, machine_after
 use Rattle.heap_machines.specs.Roles.{is_mutating, given_in}
 use Rattle.step_core.specs.Schedule.{Scripts, waits, waits_of, waits_in}
 use Rattle.shen_core.specs.declared.plain.Plain.{Plain}
-use Rattle.shen_core.specs.Runs.{Shows, event}
-use Rattle.shen_core.specs.Progress.{Jobs, Tells, CanRun, IsTurn, IsNextTurn, Turned, IsMoved, HasTurned, next_for}
+use Rattle.shen_core.specs.Runs.{WordsShow, event}
+use Rattle.shen_core.specs.Progress.{Jobs, Tells, CanRun, IsTurn, IsNextTurn, Turned, IsMovedOn, HasTurned, next_for}
 use Rattle.shen_core.specs.State.{config_of, words_of, orders_of, machines_of, machine_at, order_at, has_turn, next_machine, IsStep}
 use Rattle.shen_graph.specs.Valid.{IsValid}
 use Rattle.shen_core.proofs.Events.{shown_actor}
@@ -59,7 +59,7 @@ acted_replies c s number order a machine here is takes b there =
 
 -- the work tells the replies after an event that gives none
 pub tells_on : (c : Config) (words : List ℕ) (machines : List Machine) (jobs : Jobs) (number : ℕ) (machine : Machine) (order : Order) (scripts : Scripts) (s : Stage Actor)
-    → Shows words machines s → Tells c scripts jobs s → slice_get machines number ≡ Some machine → takes_of machine order ≡ true → given_in machine ≡ None
+    → WordsShow words machines s → Tells c scripts jobs s → slice_get machines number ≡ Some machine → takes_of machine order ≡ true → given_in machine ≡ None
     → Tells c scripts jobs (act (kind pause_image c) s (event number order))
 tells_on c words machines jobs number machine order scripts s shows tells here takes none = record {
   scripts_are = tells.scripts_are;
@@ -76,7 +76,7 @@ tells_on c words machines jobs number machine order scripts s shows tells here t
 
 -- and with the reply noted after one that gives it
 pub tells_noted : (c : Config) (words : List ℕ) (machines : List Machine) (jobs : Jobs) (number : ℕ) (machine : Machine) (order : Order) (reply : Reply) (scripts : Scripts) (s : Stage Actor)
-    → Shows words machines s → Tells c scripts jobs s → slice_get machines number ≡ Some machine → takes_of machine order ≡ true → given_in machine ≡ Some reply → work.HasScript jobs number
+    → WordsShow words machines s → Tells c scripts jobs s → slice_get machines number ≡ Some machine → takes_of machine order ≡ true → given_in machine ≡ Some reply → work.HasScript jobs number
     → Tells c scripts (work.with_reply jobs number reply) (act (kind pause_image c) s (event number order))
 tells_noted c words machines jobs number machine order reply scripts s shows tells here takes gives has = record {
   scripts_are = λ t below. script_kept jobs number reply t has ∙ tells.scripts_are t below;
@@ -93,7 +93,7 @@ tells_noted c words machines jobs number machine order reply scripts s shows tel
 }
 
 -- whether the next step of a machine that memory shows says that it waits
-pub shown_waits : (c : Config) (words : List ℕ) (machines : List Machine) (number : ℕ) (machine : Machine) (order : Order) (s : Stage Actor) → Shows words machines s → slice_get machines number ≡ Some machine
+pub shown_waits : (c : Config) (words : List ℕ) (machines : List Machine) (number : ℕ) (machine : Machine) (order : Order) (s : Stage Actor) → WordsShow words machines s → slice_get machines number ≡ Some machine
     → waits c s (event number order) ≡ again_by (answer_of c machine (slice_index words (table_index (plan_of c order machine))))
 shown_waits c words machines number machine order s shows here =
     let found = shown_actor words machines s number machine shows here in
@@ -101,7 +101,7 @@ shown_waits c words machines number machine order s shows here =
     ∙ ap (λ ws. again_by (answer_of c machine (slice_index ws (table_index (plan_of c order machine))))) shows.words_are
 
 -- what a turn has done, by what its step said
-pub turned_from : (c : Config) (scripts : Scripts) (s : Stage Actor) (number : ℕ) (p : Plain) (jobs : Jobs) (said : Took) → IsMoved c scripts s number p jobs (is_again said) → Turned c scripts s number p jobs (stepped_of said)
+pub turned_from : (c : Config) (scripts : Scripts) (s : Stage Actor) (number : ℕ) (p : Plain) (jobs : Jobs) (said : Took) → IsMovedOn c scripts s number p jobs (is_again said) → Turned c scripts s number p jobs (stepped_of said)
 turned_from c scripts s number p jobs took.More moved = moved
 turned_from c scripts s number p jobs took.Again moved = moved
 turned_from c scripts s number p jobs took.Done moved = moved
@@ -244,7 +244,7 @@ module _ (p mid q : Plain) (jobs : Jobs) (number : ℕ) (said : Stepped) (facts 
       (λ below. omega (arith, names, script, replies))) before
 
   -- the order changes nothing that is shown
-  shows_mid : (s : Stage Actor) → Shows (words_of p) (machines_of p) s → Shows (words_of mid) (machines_of mid) s
+  shows_mid : (s : Stage Actor) → WordsShow (words_of p) (machines_of p) s → WordsShow (words_of mid) (machines_of mid) s
   shows_mid s shows = record { words_are = shows.words_are ∙ sym facts.mid_words; machines_are = shows.machines_are ∙ sym facts.mid_machines }
 
   -- the machine is there
@@ -252,7 +252,7 @@ module _ (p mid q : Plain) (jobs : Jobs) (number : ℕ) (said : Stepped) (facts 
   here_mid = machine_within (machines_of mid) number (subst (λ ms. number < length ms) (sym facts.mid_machines) facts.within)
 
   -- what the step has done, where the work now tells the stage after it
-  pub has_turned : (later : Jobs) → ((scripts : Scripts) (s : Stage Actor) → Shows (words_of mid) (machines_of mid) s → Tells (config_of p) scripts jobs s → Tells (config_of p) scripts later (act (kind pause_image (config_of p)) s (event number (order_at mid number)))) → HasTurned p jobs number q later said
+  pub has_turned : (later : Jobs) → ((scripts : Scripts) (s : Stage Actor) → WordsShow (words_of mid) (machines_of mid) s → Tells (config_of p) scripts jobs s → Tells (config_of p) scripts later (act (kind pause_image (config_of p)) s (event number (order_at mid number)))) → HasTurned p jobs number q later said
   has_turned later tells_later scripts s shows tells =
       let found = says_some (config_of mid) (machine_at mid number) (order_at mid number) got facts.has in
       let said_is : said ≡ stepped_of found.0 = facts.says ∙ ap stepped_by found.1 in
@@ -264,7 +264,7 @@ module _ (p mid q : Plain) (jobs : Jobs) (number : ℕ) (said : Stepped) (facts 
         waits_is = shown_waits (config_of p) (words_of mid) (machines_of mid) number (machine_at mid number) (order_at mid number) s (shows_mid s shows) here_mid
             ∙ ap (λ c. again_by (answer_of c (machine_at mid number) (slice_index (words_of mid) (table_index (plan_of c (order_at mid number) (machine_at mid number)))))) (sym facts.mid_config)
             ∙ ap again_by found.1;
-        shows = subst (λ c. Shows (words_of q) (machines_of q) (act (kind pause_image c) s (event number (order_at mid number)))) facts.mid_config (facts.event.acts s (shows_mid s shows));
+        shows = subst (λ c. WordsShow (words_of q) (machines_of q) (act (kind pause_image c) s (event number (order_at mid number)))) facts.mid_config (facts.event.acts s (shows_mid s shows));
         tells = tells_later scripts s (shows_mid s shows) tells;
       }))
 

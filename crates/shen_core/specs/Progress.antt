@@ -75,7 +75,7 @@ pub record IsPassed (c : Config) (scripts : Scripts) (s : Stage Actor) (number :
   pub tells : Tells c scripts jobs s
 
 -- the machine made its event, and said whether it waits
-pub record IsMoved (c : Config) (scripts : Scripts) (s : Stage Actor) (number : ℕ) (p : Plain) (jobs : Jobs) (waiting : Bool) : Type 0 where
+pub record IsMovedOn (c : Config) (scripts : Scripts) (s : Stage Actor) (number : ℕ) (p : Plain) (jobs : Jobs) (waiting : Bool) : Type 0 where
   pub event : Event Order
   pub is : turn scripts s number ≡ Some event
   pub waits_is : waits c s event ≡ waiting
@@ -85,9 +85,9 @@ pub record IsMoved (c : Config) (scripts : Scripts) (s : Stage Actor) (number : 
 -- what a turn has done, by what the machine said
 abbrev pub Turned : Config → Scripts → Stage Actor → ℕ → Plain → Jobs → Stepped → Type 0
 Turned c scripts s number p jobs Idle = IsPassed c scripts s number p jobs
-Turned c scripts s number p jobs Again = IsMoved c scripts s number p jobs true
-Turned c scripts s number p jobs More = IsMoved c scripts s number p jobs false
-Turned c scripts s number p jobs Done = IsMoved c scripts s number p jobs false
+Turned c scripts s number p jobs Again = IsMovedOn c scripts s number p jobs true
+Turned c scripts s number p jobs More = IsMovedOn c scripts s number p jobs false
+Turned c scripts s number p jobs Done = IsMovedOn c scripts s number p jobs false
 
 -- the schedule goes on from a stage that memory shows to one that it shows now
 pub record WentOn (c : Config) (scripts : Scripts) (s : Stage Actor) (agenda : Agenda) (left : ℕ) (p : Plain) (jobs : Jobs) (rest : Agenda) (later : ℕ) : Type 0 where

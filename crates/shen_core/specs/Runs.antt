@@ -10,14 +10,14 @@ use Rattle.step_core.specs.Machines.{plan_of, machine_after, kind}
 use Rattle.step_core.specs.Begins.{Run, ending}
 
 -- these words and machines are those of the stage, whose machines have their calls besides
-pub record Shows (words : List ℕ) (machines : List Machine) (s : Stage Actor) : Type 0 where
+pub record WordsShow (words : List ℕ) (machines : List Machine) (s : Stage Actor) : Type 0 where
   pub words_are : s.words ≡ words
   pub machines_are : map (λ a. a.machine) s.machines ≡ machines
 
 -- some run leads to these words and machines
 pub record IsShownBySome (c : Config) (words : List ℕ) (machines : List Machine) : Type 0 where
   pub run : Run c
-  pub shows : Shows words machines (ending pause_image c run)
+  pub shows : WordsShow words machines (ending pause_image c run)
 
 abbrev pub event : ℕ → Order → Event Order
 event number order = record { number = number; order = order }
@@ -25,10 +25,10 @@ event number order = record { number = number; order = order }
 -- One event of a machine leads from these words and machines to those: whatever events lead to these, the same and this
 -- one lead to those.
 pub record IsOneEvent (c : Config) (words : List ℕ) (machines : List Machine) (new_words : List ℕ) (new_machines : List Machine) (number : ℕ) (order : Order) : Type 0 where
-  pub is_event : (s : Stage Actor) → Shows words machines s → (a : Actor) × IsEvent (kind pause_image c) s (event number order) a
-  pub acts : (s : Stage Actor) → Shows words machines s → Shows new_words new_machines (act (kind pause_image c) s (event number order))
-  pub goes_on : (start : Stage Actor) (events : List (Event Order)) → Shows words machines (go (kind pause_image c) start events)
-      → Shows new_words new_machines (go (kind pause_image c) start (events ++ event number order ∷ []))
+  pub is_event : (s : Stage Actor) → WordsShow words machines s → (a : Actor) × IsEvent (kind pause_image c) s (event number order) a
+  pub acts : (s : Stage Actor) → WordsShow words machines s → WordsShow new_words new_machines (act (kind pause_image c) s (event number order))
+  pub goes_on : (start : Stage Actor) (events : List (Event Order)) → WordsShow words machines (go (kind pause_image c) start events)
+      → WordsShow new_words new_machines (go (kind pause_image c) start (events ++ event number order ∷ []))
 
 -- a machine after the step that it makes on these words
 abbrev pub next_by : Config → List ℕ → Order → Machine → Machine

@@ -34,7 +34,7 @@ seats_of p = seat_count p.config.mutators p.config.helpers
 
 -- the stage has its words and machines
 abbrev pub Shows : Plain → Stage actors.Actor → Type 0
-Shows p s = runs.Shows (words_of p) (machines_of p) s
+Shows p s = runs.WordsShow (words_of p) (machines_of p) s
 
 -- one machine, and the order that it was given
 abbrev pub machine_at : Plain → ℕ → actors.Machine

@@ -229,7 +229,7 @@ impl Plain {
         self.machines[number].made()
     }
 
-    /// The word at a place of the table.
+    /// The word at an index of the table.
     pub fn word(&self, at: usize) -> u64
         requires { at < table_words (config_of self.now) }
         ensures { result ≡ slice_index (words_of self.now) at }

@@ -1,7 +1,7 @@
 //! Words of the heap, values and commands as the listing spells them.
 
 use crate::row::Row;
-use crate::view::{Kind, Part, kind_of, kind_of_part, name_at, object_with, part_of, region_of};
+use crate::view::{Reading, Part, reading_of, reading_of_part, name_at, object_with, part_of, region_of};
 use heap_words::{
     Access, Config, Item, WordName, count_of, forwarded, forwardee, nums_of, refs_of,
     request_count, request_shape, thread_of,
@@ -136,30 +136,30 @@ fn put_answer(row: &mut Row, plain: &Plain, answer: u64) {
 }
 
 /// Puts a word as it is to be read.
-pub fn put_value(row: &mut Row, plain: &Plain, kind: Kind, word: u64) {
+pub fn put_value(row: &mut Row, plain: &Plain, kind: Reading, word: u64) {
     match kind {
-        Kind::Number => row.put_number(word),
-        Kind::Header => put_header(row, word),
-        Kind::Copiers => put_copiers(row, word),
-        Kind::Reference => put_reference(row, plain, word),
-        Kind::Answer => put_answer(row, plain, word),
-        Kind::Regions => put_regions(row, plain.config(), word),
-        Kind::Current if word == 0 => row.put(b"none"),
-        Kind::Current => row.put_number(word.saturating_sub(1)),
-        Kind::Ask => put_ask(row, word),
-        Kind::State if word == 0 => row.put(b"out"),
-        Kind::State => row.put(b"in"),
-        Kind::Request => put_request(row, word),
-        Kind::Shape => put_shape(row, word),
-        Kind::Name if word == 0 => row.put(b"0"),
-        Kind::Name => put_name(
+        Reading::Number => row.put_number(word),
+        Reading::Header => put_header(row, word),
+        Reading::Copiers => put_copiers(row, word),
+        Reading::Reference => put_reference(row, plain, word),
+        Reading::Answer => put_answer(row, plain, word),
+        Reading::Regions => put_regions(row, plain.config(), word),
+        Reading::Current if word == 0 => row.put(b"none"),
+        Reading::Current => row.put_number(word.saturating_sub(1)),
+        Reading::Ask => put_ask(row, word),
+        Reading::State if word == 0 => row.put(b"out"),
+        Reading::State => row.put(b"in"),
+        Reading::Request => put_request(row, word),
+        Reading::Shape => put_shape(row, word),
+        Reading::Name if word == 0 => row.put(b"0"),
+        Reading::Name => put_name(
             row,
             Name {
                 thread: thread_of(word),
                 count: count_of(word),
             },
         ),
-        Kind::Marks { first } => put_marks(row, plain, first, word),
+        Reading::Marks { first } => put_marks(row, plain, first, word),
     }
 }
 
@@ -251,12 +251,12 @@ pub enum Within {
     Elsewhere,
 }
 
-/// Puts the word at a place of the table, and says how it is to be read.
-pub fn put_word_at(row: &mut Row, plain: &Plain, at: usize, within: Within) -> Kind {
+/// Puts the word at an index of the table, and says how it is to be read.
+pub fn put_word_at(row: &mut Row, plain: &Plain, at: usize, within: Within) -> Reading {
     let config = plain.config();
     if at >= config.table_words() {
         row.put(b"?");
-        return Kind::Number;
+        return Reading::Number;
     }
     match (config.name_of(at), within) {
         (WordName::Heap { address }, Within::Object(object)) => {
@@ -264,28 +264,28 @@ pub fn put_word_at(row: &mut Row, plain: &Plain, at: usize, within: Within) -> K
             put_part(row, part);
             row.put(b" of ");
             put_name(row, name_at(plain, object));
-            kind_of_part(part)
+            reading_of_part(part)
         }
         (WordName::Heap { address }, Within::Room(room)) => {
             let part = part_of(plain, room, address);
             put_part(row, part);
             row.put(b" of the new object");
-            kind_of_part(part)
+            reading_of_part(part)
         }
         (WordName::Heap { address }, Within::Copy(room)) => {
             let part = part_of(plain, room, address);
             put_part(row, part);
             row.put(b" of the copy");
-            kind_of_part(part)
+            reading_of_part(part)
         }
         (name, _) => {
             put_word(row, config, name);
-            kind_of(config, name)
+            reading_of(config, name)
         }
     }
 }
 
-/// The address of the heap's word at a place of the table.
+/// The address of the heap's word at an index of the table.
 pub fn address_at(config: Config, at: usize) -> Option<u64> {
     if at >= config.table_words() {
         return None;
@@ -296,7 +296,7 @@ pub fn address_at(config: Config, at: usize) -> Option<u64> {
     }
 }
 
-/// Where the word at a place of the table lies: in an object if it is one of the heap.
+/// Where the word at an index of the table lies: in an object if it is one of the heap.
 pub fn look_within(plain: &Plain, at: usize) -> Within {
     match address_at(plain.config(), at) {
         Some(address) => match object_with(plain, address) {
@@ -308,7 +308,7 @@ pub fn look_within(plain: &Plain, at: usize) -> Within {
 }
 
 // Puts a verb and the word that it is of, and says how that is to be read.
-fn put_verb(row: &mut Row, plain: &Plain, verb: &[u8], at: usize, within: Within) -> Kind {
+fn put_verb(row: &mut Row, plain: &Plain, verb: &[u8], at: usize, within: Within) -> Reading {
     row.put(verb);
     row.put(b" ");
     put_word_at(row, plain, at, within)
@@ -323,8 +323,8 @@ fn are_copies(plain: &Plain, first: u64, second: u64) -> bool {
 }
 
 // Puts what an exchange stores in place of another value: of a reference to another copy of the same object the address.
-fn put_exchanged(row: &mut Row, plain: &Plain, kind: Kind, expect: u64, value: u64) {
-    if matches!(kind, Kind::Reference) && are_copies(plain, expect, value) {
+fn put_exchanged(row: &mut Row, plain: &Plain, kind: Reading, expect: u64, value: u64) {
+    if matches!(kind, Reading::Reference) && are_copies(plain, expect, value) {
         row.put(b"copy ");
         row.put_number(value);
     } else {
@@ -333,7 +333,7 @@ fn put_exchanged(row: &mut Row, plain: &Plain, kind: Kind, expect: u64, value: u
 }
 
 /// Puts an access with its values, and says how its word is to be read.
-pub fn put_access(row: &mut Row, plain: &Plain, access: Access, within: Within) -> Kind {
+pub fn put_access(row: &mut Row, plain: &Plain, access: Access, within: Within) -> Reading {
     let (verb, value) = match access {
         Access::Load { .. } => (b"load".as_slice(), None),
         Access::Store { value, .. } => (b"store".as_slice(), Some(value)),

@@ -4,7 +4,7 @@ use heap_words::{Config, WordName, count_of, refs_of, thread_of, words_of};
 use shen_core::Plain;
 use shen_graph::Name;
 
-/// The word at a place of the table, or 0 beyond its end.
+/// The word at an index of the table, or 0 beyond its end.
 pub fn word(plain: &Plain, at: usize) -> u64 {
     if at < plain.config().table_words() {
         plain.word(at)
@@ -123,7 +123,7 @@ pub fn part_of(plain: &Plain, object: u64, address: u64) -> Part {
 
 /// How a word is to be read.
 #[derive(Clone, Copy)]
-pub enum Kind {
+pub enum Reading {
     /// As a number.
     Number,
     /// As a header.
@@ -156,13 +156,13 @@ pub enum Kind {
 }
 
 /// How a word of an object is to be read.
-pub fn kind_of_part(part: Part) -> Kind {
+pub fn reading_of_part(part: Part) -> Reading {
     match part {
-        Part::Header => Kind::Header,
-        Part::Shape => Kind::Shape,
-        Part::Name => Kind::Name,
-        Part::Field(_) => Kind::Reference,
-        Part::Number(_) => Kind::Number,
+        Part::Header => Reading::Header,
+        Part::Shape => Reading::Shape,
+        Part::Name => Reading::Name,
+        Part::Field(_) => Reading::Reference,
+        Part::Number(_) => Reading::Number,
     }
 }
 
@@ -173,19 +173,19 @@ fn first_marked(config: Config, word: usize) -> u64 {
 }
 
 /// How a word outside the heap is to be read.
-pub fn kind_of(config: Config, name: WordName) -> Kind {
+pub fn reading_of(config: Config, name: WordName) -> Reading {
     match name {
-        WordName::State { .. } => Kind::State,
-        WordName::Cset | WordName::Free => Kind::Regions,
-        WordName::Ask => Kind::Ask,
-        WordName::Evac => Kind::Copiers,
-        WordName::Current { .. } => Kind::Current,
-        WordName::Root { .. } | WordName::Buffer { .. } => Kind::Reference,
-        WordName::Wait { .. } => Kind::Request,
-        WordName::Answer { .. } => Kind::Answer,
-        WordName::Grey { word } | WordName::Black { word } => Kind::Marks {
+        WordName::State { .. } => Reading::State,
+        WordName::Cset | WordName::Free => Reading::Regions,
+        WordName::Ask => Reading::Ask,
+        WordName::Evac => Reading::Copiers,
+        WordName::Current { .. } => Reading::Current,
+        WordName::Root { .. } | WordName::Buffer { .. } => Reading::Reference,
+        WordName::Wait { .. } => Reading::Request,
+        WordName::Answer { .. } => Reading::Answer,
+        WordName::Grey { word } | WordName::Black { word } => Reading::Marks {
             first: first_marked(config, word),
         },
-        _ => Kind::Number,
+        _ => Reading::Number,
     }
 }

@@ -42,7 +42,7 @@ use Rattle.step_core.specs.Actor.{controlling, Actor}
 use Rattle.step_core.specs.Machines.{took_of, kind, told_storing, standing_of}
 use Rattle.step_core.specs.Settled.{stored_image, settled_by, image_in, image_of, control_number}
 use Rattle.step_core.specs.Sound.{world_of}
-use Rattle.step_core.specs.Fit.{StandsForSome}
+use Rattle.step_core.specs.Fit.{IsImageOfSome}
 use Rattle.step_core.proofs.Facts.{IsResting, IsControl, IsMachine, Follows, Owes, AreRead}
 use Rattle.step_core.proofs.Images.{words_after, found-placed, image_grows}
 use Rattle.step_core.proofs.Helpers.{is_off}
@@ -170,7 +170,7 @@ module _ (change : Change) (law : IsPause change) (c : Config) (g : Graph) (s : 
   due_at index here = (control_held change law c g s past number (control_at (LoadWord index)) command calls follows shaken here).facts.1
 
   -- The last word of the image is loaded: the image stands for the graph.
-  pub whole_stands : (index : ℕ) → Here (LoadWord index) → index + 1 ≡ image_words c → StandsForSome c (image ++ loaded index ∷ [])
+  pub whole_stands : (index : ℕ) → Here (LoadWord index) → index + 1 ≡ image_words c → IsImageOfSome c (image ++ loaded index ∷ [])
   whole_stands index here last =
       let known = facts change law c g s past number (control_at (LoadWord index)) command calls follows shaken here in
       let read : AreRead c s.words (image ++ loaded index ∷ []) (image_words c) = λ i below. image_grows c s.words image index known.aims.0 known.aims.1 i (omega (arith, below, last)) in

@@ -66,8 +66,8 @@ module _ (c : Config) (words : List ℕ) (block : Plot) (ghost : Ghost) (g : Gra
   actor_at next = record { machine = controlling next; command = command; calls = calls ++ [] }
 
   -- where it should be after an access
-  abbrev Stands : Touch → Controlling → World → Type 0
-  Stands t next w = IsControl c (words_after c words t) w (control_number c) next
+  abbrev IsControlAfter : Touch → Controlling → World → Type 0
+  IsControlAfter t next w = IsControl c (words_after c words t) w (control_number c) next
 
   -- what its step owes after an access, where no image counts then
   abbrev OwesAt : Touch → Controlling → Type 0
@@ -163,22 +163,22 @@ module _ (c : Config) (words : List ℕ) (block : Plot) (ghost : Ghost) (g : Gra
     Quiet spot got = IsControl c words u (control_number c) (at_spot spot) → OwesAt (control_touch c spot) (then_at spot got)
 
     -- a step after which the table still counts
-    step_owes : (t : Touch) (next : Controlling) → is_word c t.word ≡ true → PartStep c u (control_number c) t (Stands t next) → stored_image next.spot next.image ≡ None → OwesAt t next
+    step_owes : (t : Touch) (next : Controlling) → is_word c t.word ≡ true → PartStep c u (control_number c) t (IsControlAfter t next) → stored_image next.spot next.image ≡ None → OwesAt t next
     step_owes t next is step none =
         subst (λ memory. Owes c words (words_after c words t) u past (control_number c) machines memory [] (actor_at next)) (sym (ap (settled_by c (words_after c words t)) none ∙ view-placed c words t is long))
         (quiet_owes c words None block ghost g past (control_number c) machines t long is (λ other held. absurd (cc (held))) (actor_at next) shared promised_to step
         (λ k b differs there known control same. absurd (no_other_control c words u (of_thread past (k + 1)) k b b.machine differs known control same)))
 
     -- it loads a word
-    loads_word : (word : Word) (next : Controlling) → is_word c word ≡ true → Stands (touch word loads) next u → stored_image next.spot next.image ≡ None → OwesAt (touch word loads) next
-    loads_word word next is stands none = step_owes (touch word loads) next is (load_step c u (control_number c) word (Stands (touch word loads) next) shared stands) none
+    loads_word : (word : Word) (next : Controlling) → is_word c word ≡ true → IsControlAfter (touch word loads) next u → stored_image next.spot next.image ≡ None → OwesAt (touch word loads) next
+    loads_word word next is stands none = step_owes (touch word loads) next is (load_step c u (control_number c) word (IsControlAfter (touch word loads) next) shared stands) none
 
     -- it stores into one of the handshake
     stores_word : (word : Word) (value : ℕ) (next : Controlling) → is_word c word ≡ true → is_of_handshake word ≡ true → ((k : ℕ) → k ≢ control_number c → write u.memory word value (State k) ≡ u.memory (State k))
-        → Shared c (world_with u (write u.memory word value) u.graph) → Stands (touch word (stores value)) next (world_with u (write u.memory word value) u.graph) → stored_image next.spot next.image ≡ None
+        → Shared c (world_with u (write u.memory word value) u.graph) → IsControlAfter (touch word (stores value)) next (world_with u (write u.memory word value) u.graph) → stored_image next.spot next.image ≡ None
         → OwesAt (touch word (stores value)) next
     stores_word word value next is other states after stands none =
-        step_owes (touch word (stores value)) next is (store_step c u (control_number c) word value (Stands (touch word (stores value)) next) other states after stands) none
+        step_owes (touch word (stores value)) next is (store_step c u (control_number c) word value (IsControlAfter (touch word (stores value)) next) other states after stands) none
 
     -- it looks how many mutators have not ended
     pub look_left : (got : ℕ) → Quiet LookLeft got

@@ -9,10 +9,10 @@ use Rattle.control_steps.specs.declared.spot.ControlSpot.{ControlSpot}
 use Rattle.control_steps.specs.declared.spot.ControlSpot.TheVariants.{LoadWord}
 
 -- an image stands for some graph, with the requests of some threads
-abbrev pub StandsForSome : Config → List ℕ → Type 0
-StandsForSome c image = ∥ ((g : Graph) × (asking : ℕ → Asking) × Represents c (image_view c image) g asking) ∥₁
+abbrev pub IsImageOfSome : Config → List ℕ → Type 0
+IsImageOfSome c image = ∥ ((g : Graph) × (asking : ℕ → Asking) × Represents c (image_view c image) g asking) ∥₁
 
 -- the last word of an image was loaded, and the image stands for some graph
 abbrev pub IsWhole : Config → ControlSpot → List ℕ → ℕ → Type 0
-IsWhole c (LoadWord index) image got = index + 1 ≡ image_words c → StandsForSome c (image ++ got ∷ [])
+IsWhole c (LoadWord index) image got = index + 1 ≡ image_words c → IsImageOfSome c (image ++ got ∷ [])
 IsWhole c _ image got = Unit {0}

@@ -65,7 +65,7 @@ place_in order (mutating m) = place_at order m.spot
 place_in order (helping h) = help_place h
 place_in order (controlling k) = control_place k.spot
 
--- what it is after the access, by the word that it was told
+-- what it is after the access, by the word that it found
 abbrev pub machine_after : Change → Config → Order → ℕ → Machine → Machine
 machine_after change c order got (mutating m) = mutating (next_of c m order got)
 machine_after change c order got (helping h) = helping (help_next c h got)

@@ -51,7 +51,7 @@ pub fn accesses_are_inside()
 
 /// A law: a word that a machine finds after some steps is fit.
 pub fn found_words_are_fit()
-    ensures { (change : Change) → IsPause change → (c : Config) (s : Stage Actor) (g : Graph) → Begins c s g → (number : ℕ) (a : Actor) (order : Order) (told : ℕ) → Finds (kind change c) s number a order told → IsFitFor c order told a.machine }
+    ensures { (change : Change) → IsPause change → (c : Config) (s : Stage Actor) (g : Graph) → Begins c s g → (number : ℕ) (a : Actor) (order : Order) (got : ℕ) → Finds (kind change c) s number a order got → IsFitFor c order got a.machine }
 {}
 
 /// A law: in a pause, from the control's last check to its end, no mutator and no helper is in the heap, and none makes an access

@@ -35,7 +35,7 @@ formed (keeps_bits value) found = bit_and found value
 formed (sets_bits value) found = bit_or found value
 formed (exchanges expect value) found = if found == expect then value else found
 
--- the access that does so at a place of the table
+-- the access that does so at an index of the table
 abbrev pub access_at : ℕ → Form → Access
 access_at at loads = Load at
 access_at at (stores value) = Store at value

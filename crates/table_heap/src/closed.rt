@@ -94,7 +94,7 @@ impl Closed {
     ghost use Rattle.heap_graph.specs.Shows.{ShowsGraph};
     ghost use Rattle.table_heap.specs.Closed.{config_of, words_of, stage_of, AllRest, IsUnchanged};
 
-    /// The word at a place of the table.
+    /// The word at an index of the table.
     pub fn word(&self, at: usize) -> u64
         requires { at < table_words (config_of self.now) }
         ensures { result ≡ slice_index (words_of self.now) at }

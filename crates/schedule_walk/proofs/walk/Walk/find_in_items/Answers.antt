@@ -3,7 +3,7 @@ use Rattle.std.specs.Prelude.{IfSome}
 use Rattle.step_core.specs.Schedule.{next}
 use Rattle.shen_core.specs.State.{config_of, seats_of}
 use Rattle.shen_core.specs.Progress.{HasNext, IsInSeats}
-use Rattle.schedule_walk.specs.Nexts.{IsDue}
+use Rattle.schedule_walk.specs.Nexts.{IsDueNext}
 use Rattle.schedule_walk.proofs.Finding.{item_within, left_walk, left_less, item_due, item_passed, item_idle}
 use Rattle.schedule_walk.proofs.walk.Walk.find_in_items.Goals as goal
 use Rattle.schedule_walk.proofs.walk.Walk.find_in_items.Goals.{else-not-is_over-via-then-not-is_over+else-has_next, else-not-is_over-via-else-not-is_over}
@@ -35,7 +35,7 @@ returns-then-has_next-clause-same c = λ scripts s shows tells.
 
 pub returns-then-has_next-clause-due : goal.returns-then-has_next-clause-due
 returns-then-has_next-clause-due c =
-    subst (λ n. IsDue c.args.plain.now c.args.work.now c.item.new.self n) (sym c.machine_of-number.ensures)
+    subst (λ n. IsDueNext c.args.plain.now c.args.work.now c.item.new.self n) (sym c.machine_of-number.ensures)
     (item_due c.args.plain.now c.args.work.now c.item.new.self c.in-Some.item (c.item.ensures.control ∙ c.loop-item.invariant.control) (c.item.ensures.present ∙ c.in-Some.is) (c.is_over.ensures.more c.if-not-is_over.true) (subst (λ o. IfSome o (IsInSeats (config_of c.args.plain.now))) (c.item.ensures.present ∙ c.in-Some.is) (c.item.ensures.fits _ c.loop-item.invariant.walk).present) (subst (λ n. HasNext c.args.plain.now n true) c.machine_of-number.ensures c.if-has_next.ensures))
 
 pub returns-then-has_next-clause-none : goal.returns-then-has_next-clause-none
