@@ -1,6 +1,5 @@
--- A sub-machine that a machine of a seat has inside: where it stands, what it accesses, what follows, and what is proved of it once for
--- every machine that has it.
-use Rattle.std.specs.Prelude.{ℕ, ◌≡◌, ◌≢◌, Bool, false}
+-- What a step of a part, a sub-machine that a machine of a seat has inside, owes to the machine that has it.
+use Rattle.std.specs.Prelude.{ℕ, ◌≡◌, ◌≢◌}
 use Rattle.heap_words.specs.declared.config.Config.{Config}
 use Rattle.steps_base.specs.Touch.{Touch, touched}
 use Rattle.heap_world.specs.World.{World, Shared}
@@ -22,14 +21,3 @@ pub record PartStep (c : Config) (u : World) (seat : ℕ) (t : Touch) (facts : W
   pub own : facts world
   pub keeps : Keeps c seat u world
   pub others : (k : ℕ) → k ≢ seat → Rely c k u world
-
--- A part, by where it stands (S) and what it was asked for (A): its rows, what holds of it, that this stays while others
--- step, and what its own steps owe.
-pub record Part (S A : Type 0) : Type 1 where
-  pub touch : Config → ℕ → A → S → Touch
-  pub next : Config → A → S → ℕ → S
-  pub ended : S → Bool
-  pub facts : Config → ℕ → A → World → S → Type 0
-  pub stable : (c : Config) (u w : World) (seat : ℕ) (asked : A) (at : S) → Shared c u → Rely c seat u w → facts c seat asked u at → facts c seat asked w at
-  pub step : (c : Config) (u : World) (seat : ℕ) (asked : A) (at : S) → ended at ≡ false → Shared c u → facts c seat asked u at
-      → PartStep c u seat (touch c seat asked at) (λ w. facts c seat asked w (next c asked at (u.memory (touch c seat asked at).word)))
