@@ -1,7 +1,9 @@
 //! Words of the heap, values and commands as the listing spells them.
 
 use crate::row::Row;
-use crate::view::{Reading, Part, reading_of, reading_of_part, name_at, object_with, part_of, region_of};
+use crate::view::{
+    Part, Reading, name_at, object_with, part_of, reading_of, reading_of_part, region_of,
+};
 use heap_words::{
     Access, Config, Item, WordName, count_of, forwarded, forwardee, nums_of, refs_of,
     request_count, request_shape, thread_of,
