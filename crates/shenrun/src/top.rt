@@ -19,7 +19,7 @@ use std::sync::Wait;
 use std::thread::Threads;
 use table_heap::Gate;
 use trace_runs::{Status, alone, churn, run, say, workers_of, workload_of};
-use trace_text::Line;
+use trace_writing::Line;
 
 // Whether this word is the first one.
 fn begin_with(first: &str, words: &[String]) -> bool

@@ -18,7 +18,9 @@ use shen_core::{Plain, Ran};
 use shen_graph::Work;
 use std::alloc::Global;
 use text_writer::write_all;
-use trace_text::{Line, Trace, TraceFault, read_trace, write_line};
+use trace_grammar::Trace;
+use trace_reading::{TraceFault, read_trace};
+use trace_writing::{Line, write_line};
 
 // Makes the next event of the schedule, and lists it under the headings of the parts that have begun. None where there is none.
 fn list_next<K: Sink>(

@@ -17,7 +17,7 @@ use shen_base::{InSource, OutSink};
 use std::alloc::AllocError;
 use std::process::ExitCode;
 use std::{env, io};
-use trace_text::number_in;
+use trace_grammar::number_in;
 
 /// The status number where the system refuses the words of the command line, or one is not UTF-8.
 const NO_WORDS: u8 = 8;

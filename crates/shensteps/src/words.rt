@@ -1,4 +1,4 @@
-use trace_text::number_in;
+use trace_grammar::number_in;
 
 /// The events that are made at most where the words name no number.
 const USUAL_STEPS: u64 = 100_000_000;

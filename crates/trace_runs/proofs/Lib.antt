@@ -9,3 +9,4 @@ pub mod Dealing
 pub mod Coming
 pub mod Loops
 pub mod Churned
+pub mod Texts

@@ -6,7 +6,7 @@ use Rattle.std.specs.Cmp.Lexicographic.{pointwise}
 use Rattle.std.proofs.lemmas.Bool.{eqb-true, false≢true}
 use Rattle.std.proofs.lemmas.Fmt.{decimal_digit}
 use Rattle.trace_grammar.specs.Spelling.{IsUpTo}
-use Rattle.trace_runs.specs.Words.{most_seed, most_rounds, IsReplay, AskReplay, IsRunBy, AskRun, AskTrace, IsChurn, AskChurn, Ask, BeginWith}
+use Rattle.trace_runs.specs.Words.{most_seed, most_rounds, usual_steps, most_machines, IsNumbered, IsReplay, AskReplay, IsRunBy, AskRun, AskTrace, IsChurn, AskChurn, Ask, BeginWith}
 use Rattle.std.proofs.lemmas.Bool.Decides.{nat_tests}
 
 same_from_test : (xs ys : List ℕ) → pointwise eqb xs ys ≡ true → xs ≡ ys
@@ -61,31 +61,18 @@ three_words f (x ∷ y ∷ z ∷ []) a b c first second some few at_a at_b at_c 
 three_words f (x ∷ y ∷ z ∷ w ∷ words) a b c first second some few at_a at_b at_c e h = absurd (omega arith)
 
 -- what the third word says
-pub steps_named : (words : List (List ℕ)) (number : List ℕ) (r : Option ℕ) → words ≡ codes "replay" ∷ codes "--steps" ∷ number ∷ []
-    → MatchOption r ((n : ℕ) → IsUpTo 4000000000 n → number ≡ decimal n → ⊥) (λ n. IsUpTo 4000000000 n × (number ≡ decimal n))
-    → MatchOption r (AskReplay words → ⊥) (IsReplay words)
-steps_named words number (Some n) are read = inr (are ∙ ap (λ (t : List ℕ). codes "replay" ∷ codes "--steps" ∷ t ∷ []) read.1, read.0)
-steps_named words number None are none = λ asked. by_form asked.0 asked.1
+pub number_named : (command option : List ℕ) (usual most : ℕ) (words : List (List ℕ)) (number : List ℕ) (r : Option ℕ) → words ≡ command ∷ option ∷ number ∷ []
+    → MatchOption r ((n : ℕ) → IsUpTo most n → number ≡ decimal n → ⊥) (λ n. IsUpTo most n × (number ≡ decimal n))
+    → MatchOption r (((n : ℕ) × IsNumbered command option usual most words n) → ⊥) (IsNumbered command option usual most words)
+number_named command option usual most words number (Some n) are read = inr (are ∙ ap (λ (t : List ℕ). command ∷ option ∷ t ∷ []) read.1, read.0)
+number_named command option usual most words number None are none = λ asked. by_form asked.0 asked.1
   where
-    by_form : (steps : ℕ) → IsReplay words steps → ⊥
-    by_form steps (inl one) = absurd (omega (arith, ap length (sym are ∙ one.0)))
-    by_form steps (inr three) = none steps three.1 (third number (decimal steps) (sym are ∙ three.0))
-      where
-        third : (a b : List ℕ) → codes "replay" ∷ codes "--steps" ∷ a ∷ [] ≡ codes "replay" ∷ codes "--steps" ∷ b ∷ [] → a ≡ b
-        third a b e = ap (λ (ws : List (List ℕ)). get_or ws 2 []) e
+    third : (a b : List ℕ) → command ∷ option ∷ a ∷ [] ≡ command ∷ option ∷ b ∷ [] → a ≡ b
+    third a b e = ap (λ (ws : List (List ℕ)). get_or ws 2 []) e
 
-pub workers_named : (words : List (List ℕ)) (number : List ℕ) (r : Option ℕ) → words ≡ codes "run" ∷ codes "--workers" ∷ number ∷ []
-    → MatchOption r ((n : ℕ) → IsUpTo 12 n → number ≡ decimal n → ⊥) (λ n. IsUpTo 12 n × (number ≡ decimal n))
-    → MatchOption r (AskRun words → ⊥) (IsRunBy words)
-workers_named words number (Some n) are read = inr (are ∙ ap (λ (t : List ℕ). codes "run" ∷ codes "--workers" ∷ t ∷ []) read.1, read.0)
-workers_named words number None are none = λ asked. by_form asked.0 asked.1
-  where
-    by_form : (workers : ℕ) → IsRunBy words workers → ⊥
-    by_form workers (inl one) = absurd (omega (arith, ap length (sym are ∙ one.0)))
-    by_form workers (inr three) = none workers three.1 (third number (decimal workers) (sym are ∙ three.0))
-      where
-        third : (a b : List ℕ) → codes "run" ∷ codes "--workers" ∷ a ∷ [] ≡ codes "run" ∷ codes "--workers" ∷ b ∷ [] → a ≡ b
-        third a b e = ap (λ (ws : List (List ℕ)). get_or ws 2 []) e
+    by_form : (n : ℕ) → IsNumbered command option usual most words n → ⊥
+    by_form n (inl one) = absurd (omega (arith, ap length (sym are ∙ one.0)))
+    by_form n (inr three) = none n three.1 (third number (decimal n) (sym are ∙ three.0))
 
 -- a seed is 0, or a number from 1 on
 
@@ -111,20 +98,17 @@ is_churn words a b seed count are first second =
 begins_as : (words more : List (List ℕ)) (word : List ℕ) → words ≡ word ∷ more → BeginWith word words
 begins_as words more word are = subst (BeginWith word) (sym are) refl
 
+-- who names a number of a command begins with the command
+pub numbered_begins : (command option : List ℕ) (usual most : ℕ) (words : List (List ℕ)) (n : ℕ) → IsNumbered command option usual most words n → BeginWith command words
+numbered_begins command option usual most words n (inl one) = begins_as words [] command one.0
+numbered_begins command option usual most words n (inr three) = begins_as words (option ∷ decimal n ∷ []) command three.0
+
 -- who asks for a run begins with it
 pub run_begins : (words : List (List ℕ)) → AskRun words → BeginWith (codes "run") words
-run_begins words asked = by_form asked.0 asked.1
-  where
-    by_form : (workers : ℕ) → IsRunBy words workers → BeginWith (codes "run") words
-    by_form workers (inl one) = begins_as words [] (codes "run") one.0
-    by_form workers (inr three) = begins_as words (codes "--workers" ∷ decimal workers ∷ []) (codes "run") three.0
+run_begins words asked = numbered_begins (codes "run") (codes "--workers") most_machines most_machines words asked.0 asked.1
 
 pub replay_begins : (words : List (List ℕ)) → AskReplay words → BeginWith (codes "replay") words
-replay_begins words asked = by_form asked.0 asked.1
-  where
-    by_form : (steps : ℕ) → IsReplay words steps → BeginWith (codes "replay") words
-    by_form steps (inl one) = begins_as words [] (codes "replay") one.0
-    by_form steps (inr three) = begins_as words (codes "--steps" ∷ decimal steps ∷ []) (codes "replay") three.0
+replay_begins words asked = numbered_begins (codes "replay") (codes "--steps") usual_steps 4000000000 words asked.0 asked.1
 
 pub churn_begins : (words : List (List ℕ)) → AskChurn words → BeginWith (codes "churn") words
 churn_begins words asked = begins_as words (decimal asked.0 ∷ decimal asked.1.0 ∷ []) (codes "churn") asked.1.1.0
@@ -162,6 +146,16 @@ first_word f (x ∷ xs) w text r some is e = (
   (λ h. sym (ap f is) ∙ same_from_test (f w) text (sym e ∙ h)),
   (λ begins. e ∙ ap (λ (t : List ℕ). pointwise eqb t text) (ap f is ∙ begins) ∙ test_itself text),
 )
+
+-- words of which the second is another one name no number behind an option
+pub other_option : {X : Type 0} (f : X → List ℕ) (command option : List ℕ) (usual most : ℕ) (words : List X) (b : X) (r : Bool) → 2 ≤ length words → b ≡ get_or words 1 b → r ≡ pointwise eqb (f b) option → r ≡ false
+    → (n : ℕ) → IsNumbered command option usual most (map f words) n → ⊥
+other_option f command option usual most [] b r some is e differs n asked = absurd (omega arith)
+other_option f command option usual most (x ∷ []) b r some is e differs n asked = absurd (omega arith)
+other_option f command option usual most (x ∷ y ∷ words) b r some is e differs n (inl one) = absurd (omega (arith, ap length one.0))
+other_option f command option usual most (x ∷ y ∷ words) b r some is e differs n (inr three) =
+    let second : f y ≡ option = ap (λ (ws : List (List ℕ)). get_or ws 1 []) three.0 in
+    false≢true (sym differs ∙ e ∙ ap (λ (t : List ℕ). pointwise eqb t option) (ap f is ∙ second) ∙ test_itself option)
 
 -- so the test tells whether it does
 pub told_by : {P : Type 0} (r : Bool) → (r ≡ true → P) × (P → r ≡ true) → MatchBool r P (P → ⊥)

@@ -3,6 +3,12 @@ use Rattle.std.specs.Prelude.{ℕ, ◌≡◌, ◌≤◌, ◌⊎◌, List, [], �
 use Rattle.std.specs.Fmt.{decimal}
 use Rattle.trace_grammar.specs.Spelling.{IsUpTo}
 
+-- the words are a command alone, which goes with its usual number, or the command, an option and a number
+abbrev pub IsNumbered : (command option : List ℕ) → (usual most : ℕ) → List (List ℕ) → ℕ → Type 0
+IsNumbered command option usual most words n =
+    ((words ≡ command ∷ []) × (n ≡ usual))
+    ⊎ ((words ≡ command ∷ option ∷ decimal n ∷ []) × IsUpTo most n)
+
 -- the steps that a replay may make where the words name no number
 abbrev pub usual_steps : ℕ
 usual_steps = 100000000

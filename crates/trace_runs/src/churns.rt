@@ -18,7 +18,8 @@ use std::alloc::Global;
 use std::sync::Wait;
 use std::thread::Threads;
 use table_heap::Gate;
-use trace_text::{Line, number_in};
+use trace_grammar::number_in;
+use trace_writing::Line;
 
 /// The largest number from which a churn is made.
 const MOST_SEED: u64 = 1_000_000;
@@ -27,7 +28,7 @@ const MOST_SEED: u64 = 1_000_000;
 const MOST_ROUNDS: u64 = 20_000;
 
 /// What the scripts of a churn are made from.
-#[derive(Clone, Copy, Debug, PartialEq, Eq)]
+#[derive(Clone, Copy, Debug)]
 pub struct Workload {
     /// The number that all sizes and values depend on, 0 to 1000000.
     pub seed: u64,

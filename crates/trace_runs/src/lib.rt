@@ -3,6 +3,7 @@
 
 mod churns;
 mod lines;
+mod numbered;
 mod parts;
 mod replay;
 mod runs;

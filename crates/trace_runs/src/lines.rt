@@ -12,7 +12,9 @@ ghost use Rattle.trace_runs.specs.Answered.{IsAnswered};
 use crate::status::Status;
 use shen_base::{Sink, Source};
 use std::alloc::Global;
-use trace_text::{Answer, Line, Trace, TraceFault, read_trace, write_answer, write_line};
+use trace_grammar::Trace;
+use trace_reading::{TraceFault, read_trace};
+use trace_writing::{Answer, Line, write_answer, write_line};
 
 /// Writes the one line of a status, or the lines of a churn.
 pub fn say<K: Sink>(sink: &mut K, line: Line, status: Status) -> Status

@@ -22,13 +22,15 @@ ghost use Rattle.trace_runs.specs.Running.{HasFinished};
 ghost use Rattle.trace_runs.specs.Answered.{IsAnswered, IsAnswer};
 
 use crate::lines::{give, say, taken};
+use crate::numbered::number_of;
 use crate::status::Status;
 use heap_words::Config;
 use shen_base::{Sink, Source};
 use shen_core::{Plain, Ran};
 use shen_graph::{GraphText, Work};
 use std::alloc::Global;
-use trace_text::{Answer, Line, Trace, number_in};
+use trace_grammar::Trace;
+use trace_writing::{Answer, Line};
 
 /// The steps that a replay may make where the words name no number.
 const USUAL_STEPS: u64 = 100_000_000;
@@ -48,13 +50,7 @@ enum Refusal {
 fn steps_of(words: &[String]) -> Option<u64>
     ensures { MatchOption result (AskReplay (map string_bytes words.now) → ⊥) (IsReplay (map string_bytes words.now)) }
 {
-    match words {
-        [word] if word.as_str() == "replay" => Some(USUAL_STEPS),
-        [word, option, number] if word.as_str() == "replay" && option.as_str() == "--steps" => {
-            number_in(MOST_STEPS, number.as_bytes())
-        }
-        _ => None,
-    }
+    number_of("replay", "--steps", USUAL_STEPS, MOST_STEPS, words)
 }
 
 /// Runs the schedule of a trace, and then rounds, on a heap of its own, until all mutators have ended and the control has.

@@ -18,6 +18,7 @@ ghost use Rattle.trace_runs.specs.Running.{HasCome};
 ghost use Rattle.trace_runs.specs.Answered.{IsAnswered};
 
 use crate::lines::{give, say, taken};
+use crate::numbered::number_of;
 use crate::parts::{Part, dealt};
 use crate::status::Status;
 use crate::threads::run_parts;
@@ -28,7 +29,8 @@ use std::alloc::Global;
 use std::sync::Wait;
 use std::thread::Threads;
 use table_heap::{Closed, Gate, Heap};
-use trace_text::{Answer, Line, Trace, number_in};
+use trace_grammar::Trace;
+use trace_writing::{Answer, Line};
 
 /// The most machines that a heap has, and so the most bundles.
 pub const MOST_MACHINES: u64 = 12;
@@ -37,13 +39,7 @@ pub const MOST_MACHINES: u64 = 12;
 pub fn workers_of(words: &[String]) -> Option<u64>
     ensures { MatchOption result (AskRun (map string_bytes words.now) → ⊥) (IsRunBy (map string_bytes words.now)) }
 {
-    match words {
-        [word] if word.as_str() == "run" => Some(MOST_MACHINES),
-        [word, option, number] if word.as_str() == "run" && option.as_str() == "--workers" => {
-            number_in(MOST_MACHINES, number.as_bytes())
-        }
-        _ => None,
-    }
+    number_of("run", "--workers", MOST_MACHINES, MOST_MACHINES, words)
 }
 
 /// Runs scripts, one for each mutator, on a heap of their own, in so many bundles at most, until all machines are idle.

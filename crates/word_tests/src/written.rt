@@ -9,9 +9,11 @@ use shen_graph::{GraphText, Script, Work};
 use std::alloc::{AllocError, Global};
 use std::slice::from_ref;
 use std::test::Fail;
-use trace_text::{
-    Answer, Line, Why, WriteFault, read_trace, read_traces_can_be_written, write_answer,
-    write_line, write_trace,
+use text_writer::WriteFault;
+use trace_grammar::Why;
+use trace_reading::read_trace;
+use trace_writing::{
+    Answer, Line, read_traces_can_be_written, write_answer, write_line, write_trace,
 };
 
 // Whether the sink was given this text, and there was no fault; or, where one is wanted, its first bytes, and there was one.

@@ -1,3 +1,4 @@
+use Rattle.std.proofs.Common.{arith}
 use Rattle.trace_runs.proofs.Scripts.{count_scripts}
 use Rattle.trace_runs.proofs.Whole.{all_rest, replayed}
 use Rattle.step_core.proofs.FirstFacts.{opening_run}
@@ -19,3 +20,9 @@ returns-clause-ok c = λ bytes reads.
 
 pub run-requires : goal.run-requires
 run-requires c = c.requires
+
+pub graph_of-requires-clause-config : goal.graph_of-requires-clause-config
+graph_of-requires-clause-config c = c.in_ok-replies.ensures.finished.config
+
+pub returns-clause-scripts : goal.returns-clause-scripts
+returns-clause-scripts c = λ mutator below. c.in_ok-replies.ensures.finished.jobs_are mutator (omega (arith, below, c.in_ok-graph.ensures.threads))
