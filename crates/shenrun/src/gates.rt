@@ -1,7 +1,7 @@
 //! Machines step in threads of their own, and see each other's stores: what no script can see from outside.
 use crate::top::shenrun;
 use shen_base::{MemorySink, MemorySource};
-use std::alloc::{AllocError, Global};
+use std::alloc::Global;
 use std::sync::Wait;
 use std::sync::atomic::{AtomicBool, AtomicU64, Ordering};
 use std::test::Fail;
@@ -39,12 +39,12 @@ impl Held {
 
     /// Whether machine 0 was let go in time, and each of the first machines passed so often.
     fn has_seen(&self, machines: usize, passes: u64) -> bool {
-        for passed in self.passed.iter().take(machines) {
-            if passed.load(Ordering::SeqCst) < passes {
-                return false;
-            }
-        }
         !self.late.load(Ordering::SeqCst)
+            && self
+                .passed
+                .iter()
+                .take(machines)
+                .all(|it| it.load(Ordering::SeqCst) >= passes)
     }
 }
 
@@ -59,62 +59,56 @@ impl Gate for Held {
     }
 }
 
-/// Whether the program, behind the gate, ends with status 0 and writes a text that begins so.
-fn answers<R: Threads + Wait + Sync>(
+/// Runs the program behind the gate. What it writes is an answer, with status 0.
+fn answer<R: Threads + Wait + Sync>(
     rt: &R,
     alloc: Global,
     words: &[&str],
     trace: &str,
     gate: &Held,
-    begin: &str,
-) -> Result<bool, AllocError> {
+) -> Result<Option<Vec<u8>>, Fail> {
     let mut list = Vec::new(alloc);
     for word in words {
         list.push(String::from_str(alloc, word)?)?;
     }
-    let input = Vec::from_slice(alloc, trace.as_bytes())?;
-    let mut source = MemorySource::new(input, 64, Vec::new(alloc));
+    let mut source = MemorySource::new(
+        Vec::from_slice(alloc, trace.as_bytes())?,
+        64,
+        Vec::new(alloc),
+    );
     let mut sink = MemorySink::with_room(alloc, 4096, 64, Vec::new(alloc))?;
-    let status = shenrun(rt, alloc, &list, &mut source, &mut sink, gate);
-    Ok(matches!(&status, Status::Ok) && sink.bytes().starts_with(begin.as_bytes()))
+    if shenrun(rt, alloc, &list, &mut source, &mut sink, gate) == Status::Ok {
+        return Ok(Some(Vec::from_slice(alloc, sink.bytes())?));
+    }
+    Ok(None)
 }
 
-// The words, the trace, how often machine 1 is to pass before machine 0 goes on, how the answer begins, and how often each of the
-// first machines has passed in the end. One machine makes its steps while the other stands at the gate, where each command takes
-// six steps at least; and what one thread stores the other loads, where that one is held until the store is done.
-const RUNS: [(&[&str], &str, u64, &str, usize, u64); 3] = [
-    (
-        &["run"],
-        "shen 1\nheap 8 64 0\nthreads 2 0\n1 new 1 0 0\n1 set 0 0 1\n1 get 2 0 1\n2 new 1 0 0\n2 set 0 1 1\n2 get 2 0 0\n",
-        1,
-        "1 ",
-        2,
-        18,
-    ),
-    (
-        &["churn", "7", "10"],
-        "",
-        1,
-        "churn 7 10\nthreads 3\ncommands 246\nbad 0\nfull 0\nobjects 34\nwords 328\nsum 375\n",
-        3,
-        492,
-    ),
-    (
-        &["run"],
-        "shen 1\nheap 8 64 0\nthreads 2 0\n1 get 1 0 0\n2 new 1 0 0\n2 set 0 0 1\n2 copy 2 1\n",
-        30,
-        "1 2.1\n",
-        1,
-        1,
-    ),
-];
-
+/// One machine makes its steps while the other stands at the gate. Each command takes six steps at least.
 #[test]
-fn machines_step_in_threads(rt: HostRuntime) -> Result<(), Fail> {
-    for (words, trace, wanted, begin, machines, passes) in &RUNS {
-        let gate = Held::until(*wanted);
-        assert!(rt; answers(&rt, rt.alloc(), words, trace, &gate, begin)?);
-        assert!(rt; gate.has_seen(*machines, *passes));
-    }
+fn gate_two_threads(rt: HostRuntime) -> Result<(), Fail> {
+    let trace =
+        "shen 1\nheap 8 64 0\nthreads 2 0\n1 new 1 0 0\n1 set 0 0 1\n1 get 2 0 1\n2 new 1 0 0\n2 set 0 1 1\n2 get 2 0 0\n";
+    let gate = Held::until(1);
+    let run = answer(&rt, rt.alloc(), &["run"], trace, &gate)?;
+    assert!(rt; run.is_some());
+    assert!(rt; gate.has_seen(2, 18));
+    let gate = Held::until(1);
+    let churn = answer(&rt, rt.alloc(), &["churn", "7", "10"], "", &gate)?;
+    let summary =
+        "churn 7 10\nthreads 3\ncommands 246\nbad 0\nfull 0\nobjects 34\nwords 328\nsum 375\n";
+    assert!(rt; churn.is_some_and(|it| it.as_slice() == summary.as_bytes()));
+    assert!(rt; gate.has_seen(3, 492));
+    Ok(())
+}
+
+/// What one thread stores the other loads, where that one is held until the store is done.
+#[test]
+fn gate_orders(rt: HostRuntime) -> Result<(), Fail> {
+    let trace =
+        "shen 1\nheap 8 64 0\nthreads 2 0\n1 get 1 0 0\n2 new 1 0 0\n2 set 0 0 1\n2 copy 2 1\n";
+    let gate = Held::until(30);
+    let run = answer(&rt, rt.alloc(), &["run"], trace, &gate)?;
+    assert!(rt; run.is_some_and(|it| it.as_slice().starts_with(b"1 2.1\n")));
+    assert!(rt; gate.has_seen(1, 1));
     Ok(())
 }
