@@ -9,7 +9,7 @@ pub use bundle::{Bundle, Ended, OfAdders, Tally, add_in_two, open};
 use heap_words::Access;
 
 /// Where an adder stands. Each step is one access of the lock, word 0, or of the total, word 1.
-#[derive(Clone, Copy, Debug, PartialEq, Eq)]
+#[derive(Clone, Copy, Debug)]
 pub enum Adder {
     /// It has no call. Its next step asks for the lock.
     Idle,
@@ -27,7 +27,7 @@ pub enum Adder {
 }
 
 /// What an adder is told to do.
-#[derive(Clone, Copy, Debug, PartialEq, Eq)]
+#[derive(Clone, Copy, Debug)]
 pub enum Wish {
     /// An idle adder begins a call.
     Begin,

@@ -25,8 +25,9 @@ pub fn make_step<R, O, K, M: Machines<R, O, K>, G: Turn<K, O>>(
 {
     match access {
         Access::Load { at } => table.load::<Turns<R, O, K, M, G>>(seat, at),
-        Access::Store { at, value } => table.swap::<Turns<R, O, K, M, G>>(seat, at, value),
-        Access::Swap { at, value } => table.swap::<Turns<R, O, K, M, G>>(seat, at, value),
+        Access::Store { at, value } | Access::Swap { at, value } => {
+            table.swap::<Turns<R, O, K, M, G>>(seat, at, value)
+        }
         Access::Add { at, value } => table.fetch_add::<Turns<R, O, K, M, G>>(seat, at, value),
         Access::Sub { at, value } => table.fetch_sub::<Turns<R, O, K, M, G>>(seat, at, value),
         Access::And { at, value } => table.fetch_and::<Turns<R, O, K, M, G>>(seat, at, value),

@@ -1,4 +1,5 @@
 -- Each form of access is one case of one lemma.
+use Rattle.std.proofs.Common.{inl, inr}
 use Rattle.heap_words.specs.declared.access.Access.TheVariants.{Load, Store, Swap, Add, Sub, And, Or, Exchange}
 use Rattle.shared_steps.proofs.Rules.{can_step, step_told}
 use Rattle.shared_steps.proofs.steps.make_step.Goals as goal
@@ -11,15 +12,16 @@ load-requires g c =
 
 pub swap-requires : goal.swap-requires
 swap-requires g c =
-    let m = can_step g.M.Machines.kind g.M.Machines.opening c.args.table.now.key c.args.seat.now.id c.args.number c.args.seat.now.me c.args.order.now c.args.table.now.table_id.slots c.args.table.now.table_id.words
-    g.G.Turn.key g.G.Turn.number g.G.Turn.order c.args.access (Store c.in-Store.at c.in-Store.value) c.requires.turn c.requires.machine c.requires.inside c.in-Store.is in
-    (c.requires.table, m.0, m.1)
-
-pub swap-requires-in-Swap : goal.swap-requires-in-Swap
-swap-requires-in-Swap g c =
-    let m = can_step g.M.Machines.kind g.M.Machines.opening c.args.table.now.key c.args.seat.now.id c.args.number c.args.seat.now.me c.args.order.now c.args.table.now.table_id.slots c.args.table.now.table_id.words
-    g.G.Turn.key g.G.Turn.number g.G.Turn.order c.args.access (Swap c.in-Swap.at c.in-Swap.value) c.requires.turn c.requires.machine c.requires.inside c.in-Swap.is in
-    (c.requires.table, m.0, m.1)
+    elim c.in-Store.is [
+      | inl is ↦
+          let m = can_step g.M.Machines.kind g.M.Machines.opening c.args.table.now.key c.args.seat.now.id c.args.number c.args.seat.now.me c.args.order.now c.args.table.now.table_id.slots c.args.table.now.table_id.words
+          g.G.Turn.key g.G.Turn.number g.G.Turn.order c.args.access (Store c.in-Store.at c.in-Store.value) c.requires.turn c.requires.machine c.requires.inside is in
+          (c.requires.table, m.0, m.1)
+      | inr is ↦
+          let m = can_step g.M.Machines.kind g.M.Machines.opening c.args.table.now.key c.args.seat.now.id c.args.number c.args.seat.now.me c.args.order.now c.args.table.now.table_id.slots c.args.table.now.table_id.words
+          g.G.Turn.key g.G.Turn.number g.G.Turn.order c.args.access (Swap c.in-Store.at c.in-Store.value) c.requires.turn c.requires.machine c.requires.inside is in
+          (c.requires.table, m.0, m.1)
+    ]
 
 pub fetch_add-requires : goal.fetch_add-requires
 fetch_add-requires g c =
@@ -60,11 +62,6 @@ pub returns-in-Store-clause-took : goal.returns-in-Store-clause-took
 returns-in-Store-clause-took g c =
     step_told g.M.Machines.kind g.M.Machines.opening c.args.table.now.key c.args.number c.args.seat.now.me c.args.order.now g.G.Turn.key g.G.Turn.number g.G.Turn.order
     c.swap.result c.swap.new.seat.me c.requires.turn c.swap.ensures.2
-
-pub returns-in-Swap-clause-took : goal.returns-in-Swap-clause-took
-returns-in-Swap-clause-took g c =
-    step_told g.M.Machines.kind g.M.Machines.opening c.args.table.now.key c.args.number c.args.seat.now.me c.args.order.now g.G.Turn.key g.G.Turn.number g.G.Turn.order
-    c.swap-in-Swap.result c.swap-in-Swap.new.seat.me c.requires.turn c.swap-in-Swap.ensures.2
 
 pub returns-in-Add-clause-took : goal.returns-in-Add-clause-took
 returns-in-Add-clause-took g c =
