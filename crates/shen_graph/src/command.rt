@@ -3,11 +3,9 @@ ghost use Rattle.shen_graph.specs.Valid.{IsValid, is_valid};
 ghost use Rattle.shen_graph.specs.Valid as valid;
 
 use crate::name::Name;
-use std::fmt;
-use std::fmt::{Debug, Formatter, Write};
 
 /// What a thread may ask of the heap. Roots are numbered from 0 to 15, reference fields and numbers of an object from 0.
-#[derive(Clone, Copy, PartialEq, Eq)]
+#[derive(Clone, Copy, Debug, PartialEq, Eq)]
 pub enum Command {
     /// Makes an object of `refs` null references and `nums` zeros, which root `dst` names from then on.
     New {
@@ -70,27 +68,8 @@ pub enum Command {
     Gc,
 }
 
-/// Written as its word alone.
-impl Debug for Command {
-    fn fmt<W: Write>(&self, f: &mut Formatter<W>) -> fmt::Result {
-        f.write_str(match *self {
-            Command::New { .. } => "new",
-            Command::Get { .. } => "get",
-            Command::Set { .. } => "set",
-            Command::Cas { .. } => "cas",
-            Command::Xchg { .. } => "xchg",
-            Command::Rd { .. } => "rd",
-            Command::Wr { .. } => "wr",
-            Command::Copy { .. } => "copy",
-            Command::Drop { .. } => "drop",
-            Command::Same { .. } => "same",
-            Command::Gc => "gc",
-        })
-    }
-}
-
 /// What a command is answered.
-#[derive(Clone, Copy, PartialEq, Eq)]
+#[derive(Clone, Copy, Debug, PartialEq, Eq)]
 pub enum Reply {
     /// A reference to the object of that name.
     Ref(Name),
@@ -108,22 +87,6 @@ pub enum Reply {
     Bad,
     /// No region has room. Nothing changed.
     Full,
-}
-
-/// Written as its word alone, without its name or number.
-impl Debug for Reply {
-    fn fmt<W: Write>(&self, f: &mut Formatter<W>) -> fmt::Result {
-        f.write_str(match *self {
-            Reply::Ref(_) => "ref",
-            Reply::Null => "null",
-            Reply::Ok => "ok",
-            Reply::Yes => "yes",
-            Reply::No => "no",
-            Reply::Number(_) => "number",
-            Reply::Bad => "bad",
-            Reply::Full => "full",
-        })
-    }
 }
 
 impl Command {

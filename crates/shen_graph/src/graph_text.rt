@@ -8,19 +8,18 @@ use crate::NoMemory;
 use crate::name::Name;
 use crate::roots::alike;
 use std::alloc::Global;
-use std::fmt::{Debug, Formatter, Write};
 use std::marker::Model;
-use std::{fmt, mem};
+use std::mem;
 
 // Part of a list, from one index up to another.
-#[derive(Clone, Copy)]
+#[derive(Clone, Copy, Debug)]
 struct Span {
     from: usize,
     to: usize,
 }
 
 // Where the fields of an object lie, in the references of all objects and in their numbers.
-#[derive(Clone, Copy)]
+#[derive(Clone, Copy, Debug)]
 struct Place {
     name: Name,
     refs: Span,
@@ -29,7 +28,7 @@ struct Place {
 
 /// A graph as it is to be written: rows of objects, and a row of 16 roots for each thread. Threads are counted from 1,
 /// rows, fields and roots from 0. Only `open` takes memory.
-#[derive(Drop)]
+#[derive(Debug, Drop)]
 pub struct GraphText {
     places: Vec<Place>,
     references: Vec<Option<Name>>,
@@ -52,13 +51,6 @@ impl Model for GraphText {
     ghost view = { text_in };
 
     ghost invariant = { HasRoom };
-}
-
-/// Written as the number of its objects.
-impl Debug for GraphText {
-    fn fmt<W: Write>(&self, f: &mut Formatter<W>) -> fmt::Result {
-        self.places.len().fmt(f)
-    }
 }
 
 // Copies a part of a list to the end of another, which has room, and says where it is then.

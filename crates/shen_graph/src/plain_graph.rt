@@ -14,12 +14,10 @@ use crate::command::{Command, Reply};
 use crate::name::Name;
 use crate::roots::alike;
 use std::alloc::Global;
-use std::fmt;
-use std::fmt::{Debug, Formatter, Write};
 use std::marker::Model;
 
 // An object, with its name.
-#[derive(Drop)]
+#[derive(Debug, Drop)]
 struct Object {
     name: Name,
     refs: Vec<Option<Name>>,
@@ -36,7 +34,7 @@ impl Model for Object {
 
 /// The graph of objects as it is defined, plain and slow: what the heap is judged by. It moves and frees nothing.
 /// Threads are counted from 1.
-#[derive(Drop)]
+#[derive(Debug, Drop)]
 pub struct PlainGraph {
     // the newest first
     objects: Vec<Object>,
@@ -54,13 +52,6 @@ impl Model for PlainGraph {
     ghost view = { λ g. record { rows = g.objects.items; roots = g.roots.items; counts = g.counts.items } };
 
     ghost invariant = { λ g. (1 ≤ vec_len g.roots) × (vec_len g.counts ≡ vec_len g.roots) × All (λ row. length row ≡ 16) g.roots.items };
-}
-
-/// Written as the number of its objects.
-impl Debug for PlainGraph {
-    fn fmt<W: Write>(&self, f: &mut Formatter<W>) -> fmt::Result {
-        self.objects.len().fmt(f)
-    }
 }
 
 // What shows a reference.

@@ -3,12 +3,10 @@ ghost use Rattle.std.specs.Prelude.{◌≡◌, [], ◌∷◌, ◌++◌, IfOk, On
 use crate::NoMemory;
 use crate::command::Command;
 use std::alloc::Global;
-use std::fmt;
-use std::fmt::{Debug, Formatter, Write};
 use std::marker::Model;
 
 /// The commands of one thread, in their order.
-#[derive(Drop)]
+#[derive(Debug, Drop)]
 pub struct Script {
     commands: Vec<Command>,
 }
@@ -20,13 +18,6 @@ impl Model for Script {
     ghost Value = { List Command };
 
     ghost view = { λ s. s.commands.items };
-}
-
-/// Written as the number of its commands.
-impl Debug for Script {
-    fn fmt<W: Write>(&self, f: &mut Formatter<W>) -> fmt::Result {
-        self.commands.len().fmt(f)
-    }
 }
 
 impl Script {

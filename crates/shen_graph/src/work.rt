@@ -5,12 +5,11 @@ use crate::NoMemory;
 use crate::command::{Command, Reply};
 use crate::script::Script;
 use std::alloc::Global;
-use std::fmt::{Debug, Formatter, Write};
 use std::marker::Model;
-use std::{fmt, mem};
+use std::mem;
 
 /// What the commands of one thread were answered, in their order.
-#[derive(Drop)]
+#[derive(Debug, Drop)]
 pub struct Replies {
     given: Vec<Reply>,
 }
@@ -22,13 +21,6 @@ impl Model for Replies {
     ghost Value = { Given };
 
     ghost view = { λ r. record { list = r.given.items; room = vec_capacity r.given - vec_len r.given } };
-}
-
-/// Written as the number of the replies.
-impl Debug for Replies {
-    fn fmt<W: Write>(&self, f: &mut Formatter<W>) -> fmt::Result {
-        self.given.len().fmt(f)
-    }
 }
 
 impl Replies {
@@ -58,7 +50,7 @@ impl Replies {
 }
 
 // The script of a mutator and the replies to its first commands, with room for the other replies.
-#[derive(Drop)]
+#[derive(Debug, Drop)]
 struct Job {
     script: Script,
     replies: Replies,
@@ -113,7 +105,7 @@ impl Job {
 
 /// The scripts of up to eight mutators, each with the replies to its first commands and with room for the others.
 /// Mutators are counted from 0.
-#[derive(Drop)]
+#[derive(Debug, Drop)]
 pub struct Work {
     jobs: [Option<Job>; 8],
 }
@@ -127,13 +119,6 @@ impl Model for Work {
     ghost view = { λ w. w.jobs };
 
     ghost invariant = { λ w. length w.jobs ≡ 8 };
-}
-
-/// Written as a word alone.
-impl Debug for Work {
-    fn fmt<W: Write>(&self, f: &mut Formatter<W>) -> fmt::Result {
-        f.write_str("work")
-    }
 }
 
 impl Work {

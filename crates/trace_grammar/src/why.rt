@@ -2,7 +2,7 @@ ghost use Rattle.std.specs.Prelude.{◌≡◌};
 ghost use Rattle.trace_grammar.specs.Why.{text_of};
 
 /// Why a line of a trace is refused.
-#[derive(Clone, Copy, Debug)]
+#[derive(Clone, Copy, Debug, PartialEq, Eq)]
 pub enum Why {
     /// The input ends within the line, or where a line of the head is to come: `end of line wanted`.
     EndOfLine,

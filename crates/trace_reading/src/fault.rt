@@ -1,9 +1,7 @@
-use std::fmt;
-use std::fmt::{Debug, Formatter, Write};
 use trace_grammar::Why;
 
 /// Why no trace was read.
-#[derive(Clone, Copy)]
+#[derive(Clone, Copy, Debug, PartialEq, Eq)]
 pub enum TraceFault {
     /// This line of the bytes, counted from 1, is the first that is outside the grammar, and why.
     BadLine { line: u64, why: Why },
@@ -13,18 +11,6 @@ pub enum TraceFault {
     ReadFault,
     /// Memory was refused.
     NoMemory,
-}
-
-/// Written as the name of the fault.
-impl Debug for TraceFault {
-    fn fmt<W: Write>(&self, f: &mut Formatter<W>) -> fmt::Result {
-        f.write_str(match self {
-            TraceFault::BadLine { .. } => "BadLine",
-            TraceFault::TooLong { .. } => "TooLong",
-            TraceFault::ReadFault => "ReadFault",
-            TraceFault::NoMemory => "NoMemory",
-        })
-    }
 }
 
 /// Why a line was not taken.

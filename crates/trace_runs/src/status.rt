@@ -1,11 +1,8 @@
 ghost use Rattle.std.specs.Prelude.{◌≡◌};
 ghost use Rattle.trace_runs.specs.Number.{number_of};
 
-use std::fmt;
-use std::fmt::{Debug, Formatter, Write};
-
 /// How a call of the program ended.
-#[derive(Clone, Copy)]
+#[derive(Clone, Copy, Debug, PartialEq, Eq)]
 pub enum Status {
     /// The answer was written.
     Ok,
@@ -37,12 +34,5 @@ impl Status {
             Status::WriteFault => 6,
             Status::NoMemory => 7,
         }
-    }
-}
-
-/// Written as its number.
-impl Debug for Status {
-    fn fmt<W: Write>(&self, f: &mut Formatter<W>) -> fmt::Result {
-        self.number().fmt(f)
     }
 }

@@ -9,8 +9,6 @@ ghost use Rattle.trace_writing.specs.Answer.{name_word, reference_word, reply_wo
 
 use shen_base::Sink;
 use shen_graph::{Command, GraphText, Name, Reply, Work};
-use std::fmt;
-use std::fmt::{Debug, Formatter, Write};
 use text_writer::{Block, WriteFault};
 
 // The number of roots of a thread.
@@ -18,19 +16,12 @@ const ROOTS: usize = Command::ROOTS as usize;
 
 /// An answer: what the commands of each thread were answered, and the graph at the end. `replies` is to have the script of
 /// each thread of `graph`.
-#[derive(Drop)]
+#[derive(Debug, Drop)]
 pub struct Answer {
     /// The replies of thread t stand at number t − 1.
     pub replies: Work,
     /// The objects, in the order in which they are to be written, and the roots of each thread.
     pub graph: GraphText,
-}
-
-/// Written by its name alone.
-impl Debug for Answer {
-    fn fmt<W: Write>(&self, f: &mut Formatter<W>) -> fmt::Result {
-        f.write_str("Answer")
-    }
 }
 
 /// Writes the answer to the sink. It takes no memory, and calls the sink at most once per byte. After `WriteFault` a front

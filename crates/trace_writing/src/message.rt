@@ -7,13 +7,11 @@ ghost use Rattle.trace_writing.specs.Message.{line_text, summary_text};
 
 use churn::Summary;
 use shen_base::Sink;
-use std::fmt;
-use std::fmt::{Debug, Formatter, Write};
 use text_writer::{Block, WriteFault, write_all};
 use trace_grammar::Why;
 
 /// The one line that stands in the place of an answer, or the lines of a churn.
-#[derive(Clone, Copy)]
+#[derive(Clone, Copy, Debug, PartialEq, Eq)]
 pub enum Line {
     /// The words of the command line are outside their grammar: `bad words`.
     BadWords,
@@ -30,21 +28,6 @@ pub enum Line {
     /// What a run of the workload told: eight lines, `churn SEED COUNT`, `threads 3`, and then `commands`, `bad`, `full`,
     /// `objects`, `words` and `sum`, each with its number.
     Churn(Summary),
-}
-
-/// Written as the name of the line.
-impl Debug for Line {
-    fn fmt<W: Write>(&self, f: &mut Formatter<W>) -> fmt::Result {
-        f.write_str(match self {
-            Line::BadWords => "BadWords",
-            Line::BadLine { .. } => "BadLine",
-            Line::TooLong => "TooLong",
-            Line::Unfinished { .. } => "Unfinished",
-            Line::ReadFault => "ReadFault",
-            Line::NoMemory => "NoMemory",
-            Line::Churn(_) => "Churn",
-        })
-    }
 }
 
 /// Writes the line to the sink. It takes no memory, and calls the sink at most once per byte. After `WriteFault` a front
