@@ -4,7 +4,7 @@ use Rattle.std.specs.List.{range_with_len, list_any}
 use Rattle.std.specs.Int.{bit_at}
 use Rattle.std.specs.Int.RustNames.{bit_or}
 use Rattle.heap_words.specs.declared.config.Config.{Config}
-use Rattle.heap_words.specs.Words.{Word, Phase, Cset, Free, Claim, Top, Tams, Limit, Current}
+use Rattle.heap_words.specs.Words.{Word, Free, Top, Tams, Limit, Current}
 use Rattle.heap_words.specs.Ranges.{seat_count}
 use Rattle.regions.specs.Place.{base_of, region_with, IsOf}
 use Rattle.regions.specs.Sets.{IsOutside}
@@ -55,10 +55,3 @@ dead_in c memory = is_dead c (closed c memory)
 -- The marks are closed, and the dead regions freed.
 abbrev pub final_marked : Config → (Word → ℕ) → Word → ℕ
 final_marked c memory = freed c (dead_in c memory) (closed c memory)
-
--- Marking has ended, and no collection goes on from it: nothing is collected, and no unit is claimed.
-abbrev pub mark_ended : Config → (Word → ℕ) → Word → ℕ
-mark_ended c memory Phase = 0
-mark_ended c memory Claim = 0
-mark_ended c memory Cset = 0
-mark_ended c memory word = final_marked c memory word

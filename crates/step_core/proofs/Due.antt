@@ -41,13 +41,9 @@ due_stays c u w seat rely due late quiet =
 pub claimed_due : (c : Config) (memory : Word → ℕ) → c.regions ≤ memory Claim → IsDue c memory
 claimed_due c memory claimed late quiet = claimed
 
--- in phases 0 and 1,
+-- and in phases 0 and 1
 pub early_due : (c : Config) (memory : Word → ℕ) → memory Phase ≤ 1 → IsDue c memory
 early_due c memory early late quiet = absurd (omega (arith, early, late))
-
--- and where an allocation waits
-pub asked_due : (c : Config) (memory : Word → ℕ) → bit_at (memory Ask) 1 ≡ 1 → IsDue c memory
-asked_due c memory asks late quiet = absurd (omega (arith, asks, quiet))
 
 -- Where a unit of evacuation or of updating says that none was left, all regions are claimed.
 module _ (c : Config) (memory : Word → ℕ) (cset : ℕ) where

@@ -1,6 +1,6 @@
 -- The theorem over every list of events.
 use Rattle.std.proofs.Common.{◌≡◌, ◌≢◌, ℕ, ◌+◌, ◌<◌, Bool, true, false, List, [], ◌++◌, ⊎_elim, Some, refl, sym, ap, ◌∙◌, subst, arith}
-use Rattle.std.specs.Prelude.{◌&&◌, slice_get, slice_index}
+use Rattle.std.specs.Prelude.{slice_get, slice_index}
 use Rattle.std.proofs.lemmas.Option.{same_Some}
 use Rattle.std.proofs.lemmas.Bool.{cases_Bool, false≢true}
 use Rattle.heap_words.specs.declared.config.Config.{Config}
@@ -17,7 +17,6 @@ use Rattle.steps_base.proofs.Runs.{reached_has}
 use Rattle.steps_base.proofs.Touches.{table_index-access_at}
 use Rattle.shen_graph.specs.declared.order.Order.{Order}
 use Rattle.shen_graph.specs.declared.order.Order.TheVariants.{Nothing, Begin, End}
-use Rattle.shen_graph.specs.Order.{is_nothing}
 use Rattle.shen_graph.specs.Graph.{Graph}
 use Rattle.shen_graph.specs.Crowd.{AreCrowded}
 use Rattle.shen_graph.specs.History.{Entry, after, of_thread}
@@ -84,12 +83,6 @@ ends_at : (c : Config) (seat made : ℕ) (kept : Kept) (spot : Spot) → takes_a
 ends_at c seat made kept Rest takes = refl
 ends_at c seat made kept (Ended reply) takes = refl
 ends_at c seat made kept _ takes = absurd (cc (takes))
-
--- a helper takes no order
-unordered : (order : Order) (b : Bool) → (is_nothing order && b) ≡ true → (true && b) ≡ true
-unordered Nothing b takes = takes
-unordered (Begin command) b takes = absurd (cc (takes))
-unordered End b takes = absurd (cc (takes))
 
 -- What a stage says in which all goes as it should.
 module _ (change : Change) (law : IsPause change) (c : Config) (g : Graph) (s : Stage Actor) (h : List Entry) (goes : Goes c g s h) where
