@@ -4,10 +4,10 @@ use Rattle.load_barrier.proofs.evac_spot.EvacSpot.after.Goals as goal
 pub returns-in-Resolving-clause-again : goal.returns-in-Resolving-clause-again
 returns-in-Resolving-clause-again c =
     let part = c.after-at.ensures.again in
-    rw (c.in-Resolving.is, c.says_by.ensures.says) (λ again. part.0 ((says_again c.after-at.result.1 c.after_resolve.result).0 again), λ waits. (says_again c.after-at.result.1 c.after_resolve.result).1 (part.1 waits))
+    rw (c.in-Resolving.is, c.led_by.ensures.says) (λ again. part.0 ((says_again c.after-at.result.1 c.after_resolve.result).0 again), λ waits. (says_again c.after-at.result.1 c.after_resolve.result).1 (part.1 waits))
 
 pub returns-in-LoadTop-clause-again : goal.returns-in-LoadTop-clause-again
-returns-in-LoadTop-clause-again c = rw (c.in-LoadTop.is, c.says_of-in-LoadTop.ensures.says) (never_says c.walk_on.result)
+returns-in-LoadTop-clause-again c = rw (c.in-LoadTop.is, c.led-in-LoadTop.ensures.says) (never_says c.walk_on.result)
 
 pub returns-in-LoadMark-clause-again : goal.returns-in-LoadMark-clause-again
-returns-in-LoadMark-clause-again c = rw (c.in-LoadMark.is, c.says_of-in-LoadMark.ensures.says) (never_says c.after_mark.result)
+returns-in-LoadMark-clause-again c = rw (c.in-LoadMark.is, c.led-in-LoadMark.ensures.says) (never_says c.after_mark.result)
