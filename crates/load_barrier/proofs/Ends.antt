@@ -19,16 +19,16 @@ says_resolved : (next : ResolveSpot) → says_of next ≡ Done → is_resolved n
 says_resolved (Resolved answer) done = refl
 says_resolved next done = absurd (cc (done))
 
-resolved_told : (next : ResolveSpot) → is_resolved next ≡ true → says_of next ≡ Done
-resolved_told (Resolved answer) resolved = refl
-resolved_told next resolved = absurd (cc (resolved))
+resolved_says : (next : ResolveSpot) → is_resolved next ≡ true → says_of next ≡ Done
+resolved_says (Resolved answer) resolved = refl
+resolved_says next resolved = absurd (cc (resolved))
 
-told_is : (next : ResolveSpot) → (says_of next ≡ Done) ↔ (is_resolved next ≡ true)
-told_is next = (says_resolved next, resolved_told next)
+says_is : (next : ResolveSpot) → (says_of next ≡ Done) ↔ (is_resolved next ≡ true)
+says_is next = (says_resolved next, resolved_says next)
 
-told_by_is : (said : Took) (next : ResolveSpot) → is_resolved next ≡ false → (says_by said next ≡ Done) ↔ (is_resolved next ≡ true)
-told_by_is Again next going = ((λ done. absurd (cc (done))), (λ resolved. absurd (cc (going, resolved))))
-told_by_is said next going = told_is next
+says_by_is : (said : Took) (next : ResolveSpot) → is_resolved next ≡ false → (says_by said next ≡ Done) ↔ (is_resolved next ≡ true)
+says_by_is Again next going = ((λ done. absurd (cc (done))), (λ resolved. absurd (cc (going, resolved))))
+says_by_is said next going = says_is next
 
 enter_goes : (at : RoomSpot) → is_resolved (after_enter at) ≡ false
 enter_goes room.Inside = refl
@@ -45,8 +45,8 @@ stop_goes room.Stopped = refl
 stop_goes at = refl
 
 pub done_is : (c : Config) (address phase : ℕ) (at : ResolveSpot) (got : ℕ) → (says_at c address phase at got ≡ Done) ↔ (is_resolved (next_at c address phase at got) ≡ true)
-done_is c address phase (Entering at) got = told_by_is (rooms.answer_at at got) (after_enter (rooms.next_at at got)) (enter_goes (rooms.next_at at got))
+done_is c address phase (Entering at) got = says_by_is (rooms.answer_at at got) (after_enter (rooms.next_at at got)) (enter_goes (rooms.next_at at got))
 done_is c address phase (Taking words at) got =
-    told_by_is (takes.says at (take_next c words at got)) (after_take words (take_next c words at got)) (take_goes words (take_next c words at got))
-done_is c address phase (Stopping at) got = told_by_is (rooms.answer_at at got) (after_stop (rooms.next_at at got)) (stop_goes (rooms.next_at at got))
-done_is c address phase at got = told_is (next_at c address phase at got)
+    says_by_is (takes.says at (take_next c words at got)) (after_take words (take_next c words at got)) (take_goes words (take_next c words at got))
+done_is c address phase (Stopping at) got = says_by_is (rooms.answer_at at got) (after_stop (rooms.next_at at got)) (stop_goes (rooms.next_at at got))
+done_is c address phase at got = says_is (next_at c address phase at got)
