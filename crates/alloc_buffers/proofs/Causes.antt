@@ -1,15 +1,22 @@
 -- Why a machine that takes room ends without it.
-use Rattle.std.proofs.Common.{◌≡◌, ℕ, ◌-◌, Bool, true, false, List, [], ◌∷◌, refl}
+use Rattle.std.proofs.Common.{◌≡◌, ◌≢◌, ℕ, ◌+◌, ◌-◌, Bool, true, false, List, [], ◌∷◌, refl}
 use Rattle.std.specs.Prelude.{◌==◌, if◌then◌else◌}
+use Rattle.std.proofs.lemmas.Bool.{leb-true, leb-false, ne_eqb}
 use Rattle.std.specs.Int.{bit_at}
 use Rattle.heap_words.specs.declared.config.Config.{Config}
-use Rattle.regions.specs.Sets.{lowest_in}
+use Rattle.regions.specs.Sets.{lowest_in, members_below}
 use Rattle.alloc_buffers.specs.declared.spot.Kind.{Kind}
+use Rattle.alloc_buffers.specs.declared.spot.Kind.TheVariants.{Fresh, Evacuated}
 use Rattle.alloc_buffers.specs.declared.spot.Taken.TheVariants.{At, NoRoom}
 use Rattle.alloc_buffers.specs.declared.spot.TakeSpot.{TakeSpot}
 use Rattle.alloc_buffers.specs.declared.spot.TakeSpot.TheVariants.{LoadCurrent, LoadTop, LoadFree, TakeRegion, StoreCurrent, StoreTop, Ended}
 use Rattle.alloc_buffers.specs.Rows.{has_room, has_none, next_at, is_ended}
-use Rattle.alloc_buffers.specs.Room.{after_words, HasNoRoom, is_full, has_less, IsLackOfRoom}
+use Rattle.alloc_buffers.specs.Room.{after_words, HasNoRoom, IsFull, HasLess, MayTakeNone, IsLackOfRoom}
+
+-- the test of the row, in numbers
+may_take_none : (c : Config) (kind : Kind) (free : ℕ) → has_none c kind free ≡ true → MayTakeNone c kind free
+may_take_none c Fresh free none = leb-true (members_below free 64) c.reserve none
+may_take_none c Evacuated free none = leb-true (members_below free 64) 0 none
 
 module _ (c : Config) (words : ℕ) (kind : Kind) where
   -- a machine ends without room only at the load of the free word
@@ -47,31 +54,34 @@ module _ (c : Config) (words : ℕ) (kind : Kind) where
       stays taken [] is = cc
       stays taken (got ∷ more) is = stays taken more is
 
-  less : (found : List ℕ) (free : ℕ) → HasNoRoom c words kind found free → has_less c words found ≡ true
-  less [] free none = absurd (by_test (free == 0) none.ends)
+  less : (found : List ℕ) (free : ℕ) → HasNoRoom c words kind found free → HasLess c words found
+  less [] free none = by_test (free == 0) none.ends
     where
       by_test : (b : Bool) → (if b then LoadFree else LoadTop (free - 1)) ≡ Ended NoRoom → ⊥
       by_test true is = cc
       by_test false is = cc
-  less (current ∷ more) free none = by_current (current == 0) none.going none.ends
+  less (current ∷ more) free none = λ some. by_current (current == 0) (ne_eqb current 0 some) none.going none.ends
     where
       by_top : (top : ℕ) (rest : List ℕ) (b : Bool) → is_ended (after_words c words kind (if b then StoreTop (current - 1) top else LoadFree) rest) ≡ false
-          → next_at c words kind (after_words c words kind (if b then StoreTop (current - 1) top else LoadFree) rest) free ≡ Ended NoRoom → (if b then false else true) ≡ true
+          → next_at c words kind (after_words c words kind (if b then StoreTop (current - 1) top else LoadFree) rest) free ≡ Ended NoRoom → b ≡ false
       by_top top rest true going ends = absurd (ends_with_room (current - 1) top rest free going ends)
       by_top top rest false going ends = refl
 
-      by_more : (more : List ℕ) → is_ended (after_words c words kind (LoadTop (current - 1)) more) ≡ false → next_at c words kind (after_words c words kind (LoadTop (current - 1)) more) free ≡ Ended NoRoom → is_full c words more ≡ true
-      by_more [] going ends = absurd (by_test (has_room c words free) ends)
+      by_more : (more : List ℕ) → is_ended (after_words c words kind (LoadTop (current - 1)) more) ≡ false → next_at c words kind (after_words c words kind (LoadTop (current - 1)) more) free ≡ Ended NoRoom → IsFull c words more
+      by_more [] going ends = by_test (has_room c words free) ends
         where
           by_test : (b : Bool) → (if b then StoreTop (current - 1) free else LoadFree) ≡ Ended NoRoom → ⊥
           by_test true is = cc
           by_test false is = cc
-      by_more (top ∷ rest) going ends = by_top top rest (has_room c words top) going ends
+      by_more (top ∷ rest) going ends = leb-false (top + words) c.region_words (by_top top rest (has_room c words top) going ends)
 
-      by_current : (b : Bool) → is_ended (after_words c words kind (if b then LoadFree else LoadTop (current - 1)) more) ≡ false
-          → next_at c words kind (after_words c words kind (if b then LoadFree else LoadTop (current - 1)) more) free ≡ Ended NoRoom → (if b then true else is_full c words more) ≡ true
-      by_current true going ends = refl
-      by_current false going ends = by_more more going ends
+      by_current : (b : Bool) → b ≡ false → is_ended (after_words c words kind (if b then LoadFree else LoadTop (current - 1)) more) ≡ false
+          → next_at c words kind (after_words c words kind (if b then LoadFree else LoadTop (current - 1)) more) free ≡ Ended NoRoom → IsFull c words more
+      by_current true is going ends = absurd cc
+      by_current false is going ends = by_more more going ends
 
   pub its_cause : (found : List ℕ) (free : ℕ) → HasNoRoom c words kind found free → IsLackOfRoom c words kind found free
-  its_cause found free none = record { less = less found free none; none = ends_at_free (after_words c words kind LoadCurrent found) free none.going none.ends }
+  its_cause found free none = record {
+    less = less found free none;
+    none = may_take_none c kind free (ends_at_free (after_words c words kind LoadCurrent found) free none.going none.ends);
+  }

@@ -1,11 +1,11 @@
 -- When a step of a machine that takes room says that another was faster, and when that the taking has ended.
-use Rattle.std.specs.Prelude.{ℕ, true, ◌≡◌}
+use Rattle.std.specs.Prelude.{ℕ}
 use Rattle.heap_words.specs.declared.config.Config.{Config}
 use Rattle.regions.specs.Sets.{IsIn}
 use Rattle.alloc_buffers.specs.declared.spot.Kind.{Kind}
 use Rattle.alloc_buffers.specs.declared.spot.TakeSpot.{TakeSpot}
 use Rattle.alloc_buffers.specs.declared.spot.TakeSpot.TheVariants.{LoadFree, TakeRegion, StoreTop}
-use Rattle.alloc_buffers.specs.Rows.{has_none}
+use Rattle.alloc_buffers.specs.Room.{MayTakeNone}
 
 -- At TG another machine was faster: the region is not among the free ones in the word that is found.
 abbrev pub WaitsAt : TakeSpot → ℕ → Type 0
@@ -15,5 +15,5 @@ WaitsAt _ got = ⊥
 -- A taking ends at TS, and at TF where of the free regions that are found none may be taken.
 abbrev pub EndsAt : Config → Kind → TakeSpot → ℕ → Type 0
 EndsAt c kind (StoreTop region top) got = Unit {0}
-EndsAt c kind LoadFree got = has_none c kind got ≡ true
+EndsAt c kind LoadFree got = MayTakeNone c kind got
 EndsAt c kind _ got = ⊥

@@ -24,9 +24,10 @@ impl Take {
     ghost use Rattle.heap_words.specs.Access.{table_index};
     ghost use Rattle.heap_words.specs.Words.{table_words};
     ghost use Rattle.steps_base.specs.Touch.{placed};
-    ghost use Rattle.alloc_buffers.specs.Rows.{place_at, touch_at, next_at, has_none, is_ended, says};
+    ghost use Rattle.alloc_buffers.specs.Rows.{place_at, touch_at, next_at, is_ended, says};
     ghost use Rattle.alloc_buffers.specs.Seen.{wanted, spot_of, IsFit};
     ghost use Rattle.alloc_buffers.specs.Waits.{WaitsAt, EndsAt};
+    ghost use Rattle.alloc_buffers.specs.Room.{MayTakeNone};
 
     /// A machine of a seat that wants 3 to 35 words.
     pub fn new(config: Config, seat: usize, words: u64, kind: Kind) -> Take
@@ -75,8 +76,9 @@ impl Take {
         ensures answered { result ≡ Took.Done → is_ended (spot_of self.new) ≡ true }
         ensures again { (result ≡ Took.Again) ↔ WaitsAt (spot_of self.old) got }
 
-        // There is no room exactly where the free word that was read has no region that may be taken.
-        ensures no_room { (spot_of self.new ≡ TakeSpot.Ended Taken.NoRoom) ↔ ((spot_of self.old ≡ TakeSpot.LoadFree) × (has_none (wanted self.old).config (wanted self.old).kind got ≡ true)) }
+        // There is no room exactly where the free word that was read has no region that may be taken: for a new object at most those of
+        // the reserve, and for a copy none.
+        ensures no_room { (spot_of self.new ≡ TakeSpot.Ended Taken.NoRoom) ↔ ((spot_of self.old ≡ TakeSpot.LoadFree) × MayTakeNone (wanted self.old).config (wanted self.old).kind got) }
     {
         let before = self.spot;
         self.spot = before.after(self.config, self.seat, self.words, self.kind, got);

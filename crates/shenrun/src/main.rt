@@ -37,4 +37,6 @@ fn main(rt: HostRuntime) -> ExitCode {
 }
 
 #[cfg(test)]
+mod faults;
+#[cfg(test)]
 mod gates;
