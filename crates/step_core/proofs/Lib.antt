@@ -70,6 +70,7 @@ pub mod NoFull
 pub mod Crowds
 pub mod Growing
 pub mod Crowding
+pub mod Seats
 pub mod Replies
 pub mod Requests
 pub mod Theorem

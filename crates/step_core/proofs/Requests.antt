@@ -12,7 +12,8 @@ use Rattle.mutator.specs.Commands.{dst_of, refs_of, nums_of}
 use Rattle.mutator.specs.Orders.{is_waiting}
 use Rattle.heap_world.specs.World.{World}
 use Rattle.heap_world.specs.Asking.{nothing, asks, refused, given}
-use Rattle.step_core.specs.Sound.{is_clearing, HasAsked}
+use Rattle.step_core.specs.Sound.{HasAsked}
+use Rattle.step_core.specs.Seats.{is_clearing}
 use Rattle.step_core.proofs.Stepped.{IsMaking, IsAsking, IsPolling, Mine}
 use Rattle.step_core.proofs.Replies.{answered_polls}
 use Rattle.step_core.proofs.Spots.{mutator_at}

@@ -44,8 +44,8 @@ use Rattle.mutator.specs.Told.{told_of}
 use Rattle.mutator.specs.Fit.{IsReady}
 use Rattle.step_core.specs.Actor.{entry_of, command_by}
 use Rattle.step_core.specs.Own.{root_now, IsInHand}
+pub use Rattle.step_core.specs.Seats.{recording_of, copies_at, HasTaken}
 use Rattle.mark_steps.specs.Recording.{CanRecord}
-use Rattle.load_barrier.specs.Runs.{is_copier}
 use Rattle.load_barrier.specs.declared.spot.ResolveSpot.{ResolveSpot}
 use Rattle.copy_steps.specs.Resolving.{CanResolve}
 use Rattle.update_steps.specs.Following.{CanFollow}
@@ -273,10 +273,6 @@ abbrev pub EnterFacts : World → ℕ → ℕ → Command → Command → Option
 EnterFacts w seat made k command fixed Call = IsBegun made command fixed k
 EnterFacts w seat made k command fixed Waited = IsAnswered w seat made k command fixed
 
--- the mutator has taken what it was answered: its answer leads to a copy of an object of the graph, or it leads nowhere
-abbrev pub HasTaken : World → ℕ → Type 0
-HasTaken w seat = (w.memory (Answer seat) ≤ 1) ⊎ ((name : Name) × (name_at (w.block (w.memory (Answer seat))) ≡ Some name))
-
 abbrev pub WaitFacts : World → ℕ → ℕ → Command → Command → Option Reply → WaitSpot → Type 0
 WaitFacts w seat made k command fixed wait.StoreRequest = IsAsking w seat made k command fixed asking.nothing
 WaitFacts w seat made k command fixed wait.AskRoom = IsAsking w seat made k command fixed (asking.asks (refs_of k) (nums_of k))
@@ -330,11 +326,6 @@ IsSeatedIn c w seat made waiting =
 abbrev pub Seated : Config → World → Mutating → Type 0
 Seated c w m = IsSeatedIn c w m.seat m.made (is_waiting m.spot)
 
--- what a mutator is about to record
-abbrev pub recording_of : Spot → Option ℕ
-recording_of (Recording at address next) = Some address
-recording_of _ = None
-
 -- whether the phase that a call has loaded is the phase: from there on until it waits or leaves
 abbrev pub has_phase : Spot → Bool
 has_phase LoadSet = true
@@ -367,11 +358,6 @@ HasMarkingIn w seat kept spot = HasMarkingBy w seat (recording_of spot) kept.pha
 abbrev pub has_set : Spot → Bool
 has_set LoadSet = false
 has_set spot = has_phase spot
-
--- whether the counter counts a mutator: where it copies the object that it resolves
-abbrev pub copies_at : Spot → Bool
-copies_at (Resolving address at next) = is_copier at
-copies_at _ = false
 
 -- Of evacuation a mutator counts on this: it copies where its spot says so, it works on no unit, and where its call has loaded the
 -- collection set, that is the set.

@@ -71,6 +71,7 @@ use Rattle.step_core.proofs.Outside.{outside_touch}
 use Rattle.step_core.specs.Standing.{standing_at, help_standing}
 use Rattle.step_core.proofs.Replies.{unsettled_at_rest, unsettled_before, settled_after}
 use Rattle.step_core.proofs.Requests.{has_asked}
+use Rattle.step_core.proofs.Seats.{in_seat, served}
 use Rattle.step_core.proofs.Roles.{number_of, mutator_of, machine_there}
 
 -- a mutator that ends has not ended, and its access is of the count
@@ -256,6 +257,8 @@ module _ (change : Change) (law : IsPause change) (c : Config) (g : Graph) (s : 
       promised_to = goes.follows.promised_to;
       mutators = λ number a m here. let mine = (thread_of number a m here).mine in record { made = mine.seated.counted; roots = mine.roots; hands = mine.hands };
       asked = λ number a m here going. let thread = thread_of number a m here in has_asked c the_world m.seat m.made m.kept a.command thread.fixed m.spot going thread.mine;
+      seats = λ number a here. in_seat c s.words the_world (of_thread h (number + 1)) number a a.machine (known number a here);
+      served = λ number a m here. let thread = thread_of number a m here in served c the_world m a.command thread.fixed thread.mine;
     };
     legal = goes.follows.legal;
     crowded = crowded;

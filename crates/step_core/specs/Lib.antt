@@ -5,6 +5,7 @@ pub mod Settled
 pub mod Machines
 pub mod Threads
 pub mod Own
+pub mod Seats
 pub mod Standing
 pub mod Fit
 pub mod Begun

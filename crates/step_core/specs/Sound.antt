@@ -32,6 +32,7 @@ use Rattle.step_core.specs.Machines.{takes_of, plan_of, HasNumber, IsFitFor}
 use Rattle.step_core.specs.Settled.{settled}
 use Rattle.step_core.specs.Own.{HasItsOwn}
 use Rattle.step_core.specs.Begun.{begun}
+use Rattle.step_core.specs.Seats.{is_clearing, IsInSeat, IsServed}
 use Rattle.step_core.specs.Threads.{IsSettled}
 
 -- the world of a stage: the words that count, a way to divide the regions, ghost state, and a graph
@@ -58,11 +59,6 @@ pub record IsOfHeap (c : Config) (s : Stage Actor) : Type 0 where
   pub mutators : (number : ℕ) → number < c.mutators → SomeMutator s number
   pub numbers : (number : ℕ) (a : Actor) (m : Mutating) → IsMutator s number a m → (m.seat ≡ number) × (number < c.mutators)
 
--- whether what a mutator asked for is done with, and it is about to clear its answer
-abbrev pub is_clearing : Spot → Bool
-is_clearing (Waiting (wait.ClearAnswer reply)) = true
-is_clearing _ = false
-
 -- what is asked for, or was given, is the object of the command
 abbrev pub IsOfCommand : Command → Asking → Type 0
 IsOfCommand command (asks refs nums) = (refs_of command ≡ refs) × (nums_of command ≡ nums)
@@ -76,8 +72,8 @@ pub record HasAsked (w : World) (command : Command) (m : Mutating) : Type 0 wher
   pub of_command : IsOfCommand command asking
 
 -- Words and machines stand for a graph: there is a way to divide the regions into objects of that graph, words in hand and
--- objects that were made for who waits, such that each mutator has in its words what its thread has in the graph and what it
--- has asked for.
+-- objects that were made for who waits, and ghost state that has of each seat what its machine does, such that each mutator has in
+-- its words what its thread has in the graph and what it has asked for, and may use its roots and the object on which it works.
 pub record StandsFor (c : Config) (s : Stage Actor) (g : Graph) : Type 0 where
   pub block : Plot
   pub ghost : Ghost
@@ -86,6 +82,8 @@ pub record StandsFor (c : Config) (s : Stage Actor) (g : Graph) : Type 0 where
   pub promised_to : PromisedToMutators c block
   pub mutators : (number : ℕ) (a : Actor) (m : Mutating) → IsMutator s number a m → HasItsOwn (world_of c s block ghost g) m
   pub asked : (number : ℕ) (a : Actor) (m : Mutating) → IsMutator s number a m → is_clearing m.spot ≡ false → HasAsked (world_of c s block ghost g) a.command m
+  pub seats : (number : ℕ) (a : Actor) → slice_get s.machines number ≡ Some a → IsInSeat c (world_of c s block ghost g) number a.machine
+  pub served : (number : ℕ) (a : Actor) (m : Mutating) → IsMutator s number a m → IsServed c (world_of c s block ghost g) a.command m
 
 -- Whether the reply of the call in progress is settled: what the call has found is on its way into a root, or it leaves. Of who
 -- waits it is where the answer in the table says that the heap is full.

@@ -1,0 +1,242 @@
+-- What holds of a machine says what the ghost state has of its seat, and what a mutator may use.
+use Rattle.std.proofs.Common.{◌≡◌, ℕ, ◌<◌, ◌≤◌, ◌⊎◌, Bool, true, false, List, Option, Some, None, inl, inr, refl, sym, ap, ◌∙◌, subst}
+use Rattle.std.proofs.lemmas.Option.{same_Some}
+use Rattle.heap_words.specs.declared.config.Config.{Config}
+use Rattle.heap_words.specs.Words.{Answer}
+use Rattle.shen_graph.specs.History.{Entry}
+use Rattle.shen_graph.specs.declared.command.Command.{Command}
+use Rattle.shen_graph.specs.declared.command.Reply.{Reply}
+use Rattle.load_barrier.specs.declared.evac_spot.EvacSpot.{EvacSpot}
+use Rattle.load_barrier.specs.declared.evac_spot.EvacSpot.TheVariants as evac
+use Rattle.evac_steps.specs.Evacuating.{HasNothing, WorkFacts, CanEvacuate}
+use Rattle.mutator.specs.declared.spot.Kept.{Kept}
+use Rattle.mutator.specs.declared.spot.Spot.{Spot}
+use Rattle.mutator.specs.declared.spot.Spot.TheVariants.{Entering, OnField, Resolving, Recording, OnNumber, Showing, Waiting}
+use Rattle.mutator.specs.declared.spot.Entered.TheVariants.{Waited}
+use Rattle.mutator.specs.declared.fields.FieldSpot.{FieldSpot}
+use Rattle.mutator.specs.declared.fields.FieldSpot.TheVariants as fields
+use Rattle.mutator.specs.declared.numbers.NumberSpot.{NumberSpot}
+use Rattle.mutator.specs.declared.numbers.NumberSpot.TheVariants as numbers
+use Rattle.mutator.specs.declared.shows.ShowSpot.{ShowSpot}
+use Rattle.mutator.specs.declared.shows.ShowSpot.TheVariants as show
+use Rattle.mutator.specs.declared.overwrites.Overwritten.{Overwritten}
+use Rattle.mutator.specs.declared.overwrites.Overwritten.TheVariants as overwrites
+use Rattle.mutator.specs.declared.resolves.Loaded.{Loaded}
+use Rattle.mutator.specs.declared.resolves.Loaded.TheVariants.{ForRoot, ToCompare}
+use Rattle.mutator.specs.declared.waits.WaitSpot.{WaitSpot}
+use Rattle.mutator.specs.declared.waits.WaitSpot.TheVariants as wait
+use Rattle.mutator.specs.Orders.{is_waiting}
+use Rattle.mutator.specs.Rows.{Mutating}
+use Rattle.helper.specs.declared.spot.HelpSpot.{HelpSpot}
+use Rattle.helper.specs.declared.spot.HelpSpot.TheVariants as help
+use Rattle.control_steps.specs.declared.spot.ControlSpot.{ControlSpot}
+use Rattle.control_steps.specs.declared.spot.ControlSpot.TheVariants as control
+use Rattle.heap_world.specs.World.{World, hand, UsableIn}
+use Rattle.step_core.specs.Actor.{Machine, mutating, helping, controlling, Actor}
+use Rattle.step_core.specs.Seats.{copies_in, IsRoomIn, help_scan, control_scan, help_copies, control_copies, help_unit, control_unit, HelpRoom, ControlRoom, IsInSeat, before_record, before_resolve, works_on, AsksNothing, MakesObject, is_clearing, IsServed}
+use Rattle.step_core.proofs.Facts.{IsResting, HelpFacts, ControlFacts, IsMachine, IsThread}
+use Rattle.step_core.proofs.Stepped.{HasObject, FieldFacts, NumberFacts, ShowFacts, RecordFacts, LoadedFacts, IsMaking, IsPolling, IsAnswered, WaitFacts, SpotFacts, Mine, HasTaken}
+
+-- What the ghost state and the pieces have of a seat that works on a unit of evacuation.
+record OnUnit (w : World) (seat : ℕ) (at : EvacSpot) : Type 0 where
+  records : w.ghost.recording seat ≡ None
+  scans : w.ghost.scanning seat ≡ None
+  copies : w.ghost.copying seat ≡ copies_in at
+  hands : (a words : ℕ) → w.block a ≡ Some (hand seat words) → IsRoomIn at a
+
+-- where it has nothing
+on_unit_nothing : (w : World) (seat : ℕ) (at : EvacSpot) → copies_in at ≡ false → HasNothing w seat → OnUnit w seat at
+on_unit_nothing w seat at copies nothing = record {
+  records = nothing.records_none;
+  scans = nothing.scans_none;
+  copies = nothing.copying ∙ sym copies;
+  hands = λ a words is. absurd (nothing.hands a words is);
+}
+
+on_unit : (c : Config) (w : World) (seat : ℕ) (at : EvacSpot) → WorkFacts c w seat at → OnUnit w seat at
+on_unit c w seat evac.LoadClaim facts = on_unit_nothing w seat evac.LoadClaim refl facts
+on_unit c w seat (evac.ClaimUnit unit) facts = on_unit_nothing w seat (evac.ClaimUnit unit) refl facts.0
+on_unit c w seat (evac.LoadTop region) facts = on_unit_nothing w seat (evac.LoadTop region) refl facts.0
+on_unit c w seat (evac.LoadShape address end) facts = on_unit_nothing w seat (evac.LoadShape address end) refl facts.0
+on_unit c w seat (evac.LoadMark address end next) facts = on_unit_nothing w seat (evac.LoadMark address end next) refl facts.0
+on_unit c w seat (evac.Resolving address end next at) facts = record {
+  records = facts.1.records_none;
+  scans = facts.1.scans_none;
+  copies = facts.1.copying;
+  hands = facts.1.hands;
+}
+on_unit c w seat (evac.Ended unit) facts = on_unit_nothing w seat (evac.Ended unit) refl facts
+
+-- a helper in its seat
+module _ (c : Config) (w : World) (seat : ℕ) where
+  -- that rests
+  help_rests : (spot : HelpSpot) → help_scan c spot ≡ None → help_copies spot ≡ false → help_unit c spot ≡ None → IsResting w seat → IsInSeat c w seat (helping (record { seat = seat; spot = spot }))
+  help_rests spot scans copies unit rests = record {
+    records = rests.records_none;
+    scans = rests.scans_none ∙ sym scans;
+    copies = rests.copies_none ∙ sym copies;
+    works = rests.works_none ∙ sym unit;
+    hands = λ a words is. absurd (rests.hands a words is);
+  }
+
+  help_seat : (spot : HelpSpot) → HelpFacts c w seat spot → IsInSeat c w seat (helping (record { seat = seat; spot = spot }))
+  help_seat (help.Scanning at) facts = record {
+    records = facts.0.records_none;
+    scans = facts.0.scanning;
+    copies = facts.1;
+    works = facts.2;
+    hands = facts.0.hands;
+  }
+  help_seat (help.Evacuating cset at) facts =
+      let unit = on_unit c w seat at facts.facts in
+      record { records = unit.records; scans = unit.scans; copies = unit.copies; works = facts.working; hands = unit.hands }
+  help_seat (help.Updating cset at) facts = record {
+    records = facts.records_none;
+    scans = facts.scanning;
+    copies = facts.copying;
+    works = facts.working;
+    hands = facts.hands;
+  }
+  help_seat (help.LoadSet phase) facts = help_rests (help.LoadSet phase) refl refl refl facts.0
+  help_seat help.LoadEnd facts = help_rests help.LoadEnd refl refl refl facts
+  help_seat (help.Entering at) facts = help_rests (help.Entering at) refl refl refl facts
+  help_seat help.LoadPhase facts = help_rests help.LoadPhase refl refl refl facts
+  help_seat help.Leave facts = help_rests help.Leave refl refl refl facts
+  help_seat help.Gone facts = help_rests help.Gone refl refl refl facts
+
+-- the control in its seat
+module _ (c : Config) (w : World) (number seen phase cset : ℕ) (image : List ℕ) where
+  abbrev control_at : ControlSpot → Machine
+  control_at spot = controlling (record { spot = spot; seen = seen; phase = phase; cset = cset; image = image })
+
+  control_rests : (spot : ControlSpot) → control_scan c spot ≡ None → control_copies spot ≡ false → control_unit c spot ≡ None → IsResting w number → IsInSeat c w number (control_at spot)
+  control_rests spot scans copies unit rests = record {
+    records = rests.records_none;
+    scans = rests.scans_none ∙ sym scans;
+    copies = rests.copies_none ∙ sym copies;
+    works = rests.works_none ∙ sym unit;
+    hands = λ a words is. absurd (rests.hands a words is);
+  }
+
+  control_seat : (spot : ControlSpot) → ControlFacts c w number spot → IsInSeat c w number (control_at spot)
+  control_seat (control.Scanning at) facts = record {
+    records = facts.0.records_none;
+    scans = facts.0.scanning;
+    copies = facts.1;
+    works = facts.2;
+    hands = facts.0.hands;
+  }
+  control_seat (control.Evacuating set at) facts =
+      let unit = on_unit c w number at facts.facts in
+      record { records = unit.records; scans = unit.scans; copies = unit.copies; works = facts.working; hands = unit.hands }
+  control_seat (control.Updating set at) facts = record {
+    records = facts.records_none;
+    scans = facts.scanning;
+    copies = facts.copying;
+    works = facts.working;
+    hands = facts.hands;
+  }
+  control_seat control.LookFree facts = control_rests control.LookFree refl refl refl facts.0
+  control_seat (control.Stopping at) facts = control_rests (control.Stopping at) refl refl refl facts.0
+  control_seat (control.LoadWord index) facts = control_rests (control.LoadWord index) refl refl refl facts.0
+  control_seat control.LookLeft facts = control_rests control.LookLeft refl refl refl facts
+  control_seat control.StoreEnd facts = control_rests control.StoreEnd refl refl refl facts
+  control_seat control.LookAsked facts = control_rests control.LookAsked refl refl refl facts
+  control_seat (control.StoreWord index) facts = control_rests (control.StoreWord index) refl refl refl facts
+  control_seat control.Go facts = control_rests control.Go refl refl refl facts
+  control_seat control.Gone facts = control_rests control.Gone refl refl refl facts
+
+-- any machine in its seat
+pub in_seat : (c : Config) (words : List ℕ) (w : World) (entries : List Entry) (number : ℕ) (a : Actor) (machine : Machine) → IsMachine c words w entries number a machine → IsInSeat c w number machine
+in_seat c words w entries number a (mutating m) thread =
+    subst (λ k. IsInSeat c w k (mutating m)) thread.number_is (record {
+      records = thread.mine.marking.records;
+      scans = thread.mine.marking.scans;
+      copies = thread.mine.copying.copies_is;
+      works = thread.mine.copying.works_none;
+      hands = thread.mine.hands;
+    })
+in_seat c words w entries number a (helping h) facts =
+    subst (λ k. IsInSeat c w number (helping (record { seat = k; spot = h.spot }))) (sym facts.number_is) (help_seat c w number h.spot facts.facts)
+in_seat c words w entries number a (controlling k) facts = control_seat c w number k.seen k.phase k.cset k.image k.spot facts.facts
+
+-- What a mutator may use: an object on which it works, by each part of a call.
+module _ (c : Config) (w : World) (seat : ℕ) (k command : Command) (fixed : Option Reply) where
+  object_usable : (root object : ℕ) → HasObject c w seat root object → UsableIn c w object
+  object_usable root object of = inr (of.name, of.refs, of.nums, of.target)
+
+  field_usable : (object : ℕ) (at : FieldSpot) → FieldFacts c w seat k command fixed object at → UsableIn c w object
+  field_usable object fields.Load facts = object_usable facts.1.src object facts.1.of
+  field_usable object (fields.LoadExpected expect value) facts = object_usable facts.1.obj object facts.1.of
+  field_usable object (fields.LoadOld value) facts = object_usable facts.1.obj object facts.1.of
+  field_usable object (fields.Store value) facts = object_usable facts.1.obj object facts.1.of
+  field_usable object (fields.Swap value) facts = object_usable facts.1.obj object facts.1.of
+  field_usable object (fields.Exchange found expect value) facts = object_usable facts.1.obj object facts.1.of
+
+  number_usable : (object refs : ℕ) (at : NumberSpot) → NumberFacts c w seat k command fixed object refs at → UsableIn c w object
+  number_usable object refs numbers.Load facts = object_usable facts.1.obj object facts.1.of
+  number_usable object refs numbers.Store facts = object_usable facts.1.obj object facts.1.of
+
+  show_usable : (value : ℕ) (at : ShowSpot) → ShowFacts c w k fixed value at → UsableIn c w value
+  show_usable value show.LoadName facts = facts.1
+  show_usable value (show.StoreRoot reply) facts = facts.2
+
+  record_usable : (address object : ℕ) (next : Overwritten) → before_record next ≡ Some object → RecordFacts c w seat k command fixed address next → UsableIn c w object
+  record_usable address object (overwrites.Set it value) is facts = subst (UsableIn c w) (same_Some it object is) (field_usable it (fields.Store value) facts)
+  record_usable address object overwrites.Xchg is facts = absurd cc
+  record_usable address object overwrites.Cas is facts = absurd cc
+
+  resolve_usable : (found object : ℕ) (next : Loaded) → before_resolve next ≡ Some object → LoadedFacts c w seat k command fixed found next → UsableIn c w object
+  resolve_usable found object ForRoot is facts = absurd cc
+  resolve_usable found object (ToCompare it expect value) is facts = subst (UsableIn c w) (same_Some it object is) (object_usable facts.is_cas.obj it facts.is_cas.of)
+
+works_usable : (c : Config) (w : World) (seat made object : ℕ) (kept : Kept) (command : Command) (fixed : Option Reply) (spot : Spot) → works_on spot ≡ Some object → SpotFacts c w seat made kept command fixed spot → UsableIn c w object
+works_usable c w seat made object kept command fixed (OnField it at) is facts = subst (UsableIn c w) (same_Some it object is) (field_usable c w seat kept.command command fixed it at facts)
+works_usable c w seat made object kept command fixed (OnNumber it refs at) is facts = subst (UsableIn c w) (same_Some it object is) (number_usable c w seat kept.command command fixed it refs at facts)
+works_usable c w seat made object kept command fixed (Showing it at) is facts = subst (UsableIn c w) (same_Some it object is) (show_usable c w seat kept.command command fixed it at facts)
+works_usable c w seat made object kept command fixed (Recording at address next) is facts = record_usable c w seat kept.command command fixed address object next is facts.1
+works_usable c w seat made object kept command fixed (Resolving address at next) is facts = resolve_usable c w seat kept.command command fixed address object next is facts.1
+works_usable c w seat made object kept command fixed _ is facts = absurd cc
+
+-- who waits for an object makes one
+module _ (w : World) (seat made : ℕ) (k command : Command) (fixed : Option Reply) where
+  making : (dst refs nums : ℕ) → IsMaking made command fixed dst refs nums → MakesObject command
+  making dst refs nums makes = record { dst = dst; refs = refs; nums = nums; is = makes.is }
+
+  polling_makes : IsPolling w seat made k command fixed → MakesObject command
+  polling_makes (inl heard) = making _ _ _ heard.0.0
+  polling_makes (inr (inl given)) = making _ _ _ given.0
+  polling_makes (inr (inr refused)) = record { dst = refused.0.dst; refs = refused.0.refs; nums = refused.0.nums; is = refused.0.is }
+
+  answered_makes : IsAnswered w seat made k command fixed → MakesObject command
+  answered_makes (inl given) = making _ _ _ given.0
+  answered_makes (inr full) = record { dst = full.0.dst; refs = full.0.refs; nums = full.0.nums; is = full.0.is }
+
+  waiting_makes : (at : WaitSpot) → is_clearing (Waiting at) ≡ false → WaitFacts w seat made k command fixed at → MakesObject command
+  waiting_makes wait.StoreRequest going facts = making _ _ _ facts.0
+  waiting_makes wait.AskRoom going facts = making _ _ _ facts.0
+  waiting_makes wait.StepOut going facts = making _ _ _ facts.0.0
+  waiting_makes wait.Poll going facts = polling_makes facts
+  waiting_makes wait.LoadAnswer going facts = answered_makes facts
+  waiting_makes (wait.StoreRoot address) going facts = making _ _ _ facts.0.0
+  waiting_makes (wait.ClearAnswer reply) going facts = absurd cc
+
+  waits_make : (c : Config) (kept : Kept) (spot : Spot) → kept.command ≡ k → is_waiting spot ≡ true → is_clearing spot ≡ false → SpotFacts c w seat made kept command fixed spot → MakesObject command
+  waits_make c kept (Waiting at) is waiting going facts = waiting_makes at going (subst (λ j. WaitFacts w seat made j command fixed at) is facts)
+  waits_make c kept (Entering at Waited) is waiting going facts = answered_makes (subst (λ j. IsAnswered w seat made j command fixed) is facts)
+  waits_make c kept _ is waiting going facts = absurd cc
+
+-- who clears its answer has taken what it was answered
+clearing_taken : (c : Config) (w : World) (seat made : ℕ) (kept : Kept) (command : Command) (fixed : Option Reply) (spot : Spot) → is_clearing spot ≡ true → SpotFacts c w seat made kept command fixed spot
+    → AsksNothing w seat × HasTaken w seat
+clearing_taken c w seat made kept command fixed (Waiting (wait.ClearAnswer reply)) is facts = (record { no_request = facts.1; no_promise = facts.2 }, facts.3)
+clearing_taken c w seat made kept command fixed _ is facts = absurd cc
+
+pub served : (c : Config) (w : World) (m : Mutating) (command : Command) (fixed : Option Reply) → Mine c w m command fixed → IsServed c w command m
+served c w m command fixed mine = record {
+  roots = mine.seated.usable;
+  resolved = λ object is. works_usable c w m.seat m.made object m.kept command fixed m.spot is mine.facts;
+  unasked = λ calm. let none = mine.seated.unasked calm in (record { no_request = none.0; no_promise = none.2 }, none.1);
+  waits = λ waiting going. waits_make w m.seat m.made m.kept.command command fixed c m.kept m.spot refl waiting going mine.facts;
+  taken = λ clearing. clearing_taken c w m.seat m.made m.kept command fixed m.spot clearing mine.facts;
+}

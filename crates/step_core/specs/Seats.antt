@@ -1,0 +1,170 @@
+-- What the ghost state says of a seat is what its machine does, by where it stands; and what a mutator may use, and has asked for.
+use Rattle.std.specs.Prelude.{ℕ, ◌≡◌, ◌⊎◌, ◌<◌, ◌≤◌, Bool, true, false, Option, Some, None}
+use Rattle.heap_words.specs.declared.config.Config.{Config}
+use Rattle.heap_words.specs.Words.{Root, Wait, Answer}
+use Rattle.shen_graph.specs.declared.name.Name.{Name}
+use Rattle.shen_graph.specs.declared.command.Command.{Command}
+use Rattle.shen_graph.specs.declared.command.Command.TheVariants.{New}
+use Rattle.load_barrier.specs.Runs.{is_copier}
+use Rattle.load_barrier.specs.declared.evac_spot.EvacSpot.{EvacSpot}
+use Rattle.load_barrier.specs.declared.evac_spot.EvacSpot.TheVariants as evac
+use Rattle.mark_steps.specs.Scanning.{scanning_of}
+use Rattle.copy_steps.specs.Resolving.{IsRoomAt}
+use Rattle.evac_steps.specs.Evacuating.{working_of}
+use Rattle.update_steps.specs.Updating.{pass_of}
+use Rattle.mutator.specs.declared.spot.Spot.{Spot}
+use Rattle.mutator.specs.declared.spot.Spot.TheVariants.{OnField, Resolving, Recording, OnNumber, Showing, Waiting}
+use Rattle.mutator.specs.declared.overwrites.Overwritten.{Overwritten}
+use Rattle.mutator.specs.declared.overwrites.Overwritten.TheVariants as overwrites
+use Rattle.mutator.specs.declared.resolves.Loaded.{Loaded}
+use Rattle.mutator.specs.declared.resolves.Loaded.TheVariants.{ForRoot, ToCompare}
+use Rattle.mutator.specs.declared.waits.WaitSpot.TheVariants as wait
+use Rattle.mutator.specs.Orders.{is_waiting}
+use Rattle.mutator.specs.Rows.{Mutating}
+use Rattle.helper.specs.declared.spot.HelpSpot.{HelpSpot}
+use Rattle.helper.specs.declared.spot.HelpSpot.TheVariants as help
+use Rattle.control_steps.specs.declared.spot.ControlSpot.{ControlSpot}
+use Rattle.control_steps.specs.declared.spot.ControlSpot.TheVariants as control
+use Rattle.heap_world.specs.World.{World, Scan, hand, name_at, UsableIn}
+use Rattle.heap_world.specs.Asking.{HasNoPromise}
+use Rattle.step_core.specs.Actor.{Machine, mutating, helping, controlling}
+use Rattle.step_core.specs.Own.{IsInHand}
+
+-- what a mutator is about to record
+abbrev pub recording_of : Spot → Option ℕ
+recording_of (Recording at address next) = Some address
+recording_of _ = None
+
+-- whether the counter counts a mutator: where it copies the object that it resolves
+abbrev pub copies_at : Spot → Bool
+copies_at (Resolving address at next) = is_copier at
+copies_at _ = false
+
+-- whether the counter counts who works on a unit of evacuation
+abbrev pub copies_in : EvacSpot → Bool
+copies_in (evac.Resolving address end next at) = is_copier at
+copies_in _ = false
+
+-- the room that it has in hand begins at an address
+abbrev pub IsRoomIn : EvacSpot → ℕ → Type 0
+IsRoomIn (evac.Resolving address end next at) a = IsRoomAt at a
+IsRoomIn _ a = ⊥
+
+-- the scan or the pass of updating in which a helper is, and the control
+abbrev pub help_scan : Config → HelpSpot → Option Scan
+help_scan c (help.Scanning at) = scanning_of at
+help_scan c (help.Updating cset at) = pass_of c at
+help_scan c _ = None
+
+abbrev pub control_scan : Config → ControlSpot → Option Scan
+control_scan c (control.Scanning at) = scanning_of at
+control_scan c (control.Updating cset at) = pass_of c at
+control_scan c _ = None
+
+-- whether they copy
+abbrev pub help_copies : HelpSpot → Bool
+help_copies (help.Evacuating cset at) = copies_in at
+help_copies _ = false
+
+abbrev pub control_copies : ControlSpot → Bool
+control_copies (control.Evacuating cset at) = copies_in at
+control_copies _ = false
+
+-- the region of the collection set on which they work
+abbrev pub help_unit : Config → HelpSpot → Option ℕ
+help_unit c (help.Evacuating cset at) = working_of c at
+help_unit c _ = None
+
+abbrev pub control_unit : Config → ControlSpot → Option ℕ
+control_unit c (control.Evacuating cset at) = working_of c at
+control_unit c _ = None
+
+-- their room in hand begins at an address
+abbrev pub HelpRoom : HelpSpot → ℕ → Type 0
+HelpRoom (help.Evacuating cset at) a = IsRoomIn at a
+HelpRoom _ a = ⊥
+
+abbrev pub ControlRoom : ControlSpot → ℕ → Type 0
+ControlRoom (control.Evacuating cset at) a = IsRoomIn at a
+ControlRoom _ a = ⊥
+
+-- The same of any machine: what it is about to record, in which scan or pass it is, whether it copies, on which region it works, and what
+-- room it has in hand.
+abbrev pub records_of : Machine → Option ℕ
+records_of (mutating m) = recording_of m.spot
+records_of _ = None
+
+abbrev pub scan_of : Config → Machine → Option Scan
+scan_of c (helping h) = help_scan c h.spot
+scan_of c (controlling k) = control_scan c k.spot
+scan_of c _ = None
+
+abbrev pub copies_of : Machine → Bool
+copies_of (mutating m) = copies_at m.spot
+copies_of (helping h) = help_copies h.spot
+copies_of (controlling k) = control_copies k.spot
+
+abbrev pub unit_of : Config → Machine → Option ℕ
+unit_of c (helping h) = help_unit c h.spot
+unit_of c (controlling k) = control_unit c k.spot
+unit_of c _ = None
+
+abbrev pub HasRoom : Machine → (a words : ℕ) → Type 0
+HasRoom (mutating m) a words = IsInHand m.kept m.spot a words
+HasRoom (helping h) a words = HelpRoom h.spot a
+HasRoom (controlling k) a words = ControlRoom k.spot a
+
+-- The ghost state has of the seat what its machine does, and no room is the seat's but what its machine has in hand.
+pub record IsInSeat (c : Config) (w : World) (seat : ℕ) (machine : Machine) : Type 0 where
+  pub records : w.ghost.recording seat ≡ records_of machine
+  pub scans : w.ghost.scanning seat ≡ scan_of c machine
+  pub copies : w.ghost.copying seat ≡ copies_of machine
+  pub works : w.ghost.working seat ≡ unit_of c machine
+  pub hands : (a words : ℕ) → w.block a ≡ Some (hand seat words) → HasRoom machine a words
+
+-- the object that a call works on, or is about to show, by an address that was resolved if that was needed
+abbrev pub before_record : Overwritten → Option ℕ
+before_record (overwrites.Set object value) = Some object
+before_record _ = None
+
+abbrev pub before_resolve : Loaded → Option ℕ
+before_resolve ForRoot = None
+before_resolve (ToCompare object expect value) = Some object
+
+abbrev pub works_on : Spot → Option ℕ
+works_on (OnField object at) = Some object
+works_on (OnNumber object refs at) = Some object
+works_on (Showing value at) = Some value
+works_on (Recording at address next) = before_record next
+works_on (Resolving address at next) = before_resolve next
+works_on _ = None
+
+-- a mutator has taken what it was answered: its answer leads to a copy of an object of the graph, or it leads nowhere
+abbrev pub HasTaken : World → ℕ → Type 0
+HasTaken w seat = (w.memory (Answer seat) ≤ 1) ⊎ ((name : Name) × (name_at (w.block (w.memory (Answer seat))) ≡ Some name))
+
+-- the words of a mutator say that it asks for nothing, and nothing is promised to it
+pub record AsksNothing (w : World) (seat : ℕ) : Type 0 where
+  pub no_request : w.memory (Wait seat) ≡ 0
+  pub no_promise : HasNoPromise w.block seat
+
+-- a command makes an object
+pub record MakesObject (command : Command) : Type 0 where
+  pub dst : ℕ
+  pub refs : ℕ
+  pub nums : ℕ
+  pub is : command ≡ New dst refs nums
+
+-- whether what a mutator asked for is done with, and it is about to clear its answer
+abbrev pub is_clearing : Spot → Bool
+is_clearing (Waiting (wait.ClearAnswer reply)) = true
+is_clearing _ = false
+
+-- What a mutator may use, in each phase: its roots, and the object on which its call works. A request and an answer are those of a call that
+-- makes an object and waits for it; behind the store into the root the answer names what was taken.
+pub record IsServed (c : Config) (w : World) (command : Command) (m : Mutating) : Type 0 where
+  pub roots : (i : ℕ) → i < 16 → UsableIn c w (w.memory (Root m.seat i))
+  pub resolved : (object : ℕ) → works_on m.spot ≡ Some object → UsableIn c w object
+  pub unasked : is_waiting m.spot ≡ false → AsksNothing w m.seat × (w.memory (Answer m.seat) ≡ 0)
+  pub waits : is_waiting m.spot ≡ true → is_clearing m.spot ≡ false → MakesObject command
+  pub taken : is_clearing m.spot ≡ true → AsksNothing w m.seat × HasTaken w m.seat
