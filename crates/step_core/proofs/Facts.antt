@@ -35,6 +35,7 @@ use Rattle.step_core.specs.Actor.{Machine, mutating, helping, controlling, Actor
 use Rattle.step_core.specs.Threads.{IsSettled}
 use Rattle.step_core.proofs.Stepped.{Mine}
 use Rattle.step_core.specs.Sound.{world_of}
+pub use Rattle.step_core.specs.Pausing.{AreRead, IsAim}
 
 -- How an answer in the table, the one that counts, and the settled reply of the call go together. Table and what counts differ
 -- only while a pause writes its image back, and Full is settled by the store into the table.
@@ -95,16 +96,6 @@ pub record IsHelper (c : Config) (w : World) (number : ℕ) (h : Helping) : Type
   pub facts : HelpFacts c w number h.spot
   pub least : c.mutators ≤ number
   pub below : number < c.mutators + c.helpers
-
--- the first words of an image are those of the table
-abbrev pub AreRead : Config → List ℕ → List ℕ → ℕ → Type 0
-AreRead c words image n = (i : ℕ) → i < n → slice_index image i ≡ slice_index words (image_start c + i)
-
--- what the control knows in a pause: which words of the image it has read or written
-abbrev pub IsAim : Config → List ℕ → ControlSpot → List ℕ → Type 0
-IsAim c words (LoadWord index) image = (length image ≡ index) × AreRead c words image index
-IsAim c words (StoreWord index) image = (length image ≡ image_words c) × AreRead c words image index
-IsAim c words _ image = Unit {0}
 
 -- What the control counts on by where it stands: in a unit it can go on, and elsewhere it rests. It looks at the free word in phase 0
 -- alone, and where it has begun a pause and until it has read the image, that pause is due.

@@ -1,17 +1,23 @@
 -- What holds of a machine says what the ghost state has of its seat, and what a mutator may use.
 use Rattle.std.proofs.Common.{◌≡◌, ℕ, ◌<◌, ◌≤◌, ◌⊎◌, Bool, true, false, List, Option, Some, None, inl, inr, refl, sym, ap, ◌∙◌, subst}
-use Rattle.std.proofs.lemmas.Option.{same_Some}
+use Rattle.std.proofs.lemmas.Option.{same_Some, none-some}
 use Rattle.heap_words.specs.declared.config.Config.{Config}
 use Rattle.heap_words.specs.Words.{Answer}
 use Rattle.shen_graph.specs.History.{Entry}
 use Rattle.shen_graph.specs.declared.command.Command.{Command}
 use Rattle.shen_graph.specs.declared.command.Reply.{Reply}
+use Rattle.alloc_buffers.specs.Facts.{HasLess, TakeFacts}
+use Rattle.alloc_buffers.specs.declared.spot.TakeSpot.{TakeSpot}
+use Rattle.alloc_buffers.specs.declared.spot.TakeSpot.TheVariants.{LoadFree}
+use Rattle.load_barrier.specs.declared.spot.ResolveSpot.{ResolveSpot}
+use Rattle.load_barrier.specs.declared.spot.ResolveSpot.TheVariants as resolve
+use Rattle.copy_steps.specs.Resolving.{ResolveFacts}
 use Rattle.load_barrier.specs.declared.evac_spot.EvacSpot.{EvacSpot}
 use Rattle.load_barrier.specs.declared.evac_spot.EvacSpot.TheVariants as evac
 use Rattle.evac_steps.specs.Evacuating.{HasNothing, WorkFacts, CanEvacuate}
 use Rattle.mutator.specs.declared.spot.Kept.{Kept}
 use Rattle.mutator.specs.declared.spot.Spot.{Spot}
-use Rattle.mutator.specs.declared.spot.Spot.TheVariants.{Entering, OnField, Resolving, Recording, OnNumber, Showing, Waiting}
+use Rattle.mutator.specs.declared.spot.Spot.TheVariants.{Entering, OnField, Resolving, Recording, OnNumber, Showing, Making, Waiting}
 use Rattle.mutator.specs.declared.spot.Entered.TheVariants.{Waited}
 use Rattle.mutator.specs.declared.fields.FieldSpot.{FieldSpot}
 use Rattle.mutator.specs.declared.fields.FieldSpot.TheVariants as fields
@@ -19,6 +25,8 @@ use Rattle.mutator.specs.declared.numbers.NumberSpot.{NumberSpot}
 use Rattle.mutator.specs.declared.numbers.NumberSpot.TheVariants as numbers
 use Rattle.mutator.specs.declared.shows.ShowSpot.{ShowSpot}
 use Rattle.mutator.specs.declared.shows.ShowSpot.TheVariants as show
+use Rattle.mutator.specs.declared.makes.MakeSpot.{MakeSpot}
+use Rattle.mutator.specs.declared.makes.MakeSpot.TheVariants as make
 use Rattle.mutator.specs.declared.overwrites.Overwritten.{Overwritten}
 use Rattle.mutator.specs.declared.overwrites.Overwritten.TheVariants as overwrites
 use Rattle.mutator.specs.declared.resolves.Loaded.{Loaded}
@@ -26,57 +34,70 @@ use Rattle.mutator.specs.declared.resolves.Loaded.TheVariants.{ForRoot, ToCompar
 use Rattle.mutator.specs.declared.waits.WaitSpot.{WaitSpot}
 use Rattle.mutator.specs.declared.waits.WaitSpot.TheVariants as wait
 use Rattle.mutator.specs.Orders.{is_waiting}
-use Rattle.mutator.specs.Rows.{Mutating}
+use Rattle.mutator.specs.Rows.{Mutating, words_of}
 use Rattle.helper.specs.declared.spot.HelpSpot.{HelpSpot}
 use Rattle.helper.specs.declared.spot.HelpSpot.TheVariants as help
 use Rattle.control_steps.specs.declared.spot.ControlSpot.{ControlSpot}
 use Rattle.control_steps.specs.declared.spot.ControlSpot.TheVariants as control
 use Rattle.heap_world.specs.World.{World, hand, UsableIn}
 use Rattle.step_core.specs.Actor.{Machine, mutating, helping, controlling, Actor}
-use Rattle.step_core.specs.Seats.{copies_in, IsRoomIn, help_scan, control_scan, help_copies, control_copies, help_unit, control_unit, HelpRoom, ControlRoom, IsInSeat, before_record, before_resolve, works_on, AsksNothing, MakesObject, is_clearing, IsServed}
+use Rattle.step_core.specs.Seats.{copies_in, IsRoomIn, take_looks, resolve_looks, unit_looks, make_looks, call_looks, help_looks, control_looks, help_scan, control_scan, help_copies, control_copies, help_unit, control_unit, HelpRoom, ControlRoom, IsInSeat, before_record, before_resolve, works_on, AsksNothing, MakesObject, is_clearing, IsServed}
 use Rattle.step_core.proofs.Facts.{IsResting, HelpFacts, ControlFacts, IsMachine, IsThread}
-use Rattle.step_core.proofs.Stepped.{HasObject, FieldFacts, NumberFacts, ShowFacts, RecordFacts, LoadedFacts, IsMaking, IsPolling, IsAnswered, WaitFacts, SpotFacts, Mine, HasTaken}
+use Rattle.step_core.proofs.Stepped.{HasObject, FieldFacts, NumberFacts, ShowFacts, RecordFacts, LoadedFacts, MakeFacts, IsResolving, IsMaking, IsPolling, IsAnswered, WaitFacts, SpotFacts, Mine, HasTaken}
 
 -- What the ghost state and the pieces have of a seat that works on a unit of evacuation.
-record OnUnit (w : World) (seat : ℕ) (at : EvacSpot) : Type 0 where
+record OnUnit (c : Config) (w : World) (seat : ℕ) (at : EvacSpot) : Type 0 where
   records : w.ghost.recording seat ≡ None
   scans : w.ghost.scanning seat ≡ None
   copies : w.ghost.copying seat ≡ copies_in at
   hands : (a words : ℕ) → w.block a ≡ Some (hand seat words) → IsRoomIn at a
+  lacks : (words : ℕ) → unit_looks at ≡ Some words → HasLess c w.memory seat words
+
+-- who takes room and is about to look for a free region lacks room in its current one, also where it resolves an address
+take_lacks : (c : Config) (w : World) (seat wanted words : ℕ) (take : TakeSpot) → take_looks words take ≡ Some wanted → TakeFacts c w seat words take → HasLess c w.memory seat wanted
+take_lacks c w seat wanted words LoadFree looks facts = subst (HasLess c w.memory seat) (same_Some words wanted looks) facts
+take_lacks c w seat wanted words _ looks facts = absurd cc
+
+resolve_lacks : (c : Config) (w : World) (seat a wanted : ℕ) (at : ResolveSpot) → resolve_looks at ≡ Some wanted → ResolveFacts c w seat a at → HasLess c w.memory seat wanted
+resolve_lacks c w seat a wanted (resolve.Taking words take) looks facts = take_lacks c w seat wanted words take looks facts.2.1.facts
+resolve_lacks c w seat a wanted _ looks facts = absurd cc
 
 -- where it has nothing
-on_unit_nothing : (w : World) (seat : ℕ) (at : EvacSpot) → copies_in at ≡ false → HasNothing w seat → OnUnit w seat at
-on_unit_nothing w seat at copies nothing = record {
+on_unit_nothing : (c : Config) (w : World) (seat : ℕ) (at : EvacSpot) → copies_in at ≡ false → unit_looks at ≡ None → HasNothing w seat → OnUnit c w seat at
+on_unit_nothing c w seat at copies looks nothing = record {
   records = nothing.records_none;
   scans = nothing.scans_none;
   copies = nothing.copying ∙ sym copies;
   hands = λ a words is. absurd (nothing.hands a words is);
+  lacks = λ words is. absurd (none-some words (sym looks ∙ is));
 }
 
-on_unit : (c : Config) (w : World) (seat : ℕ) (at : EvacSpot) → WorkFacts c w seat at → OnUnit w seat at
-on_unit c w seat evac.LoadClaim facts = on_unit_nothing w seat evac.LoadClaim refl facts
-on_unit c w seat (evac.ClaimUnit unit) facts = on_unit_nothing w seat (evac.ClaimUnit unit) refl facts.0
-on_unit c w seat (evac.LoadTop region) facts = on_unit_nothing w seat (evac.LoadTop region) refl facts.0
-on_unit c w seat (evac.LoadShape address end) facts = on_unit_nothing w seat (evac.LoadShape address end) refl facts.0
-on_unit c w seat (evac.LoadMark address end next) facts = on_unit_nothing w seat (evac.LoadMark address end next) refl facts.0
+on_unit : (c : Config) (w : World) (seat : ℕ) (at : EvacSpot) → WorkFacts c w seat at → OnUnit c w seat at
+on_unit c w seat evac.LoadClaim facts = on_unit_nothing c w seat evac.LoadClaim refl refl facts
+on_unit c w seat (evac.ClaimUnit unit) facts = on_unit_nothing c w seat (evac.ClaimUnit unit) refl refl facts.0
+on_unit c w seat (evac.LoadTop region) facts = on_unit_nothing c w seat (evac.LoadTop region) refl refl facts.0
+on_unit c w seat (evac.LoadShape address end) facts = on_unit_nothing c w seat (evac.LoadShape address end) refl refl facts.0
+on_unit c w seat (evac.LoadMark address end next) facts = on_unit_nothing c w seat (evac.LoadMark address end next) refl refl facts.0
 on_unit c w seat (evac.Resolving address end next at) facts = record {
   records = facts.1.records_none;
   scans = facts.1.scans_none;
   copies = facts.1.copying;
   hands = facts.1.hands;
+  lacks = λ words is. resolve_lacks c w seat address words at is facts.1.facts;
 }
-on_unit c w seat (evac.Ended unit) facts = on_unit_nothing w seat (evac.Ended unit) refl facts
+on_unit c w seat (evac.Ended unit) facts = on_unit_nothing c w seat (evac.Ended unit) refl refl facts
 
 -- a helper in its seat
 module _ (c : Config) (w : World) (seat : ℕ) where
   -- that rests
-  help_rests : (spot : HelpSpot) → help_scan c spot ≡ None → help_copies spot ≡ false → help_unit c spot ≡ None → IsResting w seat → IsInSeat c w seat (helping (record { seat = seat; spot = spot }))
-  help_rests spot scans copies unit rests = record {
+  help_rests : (spot : HelpSpot) → help_scan c spot ≡ None → help_copies spot ≡ false → help_unit c spot ≡ None → help_looks spot ≡ None → IsResting w seat → IsInSeat c w seat (helping (record { seat = seat; spot = spot }))
+  help_rests spot scans copies unit looks rests = record {
     records = rests.records_none;
     scans = rests.scans_none ∙ sym scans;
     copies = rests.copies_none ∙ sym copies;
     works = rests.works_none ∙ sym unit;
     hands = λ a words is. absurd (rests.hands a words is);
+    lacks = λ words is. absurd (none-some words (sym looks ∙ is));
   }
 
   help_seat : (spot : HelpSpot) → HelpFacts c w seat spot → IsInSeat c w seat (helping (record { seat = seat; spot = spot }))
@@ -86,36 +107,39 @@ module _ (c : Config) (w : World) (seat : ℕ) where
     copies = facts.1;
     works = facts.2;
     hands = facts.0.hands;
+    lacks = λ words is. absurd cc;
   }
   help_seat (help.Evacuating cset at) facts =
       let unit = on_unit c w seat at facts.facts in
-      record { records = unit.records; scans = unit.scans; copies = unit.copies; works = facts.working; hands = unit.hands }
+      record { records = unit.records; scans = unit.scans; copies = unit.copies; works = facts.working; hands = unit.hands; lacks = unit.lacks }
   help_seat (help.Updating cset at) facts = record {
     records = facts.records_none;
     scans = facts.scanning;
     copies = facts.copying;
     works = facts.working;
     hands = facts.hands;
+    lacks = λ words is. absurd cc;
   }
-  help_seat (help.LoadSet phase) facts = help_rests (help.LoadSet phase) refl refl refl facts.0
-  help_seat help.LoadEnd facts = help_rests help.LoadEnd refl refl refl facts
-  help_seat (help.Entering at) facts = help_rests (help.Entering at) refl refl refl facts
-  help_seat help.LoadPhase facts = help_rests help.LoadPhase refl refl refl facts
-  help_seat help.Leave facts = help_rests help.Leave refl refl refl facts
-  help_seat help.Gone facts = help_rests help.Gone refl refl refl facts
+  help_seat (help.LoadSet phase) facts = help_rests (help.LoadSet phase) refl refl refl refl facts.0
+  help_seat help.LoadEnd facts = help_rests help.LoadEnd refl refl refl refl facts
+  help_seat (help.Entering at) facts = help_rests (help.Entering at) refl refl refl refl facts
+  help_seat help.LoadPhase facts = help_rests help.LoadPhase refl refl refl refl facts
+  help_seat help.Leave facts = help_rests help.Leave refl refl refl refl facts
+  help_seat help.Gone facts = help_rests help.Gone refl refl refl refl facts
 
 -- the control in its seat
 module _ (c : Config) (w : World) (number seen phase cset : ℕ) (image : List ℕ) where
   abbrev control_at : ControlSpot → Machine
   control_at spot = controlling (record { spot = spot; seen = seen; phase = phase; cset = cset; image = image })
 
-  control_rests : (spot : ControlSpot) → control_scan c spot ≡ None → control_copies spot ≡ false → control_unit c spot ≡ None → IsResting w number → IsInSeat c w number (control_at spot)
-  control_rests spot scans copies unit rests = record {
+  control_rests : (spot : ControlSpot) → control_scan c spot ≡ None → control_copies spot ≡ false → control_unit c spot ≡ None → control_looks spot ≡ None → IsResting w number → IsInSeat c w number (control_at spot)
+  control_rests spot scans copies unit looks rests = record {
     records = rests.records_none;
     scans = rests.scans_none ∙ sym scans;
     copies = rests.copies_none ∙ sym copies;
     works = rests.works_none ∙ sym unit;
     hands = λ a words is. absurd (rests.hands a words is);
+    lacks = λ words is. absurd (none-some words (sym looks ∙ is));
   }
 
   control_seat : (spot : ControlSpot) → ControlFacts c w number spot → IsInSeat c w number (control_at spot)
@@ -125,26 +149,43 @@ module _ (c : Config) (w : World) (number seen phase cset : ℕ) (image : List �
     copies = facts.1;
     works = facts.2;
     hands = facts.0.hands;
+    lacks = λ words is. absurd cc;
   }
   control_seat (control.Evacuating set at) facts =
       let unit = on_unit c w number at facts.facts in
-      record { records = unit.records; scans = unit.scans; copies = unit.copies; works = facts.working; hands = unit.hands }
+      record { records = unit.records; scans = unit.scans; copies = unit.copies; works = facts.working; hands = unit.hands; lacks = unit.lacks }
   control_seat (control.Updating set at) facts = record {
     records = facts.records_none;
     scans = facts.scanning;
     copies = facts.copying;
     works = facts.working;
     hands = facts.hands;
+    lacks = λ words is. absurd cc;
   }
-  control_seat control.LookFree facts = control_rests control.LookFree refl refl refl facts.0
-  control_seat (control.Stopping at) facts = control_rests (control.Stopping at) refl refl refl facts.0
-  control_seat (control.LoadWord index) facts = control_rests (control.LoadWord index) refl refl refl facts.0
-  control_seat control.LookLeft facts = control_rests control.LookLeft refl refl refl facts
-  control_seat control.StoreEnd facts = control_rests control.StoreEnd refl refl refl facts
-  control_seat control.LookAsked facts = control_rests control.LookAsked refl refl refl facts
-  control_seat (control.StoreWord index) facts = control_rests (control.StoreWord index) refl refl refl facts
-  control_seat control.Go facts = control_rests control.Go refl refl refl facts
-  control_seat control.Gone facts = control_rests control.Gone refl refl refl facts
+  control_seat control.LookFree facts = control_rests control.LookFree refl refl refl refl facts.0
+  control_seat (control.Stopping at) facts = control_rests (control.Stopping at) refl refl refl refl facts.0
+  control_seat (control.LoadWord index) facts = control_rests (control.LoadWord index) refl refl refl refl facts.0
+  control_seat control.LookLeft facts = control_rests control.LookLeft refl refl refl refl facts
+  control_seat control.StoreEnd facts = control_rests control.StoreEnd refl refl refl refl facts
+  control_seat control.LookAsked facts = control_rests control.LookAsked refl refl refl refl facts
+  control_seat (control.StoreWord index) facts = control_rests (control.StoreWord index) refl refl refl refl facts
+  control_seat control.Go facts = control_rests control.Go refl refl refl refl facts
+  control_seat control.Gone facts = control_rests control.Gone refl refl refl refl facts
+
+-- a mutator that is about to look for a free region
+make_lacks : (c : Config) (w : World) (seat made wanted : ℕ) (k command : Command) (fixed : Option Reply) (at : MakeSpot) → make_looks (words_of k) at ≡ Some wanted → MakeFacts c w seat made k command fixed at → HasLess c w.memory seat wanted
+make_lacks c w seat made wanted k command fixed (make.Taking take) looks facts = take_lacks c w seat wanted (words_of k) take looks facts.1
+make_lacks c w seat made wanted k command fixed _ looks facts = absurd cc
+
+resolving_lacks : (c : Config) (w : World) (seat address wanted : ℕ) (at : ResolveSpot) → resolve_looks at ≡ Some wanted → IsResolving c w seat address at → HasLess c w.memory seat wanted
+resolving_lacks c w seat address wanted at looks (inl can) = resolve_lacks c w seat address wanted at looks can.facts
+resolving_lacks c w seat address wanted (resolve.Taking words take) looks (inr follows) = absurd (follows.facts)
+resolving_lacks c w seat address wanted _ looks (inr follows) = absurd cc
+
+call_lacks : (c : Config) (w : World) (seat made wanted : ℕ) (kept : Kept) (command : Command) (fixed : Option Reply) (spot : Spot) → call_looks kept spot ≡ Some wanted → SpotFacts c w seat made kept command fixed spot → HasLess c w.memory seat wanted
+call_lacks c w seat made wanted kept command fixed (Making at) looks facts = make_lacks c w seat made wanted kept.command command fixed at looks facts
+call_lacks c w seat made wanted kept command fixed (Resolving address at next) looks facts = resolving_lacks c w seat address wanted at looks facts.0
+call_lacks c w seat made wanted kept command fixed _ looks facts = absurd cc
 
 -- any machine in its seat
 pub in_seat : (c : Config) (words : List ℕ) (w : World) (entries : List Entry) (number : ℕ) (a : Actor) (machine : Machine) → IsMachine c words w entries number a machine → IsInSeat c w number machine
@@ -155,6 +196,7 @@ in_seat c words w entries number a (mutating m) thread =
       copies = thread.mine.copying.copies_is;
       works = thread.mine.copying.works_none;
       hands = thread.mine.hands;
+      lacks = λ wanted is. call_lacks c w m.seat m.made wanted m.kept a.command thread.fixed m.spot is thread.mine.facts;
     })
 in_seat c words w entries number a (helping h) facts =
     subst (λ k. IsInSeat c w number (helping (record { seat = k; spot = h.spot }))) (sym facts.number_is) (help_seat c w number h.spot facts.facts)

@@ -48,6 +48,7 @@ use Rattle.step_core.specs.Fit.{IsWhole}
 use Rattle.step_core.specs.History.{told, history}
 use Rattle.step_core.specs.Machines.{takes_of, plan_of, took_of, machine_after, kind, IsFitFor, standing_of}
 use Rattle.step_core.specs.Pausing.{IsInPause, IsHelper, IsEmpty}
+use Rattle.step_core.specs.Seats.{looks_for}
 use Rattle.step_core.specs.Settled.{settled, control_number}
 use Rattle.step_core.specs.Sound.{world_of, IsMutator, IsOfHeap, FindsFit, IsSound}
 use Rattle.step_core.proofs.Stepped.{SpotFacts}
@@ -278,11 +279,9 @@ module _ (change : Change) (law : IsPause change) (c : Config) (g : Graph) (s : 
     fit = finds_fit;
   }
 
-  -- of a mutator that is about to look for a free region
-  lacks_room : (number : ℕ) (a : Actor) (m : Mutating) → IsMutator s number a m → m.spot ≡ Making (Taking LoadFree) → HasLess c (settled c s) m.seat (words_of m.kept.command)
-  lacks_room number a m here at =
-      let thread = thread_of number a m here in
-      (subst (λ spot. SpotFacts c the_world m.seat m.made m.kept a.command thread.fixed spot) at thread.mine.facts).1
+  -- of a machine that is about to look for a free region
+  lacks_room : (number : ℕ) (a : Actor) (words : ℕ) → slice_get s.machines number ≡ Some a → looks_for a.machine ≡ Some words → HasLess c (settled c s) number words
+  lacks_room number a words here looks = (in_seat c s.words the_world (of_thread h (number + 1)) number a a.machine (known number a here)).lacks words looks
 
   -- what the control has read of the image is as the table has it
   aims_of : (number : ℕ) (a : Actor) (k : Controlling) → slice_get s.machines number ≡ Some a → a.machine ≡ controlling k → (is_ready c k.spot ≡ true) × IsAim c s.words k.spot k.image
@@ -348,9 +347,9 @@ module _ (change : Change) (law : IsPause change) (c : Config) (s : Stage Actor)
       → slice_get (go (kind change c) s events).machines number ≡ Some a → a.machine ≡ controlling k → (is_ready c k.spot ≡ true) × IsAim c (go (kind change c) s events).words k.spot k.image
   run_aims events = aims_of change law c g (go (kind change c) s events) (history change c s events) (goes_all events)
 
-  -- a mutator that is about to look for a free region lacks room
-  pub run_lacks_room : (events : List (Event Order)) (number : ℕ) (a : Actor) (m : Mutating)
-      → IsMutator (go (kind change c) s events) number a m → m.spot ≡ Making (Taking LoadFree) → HasLess c (settled c (go (kind change c) s events)) m.seat (words_of m.kept.command)
+  -- a machine that is about to look for a free region lacks room
+  pub run_lacks_room : (events : List (Event Order)) (number : ℕ) (a : Actor) (words : ℕ)
+      → slice_get (go (kind change c) s events).machines number ≡ Some a → looks_for a.machine ≡ Some words → HasLess c (settled c (go (kind change c) s events)) number words
   run_lacks_room events = lacks_room change law c g (go (kind change c) s events) (history change c s events) (goes_all events)
 
 -- where a run leads is sound

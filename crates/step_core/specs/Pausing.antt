@@ -1,7 +1,7 @@
 -- What a pause may count on, whatever the machines were doing when it was wanted.
-use Rattle.std.specs.Prelude.{ℕ, ◌≡◌, ◌⊎◌, true, false, Some, slice_get}
+use Rattle.std.specs.Prelude.{ℕ, ◌≡◌, ◌⊎◌, ◌+◌, ◌<◌, true, false, List, length, Some, slice_get, slice_index}
 use Rattle.heap_words.specs.declared.config.Config.{Config}
-use Rattle.heap_words.specs.Words.{is_image}
+use Rattle.heap_words.specs.Words.{is_image, image_start}
 use Rattle.steps_base.specs.Steps.{Stage}
 use Rattle.shen_graph.specs.declared.order.Order.{Order}
 use Rattle.handshake.specs.Standing.{is_within, is_pausing}
@@ -9,7 +9,10 @@ use Rattle.mutator.specs.declared.spot.Spot.TheVariants.{Waiting}
 use Rattle.mutator.specs.declared.waits.WaitSpot.TheVariants as wait
 use Rattle.mutator.specs.Orders.{takes_at}
 use Rattle.mutator.specs.Rows.{Mutating, touch_of}
+use Rattle.control_steps.specs.declared.spot.ControlSpot.{ControlSpot}
+use Rattle.control_steps.specs.declared.spot.ControlSpot.TheVariants.{LoadWord, StoreWord}
 use Rattle.control_steps.specs.Rows.{Controlling}
+use Rattle.heap_world.specs.Change.{image_words}
 use Rattle.helper.specs.Rows.{Helping, help_touch}
 use Rattle.step_core.specs.Actor.{helping, controlling, Actor}
 use Rattle.step_core.specs.Settled.{control_number}
@@ -37,3 +40,13 @@ pub record IsEmpty (c : Config) (s : Stage Actor) : Type 0 where
   pub no_access : (number : ℕ) (a : Actor) (h : Helping) → IsHelper s number a h → is_image (help_touch c h).word ≡ false
   pub only_polls : (number : ℕ) (a : Actor) (m : Mutating) (order : Order) → IsMutator s number a m → takes_at m.spot m.made order ≡ true
       → (is_image (touch_of c m order).word ≡ false) ⊎ (m.spot ≡ Waiting wait.Poll)
+
+-- the first words of an image are those of the table
+abbrev pub AreRead : Config → List ℕ → List ℕ → ℕ → Type 0
+AreRead c words image n = (i : ℕ) → i < n → slice_index image i ≡ slice_index words (image_start c + i)
+
+-- what the control knows in a pause: which words of the image it has read or written
+abbrev pub IsAim : Config → List ℕ → ControlSpot → List ℕ → Type 0
+IsAim c words (LoadWord index) image = (length image ≡ index) × AreRead c words image index
+IsAim c words (StoreWord index) image = (length image ≡ image_words c) × AreRead c words image index
+IsAim c words _ image = Unit {0}

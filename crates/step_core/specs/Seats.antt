@@ -5,22 +5,30 @@ use Rattle.heap_words.specs.Words.{Root, Wait, Answer}
 use Rattle.shen_graph.specs.declared.name.Name.{Name}
 use Rattle.shen_graph.specs.declared.command.Command.{Command}
 use Rattle.shen_graph.specs.declared.command.Command.TheVariants.{New}
+use Rattle.alloc_buffers.specs.Facts.{HasLess}
+use Rattle.alloc_buffers.specs.declared.spot.TakeSpot.{TakeSpot}
+use Rattle.alloc_buffers.specs.declared.spot.TakeSpot.TheVariants.{LoadFree}
 use Rattle.load_barrier.specs.Runs.{is_copier}
+use Rattle.load_barrier.specs.declared.spot.ResolveSpot.{ResolveSpot}
+use Rattle.load_barrier.specs.declared.spot.ResolveSpot.TheVariants as resolve
 use Rattle.load_barrier.specs.declared.evac_spot.EvacSpot.{EvacSpot}
 use Rattle.load_barrier.specs.declared.evac_spot.EvacSpot.TheVariants as evac
 use Rattle.mark_steps.specs.Scanning.{scanning_of}
 use Rattle.copy_steps.specs.Resolving.{IsRoomAt}
 use Rattle.evac_steps.specs.Evacuating.{working_of}
 use Rattle.update_steps.specs.Updating.{pass_of}
+use Rattle.mutator.specs.declared.spot.Kept.{Kept}
 use Rattle.mutator.specs.declared.spot.Spot.{Spot}
-use Rattle.mutator.specs.declared.spot.Spot.TheVariants.{OnField, Resolving, Recording, OnNumber, Showing, Waiting}
+use Rattle.mutator.specs.declared.spot.Spot.TheVariants.{OnField, Resolving, Recording, OnNumber, Showing, Making, Waiting}
+use Rattle.mutator.specs.declared.makes.MakeSpot.{MakeSpot}
+use Rattle.mutator.specs.declared.makes.MakeSpot.TheVariants as make
 use Rattle.mutator.specs.declared.overwrites.Overwritten.{Overwritten}
 use Rattle.mutator.specs.declared.overwrites.Overwritten.TheVariants as overwrites
 use Rattle.mutator.specs.declared.resolves.Loaded.{Loaded}
 use Rattle.mutator.specs.declared.resolves.Loaded.TheVariants.{ForRoot, ToCompare}
 use Rattle.mutator.specs.declared.waits.WaitSpot.TheVariants as wait
 use Rattle.mutator.specs.Orders.{is_waiting}
-use Rattle.mutator.specs.Rows.{Mutating}
+use Rattle.mutator.specs.Rows.{Mutating, words_of}
 use Rattle.helper.specs.declared.spot.HelpSpot.{HelpSpot}
 use Rattle.helper.specs.declared.spot.HelpSpot.TheVariants as help
 use Rattle.control_steps.specs.declared.spot.ControlSpot.{ControlSpot}
@@ -114,13 +122,50 @@ HasRoom (mutating m) a words = IsInHand m.kept m.spot a words
 HasRoom (helping h) a words = HelpRoom h.spot a
 HasRoom (controlling k) a words = ControlRoom k.spot a
 
--- The ghost state has of the seat what its machine does, and no room is the seat's but what its machine has in hand.
+-- for how many words a machine is about to look for a free region, by each part of which taking room is one
+abbrev pub take_looks : ℕ → TakeSpot → Option ℕ
+take_looks words LoadFree = Some words
+take_looks words _ = None
+
+abbrev pub resolve_looks : ResolveSpot → Option ℕ
+resolve_looks (resolve.Taking words at) = take_looks words at
+resolve_looks _ = None
+
+abbrev pub unit_looks : EvacSpot → Option ℕ
+unit_looks (evac.Resolving address end next at) = resolve_looks at
+unit_looks _ = None
+
+abbrev pub make_looks : ℕ → MakeSpot → Option ℕ
+make_looks words (make.Taking take) = take_looks words take
+make_looks words _ = None
+
+abbrev pub call_looks : Kept → Spot → Option ℕ
+call_looks kept (Making at) = make_looks (words_of kept.command) at
+call_looks kept (Resolving address at next) = resolve_looks at
+call_looks kept _ = None
+
+abbrev pub help_looks : HelpSpot → Option ℕ
+help_looks (help.Evacuating cset at) = unit_looks at
+help_looks _ = None
+
+abbrev pub control_looks : ControlSpot → Option ℕ
+control_looks (control.Evacuating cset at) = unit_looks at
+control_looks _ = None
+
+abbrev pub looks_for : Machine → Option ℕ
+looks_for (mutating m) = call_looks m.kept m.spot
+looks_for (helping h) = help_looks h.spot
+looks_for (controlling k) = control_looks k.spot
+
+-- The ghost state has of the seat what its machine does, and no room is the seat's but what its machine has in hand. Who is about to look
+-- for a free region has a current one with less room than it wants, or none.
 pub record IsInSeat (c : Config) (w : World) (seat : ℕ) (machine : Machine) : Type 0 where
   pub records : w.ghost.recording seat ≡ records_of machine
   pub scans : w.ghost.scanning seat ≡ scan_of c machine
   pub copies : w.ghost.copying seat ≡ copies_of machine
   pub works : w.ghost.working seat ≡ unit_of c machine
   pub hands : (a words : ℕ) → w.block a ≡ Some (hand seat words) → HasRoom machine a words
+  pub lacks : (words : ℕ) → looks_for machine ≡ Some words → HasLess c w.memory seat words
 
 -- the object that a call works on, or is about to show, by an address that was resolved if that was needed
 abbrev pub before_record : Overwritten → Option ℕ

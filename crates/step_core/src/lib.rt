@@ -4,27 +4,25 @@
 
 mod opening;
 
-ghost use Rattle.std.specs.Prelude.{ℕ, ◌≡◌, ◌<◌, true, List};
+ghost use Rattle.std.specs.Prelude.{ℕ, ◌≡◌, ◌<◌, true, List, Some, slice_get};
 ghost use Rattle.heap_words.specs.declared.config.Config.{Config};
 ghost use Rattle.heap_words.specs.Access.{table_index};
 ghost use Rattle.heap_words.specs.Words.{End, view, table_words};
 ghost use Rattle.steps_base.specs.Steps.{Stage, Event, go, HasReached, Finds};
 ghost use Rattle.shen_graph.specs.declared.order.Order.{Order};
 ghost use Rattle.shen_graph.specs.Graph.{Graph};
-ghost use Rattle.alloc_buffers.specs.declared.spot.TakeSpot.TheVariants.{LoadFree};
 ghost use Rattle.alloc_buffers.specs.Facts.{HasLess};
-ghost use Rattle.mutator.specs.declared.spot.Spot.TheVariants.{Making};
-ghost use Rattle.mutator.specs.declared.makes.MakeSpot.TheVariants.{Taking};
-ghost use Rattle.mutator.specs.Rows.{Mutating, words_of};
 ghost use Rattle.heap_world.specs.Change.{Change, IsPause};
-ghost use Rattle.step_core.specs.Actor.{Actor};
+ghost use Rattle.control_steps.specs.Rows.{Controlling};
+ghost use Rattle.step_core.specs.Actor.{Actor, controlling};
 ghost use Rattle.step_core.specs.Machines.{takes_of, plan_of, kind, IsFitFor};
 ghost use Rattle.step_core.specs.Settled.{settled};
 ghost use Rattle.step_core.specs.History.{history};
 ghost use Rattle.step_core.specs.Opening.{opening};
 ghost use Rattle.step_core.specs.Begins.{Begins, first_graph};
-ghost use Rattle.step_core.specs.Pausing.{IsInPause, IsEmpty};
-ghost use Rattle.step_core.specs.Sound.{IsMutator, IsSound};
+ghost use Rattle.step_core.specs.Pausing.{IsInPause, IsEmpty, IsAim};
+ghost use Rattle.step_core.specs.Seats.{looks_for};
+ghost use Rattle.step_core.specs.Sound.{IsSound};
 ghost use Rattle.step_core.specs.Ending.{has_ended};
 ghost use Rattle.handshake.specs.Ending.{IsEndWord};
 
@@ -66,7 +64,14 @@ pub fn end_is_known()
     ensures { (change : Change) → IsPause change → (c : Config) (s : Stage Actor) (g : Graph) → Begins c s g → view c s.words End ≡ 0 → (events : List (Event Order)) → IsEndWord c has_ended (go (kind change c) s events) }
 {}
 
-/// A law: a mutator that is about to look for a free region has a current region with less room than it wants, or none.
+/// A law: a machine that is about to look for a free region, for a new object or for a copy, has a current region with less room than it
+/// wants, or none.
 pub fn looks_for_room_in_need()
-    ensures { (change : Change) → IsPause change → (c : Config) (s : Stage Actor) (g : Graph) → Begins c s g → (events : List (Event Order)) (number : ℕ) (a : Actor) (m : Mutating) → IsMutator (go (kind change c) s events) number a m → m.spot ≡ Making (Taking LoadFree) → HasLess c (settled c (go (kind change c) s events)) m.seat (words_of m.kept.command) }
+    ensures { (change : Change) → IsPause change → (c : Config) (s : Stage Actor) (g : Graph) → Begins c s g → (events : List (Event Order)) (number : ℕ) (a : Actor) (words : ℕ) → slice_get (go (kind change c) s events).machines number ≡ Some a → looks_for a.machine ≡ Some words → HasLess c (settled c (go (kind change c) s events)) number words }
+{}
+
+/// A law: of the image the control has, while it loads its words, exactly those that it has loaded as the table has them, and while it
+/// stores the new ones the first of them are the table's.
+pub fn read_words_are_the_tables()
+    ensures { (change : Change) → IsPause change → (c : Config) (s : Stage Actor) (g : Graph) → Begins c s g → (events : List (Event Order)) (number : ℕ) (a : Actor) (k : Controlling) → slice_get (go (kind change c) s events).machines number ≡ Some a → a.machine ≡ controlling k → IsAim c (go (kind change c) s events).words k.spot k.image }
 {}
