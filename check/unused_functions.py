@@ -1,11 +1,12 @@
 #!/usr/bin/env python3
-"""Looks for public functions that nobody calls: no code of a crate names them, but for tests.
+"""Looks for public functions that nobody calls: no code of their crate, or of one that stands on it, but for tests.
 
-usage: unused_functions.py            prints them, with those that only tests call
-       unused_functions.py --check    says whether there is one that is not listed below; it ends with 1 where there is
+usage: unused_functions.py            prints them
+       unused_functions.py --check    the same; it ends with 1 where there is one
 
-Names are told apart by their spelling alone, so a function that has its name in common with one that is called counts as called.
-A law, which is a function without parameters and with an empty body, has its contract as its only use, and is none of them.
+A law, which is a function without parameters and with an empty body, has its contract as its only use, and is none of them; nor is a
+call of PROMISED. A method counts as called where its name stands behind a dot or `::`, so one that shares its name with a method
+that is called, in such a crate, counts as called.
 """
 import os
 import re
@@ -15,37 +16,47 @@ TOP = os.path.dirname(os.path.dirname(os.path.abspath(__file__)))
 CRATES = os.path.join(TOP, "crates")
 # Crates of tests alone: a call there is no use.
 TESTS = {"word_tests", "heap_tests"}
-# Calls that users of the libraries are promised, whether or not the programs of this repository make them.
-PROMISED = set(
-    """
-    apply reach objects_made
-    region_words reserve seats
-    new place plan took answer
-    close_marks live_words copy_out update_all serve answer_graph resolve
-    init_mark final_mark choose begin_evac init_update final_update finish full
-    begin step reply word graph run part join close open
-    every_history
-    """.split()
-)
-FUNCTION = re.compile(r"^[ ]*pub (?:const )?(?:unsafe )?fn (\w+)", re.M)
+# Calls that users of the libraries are promised, whether or not a program of this repository makes them: the graph by itself, the
+# parts as machines by themselves, a trace written, the calls of an image one by one, a heap that goes on from an image; and the
+# verifier of images, and the sink in memory, that tests use.
+PROMISED = {"apply", "reach", "is_valid", "is_done", "answer", "write_trace", "serve", "open_from", "with_room", "stands"}
+FUNCTION = re.compile(r"^([ ]*)pub (?:const )?(?:unsafe )?fn (\w+)", re.M)
+
+
+def text_of(path):
+    with open(path, encoding="utf-8") as file:
+        return file.read()
 
 
 def blanked(text):
-    """Text of a file with comments, strings and test modules blanked, of the same length."""
-    text = re.sub(r"//[^\n]*|\"(?:\\.|[^\"\\])*\"|'(?:\\.|[^'\\])'", lambda it: re.sub(r"[^\n]", " ", it[0]), text)
-    tests = text.find("#[cfg(test)]\nmod tests {")
-    return text if tests < 0 else text[:tests]
+    """Text of a file with comments and strings blanked, of the same length."""
+    return re.sub(r"//[^\n]*|\"(?:\\.|[^\"\\])*\"|'(?:\\.|[^'\\])'", lambda it: re.sub(r"[^\n]", " ", it[0]), text)
 
 
 def files():
-    """Of each file of a crate's sources: the crate, the path from the top, and its text; tests apart."""
-    for crate in sorted(os.listdir(CRATES)):
+    """Of each file of a crate's sources but tests: the crate, the path from the top, and its text."""
+    for crate in sorted(set(os.listdir(CRATES)) - TESTS):
         for at, _, names in sorted(os.walk(os.path.join(CRATES, crate, "src"))):
             for name in sorted(names):
-                if name.endswith(".rt") and name != "tests.rt":
+                if name.endswith(".rt") and name not in ("tests.rt", "gates.rt"):
                     path = os.path.join(at, name)
-                    with open(path, encoding="utf-8") as file:
-                        yield crate, os.path.relpath(path, TOP), blanked(file.read())
+                    yield crate, os.path.relpath(path, TOP), blanked(text_of(path))
+
+
+def users():
+    """The crates that stand on each crate, itself among them."""
+    rows = [row.split("#")[0].partition(":") for row in text_of(os.path.join(TOP, "crates.txt")).splitlines()]
+    direct = {head.split()[0]: names.split() for head, _, names in rows if head.strip()}
+    found = {name: {name} for name in direct}
+    # (as often as chains are long, until nothing is added)
+    while True:
+        before = sum(map(len, found.values()))
+        for name, names in direct.items():
+            for it in found:
+                if it in names or any(other in found[it] for other in names):
+                    found[it].add(name)
+        if before == sum(map(len, found.values())):
+            return found
 
 
 def is_law(text, at):
@@ -57,34 +68,39 @@ def is_law(text, at):
     for here in range(opens, len(text)):
         depth += text[here] == "{"
         depth -= text[here] == "}"
-        # (the braces of clauses are followed by further clauses or by the body)
+        # (the brackets of a clause have a further clause or the body behind them)
         if text[here] == "}" and depth == 0 and not re.match(r"\s*(?:\{|ensures|requires)", text[here + 1 :]):
             return not text[text.rindex("{", 0, here) + 1 : here].strip()
     return False
+
+
+def calls(indent, name, text):
+    """How often a file calls it."""
+    text = re.sub(r"\buse [^;]*;|\bfn \w+", "", text)
+    return len(re.findall(rf"(?:\.|::){name}\b" if indent else rf"\b{name}\b", text))
 
 
 def main():
     if sys.argv[1:] not in ([], ["--check"]):
         print("usage: unused_functions.py [--check]", file=sys.stderr)
         return 2
-    public, named, tested = [], {}, {}
-    for crate, path, text in files():
+    texts, above = list(files()), users()
+    public, promised, left = 0, 0, 0
+    for crate, path, text in texts:
         for found in FUNCTION.finditer(text):
-            if crate not in TESTS and not is_law(text, found.end()):
-                public.append((found[1], path, text.count("\n", 0, found.start(1)) + 1))
-        uses = tested if crate in TESTS else named
-        # What hands a name on uses it no more than what defines it.
-        text = re.sub(r"\buse [^;]*;", "", text)
-        text = re.sub(r"\bfn \w+", "", text)
-        for word in re.findall(r"\w+", text):
-            uses[word] = uses.get(word, 0) + 1
-    unused = [it for it in public if it[0] not in named]
-    listed = [it for it in unused if it[0] in PROMISED]
-    left = [it for it in unused if it[0] not in PROMISED]
-    for name, path, line in left:
-        print(f"{path}:{line}: `{name}` is called by {'tests alone' if name in tested else 'nobody'}")
+            indent, name = found.groups()
+            if is_law(text, found.end()):
+                continue
+            public += 1
+            if any(calls(indent, name, other) for user, _, other in texts if user in above[crate]):
+                continue
+            if name in PROMISED:
+                promised += 1
+                continue
+            left += 1
+            print(f"{path}:{text.count(chr(10), 0, found.start(2)) + 1}: nobody calls `{name}`")
     if not left:
-        print(f"each of {len(public)} public functions is called by code, but for {len(listed)} that users are promised")
+        print(f"each of {public} public functions is called by code, but for {promised} that users are promised")
     return 1 if left and sys.argv[1:] else 0
 
 
