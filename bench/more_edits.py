@@ -4,8 +4,8 @@
 usage: more_edits.py [NAME..]    tries them, and notes in bench/edits/tried.txt each crate of which every edit was refused
        more_edits.py --check     says of which crates the edits have to be tried again; it ends with 1 where there are such
 
-The gate tries the edits of crates/NAME/must-fail, three or more for each crate with code. Those here show what is close to what one
-of those shows, and each must be refused too. Whether it is depends on the crate's text, on what it and the crates below it
+The gate tries the edits of crates/NAME/must-fail, three or more for each crate with code. Those here each show what no other shows, and
+must be refused too. Whether one is depends on the crate's text, on what it and the crates below it
 define in specs/, and on the edits; bench/edits/tried.txt has a checksum of these, so that a crate whose text or definitions changed
 is tried again before the change can land. Contracts that a crate below has in its own text are not in it. The file is a record that
 whoever runs this leaves, and proves nothing: the gate itself tries none of these edits.

@@ -1,5 +1,5 @@
 #!/usr/bin/env python3
-"""Looks whether the lines `// keeps NAME` of the code and the invariants of docs/ARCHITECTURE.md go together.
+"""Looks whether the lines `// keeps NAME` of the code and the invariants of docs/INVARIANTS.md go together.
 
 usage: keeps.py --check    says whether they do; it ends with 1 where not
 
@@ -7,10 +7,10 @@ Such a line says which invariants an access has to keep: `// keeps A`, `// keeps
 one. An access may have several of them. The rules:
 
 1. Directly above each access that writes, in the crates of MACHINES, stands such a line.
-2. Each name in such a line stands in backticks in the part "The invariants" of the page, and is defined in exactly that spelling, in
+2. Each name in such a line stands in backticks on the page, and is defined in exactly that spelling, in
    specs/ of one crate; or in proofs/ of one, if in no specs/. `Record.field` is a field of a record that is defined so. A name that
    several crates define is followed by `of CRATE`, in the line and on the page.
-3. Each name in the brackets behind the bold head of an invariant of that part stands in such a line. So a fact that no access has to
+3. Each name in the brackets behind the bold head of an invariant there stands in such a line. So a fact that no access has to
    keep has no brackets there: its name stands in the text.
 """
 import os
@@ -18,9 +18,9 @@ import re
 import sys
 
 TOP = os.path.dirname(os.path.dirname(os.path.abspath(__file__)))
-PAGE = os.path.join(TOP, "docs", "ARCHITECTURE.md")
+PAGE = os.path.join(TOP, "docs", "INVARIANTS.md")
 # The crates whose code makes the accesses of the heap's machines.
-MACHINES = "alloc_buffers control_steps evac_room handshake helper load_barrier mark_bits mutator satb_barrier scan_steps update_refs".split()
+MACHINES = "alloc_buffers control_rows evac_room handshake helper load_barrier mutator regions satb_barrier scan_part update_part".split()
 LINE = re.compile(r"^\s*// keeps (.*)$")
 WRITE = re.compile(r"\bAccess::(?:Store|Swap|Exchange|And|Or|Add|Sub) \{")
 NAME = re.compile(r"([A-Za-z]\w*(?:\.\w+)?)(?: of (\w+))?")
@@ -68,7 +68,7 @@ def main():
         print("usage: keeps.py --check", file=sys.stderr)
         return 2
     with open(PAGE, encoding="utf-8") as file:
-        part = re.search(r"^## The invariants\n(.*?)^## ", file.read(), re.M | re.S)[1]
+        part = file.read()
     on_page = {told(*it.groups()) for it in PAGE_NAME.finditer(part)}
     in_heads = {told(*it.groups()) for head in HEAD.finditer(part) for it in PAGE_NAME.finditer(head[1])}
     specs, proofs = definitions("specs"), definitions("proofs")
@@ -92,17 +92,17 @@ def main():
                     kept.add(item)
                     by = specs.get(name[1]) or proofs.get(name[1]) or set()
                     if item not in on_page:
-                        wrong.append(f"{path}:{number}: `{item}` is no invariant of docs/ARCHITECTURE.md")
+                        wrong.append(f"{path}:{number}: `{item}` is no invariant of docs/INVARIANTS.md")
                     if not by or name[2] and name[2] not in by:
                         wrong.append(f"{path}:{number}: no crate defines `{item}`")
                     elif len(by) > 1 and not name[2]:
                         wrong.append(f"{path}:{number}: `{item}` of which of {', '.join(sorted(by))}?")
     for name in sorted(in_heads - kept):
-        wrong.append(f"docs/ARCHITECTURE.md: `{name}` stands behind the head of an invariant, and no line says that an access keeps it")
+        wrong.append(f"docs/INVARIANTS.md: `{name}` stands behind the head of an invariant, and no line says that an access keeps it")
     for it in wrong:
         print(it)
     if not wrong:
-        print(f"{lines_there} lines say what {writes} accesses keep, and name {len(kept)} facts of docs/ARCHITECTURE.md")
+        print(f"{lines_there} lines say what {writes} accesses keep, and name {len(kept)} facts of docs/INVARIANTS.md")
     return 1 if wrong else 0
 
 
