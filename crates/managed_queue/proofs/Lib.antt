@@ -6,3 +6,4 @@ pub mod Lookups
 pub mod Steps
 pub mod Rising
 pub mod Playing
+pub mod Table

@@ -7,6 +7,10 @@
 #![tactic(auto)]
 
 pub mod laws;
+mod operation;
 mod spot;
+mod user;
 
+pub use operation::{Choice, Course, Put, QueueReply, Take};
 pub use spot::Spot;
+pub use user::{Gotten, Plan, User};
