@@ -1,0 +1,108 @@
+-- What a link makes of the chain, and that others may rely on it.
+use Rattle.std.proofs.Common.{ℕ, zero, suc, ◌≡◌, ◌⊎◌, Some, None, List, [], ◌∷◌, ◌++◌, length, slice_get, refl, sym, ap, ◌∙◌, inl, inr, arith, length-append}
+use Rattle.std.specs.Prelude.{◌≢◌, if◌then◌else◌}
+use Rattle.shen_graph.specs.declared.name.Name.{Name}
+use Rattle.shen_graph.specs.Graph.{hub, same_name}
+use Rattle.shen_graph.proofs.PlainLemmas.{same_name-itself}
+use Rattle.managed_queue.proofs.Facts.{Objects, anchor, cell, Chain, IsLinked, IsChain, Rely}
+use Rattle.managed_queue.proofs.Facts.IsLinked.{inner, end}
+use Rattle.managed_queue.proofs.Moves.{but, but_here, but_there, by_name, apart_by_tag, next_apart, places_apart, made_but}
+
+-- numbers with one more at their end
+
+pub kept_number : (xs ys : List ℕ) (i value : ℕ) → slice_get xs i ≡ Some value → slice_get (xs ++ ys) i ≡ Some value
+kept_number [] ys i value is = let never : None ≡ Some value = is in absurd cc
+kept_number (x ∷ xs) ys zero value is = is
+kept_number (x ∷ xs) ys (suc i) value is = kept_number xs ys i value is
+
+pub last_number : (xs : List ℕ) (i value : ℕ) → length xs ≡ i → slice_get (xs ++ value ∷ []) i ≡ Some value
+last_number [] zero value long = refl
+last_number [] (suc i) value long = let never : 0 ≡ suc i = long in absurd (omega (arith, never))
+last_number (x ∷ xs) zero value long = absurd (omega (arith, long))
+last_number (x ∷ xs) (suc i) value long = last_number xs i value (omega (arith, long))
+
+-- a name is behind the last
+abbrev pub with_last : Chain → Name → ℕ → Chain
+with_last w name value = record w {
+  place = λ n. if same_name n name then Some (suc w.last) else w.place n;
+  numbers = w.numbers ++ value ∷ [];
+  last = suc w.last;
+}
+
+-- what has a place is the new one, or had it
+was_placed : (w : Chain) (name : Name) (value : ℕ) (n : Name) (i : ℕ) → (with_last w name value).place n ≡ Some i → ((n ≡ name) × (i ≡ suc w.last)) ⊎ (w.place n ≡ Some i)
+was_placed w name value n i =
+    by_name (λ p. p ≡ Some i → ((n ≡ name) × (i ≡ suc w.last)) ⊎ (w.place n ≡ Some i)) n name (Some (suc w.last)) (w.place n) (λ same is. inl (same, cc)) (λ other is. inr is)
+
+still_placed : (w : Chain) (name : Name) (value : ℕ) (n : Name) (i : ℕ) → w.place name ≡ None → w.place n ≡ Some i → (with_last w name value).place n ≡ Some i
+still_placed w name value n i none at = by_name (λ p. p ≡ Some i) n name (Some (suc w.last)) (w.place n) (λ e. absurd (places_apart w n name i at none e)) (λ _. at)
+
+now_placed : (w : Chain) (name : Name) (value : ℕ) → (with_last w name value).place name ≡ Some (suc w.last)
+now_placed w name value = ap (λ b. if b then Some (suc w.last) else w.place name) (same_name-itself name)
+
+abbrev linking : Objects → Name → Name → ℕ → Objects
+linking object n m value = but object n (cell (Some m) value)
+
+-- Node n is the last, and m, which is off the chain, is linked behind it.
+pub record CanLink (object : Objects) (w : Chain) (n m : Name) (old value : ℕ) : Type 0 where
+  pub at : w.place n ≡ Some w.last
+  pub whole : object n ≡ Some (cell None old)
+  pub number : slice_get w.numbers w.last ≡ Some old
+  pub none : w.place m ≡ None
+  pub fresh : object m ≡ Some (cell None value)
+
+links_on : (object : Objects) (count : ℕ → ℕ) (w : Chain) (n m : Name) (old value : ℕ) → IsChain object count w → CanLink object w n m old value → (k : Name) (i : ℕ) → w.place k ≡ Some i
+    → IsLinked object w.place w.numbers w.last k i
+    → IsLinked (linking object n m old) (with_last w m value).place (with_last w m value).numbers (suc w.last) k i
+links_on object count w n m old value chain can k i at (inner next v is next_at number) =
+    inner next v (but_there object n _ k _ (next_apart object k n next v old is can.whole) is) (still_placed w m value next (suc i) can.none next_at) (kept_number w.numbers _ i v number)
+links_on object count w n m old value chain can k i at (end v is last number) =
+    let here : w.place k ≡ Some w.last = at ∙ ap Some last in
+    let same : k ≡ n = chain.once k n w.last here can.at in
+    let kept : slice_get w.numbers i ≡ Some old = ap (slice_get w.numbers) last ∙ can.number in
+    inner m old (ap (linking object n m old) same ∙ but_here object n _) (now_placed w m value ∙ ap (λ j. Some (suc j)) (sym last)) (kept_number w.numbers _ i old kept)
+
+linked_new : (object : Objects) (count : ℕ → ℕ) (w : Chain) (n m : Name) (old value : ℕ) → IsChain object count w → CanLink object w n m old value → (k : Name) (i : ℕ) → k ≡ m → i ≡ suc w.last
+    → IsLinked (linking object n m old) (with_last w m value).place (with_last w m value).numbers (suc w.last) k i
+linked_new object count w n m old value chain can k i same last =
+    let apart : m ≢ n = λ e. places_apart w n m w.last can.at can.none (sym e) in
+    end value (ap (linking object n m old) same ∙ but_there object n _ m _ apart can.fresh) last (last_number w.numbers i value (chain.size ∙ sym last))
+
+pub link_chain : (object : Objects) (count : ℕ → ℕ) (w : Chain) (n m : Name) (old value : ℕ) → IsChain object count w → CanLink object w n m old value → IsChain (linking object n m old) count (with_last w m value)
+link_chain object count w n m old value chain can = record {
+  hub_is = but_there object n _ hub _ (apart_by_tag object hub n _ _ chain.hub_is can.whole (λ (e : 16 ≡ 1). omega (arith, e))) chain.hub_is;
+  anchor_is = but_there object n _ anchor _ (apart_by_tag object anchor n _ _ chain.anchor_is can.whole (λ (e : 2 ≡ 1). omega (arith, e))) chain.anchor_is;
+  front_at = still_placed w m value w.front w.head can.none chain.front_at;
+  back_at = still_placed w m value w.back w.tail can.none chain.back_at;
+  order = chain.order;
+  size = length-append w.numbers (value ∷ []) ∙ omega (arith, chain.size);
+  within = λ k i at. elim (was_placed w m value k i at) [ inl new ↦ omega (arith, new.1) | inr old ↦ let low = chain.within k i old in omega (arith, low) ];
+  once = λ k j i k_at j_at. one_name k j i (was_placed w m value k i k_at) (was_placed w m value j i j_at);
+  linked = λ k i at. elim (was_placed w m value k i at) [
+    | inl new ↦ linked_new object count w n m old value chain can k i new.0 new.1
+    | inr there ↦ links_on object count w n m old value chain can k i there (chain.linked k i there)
+  ];
+  made = made_but object count n _ _ chain.made can.whole;
+}
+  where
+    one_name : (k j : Name) (i : ℕ) → ((k ≡ m) × (i ≡ suc w.last)) ⊎ (w.place k ≡ Some i) → ((j ≡ m) × (i ≡ suc w.last)) ⊎ (w.place j ≡ Some i) → k ≡ j
+    one_name k j i (inl a) (inl b) = a.0 ∙ sym b.0
+    one_name k j i (inl a) (inr b) = let low = chain.within j i b in absurd (omega (arith, low, a.1))
+    one_name k j i (inr a) (inl b) = let low = chain.within k i a in absurd (omega (arith, low, b.1))
+    one_name k j i (inr a) (inr b) = chain.once k j i a b
+
+pub link_rely : (u : ℕ) (object : Objects) (count : ℕ → ℕ) (w : Chain) (n m : Name) (old value : ℕ) → IsChain object count w → CanLink object w n m old value → m.thread ≢ u → Rely u object w (linking object n m old) (with_last w m value)
+link_rely u object count w n m old value chain can other = record {
+  places = λ k i at. still_placed w m value k i can.none at;
+  numbers = λ i v is. kept_number w.numbers _ i v is;
+  inner = λ k next i v at is. but_there object n _ k _ (next_apart object k n next v old is can.whole) is;
+  own = λ k v mine apart is. but_there object n _ k _ (λ same. places_apart w n k w.last can.at apart (sym same)) is;
+  apart = λ k v mine apart is. by_name (λ p. p ≡ None) k m (Some (suc w.last)) (w.place k) (λ same. absurd (other (ap (λ (x : Name). x.thread) (sym same) ∙ mine))) (λ _. apart);
+  heads = omega arith;
+  tails = omega arith;
+}
+
+-- where the new node is
+pub link_edge : (object : Objects) (w : Chain) (n m : Name) (old value : ℕ) → CanLink object w n m old value
+    → ((with_last w m value).place n ≡ Some w.last) × ((with_last w m value).place m ≡ Some (suc w.last)) × (linking object n m old n ≡ Some (cell (Some m) old))
+link_edge object w n m old value can = (still_placed w m value n w.last can.none can.at, now_placed w m value, but_here object n _)

@@ -1,0 +1,141 @@
+-- What the kinds of steps make of the chain, and that others may rely on it.
+use Rattle.std.proofs.Common.{ℕ, ◌≡◌, ◌≤◌, ◌⊎◌, true, false, Option, Some, None, length, get_or, refl, sym, ap, ◌∙◌, inl, inr, arith}
+use Rattle.std.specs.Prelude.{◌≢◌, Bool, if◌then◌else◌}
+use Rattle.std.proofs.lemmas.Bool.{false≢true}
+use Rattle.shen_graph.specs.declared.name.Name.{Name}
+use Rattle.shen_graph.specs.Graph.{Object, Reference, hub, same_name}
+use Rattle.shen_graph.proofs.PlainLemmas.{same_name-true, same_name-itself}
+use Rattle.managed_queue.proofs.Facts.{Objects, anchor, cell, ends, Chain, IsLinked, IsChain, AreMade, Rely}
+use Rattle.managed_queue.proofs.Facts.IsLinked.{inner, end}
+
+-- one object is another
+abbrev pub but : Objects → Name → Object → Objects
+but object name o = λ n. if same_name n name then Some o else object n
+
+pub same_or_not : (m n : Name) → (m ≡ n) ⊎ (m ≢ n)
+same_or_not m n = at (same_name m n) refl
+  where
+    at : (b : Bool) → same_name m n ≡ b → (m ≡ n) ⊎ (m ≢ n)
+    at true is = inl (same_name-true m n is)
+    at false is = inr (λ e. false≢true (sym is ∙ ap (λ x. same_name x n) e ∙ same_name-itself n))
+
+-- by which name it is
+pub by_name : {A : Type 0} (P : A → Type 0) (m n : Name) (a b : A) → (m ≡ n → P a) → (m ≢ n → P b) → P (if same_name m n then a else b)
+by_name {A} P m n a b same other = at (same_name m n) refl
+  where
+    at : (c : Bool) → same_name m n ≡ c → P (if c then a else b)
+    at true is = same (same_name-true m n is)
+    at false is = other (λ e. false≢true (sym is ∙ ap (λ x. same_name x n) e ∙ same_name-itself n))
+
+pub but_here : (object : Objects) (name : Name) (o : Object) → but object name o name ≡ Some o
+but_here object name o = ap (λ b. if b then Some o else object name) (same_name-itself name)
+
+pub but_there : (object : Objects) (name : Name) (o : Object) (n : Name) (x : Option Object) → n ≢ name → object n ≡ x → but object name o n ≡ x
+but_there object name o n x apart is = by_name (λ y. y ≡ x) n name (Some o) (object n) (λ e. absurd (apart e)) (λ _. is)
+
+-- how many fields: nodes, the anchor and the hub are apart by it
+abbrev pub tag : Option Object → ℕ
+tag None = 0
+tag (Some o) = length o.refs
+
+pub apart_by_tag : (object : Objects) (m n : Name) (a b : Object) → object m ≡ Some a → object n ≡ Some b → length a.refs ≢ length b.refs → m ≢ n
+apart_by_tag object m n a b m_is n_is differ same = differ (ap tag (sym m_is) ∙ ap (λ x. tag (object x)) same ∙ ap tag n_is)
+
+-- what the first field names
+abbrev pub next_in : Option Object → Reference
+next_in None = None
+next_in (Some o) = get_or o.refs 0 None
+
+pub next_apart : (object : Objects) (m n next : Name) (a b : ℕ) → object m ≡ Some (cell (Some next) a) → object n ≡ Some (cell None b) → m ≢ n
+next_apart object m n next a b m_is n_is same = let never : Some next ≡ None = ap next_in (sym m_is) ∙ ap (λ x. next_in (object x)) same ∙ ap next_in n_is in absurd cc
+
+-- the same place or none
+pub places_apart : (w : Chain) (m n : Name) (i : ℕ) → w.place m ≡ Some i → w.place n ≡ None → m ≢ n
+places_apart w m n i is none same = let never : Some i ≡ None = sym is ∙ ap w.place same ∙ none in absurd cc
+
+pub same_place : (w : Chain) (m n : Name) (i j : ℕ) → w.place m ≡ Some i → w.place n ≡ Some j → m ≡ n → i ≡ j
+same_place w m n i j m_at n_at same = let e : Some i ≡ Some j = sym m_at ∙ ap w.place same ∙ n_at in cc
+
+-- nothing changes
+pub stays : (u : ℕ) (object : Objects) (w : Chain) → Rely u object w object w
+stays u object w = record {
+  places = λ n i is. is;
+  numbers = λ i value is. is;
+  inner = λ n next i value at is. is;
+  own = λ n value mine apart is. is;
+  apart = λ n value mine apart is. apart;
+  heads = omega arith;
+  tails = omega arith;
+}
+
+-- an object off the chain is made or filled
+
+linked_but : (object : Objects) (w : Chain) (name : Name) (o : Object) (n : Name) (i : ℕ) → n ≢ name → IsLinked object w.place w.numbers w.last n i → IsLinked (but object name o) w.place w.numbers w.last n i
+linked_but object w name o n i other (inner next value is at number) = inner next value (but_there object name o n _ other is) at number
+linked_but object w name o n i other (end value is at number) = end value (but_there object name o n _ other is) at number
+
+pub chain_but : (object : Objects) (count count' : ℕ → ℕ) (w : Chain) (name : Name) (o : Object) → IsChain object count w → w.place name ≡ None → hub ≢ name → anchor ≢ name → AreMade (but object name o) count'
+    → IsChain (but object name o) count' w
+chain_but object count count' w name o chain none not_hub not_anchor made = record {
+  hub_is = but_there object name o hub _ not_hub chain.hub_is;
+  anchor_is = but_there object name o anchor _ not_anchor chain.anchor_is;
+  front_at = chain.front_at;
+  back_at = chain.back_at;
+  order = chain.order;
+  size = chain.size;
+  within = chain.within;
+  once = chain.once;
+  linked = λ n i at. linked_but object w name o n i (places_apart w n name i at none) (chain.linked n i at);
+  made = made;
+}
+
+pub rely_but : (u : ℕ) (object : Objects) (w : Chain) (name : Name) (o : Object) → w.place name ≡ None → name.thread ≢ u → Rely u object w (but object name o) w
+rely_but u object w name o none other = record {
+  places = λ n i is. is;
+  numbers = λ i value is. is;
+  inner = λ n next i value at is. but_there object name o n _ (places_apart w n name i at none) is;
+  own = λ n value mine apart is. but_there object name o n _ (λ e. other (ap (λ (x : Name). x.thread) (sym e) ∙ mine)) is;
+  apart = λ n value mine apart is. apart;
+  heads = omega arith;
+  tails = omega arith;
+}
+
+-- an object is another, and all was made before
+pub made_but : (object : Objects) (count : ℕ → ℕ) (name : Name) (o old : Object) → AreMade object count → object name ≡ Some old → AreMade (but object name o) count
+made_but object count name o old made is n x = by_name (λ y. y ≡ Some x → (n ≡ hub) ⊎ (n.count ≤ count n.thread)) n name (Some o) (object n) (λ e _. made n old (ap object e ∙ is)) (λ _ here. made n x here)
+
+-- the anchor names other nodes
+
+abbrev pub with_ends : Chain → ℕ → ℕ → Name → Name → Chain
+with_ends w head tail front back = record w { head = head; tail = tail; front = front; back = back }
+
+pub ends_chain : (object : Objects) (count : ℕ → ℕ) (w : Chain) (head tail : ℕ) (front back : Name) → IsChain object count w → w.place front ≡ Some head → w.place back ≡ Some tail → head ≤ tail
+    → IsChain (but object anchor (ends (Some front) (Some back))) count (with_ends w head tail front back)
+ends_chain object count w head tail front back chain front_at back_at order = record {
+  hub_is = but_there object anchor (ends (Some front) (Some back)) hub _ (λ e. let never : 0 ≡ 1 = ap (λ (x : Name). x.thread) e in omega (arith, never)) chain.hub_is;
+  anchor_is = but_here object anchor (ends (Some front) (Some back));
+  front_at = front_at;
+  back_at = back_at;
+  order = order;
+  size = chain.size;
+  within = chain.within;
+  once = chain.once;
+  linked = λ n i at. linked_but object w anchor (ends (Some front) (Some back)) n i (node_apart n i (chain.linked n i at)) (chain.linked n i at);
+  made = made_but object count anchor (ends (Some front) (Some back)) _ chain.made chain.anchor_is;
+}
+  where
+    node_apart : (n : Name) (i : ℕ) → IsLinked object w.place w.numbers w.last n i → n ≢ anchor
+    node_apart n i (inner next value is at number) = apart_by_tag object n anchor _ _ is chain.anchor_is (λ (e : 1 ≡ 2). omega (arith, e))
+    node_apart n i (end value is at number) = apart_by_tag object n anchor _ _ is chain.anchor_is (λ (e : 1 ≡ 2). omega (arith, e))
+
+pub ends_rely : (u : ℕ) (object : Objects) (count : ℕ → ℕ) (w : Chain) (head tail : ℕ) (front back : Name) → IsChain object count w → w.head ≤ head → w.tail ≤ tail
+    → Rely u object w (but object anchor (ends (Some front) (Some back))) (with_ends w head tail front back)
+ends_rely u object count w head tail front back chain heads tails = record {
+  places = λ n i is. is;
+  numbers = λ i value is. is;
+  inner = λ n next i value at is. but_there object anchor (ends (Some front) (Some back)) n _ (apart_by_tag object n anchor _ _ is chain.anchor_is (λ (e : 1 ≡ 2). omega (arith, e))) is;
+  own = λ n value mine apart is. but_there object anchor (ends (Some front) (Some back)) n _ (apart_by_tag object n anchor _ _ is chain.anchor_is (λ (e : 1 ≡ 2). omega (arith, e))) is;
+  apart = λ n value mine apart is. apart;
+  heads = heads;
+  tails = tails;
+}

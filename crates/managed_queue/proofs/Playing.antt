@@ -1,0 +1,136 @@
+-- All entries of a history, one after the other.
+use Rattle.std.proofs.Common.{ℕ, ◌≡◌, Bool, true, false, List, [], ◌∷◌, ◌++◌, refl, sym, ap, ◌∙◌, subst, inl, inr, append_assoc, append-nil}
+use Rattle.std.specs.Prelude.{◌≢◌, ◌==◌, if◌then◌else◌}
+use Rattle.std.proofs.lemmas.Bool.{cases_eq, ne_eqb}
+use Rattle.shen_graph.specs.declared.command.Command.{Command}
+use Rattle.shen_graph.specs.declared.command.Reply.{Reply}
+use Rattle.shen_graph.specs.Graph.{Graph, Reference, opening}
+use Rattle.shen_graph.specs.Step.{Outcome, answers, IsLegal}
+use Rattle.shen_graph.specs.History.{Entry, after_entry, of_thread, EachIsLegal}
+use Rattle.managed_queue.specs.declared.spot.Spot.{Spot}
+use Rattle.managed_queue.specs.declared.spot.Spot.TheVariants.{MakesAnchor, Joins}
+use Rattle.managed_queue.specs.Spots.{Operation, IsNext, IsAnswered, next_spot, fixed_at, ended_at, open_at}
+use Rattle.managed_queue.specs.Spots.Operation.{put, got, empty, full}
+use Rattle.managed_queue.specs.Queue.{Leads, puts_of, gots_of, IsPlayed, spot_after, fixed_in, ended_in, moved, fixed, first_spot, EveryHistory}
+use Rattle.managed_queue.proofs.Facts.{Chain, Facts}
+use Rattle.managed_queue.proofs.Stable.{facts_stay}
+use Rattle.managed_queue.proofs.Lookups.{eqb_itself}
+use Rattle.managed_queue.proofs.Steps.{waiting, Goes, goes}
+use Rattle.managed_queue.proofs.Rising.{goes_on, on_here, on_there, State, rises, rising_opening}
+use Rattle.managed_queue.proofs.Rising.State.{rising, shown}
+
+-- one step of one thread
+pub record Steps (g : Graph) (spots : ℕ → Spot) (queue : List ℕ) (t : ℕ) (c : Command) (o : Outcome) : Type 0 where
+  pub queue' : List ℕ
+  pub state : State o.graph (goes_on spots t c o.reply) queue'
+  pub run : Leads queue (fixed_at (spots t) o.reply) queue'
+  pub replies : open_at (spots t) ++ fixed_at (spots t) o.reply ≡ ended_at (spots t) o.reply ++ open_at (next_spot (spots t) c o.reply)
+
+-- all users after one's step
+stands : (g : Graph) (spots : ℕ → Spot) (w : Chain) (t : ℕ) (c : Command) (o : Outcome) → ((u : ℕ) → Facts u g.object w (g.root u) (spots u)) → (step : Goes t g w (spots t) c o)
+    → (u : ℕ) → Facts u o.graph.object step.after (o.graph.root u) (goes_on spots t c o.reply u)
+stands g spots w t c o users step u =
+    elim (cases_eq u t) [
+      | inl same ↦ subst (λ (k : ℕ). Facts k o.graph.object step.after (o.graph.root k) (goes_on spots t c o.reply k)) (sym same)
+          (subst (Facts t o.graph.object step.after (o.graph.root t)) (sym (on_here spots t c o.reply)) step.facts)
+      | inr other ↦ subst (Facts u o.graph.object step.after (o.graph.root u)) (sym (on_there spots t c o.reply u other))
+          (subst (λ (root : ℕ → Reference). Facts u o.graph.object step.after root (spots u)) (sym (step.others u other))
+          (facts_stay u g.object w o.graph.object step.after (g.root u) (spots u) (step.rely u other) (users u)))
+    ]
+
+stepped : (g : Graph) (spots : ℕ → Spot) (queue : List ℕ) (t : ℕ) (c : Command) (r : Reply) (h : Graph) → State g spots queue → IsNext (spots t) c → IsAnswered (spots t) r → IsLegal g t c r h → Steps g spots queue t c (answers r h)
+stepped g spots queue t c r h (rising is none) next given legal =
+    let step = rises g spots t c r h is next given legal in
+    record { queue' = []; state = step.0; run = subst (λ (ops : List Operation). Leads queue ops []) (sym step.1) none; replies = step.2 }
+stepped g spots queue t c r h (shown w chain users is) next given legal =
+    let step = goes t g w (spots t) c r h chain (users t) next legal in
+    record {
+      queue' = waiting step.after;
+      state = shown step.after step.chain (stands g spots w t c (answers r h) users step) refl;
+      run = subst (λ (q : List ℕ). Leads q (fixed_at (spots t) r) (waiting step.after)) (sym is) step.run;
+      replies = step.replies;
+    }
+
+-- a run goes on with another
+leads_join : (queue between left : List ℕ) (a b : List Operation) → Leads queue a between → Leads between b left → Leads queue (a ++ b) left
+leads_join queue between left [] b is later = subst (λ (q : List ℕ). Leads q b left) (sym is) later
+leads_join queue between left (put value ∷ a) b is later = leads_join (queue ++ value ∷ []) between left a b is later
+leads_join queue between left (got value ∷ a) b is later = (is.0, is.1, leads_join is.0 between left a b is.2 later)
+leads_join queue between left (empty ∷ a) b is later = (is.0, leads_join queue between left a b is.1 later)
+leads_join queue between left (full ∷ a) b is later = leads_join queue between left a b is later
+
+-- the entries of a thread
+
+of_here : (e : Entry) (es : List Entry) → of_thread (e ∷ es) e.thread ≡ e ∷ of_thread es e.thread
+of_here e es = rw (eqb_itself e.thread) refl
+
+of_there : (e : Entry) (es : List Entry) (t : ℕ) → t ≢ e.thread → of_thread (e ∷ es) t ≡ of_thread es t
+of_there e es t apart = rw (ne_eqb e.thread t (λ is. apart (sym is))) refl
+
+-- a thread's replies are those of the run, from a spot on
+abbrev Answers : Spot → List Entry → Type 0
+Answers spot es = open_at spot ++ fixed_in spot es ≡ ended_in spot es ++ open_at (spot_after spot es)
+
+answers_on : (spot : Spot) (e : Entry) (es : List Entry) → open_at spot ++ fixed_at spot e.reply ≡ ended_at spot e.reply ++ open_at (next_spot spot e.command e.reply)
+    → Answers (next_spot spot e.command e.reply) es → Answers spot (e ∷ es)
+answers_on spot e es here later =
+    let next = next_spot spot e.command e.reply in
+    sym (append_assoc (open_at spot) (fixed_at spot e.reply) (fixed_in next es))
+    ∙ ap (λ l. l ++ fixed_in next es) here
+    ∙ append_assoc (ended_at spot e.reply) (open_at next) (fixed_in next es)
+    ∙ ap (λ l. ended_at spot e.reply ++ l) later
+    ∙ sym (append_assoc (ended_at spot e.reply) (ended_in next es) (open_at (spot_after next es)))
+
+pub record Plays (spots : ℕ → Spot) (es : List Entry) (queue : List ℕ) : Type 0 where
+  pub left : List ℕ
+  pub run : Leads queue (fixed spots es) left
+  pub replies : (t : ℕ) → Answers (spots t) (of_thread es t)
+
+pub plays : (es : List Entry) (g : Graph) (spots : ℕ → Spot) (queue : List ℕ) → State g spots queue → EachIsLegal g es → ((t : ℕ) → IsPlayed (spots t) (of_thread es t)) → Plays spots es queue
+plays [] g spots queue state legal played = record { left = queue; run = refl; replies = λ t. append-nil (open_at (spots t)) }
+plays (e ∷ es) g spots queue state legal played =
+    let mine : IsPlayed (spots e.thread) (e ∷ of_thread es e.thread) = subst (IsPlayed (spots e.thread)) (of_here e es) (played e.thread) in
+    let step = stepped g spots queue e.thread e.command e.reply (after_entry g e) state mine.0 mine.1 legal.0 in
+    let ahead : (t : ℕ) → IsPlayed (moved spots e t) (of_thread es t) = λ t. elim (cases_eq t e.thread) [
+      | inl same ↦ subst (λ (k : ℕ). IsPlayed (moved spots e k) (of_thread es k)) (sym same) (subst (λ (s : Spot). IsPlayed s (of_thread es e.thread)) (sym (on_here spots e.thread e.command e.reply)) mine.2)
+      | inr other ↦ subst (λ (s : Spot). IsPlayed s (of_thread es t)) (sym (on_there spots e.thread e.command e.reply t other)) (subst (IsPlayed (spots t)) (of_there e es t other) (played t))
+    ] in
+    let later = plays es (after_entry g e) (moved spots e) step.queue' step.state legal.1 ahead in
+    record {
+      left = later.left;
+      run = leads_join queue step.queue' later.left (fixed_at (spots e.thread) e.reply) (fixed (moved spots e) es) step.run later.run;
+      replies = λ t. elim (cases_eq t e.thread) [
+        | inl same ↦ subst (λ (k : ℕ). Answers (spots k) (of_thread (e ∷ es) k)) (sym same)
+            (subst (Answers (spots e.thread)) (sym (of_here e es))
+            (answers_on (spots e.thread) e (of_thread es e.thread) step.replies
+            (subst (λ (s : Spot). Answers s (of_thread es e.thread)) (on_here spots e.thread e.command e.reply) (later.replies e.thread))))
+        | inr other ↦ subst (Answers (spots t)) (sym (of_there e es t other))
+            (subst (λ (s : Spot). Answers s (of_thread es t)) (on_there spots e.thread e.command e.reply t other) (later.replies t))
+      ];
+    }
+
+-- what was put is what was got, and what is left
+leads_order : (queue left : List ℕ) (ops : List Operation) → Leads queue ops left → queue ++ puts_of ops ≡ gots_of ops ++ left
+leads_order queue left [] is = append-nil queue ∙ is
+leads_order queue left (put value ∷ ops) is = sym (append_assoc queue (value ∷ []) (puts_of ops)) ∙ leads_order (queue ++ value ∷ []) left ops is
+leads_order queue left (got value ∷ ops) is = ap (λ q. q ++ puts_of ops) is.1 ∙ ap (λ l. value ∷ l) (leads_order is.0 left ops is.2)
+leads_order queue left (empty ∷ ops) is = leads_order queue left ops is.1
+leads_order queue left (full ∷ ops) is = leads_order queue left ops is
+
+-- no operation is open where a thread begins
+begins_closed : (t : ℕ) → open_at (first_spot t) ≡ []
+begins_closed t = at (t == 1)
+  where
+    at : (b : Bool) → open_at (if b then MakesAnchor else Joins) ≡ []
+    at true = refl
+    at false = refl
+
+pub every_history : EveryHistory
+every_history threads history some legal played =
+    let all = plays history (opening threads) first_spot [] (rising (rising_opening threads some) refl) legal played in
+    record {
+      left = all.left;
+      run = all.run;
+      order = leads_order [] all.left (fixed first_spot history) all.run;
+      replies = λ t. ap (λ l. l ++ fixed_in (first_spot t) (of_thread history t)) (sym (begins_closed t)) ∙ all.replies t;
+    }

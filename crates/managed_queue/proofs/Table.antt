@@ -1,0 +1,33 @@
+-- The command of the table, and that it is in range.
+use Rattle.std.proofs.Common.{arith}
+use Rattle.shen_graph.specs.Valid.{IsValid}
+use Rattle.managed_queue.specs.declared.spot.Spot.{Spot}
+use Rattle.managed_queue.specs.declared.spot.Spot.TheVariants.{MakesAnchor, MakesFirst, SetsHead, SetsTail, Shows, Joins, Rests, Fills, Looks, Follows, Links, Helps, Swings, Turns, TookHead, TookTail, Compares, Pushes, Reads, Unlinks}
+use Rattle.managed_queue.specs.declared.operation.Choice.{Choice}
+use Rattle.managed_queue.specs.declared.operation.Choice.TheVariants as choice
+use Rattle.managed_queue.specs.Spots.{IsNext}
+use Rattle.managed_queue.specs.Spots.IsNext.{anchor_made, first_made, head_set, tail_set, anchor_shown, joined, put_begun, take_begun, filled, looked, followed, linked, helped, swung, turned, tail_taken, next_taken, compared, pushed, read, unlinked}
+use Rattle.managed_queue.specs.Machines.{command_at}
+
+pub command_is_next : (c : Choice) (s : Spot) → IsNext s (command_at c s)
+command_is_next c MakesAnchor = anchor_made
+command_is_next c MakesFirst = first_made
+command_is_next c SetsHead = head_set
+command_is_next c SetsTail = tail_set
+command_is_next c Shows = anchor_shown
+command_is_next c Joins = joined
+command_is_next (choice.Put value) Rests = put_begun
+command_is_next choice.Take Rests = take_begun
+command_is_next c Fills = filled _
+command_is_next c (Looks value) = looked value
+command_is_next c (Follows value) = followed value
+command_is_next c (Links value) = linked value
+command_is_next c (Helps value) = helped value
+command_is_next c (Swings value) = swung value
+command_is_next c Turns = turned
+command_is_next c TookHead = tail_taken
+command_is_next c TookTail = next_taken
+command_is_next c (Compares nothing) = compared nothing
+command_is_next c Pushes = pushed
+command_is_next c Reads = read
+command_is_next c (Unlinks value) = unlinked value

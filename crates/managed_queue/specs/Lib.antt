@@ -1,0 +1,4 @@
+pub mod Spots
+pub mod Queue
+pub mod Machines
+pub mod Users

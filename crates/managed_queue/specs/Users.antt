@@ -1,0 +1,107 @@
+-- Users: a thread that sets the queue up or joins it, and then puts numbers in a row, or takes some.
+use Rattle.std.specs.Prelude.{ℕ, ◌+◌, ◌-◌, ◌*◌, ◌^◌, ◌<◌, ◌≤◌, ◌==◌, nat_lt, Bool, true, false, ◌&&◌, ◌||◌, Option, Some, None, if◌then◌else◌}
+use Rattle.shen_graph.specs.declared.command.Command.{Command}
+use Rattle.shen_graph.specs.declared.command.Command.TheVariants.{New}
+use Rattle.shen_graph.specs.declared.command.Reply.{Reply}
+use Rattle.shen_graph.specs.History.{is_full}
+use Rattle.managed_queue.specs.declared.spot.Spot.{Spot}
+use Rattle.managed_queue.specs.declared.spot.Spot.TheVariants.{MakesAnchor, MakesFirst, Joins, Rests, Fills, Looks, Follows, Links, Helps, Swings}
+use Rattle.managed_queue.specs.declared.operation.Choice.{Choice}
+use Rattle.managed_queue.specs.declared.operation.Choice.TheVariants as choice
+use Rattle.managed_queue.specs.declared.operation.QueueReply.{QueueReply}
+use Rattle.managed_queue.specs.declared.operation.QueueReply.TheVariants as queue_reply
+use Rattle.managed_queue.specs.declared.user.Plan.{Plan}
+use Rattle.managed_queue.specs.declared.user.Plan.TheVariants.{Puts, Takes}
+use Rattle.managed_queue.specs.declared.user.Gotten.{Gotten}
+use Rattle.managed_queue.specs.Spots.{next_spot, ended_at}
+use Rattle.managed_queue.specs.Machines.{command_at, answer_of}
+
+-- Where a user stands, what it has left to do, what its takes got, and whether an allocation was refused.
+pub record Use : Type 0 where
+  pub spot : Spot
+  pub plan : Plan
+  pub got : Gotten
+  pub refused : Bool
+
+-- the operation that the plan has next
+abbrev pub chosen : Plan → Choice
+chosen (Puts next left) = choice.Put next
+chosen (Takes left) = choice.Take
+
+abbrev pub left_of : Plan → ℕ
+left_of (Puts next left) = left
+left_of (Takes left) = left
+
+abbrev pub is_rest : Spot → Bool
+is_rest Rests = true
+is_rest _ = false
+
+-- it ends between two operations where none is left, and where an allocation is refused
+abbrev pub has_ended : Use → Bool
+has_ended u = u.refused || (is_rest u.spot && (left_of u.plan == 0))
+
+abbrev pub command_of : Use → Command
+command_of u = command_at (chosen u.plan) u.spot
+
+-- its next command
+abbrev pub next_of : Use → Option Command
+next_of u = if has_ended u then None else Some (command_of u)
+
+-- A put is one less to do, and the next number is one more; a take is one less only where it got a number.
+abbrev pub plan_after : Plan → Option QueueReply → Plan
+plan_after (Puts next left) (Some queue_reply.Put) = if nat_lt 0 left then Puts (next + 1) (left - 1) else Puts next left
+plan_after (Takes left) (Some (queue_reply.Got value)) = Takes (left - 1)
+plan_after plan _ = plan
+
+-- such a number counts while there are takes to do
+abbrev pub got_after : Plan → Gotten → Option QueueReply → Gotten
+got_after (Takes left) got (Some (queue_reply.Got value)) = if nat_lt 0 left then record { items = got.items + 1; sum = got.sum + value } else got
+got_after _ got _ = got
+
+abbrev pub is_refused : Command → Reply → Bool
+is_refused (New dst refs nums) r = is_full r
+is_refused _ r = false
+
+-- It goes on by a reply, unless it has ended.
+abbrev pub used : Use → Reply → Use
+used u r = if has_ended u then u else record {
+  spot = next_spot u.spot (command_of u) r;
+  plan = plan_after u.plan (answer_of (ended_at u.spot r));
+  got = got_after u.plan u.got (answer_of (ended_at u.spot r));
+  refused = is_refused (command_of u) r;
+}
+
+-- how users begin
+
+abbrev pub nothing_got : Gotten
+nothing_got = record { items = 0; sum = 0 }
+
+abbrev pub putter : Bool → ℕ → ℕ → Use
+putter sets_up first count = record { spot = if sets_up then MakesAnchor else Joins; plan = Puts first count; got = nothing_got; refused = false }
+
+abbrev pub taker : ℕ → Use
+taker count = record { spot = Joins; plan = Takes count; got = nothing_got; refused = false }
+
+-- the numbers of a user are not large
+abbrev pub IsWithin : Plan → Gotten → Type 0
+IsWithin (Puts next left) got = next + left < 2 ^ 63 + 391
+IsWithin (Takes left) got = (got.items + left ≤ 390) × (got.sum ≤ got.items * 2 ^ 64)
+
+-- how many allocations are to come: those of the set-up, and of the puts that have no node yet
+abbrev pub makings_ahead : Spot → ℕ → ℕ
+makings_ahead MakesAnchor left = 2 + left
+makings_ahead MakesFirst left = 1 + left
+makings_ahead Fills left = left - 1
+makings_ahead (Looks value) left = left - 1
+makings_ahead (Follows value) left = left - 1
+makings_ahead (Links value) left = left - 1
+makings_ahead (Helps value) left = left - 1
+makings_ahead (Swings value) left = left - 1
+makings_ahead _ left = left
+
+abbrev pub puts_left : Plan → ℕ
+puts_left (Puts next left) = left
+puts_left (Takes left) = 0
+
+abbrev pub to_come : Use → ℕ
+to_come u = if has_ended u then 0 else makings_ahead u.spot (puts_left u.plan)

@@ -1,0 +1,198 @@
+ghost use Rattle.std.specs.Prelude.{◌≡◌, ◌<◌, ◌≤◌, ◌^◌, ◌*◌, ◌+◌, IfSome};
+ghost use Rattle.shen_graph.specs.Valid.{IsValid};
+ghost use Rattle.managed_queue.specs.Spots.{IsNext};
+ghost use Rattle.managed_queue.specs.Users.{left_of, next_of, has_ended, used, plan_after, got_after, IsWithin, is_refused, chosen};
+ghost use Rattle.managed_queue.specs.Users as users;
+
+use crate::operation::{Choice, QueueReply};
+use crate::spot::Spot;
+use shen_graph::{Command, Reply};
+use std::marker::Model;
+
+/// What a user has left to do.
+#[derive(Clone, Copy, Debug, PartialEq, Eq)]
+pub enum Plan {
+    /// So many puts, of `next`, `next + 1` and so on.
+    Puts { next: u64, left: u64 },
+    /// Takes, until so many of them got a number.
+    Takes { left: u64 },
+}
+
+/// What a user's takes got.
+#[derive(Clone, Copy, Debug, PartialEq, Eq)]
+pub struct Gotten {
+    /// How many numbers.
+    pub items: u64,
+    /// Their sum.
+    pub sum: u128,
+}
+
+impl Plan {
+    // The operation that comes next.
+    fn choice(&self) -> Choice
+        ensures { result ≡ chosen self.now }
+    {
+        match *self {
+            Plan::Puts { next, .. } => Choice::Put(next),
+            Plan::Takes { .. } => Choice::Take,
+        }
+    }
+
+    // How many operations are left.
+    fn left(&self) -> u64
+        ensures { result ≡ left_of self.now }
+    {
+        match *self {
+            Plan::Puts { left, .. } | Plan::Takes { left } => left,
+        }
+    }
+}
+
+/// A thread that sets the queue up or joins it, and then puts numbers or takes some.
+#[derive(Debug, Drop)]
+pub struct User {
+    spot: Spot,
+    plan: Plan,
+    got: Gotten,
+    refused: bool,
+}
+
+impl Model for User {
+    ghost use Rattle.managed_queue.specs.Users.{Use, IsWithin};
+
+    ghost Value = { Use };
+
+    ghost view = { λ u. record { spot = u.spot; plan = u.plan; got = u.got; refused = u.refused } };
+
+    ghost invariant = { λ u. IsWithin u.plan u.got };
+}
+
+impl User {
+    /// A user that puts `count` numbers, `first`, `first + 1` and so on. It sets the queue up, or joins.
+    pub fn putter(sets_up: bool, first: u64, count: u64) -> User
+        requires first { first < 2 ^ 63 }
+        requires count { count ≤ 390 }
+        ensures { result ≡ users.putter sets_up first count }
+    {
+        let spot = if sets_up {
+            Spot::MakesAnchor
+        } else {
+            Spot::Joins
+        };
+        User {
+            spot,
+            plan: Plan::Puts {
+                next: first,
+                left: count,
+            },
+            got: Gotten { items: 0, sum: 0 },
+            refused: false,
+        }
+    }
+
+    /// A user that joins, and takes until `count` of its takes got a number.
+    pub fn taker(count: u64) -> User
+        requires { count ≤ 390 }
+        ensures { result ≡ users.taker count }
+    {
+        User {
+            spot: Spot::Joins,
+            plan: Plan::Takes { left: count },
+            got: Gotten { items: 0, sum: 0 },
+            refused: false,
+        }
+    }
+
+    /// Its next command; `None` when it has done all, or an allocation was refused.
+    pub fn next(&self) -> Option<Command>
+        ensures plan { result ≡ next_of self.now }
+        ensures table { IfSome result (λ command. IsNext self.now.spot command) }
+        ensures valid { IfSome result (λ command. IsValid command) }
+    {
+        if self.has_ended() {
+            return None;
+        }
+        Some(self.spot.next(self.plan.choice()))
+    }
+
+    /// Takes the reply to that command. One that has ended stays.
+    pub fn took(&mut self, reply: &Reply)
+        ensures { self.new ≡ used self.old reply.now }
+    {
+        if self.has_ended() {
+            return;
+        }
+        let choice = self.plan.choice();
+        let command = self.spot.next(choice);
+        let answer = self.spot.answer(reply);
+        self.refused = was_refused(&command, reply);
+        self.spot = self.spot.after(choice, reply);
+        let (plan, got) = (self.plan, self.got);
+        self.got = got_next(plan, got, answer);
+        self.plan = plan_next(plan, got, answer);
+    }
+
+    /// How many numbers its takes got, and their sum.
+    pub fn got(&self) -> Gotten
+        ensures { result ≡ self.now.got }
+    {
+        self.got
+    }
+
+    // Whether it has no next command.
+    fn has_ended(&self) -> bool
+        ensures { result ≡ has_ended self.now }
+    {
+        let through = self.plan.left() == 0;
+        self.refused || (is_rest(&self.spot) && through)
+    }
+}
+
+fn is_rest(spot: &Spot) -> bool
+    ensures { result ≡ users.is_rest spot.now }
+{
+    match *spot {
+        Spot::Rests => true,
+        _ => false,
+    }
+}
+
+fn was_refused(command: &Command, reply: &Reply) -> bool
+    ensures { result ≡ is_refused command.now reply.now }
+{
+    match (*command, *reply) {
+        (Command::New { .. }, Reply::Full) => true,
+        _ => false,
+    }
+}
+
+// What is left to do after an operation that ended.
+fn plan_next(plan: Plan, got: Gotten, answer: Option<QueueReply>) -> Plan
+    requires { IsWithin plan got }
+    ensures { result ≡ plan_after plan answer }
+{
+    match (plan, answer) {
+        (Plan::Puts { next, left }, Some(QueueReply::Put)) if left > 0 => Plan::Puts {
+            next: next + 1,
+            left: left - 1,
+        },
+        (Plan::Takes { left }, Some(QueueReply::Got(_))) => Plan::Takes {
+            left: left.saturating_sub(1),
+        },
+        _ => plan,
+    }
+}
+
+// What is got after it.
+fn got_next(plan: Plan, got: Gotten, answer: Option<QueueReply>) -> Gotten
+    requires { IsWithin plan got }
+    ensures { result ≡ got_after plan got answer }
+{
+    match (plan, answer) {
+        (Plan::Takes { left }, Some(QueueReply::Got(value))) if left > 0 => Gotten {
+            items: got.items + 1,
+            sum: got.sum + value as u128,
+        },
+        _ => got,
+    }
+}
