@@ -1,11 +1,11 @@
 -- The next access of a mutator is one of a word of the table.
-use Rattle.std.proofs.Common.{◌≡◌, ℕ, ◌<◌, Bool, true, false, ◌&&◌, cond, refl, sym, subst}
+use Rattle.std.proofs.Common.{◌≡◌, ℕ, ◌<◌, Bool, true, false, ◌&&◌, cond, List, get_or, refl, sym, ap, ◌∙◌, subst}
 use Rattle.std.proofs.lemmas.Bool.{and_parts, false≢true}
 use Rattle.heap_words.specs.declared.config.Config.{Config}
 use Rattle.heap_words.specs.Access.{table_index}
-use Rattle.heap_words.specs.Words.{IsWord, is_word, word_at, table_words}
+use Rattle.heap_words.specs.Words.{IsWord, is_word, word_at, table_words, view}
 use Rattle.heap_words.proofs.Rows.{word_inside}
-use Rattle.heap_words.proofs.Stores.{is_word_true}
+use Rattle.heap_words.proofs.Stores.{is_word_true, view_word}
 use Rattle.steps_base.specs.Touch.{Touch, placed}
 use Rattle.steps_base.proofs.Touches.{table_index-access_at}
 use Rattle.shen_graph.specs.declared.order.Order.{Order}
@@ -32,6 +32,14 @@ placed_inside c t is = subst (λ k. k < table_words c) (sym (table_index-access_
 
 pub touch_inside : (c : Config) (seat made : ℕ) (kept : Kept) (order : Order) (spot : Spot) → is_word c (touch_at c seat made kept Nothing spot).word ≡ true → table_index (placed c (touch_at c seat made kept order spot)) < table_words c
 touch_inside c seat made kept order spot is = placed_inside c (touch_at c seat made kept order spot) (touch_word c seat made kept order spot is)
+
+-- and the word that it finds there is the one that it is named for
+pub touch_found : (c : Config) (words : List ℕ) (seat made : ℕ) (kept : Kept) (order : Order) (spot : Spot) → is_word c (touch_at c seat made kept Nothing spot).word ≡ true
+    → view c words (touch_at c seat made kept order spot).word ≡ get_or words (table_index (placed c (touch_at c seat made kept order spot))) 0
+touch_found c words seat made kept order spot is =
+    let t : Touch = touch_at c seat made kept order spot in
+    view_word c words t.word (touch_word c seat made kept order spot is)
+    ∙ ap (λ k. get_or words k 0) (sym (table_index-access_at (word_at c t.word) t.form))
 
 -- where a mutator that is ready stands at a spot, the numbers of the access are in range, and so are those of the spot
 pub ready_at : (c : Config) (seat made : ℕ) (kept : Kept) (spot at : Spot) → spot ≡ at → is_ready c seat made kept spot ≡ true

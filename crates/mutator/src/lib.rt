@@ -11,6 +11,7 @@ mod makes;
 mod numbers;
 mod overwrites;
 mod resolves;
+mod settles;
 mod shows;
 mod spot;
 mod thread;

@@ -86,7 +86,7 @@ pub(crate) fn after_field(value: u64) -> Spot
 }
 
 // The name of a name word.
-fn name_in(code: u64) -> Name
+pub(crate) fn name_in(code: u64) -> Name
     ensures { result ≡ rows.name_in code }
 {
     Name {

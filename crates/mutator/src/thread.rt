@@ -1,4 +1,4 @@
-ghost use Rattle.std.specs.Prelude.{◌≡◌, ◌<◌, true};
+ghost use Rattle.std.specs.Prelude.{◌≡◌, ◌<◌, true, length};
 ghost use Rattle.steps_base.specs.Touch.{placed};
 ghost use Rattle.mutator.specs.Orders.{is_pending};
 ghost use Rattle.mutator.specs.Rows.{first_touch};
@@ -6,8 +6,9 @@ ghost use Rattle.mutator.specs.Fit.{is_ready};
 
 use crate::commands::dst_of;
 use crate::loads::first_spot;
-use crate::makes::MakeSpot;
+use crate::makes::{MakeSpot, next_name};
 use crate::resolves::Loaded;
+use crate::settles::{field_settles, load_settles, number_settles};
 use crate::spot::{Entered, Kept, Spot, call_says};
 use crate::waits::WaitSpot;
 use handshake::{EnterSpot, leave_access};
@@ -33,11 +34,12 @@ impl Mutator {
     ghost use Rattle.std.specs.Prelude.{◌↔◌, ◌≢◌, Some, None, false};
     ghost use Rattle.shen_graph.specs.Valid.{IsValid};
     ghost use Rattle.heap_words.specs.Access.{table_index};
-    ghost use Rattle.heap_words.specs.Words.{table_words};
+    ghost use Rattle.heap_words.specs.Words.{table_words, view};
     ghost use Rattle.mutator.specs.Orders.{is_between_calls, takes_commands, takes_at};
     ghost use Rattle.mutator.specs.Rows.{fresh_mutator, mutator_after, place_at, touch_of, begun, next_of, make_says, answer_at, reply_at};
     ghost use Rattle.mutator.specs.WaitRows.{wait_says};
     ghost use Rattle.mutator.specs.Fit.{IsFit};
+    ghost use Rattle.mutator.specs.Told.{told_of};
     ghost use Rattle.mutator.specs.Waits.{WaitsAt};
     ghost use Rattle.mutator.specs.Seen.{seen, config_of, order_of, is_idle};
     ghost use Rattle.load_barrier.specs.Waits as resolves;
@@ -127,6 +129,50 @@ impl Mutator {
         ensures { result ≡ (seen self.now).made }
     {
         self.made
+    }
+
+    /// The command of the call in progress.
+    pub fn command(&self) -> Command
+        requires { is_between_calls (seen self.now).spot ≡ false }
+        ensures { result ≡ (seen self.now).kept.command }
+    {
+        self.kept.command
+    }
+
+    // The word that its next access finds.
+    fn found(&self, words: &[u64]) -> u64
+        requires busy { is_idle self.now ≡ false }
+        requires words { length words.now ≡ table_words (config_of self.now) }
+        ensures { view (config_of self.now) words.now (touch_of (config_of self.now) (seen self.now) (order_of self.now)).word ≡ result }
+    {
+        words[self.plan().at()]
+    }
+
+    /// The reply that its next access settles, if it settles one, by the words of the heap's table as they are before it. It is
+    /// the reply that the call is given in the end. That the heap is full is settled by a pause, and not here.
+    pub fn settles(&self, words: &[u64]) -> Option<Reply>
+        requires { length words.now ≡ table_words (config_of self.now) }
+        ensures { result ≡ told_of (view (config_of self.now) words.now) (seen self.now) }
+    {
+        let config = self.config;
+        let command = self.kept.command;
+        match self.spot {
+            Spot::Loading { at } => {
+                load_settles(config, words, self.mutator, command, at, self.found(words))
+            }
+            Spot::OnField { object, at } => {
+                field_settles(config, words, object, command, at, self.found(words))
+            }
+            Spot::OnNumber { at, .. } => Some(number_settles(at, self.found(words))),
+            Spot::StoreRoot { .. } | Spot::AskCycle => Some(Reply::Ok),
+            Spot::Making {
+                at: MakeSpot::StoreRoot { .. },
+            }
+            | Spot::Waiting {
+                at: WaitSpot::StoreRoot { .. },
+            } => Some(Reply::Ref(next_name(self.mutator, self.made))),
+            _ => None,
+        }
     }
 
     /// The order that it was given.

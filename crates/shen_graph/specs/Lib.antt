@@ -6,6 +6,7 @@ pub mod History
 pub mod Reach
 pub mod Crowd
 pub mod Work
+pub mod Noting
 pub mod GraphText
 pub mod TextLayout
 pub mod TextRoom

@@ -9,6 +9,7 @@ use std::alloc::{AllocError, AllocFailed};
 
 mod command;
 mod graph_text;
+mod history;
 mod name;
 mod order;
 mod plain_graph;
@@ -18,6 +19,7 @@ mod work;
 
 pub use command::{Command, Reply};
 pub use graph_text::GraphText;
+pub use history::{Entry, History};
 pub use name::Name;
 pub use order::Order;
 pub use plain_graph::PlainGraph;

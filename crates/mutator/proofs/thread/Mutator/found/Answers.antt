@@ -1,0 +1,11 @@
+use Rattle.std.proofs.Common.{sym, ap, ◌∙◌, get_or}
+use Rattle.std.proofs.lemmas.Bool.{and_parts}
+use Rattle.heap_words.specs.Access.{table_index}
+use Rattle.mutator.proofs.Inside.{touch_found}
+use Rattle.mutator.proofs.thread.Mutator.found.Goals as goal
+
+pub returns : goal.returns
+returns c =
+    let m = c.args.self.now in
+    touch_found m.config c.args.words.now m.mutator m.made m.kept m.order m.spot (and_parts _ _ (and_parts _ _ m.ready).0).0
+    ∙ sym (ap (λ k. get_or c.args.words.now k 0) (c.at.ensures ∙ ap table_index c.plan.ensures.row))
