@@ -9,8 +9,9 @@ use Rattle.std.proofs.lemmas.List.Quantifiers.{position-Some}
 use Rattle.std.proofs.lemmas.Option.{slice_get_within}
 use Rattle.std.proofs.lemmas.Iterator.Adapters.{position_from-zero}
 use Rattle.shen_graph.specs.declared.name.Name.{Name}
-use Rattle.shen_graph.specs.Graph.{Object, Reference, same_name, named, field_at, number_at, with_root, with_named, with_field, with_number, with_fresh, blank, hub, opening}
-use Rattle.shen_graph.specs.GraphText.{Row}
+use Rattle.shen_graph.specs.Graph.{Graph, Object, Reference, same_name, named, field_at, number_at, with_root, with_named, with_field, with_number, with_fresh, blank, hub, opening}
+use Rattle.shen_graph.specs.GraphText.{Row, Text, row_in, with_row, with_whole_row}
+use Rattle.shen_graph.specs.Reach.{size}
 use Rattle.shen_graph.proofs.OrderLemmas.{same_name-flip, same_name-Decides}
 use Rattle.shen_graph.specs.PlainGraph.{Plain, object_in, root_in, graph_of, place_of}
 
@@ -102,6 +103,40 @@ named-place p name = by_place (position (λ (r : Row). same_name name r.name) p.
     by_place : (place : Option ℕ) → position (λ (r : Row). same_name name r.name) p.rows ≡ place → unwrap_or (object_in p.rows name) (record { refs = []; nums = [] }) ≡ object_at p place
     by_place None h = rw (object_in-none p.rows name 0 (sym (position_from-zero (λ (r : Row). same_name name r.name) p.rows) ∙ h)) refl
     by_place (Some k) h = rw (object_in-first p.rows name k (IsFirst-position p.rows name k h)) refl
+
+-- the object of a name, by the place of its row
+
+pub object-placed : (p : Plain) (name : Name) (k : ℕ) (r : Row) → position (λ (r : Row). same_name name r.name) p.rows ≡ Some k → r ≡ get_or p.rows k nobody
+    → ((graph_of p).object name ≡ Some (object_of r)) × (r.name ≡ name)
+unfolding graph_of
+object-placed p name k r place is =
+    let first = IsFirst-position p.rows name k place in (
+      object_in-first p.rows name k first ∙ ap (λ (x : Row). Some (object_of x)) (sym is),
+      ap (λ (x : Row). x.name) is ∙ sym (same_name-true name (get_or p.rows k nobody).name first.same),
+    )
+
+pub object-nowhere : (p : Plain) (name : Name) → position (λ (r : Row). same_name name r.name) p.rows ≡ None → (graph_of p).object name ≡ None
+unfolding graph_of
+object-nowhere p name none = object_in-none p.rows name 0 (sym (position_from-zero (λ (r : Row). same_name name r.name) p.rows) ∙ none)
+
+pub named-object : (g : Graph) (name : Name) (o : Object) → g.object name ≡ Some o → named g (Some name) ≡ o
+named-object g name o e = ap (λ (x : Option Object). unwrap_or x (record { refs = []; nums = [] })) e
+
+pub named-nothing : (g : Graph) (name : Name) → g.object name ≡ None → named g (Some name) ≡ record { refs = []; nums = [] }
+named-nothing g name e = ap (λ (x : Option Object). unwrap_or x (record { refs = []; nums = [] })) e
+
+-- the row of a name that has an object, and of one that has none
+
+pub row-named : (g : Graph) (name : Name) (r : Row) → (g.object name ≡ Some (object_of r)) × (r.name ≡ name) → r ≡ row_in g name
+row-named g name r h =
+    let o = sym (named-object g name (object_of r) h.0) in
+    λ i. record { name = h.1 i; refs = (o i).refs; nums = (o i).nums }
+
+pub size-named : (g : Graph) (name : Name) (r : Row) → (g.object name ≡ Some (object_of r)) × (r.name ≡ name) → size (named g (Some name)) ≡ 3 + length r.refs + length r.nums
+size-named g name r h = ap size (named-object g name (object_of r) h.0)
+
+pub row-unnamed : (g : Graph) (t : Text) (name : Name) → g.object name ≡ None → with_row t name ≡ with_whole_row t (row_in g name)
+row-unnamed g t name none = ap (λ (o : Object). with_whole_row t (record { name = name; refs = o.refs; nums = o.nums })) (sym (named-nothing g name none))
 
 pub named-graph_of : (p : Plain) (thread root : ℕ) → named (graph_of p) ((graph_of p).root thread root) ≡ object_at p (place_of p thread root)
 named-graph_of p thread root =

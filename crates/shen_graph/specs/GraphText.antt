@@ -1,8 +1,9 @@
 -- A graph as it is to be written: rows of objects, and rows of roots.
-use Rattle.std.specs.Prelude.{ℕ, ◌-◌, List, [], ◌∷◌, ◌++◌, map, replicate, length, None, Some, slice_index_or, slice_set}
+use Rattle.std.specs.Prelude.{ℕ, ◌≡◌, ◌+◌, ◌-◌, ◌≤◌, List, [], ◌∷◌, ◌++◌, map, replicate, length, None, Some, slice_index_or, slice_set}
 use Rattle.std.specs.List.{IsDistinct}
 use Rattle.shen_graph.specs.declared.name.Name.{Name}
 use Rattle.shen_graph.specs.Graph.{Graph, Reference, hub, named, same_name}
+use Rattle.shen_graph.specs.Reach.{IsReach}
 
 -- an object: its name, its references and its numbers
 pub record Row : Type 0 where
@@ -57,6 +58,20 @@ with_reference t to = record t { rows = change_last (add_reference to) t.rows; s
 abbrev pub with_number : Text → ℕ → Text
 with_number t value = record t { rows = change_last (add_number value) t.rows; spare = t.spare - 1 }
 
+-- the text with these references in its last row too
+abbrev pub with_references : Text → List Reference → Text
+with_references t [] = t
+with_references t (r ∷ rs) = with_references (with_reference t r) rs
+
+-- the text with these numbers in its last row too
+abbrev pub with_numbers : Text → List ℕ → Text
+with_numbers t [] = t
+with_numbers t (x ∷ xs) = with_numbers (with_number t x) xs
+
+-- the text with a row more, which takes as many words as the object
+abbrev pub with_whole_row : Text → Row → Text
+with_whole_row t r = record t { rows = t.rows ++ r ∷ []; spare = t.spare - (3 + length r.refs + length r.nums) }
+
 -- the roots of a thread, counted from 1
 abbrev pub roots_of : Text → ℕ → List Reference
 roots_of t thread = slice_index_or t.roots (thread - 1) []
@@ -79,3 +94,11 @@ names_of t = map (λ r. r.name) t.rows
 -- no name stands twice
 abbrev pub NamesDiffer : Text → Type 0
 NamesDiffer t = IsDistinct same_name (names_of t)
+
+-- The text is that of a graph of so many threads: a row for each object that can be reached, in the order of names, and
+-- the roots of each thread.
+pub record IsTextOf (g : Graph) (threads : ℕ) (t : Text) : Type 0 where
+  pub reach : IsReach g (names_of t)
+  pub rows : t.rows ≡ map (row_in g) (names_of t)
+  pub each : length t.roots ≡ threads
+  pub roots : (thread index : ℕ) → 1 ≤ thread → thread ≤ threads → root_of t thread index ≡ g.root thread index

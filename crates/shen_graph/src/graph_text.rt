@@ -1,4 +1,4 @@
-ghost use Rattle.std.specs.Prelude.{◌≡◌, ◌+◌, ◌<◌, ◌≤◌, [], ◌++◌, length, map, replicate, sum_by, All, IfOk, None, slice_index, slice_index_or, vec_len, vec_capacity};
+ghost use Rattle.std.specs.Prelude.{◌≡◌, ◌+◌, ◌-◌, ◌<◌, ◌≤◌, [], ◌++◌, length, map, replicate, sum_by, All, IfOk, None, slice_index, slice_index_or, slice_set, vec_len, vec_capacity};
 ghost use Rattle.std.specs.List.Sorted.{IsPermutation};
 ghost use Rattle.shen_graph.specs.Reach.{InOrder};
 ghost use Rattle.shen_graph.specs.GraphText.{empty, cleared, with_row, with_reference, with_number, with_root_of, root_of, row_of, names_of, NamesDiffer};
@@ -199,6 +199,14 @@ impl GraphText {
         let mutator = thread as usize - 1;
         let row = &mut self.roots[mutator];
         row[index] = to;
+    }
+
+    /// Sets all roots of a thread, which is counted from 0 here.
+    pub(crate) fn set_roots(&mut self, mutator: usize, roots: [Option<Name>; 16])
+        requires { mutator < length self.old.roots }
+        ensures { self.new ≡ record self.old { roots = slice_set self.old.roots mutator roots } }
+    {
+        self.roots[mutator] = roots;
     }
 
     /// Puts the objects into the order of their names.

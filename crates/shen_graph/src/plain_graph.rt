@@ -1,16 +1,19 @@
-ghost use Rattle.std.specs.Prelude.{◌≡◌, ◌≢◌, ◌-◌, ◌^◌, ◌<◌, ◌≤◌, ◌∷◌, length, None, Some, replicate, position, IsSome, IfOk, OnOk, OnErr, slice_get, slice_set};
+ghost use Rattle.std.specs.Prelude.{ℕ, ◌≡◌, ◌≢◌, ◌+◌, ◌-◌, ◌^◌, ◌<◌, ◌≤◌, ◌∷◌, ◌++◌, length, map, sum_by, None, Some, replicate, position, IsSome, MatchOption, IfOk, OnOk, OnErr, slice_get, slice_set};
+ghost use Rattle.std.specs.Option.{option_map};
 ghost use Rattle.std.specs.List.{flat_map};
 ghost use Rattle.shen_graph.specs.declared.command.Command.TheVariants.{Get, Set, Cas, Xchg, Wr};
 ghost use Rattle.shen_graph.specs.declared.command.Reply.TheVariants.{Full};
 ghost use Rattle.shen_graph.specs.Valid.{IsValid};
 ghost use Rattle.shen_graph.specs.Graph.{blank, field_at, number_at, fresh, with_root, with_field, with_number, with_fresh, hub, named, opening, same_name};
 ghost use Rattle.shen_graph.specs.Step.{answers, outcome, shown, yes_or_no};
-ghost use Rattle.shen_graph.specs.Reach.{IsReach};
+ghost use Rattle.shen_graph.specs.Reach.{IsReach, Live, size};
+ghost use Rattle.shen_graph.specs.GraphText.{cleared, root_of, row_in, with_references, with_numbers, with_whole_row, IsTextOf};
 ghost use Rattle.shen_graph.specs.PlainGraph.{graph_of, threads_of, place_of, root_in};
 ghost use Rattle.shen_graph.specs.Found.{with_name, with_names};
 
 use crate::NoMemory;
 use crate::command::{Command, Reply};
+use crate::graph_text::GraphText;
 use crate::name::Name;
 use crate::roots::alike;
 use std::alloc::Global;
@@ -109,6 +112,35 @@ fn first_roots(alloc: Global, mutators: u32) -> Result<Vec<[Option<Name>; 16]>, 
     Ok(roots)
 }
 
+// How many words an object with these fields has.
+fn words_for(references: &[Option<Name>], numbers: &[u64]) -> u64
+    ensures { result ≡ 3 + length references.now + length numbers.now }
+{
+    3 + references.len() as u64 + numbers.len() as u64
+}
+
+// Adds references to the last row of a text.
+fn put_references(text: &mut GraphText, references: &[Option<Name>])
+    requires row { 0 < length text.old.rows }
+    requires room { length references.now ≤ text.old.spare }
+    ensures { text.new ≡ with_references text.old references.now }
+{
+    for reference in references {
+        text.reference(*reference);
+    }
+}
+
+// Adds numbers to the last row of a text.
+fn put_numbers(text: &mut GraphText, numbers: &[u64])
+    requires row { 0 < length text.old.rows }
+    requires room { length numbers.now ≤ text.old.spare }
+    ensures { text.new ≡ with_numbers text.old numbers.now }
+{
+    for number in numbers {
+        text.number(*number);
+    }
+}
+
 impl Object {
     ghost use Rattle.shen_graph.specs.GraphText.{Row};
 
@@ -140,6 +172,23 @@ impl Object {
         ensures { OnOk result (found.new.items ≡ with_names found.old.items self.now.refs) }
     {
         add_names(found, &self.refs)
+    }
+
+    // How many words it has.
+    fn words(&self) -> u64
+        ensures { result ≡ 3 + length self.now.refs + length self.now.nums }
+    {
+        words_for(&self.refs, &self.nums)
+    }
+
+    // Adds its row to a text.
+    fn put(&self, text: &mut GraphText)
+        requires { 3 + length self.now.refs + length self.now.nums ≤ text.old.spare }
+        ensures { text.new ≡ with_whole_row text.old self.now }
+    {
+        text.object(self.name);
+        put_references(text, &self.refs);
+        put_numbers(text, &self.nums);
     }
 
     fn set_field(&mut self, field: u32, value: Option<Name>)
@@ -236,7 +285,7 @@ impl PlainGraph {
         }
     }
 
-    fn write(&mut self, thread: u32, obj: u32, index: u32, value: u64) -> Reply
+    fn write_number(&mut self, thread: u32, obj: u32, index: u32, value: u64) -> Reply
         requires thread { thread ≤ threads_of self.old }
         requires root { obj < 16 }
         ensures done { answers result (graph_of self.new) ≡ outcome (graph_of self.old) thread (Wr obj index value) }
@@ -414,7 +463,7 @@ impl PlainGraph {
                 Some(number) => Reply::Number(number),
                 None => Reply::Bad,
             },
-            Command::Wr { obj, index, value } => self.write(thread, obj, index, value),
+            Command::Wr { obj, index, value } => self.write_number(thread, obj, index, value),
             Command::Copy { dst, src } => {
                 let value = self.root(thread, src);
                 self.set_root(thread, dst, value);
@@ -463,5 +512,78 @@ impl PlainGraph {
         }
         found.sort_unstable();
         Ok(found)
+    }
+
+    // The object of that name.
+    fn object_named(&self, name: Name) -> Option<&Object>
+        ensures { MatchOption result ((graph_of self.now).object name ≡ None)
+            (λ o. ((graph_of self.now).object name ≡ Some (record { refs = o.now.refs; nums = o.now.nums })) × (o.now.name ≡ name)) }
+    {
+        match first_named(&self.objects, name) {
+            Some(place) => Some(&self.objects[place]),
+            None => None,
+        }
+    }
+
+    /// How many words the object of that name has. `None`: the graph has no object of that name.
+    pub fn words_of(&self, name: Name) -> Option<u64>
+        ensures { result ≡ option_map size ((graph_of self.now).object name) }
+    {
+        match self.object_named(name) {
+            Some(object) => Some(object.words()),
+            None => None,
+        }
+    }
+
+    // Adds the row of the object of that name to a text.
+    fn put_object(&self, name: Name, text: &mut GraphText)
+        requires { size (named (graph_of self.now) (Some name)) ≤ text.old.spare }
+        ensures { text.new ≡ with_whole_row text.old (row_in (graph_of self.now) name) }
+    {
+        match self.object_named(name) {
+            Some(object) => object.put(text),
+            None => text.object(name),
+        }
+    }
+
+    // Adds the rows of the objects of these names to a text.
+    fn put_objects(&self, names: &[Name], text: &mut GraphText)
+        requires { sum_by (λ n. size (named (graph_of self.now) (Some n))) names.now ≤ text.old.spare }
+        ensures rows { text.new.rows ≡ text.old.rows ++ map (row_in (graph_of self.now)) names.now }
+        ensures roots { text.new.roots ≡ text.old.roots }
+        ensures room { text.new.room ≡ text.old.room }
+    {
+        for name in names {
+            self.put_object(*name, text);
+        }
+    }
+
+    // Sets the roots of all threads in a text.
+    fn put_roots(&self, text: &mut GraphText)
+        requires { length text.old.roots ≡ threads_of self.now }
+        ensures roots { (thread index : ℕ) → 1 ≤ thread → thread ≤ threads_of self.now
+            → root_of text.new thread index ≡ (graph_of self.now).root thread index }
+        ensures kept { text.new ≡ record text.old { roots = text.new.roots } }
+        ensures threads { length text.new.roots ≡ length text.old.roots }
+    {
+        for thread in 1..self.roots.len() {
+            text.set_roots(thread - 1, self.roots[thread]);
+        }
+    }
+
+    /// Makes a text that was opened for as many threads that of the graph. It is to have room for the words of all objects
+    /// that can be reached. After `NoMemory` the text is empty.
+    pub fn write(&self, alloc: Global, text: &mut GraphText) -> Result<(), NoMemory>
+        requires threads { length text.old.roots ≡ threads_of self.now }
+        requires room { (words : ℕ) → Live (graph_of self.now) words → words ≤ text.old.room }
+        ensures ok { OnOk result (IsTextOf (graph_of self.now) (threads_of self.now) text.new) }
+        ensures room { text.new.room ≡ text.old.room }
+        ensures err { OnErr result (text.new ≡ cleared text.old) }
+    {
+        text.clear();
+        let names = self.reach(alloc)?;
+        self.put_objects(&names, text);
+        self.put_roots(text);
+        Ok(())
     }
 }

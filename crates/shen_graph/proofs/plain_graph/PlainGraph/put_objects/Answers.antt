@@ -1,0 +1,42 @@
+use Rattle.std.proofs.Common.{◌<◌, [], ◌∷◌, ◌++◌, length, map, get_or, take, Some, arith, ap, sym, ◌∙◌}
+use Rattle.std.proofs.lemmas.List.{take_more, map-append, append_assoc}
+use Rattle.std.proofs.lemmas.List.Sums.{sum_by_more, sum_by_more_le}
+use Rattle.shen_graph.specs.declared.name.Name.{Name}
+use Rattle.shen_graph.specs.Graph.{named}
+use Rattle.shen_graph.specs.GraphText.{row_in}
+use Rattle.shen_graph.specs.PlainGraph.{graph_of}
+use Rattle.shen_graph.specs.Reach.{size}
+use Rattle.shen_graph.proofs.plain_graph.PlainGraph.put_objects.Goals as goal
+
+abbrev none : Name
+none = record { thread = 0; count = 0 }
+
+pub put_object-requires : goal.put_object-requires
+put_object-requires c =
+    let words = λ (n : Name). size (named (graph_of c.args.self.now) (Some n)) in
+    omega (arith, sum_by_more_le words c.args.names.now c.loop-name.name-index none)
+
+pub loop-name-preserved : goal.loop-name-preserved
+loop-name-preserved c =
+    let g = graph_of c.args.self.now in
+    let names = c.args.names.now in
+    let i = c.loop-name.name-index in
+    let name = get_or names i none in
+    let low : i < length names = omega arith in
+    let words = λ (n : Name). size (named g (Some n)) in
+    let made = c.put_object.ensures in
+    let before = map (row_in g) (take i names) in
+    record {
+      rows = (ap (λ t. t.rows) made ∙ ap (λ xs. xs ++ row_in g name ∷ []) c.loop-name.invariant.rows
+          ∙ append_assoc c.args.text.now.rows before (row_in g name ∷ [])
+          ∙ ap (λ xs. c.args.text.now.rows ++ xs)
+          (sym (map-append (row_in g) (take i names) (name ∷ [])) ∙ ap (map (row_in g)) (sym (take_more names i none low))));
+      roots = ap (λ t. t.roots) made ∙ c.loop-name.invariant.roots;
+      room = ap (λ t. t.room) made ∙ c.loop-name.invariant.room;
+      spare = (omega (
+        arith,
+        ap (λ t. t.spare) made,
+        sum_by_more words names i none low,
+        sum_by_more_le words names i none low,
+      ));
+    }

@@ -1,0 +1,29 @@
+use Rattle.std.proofs.Common.{List, ◌++◌, length, replicate, None, refl, arith, ap, ◌∙◌}
+use Rattle.std.proofs.lemmas.List.{length-replicate}
+use Rattle.shen_graph.specs.Graph.{Reference}
+use Rattle.shen_graph.specs.PlainGraph.{graph_of, threads_of}
+use Rattle.shen_graph.specs.GraphText.{row_in}
+use Rattle.std.proofs.Common.{map}
+use Rattle.shen_graph.proofs.RowLemmas.{text_of_graph}
+use Rattle.shen_graph.proofs.plain_graph.PlainGraph.write.Goals as goal
+
+pub put_objects-requires : goal.put_objects-requires
+put_objects-requires c =
+    let live = c.requires.room _ (c.in_ok-names.names.items, c.in_ok-names.ensures, refl) in
+    rw c.deref.ensures.value (omega (arith, live, ap (λ t. t.spare) c.clear.ensures))
+
+abbrev nulls : List Reference
+nulls = replicate 16 None
+
+pub returns-clause-ok : goal.returns-clause-ok
+returns-clause-ok c =
+    let g = graph_of c.args.self.now in
+    text_of_graph g (threads_of c.args.self.now) c.put_roots.new.text c.in_ok-names.names.items c.in_ok-names.ensures
+    (ap (λ t. t.rows) c.put_roots.ensures.kept ∙ c.put_objects.ensures.rows
+    ∙ ap (λ t. t.rows ++ map (row_in g) c.deref.result.now) c.clear.ensures
+    ∙ ap (map (row_in g)) c.deref.ensures.value)
+    (c.put_roots.ensures.threads ∙ ap length c.put_objects.ensures.roots
+    ∙ ap (λ t. length t.roots) c.clear.ensures
+    ∙ length-replicate (length c.args.text.now.roots) nulls
+    ∙ c.requires.threads)
+    c.put_roots.ensures.roots
