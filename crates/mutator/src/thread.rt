@@ -34,7 +34,7 @@ impl Mutator {
     ghost use Rattle.shen_graph.specs.Valid.{IsValid};
     ghost use Rattle.heap_words.specs.Access.{table_index};
     ghost use Rattle.heap_words.specs.Words.{table_words};
-    ghost use Rattle.mutator.specs.Orders.{is_between_calls, takes_commands, takes_at};
+    ghost use Rattle.mutator.specs.Orders.{takes_commands, takes_at};
     ghost use Rattle.mutator.specs.Rows.{fresh_mutator, mutator_after, place_at, touch_of, begun, next_of, make_says, answer_at, reply_at};
     ghost use Rattle.mutator.specs.WaitRows.{wait_says};
     ghost use Rattle.mutator.specs.Fit.{IsFit};
@@ -106,13 +106,6 @@ impl Mutator {
             (Spot::Rest | Spot::Ended { .. }, Order::Nothing) | (Spot::Gone, _) => true,
             _ => false,
         }
-    }
-
-    /// Whether no call is in progress.
-    pub fn is_resting(&self) -> bool
-        ensures { result ≡ is_between_calls (seen self.now).spot }
-    {
-        matches!(self.spot, Spot::Rest | Spot::Ended { .. } | Spot::Gone)
     }
 
     /// Whether it may be given a command, or be told to end: no call is in progress, and it has not ended.
