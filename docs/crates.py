@@ -1,10 +1,10 @@
 #!/usr/bin/env python3
-"""Writes docs/CRATES.md: each crate of crates.txt in the sentence with which its root begins.
+"""Writes docs/CRATES.md: each crate of crates.txt in the words with which its root begins.
 
 usage: crates.py            writes docs/CRATES.md
        crates.py --check    says whether docs/CRATES.md is up to date; it ends with 1 where not
 
-A crate is described by the first `//!` lines of its root, up to the first full stop, and nowhere else.
+A crate is described by the first `//!` lines of its root, and nowhere else; the page has them up to the first colon or full stop.
 """
 import os
 import re
@@ -33,7 +33,7 @@ def names():
 
 
 def sentence(crate):
-    """The first sentence of a crate's root, or None."""
+    """The first words of a crate's root, or None."""
     for root in ("lib.rt", "main.rt"):
         path = os.path.join(TOP, "crates", crate, "src", root)
         if os.path.exists(path):
@@ -41,7 +41,7 @@ def sentence(crate):
             if not found:
                 return None
             whole = " ".join(line[3:].strip() for line in found[0].splitlines())
-            return re.match(r".*?\.(?= |$)|.*", whole)[0].replace("|", "\\|")
+            return re.match(r"(.*?)[.:](?= |$)|(.*)", whole)[0].rstrip(".:").replace("|", "\\|")
     return None
 
 

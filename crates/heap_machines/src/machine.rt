@@ -36,8 +36,7 @@ impl Machine {
     ghost use Rattle.shen_graph.specs.declared.command.Command.{Command as Commands};
     ghost use Rattle.heap_machines.specs.Pause.{pause_image};
     ghost use Rattle.step_core.specs.Opening.{opening_machine};
-    ghost use Rattle.step_core.specs.Settled.{image_in};
-    ghost use Rattle.step_core.specs.Machines.{takes_of, plan_of, place_in, machine_after, answer_of, is_machine_at, reply_in, is_resting, may_begin, made_of_machine, WaitsIn, IsFitFor};
+    ghost use Rattle.step_core.specs.Machines.{takes_of, plan_of, place_in, machine_after, answer_of, is_machine_at, reply_in, may_begin, made_of_machine, WaitsIn, IsFitFor};
     ghost use Rattle.heap_machines.specs.Shown.{shown, order_of, heap_of, has_turn};
     ghost use Rattle.heap_machines.specs.Roles.{is_mutating, CanShow};
     ghost use Rattle.heap_machines.specs.Turn.{order_for};
@@ -103,16 +102,6 @@ impl Machine {
         }
     }
 
-    /// Whether it is a mutator with no call in progress.
-    pub fn is_resting(&self) -> bool
-        ensures { result ≡ is_resting (shown self.now) }
-    {
-        match self {
-            Machine::Mutator(mutator) => mutator.is_resting(),
-            Machine::Helper(_) | Machine::Control(_) => false,
-        }
-    }
-
     /// How many objects its thread has made, if it is a mutator.
     pub fn made(&self) -> u32
         ensures { result ≡ made_of_machine (shown self.now) }
@@ -120,16 +109,6 @@ impl Machine {
         match self {
             Machine::Mutator(mutator) => mutator.made(),
             Machine::Helper(_) | Machine::Control(_) => 0,
-        }
-    }
-
-    /// Whether it is the control, and stores words of a new image. Words of the table are out of date then.
-    pub fn is_storing(&self) -> bool
-        ensures { result ≡ is_some (image_in (shown self.now)) }
-    {
-        match self {
-            Machine::Control(control) => control.is_storing(),
-            Machine::Mutator(_) | Machine::Helper(_) => false,
         }
     }
 

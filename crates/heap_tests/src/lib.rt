@@ -2,8 +2,6 @@
 #![tactic(auto)]
 
 #[cfg(test)]
-mod adders;
-#[cfg(test)]
 mod calls_step_by_step;
 #[cfg(test)]
 mod collections;

@@ -128,18 +128,6 @@ impl Image {
         false
     }
 
-    /// Makes the words of room that seats have in hand fit to be walked over, before a pause notes the edges of regions.
-    /// A seat has no such room while its machine waits, so there is nothing to do.
-    pub fn settle(&mut self)
-        ensures { IsUnchanged self.old self.new }
-    {}
-
-    /// Takes from each seat what it holds of a region, before objects are moved. Seats hold nothing but the number of their
-    /// current region, which is let go with the rest of a collection's words, so there is nothing to do.
-    pub fn let_go(&mut self)
-        ensures { IsUnchanged self.old self.new }
-    {}
-
     /// Writes the graph that the words of heap and roots stand for, as those of an image that holds a graph do: the objects
     /// that the roots lead to, by their current copies, in the order of their names, and the roots of each mutator. Answers
     /// are no roots here: what is promised is of no graph yet. What the text held before is gone. It was opened for at least

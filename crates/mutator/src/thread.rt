@@ -110,13 +110,6 @@ impl Mutator {
         }
     }
 
-    /// Whether no call is in progress.
-    pub fn is_resting(&self) -> bool
-        ensures { result ≡ is_between_calls (seen self.now).spot }
-    {
-        matches!(self.spot, Spot::Rest | Spot::Ended { .. } | Spot::Gone)
-    }
-
     /// Whether it may be given a command, or be told to end: no call is in progress, and it has not ended.
     pub fn takes_commands(&self) -> bool
         ensures { result ≡ takes_commands (seen self.now).spot }

@@ -7,6 +7,3 @@ pub mod ChangeHands
 pub mod Kept
 pub mod Numbers
 pub mod Reached
-pub mod AdderViews
-pub mod Locked
-pub mod StepsMade

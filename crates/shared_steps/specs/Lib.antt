@@ -1,4 +1,3 @@
 pub mod Views
 pub mod Rule
 pub mod Laws
-pub mod Adders

@@ -1,6 +1,5 @@
-ghost use Rattle.std.specs.Prelude.{◌≡◌, ◌<◌, ℕ, true, false, IfOk, IfErr, length, replicate, None};
-ghost use Rattle.std.specs.Option.{is_some};
-ghost use Rattle.shared_steps.specs.Views.{machine_of, dealt_to, left_over, is_dealt_to, merged};
+ghost use Rattle.std.specs.Prelude.{◌≡◌, ◌<◌, IfOk, IfErr, length, replicate, None};
+ghost use Rattle.shared_steps.specs.Views.{dealt_to, left_over, is_dealt_to, merged};
 
 use std::alloc::{AllocError, Global};
 use std::mem::swap;
@@ -48,17 +47,4 @@ pub fn join_machines<T: Drop>(machines: &mut Vec<Option<T>>, mut others: Vec<Opt
             swap(&mut machines[number], &mut others[number]);
         }
     }
-}
-
-/// Whether there is a machine under each number.
-pub fn all_there<T>(machines: &Vec<Option<T>>) -> bool
-    ensures all { result ≡ true → (number : ℕ) → number < length machines.now.items → is_some (machine_of machines.now.items number) ≡ true }
-    ensures not_all { result ≡ false → (number : ℕ) × (number < length machines.now.items) × (is_some (machine_of machines.now.items number) ≡ false) }
-{
-    for number in 0..machines.len() {
-        if machines[number].is_none() {
-            return false;
-        }
-    }
-    true
 }

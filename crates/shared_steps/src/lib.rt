@@ -2,7 +2,6 @@
 //! of machine.
 #![tactic(auto)]
 
-pub mod adders;
 mod bundles;
 mod hands;
 mod laws;
@@ -10,7 +9,7 @@ mod machines;
 mod steps;
 
 pub use bundles::{close_table, deal_bundle, join_bundle, open_table};
-pub use hands::{all_there, deal_machines, join_machines};
+pub use hands::{deal_machines, join_machines};
 pub use laws::{
     bundles_are_all, bundles_are_reached, memory_follows_views, numbers_stay, steps_keep_the_rule,
     steps_reach_memory,

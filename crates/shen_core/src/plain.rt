@@ -31,7 +31,7 @@ impl Plain {
     ghost use Rattle.shen_graph.specs.Valid.{IsValid};
     ghost use Rattle.heap_machines.specs.Pause.{pause_image};
     ghost use Rattle.heap_words.specs.Access.{table_index};
-    ghost use Rattle.step_core.specs.Machines.{takes_of, plan_of, is_machine_at, reply_in, place_in, is_resting, may_begin, made_of_machine, WaitsIn};
+    ghost use Rattle.step_core.specs.Machines.{takes_of, plan_of, is_machine_at, reply_in, place_in, may_begin, made_of_machine, WaitsIn};
     ghost use Rattle.step_core.specs.Opening.{opening};
     ghost use Rattle.shen_graph.specs.Graph.{Graph};
     ghost use Rattle.image_graph.specs.State as images;
@@ -156,14 +156,6 @@ impl Plain {
         self.config.seats()
     }
 
-    // Whether the machine is a mutator between two calls.
-    fn is_resting(&self, number: usize) -> bool
-        requires { number < seats_of self.now }
-        ensures { result ≡ is_resting (machine_at self.now number) }
-    {
-        self.machines[number].is_resting()
-    }
-
     // The next command of the machine's script, if it is a mutator.
     fn next_command(&self, work: &Work, number: usize) -> Option<Command>
         requires { CanRun self.now work.now }
@@ -259,19 +251,6 @@ impl Plain {
         ensures inside { table_index result < table_words (config_of self.now) }
     {
         self.machines[number].plan()
-    }
-
-    /// Whether no mutator has a call in progress, and the control is not storing a new image.
-    pub fn all_rest(&self) -> bool
-        ensures rest { result ≡ true → AllRest self.now }
-        ensures busy { result ≡ false → AllRest self.now → ⊥ }
-    {
-        for number in 0..self.config.mutators() {
-            if !self.is_resting(number) {
-                return false;
-            }
-        }
-        !self.machines[self.config.seats() - 1].is_storing()
     }
 
     /// Writes the graph that words and machines stand for: the objects that the mutators' roots lead to, in the order of

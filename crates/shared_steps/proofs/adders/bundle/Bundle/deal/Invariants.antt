@@ -1,4 +1,0 @@
-use Rattle.shared_steps.proofs.adders.bundle.Bundle.deal.Given as goal
-
-abbrev pub ghosts-deal_bundle : goal.ghosts-deal_bundle
-ghosts-deal_bundle a = record { bundles = a.bundles; bundle = a.bundle }

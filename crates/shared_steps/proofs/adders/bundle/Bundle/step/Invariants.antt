@@ -1,5 +1,0 @@
-use Rattle.std.proofs.Common.{Some}
-use Rattle.shared_steps.proofs.adders.bundle.Bundle.step.Given as goal
-
-abbrev pub ghosts-make_step : goal.ghosts-make_step
-ghosts-make_step a = record { key = Some a.table.now.key; number = a.number; order = Some a.order.now }
