@@ -35,7 +35,7 @@ use Rattle.alloc_buffers.specs.Facts.{HasLess}
 use Rattle.heap_world.specs.World.{World, hand}
 use Rattle.heap_world.specs.Change.{Change, IsPause}
 use Rattle.control_steps.specs.declared.spot.ControlSpot.{ControlSpot}
-use Rattle.control_steps.specs.declared.spot.ControlSpot.TheVariants.{Scanning, Evacuating, Updating, LoadWord}
+use Rattle.control_steps.specs.declared.spot.ControlSpot.TheVariants.{Working, LoadWord}
 use Rattle.control_steps.specs.Ready.{is_ready, UnitGoesOn}
 use Rattle.helper.specs.Rows.{Helping, help_touch}
 use Rattle.helper.specs.Ready as help
@@ -58,7 +58,7 @@ use Rattle.step_core.proofs.Crowding.{run_crowded}
 use Rattle.step_core.proofs.Facts.{IsSeen, IsThread, IsAim, IsMachine}
 use Rattle.step_core.proofs.FirstFacts.{opening_run}
 use Rattle.step_core.proofs.Images.{found-placed}
-use Rattle.step_core.proofs.ControlEvents.{whole_stands, scan_fit, evac_fit, update_fit}
+use Rattle.step_core.proofs.ControlEvents.{whole_stands, work_fit}
 use Rattle.step_core.proofs.Helpers.{help_leaves_image, help_word, help_fits, help_fits_outside}
 use Rattle.step_core.proofs.PartFits.{part_fits, part_outside, within_call}
 use Rattle.step_core.proofs.Held.{IsKept, held_image, outside_held}
@@ -181,14 +181,8 @@ module _ (change : Change) (law : IsPause change) (c : Config) (g : Graph) (s : 
   -- also while it works on a unit
   fit_unit : (number seen phase cset : ℕ) (image : List ℕ) (a : Actor) (spot : ControlSpot) → slice_get s.machines number ≡ Some a → a.machine ≡ controlling (record { spot = spot; seen = seen; phase = phase; cset = cset; image = image })
       → UnitGoesOn c spot (slice_index s.words (table_index (control_access c (record { spot = spot; seen = seen; phase = phase; cset = cset; image = image }))))
-  fit_unit number seen phase cset image a (Scanning at) here is =
-      scan_fit change law c g s h number seen phase cset image a.command a.calls goes.follows goes.shaken at
-      (here ∙ ap (λ machine. Some (record { machine = machine; command = a.command; calls = a.calls })) is)
-  fit_unit number seen phase cset image a (Evacuating kept at) here is =
-      evac_fit change law c g s h number seen phase cset image a.command a.calls goes.follows goes.shaken kept at
-      (here ∙ ap (λ machine. Some (record { machine = machine; command = a.command; calls = a.calls })) is)
-  fit_unit number seen phase cset image a (Updating kept at) here is =
-      update_fit change law c g s h number seen phase cset image a.command a.calls goes.follows goes.shaken kept at
+  fit_unit number seen phase cset image a (Working at) here is =
+      work_fit change law c g s h number seen phase cset image a.command a.calls goes.follows goes.shaken at
       (here ∙ ap (λ machine. Some (record { machine = machine; command = a.command; calls = a.calls })) is)
   fit_unit number seen phase cset image a _ here is = tt
 
