@@ -73,6 +73,10 @@ use Rattle.step_core.specs.Standing.{standing_at, help_standing}
 use Rattle.step_core.proofs.Replies.{unsettled_at_rest, unsettled_before, settled_after}
 use Rattle.step_core.proofs.Requests.{has_asked}
 use Rattle.step_core.proofs.Seats.{in_seat, served}
+use Rattle.step_core.proofs.AtRest.{at_rest}
+use Rattle.step_core.specs.AtRest.{IsAtRest}
+use Rattle.heap_world.specs.Asking.{nothing}
+use Rattle.heap_world.specs.Represents.{Represents}
 use Rattle.step_core.proofs.Roles.{number_of, mutator_of, machine_there}
 
 -- a mutator that ends has not ended, and its access is of the count
@@ -345,6 +349,10 @@ module _ (change : Change) (law : IsPause change) (c : Config) (s : Stage Actor)
   pub run_lacks_room : (events : List (Event Order)) (number : ℕ) (a : Actor) (words : ℕ)
       → slice_get (go (kind change c) s events).machines number ≡ Some a → looks_for a.machine ≡ Some words → HasLess c (settled c (go (kind change c) s events)) number words
   run_lacks_room events = lacks_room change law c g (go (kind change c) s events) (history change c s events) (goes_all events)
+
+  -- a heap at rest
+  pub run_rests : (events : List (Event Order)) → IsAtRest c (go (kind change c) s events) → Represents c (settled c (go (kind change c) s events)) (after g (history change c s events)) (λ t. nothing)
+  run_rests events = at_rest c g (go (kind change c) s events) (history change c s events) (goes_all events)
 
 -- where a run leads is sound
 pub run_sound : (change : Change) → IsPause change → (c : Config) (run : Run c) → IsSound c run.graph (ending change c run) (history_in change c run)

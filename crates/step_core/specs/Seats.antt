@@ -70,6 +70,11 @@ abbrev pub control_unit : ControlSpot → UnitSpot
 control_unit (control.Working at) = at
 control_unit _ = Ended Worked
 
+-- whether the control works on one
+abbrev pub is_working : ControlSpot → Bool
+is_working (control.Working at) = true
+is_working _ = false
+
 abbrev pub unit_in : Machine → UnitSpot
 unit_in (mutating m) = Ended Worked
 unit_in (helping h) = help_unit h.spot
