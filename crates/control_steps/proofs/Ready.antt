@@ -1,7 +1,7 @@
 -- The control can make its next access wherever it goes on.
 use Rattle.std.proofs.Common.{◌≡◌, ℕ, ◌+◌, ◌<◌, Bool, true, false, refl, sym, subst, arith}
 use Rattle.std.specs.Prelude.{◌==◌, nat_lt, if◌then◌else◌}
-use Rattle.std.proofs.lemmas.Bool.{and_parts, lt-ltb, ltb-true}
+use Rattle.std.proofs.lemmas.Bool.{and_parts, and_from, lt-ltb, ltb-true}
 use Rattle.std.proofs.lemmas.Bool.Decides.{nat_tests}
 use Rattle.heap_words.specs.declared.config.Config.{Config}
 use Rattle.heap_words.specs.Access.{table_index}
@@ -14,22 +14,16 @@ use Rattle.handshake.specs.declared.stop_spot.StopSpot.{StopSpot}
 use Rattle.handshake.specs.declared.stop_spot.StopSpot.TheVariants as stop
 use Rattle.handshake.specs.Rows.{after_seat, stop_touch}
 use Rattle.heap_words.specs.declared.access.Unit.TheVariants.{Worked, NoneLeft}
-use Rattle.scan_steps.specs.declared.spot.ScanSpot.{ScanSpot}
-use Rattle.scan_steps.specs.declared.spot.ScanSpot.TheVariants as scan
-use Rattle.scan_steps.specs.Rows as scans
-use Rattle.load_barrier.specs.declared.evac_spot.EvacSpot.{EvacSpot}
-use Rattle.load_barrier.specs.declared.evac_spot.EvacSpot.TheVariants as evac
-use Rattle.load_barrier.specs.UnitRows as evacs
-use Rattle.load_barrier.specs.UnitFit as evac_fit
-use Rattle.load_barrier.proofs.Inside.{evacuation_inside}
-use Rattle.update_refs.specs.declared.spot.UpdateSpot.{UpdateSpot}
-use Rattle.update_refs.specs.declared.spot.UpdateSpot.TheVariants as update
-use Rattle.update_refs.specs.Rows as updates
-use Rattle.update_refs.proofs.Inside.{updating_inside}
+use Rattle.unit_part.specs.declared.spot.UnitSpot.{UnitSpot}
+use Rattle.unit_part.specs.declared.spot.UnitSpot.TheVariants.{Ended}
+use Rattle.unit_part.specs.Rows as units
+use Rattle.unit_part.specs.Ready as unit
+use Rattle.unit_part.proofs.Inside as inside
+use Rattle.unit_part.proofs.Left.{by_phase}
 use Rattle.heap_world.specs.Change.{image_words}
 use Rattle.control_steps.specs.declared.spot.ControlSpot.{ControlSpot}
-use Rattle.control_steps.specs.declared.spot.ControlSpot.TheVariants.{LookLeft, StoreEnd, LookAsked, LookFree, Scanning, Evacuating, Updating, Stopping, LoadWord, StoreWord, Go, Gone}
-use Rattle.control_steps.specs.Rows.{control_seat, control_touch, after_scan, after_evacuation, after_updating, stopping, begins_pause, begins_unit, unasked, wants_pause}
+use Rattle.control_steps.specs.declared.spot.ControlSpot.TheVariants.{LookLeft, StoreEnd, LookAsked, LookFree, Working, Stopping, LoadWord, StoreWord, Go, Gone}
+use Rattle.control_steps.specs.Rows.{control_seat, control_touch, after_unit, stopping, begins_pause, unasked, wants_pause}
 use Rattle.control_steps.specs.Ready.{is_ready, UnitGoesOn, AccessesAreInside, StaysReady}
 
 -- of two spots
@@ -46,28 +40,15 @@ checks_on : (c : Config) (b : Bool) (x y : StopSpot) → (b ≡ true → is_read
 checks_on c true x y one other = one refl
 checks_on c false x y one other = other refl
 
--- where a scan goes on
-scans_on : (c : Config) (at : ScanSpot) → scans.is_ready c at ≡ true → is_ready c (after_scan at) ≡ true
-scans_on c (scan.Ended Worked) ready = refl
-scans_on c (scan.Ended NoneLeft) ready = refl
-scans_on c at ready = search arith
-
--- where an evacuation goes on
-evacuates_on : (c : Config) (cset : ℕ) (at : EvacSpot) → evac_fit.is_ready c (control_seat c) at ≡ true → is_ready c (after_evacuation cset at) ≡ true
-evacuates_on c cset (evac.Ended Worked) ready = refl
-evacuates_on c cset (evac.Ended NoneLeft) ready = refl
-evacuates_on c cset at ready = search arith
-
--- where an updating goes on
-updates_on : (c : Config) (cset : ℕ) (at : UpdateSpot) → updates.is_ready c at ≡ true → is_ready c (after_updating cset at) ≡ true
-updates_on c cset (update.Ended Worked) ready = refl
-updates_on c cset (update.Ended NoneLeft) ready = refl
-updates_on c cset at ready = search arith
+-- where it goes on with its unit
+works_on : (c : Config) (at : UnitSpot) → unit.is_ready c (control_seat c) at ≡ true → is_ready c (after_unit at) ≡ true
+works_on c (Ended Worked) ready = refl
+works_on c (Ended NoneLeft) ready = refl
+works_on c _ ready = and_from _ _ ready refl
 
 -- where it begins with a unit
-begins_ready : (c : Config) (phase cset : ℕ) → is_ready c (begins_unit phase cset) ≡ true
-begins_ready c phase cset = of_two c (phase == 1) (Scanning scan.LoadClaim) (if phase == 2 then Evacuating cset evac.LoadClaim else Updating cset update.LoadClaim) (λ e. refl)
-    (λ e. of_two c (phase == 2) (Evacuating cset evac.LoadClaim) (Updating cset update.LoadClaim) (λ e. refl) (λ e. refl))
+begins_ready : (c : Config) (phase cset : ℕ) → is_ready c (Working (units.begins phase cset)) ≡ true
+begins_ready c phase cset = by_phase (λ at. is_ready c (Working at) ≡ true) phase cset (λ one. refl) (λ no two. refl) (λ no other. refl)
 
 -- what is known of a spot is known of it under its own name
 pub ready_at : (c : Config) (spot at : ControlSpot) → spot ≡ at → is_ready c spot ≡ true → is_ready c at ≡ true
@@ -80,11 +61,9 @@ pub stays_ready : StaysReady
 stays_ready c phase cset seen LookLeft got ready goes = of_two c (got == 0) StoreEnd LookAsked (λ e. refl) (λ e. refl)
 stays_ready c phase cset seen StoreEnd got ready goes = refl
 stays_ready c phase cset seen LookAsked got ready goes = of_two c (begins_pause phase got) (Stopping stop.Raise) (unasked phase cset) (λ e. refl)
-    (λ e. of_two c (phase == 0) LookFree (begins_unit phase cset) (λ e. refl) (λ e. begins_ready c phase cset))
+    (λ e. of_two c (phase == 0) LookFree (Working (units.begins phase cset)) (λ e. refl) (λ e. begins_ready c phase cset))
 stays_ready c phase cset seen LookFree got ready goes = of_two c (wants_pause c seen got) (Stopping stop.Raise) LookLeft (λ e. refl) (λ e. refl)
-stays_ready c phase cset seen (Scanning at) got ready goes = scans_on c (scans.next_at c at got) goes
-stays_ready c phase cset seen (Evacuating kept at) got ready goes = evacuates_on c kept (evacs.next_at c kept at got) goes.0
-stays_ready c phase cset seen (Updating kept at) got ready goes = updates_on c kept (updates.next_at c kept at got) goes
+stays_ready c phase cset seen (Working at) got ready goes = works_on c (units.next_at c at got) (inside.stays_ready c (control_seat c) at got (and_parts _ _ ready).0 goes)
 stays_ready c phase cset seen (Stopping stop.Raise) got ready goes = (let some = c.in_range.least_mutators in grind (arith, nat_tests))
 stays_ready c phase cset seen (Stopping (stop.Check seat)) got ready goes =
     checks_on c (got == 0) (after_seat c seat) (stop.Check seat)
@@ -106,9 +85,7 @@ accesses_inside c LookLeft value ready = placed_inside c (control_touch c LookLe
 accesses_inside c StoreEnd value ready = placed_inside c (control_touch c StoreEnd) tt
 accesses_inside c LookAsked value ready = placed_inside c (control_touch c LookAsked) tt
 accesses_inside c LookFree value ready = placed_inside c (control_touch c LookFree) tt
-accesses_inside c (Scanning at) value ready = search (arith, nat_tests)
-accesses_inside c (Evacuating cset at) value ready = placed_inside c (control_touch c (Evacuating cset at)) (evacuation_inside c (control_seat c) at (and_parts _ _ ready).0)
-accesses_inside c (Updating cset at) value ready = placed_inside c (control_touch c (Updating cset at)) (updating_inside c at (and_parts _ _ ready).0)
+accesses_inside c (Working at) value ready = inside.accesses_inside c (control_seat c) at (and_parts _ _ ready).0
 accesses_inside c (Stopping at) value ready = placed_inside c (stop_touch at) (is_word_true c (stop_touch at).word (and_parts _ _ (and_parts _ _ ready).0).0)
 accesses_inside c (LoadWord index) value ready = (let below = ltb-true _ _ ready in omega (arith, below))
 accesses_inside c (StoreWord index) value ready = (let below = ltb-true _ _ ready in omega (arith, below))

@@ -5,23 +5,17 @@ use Rattle.heap_words.specs.Access.{table_index}
 use Rattle.heap_words.specs.Words.{table_words}
 use Rattle.steps_base.specs.Fits.{touch_fits}
 use Rattle.handshake.specs.Rows.{stop_touch, is_stopped}
-use Rattle.scan_steps.specs.Rows as scans
-use Rattle.scan_steps.specs.Seen as scan
-use Rattle.load_barrier.specs.UnitRows as evacs
-use Rattle.load_barrier.specs.UnitFit as evac
-use Rattle.update_refs.specs.Rows as updates
-use Rattle.update_refs.specs.Seen as update
+use Rattle.unit_part.specs.Rows as units
+use Rattle.unit_part.specs.Ready as unit
 use Rattle.heap_world.specs.Change.{image_words}
 use Rattle.control_steps.specs.declared.spot.ControlSpot.{ControlSpot}
-use Rattle.control_steps.specs.declared.spot.ControlSpot.TheVariants.{Scanning, Evacuating, Updating, Stopping, LoadWord, StoreWord}
+use Rattle.control_steps.specs.declared.spot.ControlSpot.TheVariants.{Working, Stopping, LoadWord, StoreWord}
 use Rattle.control_steps.specs.Rows.{control_seat, access_with, next_spot}
 
 -- whether the numbers of a spot are in range: the next access of a unit can be made, a seat is one of a mutator or a helper, an
 -- index one of a word of the image
 abbrev pub is_ready : Config → ControlSpot → Bool
-is_ready c (Scanning at) = scans.is_ready c at && (if scans.is_ended at then false else true)
-is_ready c (Evacuating cset at) = evac.is_ready c (control_seat c) at && (if evacs.is_ended at then false else true)
-is_ready c (Updating cset at) = updates.is_ready c at && (if updates.is_ended at then false else true)
+is_ready c (Working at) = unit.is_ready c (control_seat c) at && (if units.is_ended at then false else true)
 is_ready c (Stopping at) = touch_fits c (stop_touch at) && (if is_stopped at then false else true)
 is_ready c (LoadWord index) = nat_lt index (image_words c)
 is_ready c (StoreWord index) = nat_lt index (image_words c)
@@ -33,9 +27,7 @@ AccessesAreInside = (c : Config) (spot : ControlSpot) (value : ℕ) → is_ready
 
 -- a unit can go on from a word
 abbrev pub UnitGoesOn : Config → ControlSpot → ℕ → Type 0
-UnitGoesOn c (Scanning at) got = scan.IsFit c at got
-UnitGoesOn c (Evacuating cset at) got = evac.IsFit c (control_seat c) cset at got
-UnitGoesOn c (Updating cset at) got = update.IsFit c cset at got
+UnitGoesOn c (Working at) got = unit.IsFit c (control_seat c) at got
 UnitGoesOn c _ got = Unit {0}
 
 -- and they are in range at the next spot, whatever word is found; in a unit, where the unit can go on from it

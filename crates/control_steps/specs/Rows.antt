@@ -17,18 +17,12 @@ use Rattle.handshake.specs.declared.stop_spot.StopSpot.{StopSpot}
 use Rattle.handshake.specs.declared.stop_spot.StopSpot.TheVariants as stop
 use Rattle.handshake.specs.Rows.{stop_place, stop_touch, stop_next, go_touch}
 use Rattle.heap_words.specs.declared.access.Unit.TheVariants.{Worked, NoneLeft}
-use Rattle.scan_steps.specs.declared.spot.ScanSpot.{ScanSpot}
-use Rattle.scan_steps.specs.declared.spot.ScanSpot.TheVariants as scan
-use Rattle.scan_steps.specs.Rows as scans
-use Rattle.load_barrier.specs.declared.evac_spot.EvacSpot.{EvacSpot}
-use Rattle.load_barrier.specs.declared.evac_spot.EvacSpot.TheVariants as evac
-use Rattle.load_barrier.specs.UnitRows as evacs
-use Rattle.update_refs.specs.declared.spot.UpdateSpot.{UpdateSpot}
-use Rattle.update_refs.specs.declared.spot.UpdateSpot.TheVariants as update
-use Rattle.update_refs.specs.Rows as updates
+use Rattle.unit_part.specs.declared.spot.UnitSpot.{UnitSpot}
+use Rattle.unit_part.specs.declared.spot.UnitSpot.TheVariants.{Ended}
+use Rattle.unit_part.specs.Rows as units
 use Rattle.heap_world.specs.Change.{Change, image_view, image_words}
 use Rattle.control_steps.specs.declared.spot.ControlSpot.{ControlSpot}
-use Rattle.control_steps.specs.declared.spot.ControlSpot.TheVariants.{LookLeft, StoreEnd, LookAsked, LookFree, Scanning, Evacuating, Updating, Stopping, LoadWord, StoreWord, Go, Gone}
+use Rattle.control_steps.specs.declared.spot.ControlSpot.TheVariants.{LookLeft, StoreEnd, LookAsked, LookFree, Working, Stopping, LoadWord, StoreWord, Go, Gone}
 
 -- what the events see of the control
 pub record Controlling : Type 0 where
@@ -56,9 +50,7 @@ control_place LookLeft = place.I0
 control_place StoreEnd = place.IE
 control_place LookAsked = place.I1
 control_place LookFree = place.I2
-control_place (Scanning at) = scans.place_at at
-control_place (Evacuating cset at) = evacs.place_at at
-control_place (Updating cset at) = updates.place_at at
+control_place (Working at) = units.place_at at
 control_place (Stopping at) = stop_place at
 control_place (LoadWord index) = place.PL
 control_place (StoreWord index) = place.PS
@@ -71,9 +63,7 @@ control_touch c LookLeft = touch Left loads
 control_touch c StoreEnd = touch End (stores 1)
 control_touch c LookAsked = touch Ask loads
 control_touch c LookFree = touch Free loads
-control_touch c (Scanning at) = scans.touch_at c at
-control_touch c (Evacuating cset at) = evacs.touch_at c (control_seat c) at
-control_touch c (Updating cset at) = updates.touch_at c at
+control_touch c (Working at) = units.touch_at c (control_seat c) at
 control_touch c (Stopping at) = stop_touch at
 control_touch c Go = go_touch
 control_touch c _ = touch Left loads
@@ -98,36 +88,19 @@ abbrev pub stopping : StopSpot → ControlSpot
 stopping stop.Stopped = LoadWord 0
 stopping at = Stopping at
 
--- where it stands that scans: once a unit is done it looks again what is to do, and once none was left it makes a pause
-abbrev pub after_scan : ScanSpot → ControlSpot
-after_scan (scan.Ended Worked) = LookLeft
-after_scan (scan.Ended NoneLeft) = Stopping stop.Raise
-after_scan at = Scanning at
-
--- and where it stands that evacuates a collection set
-abbrev pub after_evacuation : ℕ → EvacSpot → ControlSpot
-after_evacuation cset (evac.Ended Worked) = LookLeft
-after_evacuation cset (evac.Ended NoneLeft) = Stopping stop.Raise
-after_evacuation cset at = Evacuating cset at
-
--- and where it stands that updates references into a collection set
-abbrev pub after_updating : ℕ → UpdateSpot → ControlSpot
-after_updating cset (update.Ended Worked) = LookLeft
-after_updating cset (update.Ended NoneLeft) = Stopping stop.Raise
-after_updating cset at = Updating cset at
+-- where it stands that works on a unit: once that is done it looks again what is to do, and once none was left it makes a pause
+abbrev pub after_unit : UnitSpot → ControlSpot
+after_unit (Ended Worked) = LookLeft
+after_unit (Ended NoneLeft) = Stopping stop.Raise
+after_unit at = Working at
 
 -- whether a pause is asked for: by bit 1 because a mutator waits for room, and in phase 0 by bit 0 for a cycle
 abbrev pub begins_pause : ℕ → ℕ → Bool
 begins_pause phase asked = (bit_at asked 1 == 1) || ((phase == 0) && (bit_at asked 0 == 1))
 
--- where it begins with a unit, by the phase and the collection set: in phase 1 objects are marked, in phase 2 copied, and in phase 3
--- references are updated
-abbrev pub begins_unit : (phase cset : ℕ) → ControlSpot
-begins_unit phase cset = if phase == 1 then Scanning scan.LoadClaim else (if phase == 2 then Evacuating cset evac.LoadClaim else Updating cset update.LoadClaim)
-
 -- what it does where no pause is asked for: in phase 0 it looks at the free word, and in each other it claims a unit
 abbrev pub unasked : (phase cset : ℕ) → ControlSpot
-unasked phase cset = if phase == 0 then LookFree else begins_unit phase cset
+unasked phase cset = if phase == 0 then LookFree else Working (units.begins phase cset)
 
 -- whether the free word calls for a pause: fewer than half of the regions are free, and it is not the word seen
 abbrev pub wants_pause : Config → ℕ → ℕ → Bool
@@ -139,9 +112,7 @@ next_spot c phase cset seen LookLeft got = if got == 0 then StoreEnd else LookAs
 next_spot c phase cset seen StoreEnd got = Gone
 next_spot c phase cset seen LookAsked got = if begins_pause phase got then Stopping stop.Raise else unasked phase cset
 next_spot c phase cset seen LookFree got = if wants_pause c seen got then Stopping stop.Raise else LookLeft
-next_spot c phase cset seen (Scanning at) got = after_scan (scans.next_at c at got)
-next_spot c phase cset seen (Evacuating kept at) got = after_evacuation kept (evacs.next_at c kept at got)
-next_spot c phase cset seen (Updating kept at) got = after_updating kept (updates.next_at c kept at got)
+next_spot c phase cset seen (Working at) got = after_unit (units.next_at c at got)
 next_spot c phase cset seen (Stopping at) got = stopping (stop_next c at got)
 next_spot c phase cset seen (LoadWord index) got = if nat_lt (index + 1) (image_words c) then LoadWord (index + 1) else StoreWord 0
 next_spot c phase cset seen (StoreWord index) got = if nat_lt (index + 1) (image_words c) then StoreWord (index + 1) else Go
@@ -183,32 +154,20 @@ control_next change c k got = record {
   image = next_image change c k.spot k.image got;
 }
 
--- what a step of scanning says: again where a helper has claimed the unit
-abbrev pub scanning_says : ScanSpot → ℕ → Took
-scanning_says (scan.ClaimUnit unit) got = if got == unit then More else Again
-scanning_says at got = More
-
 -- what a step of stopping says: again while the seat is not out
 abbrev pub stopping_says : StopSpot → ℕ → Took
 stopping_says (stop.Check seat) got = if got == 0 then More else Again
 stopping_says at got = More
 
--- what a step of evacuation says that says this by itself: once a unit is done, or none was left, there is more to do
-abbrev pub evacuating_says : Took → Took
-evacuating_says Done = More
-evacuating_says said = said
-
--- what a step of updating says: again where a helper has claimed the unit
-abbrev pub updating_says : UpdateSpot → ℕ → Took
-updating_says (update.ClaimUnit unit) got = if got == unit then More else Again
-updating_says at got = More
+-- what a step of a unit says that says this by itself: once the unit is done, or none was left, there is more to do
+abbrev pub working_says : Took → Took
+working_says Done = More
+working_says said = said
 
 -- what a step says that finds this word: that it waits, that another machine was faster, or that there is more to do
 abbrev pub says_at : Config → ℕ → ControlSpot → ℕ → Took
 says_at c seen LookFree got = if wants_pause c seen got then More else Again
-says_at c seen (Scanning at) got = scanning_says at got
-says_at c seen (Evacuating cset at) got = evacuating_says (evacs.says_at c cset at got)
-says_at c seen (Updating cset at) got = updating_says at got
+says_at c seen (Working at) got = working_says (units.says_at c at got)
 says_at c seen (Stopping at) got = stopping_says at got
 says_at c seen _ got = More
 

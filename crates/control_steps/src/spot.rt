@@ -9,12 +9,10 @@ ghost use Rattle.control_steps.specs.Waits.{waits_at};
 
 use handshake::{StopSpot, go_access};
 use heap_words::{Access, Config, Place, Took, Unit};
-use load_barrier::EvacSpot;
 use regions::size;
-use scan_steps::ScanSpot;
 use std::fmt;
 use std::fmt::{Debug, Formatter, Write};
-use update_refs::UpdateSpot;
+use unit_part::UnitSpot;
 
 // The bits of what is asked for: a cycle, and room for an object.
 const CYCLE: u32 = 0;
@@ -23,12 +21,6 @@ const ROOM: u32 = 1;
 
 // The phase between two cycles.
 const IDLE: u64 = 0;
-
-// The phase in which objects are marked.
-const MARK: u64 = 1;
-
-// The phase in which they are copied.
-const EVAC: u64 = 2;
 
 /// What stood in the image at the end of the control's last pause.
 #[derive(Clone, Copy, Debug)]
@@ -52,24 +44,10 @@ pub enum ControlSpot {
     LookAsked,
     /// It loads the free word.
     LookFree,
-    /// It claims a unit of marking and scans it.
-    Scanning {
-        /// Where the scan stands.
-        at: ScanSpot,
-    },
-    /// It claims a unit of evacuation and copies what is marked there.
-    Evacuating {
-        /// The collection set.
-        cset: u64,
-        /// Where the evacuation stands.
-        at: EvacSpot,
-    },
-    /// It claims a unit of updating and updates the references there.
-    Updating {
-        /// The collection set.
-        cset: u64,
-        /// Where the updating stands.
-        at: UpdateSpot,
+    /// It claims a unit and works on it.
+    Working {
+        /// Where the work stands.
+        at: UnitSpot,
     },
     /// It stops the mutators and helpers.
     Stopping {
@@ -102,9 +80,7 @@ impl ControlSpot {
             ControlSpot::StoreEnd | ControlSpot::Gone => Place::IE,
             ControlSpot::LookAsked => Place::I1,
             ControlSpot::LookFree => Place::I2,
-            ControlSpot::Scanning { at } => at.place(),
-            ControlSpot::Evacuating { at, .. } => at.place(),
-            ControlSpot::Updating { at, .. } => at.place(),
+            ControlSpot::Working { at } => at.place(),
             ControlSpot::Stopping { at } => at.place(),
             ControlSpot::LoadWord { .. } => Place::PL,
             ControlSpot::StoreWord { .. } => Place::PS,
@@ -141,9 +117,7 @@ impl ControlSpot {
             ControlSpot::LookFree => Access::Load {
                 at: config.free_at(),
             },
-            ControlSpot::Scanning { at } => at.access(config),
-            ControlSpot::Evacuating { at, .. } => at.access(config, seat_of(config)),
-            ControlSpot::Updating { at, .. } => at.access(config),
+            ControlSpot::Working { at } => at.access(config, seat_of(config)),
             ControlSpot::Stopping { at } => at.access(config),
             ControlSpot::LoadWord { index } => Access::Load {
                 at: config.image_start() + index,
@@ -186,18 +160,10 @@ impl ControlSpot {
             ControlSpot::LookAsked => (unasked(last.phase, last.cset), Took::More),
             ControlSpot::LookFree if is_wanted(config, last.seen, got) => (STOP, Took::More),
             ControlSpot::LookFree => (ControlSpot::LookLeft, Took::Again),
-            ControlSpot::Scanning { at } => (
-                after_scan(at.after(config, got)),
-                scanning_says(at, got),
-            ),
-            ControlSpot::Evacuating { cset, at } => {
-                let (next, said) = at.after(config, seat_of(config), cset, got);
-                (after_evacuation(cset, next), evacuating_says(said))
+            ControlSpot::Working { at } => {
+                let (next, said) = at.after(config, seat_of(config), got);
+                (after_unit(next), working_says(said))
             }
-            ControlSpot::Updating { cset, at } => (
-                after_updating(cset, at.after(config, cset, got)),
-                updating_says(at, got),
-            ),
             ControlSpot::Stopping { at } => (
                 stopping(at.after(config, got)),
                 stopping_says(at, got),
@@ -251,95 +217,32 @@ fn unasked(phase: u64, cset: u64) -> ControlSpot
     if phase == IDLE {
         ControlSpot::LookFree
     } else {
-        begins_unit(phase, cset)
-    }
-}
-
-// Where it begins with a unit of the phase.
-fn begins_unit(phase: u64, cset: u64) -> ControlSpot
-    ensures { result ≡ rows.begins_unit phase cset }
-{
-    match phase {
-        MARK => ControlSpot::Scanning {
-            at: ScanSpot::LoadClaim,
-        },
-        EVAC => ControlSpot::Evacuating {
-            cset,
-            at: EvacSpot::LoadClaim,
-        },
-        _ => ControlSpot::Updating {
-            cset,
-            at: UpdateSpot::LoadClaim,
-        },
+        ControlSpot::Working {
+            at: UnitSpot::begin(phase, cset),
+        }
     }
 }
 
 // Once a unit is done it looks again what is to do, and once none was left it makes a pause.
-fn after_scan(at: ScanSpot) -> ControlSpot
-    ensures { result ≡ rows.after_scan at }
+fn after_unit(at: UnitSpot) -> ControlSpot
+    ensures { result ≡ rows.after_unit at }
 {
     match at {
-        ScanSpot::Ended { unit: Unit::Worked } => ControlSpot::LookLeft,
-        ScanSpot::Ended {
+        UnitSpot::Ended { unit: Unit::Worked } => ControlSpot::LookLeft,
+        UnitSpot::Ended {
             unit: Unit::NoneLeft,
         } => STOP,
-        at => ControlSpot::Scanning { at },
+        at => ControlSpot::Working { at },
     }
 }
 
-// It says again where a helper has claimed the unit.
-fn scanning_says(at: ScanSpot, got: u64) -> Took
-    ensures { result ≡ rows.scanning_says at got }
-{
-    match at {
-        ScanSpot::ClaimUnit { unit } if got != unit => Took::Again,
-        _ => Took::More,
-    }
-}
-
-// Once a unit is done it looks again what is to do, and once none was left it makes a pause.
-fn after_evacuation(cset: u64, at: EvacSpot) -> ControlSpot
-    ensures { result ≡ rows.after_evacuation cset at }
-{
-    match at {
-        EvacSpot::Ended { unit: Unit::Worked } => ControlSpot::LookLeft,
-        EvacSpot::Ended {
-            unit: Unit::NoneLeft,
-        } => STOP,
-        at => ControlSpot::Evacuating { cset, at },
-    }
-}
-
-// What a step of evacuation says: once a unit is done, or none was left, there is more to do.
-fn evacuating_says(said: Took) -> Took
-    ensures { result ≡ rows.evacuating_says said }
+// What a step of a unit says: once the unit is done, or none was left, there is more to do.
+fn working_says(said: Took) -> Took
+    ensures { result ≡ rows.working_says said }
 {
     match said {
         Took::Done => Took::More,
         said => said,
-    }
-}
-
-// Once a unit is done it looks again what is to do, and once none was left it makes a pause.
-fn after_updating(cset: u64, at: UpdateSpot) -> ControlSpot
-    ensures { result ≡ rows.after_updating cset at }
-{
-    match at {
-        UpdateSpot::Ended { unit: Unit::Worked } => ControlSpot::LookLeft,
-        UpdateSpot::Ended {
-            unit: Unit::NoneLeft,
-        } => STOP,
-        at => ControlSpot::Updating { cset, at },
-    }
-}
-
-// It says again where a helper has claimed the unit.
-fn updating_says(at: UpdateSpot, got: u64) -> Took
-    ensures { result ≡ rows.updating_says at got }
-{
-    match at {
-        UpdateSpot::ClaimUnit { unit } if got != unit => Took::Again,
-        _ => Took::More,
     }
 }
 

@@ -18,7 +18,7 @@ use Rattle.heap_world.specs.Change.{Change, IsPause}
 use Rattle.evac_steps.proofs.Parts.{all_is_forwarded}
 use Rattle.mutator.specs.Rows.{Mutating}
 use Rattle.control_steps.specs.declared.spot.ControlSpot.{ControlSpot}
-use Rattle.control_steps.specs.declared.spot.ControlSpot.TheVariants.{LookFree, Scanning, Evacuating, Updating, Stopping, LoadWord}
+use Rattle.control_steps.specs.declared.spot.ControlSpot.TheVariants.{LookFree, Working, Stopping, LoadWord}
 use Rattle.control_steps.specs.Rows.{word_stored}
 use Rattle.step_core.specs.Actor.{Machine, mutating, helping, controlling, Actor}
 use Rattle.step_core.specs.Begins.{Begins}
@@ -104,9 +104,7 @@ module _ (c : Config) (g : Graph) (s : Stage Actor) (h : List Entry) (goes : Goe
   module _ (pause : IsInPause c s) where
     -- the control rests in a pause
     control_rests : (number : ℕ) (spot : ControlSpot) → is_pausing (control_standing spot) ≡ true → ControlFacts c the_world number spot → IsResting the_world number
-    control_rests number (Scanning at) on facts = absurd (cc (on))
-    control_rests number (Evacuating cset at) on facts = absurd (cc (on))
-    control_rests number (Updating cset at) on facts = absurd (cc (on))
+    control_rests number (Working at) on facts = absurd (cc (on))
     control_rests number LookFree on facts = absurd (cc (on))
     control_rests number (Stopping at) on facts = facts.0
     control_rests number (LoadWord index) on facts = facts.0

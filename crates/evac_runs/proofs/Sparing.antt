@@ -44,9 +44,7 @@ use Rattle.heap_world.proofs.Pointing.{copy_cases, body_piece}
 use Rattle.copy_steps.specs.Resolving.{IsCopied, ResolveFacts, CanResolve}
 use Rattle.copy_steps.proofs.Bodies.{piece_word_is}
 use Rattle.copy_steps.proofs.Parts.{resolving_steps}
-use Rattle.mark_steps.proofs.Parts.{scanning_steps}
 use Rattle.evac_steps.specs.Evacuating.{CanEvacuate}
-use Rattle.evac_steps.proofs.Parts.{evacuating_steps}
 use Rattle.update_refs.specs.Rows as updates
 use Rattle.update_refs.specs.declared.spot.UpdateSpot.{UpdateSpot}
 use Rattle.update_steps.specs.Updating.{CanUpdate}
@@ -71,6 +69,10 @@ use Rattle.mutator.specs.Commands.{index_of}
 use Rattle.mutator.specs.Rows.{Mutating, load_touch, field_place, field_touch, number_place, number_touch, show_touch, make_touch, first_touch, touch_at, touch_of, place_at}
 use Rattle.mutator.specs.Orders.{takes_at}
 use Rattle.mutator.specs.WaitRows.{wait_touch}
+use Rattle.unit_part.specs.declared.spot.UnitSpot.{UnitSpot}
+use Rattle.unit_part.specs.declared.spot.UnitSpot.TheVariants as unit
+use Rattle.unit_part.specs.Rows as units
+use Rattle.unit_part.proofs.Inside.{unit_inside}
 use Rattle.helper.specs.declared.spot.HelpSpot.{HelpSpot}
 use Rattle.helper.specs.declared.spot.HelpSpot.TheVariants as help
 use Rattle.helper.specs.Rows as helps
@@ -81,7 +83,7 @@ use Rattle.control_steps.specs.Rows.{control_seat, control_touch, access_with}
 use Rattle.control_steps.specs.Ready.{is_ready}
 use Rattle.step_core.specs.Settled.{stored_image}
 use Rattle.step_core.proofs.Stepped.{FieldFacts, NumberFacts, MakeFacts, IsResolving, SpotFacts, Mine}
-use Rattle.step_core.proofs.Facts.{HelpFacts, ControlFacts, IsHelper}
+use Rattle.step_core.proofs.Facts.{CanWork, HelpFacts, ControlFacts, IsHelper}
 use Rattle.step_core.proofs.Helpers.{help_word}
 use Rattle.step_core.proofs.Ordered.{order_word}
 use Rattle.evac_runs.specs.Runs.{IsPublishing, is_write}
@@ -147,6 +149,13 @@ module _ (c : Config) (w : World) (shared : Shared c w) (d k : ℕ) (b : Body) (
   scan_mild seat (scan.SetGrey address field refs found) word = absurd (cc (word))
   scan_mild seat _ word = inl refl
 
+  -- of who works on a unit
+  unit_mild : (seat : ℕ) (at : UnitSpot) → CanWork c w seat at → IsMild seat (units.touch_at c seat at)
+  unit_mild seat (unit.Scanning at) can word = scan_mild seat at word
+  unit_mild seat (unit.Evacuating cset at) can word = evac_mild seat cset at can word
+  unit_mild seat (unit.Updating cset at) can word = update_mild seat cset at can word
+  unit_mild seat (unit.Ended ended) can word = inl refl
+
   -- of who enters
   enter_mild : (seat : ℕ) (at : EnterSpot) → IsMild seat (enter_touch seat at)
   enter_mild seat enter.Raise word = absurd (cc (word))
@@ -164,9 +173,7 @@ module _ (c : Config) (w : World) (shared : Shared c w) (d k : ℕ) (b : Body) (
   help_mild seat (help.Entering at) facts word = enter_mild seat at word
   help_mild seat help.LoadPhase facts word = inl refl
   help_mild seat (help.LoadSet phase) facts word = inl refl
-  help_mild seat (help.Scanning at) facts word = scan_mild seat at word
-  help_mild seat (help.Evacuating cset at) facts word = evac_mild seat cset at facts word
-  help_mild seat (help.Updating cset at) facts word = update_mild seat cset at facts word
+  help_mild seat (help.Working at) facts word = unit_mild seat at facts word
   help_mild seat help.Leave facts word = absurd (cc (word))
   help_mild seat help.Gone facts word = inl refl
 
@@ -188,12 +195,8 @@ module _ (c : Config) (w : World) (shared : Shared c w) (d k : ℕ) (b : Body) (
   control_mild control.StoreEnd image value ready facts out same = mild_at (control_seat c) (control_touch c control.StoreEnd) tt (λ word. absurd (cc (word))) same
   control_mild control.LookAsked image value ready facts out same = mild_at (control_seat c) (control_touch c control.LookAsked) tt (λ word. inl refl) same
   control_mild control.LookFree image value ready facts out same = mild_at (control_seat c) (control_touch c control.LookFree) tt (λ word. inl refl) same
-  control_mild (control.Scanning at) image value ready facts out same =
-      mild_at (control_seat c) (scans.touch_at c at) (scanning_steps.inside c w (control_seat c) at facts.0) (scan_mild (control_seat c) at) same
-  control_mild (control.Evacuating cset at) image value ready facts out same =
-      mild_at (control_seat c) (evacs.touch_at c (control_seat c) at) (evacuating_steps.inside c w (control_seat c) cset at shared facts) (evac_mild (control_seat c) cset at facts) same
-  control_mild (control.Updating cset at) image value ready facts out same =
-      mild_at (control_seat c) (updates.touch_at c at) (updating_steps.inside c w (control_seat c) cset at shared facts) (update_mild (control_seat c) cset at facts) same
+  control_mild (control.Working at) image value ready facts out same =
+      mild_at (control_seat c) (units.touch_at c (control_seat c) at) (unit_inside c (control_seat c) at (and_parts _ _ ready).0) (unit_mild (control_seat c) at facts) same
   control_mild (control.Stopping at) image value ready facts out same =
       mild_at (control_seat c) (stop_touch at) (is_word_true c (stop_touch at).word (and_parts _ _ (and_parts _ _ ready).0).0) (stop_mild (control_seat c) at) same
   control_mild (control.LoadWord index) image value ready facts out same = inl (ap Load same)

@@ -1,20 +1,23 @@
 -- Where a step of a helper waits.
-use Rattle.std.proofs.Common.{◌≡◌, ℕ, ◌↔◌, Bool, true, false, refl}
+use Rattle.std.proofs.Common.{◌≡◌, ℕ, ◌↔◌, ◌⊎◌, inl, inr, ⊎_elim, Bool, true, false, refl}
 use Rattle.std.specs.Prelude.{◌==◌, if◌then◌else◌}
-use Rattle.std.proofs.lemmas.Bool.{eqb-false, ne_eqb, ltb-false, le-ltb}
+use Rattle.std.proofs.lemmas.Bool.{and_parts, eqb-false, ne_eqb}
 use Rattle.heap_words.specs.declared.config.Config.{Config}
-use Rattle.heap_words.specs.declared.access.Took.TheVariants.{More, Again}
+use Rattle.heap_words.specs.declared.access.Took.{Took}
+use Rattle.heap_words.specs.declared.access.Took.TheVariants.{More, Again, Done}
+use Rattle.heap_words.specs.declared.access.Unit.TheVariants.{Worked, NoneLeft}
 use Rattle.handshake.specs.declared.enter_spot.EnterSpot.{EnterSpot}
 use Rattle.handshake.specs.declared.enter_spot.EnterSpot.TheVariants as enter
-use Rattle.scan_steps.specs.declared.spot.ScanSpot.{ScanSpot}
-use Rattle.scan_steps.specs.declared.spot.ScanSpot.TheVariants as scan
-use Rattle.scan_steps.specs.Rows as scans
-use Rattle.update_refs.specs.declared.spot.UpdateSpot.{UpdateSpot}
-use Rattle.update_refs.specs.declared.spot.UpdateSpot.TheVariants as update
-use Rattle.update_refs.specs.Rows.{has_unit}
-use Rattle.helper.specs.declared.spot.HelpSpot.TheVariants.{Entering, Scanning, Updating}
-use Rattle.helper.specs.Rows.{entering_says, scanning_says, updating_says}
+use Rattle.unit_part.specs.declared.spot.UnitSpot.{UnitSpot}
+use Rattle.unit_part.specs.declared.spot.UnitSpot.TheVariants.{Ended}
+use Rattle.unit_part.specs.Rows as units
+use Rattle.unit_part.specs.Ready as unit
+use Rattle.unit_part.specs.Ends as ends
+use Rattle.unit_part.proofs.Left.{none_left}
+use Rattle.helper.specs.declared.spot.HelpSpot.TheVariants.{Entering, Working}
+use Rattle.helper.specs.Rows.{entering_says, working_says}
 use Rattle.helper.specs.Waits.{waits_at}
+use Rattle.helper.specs.Ready.{spot_fits}
 
 -- it says again where a test fails
 by_test : (b : Bool) (P : Type 0) → (b ≡ false → P) → (P → b ≡ false) → ((if b then More else Again) ≡ Again) ↔ P
@@ -28,12 +31,20 @@ pub entering_waits : (c : Config) (at : EnterSpot) (got : ℕ) → (entering_say
 entering_waits c enter.Await got = by_test (got == 0) _ (eqb-false got 0) (ne_eqb _ _)
 entering_waits c at got = never
 
-pub scanning_waits : (c : Config) (at : ScanSpot) (got : ℕ) → (scanning_says c at got ≡ Again) ↔ waits_at c (Scanning at) got
-scanning_waits c scan.LoadClaim got = by_test (scans.has_unit c got) _ (ltb-false got (scans.unit_limit c)) (le-ltb _ _)
-scanning_waits c (scan.ClaimUnit unit) got = by_test (got == unit) _ (eqb-false got unit) (ne_eqb _ _)
-scanning_waits c at got = never
+-- in a unit it says so where no unit was left, or where the work on it does
+says_waits : (next : UnitSpot) (said : Took) → (working_says next said ≡ Again) ↔ ((next ≡ Ended NoneLeft) ⊎ (said ≡ Again))
+says_waits (Ended NoneLeft) said = (λ e. inl refl, λ one. refl)
+says_waits (Ended Worked) Done = (λ e. absurd (cc (e)), λ one. absurd (⊎_elim (λ same. cc (same)) (λ same. cc (same)) one))
+says_waits (Ended Worked) More = (λ e. absurd (cc (e)), λ one. absurd (⊎_elim (λ same. cc (same)) (λ same. cc (same)) one))
+says_waits (Ended Worked) Again = (λ e. inr refl, λ one. refl)
+says_waits _ Done = (λ e. absurd (cc (e)), λ one. absurd (⊎_elim (λ same. cc (same)) (λ same. cc (same)) one))
+says_waits _ More = (λ e. absurd (cc (e)), λ one. absurd (⊎_elim (λ same. cc (same)) (λ same. cc (same)) one))
+says_waits _ Again = (λ e. inr refl, λ one. refl)
 
-pub updating_waits : (c : Config) (cset : ℕ) (at : UpdateSpot) (got : ℕ) → (updating_says c at got ≡ Again) ↔ waits_at c (Updating cset at) got
-updating_waits c cset update.LoadClaim got = by_test (has_unit c got) _ (ltb-false got c.regions) (le-ltb _ _)
-updating_waits c cset (update.ClaimUnit unit) got = by_test (got == unit) _ (eqb-false got unit) (ne_eqb _ _)
-updating_waits c cset at got = never
+pub working_waits : (c : Config) (seat : ℕ) (at : UnitSpot) (got : ℕ) (said : Took) → spot_fits c seat (Working at) ≡ true → (said ≡ Again) ↔ ends.WaitsAt at got
+    → (working_says (units.next_at c at got) said ≡ Again) ↔ waits_at c (Working at) got
+working_waits c seat at got said fits waits =
+    let says = says_waits (units.next_at c at got) said in
+    let parts = and_parts (unit.is_ready c seat at) _ fits in
+    let left = none_left c seat at got parts.0 (λ same. cc (same, parts.1)) in
+    (λ e. ⊎_elim (λ none. inl (left.0 none)) (λ again. inr (waits.0 again)) (says.0 e), λ one. says.1 (⊎_elim (λ none. inl (left.1 none)) (λ again. inr (waits.1 again)) one))

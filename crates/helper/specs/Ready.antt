@@ -5,23 +5,17 @@ use Rattle.heap_words.specs.Access.{table_index}
 use Rattle.heap_words.specs.Words.{table_words}
 use Rattle.steps_base.specs.Touch.{placed}
 use Rattle.handshake.specs.Rows.{is_entered}
-use Rattle.scan_steps.specs.Rows as scans
-use Rattle.scan_steps.specs.Seen as scan
-use Rattle.load_barrier.specs.UnitRows as evacs
-use Rattle.load_barrier.specs.UnitFit as evac
-use Rattle.update_refs.specs.Rows as updates
-use Rattle.update_refs.specs.Seen as update
+use Rattle.unit_part.specs.Rows as units
+use Rattle.unit_part.specs.Ready as unit
 use Rattle.helper.specs.declared.spot.HelpSpot.{HelpSpot}
-use Rattle.helper.specs.declared.spot.HelpSpot.TheVariants.{Entering, Scanning, Evacuating, Updating}
+use Rattle.helper.specs.declared.spot.HelpSpot.TheVariants.{Entering, Working}
 use Rattle.helper.specs.Rows.{Helping, help_touch, help_next}
 
 -- whether the numbers of a spot are in range, for the helper of a seat: an entering or a unit has not ended, and its next access can
 -- be made
 abbrev pub spot_fits : Config → ℕ → HelpSpot → Bool
 spot_fits c seat (Entering at) = if is_entered at then false else true
-spot_fits c seat (Scanning at) = scans.is_ready c at && (if scans.is_ended at then false else true)
-spot_fits c seat (Evacuating cset at) = evac.is_ready c seat at && (if evacs.is_ended at then false else true)
-spot_fits c seat (Updating cset at) = updates.is_ready c at && (if updates.is_ended at then false else true)
+spot_fits c seat (Working at) = unit.is_ready c seat at && (if units.is_ended at then false else true)
 spot_fits c seat _ = true
 
 -- whether a helper's next access can be made: its seat is that of a mutator or a helper, and the numbers of its spot are in range
@@ -30,9 +24,7 @@ help_ready c h = nat_lt h.seat (c.mutators + c.helpers) && spot_fits c h.seat h.
 
 -- a unit can go on from a word
 abbrev pub UnitGoesOn : Config → ℕ → HelpSpot → ℕ → Type 0
-UnitGoesOn c seat (Scanning at) got = scan.IsFit c at got
-UnitGoesOn c seat (Evacuating cset at) got = evac.IsFit c seat cset at got
-UnitGoesOn c seat (Updating cset at) got = update.IsFit c cset at got
+UnitGoesOn c seat (Working at) got = unit.IsFit c seat at got
 UnitGoesOn c seat _ got = Unit {0}
 
 -- the word is fit: in a unit it is one from which the unit can go on, and anywhere else each word is

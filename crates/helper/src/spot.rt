@@ -7,21 +7,13 @@ ghost use Rattle.helper.specs.Ready.{spot_fits, UnitGoesOn};
 ghost use Rattle.helper.specs.Waits.{waits_at};
 
 use handshake::{EnterSpot, leave_access};
-use heap_words::{Access, Config, Place, Took};
-use load_barrier::EvacSpot;
-use scan_steps::ScanSpot;
+use heap_words::{Access, Config, Place, Took, Unit};
 use std::fmt;
 use std::fmt::{Debug, Formatter, Write};
-use update_refs::UpdateSpot;
+use unit_part::UnitSpot;
 
 // The phase in which there is no work for a helper.
 const IDLE: u64 = 0;
-
-// The phase in which objects are marked.
-const MARK: u64 = 1;
-
-// The phase in which they are copied.
-const EVAC: u64 = 2;
 
 /// Where a helper stands.
 #[derive(Clone, Copy)]
@@ -40,24 +32,10 @@ pub enum HelpSpot {
         /// The phase that it has loaded.
         phase: u64,
     },
-    /// It claims a unit of marking and scans it.
-    Scanning {
-        /// Where the scan stands.
-        at: ScanSpot,
-    },
-    /// It claims a unit of evacuation and copies what is marked there.
-    Evacuating {
-        /// The collection set that it has loaded.
-        cset: u64,
-        /// Where the evacuation stands.
-        at: EvacSpot,
-    },
-    /// It claims a unit of updating and updates the references there.
-    Updating {
-        /// The collection set that it has loaded.
-        cset: u64,
-        /// Where the updating stands.
-        at: UpdateSpot,
+    /// It claims a unit and works on it.
+    Working {
+        /// Where the work stands.
+        at: UnitSpot,
     },
     /// It leaves the heap.
     Leave,
@@ -75,9 +53,7 @@ impl HelpSpot {
             HelpSpot::Entering { at } => at.place(),
             HelpSpot::LoadPhase => Place::PH,
             HelpSpot::LoadSet { .. } => Place::CS,
-            HelpSpot::Scanning { at } => at.place(),
-            HelpSpot::Evacuating { at, .. } => at.place(),
-            HelpSpot::Updating { at, .. } => at.place(),
+            HelpSpot::Working { at } => at.place(),
             HelpSpot::Leave => Place::LV,
         }
     }
@@ -108,9 +84,7 @@ impl HelpSpot {
             HelpSpot::LoadSet { .. } => Access::Load {
                 at: config.cset_at(),
             },
-            HelpSpot::Scanning { at } => at.access(config),
-            HelpSpot::Evacuating { at, .. } => at.access(config, seat),
-            HelpSpot::Updating { at, .. } => at.access(config),
+            HelpSpot::Working { at } => at.access(config, seat),
             HelpSpot::Leave => leave_access(config, seat),
             HelpSpot::Gone => unreachable!(),
         }
@@ -148,19 +122,16 @@ impl HelpSpot {
             HelpSpot::Entering { at } => (after_enter(at.after(got)), entering_says(at, got)),
             HelpSpot::LoadPhase if got == IDLE => (HelpSpot::Leave, Took::Again),
             HelpSpot::LoadPhase => (HelpSpot::LoadSet { phase: got }, Took::More),
-            HelpSpot::LoadSet { phase } => (begins_unit(phase, got), Took::More),
-            HelpSpot::Scanning { at } => (
-                after_scan(at.after(config, got)),
-                scanning_says(config, at, got),
+            HelpSpot::LoadSet { phase } => (
+                HelpSpot::Working {
+                    at: UnitSpot::begin(phase, got),
+                },
+                Took::More,
             ),
-            HelpSpot::Evacuating { cset, at } => {
-                let (next, said) = at.after(config, seat, cset, got);
-                (after_evacuation(cset, next), evacuating_says(at, said))
+            HelpSpot::Working { at } => {
+                let (next, said) = at.after(config, seat, got);
+                (after_unit(next), working_says(next, said))
             }
-            HelpSpot::Updating { cset, at } => (
-                after_updating(cset, at.after(config, cset, got)),
-                updating_says(config, at, got),
-            ),
             HelpSpot::Leave => (HelpSpot::LoadEnd, Took::More),
             HelpSpot::Gone => (HelpSpot::Gone, Took::More),
         }
@@ -195,87 +166,29 @@ fn entering_says(at: EnterSpot, got: u64) -> Took
     }
 }
 
-// Where it begins with a unit of the phase.
-fn begins_unit(phase: u64, cset: u64) -> HelpSpot
-    ensures { result ≡ rows.begins_unit phase cset }
-{
-    match phase {
-        MARK => HelpSpot::Scanning {
-            at: ScanSpot::LoadClaim,
-        },
-        EVAC => HelpSpot::Evacuating {
-            cset,
-            at: EvacSpot::LoadClaim,
-        },
-        _ => HelpSpot::Updating {
-            cset,
-            at: UpdateSpot::LoadClaim,
-        },
-    }
-}
-
 // Once its unit is done, or none was left, it leaves.
-fn after_scan(at: ScanSpot) -> HelpSpot
-    ensures { result ≡ rows.after_scan at }
+fn after_unit(at: UnitSpot) -> HelpSpot
+    ensures { result ≡ rows.after_unit at }
 {
     if at.is_ended() {
         HelpSpot::Leave
     } else {
-        HelpSpot::Scanning { at }
+        HelpSpot::Working { at }
     }
 }
 
-// It waits where no unit was left, or another machine has claimed the unit.
-fn scanning_says(config: Config, at: ScanSpot, got: u64) -> Took
-    ensures { result ≡ rows.scanning_says config at got }
+// What a step of a unit says that leads there: where no unit was left it waits, and once a unit is done there is more to do.
+fn working_says(next: UnitSpot, said: Took) -> Took
+    ensures { result ≡ rows.working_says next said }
 {
-    match at {
-        ScanSpot::LoadClaim if at.says(config, got) == Took::Done => Took::Again,
-        ScanSpot::ClaimUnit { unit } if got != unit => Took::Again,
-        _ => Took::More,
-    }
-}
-
-// Once its unit is done, or none was left, it leaves.
-fn after_evacuation(cset: u64, at: EvacSpot) -> HelpSpot
-    ensures { result ≡ rows.after_evacuation cset at }
-{
-    if at.is_ended() {
-        HelpSpot::Leave
-    } else {
-        HelpSpot::Evacuating { cset, at }
-    }
-}
-
-// What a step of evacuation says: where no unit was left to claim it waits, and once a unit is done there is more to do.
-fn evacuating_says(at: EvacSpot, said: Took) -> Took
-    ensures { result ≡ rows.evacuating_says at said }
-{
-    match (at, said) {
-        (EvacSpot::LoadClaim, Took::Done) => Took::Again,
+    match (next, said) {
+        (
+            UnitSpot::Ended {
+                unit: Unit::NoneLeft,
+            },
+            _,
+        ) => Took::Again,
         (_, Took::Done) => Took::More,
         (_, said) => said,
-    }
-}
-
-// Once its unit is done, or none was left, it leaves.
-fn after_updating(cset: u64, at: UpdateSpot) -> HelpSpot
-    ensures { result ≡ rows.after_updating cset at }
-{
-    if at.is_ended() {
-        HelpSpot::Leave
-    } else {
-        HelpSpot::Updating { cset, at }
-    }
-}
-
-// It waits where no unit was left, or another machine has claimed the unit.
-fn updating_says(config: Config, at: UpdateSpot, got: u64) -> Took
-    ensures { result ≡ rows.updating_says config at got }
-{
-    match at {
-        UpdateSpot::LoadClaim if got >= config.regions() as u64 => Took::Again,
-        UpdateSpot::ClaimUnit { unit } if got != unit => Took::Again,
-        _ => Took::More,
     }
 }

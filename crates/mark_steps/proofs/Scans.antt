@@ -403,15 +403,3 @@ module _ (c : Config) (u w : World) (seat : ℕ) (rely : Rely c seat u w) where
     hands = λ a words is. can.hands a words (rely.no_hands a words is);
     facts = facts_stay (λ two. (let one = can.phase in omega (arith, one, two))) at can.facts;
   }
-
--- the next access is of the table
-pub scan_inside : (c : Config) (at : ScanSpot) → is_ready c at ≡ true → IsWord c (touch_at c at).word
-scan_inside c LoadClaim ready = tt
-scan_inside c (ClaimUnit unit) ready = tt
-scan_inside c (LoadGrey word) ready = ltb-true _ _ ready
-scan_inside c (LoadBlack word grey) ready = ltb-true _ _ ready
-scan_inside c (SetBlack address) ready = let heap : IsWord c (Heap address) = grind (arith, nat_tests, ready) in word_inside c address heap
-scan_inside c (LoadShape address) ready = let there = (and_parts (is_word c (Heap address)) (is_word c (Heap (address + 1))) ready).1 in grind (arith, nat_tests, there)
-scan_inside c (LoadField address field refs) ready = grind (arith, nat_tests, ready)
-scan_inside c (SetGrey address field refs found) ready = let heap : IsWord c (Heap found) = grind (arith, nat_tests, ready) in word_inside c found heap
-scan_inside c (Ended unit) ready = tt

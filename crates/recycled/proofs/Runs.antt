@@ -13,6 +13,8 @@ use Rattle.shen_graph.specs.Graph.{Graph}
 use Rattle.shen_graph.specs.History.{Entry, after, of_thread}
 use Rattle.heap_world.specs.World.{World, thing, Shared}
 use Rattle.heap_world.specs.Asking.{Asking, nothing, asks, refused, given, IsAsked}
+use Rattle.unit_part.specs.declared.spot.UnitSpot.{UnitSpot}
+use Rattle.unit_part.specs.declared.spot.UnitSpot.TheVariants as unit
 use Rattle.helper.specs.declared.spot.HelpSpot.{HelpSpot}
 use Rattle.helper.specs.declared.spot.HelpSpot.TheVariants as help
 use Rattle.control_steps.specs.declared.spot.ControlSpot.{ControlSpot}
@@ -30,12 +32,12 @@ use Rattle.step_core.specs.Settled.{settled}
 use Rattle.step_core.specs.Sound.{world_of, IsMutator, StandsFor}
 use Rattle.step_core.proofs.Stepped.{Mine}
 use Rattle.step_core.proofs.Beginning.{goes_begins}
-use Rattle.step_core.proofs.Facts.{HelpFacts, ControlFacts, IsMachine, IsThread}
+use Rattle.step_core.proofs.Facts.{CanWork, HelpFacts, ControlFacts, IsMachine, IsThread}
 use Rattle.step_core.proofs.Induction.{Goes, goes_run}
 use Rattle.step_core.proofs.Requests.{has_asked}
 use Rattle.step_core.proofs.Roles.{mutator_there}
 use Rattle.step_core.proofs.Spots.{mutator_at}
-use Rattle.recycled.specs.InHand.{IsHelpHand, IsControlHand, IsInHandOf}
+use Rattle.recycled.specs.InHand.{IsUnitHand, IsHelpHand, IsControlHand, IsInHandOf}
 use Rattle.recycled.specs.Held.{IsHeld, FreeIsNotHeld, FreeIsNotHeldInRuns}
 use Rattle.recycled.proofs.Free.{IsElsewhere, piece_elsewhere, named_elsewhere, points_elsewhere}
 use Rattle.recycled.proofs.Parts.{scan_hand, evac_hand, update_hand}
@@ -47,16 +49,18 @@ module _ (c : Config) (w : World) (shared : Shared c w) (r : ℕ) (inside : r < 
   IsApart a = IsElsewhere c w shared r inside free a
 
   -- what a helper and the control have in hand does not
+  unit_hand : (seat : ℕ) (at : UnitSpot) → CanWork c w seat at → (a : ℕ) → IsUnitHand c at a → IsApart a
+  unit_hand seat (unit.Scanning at) can a is = scan_hand c w shared r inside free seat at can.0 a is
+  unit_hand seat (unit.Evacuating cset at) can a is = evac_hand c w shared r inside free seat cset at can a is
+  unit_hand seat (unit.Updating cset at) can a is = update_hand c w shared r inside free seat cset at can a is
+  unit_hand seat (unit.Ended ended) can a is = absurd is
+
   help_hand : (seat : ℕ) (spot : HelpSpot) → HelpFacts c w seat spot → (a : ℕ) → IsHelpHand c spot a → IsApart a
-  help_hand seat (help.Scanning at) facts a is = scan_hand c w shared r inside free seat at facts.0 a is
-  help_hand seat (help.Evacuating cset at) facts a is = evac_hand c w shared r inside free seat cset at facts a is
-  help_hand seat (help.Updating cset at) facts a is = update_hand c w shared r inside free seat cset at facts a is
+  help_hand seat (help.Working at) facts a is = unit_hand seat at facts a is
   help_hand seat _ facts a is = absurd is
 
   control_hand : (seat : ℕ) (spot : ControlSpot) → ControlFacts c w seat spot → (a : ℕ) → IsControlHand c spot a → IsApart a
-  control_hand seat (control.Scanning at) facts a is = scan_hand c w shared r inside free seat at facts.0 a is
-  control_hand seat (control.Evacuating cset at) facts a is = evac_hand c w shared r inside free seat cset at facts a is
-  control_hand seat (control.Updating cset at) facts a is = update_hand c w shared r inside free seat cset at facts a is
+  control_hand seat (control.Working at) facts a is = unit_hand seat at facts a is
   control_hand seat _ facts a is = absurd is
 
   -- nor does what any machine has

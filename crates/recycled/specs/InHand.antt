@@ -17,6 +17,8 @@ use Rattle.load_barrier.specs.declared.evac_spot.EvacSpot.{EvacSpot}
 use Rattle.load_barrier.specs.declared.evac_spot.EvacSpot.TheVariants as evac
 use Rattle.update_refs.specs.declared.spot.UpdateSpot.{UpdateSpot}
 use Rattle.update_refs.specs.declared.spot.UpdateSpot.TheVariants as update
+use Rattle.unit_part.specs.declared.spot.UnitSpot.{UnitSpot}
+use Rattle.unit_part.specs.declared.spot.UnitSpot.TheVariants as unit
 use Rattle.mutator.specs.declared.spot.Spot.{Spot}
 use Rattle.mutator.specs.declared.spot.Spot.TheVariants.{Loading, OnField, Resolving, Recording, OnNumber, Showing, StoreRoot, Making, Waiting}
 use Rattle.mutator.specs.declared.loads.LoadSpot.{LoadSpot}
@@ -129,18 +131,21 @@ IsMutatorHand k (Making at) a = IsMakeHand at a
 IsMutatorHand k (Waiting at) a = IsWaitHand at a
 IsMutatorHand k _ a = ⊥
 
+-- of who works on a unit
+abbrev pub IsUnitHand : Config → UnitSpot → ℕ → Type 0
+IsUnitHand c (unit.Scanning at) a = IsScanHand c at a
+IsUnitHand c (unit.Evacuating cset at) a = IsEvacHand at a
+IsUnitHand c (unit.Updating cset at) a = IsUpdateHand at a
+IsUnitHand c _ a = ⊥
+
 -- of a helper
 abbrev pub IsHelpHand : Config → HelpSpot → ℕ → Type 0
-IsHelpHand c (help.Scanning at) a = IsScanHand c at a
-IsHelpHand c (help.Evacuating cset at) a = IsEvacHand at a
-IsHelpHand c (help.Updating cset at) a = IsUpdateHand at a
+IsHelpHand c (help.Working at) a = IsUnitHand c at a
 IsHelpHand c _ a = ⊥
 
 -- of the control
 abbrev pub IsControlHand : Config → ControlSpot → ℕ → Type 0
-IsControlHand c (control.Scanning at) a = IsScanHand c at a
-IsControlHand c (control.Evacuating cset at) a = IsEvacHand at a
-IsControlHand c (control.Updating cset at) a = IsUpdateHand at a
+IsControlHand c (control.Working at) a = IsUnitHand c at a
 IsControlHand c _ a = ⊥
 
 -- and of any machine, by its role

@@ -19,23 +19,14 @@ use Rattle.handshake.specs.declared.stop_spot.StopSpot.TheVariants as stop
 use Rattle.handshake.specs.Standing.{is_within, is_pausing}
 use Rattle.handshake.proofs.Still.{pause_empty}
 use Rattle.heap_world.specs.World.{World, Shared}
-use Rattle.scan_steps.specs.declared.spot.ScanSpot.{ScanSpot}
-use Rattle.scan_steps.specs.Rows as scans
-use Rattle.scan_steps.specs.Seen as scan
-use Rattle.mark_steps.proofs.Scans.{scan_inside}
-use Rattle.mark_steps.proofs.Parts.{scanning_steps}
+use Rattle.unit_part.specs.declared.spot.UnitSpot.{UnitSpot}
+use Rattle.unit_part.specs.Rows as units
+use Rattle.unit_part.specs.Ready as unit
+use Rattle.unit_part.proofs.Inside.{unit_inside}
 use Rattle.heap_world.specs.Change.{Change, IsDue, IsPause, image_view, image_words}
 use Rattle.steps_base.specs.Touch.{touch, loads}
-use Rattle.load_barrier.specs.declared.evac_spot.EvacSpot.{EvacSpot}
-use Rattle.load_barrier.specs.UnitRows as evacs
-use Rattle.update_refs.specs.declared.spot.UpdateSpot.{UpdateSpot}
-use Rattle.update_refs.specs.Rows as updates
-use Rattle.update_refs.specs.Seen as update
-use Rattle.load_barrier.specs.UnitFit as evac
-use Rattle.evac_steps.proofs.Parts.{evacuating_steps}
-use Rattle.update_steps.proofs.Parts.{updating_steps}
 use Rattle.control_steps.specs.declared.spot.ControlSpot.{ControlSpot}
-use Rattle.control_steps.specs.declared.spot.ControlSpot.TheVariants.{LookLeft, StoreEnd, LookAsked, LookFree, Scanning, Evacuating, Updating, Stopping, LoadWord, StoreWord, Go, Gone}
+use Rattle.control_steps.specs.declared.spot.ControlSpot.TheVariants.{LookLeft, StoreEnd, LookAsked, LookFree, Working, Stopping, LoadWord, StoreWord, Go, Gone}
 use Rattle.control_steps.specs.Rows.{Controlling, control_access, seen_after, is_gone}
 use Rattle.control_steps.specs.Ready.{is_ready}
 use Rattle.step_core.specs.Actor.{controlling, Actor}
@@ -45,7 +36,7 @@ use Rattle.step_core.specs.Sound.{world_of}
 use Rattle.step_core.specs.Fit.{IsImageOfSome}
 use Rattle.step_core.proofs.Facts.{IsResting, IsControl, IsMachine, Follows, Owes, AreRead}
 use Rattle.step_core.proofs.Images.{words_after, found-placed, image_grows}
-use Rattle.step_core.proofs.Helpers.{is_off}
+use Rattle.step_core.proofs.Units.{work_fits}
 use Rattle.step_core.proofs.Owing.{follows_owes}
 use Rattle.step_core.proofs.Paused.{asking, image_stands, paused_owes}
 use Rattle.step_core.proofs.Pauses as pauses
@@ -176,8 +167,8 @@ module _ (change : Change) (law : IsPause change) (c : Config) (g : Graph) (s : 
       let read : AreRead c s.words (image ++ loaded index ∷ []) (image_words c) = λ i below. image_grows c s.words image index known.aims.0 known.aims.1 i (omega (arith, below, last)) in
       ∣ (
         after g past,
-        asking c s.words follows.block follows.ghost (after g past) past s.machines (image ++ loaded index ∷ []) read follows.seats (idle_at index here),
-        image_stands c s.words follows.block follows.ghost (after g past) past s.machines (image ++ loaded index ∷ []) read follows.seats (idle_at index here)
+        asking c s.words follows.block follows.ghost (after g past) past s.machines follows.seats (idle_at index here),
+        image_stands c s.words follows.block follows.ghost (after g past) past s.machines follows.seats (idle_at index here) (image ++ loaded index ∷ []) read
             (shared_held change law c g s past number (control_at (LoadWord index)) command calls follows shaken here) follows.promised_to follows.no_more
             (known_held change law c g s past number (control_at (LoadWord index)) command calls follows shaken here)
             (all_outside change law c g s past number (control_at (LoadWord index)) command calls follows shaken here refl),
@@ -213,8 +204,8 @@ module _ (change : Change) (law : IsPause change) (c : Config) (g : Graph) (s : 
       }) refl
   loaded_owes index here shared known false all =
       let less : index + 1 ≡ image_words c = (let last = ltb-false _ _ all in let ready = ltb-true _ _ (ready_at (LoadWord index) here) in omega (arith, last, ready)) in
-      paused_owes c s.words follows.block follows.ghost (after g past) past s.machines (image ++ loaded index ∷ [])
-      (λ i below. image_grows c s.words image index known.aims.0 known.aims.1 i (omega (arith, below, less))) follows.seats (idle_at index here) change law (due_at index here)
+      paused_owes c s.words follows.block follows.ghost (after g past) past s.machines follows.seats (idle_at index here) (image ++ loaded index ∷ [])
+      (λ i below. image_grows c s.words image index known.aims.0 known.aims.1 i (omega (arith, below, less))) change law (due_at index here)
       (length-snoc image (loaded index) ∙ ap (λ n. n + 1) known.aims.0 ∙ less) shared follows.promised_to follows.no_more
       (known_held change law c g s past number (control_at (LoadWord index)) command calls follows shaken here)
       (all_outside change law c g s past number (control_at (LoadWord index)) command calls follows shaken here refl)
@@ -240,75 +231,26 @@ module _ (change : Change) (law : IsPause change) (c : Config) (g : Graph) (s : 
       (shared_held change law c g s past number k command calls follows shaken here) follows.promised_to (control_held change law c g s past number k command calls follows shaken here)
       (known_held change law c g s past number k command calls follows shaken here))
 
-  -- a word that it finds while it scans is fit
-  pub scan_fit : (at : ScanSpot) → Here (Scanning at) → scan.IsFit c at (got (Scanning at))
-  scan_fit at here =
-      let known = control_held change law c g s past number (control_at (Scanning at)) command calls follows shaken here in
-      let ready = and_parts _ _ known.ready in
-      let found : got (Scanning at) ≡ view c s.words (scans.touch_at c at).word = found-placed c s.words (scans.touch_at c at) (is_word_from c _ (scan_inside c at ready.0)) in
-      subst (λ n. scan.IsFit c at n) (sym found)
-      (scanning_steps.fits c open_now (control_number c) at (is_off (scans.is_ended at) ready.1) (shared_held change law c g s past number (control_at (Scanning at)) command calls follows shaken here) known.facts.0)
+  -- a word that it finds in a unit is fit
+  work_ready : (at : UnitSpot) → Here (Working at) → unit.is_ready c (control_number c) at ≡ true
+  work_ready at here = (and_parts _ _ (ready_at (Working at) here)).0
 
-  -- a step of a scan
-  scan_word : (at : ScanSpot) → Here (Scanning at) → ControlGoal (Scanning at)
-  scan_word at here = quiet (Scanning at) here refl refl (λ shared known.
-      let ready = and_parts _ _ known.ready in
-      let found : got (Scanning at) ≡ view c s.words (scans.touch_at c at).word = found-placed c s.words (scans.touch_at c at) (is_word_from c _ (scan_inside c at ready.0)) in
-      subst
-      (λ n. Owes c s.words (words_after c s.words (scans.touch_at c at)) open_now past (control_number c) s.machines
-      (settled_by c (words_after c s.words (scans.touch_at c at)) (image_in (took_of change c (record { machine = controlling (control_at (Scanning at)); command = command; calls = calls }) Nothing n (controlling (control_at (Scanning at)))).machine)) []
-      (took_of change c (record { machine = controlling (control_at (Scanning at)); command = command; calls = calls }) Nothing n (controlling (control_at (Scanning at))))) (sym found)
-      (pauses.scan_unit c s.words follows.block follows.ghost (after g past) past s.machines command calls change seen phase cset image follows.words shared follows.promised_to at (is_off (scans.is_ended at) ready.1) known))
+  work_found : (at : UnitSpot) → Here (Working at) → got (Working at) ≡ view c s.words (units.touch_at c (control_number c) at).word
+  work_found at here = found-placed c s.words (units.touch_at c (control_number c) at) (is_word_from c _ (unit_inside c (control_number c) at (work_ready at here)))
 
-  -- a word that it finds while it evacuates is fit
-  evac_found : (kept : ℕ) (at : EvacSpot) → Here (Evacuating kept at) → got (Evacuating kept at) ≡ view c s.words (evacs.touch_at c (control_number c) at).word
-  evac_found kept at here =
-      let known = control_held change law c g s past number (control_at (Evacuating kept at)) command calls follows shaken here in
-      found-placed c s.words (evacs.touch_at c (control_number c) at)
-      (is_word_from c _ (evacuating_steps.inside c open_now (control_number c) kept at (shared_held change law c g s past number (control_at (Evacuating kept at)) command calls follows shaken here) known.facts))
+  pub work_fit : (at : UnitSpot) → Here (Working at) → unit.IsFit c (control_number c) at (got (Working at))
+  work_fit at here =
+      let known = control_held change law c g s past number (control_at (Working at)) command calls follows shaken here in
+      subst (λ n. unit.IsFit c (control_number c) at n) (sym (work_found at here))
+      (work_fits c open_now (control_number c) (shared_held change law c g s past number (control_at (Working at)) command calls follows shaken here) at (work_ready at here) known.facts)
 
-  pub evac_fit : (kept : ℕ) (at : EvacSpot) → Here (Evacuating kept at) → evac.IsFit c (control_number c) kept at (got (Evacuating kept at))
-  evac_fit kept at here =
-      let known = control_held change law c g s past number (control_at (Evacuating kept at)) command calls follows shaken here in
-      let ready = and_parts _ _ known.ready in
-      subst (λ n. evac.IsFit c (control_number c) kept at n) (sym (evac_found kept at here))
-      (evacuating_steps.fits c open_now (control_number c) kept at (is_off (evacs.is_ended at) ready.1)
-      (shared_held change law c g s past number (control_at (Evacuating kept at)) command calls follows shaken here) known.facts)
-
-  -- a step of a unit of evacuation
-  evac_word : (kept : ℕ) (at : EvacSpot) → Here (Evacuating kept at) → ControlGoal (Evacuating kept at)
-  evac_word kept at here = quiet (Evacuating kept at) here refl refl (λ shared known.
-      let ready = and_parts _ _ known.ready in
-      subst
-      (λ n. Owes c s.words (words_after c s.words (evacs.touch_at c (control_number c) at)) open_now past (control_number c) s.machines
-      (settled_by c (words_after c s.words (evacs.touch_at c (control_number c) at)) (image_in (took_of change c (record { machine = controlling (control_at (Evacuating kept at)); command = command; calls = calls }) Nothing n (controlling (control_at (Evacuating kept at)))).machine)) []
-      (took_of change c (record { machine = controlling (control_at (Evacuating kept at)); command = command; calls = calls }) Nothing n (controlling (control_at (Evacuating kept at))))) (sym (evac_found kept at here))
-      (pauses.evac_unit c s.words follows.block follows.ghost (after g past) past s.machines command calls change seen phase cset image follows.words shared follows.promised_to kept at (is_off (evacs.is_ended at) ready.1) known))
-
-  -- a word that it finds while it updates is fit
-  update_found : (kept : ℕ) (at : UpdateSpot) → Here (Updating kept at) → got (Updating kept at) ≡ view c s.words (updates.touch_at c at).word
-  update_found kept at here =
-      let known = control_held change law c g s past number (control_at (Updating kept at)) command calls follows shaken here in
-      found-placed c s.words (updates.touch_at c at)
-      (is_word_from c _ (updating_steps.inside c open_now (control_number c) kept at (shared_held change law c g s past number (control_at (Updating kept at)) command calls follows shaken here) known.facts))
-
-  pub update_fit : (kept : ℕ) (at : UpdateSpot) → Here (Updating kept at) → update.IsFit c kept at (got (Updating kept at))
-  update_fit kept at here =
-      let known = control_held change law c g s past number (control_at (Updating kept at)) command calls follows shaken here in
-      let ready = and_parts _ _ known.ready in
-      subst (λ n. update.IsFit c kept at n) (sym (update_found kept at here))
-      (updating_steps.fits c open_now (control_number c) kept at (is_off (updates.is_ended at) ready.1)
-      (shared_held change law c g s past number (control_at (Updating kept at)) command calls follows shaken here) known.facts)
-
-  -- a step of a unit of updating
-  update_word : (kept : ℕ) (at : UpdateSpot) → Here (Updating kept at) → ControlGoal (Updating kept at)
-  update_word kept at here = quiet (Updating kept at) here refl refl (λ shared known.
-      let ready = and_parts _ _ known.ready in
-      subst
-      (λ n. Owes c s.words (words_after c s.words (updates.touch_at c at)) open_now past (control_number c) s.machines
-      (settled_by c (words_after c s.words (updates.touch_at c at)) (image_in (took_of change c (record { machine = controlling (control_at (Updating kept at)); command = command; calls = calls }) Nothing n (controlling (control_at (Updating kept at)))).machine)) []
-      (took_of change c (record { machine = controlling (control_at (Updating kept at)); command = command; calls = calls }) Nothing n (controlling (control_at (Updating kept at))))) (sym (update_found kept at here))
-      (pauses.update_unit c s.words follows.block follows.ghost (after g past) past s.machines command calls change seen phase cset image follows.words shared follows.promised_to kept at (is_off (updates.is_ended at) ready.1) known))
+  -- a step of a unit
+  work_word : (at : UnitSpot) → Here (Working at) → ControlGoal (Working at)
+  work_word at here = quiet (Working at) here refl refl (λ shared known. subst
+      (λ n. Owes c s.words (words_after c s.words (units.touch_at c (control_number c) at)) open_now past (control_number c) s.machines
+      (settled_by c (words_after c s.words (units.touch_at c (control_number c) at)) (image_in (took_of change c (record { machine = controlling (control_at (Working at)); command = command; calls = calls }) Nothing n (controlling (control_at (Working at)))).machine)) []
+      (took_of change c (record { machine = controlling (control_at (Working at)); command = command; calls = calls }) Nothing n (controlling (control_at (Working at))))) (sym (work_found at here))
+      (pauses.work_unit c s.words follows.block follows.ghost (after g past) past s.machines command calls change seen phase cset image follows.words shared follows.promised_to at known))
 
   -- wherever it stands
   pub by_spot : (spot : ControlSpot) → is_gone spot ≡ false → Here spot → ControlGoal spot
@@ -320,9 +262,7 @@ module _ (change : Change) (law : IsPause change) (c : Config) (g : Graph) (s : 
       pauses.look_asked c s.words follows.block follows.ghost (after g past) past s.machines command calls change seen phase cset image follows.words shared follows.promised_to (got LookAsked) (found-placed c s.words (touch Ask loads) refl) known)
   by_spot LookFree going here = quiet LookFree here refl refl (λ shared known.
       pauses.look_free c s.words follows.block follows.ghost (after g past) past s.machines command calls change seen phase cset image follows.words shared follows.promised_to (got LookFree) known)
-  by_spot (Scanning at) going here = scan_word at here
-  by_spot (Evacuating kept at) going here = evac_word kept at here
-  by_spot (Updating kept at) going here = update_word kept at here
+  by_spot (Working at) going here = work_word at here
   by_spot (Stopping stop.Raise) going here = quiet (Stopping stop.Raise) here refl refl (λ shared known.
       pauses.raise_pause c s.words follows.block follows.ghost (after g past) past s.machines command calls change seen phase cset image follows.words shared follows.promised_to (got (Stopping stop.Raise)) known)
   by_spot (Stopping (stop.Check seat)) going here = quiet (Stopping (stop.Check seat)) here refl refl (λ shared known.

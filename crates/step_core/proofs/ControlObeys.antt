@@ -1,10 +1,11 @@
 -- The control obeys the handshake.
-use Rattle.std.proofs.Common.{◌≡◌, ℕ, ◌+◌, Bool, true, false, refl, arith, inl, inr}
+use Rattle.std.proofs.Common.{◌≡◌, ℕ, ◌+◌, ◌≤◌, Bool, true, false, refl, arith, inl, inr}
 use Rattle.std.specs.Prelude.{nat_eq, nat_lt, if◌then◌else◌}
 use Rattle.std.proofs.lemmas.Bool.{and_parts}
 use Rattle.heap_words.specs.declared.config.Config.{Config}
 use Rattle.heap_words.specs.declared.access.Unit.TheVariants.{Worked, NoneLeft}
-use Rattle.heap_words.specs.Words.{Left, End, Ask, Free, IsWord, is_image}
+use Rattle.heap_words.specs.Access.{table_index}
+use Rattle.heap_words.specs.Words.{Left, End, Ask, Free, image_start}
 use Rattle.steps_base.specs.Fits.{touch_fits}
 use Rattle.steps_base.specs.Touch.{touch, loads, stores, placed}
 use Rattle.handshake.specs.declared.stop_spot.StopSpot.{StopSpot}
@@ -13,23 +14,16 @@ use Rattle.handshake.specs.Rows.{stop_touch, stop_next, is_stopped}
 use Rattle.handshake.specs.Standing.{Standing, is_free, is_pausing, stop_standing}
 use Rattle.handshake.specs.Obeys.{Obeys}
 use Rattle.handshake.specs.Left.{Counts}
-use Rattle.scan_steps.specs.declared.spot.ScanSpot.{ScanSpot}
-use Rattle.scan_steps.specs.declared.spot.ScanSpot.TheVariants as scan
-use Rattle.scan_steps.specs.Rows as scans
-use Rattle.mark_steps.proofs.Scans.{scan_inside}
+use Rattle.unit_part.specs.declared.spot.UnitSpot.{UnitSpot}
+use Rattle.unit_part.specs.declared.spot.UnitSpot.TheVariants.{Ended}
+use Rattle.unit_part.specs.Rows as units
+use Rattle.unit_part.specs.Ready as unit
+use Rattle.unit_part.proofs.Inside.{unit_inside, unit_image}
 use Rattle.handshake.proofs.Parts.{placed_elsewhere, placed_above, image_elsewhere, image_not_left, stop_obeys, go_obeys, obeys_same}
 use Rattle.heap_world.specs.Change.{image_words}
 use Rattle.control_steps.specs.declared.spot.ControlSpot.{ControlSpot}
-use Rattle.load_barrier.specs.declared.evac_spot.EvacSpot.{EvacSpot}
-use Rattle.load_barrier.specs.declared.evac_spot.EvacSpot.TheVariants as evac
-use Rattle.load_barrier.specs.UnitRows as evacs
-use Rattle.update_refs.specs.declared.spot.UpdateSpot.{UpdateSpot}
-use Rattle.update_refs.specs.declared.spot.UpdateSpot.TheVariants as update
-use Rattle.update_refs.specs.Rows as updates
-use Rattle.load_barrier.proofs.Inside.{evacuation_inside, evacuation_image}
-use Rattle.update_refs.proofs.Inside.{updating_inside, updating_image}
-use Rattle.control_steps.specs.declared.spot.ControlSpot.TheVariants.{Evacuating, Updating, LookLeft, StoreEnd, LookAsked, LookFree, Scanning, Stopping, LoadWord, StoreWord, Go, Gone}
-use Rattle.control_steps.specs.Rows.{control_seat, access_with, next_spot, stopping, after_scan, after_evacuation, after_updating, begins_pause, begins_unit, unasked, wants_pause}
+use Rattle.control_steps.specs.declared.spot.ControlSpot.TheVariants.{LookLeft, StoreEnd, LookAsked, LookFree, Working, Stopping, LoadWord, StoreWord, Go, Gone}
+use Rattle.control_steps.specs.Rows.{control_seat, access_with, next_spot, stopping, after_unit, begins_pause, unasked, wants_pause}
 use Rattle.control_steps.specs.Ready.{is_ready}
 use Rattle.step_core.specs.Standing.{control_standing}
 use Rattle.step_core.proofs.Helpers.{is_off}
@@ -44,32 +38,15 @@ stopping_standing stop.Raise = refl
 stopping_standing (stop.Check seat) = refl
 stopping_standing stop.Stopped = refl
 
--- where it scans, or has scanned a unit, no pause is wanted yet, and its access is of a word of the image
-scan_free : (at : ScanSpot) → is_free (control_standing (after_scan at)) ≡ true
-scan_free (scan.Ended Worked) = refl
-scan_free (scan.Ended NoneLeft) = refl
-scan_free _ = refl
+-- where it works on a unit, or has done so, no pause is wanted yet
+unit_free : (at : UnitSpot) → is_free (control_standing (after_unit at)) ≡ true
+unit_free (Ended Worked) = refl
+unit_free (Ended NoneLeft) = refl
+unit_free _ = refl
 
-evac_free : (cset : ℕ) (at : EvacSpot) → is_free (control_standing (after_evacuation cset at)) ≡ true
-evac_free cset (evac.Ended Worked) = refl
-evac_free cset (evac.Ended NoneLeft) = refl
-evac_free cset _ = refl
-
-update_free : (cset : ℕ) (at : UpdateSpot) → is_free (control_standing (after_updating cset at)) ≡ true
-update_free cset (update.Ended Worked) = refl
-update_free cset (update.Ended NoneLeft) = refl
-update_free cset _ = refl
-
-pub scan_image : (c : Config) (at : ScanSpot) → is_image (scans.touch_at c at).word ≡ true
-scan_image c scan.LoadClaim = refl
-scan_image c (scan.ClaimUnit unit) = refl
-scan_image c (scan.LoadGrey word) = refl
-scan_image c (scan.LoadBlack word grey) = refl
-scan_image c (scan.SetBlack address) = refl
-scan_image c (scan.LoadShape address) = refl
-scan_image c (scan.LoadField address field refs) = refl
-scan_image c (scan.SetGrey address field refs found) = refl
-scan_image c (scan.Ended unit) = refl
+-- the access of a unit is of a word of the image
+pub unit_above : (c : Config) (seat : ℕ) (at : UnitSpot) → unit.is_ready c seat at ≡ true → image_start c ≤ table_index (placed c (units.touch_at c seat at))
+unit_above c seat at ready = placed_above c (units.touch_at c seat at) (unit_inside c seat at ready) (unit_image c seat at)
 
 pub control_obeys : (c : Config) (seat phase cset seen value : ℕ) (spot : ControlSpot) → is_ready c spot ≡ true
     → Obeys c seat (control_standing spot) (access_with c spot value) (λ got. control_standing (next_spot c phase cset seen spot got))
@@ -77,19 +54,13 @@ control_obeys c seat phase cset seen value LookLeft ready = record { elsewhere =
 control_obeys c seat phase cset seen value StoreEnd ready = record { elsewhere = placed_elsewhere c (touch End (stores 1)) tt refl; goes_on = λ got. refl }
 control_obeys c seat phase cset seen value LookAsked ready = record {
   elsewhere = placed_elsewhere c (touch Ask loads) tt refl;
-  goes_on = λ got. either is_free (begins_pause phase got) (Stopping stop.Raise) (unasked phase cset) refl (either is_free (nat_eq phase 0) LookFree (begins_unit phase cset) refl (either is_free (nat_eq phase 1) (Scanning scan.LoadClaim) (if nat_eq phase 2 then Evacuating cset evac.LoadClaim else Updating cset update.LoadClaim) refl
-      (either is_free (nat_eq phase 2) (Evacuating cset evac.LoadClaim) (Updating cset update.LoadClaim) refl refl)));
+  goes_on = λ got. either is_free (begins_pause phase got) (Stopping stop.Raise) (unasked phase cset) refl (either is_free (nat_eq phase 0) LookFree (Working (units.begins phase cset)) refl refl);
 }
 control_obeys c seat phase cset seen value LookFree ready = record { elsewhere = placed_elsewhere c (touch Free loads) tt refl; goes_on = λ got. either is_free (wants_pause c seen got) (Stopping stop.Raise) LookLeft refl refl }
-control_obeys c seat phase cset seen value (Scanning at) ready =
-    let word : IsWord c (scans.touch_at c at).word = scan_inside c at (and_parts _ _ ready).0 in
-    record { elsewhere = image_elsewhere c (placed c (scans.touch_at c at)) (placed_above c (scans.touch_at c at) word (scan_image c at)); goes_on = λ got. scan_free (scans.next_at c at got) }
-control_obeys c seat phase cset seen value (Evacuating kept at) ready =
-    let word : IsWord c (evacs.touch_at c (control_seat c) at).word = evacuation_inside c (control_seat c) at (and_parts _ _ ready).0 in
-    record { elsewhere = image_elsewhere c (placed c (evacs.touch_at c (control_seat c) at)) (placed_above c (evacs.touch_at c (control_seat c) at) word (evacuation_image c (control_seat c) at)); goes_on = λ got. evac_free kept (evacs.next_at c kept at got) }
-control_obeys c seat phase cset seen value (Updating kept at) ready =
-    let word : IsWord c (updates.touch_at c at).word = updating_inside c at (and_parts _ _ ready).0 in
-    record { elsewhere = image_elsewhere c (placed c (updates.touch_at c at)) (placed_above c (updates.touch_at c at) word (updating_image c at)); goes_on = λ got. update_free kept (updates.next_at c kept at got) }
+control_obeys c seat phase cset seen value (Working at) ready = record {
+  elsewhere = image_elsewhere c (placed c (units.touch_at c (control_seat c) at)) (unit_above c (control_seat c) at (and_parts _ _ ready).0);
+  goes_on = λ got. unit_free (units.next_at c at got);
+}
 control_obeys c seat phase cset seen value (Stopping at) ready =
     obeys_same c seat (stop_standing at) _ (λ got. stop_standing (stop_next c at got)) _ (λ got. stopping_standing (stop_next c at got))
     (stop_obeys c seat at (is_off (is_stopped at) (and_parts (touch_fits c (stop_touch at)) (if is_stopped at then false else true) ready).1))
@@ -106,15 +77,8 @@ stop_counts c value stop.Stopped = inr (record { not_written = inl refl; same = 
 
 pub control_counts : (c : Config) (value : ℕ) (spot : ControlSpot) → is_ready c spot ≡ true → Counts c false (access_with c spot value) (λ got. false)
 control_counts c value StoreEnd ready = inr (record { not_written = inr (λ e. omega (arith, e)); same = λ got. refl })
-control_counts c value (Scanning at) ready =
-    let word : IsWord c (scans.touch_at c at).word = scan_inside c at (and_parts _ _ ready).0 in
-    inr (record { not_written = inr (image_not_left c (placed c (scans.touch_at c at)) (placed_above c (scans.touch_at c at) word (scan_image c at))); same = λ got. refl })
-control_counts c value (Evacuating kept at) ready =
-    let word : IsWord c (evacs.touch_at c (control_seat c) at).word = evacuation_inside c (control_seat c) at (and_parts _ _ ready).0 in
-    inr (record { not_written = inr (image_not_left c (placed c (evacs.touch_at c (control_seat c) at)) (placed_above c (evacs.touch_at c (control_seat c) at) word (evacuation_image c (control_seat c) at))); same = λ got. refl })
-control_counts c value (Updating kept at) ready =
-    let word : IsWord c (updates.touch_at c at).word = updating_inside c at (and_parts _ _ ready).0 in
-    inr (record { not_written = inr (image_not_left c (placed c (updates.touch_at c at)) (placed_above c (updates.touch_at c at) word (updating_image c at))); same = λ got. refl })
+control_counts c value (Working at) ready =
+    inr (record { not_written = inr (image_not_left c (placed c (units.touch_at c (control_seat c) at)) (unit_above c (control_seat c) at (and_parts _ _ ready).0)); same = λ got. refl })
 control_counts c value (Stopping at) ready = stop_counts c value at
 control_counts c value (StoreWord index) ready = inr (record { not_written = inr (image_not_left c (access_with c (StoreWord index) value) (omega arith)); same = λ got. refl })
 control_counts c value Go ready = inr (record { not_written = inr (λ e. omega (arith, e)); same = λ got. refl })

@@ -19,10 +19,9 @@ use Rattle.handshake.specs.Rows.{stop_next}
 use Rattle.handshake.specs.Obeys.{is_load}
 use Rattle.handshake.specs.Ending.{KeepsEnd}
 use Rattle.handshake.proofs.Parts.{placed_above}
-use Rattle.scan_steps.specs.declared.spot.ScanSpot.{ScanSpot}
-use Rattle.scan_steps.specs.declared.spot.ScanSpot.TheVariants as scan
-use Rattle.scan_steps.specs.Rows as scans
-use Rattle.mark_steps.proofs.Scans.{scan_inside}
+use Rattle.unit_part.specs.declared.spot.UnitSpot.{UnitSpot}
+use Rattle.unit_part.specs.declared.spot.UnitSpot.TheVariants as unit
+use Rattle.unit_part.specs.Rows as units
 use Rattle.mutator.specs.declared.spot.Entered.{Entered}
 use Rattle.mutator.specs.declared.spot.Spot.{Spot}
 use Rattle.mutator.specs.declared.spot.Spot.TheVariants.{Rest, Ended, Entering, LoadPhase, LoadSet, Loading, OnField, Resolving, Recording, OnNumber, Showing, StoreRoot, Making, AskCycle, Waiting, Leave, Gone}
@@ -31,20 +30,12 @@ use Rattle.mutator.specs.declared.waits.WaitSpot.TheVariants as wait
 use Rattle.mutator.specs.Orders.{takes_at}
 use Rattle.mutator.specs.Rows.{Mutating, touch_at, first_touch}
 use Rattle.mutator.specs.Fit.{numbers_fit}
-use Rattle.load_barrier.specs.declared.evac_spot.EvacSpot.{EvacSpot}
-use Rattle.load_barrier.specs.declared.evac_spot.EvacSpot.TheVariants as evac
-use Rattle.load_barrier.specs.UnitRows as evacs
-use Rattle.update_refs.specs.declared.spot.UpdateSpot.{UpdateSpot}
-use Rattle.update_refs.specs.declared.spot.UpdateSpot.TheVariants as update
-use Rattle.update_refs.specs.Rows as updates
-use Rattle.load_barrier.proofs.Inside.{evacuation_inside, evacuation_image}
-use Rattle.update_refs.proofs.Inside.{updating_inside, updating_image}
 use Rattle.control_steps.specs.declared.spot.ControlSpot.{ControlSpot}
 use Rattle.control_steps.specs.declared.spot.ControlSpot.TheVariants as control
-use Rattle.control_steps.specs.Rows.{control_seat, is_gone, access_with, next_spot, stopping, after_scan, after_evacuation, after_updating, begins_pause, begins_unit, unasked, wants_pause}
+use Rattle.control_steps.specs.Rows.{control_seat, is_gone, access_with, next_spot, stopping, after_unit, begins_pause, unasked, wants_pause}
 use Rattle.control_steps.specs.Ready.{is_ready}
 use Rattle.step_core.proofs.MutatorObeys.{StaysIn, stays_in, waits_in, given_order, given_ended}
-use Rattle.step_core.proofs.ControlObeys.{scan_image}
+use Rattle.step_core.proofs.ControlObeys.{unit_above}
 
 module _ (c : Config) (m : Mutating) (given : Order) where
   abbrev access_at : Spot → Access
@@ -105,20 +96,10 @@ stopping_goes stop.Raise = refl
 stopping_goes (stop.Check seat) = refl
 stopping_goes stop.Stopped = refl
 
-scan_goes : (at : ScanSpot) → is_gone (after_scan at) ≡ false
-scan_goes (scan.Ended Worked) = refl
-scan_goes (scan.Ended NoneLeft) = refl
-scan_goes _ = refl
-
-evac_goes : (cset : ℕ) (at : EvacSpot) → is_gone (after_evacuation cset at) ≡ false
-evac_goes cset (evac.Ended Worked) = refl
-evac_goes cset (evac.Ended NoneLeft) = refl
-evac_goes cset _ = refl
-
-update_goes : (cset : ℕ) (at : UpdateSpot) → is_gone (after_updating cset at) ≡ false
-update_goes cset (update.Ended Worked) = refl
-update_goes cset (update.Ended NoneLeft) = refl
-update_goes cset _ = refl
+unit_goes : (at : UnitSpot) → is_gone (after_unit at) ≡ false
+unit_goes (unit.Ended Worked) = refl
+unit_goes (unit.Ended NoneLeft) = refl
+unit_goes _ = refl
 
 module _ (c : Config) (phase cset seen value : ℕ) where
   stop_not : (at : StopSpot) → (is_load (access_with c (control.Stopping at) value) ≡ true) ⊎ (table_index (access_with c (control.Stopping at) value) ≢ word_at c End)
@@ -131,19 +112,12 @@ module _ (c : Config) (phase cset seen value : ℕ) where
   control_keeps_end control.StoreEnd ready = inl (record { access_is = refl; has_ended = λ got. refl })
   control_keeps_end control.LookAsked ready = inr (record {
     not_written = inl refl;
-    same = λ got. neither (begins_pause phase got) (control.Stopping stop.Raise) (unasked phase cset) refl (neither (phase == 0) control.LookFree (begins_unit phase cset) refl (neither (phase == 1) (control.Scanning scan.LoadClaim) (if phase == 2 then control.Evacuating cset evac.LoadClaim else control.Updating cset update.LoadClaim) refl
-        (neither (phase == 2) (control.Evacuating cset evac.LoadClaim) (control.Updating cset update.LoadClaim) refl refl)));
+    same = λ got. neither (begins_pause phase got) (control.Stopping stop.Raise) (unasked phase cset) refl (neither (phase == 0) control.LookFree (control.Working (units.begins phase cset)) refl refl);
   })
   control_keeps_end control.LookFree ready = inr (record { not_written = inl refl; same = λ got. neither (wants_pause c seen got) (control.Stopping stop.Raise) control.LookLeft refl refl })
-  control_keeps_end (control.Scanning at) ready =
-      let above = placed_above c (scans.touch_at c at) (scan_inside c at (and_parts _ _ ready).0) (scan_image c at) in
-      inr (record { not_written = inr (λ e. omega (arith, e, above)); same = λ got. scan_goes (scans.next_at c at got) })
-  control_keeps_end (control.Evacuating kept at) ready =
-      let above = placed_above c (evacs.touch_at c (control_seat c) at) (evacuation_inside c (control_seat c) at (and_parts _ _ ready).0) (evacuation_image c (control_seat c) at) in
-      inr (record { not_written = inr (λ e. omega (arith, e, above)); same = λ got. evac_goes kept (evacs.next_at c kept at got) })
-  control_keeps_end (control.Updating kept at) ready =
-      let above = placed_above c (updates.touch_at c at) (updating_inside c at (and_parts _ _ ready).0) (updating_image c at) in
-      inr (record { not_written = inr (λ e. omega (arith, e, above)); same = λ got. update_goes kept (updates.next_at c kept at got) })
+  control_keeps_end (control.Working at) ready =
+      let above = unit_above c (control_seat c) at (and_parts _ _ ready).0 in
+      inr (record { not_written = inr (λ e. omega (arith, e, above)); same = λ got. unit_goes (units.next_at c at got) })
   control_keeps_end (control.Stopping at) ready = inr (record { not_written = stop_not at; same = λ got. stopping_goes (stop_next c at got) })
   control_keeps_end (control.LoadWord index) ready = inr (record { not_written = inl refl; same = λ got. neither (nat_lt (index + 1) (image_words c)) (control.LoadWord (index + 1)) (control.StoreWord 0) refl refl })
   control_keeps_end (control.StoreWord index) ready =

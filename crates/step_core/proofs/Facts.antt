@@ -20,14 +20,17 @@ pub use Rattle.heap_world.specs.Asking.{PromisedToMutators}
 use Rattle.heap_world.specs.Change.{image_words, IsDue}
 use Rattle.heap_world.specs.Roots.{HasNoMore}
 use Rattle.control_steps.specs.declared.spot.ControlSpot.{ControlSpot}
-use Rattle.control_steps.specs.declared.spot.ControlSpot.TheVariants.{LookFree, Scanning, Evacuating, Updating, Stopping, LoadWord, StoreWord}
+use Rattle.control_steps.specs.declared.spot.ControlSpot.TheVariants.{LookFree, Working, Stopping, LoadWord, StoreWord}
 use Rattle.control_steps.specs.Rows.{Controlling}
 use Rattle.control_steps.specs.Ready.{is_ready}
 use Rattle.helper.specs.declared.spot.HelpSpot.{HelpSpot}
 use Rattle.helper.specs.declared.spot.HelpSpot.TheVariants as help
 use Rattle.helper.specs.Rows.{Helping}
 use Rattle.helper.specs.Ready.{help_ready}
+use Rattle.heap_words.specs.declared.access.Unit.TheVariants.{Worked, NoneLeft}
 use Rattle.scan_steps.specs.declared.spot.ScanSpot.{ScanSpot}
+use Rattle.unit_part.specs.declared.spot.UnitSpot.{UnitSpot}
+use Rattle.unit_part.specs.declared.spot.UnitSpot.TheVariants.{Scanning, Evacuating, Updating, Ended}
 use Rattle.mark_steps.specs.Scanning.{CanScan}
 use Rattle.evac_steps.specs.Evacuating.{CanEvacuate}
 use Rattle.update_steps.specs.Updating.{CanUpdate}
@@ -80,12 +83,19 @@ IsResting w seat = Rests w.ghost w.block seat
 abbrev pub Scans : Config → World → ℕ → ScanSpot → Type 0
 Scans c w seat at = CanScan c w seat at × (w.ghost.copying seat ≡ false) × (w.ghost.working seat ≡ None)
 
+-- What who works on a unit counts on by where the work stands: it can go on; or once the unit has ended it rests, and where none was left
+-- a pause is due.
+abbrev pub CanWork : Config → World → ℕ → UnitSpot → Type 0
+CanWork c w seat (Scanning at) = Scans c w seat at
+CanWork c w seat (Evacuating cset at) = CanEvacuate c w seat cset at
+CanWork c w seat (Updating cset at) = CanUpdate c w seat cset at
+CanWork c w seat (Ended Worked) = IsResting w seat
+CanWork c w seat (Ended NoneLeft) = IsResting w seat × IsDue c w.memory
+
 -- What a helper counts on by where it stands: between the two loads it knows the phase, which is not 0, and in a unit it can go on;
 -- elsewhere it rests.
 abbrev pub HelpFacts : Config → World → ℕ → HelpSpot → Type 0
-HelpFacts c w seat (help.Scanning at) = Scans c w seat at
-HelpFacts c w seat (help.Evacuating cset at) = CanEvacuate c w seat cset at
-HelpFacts c w seat (help.Updating cset at) = CanUpdate c w seat cset at
+HelpFacts c w seat (help.Working at) = CanWork c w seat at
 HelpFacts c w seat (help.LoadSet phase) = IsResting w seat × (phase ≢ 0) × (phase ≡ w.memory Phase)
 HelpFacts c w seat _ = IsResting w seat
 
@@ -100,9 +110,7 @@ pub record IsHelper (c : Config) (w : World) (number : ℕ) (h : Helping) : Type
 -- What the control counts on by where it stands: in a unit it can go on, and elsewhere it rests. It looks at the free word in phase 0
 -- alone, and where it has begun a pause and until it has read the image, that pause is due.
 abbrev pub ControlFacts : Config → World → ℕ → ControlSpot → Type 0
-ControlFacts c w number (Scanning at) = Scans c w number at
-ControlFacts c w number (Evacuating cset at) = CanEvacuate c w number cset at
-ControlFacts c w number (Updating cset at) = CanUpdate c w number cset at
+ControlFacts c w number (Working at) = CanWork c w number at
 ControlFacts c w number LookFree = IsResting w number × (w.memory Phase ≡ 0)
 ControlFacts c w number (Stopping at) = IsResting w number × IsDue c w.memory
 ControlFacts c w number (LoadWord index) = IsResting w number × IsDue c w.memory

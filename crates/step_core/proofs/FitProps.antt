@@ -10,6 +10,9 @@ use Rattle.load_barrier.specs.declared.evac_spot.EvacSpot.{EvacSpot}
 use Rattle.load_barrier.specs.declared.evac_spot.EvacSpot.TheVariants as evac
 use Rattle.load_barrier.specs.Fit.{LeavesFit}
 use Rattle.load_barrier.specs.UnitFit as units
+use Rattle.unit_part.specs.declared.spot.UnitSpot.{UnitSpot}
+use Rattle.unit_part.specs.declared.spot.UnitSpot.TheVariants.{Scanning, Evacuating, Updating, Ended}
+use Rattle.unit_part.specs.Ready as unit
 use Rattle.mutator.specs.declared.spot.Spot.{Spot}
 use Rattle.mutator.specs.declared.spot.Spot.TheVariants.{OnField, Resolving}
 use Rattle.mutator.specs.declared.spot.Kept.{Kept}
@@ -18,14 +21,14 @@ use Rattle.helper.specs.declared.spot.HelpSpot.{HelpSpot}
 use Rattle.helper.specs.declared.spot.HelpSpot.TheVariants as help
 use Rattle.helper.specs.Ready as helpers
 use Rattle.control_steps.specs.declared.spot.ControlSpot.{ControlSpot}
-use Rattle.control_steps.specs.declared.spot.ControlSpot.TheVariants.{Scanning, Evacuating, Updating, LoadWord}
+use Rattle.control_steps.specs.declared.spot.ControlSpot.TheVariants as control
 use Rattle.control_steps.specs.Ready.{UnitGoesOn}
 use Rattle.control_steps.specs.Rows.{control_seat}
 use Rattle.step_core.specs.Fit.{IsWhole}
 
 -- of an image
 pub whole_is_prop : (c : Config) (spot : ControlSpot) (image : List ℕ) (got : ℕ) → IsProp (IsWhole c spot image got)
-whole_is_prop c (LoadWord index) image got = hlevel
+whole_is_prop c (control.LoadWord index) image got = hlevel
 whole_is_prop c _ image got = hlevel
 
 -- of a resolving
@@ -39,17 +42,19 @@ evacuation_is_prop c seat (evac.LoadTop region) got = hlevel Bool-set
 evacuation_is_prop c seat (evac.Resolving address end next at) got = hlevel (Bool-set, leaves_is_prop at got)
 evacuation_is_prop c seat _ got = hlevel
 
--- of the unit of the control, and of a helper's
+-- of a unit, of the control and of a helper
+work_is_prop : (c : Config) (seat : ℕ) (at : UnitSpot) (got : ℕ) → IsProp (unit.IsFit c seat at got)
+work_is_prop c seat (Scanning at) got = hlevel Bool-set
+work_is_prop c seat (Evacuating cset at) got = hlevel (Bool-set, evacuation_is_prop c seat at got)
+work_is_prop c seat (Updating cset at) got = hlevel Bool-set
+work_is_prop c seat (Ended ended) got = hlevel
+
 pub unit_is_prop : (c : Config) (spot : ControlSpot) (got : ℕ) → IsProp (UnitGoesOn c spot got)
-unit_is_prop c (Scanning at) got = hlevel Bool-set
-unit_is_prop c (Evacuating cset at) got = hlevel (Bool-set, evacuation_is_prop c (control_seat c) at got)
-unit_is_prop c (Updating cset at) got = hlevel Bool-set
+unit_is_prop c (control.Working at) got = work_is_prop c (control_seat c) at got
 unit_is_prop c _ got = hlevel
 
 pub helpers_is_prop : (c : Config) (seat : ℕ) (spot : HelpSpot) (got : ℕ) → IsProp (helpers.UnitGoesOn c seat spot got)
-helpers_is_prop c seat (help.Scanning at) got = hlevel Bool-set
-helpers_is_prop c seat (help.Evacuating cset at) got = hlevel (Bool-set, evacuation_is_prop c seat at got)
-helpers_is_prop c seat (help.Updating cset at) got = hlevel Bool-set
+helpers_is_prop c seat (help.Working at) got = work_is_prop c seat at got
 helpers_is_prop c seat _ got = hlevel
 
 -- of a part of a call

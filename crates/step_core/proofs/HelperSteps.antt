@@ -8,32 +8,22 @@ use Rattle.heap_words.specs.Words.{End, Phase, Cset, State, write}
 use Rattle.handshake.specs.declared.enter_spot.EnterSpot.{EnterSpot}
 use Rattle.handshake.specs.declared.enter_spot.EnterSpot.TheVariants as enter
 use Rattle.handshake.specs.Rows.{enter_next}
-use Rattle.scan_steps.specs.declared.spot.ScanSpot.{ScanSpot}
-use Rattle.scan_steps.specs.declared.spot.ScanSpot.TheVariants as scan
-use Rattle.scan_steps.specs.Rows as scans
+use Rattle.heap_words.specs.declared.access.Unit.TheVariants.{Worked, NoneLeft}
+use Rattle.unit_part.specs.declared.spot.UnitSpot.{UnitSpot}
+use Rattle.unit_part.specs.declared.spot.UnitSpot.TheVariants.{Ended}
+use Rattle.unit_part.specs.Rows as units
 use Rattle.helper.specs.declared.spot.HelpSpot.{HelpSpot}
-use Rattle.helper.specs.declared.spot.HelpSpot.TheVariants.{LoadEnd, Entering, LoadPhase, LoadSet, Scanning, Evacuating, Updating, Leave, Gone}
-use Rattle.helper.specs.Rows.{Helping, is_gone, touch_at, help_touch, after_enter, after_scan, after_evacuation, after_updating, next_spot, help_next}
+use Rattle.helper.specs.declared.spot.HelpSpot.TheVariants.{LoadEnd, Entering, LoadPhase, LoadSet, Working, Leave, Gone}
+use Rattle.helper.specs.Rows.{Helping, is_gone, touch_at, help_touch, after_enter, after_unit, next_spot, help_next}
 use Rattle.helper.specs.Ready.{UnitGoesOn}
 use Rattle.helper.proofs.Ready.{stays_ready}
-use Rattle.load_barrier.specs.declared.evac_spot.EvacSpot.{EvacSpot}
-use Rattle.load_barrier.specs.declared.evac_spot.EvacSpot.TheVariants as evac
-use Rattle.load_barrier.specs.UnitRows as evacs
-use Rattle.update_refs.specs.declared.spot.UpdateSpot.{UpdateSpot}
-use Rattle.update_refs.specs.declared.spot.UpdateSpot.TheVariants as update
-use Rattle.update_refs.specs.Rows as updates
-use Rattle.evac_steps.specs.Evacuating.{CanEvacuate}
-use Rattle.evac_steps.proofs.Parts.{evacuating_steps}
-use Rattle.update_steps.specs.Updating.{CanUpdate}
-use Rattle.update_steps.proofs.Parts.{updating_steps}
-use Rattle.mark_steps.proofs.Parts.{scanning_steps}
 use Rattle.heap_world.specs.World.{World, Shared}
 use Rattle.heap_world.specs.Part.{PartStep}
 use Rattle.step_core.proofs.Alike.{load_step, store_step}
 use Rattle.step_core.proofs.EnterSteps.{states_stay, entered_world, enters}
-use Rattle.step_core.proofs.Facts.{IsResting, Scans, HelpFacts, IsHelper}
-use Rattle.step_core.proofs.Helpers.{is_off, phase_three}
-use Rattle.step_core.proofs.Units.{scans_from, scans_step, scanned_rests, evacuates_from, evacuated_rests, updates_from, updated_rests}
+use Rattle.step_core.proofs.Facts.{IsResting, CanWork, HelpFacts, IsHelper}
+use Rattle.step_core.proofs.Helpers.{is_off}
+use Rattle.step_core.proofs.Units.{step_with, work_begins, work_fits, work_step}
 use Rattle.step_core.proofs.Marking.{world_with}
 
 module _ (c : Config) (u : World) (seat : ℕ) (shared : Shared c u) where
@@ -67,17 +57,10 @@ module _ (c : Config) (u : World) (seat : ℕ) (shared : Shared c u) where
   enters_at w enter.Inside rests = rests
   enters_at w _ rests = rests
 
-  scans_at : (w : World) (at : ScanSpot) → Scans c w seat at → HelpFacts c w seat (after_scan at)
-  scans_at w (scan.Ended unit) scans = scanned_rests c w seat unit scans
-  scans_at w _ scans = scans
-
-  evacuates_at : (w : World) (cset : ℕ) (at : EvacSpot) → CanEvacuate c w seat cset at → HelpFacts c w seat (after_evacuation cset at)
-  evacuates_at w cset (evac.Ended unit) can = evacuated_rests c w seat cset unit can
-  evacuates_at w cset _ can = can
-
-  updates_at : (w : World) (cset : ℕ) (at : UpdateSpot) → CanUpdate c w seat cset at → HelpFacts c w seat (after_updating cset at)
-  updates_at w cset (update.Ended unit) can = updated_rests c w seat cset unit can
-  updates_at w cset _ can = can
+  works_at : (w : World) (at : UnitSpot) → CanWork c w seat at → HelpFacts c w seat (after_unit at)
+  works_at w (Ended Worked) can = can
+  works_at w (Ended NoneLeft) can = can.0
+  works_at w _ can = can
 
   -- its seat is one of the heap's
   seated : (spot : HelpSpot) → IsHelper c u seat (helper_at spot) → seat < seat_count c.mutators c.helpers
@@ -105,59 +88,14 @@ module _ (c : Config) (u : World) (seat : ℕ) (shared : Shared c u) where
       (stands_then u LoadPhase is tt (of_two u (u.memory Phase == 0) Leave (LoadSet (u.memory Phase)) (λ none. is.facts) (λ some. (is.facts, eqb-false _ _ some, refl))))
 
   load_set : (phase : ℕ) → IsHelper c u seat (helper_at (LoadSet phase)) → Step (LoadSet phase)
-  load_set phase is =
-      let some = is.facts.1 in
-      let same = is.facts.2 in
-      load_step c u seat Cset _ shared
-      (stands_then u (LoadSet phase) is tt
-      (of_two u (phase == 1) (Scanning scan.LoadClaim) (if phase == 2 then Evacuating (u.memory Cset) evac.LoadClaim else Updating (u.memory Cset) update.LoadClaim)
-      (λ one. scans_from c u seat (seated (LoadSet phase) is) (sym same ∙ eqb-true _ _ one) is.facts.0)
-      (λ other. of_two u (phase == 2) (Evacuating (u.memory Cset) evac.LoadClaim) (Updating (u.memory Cset) update.LoadClaim)
-      (λ two. evacuates_from c u seat (seated (LoadSet phase) is) (sym same ∙ eqb-true _ _ two) is.facts.0)
-      (λ last. updates_from c u seat (seated (LoadSet phase) is)
-      (phase_three _ shared.phased.phase_is (λ none. some (same ∙ none)) (λ one. eqb-false _ _ other (same ∙ one)) (λ two. eqb-false _ _ last (same ∙ two))) is.facts.0))))
+  load_set phase is = load_step c u seat Cset _ shared (stands_then u (LoadSet phase) is tt (work_begins c u seat shared phase (seated (LoadSet phase) is) is.facts.1 is.facts.2 is.facts.0))
 
-  -- it scans
-  scan_step : (at : ScanSpot) → scans.is_ended at ≡ false → IsHelper c u seat (helper_at (Scanning at)) → Step (Scanning at)
-  scan_step at going is =
-      let step = scans_step c u seat at going shared is.facts in
-      record {
-        world = step.world;
-        memory = step.memory;
-        graph = step.graph;
-        shared = step.shared;
-        own = stands_then step.world (Scanning at) is (scanning_steps.fits c u seat at going shared is.facts.0) (scans_at step.world _ step.own);
-        keeps = step.keeps;
-        others = step.others;
-      }
-
-  -- it evacuates
-  evacuate_step : (cset : ℕ) (at : EvacSpot) → evacs.is_ended at ≡ false → IsHelper c u seat (helper_at (Evacuating cset at)) → Step (Evacuating cset at)
-  evacuate_step cset at going is =
-      let step = evacuating_steps.each c u seat cset at going shared is.facts in
-      record {
-        world = step.world;
-        memory = step.memory;
-        graph = step.graph;
-        shared = step.shared;
-        own = stands_then step.world (Evacuating cset at) is (evacuating_steps.fits c u seat cset at going shared is.facts) (evacuates_at step.world cset _ step.own);
-        keeps = step.keeps;
-        others = step.others;
-      }
-
-  -- it updates
-  update_step : (cset : ℕ) (at : UpdateSpot) → updates.is_ended at ≡ false → IsHelper c u seat (helper_at (Updating cset at)) → Step (Updating cset at)
-  update_step cset at going is =
-      let step = updating_steps.each c u seat cset at going shared is.facts in
-      record {
-        world = step.world;
-        memory = step.memory;
-        graph = step.graph;
-        shared = step.shared;
-        own = stands_then step.world (Updating cset at) is (updating_steps.fits c u seat cset at going shared is.facts) (updates_at step.world cset _ step.own);
-        keeps = step.keeps;
-        others = step.others;
-      }
+  -- it works on its unit
+  unit_step : (at : UnitSpot) → IsHelper c u seat (helper_at (Working at)) → Step (Working at)
+  unit_step at is =
+      let ready = and_parts _ _ (and_parts _ _ is.ready).1 in
+      let step = work_step c u seat shared at ready.0 (is_off (units.is_ended at) ready.1) is.facts in
+      step_with c u seat (units.touch_at c seat at) _ _ step (stands_then step.world (Working at) is (work_fits c u seat shared at ready.0 is.facts) (works_at step.world _ step.own))
 
   -- it leaves
   leave_step : IsHelper c u seat (helper_at Leave) → Step Leave
@@ -169,9 +107,7 @@ module _ (c : Config) (u : World) (seat : ℕ) (shared : Shared c u) where
   by_spot (Entering at) going is = enter_step at is
   by_spot LoadPhase going is = load_phase is
   by_spot (LoadSet phase) going is = load_set phase is
-  by_spot (Scanning at) going is = scan_step at (is_off (scans.is_ended at) (and_parts _ _ (and_parts _ _ is.ready).1).1) is
-  by_spot (Evacuating cset at) going is = evacuate_step cset at (is_off (evacs.is_ended at) (and_parts _ _ (and_parts _ _ is.ready).1).1) is
-  by_spot (Updating cset at) going is = update_step cset at (is_off (updates.is_ended at) (and_parts _ _ (and_parts _ _ is.ready).1).1) is
+  by_spot (Working at) going is = unit_step at is
   by_spot Leave going is = leave_step is
   by_spot Gone going is = absurd (cc (going))
 

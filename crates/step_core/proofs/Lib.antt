@@ -73,5 +73,6 @@ pub mod Crowding
 pub mod Seats
 pub mod Replies
 pub mod Requests
+pub mod AtRest
 pub mod Theorem
 pub mod Ending

@@ -272,9 +272,9 @@ module _ (c : Config) (words : List ℕ) (u w : World) (t made : ℕ) (kept : Ke
     thread_then (Waiting (wait.ClearAnswer reply)) out short answers old = cc
     thread_then _ out short answers old = cc
 
--- A stage in which the control works in a pause and rests, and every machine but it is outside.
-module _ (c : Config) (words : List ℕ) (block : Plot) (ghost : Ghost) (g : Graph) (past : List Entry) (machines : List Actor) (image : List ℕ)
-    (read : AreRead c words image (image_words c)) (seats : length machines ≡ seat_count c.mutators c.helpers) (still : IsResting (open_world c words block ghost g) (control_number c)) where
+-- A stage in which the control rests, and every machine but it is outside.
+module _ (c : Config) (words : List ℕ) (block : Plot) (ghost : Ghost) (g : Graph) (past : List Entry) (machines : List Actor) (seats : length machines ≡ seat_count c.mutators c.helpers)
+    (still : IsResting (open_world c words block ghost g) (control_number c)) where
   abbrev before : World
   before = open_world c words block ghost g
 
@@ -295,7 +295,7 @@ module _ (c : Config) (words : List ℕ) (block : Plot) (ghost : Ghost) (g : Gra
   mutator_out outside t b m below there is = ap (λ machine. is_within (standing_of machine)) (sym is) ∙ outside t b there (mutator_is_not_control c t below)
 
   -- and has asked for what its spot says
-  mutator_asks : (t : ℕ) (b : Actor) (m : Mutating) → slice_get machines t ≡ Some b → b.machine ≡ mutating m → asking t ≡ asking_at m.spot (view c words (Answer t)) m.kept.command
+  pub mutator_asks : (t : ℕ) (b : Actor) (m : Mutating) → slice_get machines t ≡ Some b → b.machine ≡ mutating m → asking t ≡ asking_at m.spot (view c words (Answer t)) m.kept.command
   mutator_asks t b m there is = ap (λ o. asking_of o (view c words (Answer t))) there ∙ ap (λ machine. asking_in machine (view c words (Answer t))) is
 
   -- every machine rests
@@ -342,106 +342,124 @@ module _ (c : Config) (words : List ℕ) (block : Plot) (ghost : Ghost) (g : Gra
     works_none = λ seat below. (all_rest known outside seat below).works_none;
   }
 
-  -- The image that was read stands for the graph.
-  pub image_stands : Shared c before → PromisedToMutators c block → HasNoMore c.mutators g → AllKnown → AllOutside → Represents c (image_view c image) g asking
-  image_stands shared promised_to no_more known outside =
-      let whole : view c words ≡ mixed c words image = sym (mixed_whole c words image read) in
-      record {
-        block = block;
-        ghost = ghost;
-        shared = subst (λ memory. Shared c (record { memory = memory; block = block; ghost = ghost; graph = g })) whole shared;
-        roots = λ t i below small.
-            let there = mutator_there c words before past machines seats known t below in
-            let m = there.1 in
-            let thread = there.4 in
-            let out = mutator_out outside t there.0 m below there.2 there.3 in
-            subst (λ memory. Points block (memory (Root t i)) (g.root (t + 1) i)) whole
-            (subst (λ j. Points block (view c words (Root j i)) (g.root (j + 1) i)) thread.number_is
-            (subst (λ word. Points block word (g.root (m.seat + 1) i)) (root_outside before m.seat m.kept m.spot i out) (thread.mine.roots i small)));
-        usable = λ t i below small.
-            let there = mutator_there c words before past machines seats known t below in
-            let thread = there.4 in
-            subst (λ memory. IsUsable c (memory Cset) (memory Evac) block (memory (Root t i))) whole
-            (subst (λ j. IsUsable c (view c words Cset) (view c words Evac) block (view c words (Root j i))) thread.number_is (thread.mine.seated.usable i small));
-        none = no_hands shared known outside;
-        asked = λ t below. asked_same (mixed c words image) (image_view c image) block g.count t (asking t) refl refl (λ a. refl) (subst (λ memory. IsAsked memory block g.count t (asking t)) whole (asked_there known outside t below));
-        heard = λ t refs nums below is. subst (λ memory. bit_at (memory Ask) 1 ≡ 1) whole (heard_there known outside t refs nums below is);
-        promised_to = promised_to;
-        unmarking = nobody_marks known outside;
-        uncopying = nobody_copies known outside;
-        no_more = no_more;
+  -- The words of the table stand for the graph.
+  pub words_stand : Shared c before → PromisedToMutators c block → HasNoMore c.mutators g → AllKnown → AllOutside → Represents c (view c words) g asking
+  words_stand shared promised_to no_more known outside = record {
+    block = block;
+    ghost = ghost;
+    shared = shared;
+    roots = λ t i below small.
+        let there = mutator_there c words before past machines seats known t below in
+        let m = there.1 in
+        let thread = there.4 in
+        let out = mutator_out outside t there.0 m below there.2 there.3 in
+        subst (λ j. Points block (view c words (Root j i)) (g.root (j + 1) i)) thread.number_is
+        (subst (λ word. Points block word (g.root (m.seat + 1) i)) (root_outside before m.seat m.kept m.spot i out) (thread.mine.roots i small));
+    usable = λ t i below small.
+        let there = mutator_there c words before past machines seats known t below in
+        let thread = there.4 in
+        subst (λ j. IsUsable c (view c words Cset) (view c words Evac) block (view c words (Root j i))) thread.number_is (thread.mine.seated.usable i small);
+    none = no_hands shared known outside;
+    asked = asked_there known outside;
+    heard = heard_there known outside;
+    promised_to = promised_to;
+    unmarking = nobody_marks known outside;
+    uncopying = nobody_copies known outside;
+    no_more = no_more;
+  }
+
+  -- An image that was read.
+  module _ (image : List ℕ) (read : AreRead c words image (image_words c)) where
+    -- It stands for the graph.
+    pub image_stands : Shared c before → PromisedToMutators c block → HasNoMore c.mutators g → AllKnown → AllOutside → Represents c (image_view c image) g asking
+    image_stands shared promised_to no_more known outside =
+        let whole : view c words ≡ mixed c words image = sym (mixed_whole c words image read) in
+        let stands = words_stand shared promised_to no_more known outside in
+        record {
+          block = stands.block;
+          ghost = stands.ghost;
+          shared = subst (λ memory. Shared c (record { memory = memory; block = stands.block; ghost = stands.ghost; graph = g })) whole stands.shared;
+          roots = λ t i below small. subst (λ memory. Points stands.block (memory (Root t i)) (g.root (t + 1) i)) whole (stands.roots t i below small);
+          usable = λ t i below small. subst (λ memory. IsUsable c (memory Cset) (memory Evac) stands.block (memory (Root t i))) whole (stands.usable t i below small);
+          none = stands.none;
+          asked = λ t below. asked_same (mixed c words image) (image_view c image) stands.block g.count t (asking t) refl refl (λ a. refl) (subst (λ memory. IsAsked memory stands.block g.count t (asking t)) whole (stands.asked t below));
+          heard = λ t refs nums below is. subst (λ memory. bit_at (memory Ask) 1 ≡ 1) whole (stands.heard t refs nums below is);
+          promised_to = stands.promised_to;
+          unmarking = stands.unmarking;
+          uncopying = stands.uncopying;
+          no_more = no_more;
+        }
+
+    -- The new image counts: what the step owes.
+    module _ (change : Change) (law : IsPause change) (due : IsDue c (view c words)) (long : length image ≡ image_words c) (shared : Shared c before) (promised_to : PromisedToMutators c block) (no_more : HasNoMore c.mutators g)
+        (known : AllKnown) (outside : AllOutside) where
+      -- the pause is due by the image
+      image_due : IsDue c (image_view c image)
+      image_due = subst (λ memory. IsDue c memory) (sym (mixed_whole c words image read)) due
+
+      paused : IsPaused c (image_view c image) (image_view c (change c image)) g asking
+      paused = law.pauses c image g asking long (image_stands shared promised_to no_more known outside) image_due
+
+      -- the world then
+      abbrev then_world : World
+      then_world = record { memory = mixed c words (change c image); block = paused.stands.block; ghost = paused.stands.ghost; graph = g }
+
+      -- what each mutator has asked for stands in its words
+      asked_in_it : (t : ℕ) → t < c.mutators → IsAsked then_world.memory paused.stands.block g.count t (paused.asked_then t)
+      asked_in_it t below =
+          asked_same (image_view c (change c image)) then_world.memory paused.stands.block g.count t (paused.asked_then t) refl refl (λ a. refl) (paused.stands.asked t below)
+
+      -- the words that are promised then
+      promised_sum : (t : ℕ) → sum_below (λ v. if v == t then 0 else words_given (paused.asked_then v)) c.mutators ≡ sum_below (λ v. if v == t then 0 else words_promised then_world.memory v) c.mutators
+      promised_sum t = sum_same _ _ c.mutators (λ v below.
+          ap (λ n. if v == t then 0 else n) (sym (promised_given then_world.memory paused.stands.block g.count v (paused.asked_then v) (asked_in_it v below))))
+
+      -- who is refused is crowded out
+      crowded_then : (t : ℕ) → t < c.mutators → (refs nums : ℕ) → asking t ≡ asks refs nums → paused.asked_then t ≡ refused → IsShort c then_world.memory g t (3 + refs + nums)
+      crowded_then t below refs nums asks_so is =
+          let crowd = paused.crowded t refs nums below asks_so is in
+          (crowd.0, crowd.1, subst (λ n. c.regions * (c.region_words - (3 + refs + nums) + 1) ≤ sum_by (λ n. size (named g (Some n))) crowd.0 + n) (promised_sum t) crowd.2)
+
+      -- a mutator
+      mutator_then : (k : ℕ) (b : Actor) (m : Mutating) → slice_get machines k ≡ Some b → b.machine ≡ mutating m → is_within (standing_at m.spot) ≡ false
+          → IsThread c words before (of_thread past (k + 1)) k b m → IsThread c words then_world (of_thread past (k + 1)) k b m
+      mutator_then k b m there is out thread =
+          let below : k < c.mutators = subst (λ j. j < c.mutators) thread.number_is thread.mine.seated.below in
+          let asks_so = mutator_asks k b m there is in
+          subst (λ j. IsThread c words then_world (of_thread past (k + 1)) k b (mutator_at j m.made m.kept m.spot)) (sym thread.number_is)
+          (thread_then c words before then_world k m.made m.kept b (paused.asked_then k) (asked_in_it k below) refl (λ i small. paused.stands.roots k i below small) (λ a more. paused.stands.none a k more) paused.stands.unmarking
+          paused.stands.uncopying (λ i small. paused.stands.usable k i below small) (of_thread past (k + 1)) refl m.spot out (λ refs nums asks_by. crowded_then k below refs nums (asks_so ∙ asks_by))
+          (subst (λ y. Answers y (paused.asked_then k)) asks_so (paused.answers k below))
+          (subst (λ j. IsThread c words before (of_thread past (k + 1)) k b (mutator_at j m.made m.kept m.spot)) thread.number_is thread))
+
+      -- any machine but the control
+      machine_then : (k : ℕ) (b : Actor) (machine : Machine) → slice_get machines k ≡ Some b → b.machine ≡ machine → k ≢ control_number c → is_within (standing_of machine) ≡ false
+          → IsMachine c words before (of_thread past (k + 1)) k b machine → IsMachine c words then_world (of_thread past (k + 1)) k b machine
+      machine_then k b machine there is other out facts =
+          outside_goes_on c words before then_world (of_thread past (k + 1)) k b machine other out
+          (λ seated. rests_by c then_world k paused.stands.unmarking paused.stands.uncopying (λ a more. paused.stands.none a k more) seated)
+          (λ m role. mutator_then k b m there (is ∙ role) (ap (λ x. is_within (standing_of x)) (sym role) ∙ out)) facts
+
+      -- what the control owes
+      pub paused_owes : (seen : ℕ) (command : Command) (calls : List Entry) → Owes c words words before past (control_number c) machines (settled_by c words (Some (change c image))) []
+          (record { machine = controlling (record { spot = StoreWord 0; seen = seen; phase = image_view c (change c image) Phase; cset = image_view c (change c image) Cset; image = change c image }); command = command; calls = calls ++ [] })
+      paused_owes seen command calls = record {
+        world = then_world;
+        memory_is = refl;
+        graph_is = refl;
+        legal = tt;
+        entries = All-nil (IsSettled c.mutators);
+        shared = paused.stands.shared;
+        promised_to = paused.stands.promised_to;
+        own = record {
+          number_is = refl;
+          ready = lt-ltb _ _ (some_words c);
+          phase_is = refl;
+          set_is = refl;
+          facts = rests_by c then_world (control_number c) paused.stands.unmarking paused.stands.uncopying (λ a more. paused.stands.none a (control_number c) more) (omega arith);
+          aims = (law.long c image long, λ i below. absurd (omega (arith, below)));
+        };
+        others = λ k b other there is.
+            subst (λ es. IsMachine c words then_world es k b b.machine) (ap (λ es. of_thread es (k + 1)) (sym (append-nil past)))
+            (machine_then k b b.machine there refl other (outside k b there other) is);
       }
-
-  -- The new image counts: what the step owes.
-  module _ (change : Change) (law : IsPause change) (due : IsDue c (view c words)) (long : length image ≡ image_words c) (shared : Shared c before) (promised_to : PromisedToMutators c block) (no_more : HasNoMore c.mutators g)
-      (known : AllKnown) (outside : AllOutside) where
-    -- the pause is due by the image
-    image_due : IsDue c (image_view c image)
-    image_due = subst (λ memory. IsDue c memory) (sym (mixed_whole c words image read)) due
-
-    paused : IsPaused c (image_view c image) (image_view c (change c image)) g asking
-    paused = law.pauses c image g asking long (image_stands shared promised_to no_more known outside) image_due
-
-    -- the world then
-    abbrev then_world : World
-    then_world = record { memory = mixed c words (change c image); block = paused.stands.block; ghost = paused.stands.ghost; graph = g }
-
-    -- what each mutator has asked for stands in its words
-    asked_in_it : (t : ℕ) → t < c.mutators → IsAsked then_world.memory paused.stands.block g.count t (paused.asked_then t)
-    asked_in_it t below =
-        asked_same (image_view c (change c image)) then_world.memory paused.stands.block g.count t (paused.asked_then t) refl refl (λ a. refl) (paused.stands.asked t below)
-
-    -- the words that are promised then
-    promised_sum : (t : ℕ) → sum_below (λ v. if v == t then 0 else words_given (paused.asked_then v)) c.mutators ≡ sum_below (λ v. if v == t then 0 else words_promised then_world.memory v) c.mutators
-    promised_sum t = sum_same _ _ c.mutators (λ v below.
-        ap (λ n. if v == t then 0 else n) (sym (promised_given then_world.memory paused.stands.block g.count v (paused.asked_then v) (asked_in_it v below))))
-
-    -- who is refused is crowded out
-    crowded_then : (t : ℕ) → t < c.mutators → (refs nums : ℕ) → asking t ≡ asks refs nums → paused.asked_then t ≡ refused → IsShort c then_world.memory g t (3 + refs + nums)
-    crowded_then t below refs nums asks_so is =
-        let crowd = paused.crowded t refs nums below asks_so is in
-        (crowd.0, crowd.1, subst (λ n. c.regions * (c.region_words - (3 + refs + nums) + 1) ≤ sum_by (λ n. size (named g (Some n))) crowd.0 + n) (promised_sum t) crowd.2)
-
-    -- a mutator
-    mutator_then : (k : ℕ) (b : Actor) (m : Mutating) → slice_get machines k ≡ Some b → b.machine ≡ mutating m → is_within (standing_at m.spot) ≡ false
-        → IsThread c words before (of_thread past (k + 1)) k b m → IsThread c words then_world (of_thread past (k + 1)) k b m
-    mutator_then k b m there is out thread =
-        let below : k < c.mutators = subst (λ j. j < c.mutators) thread.number_is thread.mine.seated.below in
-        let asks_so = mutator_asks k b m there is in
-        subst (λ j. IsThread c words then_world (of_thread past (k + 1)) k b (mutator_at j m.made m.kept m.spot)) (sym thread.number_is)
-        (thread_then c words before then_world k m.made m.kept b (paused.asked_then k) (asked_in_it k below) refl (λ i small. paused.stands.roots k i below small) (λ a more. paused.stands.none a k more) paused.stands.unmarking
-        paused.stands.uncopying (λ i small. paused.stands.usable k i below small) (of_thread past (k + 1)) refl m.spot out (λ refs nums asks_by. crowded_then k below refs nums (asks_so ∙ asks_by))
-        (subst (λ y. Answers y (paused.asked_then k)) asks_so (paused.answers k below))
-        (subst (λ j. IsThread c words before (of_thread past (k + 1)) k b (mutator_at j m.made m.kept m.spot)) thread.number_is thread))
-
-    -- any machine but the control
-    machine_then : (k : ℕ) (b : Actor) (machine : Machine) → slice_get machines k ≡ Some b → b.machine ≡ machine → k ≢ control_number c → is_within (standing_of machine) ≡ false
-        → IsMachine c words before (of_thread past (k + 1)) k b machine → IsMachine c words then_world (of_thread past (k + 1)) k b machine
-    machine_then k b machine there is other out facts =
-        outside_goes_on c words before then_world (of_thread past (k + 1)) k b machine other out
-        (λ seated. rests_by c then_world k paused.stands.unmarking paused.stands.uncopying (λ a more. paused.stands.none a k more) seated)
-        (λ m role. mutator_then k b m there (is ∙ role) (ap (λ x. is_within (standing_of x)) (sym role) ∙ out)) facts
-
-    -- what the control owes
-    pub paused_owes : (seen : ℕ) (command : Command) (calls : List Entry) → Owes c words words before past (control_number c) machines (settled_by c words (Some (change c image))) []
-        (record { machine = controlling (record { spot = StoreWord 0; seen = seen; phase = image_view c (change c image) Phase; cset = image_view c (change c image) Cset; image = change c image }); command = command; calls = calls ++ [] })
-    paused_owes seen command calls = record {
-      world = then_world;
-      memory_is = refl;
-      graph_is = refl;
-      legal = tt;
-      entries = All-nil (IsSettled c.mutators);
-      shared = paused.stands.shared;
-      promised_to = paused.stands.promised_to;
-      own = record {
-        number_is = refl;
-        ready = lt-ltb _ _ (some_words c);
-        phase_is = refl;
-        set_is = refl;
-        facts = rests_by c then_world (control_number c) paused.stands.unmarking paused.stands.uncopying (λ a more. paused.stands.none a (control_number c) more) (omega arith);
-        aims = (law.long c image long, λ i below. absurd (omega (arith, below)));
-      };
-      others = λ k b other there is.
-          subst (λ es. IsMachine c words then_world es k b b.machine) (ap (λ es. of_thread es (k + 1)) (sym (append-nil past)))
-          (machine_then k b b.machine there refl other (outside k b there other) is);
-    }

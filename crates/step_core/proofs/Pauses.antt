@@ -6,7 +6,7 @@ use Rattle.std.proofs.lemmas.Bool.{and_parts, eqb-false, eqb-true}
 use Rattle.std.proofs.lemmas.Bool.Decides.{nat_tests}
 use Rattle.heap_words.specs.declared.config.Config.{Config}
 use Rattle.heap_words.specs.declared.access.Unit.TheVariants.{Worked, NoneLeft}
-use Rattle.heap_words.specs.Words.{Word, Pause, Left, End, Phase, Claim, Ask, Free, State, is_word, view, write, table_words}
+use Rattle.heap_words.specs.Words.{Word, Pause, Left, End, Phase, Ask, Free, State, is_word, view, write, table_words}
 use Rattle.heap_words.proofs.Stores.{is_word_from}
 use Rattle.steps_base.specs.Touch.{Touch, touch, loads, stores}
 use Rattle.shen_graph.specs.declared.command.Command.{Command}
@@ -15,36 +15,26 @@ use Rattle.shen_graph.specs.History.{Entry, of_thread}
 use Rattle.handshake.specs.declared.stop_spot.StopSpot.{StopSpot}
 use Rattle.handshake.specs.declared.stop_spot.StopSpot.TheVariants as stop
 use Rattle.handshake.specs.Rows.{stop_next}
-use Rattle.scan_steps.specs.declared.spot.ScanSpot.{ScanSpot}
-use Rattle.scan_steps.specs.declared.spot.ScanSpot.TheVariants as scan
-use Rattle.scan_steps.specs.Rows as scans
-use Rattle.load_barrier.specs.declared.evac_spot.EvacSpot.{EvacSpot}
-use Rattle.load_barrier.specs.declared.evac_spot.EvacSpot.TheVariants as evac
-use Rattle.load_barrier.specs.UnitRows as evacs
-use Rattle.update_refs.specs.declared.spot.UpdateSpot.{UpdateSpot}
-use Rattle.update_refs.specs.declared.spot.UpdateSpot.TheVariants as update
-use Rattle.update_refs.specs.Rows as updates
-use Rattle.evac_steps.specs.Evacuating.{CanEvacuate}
-use Rattle.evac_steps.proofs.Parts.{evacuating_steps}
-use Rattle.update_steps.specs.Updating.{CanUpdate}
-use Rattle.update_steps.proofs.Parts.{updating_steps}
-use Rattle.mark_steps.proofs.Parts.{scanning_steps}
+use Rattle.unit_part.specs.declared.spot.UnitSpot.{UnitSpot}
+use Rattle.unit_part.specs.declared.spot.UnitSpot.TheVariants.{Ended}
+use Rattle.unit_part.specs.Rows as units
+use Rattle.unit_part.proofs.Inside.{unit_inside}
 use Rattle.heap_world.specs.World.{Ghost, World, Plot, Shared}
 use Rattle.heap_world.specs.Change.{Change, IsDue}
 use Rattle.heap_world.specs.Part.{PartStep}
 use Rattle.control_steps.specs.declared.spot.ControlSpot.{ControlSpot}
-use Rattle.control_steps.specs.declared.spot.ControlSpot.TheVariants.{LookLeft, StoreEnd, LookAsked, LookFree, Scanning, Evacuating, Updating, Stopping, Go}
-use Rattle.control_steps.specs.Rows.{Controlling, control_touch, control_next, stopping, after_scan, after_evacuation, after_updating, begins_pause, begins_unit, unasked, wants_pause}
+use Rattle.control_steps.specs.declared.spot.ControlSpot.TheVariants.{LookLeft, StoreEnd, LookAsked, LookFree, Working, Stopping, Go}
+use Rattle.control_steps.specs.Rows.{Controlling, control_touch, control_next, stopping, after_unit, begins_pause, unasked, wants_pause}
 use Rattle.control_steps.proofs.Ready.{stays_ready}
 use Rattle.step_core.specs.Actor.{Machine, controlling, Actor}
 use Rattle.step_core.specs.Settled.{stored_image, settled_by, control_number}
-use Rattle.step_core.proofs.Facts.{IsResting, Scans, ControlFacts, IsAim, IsControl, IsMachine, PromisedToMutators, Owes}
+use Rattle.step_core.proofs.Facts.{IsResting, CanWork, ControlFacts, IsAim, IsControl, IsMachine, PromisedToMutators, Owes}
 use Rattle.step_core.proofs.Images.{words_after, view-placed}
 use Rattle.step_core.proofs.Alike.{is_of_handshake, load_step, store_step}
 use Rattle.step_core.proofs.Marking.{world_with}
-use Rattle.step_core.proofs.Due.{claimed_due, early_due, none_left_to_evacuate, none_left_to_update}
-use Rattle.step_core.proofs.Helpers.{phase_three}
-use Rattle.step_core.proofs.Units.{scans_from, scans_step, scanned_rests, evacuates_from, evacuated_rests, updates_from, updated_rests}
+use Rattle.step_core.proofs.Due.{early_due}
+use Rattle.step_core.proofs.Helpers.{is_off}
+use Rattle.step_core.proofs.Units.{step_with, work_begins, work_fits, work_step}
 use Rattle.step_core.proofs.Quiet.{quiet_owes}
 
 -- another machine is no control
@@ -103,53 +93,21 @@ module _ (c : Config) (words : List ℕ) (block : Plot) (ghost : Ghost) (g : Gra
   stopping_facts w (stop.Check seat) facts = facts
   stopping_facts w stop.Stopped facts = facts
 
-  -- where it scans, or has scanned a unit
-  scan_spot : (at : ScanSpot) → stored_image (after_scan at) [] ≡ None
-  scan_spot (scan.Ended Worked) = refl
-  scan_spot (scan.Ended NoneLeft) = refl
-  scan_spot _ = refl
+  -- where it works on a unit, or has done so
+  unit_spot : (at : UnitSpot) → stored_image (after_unit at) [] ≡ None
+  unit_spot (Ended Worked) = refl
+  unit_spot (Ended NoneLeft) = refl
+  unit_spot _ = refl
 
-  scan_aim : (at : ScanSpot) (ws : List ℕ) → IsAim c ws (after_scan at) []
-  scan_aim (scan.Ended Worked) ws = tt
-  scan_aim (scan.Ended NoneLeft) ws = tt
-  scan_aim _ ws = tt
+  unit_aim : (at : UnitSpot) (ws : List ℕ) → IsAim c ws (after_unit at) []
+  unit_aim (Ended Worked) ws = tt
+  unit_aim (Ended NoneLeft) ws = tt
+  unit_aim _ ws = tt
 
-  scan_facts : (w : World) (at : ScanSpot) → Scans c w (control_number c) at → ControlFacts c w (control_number c) (after_scan at)
-  scan_facts w (scan.Ended Worked) scans = scanned_rests c w (control_number c) Worked scans
-  scan_facts w (scan.Ended NoneLeft) scans = (scanned_rests c w (control_number c) NoneLeft scans, early_due c w.memory (let on = scans.0.phase in omega (arith, on)))
-  scan_facts w _ scans = scans
-
-  -- where it evacuates, or has evacuated a unit
-  evac_spot : (cset : ℕ) (at : EvacSpot) → stored_image (after_evacuation cset at) [] ≡ None
-  evac_spot cset (evac.Ended Worked) = refl
-  evac_spot cset (evac.Ended NoneLeft) = refl
-  evac_spot cset _ = refl
-
-  evac_aim : (cset : ℕ) (at : EvacSpot) (ws : List ℕ) → IsAim c ws (after_evacuation cset at) []
-  evac_aim cset (evac.Ended Worked) ws = tt
-  evac_aim cset (evac.Ended NoneLeft) ws = tt
-  evac_aim cset _ ws = tt
-
-  evac_facts : (w : World) (cset : ℕ) (at : EvacSpot) → (at ≡ evac.Ended NoneLeft → c.regions ≤ w.memory Claim) → CanEvacuate c w (control_number c) cset at → ControlFacts c w (control_number c) (after_evacuation cset at)
-  evac_facts w cset (evac.Ended Worked) left can = evacuated_rests c w (control_number c) cset Worked can
-  evac_facts w cset (evac.Ended NoneLeft) left can = (evacuated_rests c w (control_number c) cset NoneLeft can, claimed_due c w.memory (left refl))
-  evac_facts w cset _ left can = can
-
-  -- where it updates, or has updated a unit
-  update_spot : (cset : ℕ) (at : UpdateSpot) → stored_image (after_updating cset at) [] ≡ None
-  update_spot cset (update.Ended Worked) = refl
-  update_spot cset (update.Ended NoneLeft) = refl
-  update_spot cset _ = refl
-
-  update_aim : (cset : ℕ) (at : UpdateSpot) (ws : List ℕ) → IsAim c ws (after_updating cset at) []
-  update_aim cset (update.Ended Worked) ws = tt
-  update_aim cset (update.Ended NoneLeft) ws = tt
-  update_aim cset _ ws = tt
-
-  update_facts : (w : World) (cset : ℕ) (at : UpdateSpot) → (at ≡ update.Ended NoneLeft → c.regions ≤ w.memory Claim) → CanUpdate c w (control_number c) cset at → ControlFacts c w (control_number c) (after_updating cset at)
-  update_facts w cset (update.Ended Worked) left can = updated_rests c w (control_number c) cset Worked can
-  update_facts w cset (update.Ended NoneLeft) left can = (updated_rests c w (control_number c) cset NoneLeft can, claimed_due c w.memory (left refl))
-  update_facts w cset _ left can = can
+  unit_facts : (w : World) (at : UnitSpot) → CanWork c w (control_number c) at → ControlFacts c w (control_number c) (after_unit at)
+  unit_facts w (Ended Worked) can = can
+  unit_facts w (Ended NoneLeft) can = can
+  unit_facts w _ can = can
 
   -- What it owes that stands at a spot outside the image, and finds a word.
   module _ (change : Change) (seen phase cset : ℕ) (image : List ℕ) (long : length words ≡ table_words c) (shared : Shared c u) (promised_to : PromisedToMutators c block) where
@@ -201,27 +159,9 @@ module _ (c : Config) (words : List ℕ) (block : Plot) (ghost : Ghost) (g : Gra
         (record { number_is = refl; ready = stays_ready c phase cset seen StoreEnd got known.ready tt; phase_is = known.phase_is; set_is = known.set_is; facts = known.facts; aims = tt }) refl
 
     -- while objects are marked or evacuated, or references updated, it claims a unit
-    begins_facts : IsControl c words u (control_number c) (at_spot LookAsked) → (phase == 0) ≡ false → ControlFacts c u (control_number c) (begins_unit phase cset)
-    begins_facts known some =
-        let other = eqb-false _ _ some in
-        let same = known.phase_is in
-        plain_facts u (phase == 1) (Scanning scan.LoadClaim) (if phase == 2 then Evacuating cset evac.LoadClaim else Updating cset update.LoadClaim)
-        (λ one. scans_from c u (control_number c) (omega arith) (sym same ∙ eqb-true _ _ one) known.facts)
-        (λ no. plain_facts u (phase == 2) (Evacuating cset evac.LoadClaim) (Updating cset update.LoadClaim)
-        (λ two. subst (λ set. CanEvacuate c u (control_number c) set evac.LoadClaim) (sym known.set_is)
-        (evacuates_from c u (control_number c) (omega arith) (sym same ∙ eqb-true _ _ two) known.facts))
-        (λ last. subst (λ set. CanUpdate c u (control_number c) set update.LoadClaim) (sym known.set_is)
-        (updates_from c u (control_number c) (omega arith)
-        (phase_three _ shared.phased.phase_is (λ none. other (same ∙ none)) (λ one. eqb-false _ _ no (same ∙ one)) (λ two. eqb-false _ _ last (same ∙ two))) known.facts)))
-
-    -- no image counts at one of these spots
-    unit_spot : stored_image (begins_unit phase cset) [] ≡ None
-    unit_spot = plain_spot (phase == 1) (Scanning scan.LoadClaim) (if phase == 2 then Evacuating cset evac.LoadClaim else Updating cset update.LoadClaim) [] refl
-        (plain_spot (phase == 2) (Evacuating cset evac.LoadClaim) (Updating cset update.LoadClaim) [] refl refl)
-
-    unit_aim : (ws : List ℕ) → IsAim c ws (begins_unit phase cset) []
-    unit_aim ws = plain_aim (phase == 1) (Scanning scan.LoadClaim) (if phase == 2 then Evacuating cset evac.LoadClaim else Updating cset update.LoadClaim) ws [] tt
-        (plain_aim (phase == 2) (Evacuating cset evac.LoadClaim) (Updating cset update.LoadClaim) ws [] tt tt)
+    begins_facts : IsControl c words u (control_number c) (at_spot LookAsked) → (phase == 0) ≡ false → CanWork c u (control_number c) (units.begins phase cset)
+    begins_facts known some = subst (λ set. CanWork c u (control_number c) (units.begins phase set)) (sym known.set_is)
+        (work_begins c u (control_number c) shared phase (omega arith) (eqb-false _ _ some) known.phase_is known.facts)
 
     -- in phases 2 and 3 a pause is asked for by bit 1 alone
     asked_late : (got : ℕ) → begins_pause phase got ≡ true → 2 ≤ phase → bit_at got 1 ≡ 1
@@ -242,10 +182,10 @@ module _ (c : Config) (words : List ℕ) (block : Plot) (ghost : Ghost) (g : Gra
           phase_is = known.phase_is;
           set_is = known.set_is;
           facts = plain_facts u (begins_pause phase got) (Stopping stop.Raise) (unasked phase cset) (λ yes. (known.facts, asks_due got found known.phase_is yes))
-              (λ no. plain_facts u (phase == 0) LookFree (begins_unit phase cset) (λ yes. (known.facts, sym known.phase_is ∙ eqb-true _ _ yes)) (λ some. begins_facts known some));
-          aims = plain_aim (begins_pause phase got) (Stopping stop.Raise) (unasked phase cset) _ [] tt (plain_aim (phase == 0) LookFree (begins_unit phase cset) _ [] tt (unit_aim _));
+              (λ no. plain_facts u (phase == 0) LookFree (Working (units.begins phase cset)) (λ yes. (known.facts, sym known.phase_is ∙ eqb-true _ _ yes)) (λ some. begins_facts known some));
+          aims = plain_aim (begins_pause phase got) (Stopping stop.Raise) (unasked phase cset) _ [] tt (plain_aim (phase == 0) LookFree (Working (units.begins phase cset)) _ [] tt tt);
         })
-        (plain_spot (begins_pause phase got) (Stopping stop.Raise) (unasked phase cset) [] refl (plain_spot (phase == 0) LookFree (begins_unit phase cset) [] refl unit_spot))
+        (plain_spot (begins_pause phase got) (Stopping stop.Raise) (unasked phase cset) [] refl (plain_spot (phase == 0) LookFree (Working (units.begins phase cset)) [] refl refl))
 
     -- it looks how many regions are free
     pub look_free : (got : ℕ) → Quiet LookFree got
@@ -261,81 +201,23 @@ module _ (c : Config) (words : List ℕ) (block : Plot) (ghost : Ghost) (g : Gra
         })
         (plain_spot (wants_pause c seen got) (Stopping stop.Raise) LookLeft [] refl refl)
 
-    -- it scans
-    pub scan_unit : (at : ScanSpot) → scans.is_ended at ≡ false → Quiet (Scanning at) (view c words (scans.touch_at c at).word)
-    scan_unit at going known =
-        let got : ℕ = view c words (scans.touch_at c at).word in
-        let step = scans_step c u (control_number c) at going shared known.facts in
-        step_owes (scans.touch_at c at) (then_at (Scanning at) got) (is_word_from c _ (scanning_steps.inside c u (control_number c) at known.facts.0))
+    -- it works on a unit
+    pub work_unit : (at : UnitSpot) → Quiet (Working at) (view c words (units.touch_at c (control_number c) at).word)
+    work_unit at known =
+        let got : ℕ = view c words (units.touch_at c (control_number c) at).word in
+        let ready = and_parts _ _ known.ready in
+        let step = work_step c u (control_number c) shared at ready.0 (is_off (units.is_ended at) ready.1) known.facts in
+        step_owes (units.touch_at c (control_number c) at) (then_at (Working at) got) (is_word_from c _ (unit_inside c (control_number c) at ready.0))
+        (step_with c u (control_number c) (units.touch_at c (control_number c) at) _ _ step
         (record {
-          world = step.world;
-          memory = step.memory;
-          graph = step.graph;
-          shared = step.shared;
-          own = record {
-            number_is = refl;
-            ready = stays_ready c phase cset seen (Scanning at) got known.ready (scanning_steps.fits c u (control_number c) at going shared known.facts.0);
-            phase_is = known.phase_is ∙ sym step.keeps.marks.phase;
-            set_is = known.set_is ∙ sym step.keeps.copies.cset;
-            facts = scan_facts step.world (scans.next_at c at got) step.own;
-            aims = scan_aim (scans.next_at c at got) _;
-          };
-          keeps = step.keeps;
-          others = step.others;
-        })
-        (scan_spot (scans.next_at c at got))
-
-    -- once all regions are claimed, they are after a step
-    claims_then : (t : Touch) (stands : World → Type 0) (step : PartStep c u (control_number c) t stands) → c.regions ≤ u.memory Claim → c.regions ≤ step.world.memory Claim
-    claims_then t stands step claimed = (step.others (control_number c + 1) (λ e. omega (arith, e))).fields.claims claimed
-
-    -- it evacuates
-    pub evac_unit : (kept : ℕ) (at : EvacSpot) → evacs.is_ended at ≡ false → Quiet (Evacuating kept at) (view c words (evacs.touch_at c (control_number c) at).word)
-    evac_unit kept at going known =
-        let got : ℕ = view c words (evacs.touch_at c (control_number c) at).word in
-        let step = evacuating_steps.each c u (control_number c) kept at going shared known.facts in
-        step_owes (evacs.touch_at c (control_number c) at) (then_at (Evacuating kept at) got) (is_word_from c _ (evacuating_steps.inside c u (control_number c) kept at shared known.facts))
-        (record {
-          world = step.world;
-          memory = step.memory;
-          graph = step.graph;
-          shared = step.shared;
-          own = record {
-            number_is = refl;
-            ready = stays_ready c phase cset seen (Evacuating kept at) got known.ready (evacuating_steps.fits c u (control_number c) kept at going shared known.facts);
-            phase_is = known.phase_is ∙ sym step.keeps.marks.phase;
-            set_is = known.set_is ∙ sym step.keeps.copies.cset;
-            facts = evac_facts step.world kept (evacs.next_at c kept at got) (λ none. claims_then (evacs.touch_at c (control_number c) at) _ step (none_left_to_evacuate c u.memory kept (control_number c) at going none)) step.own;
-            aims = evac_aim kept (evacs.next_at c kept at got) _;
-          };
-          keeps = step.keeps;
-          others = step.others;
-        })
-        (evac_spot kept (evacs.next_at c kept at got))
-
-    -- it updates
-    pub update_unit : (kept : ℕ) (at : UpdateSpot) → updates.is_ended at ≡ false → Quiet (Updating kept at) (view c words (updates.touch_at c at).word)
-    update_unit kept at going known =
-        let got : ℕ = view c words (updates.touch_at c at).word in
-        let step = updating_steps.each c u (control_number c) kept at going shared known.facts in
-        step_owes (updates.touch_at c at) (then_at (Updating kept at) got) (is_word_from c _ (updating_steps.inside c u (control_number c) kept at shared known.facts))
-        (record {
-          world = step.world;
-          memory = step.memory;
-          graph = step.graph;
-          shared = step.shared;
-          own = record {
-            number_is = refl;
-            ready = stays_ready c phase cset seen (Updating kept at) got known.ready (updating_steps.fits c u (control_number c) kept at going shared known.facts);
-            phase_is = known.phase_is ∙ sym step.keeps.marks.phase;
-            set_is = known.set_is ∙ sym step.keeps.copies.cset;
-            facts = update_facts step.world kept (updates.next_at c kept at got) (λ none. claims_then (updates.touch_at c at) _ step (none_left_to_update c u.memory kept at going none)) step.own;
-            aims = update_aim kept (updates.next_at c kept at got) _;
-          };
-          keeps = step.keeps;
-          others = step.others;
-        })
-        (update_spot kept (updates.next_at c kept at got))
+          number_is = refl;
+          ready = stays_ready c phase cset seen (Working at) got known.ready (work_fits c u (control_number c) shared at ready.0 known.facts);
+          phase_is = known.phase_is ∙ sym step.keeps.marks.phase;
+          set_is = known.set_is ∙ sym step.keeps.copies.cset;
+          facts = unit_facts step.world (units.next_at c at got) step.own;
+          aims = unit_aim (units.next_at c at got) _;
+        }))
+        (unit_spot (units.next_at c at got))
 
     -- it wants a pause
     pub raise_pause : (got : ℕ) → Quiet (Stopping stop.Raise) got

@@ -6,6 +6,10 @@ use Rattle.heap_words.specs.Words.{Answer}
 use Rattle.shen_graph.specs.History.{Entry}
 use Rattle.shen_graph.specs.declared.command.Command.{Command}
 use Rattle.shen_graph.specs.declared.command.Reply.{Reply}
+use Rattle.heap_words.specs.declared.access.Unit.{Unit}
+use Rattle.heap_words.specs.declared.access.Unit.TheVariants.{Worked, NoneLeft}
+use Rattle.unit_part.specs.declared.spot.UnitSpot.{UnitSpot}
+use Rattle.unit_part.specs.declared.spot.UnitSpot.TheVariants.{Scanning, Evacuating, Updating, Ended}
 use Rattle.alloc_buffers.specs.Facts.{HasLess, TakeFacts}
 use Rattle.alloc_buffers.specs.declared.spot.TakeSpot.{TakeSpot}
 use Rattle.alloc_buffers.specs.declared.spot.TakeSpot.TheVariants.{LoadFree}
@@ -41,8 +45,8 @@ use Rattle.control_steps.specs.declared.spot.ControlSpot.{ControlSpot}
 use Rattle.control_steps.specs.declared.spot.ControlSpot.TheVariants as control
 use Rattle.heap_world.specs.World.{World, hand, UsableIn}
 use Rattle.step_core.specs.Actor.{Machine, mutating, helping, controlling, Actor}
-use Rattle.step_core.specs.Seats.{copies_in, IsRoomIn, take_looks, resolve_looks, unit_looks, make_looks, call_looks, help_looks, control_looks, help_scan, control_scan, help_copies, control_copies, help_unit, control_unit, HelpRoom, ControlRoom, IsInSeat, before_record, before_resolve, works_on, AsksNothing, MakesObject, is_clearing, IsServed}
-use Rattle.step_core.proofs.Facts.{IsResting, HelpFacts, ControlFacts, IsMachine, IsThread}
+use Rattle.step_core.specs.Seats.{copies_in, IsRoomIn, help_unit, control_unit, unit_scan, unit_copies, unit_region, UnitRoom, take_looks, resolve_looks, evac_looks, unit_looks, make_looks, call_looks, IsInSeat, before_record, before_resolve, works_on, AsksNothing, MakesObject, is_clearing, IsServed}
+use Rattle.step_core.proofs.Facts.{IsResting, CanWork, HelpFacts, ControlFacts, IsMachine, IsThread}
 use Rattle.step_core.proofs.Stepped.{HasObject, FieldFacts, NumberFacts, ShowFacts, RecordFacts, LoadedFacts, MakeFacts, IsResolving, IsMaking, IsPolling, IsAnswered, WaitFacts, SpotFacts, Mine, HasTaken}
 
 -- What the ghost state and the pieces have of a seat that works on a unit of evacuation.
@@ -51,7 +55,7 @@ record OnUnit (c : Config) (w : World) (seat : ℕ) (at : EvacSpot) : Type 0 whe
   scans : w.ghost.scanning seat ≡ None
   copies : w.ghost.copying seat ≡ copies_in at
   hands : (a words : ℕ) → w.block a ≡ Some (hand seat words) → IsRoomIn at a
-  lacks : (words : ℕ) → unit_looks at ≡ Some words → HasLess c w.memory seat words
+  lacks : (words : ℕ) → evac_looks at ≡ Some words → HasLess c w.memory seat words
 
 -- who takes room and is about to look for a free region lacks room in its current one, also where it resolves an address
 take_lacks : (c : Config) (w : World) (seat wanted words : ℕ) (take : TakeSpot) → take_looks words take ≡ Some wanted → TakeFacts c w seat words take → HasLess c w.memory seat wanted
@@ -63,7 +67,7 @@ resolve_lacks c w seat a wanted (resolve.Taking words take) looks facts = take_l
 resolve_lacks c w seat a wanted _ looks facts = absurd cc
 
 -- where it has nothing
-on_unit_nothing : (c : Config) (w : World) (seat : ℕ) (at : EvacSpot) → copies_in at ≡ false → unit_looks at ≡ None → HasNothing w seat → OnUnit c w seat at
+on_unit_nothing : (c : Config) (w : World) (seat : ℕ) (at : EvacSpot) → copies_in at ≡ false → evac_looks at ≡ None → HasNothing w seat → OnUnit c w seat at
 on_unit_nothing c w seat at copies looks nothing = record {
   records = nothing.records_none;
   scans = nothing.scans_none;
@@ -87,21 +91,28 @@ on_unit c w seat (evac.Resolving address end next at) facts = record {
 }
 on_unit c w seat (evac.Ended unit) facts = on_unit_nothing c w seat (evac.Ended unit) refl refl facts
 
--- a helper in its seat
+-- What the ghost state and the pieces have of a seat that works on a unit, or rests.
+record AtUnit (c : Config) (w : World) (seat : ℕ) (at : UnitSpot) : Type 0 where
+  records : w.ghost.recording seat ≡ None
+  scans : w.ghost.scanning seat ≡ unit_scan c at
+  copies : w.ghost.copying seat ≡ unit_copies at
+  works : w.ghost.working seat ≡ unit_region c at
+  hands : (a words : ℕ) → w.block a ≡ Some (hand seat words) → UnitRoom at a
+  lacks : (words : ℕ) → unit_looks at ≡ Some words → HasLess c w.memory seat words
+
 module _ (c : Config) (w : World) (seat : ℕ) where
-  -- that rests
-  help_rests : (spot : HelpSpot) → help_scan c spot ≡ None → help_copies spot ≡ false → help_unit c spot ≡ None → help_looks spot ≡ None → IsResting w seat → IsInSeat c w seat (helping (record { seat = seat; spot = spot }))
-  help_rests spot scans copies unit looks rests = record {
+  at_rest : (unit : Unit) → IsResting w seat → AtUnit c w seat (Ended unit)
+  at_rest unit rests = record {
     records = rests.records_none;
-    scans = rests.scans_none ∙ sym scans;
-    copies = rests.copies_none ∙ sym copies;
-    works = rests.works_none ∙ sym unit;
-    hands = λ a words is. absurd (rests.hands a words is);
-    lacks = λ words is. absurd (none-some words (sym looks ∙ is));
+    scans = rests.scans_none;
+    copies = rests.copies_none;
+    works = rests.works_none;
+    hands = rests.hands;
+    lacks = λ words is. absurd cc;
   }
 
-  help_seat : (spot : HelpSpot) → HelpFacts c w seat spot → IsInSeat c w seat (helping (record { seat = seat; spot = spot }))
-  help_seat (help.Scanning at) facts = record {
+  at_unit : (at : UnitSpot) → CanWork c w seat at → AtUnit c w seat at
+  at_unit (Scanning at) facts = record {
     records = facts.0.records_none;
     scans = facts.0.scanning;
     copies = facts.1;
@@ -109,10 +120,10 @@ module _ (c : Config) (w : World) (seat : ℕ) where
     hands = facts.0.hands;
     lacks = λ words is. absurd cc;
   }
-  help_seat (help.Evacuating cset at) facts =
+  at_unit (Evacuating cset at) facts =
       let unit = on_unit c w seat at facts.facts in
       record { records = unit.records; scans = unit.scans; copies = unit.copies; works = facts.working; hands = unit.hands; lacks = unit.lacks }
-  help_seat (help.Updating cset at) facts = record {
+  at_unit (Updating cset at) facts = record {
     records = facts.records_none;
     scans = facts.scanning;
     copies = facts.copying;
@@ -120,57 +131,30 @@ module _ (c : Config) (w : World) (seat : ℕ) where
     hands = facts.hands;
     lacks = λ words is. absurd cc;
   }
-  help_seat (help.LoadSet phase) facts = help_rests (help.LoadSet phase) refl refl refl refl facts.0
-  help_seat help.LoadEnd facts = help_rests help.LoadEnd refl refl refl refl facts
-  help_seat (help.Entering at) facts = help_rests (help.Entering at) refl refl refl refl facts
-  help_seat help.LoadPhase facts = help_rests help.LoadPhase refl refl refl refl facts
-  help_seat help.Leave facts = help_rests help.Leave refl refl refl refl facts
-  help_seat help.Gone facts = help_rests help.Gone refl refl refl refl facts
+  at_unit (Ended Worked) facts = at_rest Worked facts
+  at_unit (Ended NoneLeft) facts = at_rest NoneLeft facts.0
 
--- the control in its seat
-module _ (c : Config) (w : World) (number seen phase cset : ℕ) (image : List ℕ) where
-  abbrev control_at : ControlSpot → Machine
-  control_at spot = controlling (record { spot = spot; seen = seen; phase = phase; cset = cset; image = image })
+  -- a helper in its unit, and the control
+  help_at : (spot : HelpSpot) → HelpFacts c w seat spot → AtUnit c w seat (help_unit spot)
+  help_at (help.Working at) facts = at_unit at facts
+  help_at (help.LoadSet phase) facts = at_rest Worked facts.0
+  help_at help.LoadEnd facts = at_rest Worked facts
+  help_at (help.Entering at) facts = at_rest Worked facts
+  help_at help.LoadPhase facts = at_rest Worked facts
+  help_at help.Leave facts = at_rest Worked facts
+  help_at help.Gone facts = at_rest Worked facts
 
-  control_rests : (spot : ControlSpot) → control_scan c spot ≡ None → control_copies spot ≡ false → control_unit c spot ≡ None → control_looks spot ≡ None → IsResting w number → IsInSeat c w number (control_at spot)
-  control_rests spot scans copies unit looks rests = record {
-    records = rests.records_none;
-    scans = rests.scans_none ∙ sym scans;
-    copies = rests.copies_none ∙ sym copies;
-    works = rests.works_none ∙ sym unit;
-    hands = λ a words is. absurd (rests.hands a words is);
-    lacks = λ words is. absurd (none-some words (sym looks ∙ is));
-  }
-
-  control_seat : (spot : ControlSpot) → ControlFacts c w number spot → IsInSeat c w number (control_at spot)
-  control_seat (control.Scanning at) facts = record {
-    records = facts.0.records_none;
-    scans = facts.0.scanning;
-    copies = facts.1;
-    works = facts.2;
-    hands = facts.0.hands;
-    lacks = λ words is. absurd cc;
-  }
-  control_seat (control.Evacuating set at) facts =
-      let unit = on_unit c w number at facts.facts in
-      record { records = unit.records; scans = unit.scans; copies = unit.copies; works = facts.working; hands = unit.hands; lacks = unit.lacks }
-  control_seat (control.Updating set at) facts = record {
-    records = facts.records_none;
-    scans = facts.scanning;
-    copies = facts.copying;
-    works = facts.working;
-    hands = facts.hands;
-    lacks = λ words is. absurd cc;
-  }
-  control_seat control.LookFree facts = control_rests control.LookFree refl refl refl refl facts.0
-  control_seat (control.Stopping at) facts = control_rests (control.Stopping at) refl refl refl refl facts.0
-  control_seat (control.LoadWord index) facts = control_rests (control.LoadWord index) refl refl refl refl facts.0
-  control_seat control.LookLeft facts = control_rests control.LookLeft refl refl refl refl facts
-  control_seat control.StoreEnd facts = control_rests control.StoreEnd refl refl refl refl facts
-  control_seat control.LookAsked facts = control_rests control.LookAsked refl refl refl refl facts
-  control_seat (control.StoreWord index) facts = control_rests (control.StoreWord index) refl refl refl refl facts
-  control_seat control.Go facts = control_rests control.Go refl refl refl refl facts
-  control_seat control.Gone facts = control_rests control.Gone refl refl refl refl facts
+  control_at : (spot : ControlSpot) → ControlFacts c w seat spot → AtUnit c w seat (control_unit spot)
+  control_at (control.Working at) facts = at_unit at facts
+  control_at control.LookFree facts = at_rest Worked facts.0
+  control_at (control.Stopping at) facts = at_rest Worked facts.0
+  control_at (control.LoadWord index) facts = at_rest Worked facts.0
+  control_at control.LookLeft facts = at_rest Worked facts
+  control_at control.StoreEnd facts = at_rest Worked facts
+  control_at control.LookAsked facts = at_rest Worked facts
+  control_at (control.StoreWord index) facts = at_rest Worked facts
+  control_at control.Go facts = at_rest Worked facts
+  control_at control.Gone facts = at_rest Worked facts
 
 -- a mutator that is about to look for a free region
 make_lacks : (c : Config) (w : World) (seat made wanted : ℕ) (k command : Command) (fixed : Option Reply) (at : MakeSpot) → make_looks (words_of k) at ≡ Some wanted → MakeFacts c w seat made k command fixed at → HasLess c w.memory seat wanted
@@ -199,8 +183,11 @@ in_seat c words w entries number a (mutating m) thread =
       lacks = λ wanted is. call_lacks c w m.seat m.made wanted m.kept a.command thread.fixed m.spot is thread.mine.facts;
     })
 in_seat c words w entries number a (helping h) facts =
-    subst (λ k. IsInSeat c w number (helping (record { seat = k; spot = h.spot }))) (sym facts.number_is) (help_seat c w number h.spot facts.facts)
-in_seat c words w entries number a (controlling k) facts = control_seat c w number k.seen k.phase k.cset k.image k.spot facts.facts
+    let at = help_at c w number h.spot facts.facts in
+    record { records = at.records; scans = at.scans; copies = at.copies; works = at.works; hands = at.hands; lacks = at.lacks }
+in_seat c words w entries number a (controlling k) facts =
+    let at = control_at c w number k.spot facts.facts in
+    record { records = at.records; scans = at.scans; copies = at.copies; works = at.works; hands = at.hands; lacks = at.lacks }
 
 -- What a mutator may use: an object on which it works, by each part of a call.
 module _ (c : Config) (w : World) (seat : ℕ) (k command : Command) (fixed : Option Reply) where

@@ -35,7 +35,7 @@ use Rattle.alloc_buffers.specs.Facts.{HasLess}
 use Rattle.heap_world.specs.World.{World, hand}
 use Rattle.heap_world.specs.Change.{Change, IsPause}
 use Rattle.control_steps.specs.declared.spot.ControlSpot.{ControlSpot}
-use Rattle.control_steps.specs.declared.spot.ControlSpot.TheVariants.{Scanning, Evacuating, Updating, LoadWord}
+use Rattle.control_steps.specs.declared.spot.ControlSpot.TheVariants.{Working, LoadWord}
 use Rattle.control_steps.specs.Ready.{is_ready, UnitGoesOn}
 use Rattle.helper.specs.Rows.{Helping, help_touch}
 use Rattle.helper.specs.Ready as help
@@ -58,7 +58,7 @@ use Rattle.step_core.proofs.Crowding.{run_crowded}
 use Rattle.step_core.proofs.Facts.{IsSeen, IsThread, IsAim, IsMachine}
 use Rattle.step_core.proofs.FirstFacts.{opening_run}
 use Rattle.step_core.proofs.Images.{found-placed}
-use Rattle.step_core.proofs.ControlEvents.{whole_stands, scan_fit, evac_fit, update_fit}
+use Rattle.step_core.proofs.ControlEvents.{whole_stands, work_fit}
 use Rattle.step_core.proofs.Helpers.{help_leaves_image, help_word, help_fits, help_fits_outside}
 use Rattle.step_core.proofs.PartFits.{part_fits, part_outside, within_call}
 use Rattle.step_core.proofs.Held.{IsKept, held_image, outside_held}
@@ -73,6 +73,10 @@ use Rattle.step_core.specs.Standing.{standing_at, help_standing}
 use Rattle.step_core.proofs.Replies.{unsettled_at_rest, unsettled_before, settled_after}
 use Rattle.step_core.proofs.Requests.{has_asked}
 use Rattle.step_core.proofs.Seats.{in_seat, served}
+use Rattle.step_core.proofs.AtRest.{at_rest}
+use Rattle.step_core.specs.AtRest.{IsAtRest}
+use Rattle.heap_world.specs.Asking.{nothing}
+use Rattle.heap_world.specs.Represents.{Represents}
 use Rattle.step_core.proofs.Roles.{number_of, mutator_of, machine_there}
 
 -- a mutator that ends has not ended, and its access is of the count
@@ -181,14 +185,8 @@ module _ (change : Change) (law : IsPause change) (c : Config) (g : Graph) (s : 
   -- also while it works on a unit
   fit_unit : (number seen phase cset : ℕ) (image : List ℕ) (a : Actor) (spot : ControlSpot) → slice_get s.machines number ≡ Some a → a.machine ≡ controlling (record { spot = spot; seen = seen; phase = phase; cset = cset; image = image })
       → UnitGoesOn c spot (slice_index s.words (table_index (control_access c (record { spot = spot; seen = seen; phase = phase; cset = cset; image = image }))))
-  fit_unit number seen phase cset image a (Scanning at) here is =
-      scan_fit change law c g s h number seen phase cset image a.command a.calls goes.follows goes.shaken at
-      (here ∙ ap (λ machine. Some (record { machine = machine; command = a.command; calls = a.calls })) is)
-  fit_unit number seen phase cset image a (Evacuating kept at) here is =
-      evac_fit change law c g s h number seen phase cset image a.command a.calls goes.follows goes.shaken kept at
-      (here ∙ ap (λ machine. Some (record { machine = machine; command = a.command; calls = a.calls })) is)
-  fit_unit number seen phase cset image a (Updating kept at) here is =
-      update_fit change law c g s h number seen phase cset image a.command a.calls goes.follows goes.shaken kept at
+  fit_unit number seen phase cset image a (Working at) here is =
+      work_fit change law c g s h number seen phase cset image a.command a.calls goes.follows goes.shaken at
       (here ∙ ap (λ machine. Some (record { machine = machine; command = a.command; calls = a.calls })) is)
   fit_unit number seen phase cset image a _ here is = tt
 
@@ -351,6 +349,10 @@ module _ (change : Change) (law : IsPause change) (c : Config) (s : Stage Actor)
   pub run_lacks_room : (events : List (Event Order)) (number : ℕ) (a : Actor) (words : ℕ)
       → slice_get (go (kind change c) s events).machines number ≡ Some a → looks_for a.machine ≡ Some words → HasLess c (settled c (go (kind change c) s events)) number words
   run_lacks_room events = lacks_room change law c g (go (kind change c) s events) (history change c s events) (goes_all events)
+
+  -- a heap at rest
+  pub run_rests : (events : List (Event Order)) → IsAtRest c (go (kind change c) s events) → Represents c (settled c (go (kind change c) s events)) (after g (history change c s events)) (λ t. nothing)
+  run_rests events = at_rest c g (go (kind change c) s events) (history change c s events) (goes_all events)
 
 -- where a run leads is sound
 pub run_sound : (change : Change) → IsPause change → (c : Config) (run : Run c) → IsSound c run.graph (ending change c run) (history_in change c run)

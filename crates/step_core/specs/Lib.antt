@@ -14,3 +14,4 @@ pub mod Sound
 pub mod Pausing
 pub mod Schedule
 pub mod Ending
+pub mod AtRest

@@ -13,6 +13,9 @@ use Rattle.load_barrier.specs.declared.spot.ResolveSpot.{ResolveSpot}
 use Rattle.load_barrier.specs.declared.spot.ResolveSpot.TheVariants as resolve
 use Rattle.load_barrier.specs.declared.evac_spot.EvacSpot.{EvacSpot}
 use Rattle.load_barrier.specs.declared.evac_spot.EvacSpot.TheVariants as evac
+use Rattle.unit_part.specs.declared.spot.UnitSpot.{UnitSpot}
+use Rattle.unit_part.specs.declared.spot.UnitSpot.TheVariants.{Scanning, Evacuating, Updating, Ended}
+use Rattle.heap_words.specs.declared.access.Unit.TheVariants.{Worked}
 use Rattle.mark_steps.specs.Scanning.{scanning_of}
 use Rattle.copy_steps.specs.Resolving.{IsRoomAt}
 use Rattle.evac_steps.specs.Evacuating.{working_of}
@@ -58,69 +61,58 @@ abbrev pub IsRoomIn : EvacSpot → ℕ → Type 0
 IsRoomIn (evac.Resolving address end next at) a = IsRoomAt at a
 IsRoomIn _ a = ⊥
 
--- the scan or the pass of updating in which a helper is, and the control
-abbrev pub help_scan : Config → HelpSpot → Option Scan
-help_scan c (help.Scanning at) = scanning_of at
-help_scan c (help.Updating cset at) = pass_of c at
-help_scan c _ = None
+-- The unit on which a machine works: that of a helper, of the control, of any machine. Where it works on none, it is one that has ended.
+abbrev pub help_unit : HelpSpot → UnitSpot
+help_unit (help.Working at) = at
+help_unit _ = Ended Worked
 
-abbrev pub control_scan : Config → ControlSpot → Option Scan
-control_scan c (control.Scanning at) = scanning_of at
-control_scan c (control.Updating cset at) = pass_of c at
-control_scan c _ = None
+abbrev pub control_unit : ControlSpot → UnitSpot
+control_unit (control.Working at) = at
+control_unit _ = Ended Worked
 
--- whether they copy
-abbrev pub help_copies : HelpSpot → Bool
-help_copies (help.Evacuating cset at) = copies_in at
-help_copies _ = false
+-- whether the control works on one
+abbrev pub is_working : ControlSpot → Bool
+is_working (control.Working at) = true
+is_working _ = false
 
-abbrev pub control_copies : ControlSpot → Bool
-control_copies (control.Evacuating cset at) = copies_in at
-control_copies _ = false
+abbrev pub unit_in : Machine → UnitSpot
+unit_in (mutating m) = Ended Worked
+unit_in (helping h) = help_unit h.spot
+unit_in (controlling k) = control_unit k.spot
 
--- the region of the collection set on which they work
-abbrev pub help_unit : Config → HelpSpot → Option ℕ
-help_unit c (help.Evacuating cset at) = working_of c at
-help_unit c _ = None
+-- the scan or the pass of updating in which who works on a unit is
+abbrev pub unit_scan : Config → UnitSpot → Option Scan
+unit_scan c (Scanning at) = scanning_of at
+unit_scan c (Updating cset at) = pass_of c at
+unit_scan c _ = None
 
-abbrev pub control_unit : Config → ControlSpot → Option ℕ
-control_unit c (control.Evacuating cset at) = working_of c at
-control_unit c _ = None
+-- whether it copies
+abbrev pub unit_copies : UnitSpot → Bool
+unit_copies (Evacuating cset at) = copies_in at
+unit_copies _ = false
 
--- their room in hand begins at an address
-abbrev pub HelpRoom : HelpSpot → ℕ → Type 0
-HelpRoom (help.Evacuating cset at) a = IsRoomIn at a
-HelpRoom _ a = ⊥
+-- the region of the collection set on which it works
+abbrev pub unit_region : Config → UnitSpot → Option ℕ
+unit_region c (Evacuating cset at) = working_of c at
+unit_region c _ = None
 
-abbrev pub ControlRoom : ControlSpot → ℕ → Type 0
-ControlRoom (control.Evacuating cset at) a = IsRoomIn at a
-ControlRoom _ a = ⊥
+-- its room in hand begins at an address
+abbrev pub UnitRoom : UnitSpot → ℕ → Type 0
+UnitRoom (Evacuating cset at) a = IsRoomIn at a
+UnitRoom _ a = ⊥
 
--- The same of any machine: what it is about to record, in which scan or pass it is, whether it copies, on which region it works, and what
--- room it has in hand.
+-- What a machine is about to record, whether it copies, and what room it has in hand.
 abbrev pub records_of : Machine → Option ℕ
 records_of (mutating m) = recording_of m.spot
 records_of _ = None
 
-abbrev pub scan_of : Config → Machine → Option Scan
-scan_of c (helping h) = help_scan c h.spot
-scan_of c (controlling k) = control_scan c k.spot
-scan_of c _ = None
-
 abbrev pub copies_of : Machine → Bool
 copies_of (mutating m) = copies_at m.spot
-copies_of (helping h) = help_copies h.spot
-copies_of (controlling k) = control_copies k.spot
-
-abbrev pub unit_of : Config → Machine → Option ℕ
-unit_of c (helping h) = help_unit c h.spot
-unit_of c (controlling k) = control_unit c k.spot
-unit_of c _ = None
+copies_of machine = unit_copies (unit_in machine)
 
 abbrev pub HasRoom : Machine → (a words : ℕ) → Type 0
 HasRoom (mutating m) a words = IsInHand m.kept m.spot a words
-HasRoom (helping h) a words = HelpRoom h.spot a
-HasRoom (controlling k) a words = ControlRoom k.spot a
+HasRoom machine a words = UnitRoom (unit_in machine) a
 
 -- for how many words a machine is about to look for a free region, by each part of which taking room is one
 abbrev pub take_looks : ℕ → TakeSpot → Option ℕ
@@ -131,8 +123,12 @@ abbrev pub resolve_looks : ResolveSpot → Option ℕ
 resolve_looks (resolve.Taking words at) = take_looks words at
 resolve_looks _ = None
 
-abbrev pub unit_looks : EvacSpot → Option ℕ
-unit_looks (evac.Resolving address end next at) = resolve_looks at
+abbrev pub evac_looks : EvacSpot → Option ℕ
+evac_looks (evac.Resolving address end next at) = resolve_looks at
+evac_looks _ = None
+
+abbrev pub unit_looks : UnitSpot → Option ℕ
+unit_looks (Evacuating cset at) = evac_looks at
 unit_looks _ = None
 
 abbrev pub make_looks : ℕ → MakeSpot → Option ℕ
@@ -144,26 +140,17 @@ call_looks kept (Making at) = make_looks (words_of kept.command) at
 call_looks kept (Resolving address at next) = resolve_looks at
 call_looks kept _ = None
 
-abbrev pub help_looks : HelpSpot → Option ℕ
-help_looks (help.Evacuating cset at) = unit_looks at
-help_looks _ = None
-
-abbrev pub control_looks : ControlSpot → Option ℕ
-control_looks (control.Evacuating cset at) = unit_looks at
-control_looks _ = None
-
 abbrev pub looks_for : Machine → Option ℕ
 looks_for (mutating m) = call_looks m.kept m.spot
-looks_for (helping h) = help_looks h.spot
-looks_for (controlling k) = control_looks k.spot
+looks_for machine = unit_looks (unit_in machine)
 
 -- The ghost state has of the seat what its machine does, and no room is the seat's but what its machine has in hand. Who is about to look
 -- for a free region has a current one with less room than it wants, or none.
 pub record IsInSeat (c : Config) (w : World) (seat : ℕ) (machine : Machine) : Type 0 where
   pub records : w.ghost.recording seat ≡ records_of machine
-  pub scans : w.ghost.scanning seat ≡ scan_of c machine
+  pub scans : w.ghost.scanning seat ≡ unit_scan c (unit_in machine)
   pub copies : w.ghost.copying seat ≡ copies_of machine
-  pub works : w.ghost.working seat ≡ unit_of c machine
+  pub works : w.ghost.working seat ≡ unit_region c (unit_in machine)
   pub hands : (a words : ℕ) → w.block a ≡ Some (hand seat words) → HasRoom machine a words
   pub lacks : (words : ℕ) → looks_for machine ≡ Some words → HasLess c w.memory seat words
 

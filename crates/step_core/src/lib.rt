@@ -12,13 +12,17 @@ ghost use Rattle.steps_base.specs.Steps.{Stage, Event, go, HasReached, Finds};
 ghost use Rattle.shen_graph.specs.declared.order.Order.{Order};
 ghost use Rattle.shen_graph.specs.Graph.{Graph};
 ghost use Rattle.alloc_buffers.specs.Facts.{HasLess};
+ghost use Rattle.shen_graph.specs.History.{after};
+ghost use Rattle.heap_world.specs.Asking.{nothing};
 ghost use Rattle.heap_world.specs.Change.{Change, IsPause};
+ghost use Rattle.heap_world.specs.Represents.{Represents};
 ghost use Rattle.control_steps.specs.Rows.{Controlling};
 ghost use Rattle.step_core.specs.Actor.{Actor, controlling};
 ghost use Rattle.step_core.specs.Machines.{takes_of, plan_of, kind, IsFitFor};
 ghost use Rattle.step_core.specs.Settled.{settled};
 ghost use Rattle.step_core.specs.History.{history};
 ghost use Rattle.step_core.specs.Opening.{opening};
+ghost use Rattle.step_core.specs.AtRest.{IsAtRest};
 ghost use Rattle.step_core.specs.Begins.{Begins, first_graph};
 ghost use Rattle.step_core.specs.Pausing.{IsInPause, IsEmpty, IsAim};
 ghost use Rattle.step_core.specs.Seats.{looks_for};
@@ -74,4 +78,10 @@ pub fn looks_for_room_in_need()
 /// stores the new ones the first of them are the table's.
 pub fn read_words_are_the_tables()
     ensures { (change : Change) → IsPause change → (c : Config) (s : Stage Actor) (g : Graph) → Begins c s g → (events : List (Event Order)) (number : ℕ) (a : Actor) (k : Controlling) → slice_get (go (kind change c) s events).machines number ≡ Some a → a.machine ≡ controlling k → IsAim c (go (kind change c) s events).words k.spot k.image }
+{}
+
+/// A law: where a heap is at rest, whatever happened before and in whichever phase it is, its words represent the graph after the history,
+/// and nobody asks for an object.
+pub fn rest_represents()
+    ensures { (change : Change) → IsPause change → (c : Config) (s : Stage Actor) (g : Graph) → Begins c s g → (events : List (Event Order)) → IsAtRest c (go (kind change c) s events) → Represents c (settled c (go (kind change c) s events)) (after g (history change c s events)) (λ t. nothing) }
 {}

@@ -11,6 +11,10 @@ use heap_machines::Stepped;
 use shen_graph::{Command, Work};
 use std::sync::Wait;
 
+// So many rounds in a row in which a machine goes on show that there is work. Who only looks for some, a helper or the control, makes
+// fewer steps from one look that finds none to the next.
+const WORKING: u32 = 8;
+
 // What the machines of a bundle did in a round.
 #[derive(Clone, Copy)]
 enum Round {
@@ -115,7 +119,7 @@ impl Bundle {
     /// In a round each machine that is not idle makes one step, in the order of their numbers, when it has passed the gate. A
     /// mutator between two calls begins the next command of its script, and ends where there is none; the control ends when
     /// all mutators of the heap have, and a helper when the control has. After a round in which every step waits for another
-    /// machine the thread backs off. No memory is taken.
+    /// machine the thread backs off, each time for longer, until several rounds in a row went on. No memory is taken.
     pub fn run<R: Wait, G: Gate>(&mut self, rt: &R, heap: &Heap, work: &mut Work, gate: &G)
         requires heap { IsOf self.old heap.now }
         requires start { CanStart self.old work.old }
@@ -126,10 +130,15 @@ impl Bundle {
         ensures jobs { AreSameJobs (view_of self.old) work.old work.new }
     {
         let backoff = Backoff::new();
+        let mut moving = 0u32;
         for _ in rt.forever() {
             match self.round(heap, work, gate) {
                 Round::Idle => return,
-                Round::Waiting => backoff.snooze(),
+                Round::Waiting => {
+                    moving = 0;
+                    backoff.snooze();
+                }
+                Round::Moving if moving < WORKING => moving += 1,
                 Round::Moving => backoff.reset(),
             }
         }

@@ -1,24 +1,13 @@
-use Rattle.std.proofs.Common.{◌≡◌, ◌↔◌, ap, sym, subst}
+use Rattle.std.proofs.Common.{◌≡◌, ◌↔◌, true, ap, sym, subst}
 use Rattle.std.proofs.lemmas.Bool.{and_parts}
 use Rattle.heap_words.specs.declared.access.Took.TheVariants.{More, Again}
-use Rattle.control_steps.specs.declared.spot.ControlSpot.TheVariants.{Scanning, Updating}
-use Rattle.control_steps.specs.Rows.{scanning_says, updating_says, stopping_says, says_at}
+use Rattle.control_steps.specs.declared.spot.ControlSpot.TheVariants.{Working}
+use Rattle.control_steps.specs.Rows.{stopping_says, working_says, says_at}
+use Rattle.unit_part.specs.Ready as unit
 use Rattle.control_steps.specs.Waits.{waits_at}
 use Rattle.control_steps.proofs.Ready.{ready_at, goes_at}
-use Rattle.control_steps.proofs.Waits.{never, scanning_waits, updating_waits, stopping_waits}
+use Rattle.control_steps.proofs.Waits.{never, stopping_waits, working_waits}
 use Rattle.control_steps.proofs.spot.ControlSpot.next.Goals as goal
-
-pub returns-in-Scanning-clause-again : goal.returns-in-Scanning-clause-again
-returns-in-Scanning-clause-again c =
-    subst (λ said. (said ≡ Again) ↔ waits_at c.args.config c.args.last.seen c.args.self c.args.got) (sym c.scanning_says.ensures)
-    (subst (λ spot. (scanning_says c.in-Scanning.at c.args.got ≡ Again) ↔ waits_at c.args.config c.args.last.seen spot c.args.got) (sym c.in-Scanning.is)
-    (scanning_waits c.args.config c.args.last.seen c.in-Scanning.at c.args.got))
-
-pub returns-in-Updating-clause-again : goal.returns-in-Updating-clause-again
-returns-in-Updating-clause-again c =
-    subst (λ said. (said ≡ Again) ↔ waits_at c.args.config c.args.last.seen c.args.self c.args.got) (sym c.updating_says.ensures)
-    (subst (λ spot. (updating_says c.in-Updating.at c.args.got ≡ Again) ↔ waits_at c.args.config c.args.last.seen spot c.args.got) (sym c.in-Updating.is)
-    (updating_waits c.args.config c.args.last.seen c.in-Updating.cset c.in-Updating.at c.args.got))
 
 pub returns-in-Stopping-clause-again : goal.returns-in-Stopping-clause-again
 returns-in-Stopping-clause-again c =
@@ -68,11 +57,18 @@ returns-in-Go-clause-again c = subst (λ spot. (More ≡ Again) ↔ waits_at c.a
 pub returns-in-Go-clause-says : goal.returns-in-Go-clause-says
 returns-in-Go-clause-says c = ap (λ spot. says_at c.args.config c.args.last.seen spot c.args.got) (sym c.in-Go.is)
 
-pub after-requires-clause-ready : goal.after-requires-clause-ready
-after-requires-clause-ready c = (and_parts _ _ (ready_at c.args.config c.args.self (Scanning c.in-Scanning.at) c.in-Scanning.is c.requires.ready)).0
+pub after-next-requires-clause-ready : goal.after-next-requires-clause-ready
+after-next-requires-clause-ready c = subst (λ seat. unit.is_ready c.args.config seat c.in-Working.at ≡ true) (sym c.seat_of.ensures)
+    (and_parts _ _ (ready_at c.args.config c.args.self (Working c.in-Working.at) c.in-Working.is c.requires.ready)).0
 
-pub after-requires-clause-fit : goal.after-requires-clause-fit
-after-requires-clause-fit c = goes_at c.args.config c.args.self (Scanning c.in-Scanning.at) c.args.got c.in-Scanning.is c.requires.fit
+pub after-next-requires-clause-fit : goal.after-next-requires-clause-fit
+after-next-requires-clause-fit c = subst (λ seat. unit.IsFit c.args.config seat c.in-Working.at c.args.got) (sym c.seat_of.ensures)
+    (goes_at c.args.config c.args.self (Working c.in-Working.at) c.args.got c.in-Working.is c.requires.fit)
 
-pub after-requires-in-Updating : goal.after-requires-in-Updating
-after-requires-in-Updating c = (and_parts _ _ (ready_at c.args.config c.args.self (Updating c.in-Updating.cset c.in-Updating.at) c.in-Updating.is c.requires.ready)).0
+pub returns-in-Working-clause-again : goal.returns-in-Working-clause-again
+returns-in-Working-clause-again c =
+    let part = c.after-next.ensures.again in
+    let says = working_waits c.after-next.result.1 in
+    subst (λ said. (said ≡ Again) ↔ waits_at c.args.config c.args.last.seen c.args.self c.args.got) (sym c.working_says.ensures)
+    (subst (λ spot. (working_says c.after-next.result.1 ≡ Again) ↔ waits_at c.args.config c.args.last.seen spot c.args.got) (sym c.in-Working.is)
+    (λ again. part.0 (says.0 again), λ waits. says.1 (part.1 waits)))

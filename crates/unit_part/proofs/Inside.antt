@@ -1,0 +1,67 @@
+-- The accesses of a machine that works on a unit are of words of the table, and of the image, and it goes on to such accesses.
+use Rattle.std.proofs.Common.{◌≡◌, ℕ, ◌<◌, Bool, true, false, refl, sym, subst}
+use Rattle.std.specs.Prelude.{if◌then◌else◌}
+use Rattle.std.proofs.lemmas.Bool.{and_parts, and_from, false≢true}
+use Rattle.heap_words.specs.declared.config.Config.{Config}
+use Rattle.heap_words.specs.Words.{IsWord, is_image, word_at, table_words}
+use Rattle.heap_words.proofs.Rows.{word_inside}
+use Rattle.steps_base.proofs.Touches.{table_index-access_at}
+use Rattle.scan_steps.specs.declared.spot.ScanSpot.{ScanSpot}
+use Rattle.scan_steps.specs.declared.spot.ScanSpot.TheVariants as scan
+use Rattle.scan_steps.specs.Rows as scans
+use Rattle.scan_steps.proofs.Inside.{scan_inside, scan_image}
+use Rattle.load_barrier.specs.declared.evac_spot.EvacSpot.{EvacSpot}
+use Rattle.load_barrier.specs.declared.evac_spot.EvacSpot.TheVariants as evac
+use Rattle.load_barrier.specs.UnitRows as evacs
+use Rattle.load_barrier.specs.UnitFit as evac_fit
+use Rattle.load_barrier.proofs.Inside.{evacuation_inside, evacuation_image}
+use Rattle.update_refs.specs.declared.spot.UpdateSpot.{UpdateSpot}
+use Rattle.update_refs.specs.declared.spot.UpdateSpot.TheVariants as update
+use Rattle.update_refs.specs.Rows as updates
+use Rattle.update_refs.proofs.Inside.{updating_inside, updating_image}
+use Rattle.unit_part.specs.declared.spot.UnitSpot.{UnitSpot}
+use Rattle.unit_part.specs.declared.spot.UnitSpot.TheVariants.{Scanning, Evacuating, Updating, Ended}
+use Rattle.unit_part.specs.Rows.{touch_at, begins, scanned, evacuated, updated}
+use Rattle.unit_part.specs.Ready.{is_ready, AccessesAreInside, StaysReady}
+
+-- a part that goes on has not ended
+pub not_ended : (ended : Bool) → (if ended then false else true) ≡ true → ended ≡ false
+not_ended true goes = absurd (false≢true goes)
+not_ended false goes = refl
+
+-- each access of a unit is of a word of the table
+pub unit_inside : (c : Config) (seat : ℕ) (at : UnitSpot) → is_ready c seat at ≡ true → IsWord c (touch_at c seat at).word
+unit_inside c seat (Scanning at) ready = scan_inside c at (and_parts _ _ ready).0
+unit_inside c seat (Evacuating cset at) ready = evacuation_inside c seat at (and_parts _ _ ready).0
+unit_inside c seat (Updating cset at) ready = updating_inside c at (and_parts _ _ ready).0
+unit_inside c seat (Ended unit) ready = tt
+
+pub accesses_inside : AccessesAreInside
+accesses_inside c seat at ready = let t = touch_at c seat at in
+    subst (λ k. k < table_words c) (sym (table_index-access_at (word_at c t.word) t.form)) (word_inside c t.word (unit_inside c seat at ready))
+
+-- and of words of the image alone
+pub unit_image : (c : Config) (seat : ℕ) (at : UnitSpot) → is_image (touch_at c seat at).word ≡ true
+unit_image c seat (Scanning at) = scan_image c at
+unit_image c seat (Evacuating cset at) = evacuation_image c seat at
+unit_image c seat (Updating cset at) = updating_image c at
+unit_image c seat (Ended unit) = refl
+
+-- where the parts go on
+scans_on : (c : Config) (seat : ℕ) (at : ScanSpot) → scans.is_ready c at ≡ true → is_ready c seat (scanned at) ≡ true
+scans_on c seat (scan.Ended unit) ready = refl
+scans_on c seat _ ready = and_from _ _ ready refl
+
+evacuates_on : (c : Config) (seat cset : ℕ) (at : EvacSpot) → evac_fit.is_ready c seat at ≡ true → is_ready c seat (evacuated cset at) ≡ true
+evacuates_on c seat cset (evac.Ended unit) ready = refl
+evacuates_on c seat cset _ ready = and_from _ _ ready refl
+
+updates_on : (c : Config) (seat cset : ℕ) (at : UpdateSpot) → updates.is_ready c at ≡ true → is_ready c seat (updated cset at) ≡ true
+updates_on c seat cset (update.Ended unit) ready = refl
+updates_on c seat cset _ ready = and_from _ _ ready refl
+
+pub stays_ready : StaysReady
+stays_ready c seat (Scanning at) got ready fit = scans_on c seat (scans.next_at c at got) fit
+stays_ready c seat (Evacuating cset at) got ready fit = evacuates_on c seat cset (evacs.next_at c cset at got) fit.0
+stays_ready c seat (Updating cset at) got ready fit = updates_on c seat cset (updates.next_at c cset at got) fit
+stays_ready c seat (Ended unit) got ready fit = refl

@@ -1,0 +1,38 @@
+-- Whether a machine that works on a unit can make its next access, and by which words it can go on.
+use Rattle.std.specs.Prelude.{ℕ, ◌≡◌, ◌<◌, Bool, true, false, ◌&&◌, ⊤, if◌then◌else◌}
+use Rattle.heap_words.specs.declared.config.Config.{Config}
+use Rattle.heap_words.specs.Access.{table_index}
+use Rattle.heap_words.specs.Words.{table_words}
+use Rattle.steps_base.specs.Touch.{placed}
+use Rattle.scan_steps.specs.Rows as scans
+use Rattle.scan_steps.specs.Seen as scan
+use Rattle.load_barrier.specs.UnitRows as evacs
+use Rattle.load_barrier.specs.UnitFit as evac
+use Rattle.update_refs.specs.Rows as updates
+use Rattle.update_refs.specs.Seen as update
+use Rattle.unit_part.specs.declared.spot.UnitSpot.{UnitSpot}
+use Rattle.unit_part.specs.declared.spot.UnitSpot.TheVariants.{Scanning, Evacuating, Updating}
+use Rattle.unit_part.specs.Rows.{touch_at, next_at}
+
+-- whether the numbers of a spot are in range, for the machine of a seat: the work on the unit has not ended, and its next access can be
+-- made
+abbrev pub is_ready : Config → ℕ → UnitSpot → Bool
+is_ready c seat (Scanning at) = scans.is_ready c at && (if scans.is_ended at then false else true)
+is_ready c seat (Evacuating cset at) = evac.is_ready c seat at && (if evacs.is_ended at then false else true)
+is_ready c seat (Updating cset at) = updates.is_ready c at && (if updates.is_ended at then false else true)
+is_ready c seat _ = true
+
+-- the word is fit: the work on the unit can go on from it
+abbrev pub IsFit : Config → ℕ → UnitSpot → ℕ → Type 0
+IsFit c seat (Scanning at) got = scan.IsFit c at got
+IsFit c seat (Evacuating cset at) got = evac.IsFit c seat cset at got
+IsFit c seat (Updating cset at) got = update.IsFit c cset at got
+IsFit c seat _ got = ⊤
+
+-- a machine that can make its access makes it to a word of the table
+abbrev pub AccessesAreInside : Type 0
+AccessesAreInside = (c : Config) (seat : ℕ) (at : UnitSpot) → is_ready c seat at ≡ true → table_index (placed c (touch_at c seat at)) < table_words c
+
+-- and where it goes on with a word that is fit it can make the next one
+abbrev pub StaysReady : Type 0
+StaysReady = (c : Config) (seat : ℕ) (at : UnitSpot) (got : ℕ) → is_ready c seat at ≡ true → IsFit c seat at got → is_ready c seat (next_at c at got) ≡ true

@@ -1,0 +1,74 @@
+-- The rows of the steps by which a machine claims a unit and works on it: for each spot its place, the access that it makes and what
+-- follows. In phase 1 it scans, in phase 2 it evacuates, and in phase 3 it updates.
+use Rattle.std.specs.Prelude.{ℕ, ◌==◌, Bool, true, false, if◌then◌else◌}
+use Rattle.heap_words.specs.declared.config.Config.{Config}
+use Rattle.heap_words.specs.declared.place.Place.{Place}
+use Rattle.heap_words.specs.declared.place.Place.TheVariants.{KX}
+use Rattle.heap_words.specs.declared.access.Took.{Took}
+use Rattle.heap_words.specs.declared.access.Took.TheVariants.{Done}
+use Rattle.heap_words.specs.Words.{Claim}
+use Rattle.steps_base.specs.Touch.{Touch, touch, loads}
+use Rattle.scan_steps.specs.declared.spot.ScanSpot.{ScanSpot}
+use Rattle.scan_steps.specs.declared.spot.ScanSpot.TheVariants as scan
+use Rattle.scan_steps.specs.Rows as scans
+use Rattle.load_barrier.specs.declared.evac_spot.EvacSpot.{EvacSpot}
+use Rattle.load_barrier.specs.declared.evac_spot.EvacSpot.TheVariants as evac
+use Rattle.load_barrier.specs.UnitRows as evacs
+use Rattle.update_refs.specs.declared.spot.UpdateSpot.{UpdateSpot}
+use Rattle.update_refs.specs.declared.spot.UpdateSpot.TheVariants as update
+use Rattle.update_refs.specs.Rows as updates
+use Rattle.unit_part.specs.declared.spot.UnitSpot.{UnitSpot}
+use Rattle.unit_part.specs.declared.spot.UnitSpot.TheVariants.{Scanning, Evacuating, Updating, Ended}
+
+-- where it begins with a unit, by the phase, which is not 0, and the collection set: in phase 1 objects are marked, in phase 2 copied,
+-- and in phase 3 references are updated
+abbrev pub begins : (phase cset : ℕ) → UnitSpot
+begins phase cset = if phase == 1 then Scanning scan.LoadClaim else (if phase == 2 then Evacuating cset evac.LoadClaim else Updating cset update.LoadClaim)
+
+-- the place of the next access. There is none at the end, where it is named as that of the claim
+abbrev pub place_at : UnitSpot → Place
+place_at (Scanning at) = scans.place_at at
+place_at (Evacuating cset at) = evacs.place_at at
+place_at (Updating cset at) = updates.place_at at
+place_at (Ended unit) = KX
+
+-- the next access, of the machine of a seat
+abbrev pub touch_at : Config → ℕ → UnitSpot → Touch
+touch_at c seat (Scanning at) = scans.touch_at c at
+touch_at c seat (Evacuating cset at) = evacs.touch_at c seat at
+touch_at c seat (Updating cset at) = updates.touch_at c at
+touch_at c seat (Ended unit) = touch Claim loads
+
+-- where it stands that scans: the unit ends with the scan
+abbrev pub scanned : ScanSpot → UnitSpot
+scanned (scan.Ended unit) = Ended unit
+scanned at = Scanning at
+
+-- and where it stands that evacuates a collection set
+abbrev pub evacuated : ℕ → EvacSpot → UnitSpot
+evacuated cset (evac.Ended unit) = Ended unit
+evacuated cset at = Evacuating cset at
+
+-- and where it stands that updates references into a collection set
+abbrev pub updated : ℕ → UpdateSpot → UnitSpot
+updated cset (update.Ended unit) = Ended unit
+updated cset at = Updating cset at
+
+-- what follows, by the word that was found
+abbrev pub next_at : Config → UnitSpot → ℕ → UnitSpot
+next_at c (Scanning at) got = scanned (scans.next_at c at got)
+next_at c (Evacuating cset at) got = evacuated cset (evacs.next_at c cset at got)
+next_at c (Updating cset at) got = updated cset (updates.next_at c cset at got)
+next_at c (Ended unit) got = Ended unit
+
+-- whether the unit is done, or none was left
+abbrev pub is_ended : UnitSpot → Bool
+is_ended (Ended unit) = true
+is_ended _ = false
+
+-- what the step says: again where another machine was faster or it waits, and done at the end
+abbrev pub says_at : Config → UnitSpot → ℕ → Took
+says_at c (Scanning at) got = scans.says_at c at got
+says_at c (Evacuating cset at) got = evacs.says_at c cset at got
+says_at c (Updating cset at) got = updates.says_at c cset at got
+says_at c (Ended unit) got = Done
