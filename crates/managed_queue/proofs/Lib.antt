@@ -7,3 +7,4 @@ pub mod Steps
 pub mod Rising
 pub mod Playing
 pub mod Table
+pub mod Shares
