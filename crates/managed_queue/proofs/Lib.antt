@@ -8,3 +8,4 @@ pub mod Rising
 pub mod Playing
 pub mod Table
 pub mod Shares
+pub mod Driven
