@@ -5,3 +5,4 @@ pub mod ReachLemmas
 pub mod ValidLemmas
 pub mod Noted
 pub mod Parts
+pub mod Distinct
