@@ -1,6 +1,6 @@
 -- Users go by the table, and count what they do.
-use Rattle.std.proofs.Common.{ℕ, zero, suc, ◌≡◌, ◌+◌, ◌-◌, ◌<◌, ◌≤◌, ◌⊎◌, Bool, true, false, List, [], ◌∷◌, ◌++◌, length, sum, Option, Some, None, refl, sym, ap, ◌∙◌, subst, inl, inr, arith, append_assoc, length-append, lt-ltb, eqb}
-use Rattle.std.specs.Prelude.{◌≢◌, ◌==◌, ◌||◌, ◌&&◌, nat_lt, if◌then◌else◌}
+use Rattle.std.proofs.Common.{ℕ, zero, suc, ◌≡◌, ◌+◌, ◌-◌, ◌≤◌, Bool, true, false, List, [], ◌∷◌, ◌++◌, length, sum, Some, None, refl, sym, ap, ◌∙◌, subst, inl, inr, arith, append_assoc, length-append, lt-ltb}
+use Rattle.std.specs.Prelude.{◌≢◌, ◌==◌, ◌&&◌, if◌then◌else◌}
 use Rattle.std.specs.List.{range_with_len}
 use Rattle.std.proofs.lemmas.Bool.{false≢true}
 use Rattle.std.proofs.lemmas.Bool.Decides.{eqb_tells}
@@ -13,16 +13,14 @@ use Rattle.shen_graph.specs.declared.command.Reply.TheVariants as reply
 use Rattle.shen_graph.specs.History.{Entry, IsWithoutFull, is_full}
 use Rattle.managed_queue.specs.declared.spot.Spot.{Spot}
 use Rattle.managed_queue.specs.declared.spot.Spot.TheVariants.{MakesAnchor, MakesFirst, SetsHead, SetsTail, Shows, Joins, Rests, Fills, Looks, Follows, Links, Helps, Swings, Turns, TookHead, TookTail, Compares, Pushes, Reads, Unlinks}
-use Rattle.managed_queue.specs.declared.operation.Choice.{Choice}
 use Rattle.managed_queue.specs.declared.operation.Choice.TheVariants as choice
-use Rattle.managed_queue.specs.declared.user.Plan.{Plan}
 use Rattle.managed_queue.specs.declared.user.Plan.TheVariants.{Puts, Takes}
 use Rattle.managed_queue.specs.declared.user.Gotten.{Gotten}
 use Rattle.managed_queue.specs.Spots.{Operation, IsNext, IsAnswered, next_spot, ended_at, on_full, after_join, after_rest, behind_tail, after_link}
 use Rattle.managed_queue.specs.Spots.Operation.{put, got, empty, full}
 use Rattle.managed_queue.specs.Queue.{IsPlayed, spot_after, ended_in, puts_of, gots_of}
 use Rattle.managed_queue.specs.Machines.{command_at, answer_of}
-use Rattle.managed_queue.specs.Users.{Use, chosen, is_rest, left_of, has_ended, command_of, next_of, plan_after, got_after, is_refused, used, nothing_got, putter, taker, IsDriven, use_after, UsersPlay, Took, TakersTake, DidPut, PuttersPut}
+use Rattle.managed_queue.specs.Users.{Use, chosen, is_rest, has_ended, command_of, next_of, plan_after, got_after, is_refused, used, nothing_got, IsDriven, use_after, UsersPlay, TakersTake, PuttersPut}
 use Rattle.managed_queue.proofs.Table.{command_is_next}
 
 -- where a user that has not ended goes
@@ -104,8 +102,7 @@ users_play u (e ∷ es) fine given driven =
     let first = given_first e es given in
     let on = spot_on u e goes in
     let still : (used u e.reply).refused ≡ false = ap (λ x. x.refused) (used_is u e.reply goes.on) ∙ not_refused (command_of u) e.reply first in
-    let later = users_play (used u e.reply) es still (given_later e es given) driven.1 in
-    (
+    let later = users_play (used u e.reply) es still (given_later e es given) driven.1 in (
       (
         subst (λ (c : Command). IsNext u.spot c) goes.command (command_is_next (chosen u.plan) u.spot),
         answered u.spot e.reply first,
@@ -272,9 +269,9 @@ take_all (e ∷ es) s left have inside given driven =
     let first = given_first e es given in
     let step = take_step s left have e.reply inside (more_left s left goes.on) first in
     let here : used (taking s left have) e.reply ≡ taking (next_spot s e.command e.reply) step.left' step.have' =
-        used_is (taking s left have) e.reply goes.on ∙ same step goes.command (not_refused (command_at choice.Take s) e.reply first) in
+    used_is (taking s left have) e.reply goes.on ∙ same step goes.command (not_refused (command_at choice.Take s) e.reply first) in
     let later = take_all es (next_spot s e.command e.reply) step.left' step.have'
-        (subst (λ (c : Command). InTake (next_spot s c e.reply) step.left') goes.command step.inside) (given_later e es given) (subst (λ (u : Use). IsDriven u es) here driven.1) in
+    (subst (λ (c : Command). InTake (next_spot s c e.reply) step.left') goes.command step.inside) (given_later e es given) (subst (λ (u : Use). IsDriven u es) here driven.1) in
     let gots = gots-append (ended_at s e.reply) (ended_in (next_spot s e.command e.reply) es) in
     let long = ap (length {A = ℕ}) gots ∙ length-append (gots_of (ended_at s e.reply)) (gots_of (ended_in (next_spot s e.command e.reply) es)) in
     let whole = ap sum gots ∙ sum_by-append (λ x. x) (gots_of (ended_at s e.reply)) (gots_of (ended_in (next_spot s e.command e.reply) es)) in
@@ -428,9 +425,9 @@ put_all (e ∷ es) s next left inside given driven =
     let first = given_first e es given in
     let step = put_step s next left e.reply inside (more_left s left goes.on) first in
     let here : used (putting s next left) e.reply ≡ putting (next_spot s e.command e.reply) step.next' step.left' =
-        used_is (putting s next left) e.reply goes.on ∙ same step goes.command (not_refused (command_at (choice.Put next) s) e.reply first) in
+    used_is (putting s next left) e.reply goes.on ∙ same step goes.command (not_refused (command_at (choice.Put next) s) e.reply first) in
     let later = put_all es (next_spot s e.command e.reply) step.next' step.left'
-        (subst (λ (c : Command). InPut (next_spot s c e.reply) step.next' step.left') goes.command step.inside) (given_later e es given) (subst (λ (u : Use). IsDriven u es) here driven.1) in
+    (subst (λ (c : Command). InPut (next_spot s c e.reply) step.next' step.left') goes.command step.inside) (given_later e es given) (subst (λ (u : Use). IsDriven u es) here driven.1) in
     let now = ended_at s e.reply in
     let behind = ended_in (next_spot s e.command e.reply) es in
     record {

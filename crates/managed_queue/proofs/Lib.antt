@@ -9,3 +9,5 @@ pub mod Playing
 pub mod Table
 pub mod Shares
 pub mod Driven
+pub mod Small
+pub mod Few

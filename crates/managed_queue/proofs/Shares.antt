@@ -1,5 +1,5 @@
 -- What all threads did is the sum of what each did.
-use Rattle.std.proofs.Common.{ℕ, zero, suc, ◌≡◌, ◌+◌, ◌<◌, ◌≤◌, List, [], ◌∷◌, ◌++◌, refl, sym, ap, ◌∙◌, subst, inl, inr, arith, sum_by}
+use Rattle.std.proofs.Common.{ℕ, zero, suc, ◌≡◌, ◌+◌, ◌<◌, ◌≤◌, List, [], ◌∷◌, refl, sym, ap, ◌∙◌, subst, inl, inr, arith, sum_by}
 use Rattle.std.specs.Prelude.{◌≢◌}
 use Rattle.std.specs.List.{range_with_len}
 use Rattle.std.proofs.lemmas.Bool.{cases_eq}
@@ -49,12 +49,12 @@ shared weight threads (e ∷ es) spots of =
     let g = λ (u : ℕ). sum_by weight (fixed_in (moved spots e u) (of_thread es u)) in
     let later = shared weight threads es (moved spots e) of.2 in
     let here : f t ≡ sum_by weight now + g t =
-        ap (λ l. sum_by weight (fixed_in (spots t) l)) (of_here e es)
-        ∙ sum_by-append weight now (fixed_in (next_spot (spots t) e.command e.reply) (of_thread es t))
-        ∙ ap (λ s. sum_by weight now + sum_by weight (fixed_in s (of_thread es t))) (sym (on_here spots t e.command e.reply)) in
+    ap (λ l. sum_by weight (fixed_in (spots t) l)) (of_here e es)
+    ∙ sum_by-append weight now (fixed_in (next_spot (spots t) e.command e.reply) (of_thread es t))
+    ∙ ap (λ s. sum_by weight now + sum_by weight (fixed_in s (of_thread es t))) (sym (on_here spots t e.command e.reply)) in
     let there : (u : ℕ) → u ≢ t → f u ≡ g u = λ u other.
-        ap (λ l. sum_by weight (fixed_in (spots u) l)) (of_there e es u other)
-        ∙ ap (λ s. sum_by weight (fixed_in s (of_thread es u))) (sym (on_there spots t e.command e.reply u other)) in
+    ap (λ l. sum_by weight (fixed_in (spots u) l)) (of_there e es u other)
+    ∙ ap (λ s. sum_by weight (fixed_in s (of_thread es u))) (sym (on_there spots t e.command e.reply u other)) in
     sum_by-append weight now (fixed (moved spots e) es)
     ∙ ap (λ n. sum_by weight now + n) later
     ∙ sym (one_term f g (sum_by weight now) t 1 threads of.0 (omega (arith, of.1)) here there)

@@ -3,3 +3,4 @@ pub mod Queue
 pub mod Machines
 pub mod Users
 pub mod Shares
+pub mod Live

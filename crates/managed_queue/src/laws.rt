@@ -1,4 +1,5 @@
 //! What all histories of the queue have in common, said over definitions alone.
+ghost use Rattle.managed_queue.specs.Live.{FewAreLive};
 ghost use Rattle.managed_queue.specs.Queue.{EveryHistory};
 ghost use Rattle.managed_queue.specs.Shares.{FixedAreShared};
 ghost use Rattle.managed_queue.specs.Users.{UsersPlay, TakersTake, PuttersPut};
@@ -29,4 +30,9 @@ pub fn takers_take()
 /// A law: a putter puts its numbers in a row, and has put all once it has no next command.
 pub fn putters_put()
     ensures { PuttersPut }
+{}
+
+/// A law: at most 19 words are live, and 5 for each allocation that was not refused.
+pub fn few_are_live()
+    ensures { FewAreLive }
 {}
