@@ -1,19 +1,17 @@
 -- How many words the workload can have in use.
-use Rattle.std.proofs.Common.{ℕ, zero, suc, ◌≡◌, ◌≤◌, ◌⊎◌, Bool, true, false, List, [], ◌∷◌, ◌++◌, length, get_or, Some, None, refl, ap, ◌∙◌, sym, subst, inl, inr, arith, length-append}
-use Rattle.std.specs.Prelude.{Contains, All, slice_get, ◌==◌}
-use Rattle.std.specs.List.{AllByRecursion, IsDistinct}
-use Rattle.std.proofs.lemmas.Bool.Decides.{Decides-eqb, Decides-and}
+use Rattle.std.proofs.Common.{ℕ, zero, suc, ◌≡◌, ◌≤◌, ◌⊎◌, List, [], ◌∷◌, ◌++◌, length, get_or, Some, None, refl, ap, ◌∙◌, sym, subst, inl, inr, arith, length-append}
+use Rattle.std.specs.Prelude.{Contains, All, slice_get}
 use Rattle.std.proofs.lemmas.List.{get_or_default}
 use Rattle.std.proofs.lemmas.List.Elements.{Contains-append_left, Contains-append_right}
 use Rattle.std.proofs.lemmas.List.Sums.{sum_by-le}
-use Rattle.std.proofs.lemmas.Map.Keys.{IsDistinct-cons}
 use Rattle.std.proofs.lemmas.Map.Made.{length-le_from_is_member}
 use Rattle.std.proofs.lemmas.Map.Views.{Contains-from_any, list_any-from_Contains}
 use Rattle.std.proofs.lemmas.Option.{get_or_from_slice_get}
 use Rattle.shen_graph.specs.declared.name.Name.{Name}
-use Rattle.shen_graph.specs.Graph.{Graph, Reference, named, hub, same_name}
-use Rattle.shen_graph.specs.Reach.{IsReachable, IsBefore, InOrder, IsReach, Live, size}
+use Rattle.shen_graph.specs.Graph.{Graph, Reference, named, hub}
+use Rattle.shen_graph.specs.Reach.{IsReachable, IsReach, Live, size}
 use Rattle.shen_graph.specs.Reach.IsReachable.{from_root, from_field}
+use Rattle.shen_graph.proofs.Distinct.{distinct}
 use Rattle.shen_graph.proofs.PlainLemmas.{same_name-true}
 use Rattle.shen_graph.proofs.ReachLemmas.{same_name-laws, names_held, Contains-names_held, Contains-from_slice_get}
 use Rattle.churn.proofs.Parts.{IsThread, own, fields_of, field_of, IsBox, IsLeaf, IsLink, Tidy, name_of}
@@ -148,41 +146,6 @@ known_named g n known =
 
     others : List Name
     others = names_held (held g 1) ++ later
-
--- names in their order differ
-
-before_apart : (a b : Name) → IsBefore a b → same_name a b ≡ false
-before_apart a b before = at (same_name a b) refl
-  where
-    at : (same : Bool) → same_name a b ≡ same → same ≡ false
-    at false is = refl
-    at true is =
-        let both = (Decides-and (a.thread == b.thread) (a.count == b.count) (Decides-eqb a.thread b.thread) (Decides-eqb a.count b.count)).0 is in
-        elim before [ inl less ↦ absurd (omega (arith, less, both.0)) | inr w ↦ absurd (omega (arith, w.1, both.1)) ]
-
-pub before_join : (a b c : Name) → IsBefore a b → IsBefore b c → IsBefore a c
-before_join a b c ab bc =
-    elim ab [
-      | inl x ↦ elim bc [ inl y ↦ inl (omega (arith, x, y)) | inr y ↦ inl (omega (arith, x, y.0)) ]
-      | inr x ↦ elim bc [ inl y ↦ inl (omega (arith, x.0, y)) | inr y ↦ inr (x.0 ∙ y.0, omega (arith, x.1, y.1)) ]
-    ]
-
-before_all : (a : Name) (ns : List Name) → ((b : Name) (ms : List Name) → ns ≡ b ∷ ms → IsBefore a b) → InOrder ns → AllByRecursion (λ y. same_name a y ≡ false) ns
-before_all a [] first order = tt
-before_all a (n ∷ []) first order = (before_apart a n (first n [] refl), tt)
-before_all a (n ∷ m ∷ ns) first order =
-    let here = first n (m ∷ ns) refl in
-    (before_apart a n here, before_all a (m ∷ ns) (λ b ms is. let same : m ≡ b = cc in subst (IsBefore a) same (before_join a n m here order.0)) order.1)
-
-none_distinct : IsDistinct same_name []
-unfolding IsDistinct
-none_distinct = tt
-
-distinct : (ns : List Name) → InOrder ns → IsDistinct same_name ns
-distinct [] order = none_distinct
-distinct (n ∷ []) order = IsDistinct-cons same_name n [] tt none_distinct
-distinct (n ∷ m ∷ ns) order =
-    IsDistinct-cons same_name n (m ∷ ns) (before_all n (m ∷ ns) (λ b ms is. let same : m ≡ b = cc in subst (IsBefore n) same order.0) order.1) (distinct (m ∷ ns) order.1)
 
 few_reachable : (g : Graph) (names : List Name) → Tidy g → IsReach g names → length names ≤ 61
 few_reachable g names tidy reach =

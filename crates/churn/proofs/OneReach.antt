@@ -6,7 +6,7 @@ use Rattle.shen_graph.specs.declared.name.Name.{Name}
 use Rattle.shen_graph.specs.Graph.{Graph}
 use Rattle.shen_graph.specs.Reach.{IsBefore, InOrder, IsReach}
 use Rattle.shen_graph.proofs.ReachLemmas.{Contains-nil, Contains-cons_cases}
-use Rattle.churn.proofs.Bounds.{before_join}
+use Rattle.shen_graph.proofs.Distinct.{before_join}
 
 before_not : (a b : Name) → IsBefore a b → IsBefore b a → ⊥
 before_not a b ab ba =

@@ -7,3 +7,7 @@ pub mod Steps
 pub mod Rising
 pub mod Playing
 pub mod Table
+pub mod Shares
+pub mod Driven
+pub mod Small
+pub mod Few

@@ -61,10 +61,10 @@ leads_join queue between left (full ∷ a) b is later = leads_join queue between
 
 -- the entries of a thread
 
-of_here : (e : Entry) (es : List Entry) → of_thread (e ∷ es) e.thread ≡ e ∷ of_thread es e.thread
+pub of_here : (e : Entry) (es : List Entry) → of_thread (e ∷ es) e.thread ≡ e ∷ of_thread es e.thread
 of_here e es = rw (eqb_itself e.thread) refl
 
-of_there : (e : Entry) (es : List Entry) (t : ℕ) → t ≢ e.thread → of_thread (e ∷ es) t ≡ of_thread es t
+pub of_there : (e : Entry) (es : List Entry) (t : ℕ) → t ≢ e.thread → of_thread (e ∷ es) t ≡ of_thread es t
 of_there e es t apart = rw (ne_eqb e.thread t (λ is. apart (sym is))) refl
 
 -- a thread's replies are those of the run, from a spot on

@@ -1,6 +1,4 @@
 -- The command of the table, and that it is in range.
-use Rattle.std.proofs.Common.{arith}
-use Rattle.shen_graph.specs.Valid.{IsValid}
 use Rattle.managed_queue.specs.declared.spot.Spot.{Spot}
 use Rattle.managed_queue.specs.declared.spot.Spot.TheVariants.{MakesAnchor, MakesFirst, SetsHead, SetsTail, Shows, Joins, Rests, Fills, Looks, Follows, Links, Helps, Swings, Turns, TookHead, TookTail, Compares, Pushes, Reads, Unlinks}
 use Rattle.managed_queue.specs.declared.operation.Choice.{Choice}

@@ -1,9 +1,10 @@
 -- Users: a thread that sets the queue up or joins it, and then puts numbers in a row, or takes some.
-use Rattle.std.specs.Prelude.{ℕ, ◌+◌, ◌-◌, ◌*◌, ◌^◌, ◌<◌, ◌≤◌, ◌==◌, nat_lt, Bool, true, false, ◌&&◌, ◌||◌, Option, Some, None, if◌then◌else◌}
+use Rattle.std.specs.Prelude.{ℕ, ◌≡◌, ◌+◌, ◌-◌, ◌*◌, ◌^◌, ◌<◌, ◌≤◌, ◌==◌, nat_lt, Bool, true, false, ◌&&◌, ◌||◌, List, [], ◌∷◌, ◌++◌, length, sum, Option, Some, None, if◌then◌else◌}
+use Rattle.std.specs.List.{range_with_len}
 use Rattle.shen_graph.specs.declared.command.Command.{Command}
 use Rattle.shen_graph.specs.declared.command.Command.TheVariants.{New}
 use Rattle.shen_graph.specs.declared.command.Reply.{Reply}
-use Rattle.shen_graph.specs.History.{is_full}
+use Rattle.shen_graph.specs.History.{Entry, IsWithoutFull, is_full}
 use Rattle.managed_queue.specs.declared.spot.Spot.{Spot}
 use Rattle.managed_queue.specs.declared.spot.Spot.TheVariants.{MakesAnchor, MakesFirst, Joins, Rests, Fills, Looks, Follows, Links, Helps, Swings}
 use Rattle.managed_queue.specs.declared.operation.Choice.{Choice}
@@ -14,6 +15,7 @@ use Rattle.managed_queue.specs.declared.user.Plan.{Plan}
 use Rattle.managed_queue.specs.declared.user.Plan.TheVariants.{Puts, Takes}
 use Rattle.managed_queue.specs.declared.user.Gotten.{Gotten}
 use Rattle.managed_queue.specs.Spots.{next_spot, ended_at}
+use Rattle.managed_queue.specs.Queue.{IsPlayed, spot_after, ended_in, puts_of, gots_of}
 use Rattle.managed_queue.specs.Machines.{command_at, answer_of}
 
 -- Where a user stands, what it has left to do, what its takes got, and whether an allocation was refused.
@@ -105,3 +107,35 @@ puts_left (Takes left) = 0
 
 abbrev pub to_come : Use → ℕ
 to_come u = if has_ended u then 0 else makings_ahead u.spot (puts_left u.plan)
+
+-- A thread's entries are those of a user: each command is its next, and it goes on by each reply.
+abbrev pub IsDriven : Use → List Entry → Type 0
+IsDriven u [] = Unit {0}
+IsDriven u (e ∷ es) = (next_of u ≡ Some e.command) × IsDriven (used u e.reply) es
+
+abbrev pub use_after : Use → List Entry → Use
+use_after u [] = u
+use_after u (e ∷ es) = use_after (used u e.reply) es
+
+-- Where no allocation is refused, a user goes by the table.
+abbrev pub UsersPlay : Type 0
+UsersPlay = (u : Use) (es : List Entry) → u.refused ≡ false → IsWithoutFull es → IsDriven u es → IsPlayed u.spot es × (spot_after u.spot es ≡ (use_after u es).spot)
+
+-- What a user counted is what its takes got, none of its operations is a put, and once it has no next command it got so many.
+pub record Took (count : ℕ) (es : List Entry) : Type 0 where
+  pub items : (use_after (taker count) es).got.items ≡ length (gots_of (ended_in Joins es))
+  pub sum : (use_after (taker count) es).got.sum ≡ sum (gots_of (ended_in Joins es))
+  pub no_put : puts_of (ended_in Joins es) ≡ []
+  pub all : next_of (use_after (taker count) es) ≡ None → length (gots_of (ended_in Joins es)) ≡ count
+
+abbrev pub TakersTake : Type 0
+TakersTake = (count : ℕ) (es : List Entry) → IsWithoutFull es → IsDriven (taker count) es → Took count es
+
+-- A putter puts its numbers in a row, and all of them once it has no next command.
+pub record DidPut (sets_up : Bool) (first count : ℕ) (es : List Entry) : Type 0 where
+  pub rest : List ℕ
+  pub puts : puts_of (ended_in (putter sets_up first count).spot es) ++ rest ≡ range_with_len first count
+  pub all : next_of (use_after (putter sets_up first count) es) ≡ None → rest ≡ []
+
+abbrev pub PuttersPut : Type 0
+PuttersPut = (sets_up : Bool) (first count : ℕ) (es : List Entry) → IsWithoutFull es → IsDriven (putter sets_up first count) es → DidPut sets_up first count es

@@ -6,3 +6,4 @@ pub mod ValidLemmas
 pub mod Noted
 pub mod Parts
 pub mod RowLemmas
+pub mod Distinct

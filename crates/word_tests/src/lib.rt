@@ -10,6 +10,8 @@ mod graph;
 #[cfg(test)]
 mod packed_heaps;
 #[cfg(test)]
+mod queue;
+#[cfg(test)]
 mod sizes_of_regions;
 #[cfg(test)]
 mod sources_sinks;

@@ -1,0 +1,92 @@
+-- Few words are live.
+use Rattle.std.proofs.Common.{ℕ, ◌≡◌, ◌+◌, ◌*◌, ◌≤◌, Bool, true, false, Some, List, [], ◌∷◌, length, refl, sym, ap, ◌∙◌, subst, inl, inr, arith, sum_by}
+use Rattle.std.specs.Prelude.{Contains, if◌then◌else◌}
+use Rattle.std.specs.List.{AllByRecursion}
+use Rattle.std.proofs.lemmas.Bool.{cases_eq}
+use Rattle.std.proofs.lemmas.List.Sums.{sum_by-cons}
+use Rattle.std.proofs.lemmas.Map.Made.{length-le_from_is_member}
+use Rattle.std.proofs.lemmas.Map.Views.{Contains-from_any, list_any-from_Contains}
+use Rattle.shen_graph.specs.declared.name.Name.{Name}
+use Rattle.shen_graph.specs.Graph.{Graph, hub, named, same_name, opening}
+use Rattle.shen_graph.specs.History.{Entry, after, after_entry, of_thread}
+use Rattle.shen_graph.specs.Reach.{IsReachable, InOrder, size}
+use Rattle.shen_graph.specs.Reach.IsReachable.{from_root, from_field}
+use Rattle.shen_graph.proofs.Distinct.{distinct, order_first, order_rest}
+use Rattle.shen_graph.proofs.PlainLemmas.{same_name-true}
+use Rattle.shen_graph.proofs.ReachLemmas.{same_name-laws}
+use Rattle.managed_queue.specs.declared.spot.Spot.{Spot}
+use Rattle.managed_queue.specs.Queue.{IsPlayed, moved, first_spot}
+use Rattle.managed_queue.specs.Live.{makings, FewAreLive}
+use Rattle.managed_queue.proofs.Rising.{on_here, on_there}
+use Rattle.managed_queue.proofs.Playing.{of_here, of_there}
+use Rattle.managed_queue.proofs.Small.{most, AreSmall, Stays, next_small, entry_stays, small_opening}
+
+-- what can be reached was given
+reached : (g : Graph) (names : List Name) → AreSmall g names → (n : Name) → IsReachable g n → Contains names n
+reached g names small _ (from_root t r n is) = small.roots t r n is
+reached g names small _ (from_field m n f from is) = small.fields m f n is
+
+-- the hub counts once
+
+abbrev extra : Name → ℕ
+extra n = if same_name hub n then 14 else 0
+
+no_hub : (n : Name) (ns : List Name) → n ≡ hub → AllByRecursion (λ y. same_name n y ≡ false) ns → sum_by extra ns ≡ 0
+no_hub n [] is apart = refl
+no_hub n (m ∷ ns) is apart =
+    let rest = no_hub n ns is apart.1 in
+    let here : extra m ≡ 0 = ap (λ b. if b then 14 else 0) (ap (λ x. same_name x m) (sym is) ∙ apart.0) in
+    omega (arith, sum_by-cons extra m ns, rest, here)
+
+once : (ns : List Name) → InOrder ns → sum_by extra ns ≤ 14
+once [] order = omega arith
+once (n ∷ ns) order =
+    let later = once ns (order_rest n ns order) in
+    by_first (same_name hub n) refl later
+  where
+    by_first : (b : Bool) → same_name hub n ≡ b → sum_by extra ns ≤ 14 → sum_by extra (n ∷ ns) ≤ 14
+    by_first true is later =
+        let none = no_hub n ns (sym (same_name-true hub n is)) (order_first n ns order) in
+        let here : extra n ≡ 14 = ap (λ b. if b then 14 else 0) is in
+        omega (arith, sum_by-cons extra n ns, none, here)
+    by_first false is later =
+        let here : extra n ≡ 0 = ap (λ b. if b then 14 else 0) is in
+        omega (arith, sum_by-cons extra n ns, later, here)
+
+most_is : (n : Name) → most n ≡ 5 + extra n
+most_is n = at (same_name hub n)
+  where
+    at : (b : Bool) → (if b then 19 else 5) ≡ 5 + (if b then 14 else 0)
+    at true = refl
+    at false = refl
+
+weigh : (g : Graph) (names : List Name) → AreSmall g names → (ns : List Name) → sum_by (λ n. size (named g (Some n))) ns ≤ 5 * length ns + sum_by extra ns
+weigh g names small [] = omega arith
+weigh g names small (n ∷ ns) =
+    let rest = weigh g names small ns in
+    let low = small.sizes n in
+    let is = most_is n in
+    omega (arith, sum_by-cons (λ (x : Name). size (named g (Some x))) n ns, sum_by-cons extra n ns, rest, low, is)
+
+-- all entries
+all_stay : (es : List Entry) (g : Graph) (names : List Name) (spots : ℕ → Spot) → AreSmall g names → ((t : ℕ) → IsPlayed (spots t) (of_thread es t)) → Stays (after g es) names (makings es)
+all_stay [] g names spots small played = record { names' = names; small = small; count = omega arith }
+all_stay (e ∷ es) g names spots small played =
+    let mine : IsPlayed (spots e.thread) (e ∷ of_thread es e.thread) = subst (IsPlayed (spots e.thread)) (of_here e es) (played e.thread) in
+    let step = entry_stays g names e (next_small (spots e.thread) e.command mine.0) small in
+    let later = all_stay es (after_entry g e) step.names' (moved spots e) step.small (λ t. elim (cases_eq t e.thread) [
+      | inl same ↦ subst (λ (k : ℕ). IsPlayed (moved spots e k) (of_thread es k)) (sym same) (subst (λ (s : Spot). IsPlayed s (of_thread es e.thread)) (sym (on_here spots e.thread e.command e.reply)) mine.2)
+      | inr other ↦ subst (λ (s : Spot). IsPlayed s (of_thread es t)) (sym (on_there spots e.thread e.command e.reply t other)) (subst (IsPlayed (spots t)) (of_there e es t other) (played t))
+    ]) in
+    record { names' = later.names'; small = later.small; count = later.count ∙ omega (arith, step.count) }
+
+pub few_are_live : FewAreLive
+few_are_live threads words history played live =
+    let g = after (opening threads) history in
+    let all = all_stay history (opening threads) (hub ∷ []) first_spot (small_opening threads) played in
+    let ns = live.0 in
+    let fewer = length-le_from_is_member same_name-laws ns all.names' (distinct ns live.1.in_order)
+    (λ q there. list_any-from_Contains same_name-laws q all.names' (reached g all.names' all.small q (live.1.only q (Contains-from_any same_name-true q ns there)))) in
+    let weight = weigh g all.names' all.small ns in
+    let hubs = once ns live.1.in_order in
+    omega (arith, fewer, weight, hubs, all.count, live.2)
