@@ -4,3 +4,4 @@ pub mod Turn
 pub mod Roles
 pub mod Scripts
 pub mod Pause
+pub mod Settles

@@ -4,6 +4,7 @@
 
 mod machine;
 mod opening;
+mod refusal;
 mod stepped;
 
 pub use machine::Machine;

@@ -4,6 +4,7 @@ ghost use Rattle.step_core.specs.Actor.{controlling, fresh_control};
 ghost use Rattle.step_core.specs.Opening.{first_free};
 ghost use Rattle.heap_machines.specs.Turn.{first_place_of};
 
+use crate::refusal::refused;
 use control::Control;
 use heap_words::{Access, Config, NoMemory, Place, Took};
 use helper::Helper;
@@ -27,7 +28,7 @@ pub enum Machine {
 impl Machine {
     ghost use Rattle.std.specs.Prelude.{◌≡◌, ◌<◌, ◌≤◌, ◌↔◌, ◌≢◌, length, true, false, not, Option, Some, None, IfOk, IfSome, is_some, if◌then◌else◌};
     ghost use Rattle.heap_words.specs.Access.{table_index};
-    ghost use Rattle.heap_words.specs.Words.{Cset, table_words, heap_size};
+    ghost use Rattle.heap_words.specs.Words.{Cset, table_words, heap_size, view};
     ghost use Rattle.heap_world.specs.Change.{image_view};
     ghost use Rattle.image_graph.specs.Holds.{HoldsSome};
     ghost use Rattle.image_graph.specs.Left.{StandsForSome, ShowsTheGraph};
@@ -39,6 +40,7 @@ impl Machine {
     ghost use Rattle.step_core.specs.Machines.{takes_of, plan_of, place_in, machine_after, answer_of, is_machine_at, reply_in, may_begin, made_of_machine, WaitsIn, IsFitFor};
     ghost use Rattle.heap_machines.specs.Shown.{shown, order_of, heap_of, has_turn};
     ghost use Rattle.heap_machines.specs.Roles.{is_mutating, CanShow};
+    ghost use Rattle.heap_machines.specs.Settles.{command_in, reply_settled, refused_by};
     ghost use Rattle.heap_machines.specs.Turn.{order_for};
 
     /// The machine of a number, as a heap begins with it. The error is that memory for the control's image was refused.
@@ -224,6 +226,45 @@ impl Machine {
         match self {
             Machine::Mutator(mutator) => mutator.reply(),
             Machine::Helper(_) | Machine::Control(_) => unreachable!(),
+        }
+    }
+
+    /// The command of the call in progress. Of a mutator.
+    pub fn command(&self) -> Command
+        requires mutator { is_mutating (shown self.now) ≡ true }
+        requires busy { is_resting (shown self.now) ≡ false }
+        ensures { command_in (shown self.now) ≡ Some result }
+    {
+        match self {
+            Machine::Mutator(mutator) => mutator.command(),
+            Machine::Helper(_) | Machine::Control(_) => unreachable!(),
+        }
+    }
+
+    /// The reply of its call in progress, if it is a mutator whose next access settles that, by the words of the heap's table as
+    /// they are before it.
+    pub fn settles(&self, words: &[u64]) -> Option<Reply>
+        requires { length words.now ≡ table_words (heap_of self.now) }
+        ensures { result ≡ reply_settled (view (heap_of self.now) words.now) (shown self.now) }
+    {
+        match self {
+            Machine::Mutator(mutator) => mutator.settles(words),
+            Machine::Helper(_) | Machine::Control(_) => None,
+        }
+    }
+
+    /// The mutator, counted from 0, to which its next access says that the heap is full, if it is the control and does so, by the
+    /// words of the heap's table as they are before it.
+    pub fn refuses(&self, config: Config, words: &[u64]) -> Option<usize>
+        requires heap { heap_of self.now ≡ config }
+        requires words { length words.now ≡ table_words config }
+        ensures { result ≡ refused_by config words.now (shown self.now) }
+    {
+        match self {
+            Machine::Control(control) if control.is_storing() => {
+                refused(config, words, control.plan())
+            }
+            _ => None,
         }
     }
 

@@ -1,3 +1,4 @@
 pub mod Message
 pub mod Answer
 pub mod Canonical
+pub mod History

@@ -80,7 +80,7 @@ fn put_reply<K: Sink>(block: &mut Block, sink: &mut K, thread: u64, reply: Reply
     block.put(sink, b"\n");
 }
 
-fn put_reply_word<K: Sink>(block: &mut Block, sink: &mut K, reply: Reply)
+pub(crate) fn put_reply_word<K: Sink>(block: &mut Block, sink: &mut K, reply: Reply)
     ensures { Puts (stage (K.written sink.old) (K.faults sink.old) (K.calls sink.old) block.old)
         (stage (K.written sink.new) (K.faults sink.new) (K.calls sink.new) block.new)
         (reply_word reply) }

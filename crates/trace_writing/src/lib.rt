@@ -2,10 +2,12 @@
 #![tactic(auto)]
 
 mod answer;
+mod history;
 mod message;
 mod trace;
 
 pub use answer::{Answer, write_answer};
+pub use history::write_history;
 pub use message::{Line, write_line};
 pub use text_writer::WriteFault;
 pub use trace::{read_traces_can_be_written, write_trace};

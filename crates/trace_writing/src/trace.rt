@@ -114,7 +114,7 @@ fn put_line<K: Sink>(block: &mut Block, sink: &mut K, thread: u64, command: Comm
 }
 
 // Puts the word and the numbers of a command.
-fn put_command<K: Sink>(block: &mut Block, sink: &mut K, command: Command)
+pub(crate) fn put_command<K: Sink>(block: &mut Block, sink: &mut K, command: Command)
     ensures { Puts (stage (K.written sink.old) (K.faults sink.old) (K.calls sink.old) block.old)
         (stage (K.written sink.new) (K.faults sink.new) (K.calls sink.new) block.new)
         (word_of command ++ numbers (numbers_of command)) }
