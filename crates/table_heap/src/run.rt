@@ -43,6 +43,22 @@ impl Round {
     }
 }
 
+// Backs off after a round that waits, and ends that once several rounds in a row went on. How many they are with this one.
+fn back_off(backoff: &Backoff, moving: u32, round: Round) -> u32 {
+    match round {
+        Round::Idle | Round::Waiting => {
+            backoff.snooze();
+            0
+        }
+        Round::Moving => {
+            if moving >= WORKING {
+                backoff.reset();
+            }
+            moving.saturating_add(1)
+        }
+    }
+}
+
 impl Bundle {
     // The next command of the machine's script, if it is a mutator.
     fn next_command(&self, work: &Work, number: usize) -> Option<Command>
@@ -130,17 +146,13 @@ impl Bundle {
         ensures jobs { AreSameJobs (view_of self.old) work.old work.new }
     {
         let backoff = Backoff::new();
-        let mut moving = 0u32;
+        let mut moving = 0;
         for _ in rt.forever() {
-            match self.round(heap, work, gate) {
-                Round::Idle => return,
-                Round::Waiting => {
-                    moving = 0;
-                    backoff.snooze();
-                }
-                Round::Moving if moving < WORKING => moving += 1,
-                Round::Moving => backoff.reset(),
+            let said = self.round(heap, work, gate);
+            if let Round::Idle = said {
+                return;
             }
+            moving = back_off(&backoff, moving, said);
         }
     }
 }

@@ -6,47 +6,38 @@ use Rattle.table_heap.proofs.bundle.Bundle.run.Goals as goal
 pub loop-init : goal.loop-init
 loop-init g c = record { work = at_start c.args.self.now c.args.work.now c.requires.start; same = same_bundle c.args.self.now; jobs = same_jobs _ c.args.work.now }
 
-pub round-requires-clause-heap : goal.round-requires-clause-heap
-round-requires-clause-heap g c = λ _ _. record { table = c.loop.invariant.same.table ∙ c.requires.heap.table; config = c.loop.invariant.same.config ∙ c.requires.heap.config }
+pub round-said-requires-clause-heap : goal.round-said-requires-clause-heap
+round-said-requires-clause-heap g c = λ _ _. record { table = c.loop.invariant.same.table ∙ c.requires.heap.table; config = c.loop.invariant.same.config ∙ c.requires.heap.config }
 
 pub returns-in-Idle-clause-same : goal.returns-in-Idle-clause-same
-returns-in-Idle-clause-same g c = same_bundle_more c.args.self.now c.loop.self c.round.new.self c.loop.invariant.same c.round.ensures.same
+returns-in-Idle-clause-same g c = same_bundle_more c.args.self.now c.loop.self c.round-said.new.self c.loop.invariant.same c.round-said.ensures.same
 
 pub returns-in-Idle-clause-done : goal.returns-in-Idle-clause-done
 returns-in-Idle-clause-done g c =
     let l = c.loop in
-    have_done c.args.self.now c.round.new.self c.args.work.now c.round.new.work
-    (same_jobs_more c.args.self.now l.self c.args.work.now l.work c.round.new.work l.invariant.same l.invariant.jobs c.round.ensures.jobs)
-    c.round.ensures.work (c.round.ensures.idle c.in-Idle.is)
+    have_done c.args.self.now c.round-said.new.self c.args.work.now c.round-said.new.work
+    (same_jobs_more c.args.self.now l.self c.args.work.now l.work c.round-said.new.work l.invariant.same l.invariant.jobs c.round-said.ensures.jobs)
+    c.round-said.ensures.work (c.round-said.ensures.idle c.in-Idle.is)
 
 pub returns-in-Idle-clause-jobs : goal.returns-in-Idle-clause-jobs
 returns-in-Idle-clause-jobs g c =
     let l = c.loop in
-    same_jobs_more c.args.self.now l.self c.args.work.now l.work c.round.new.work l.invariant.same l.invariant.jobs c.round.ensures.jobs
-
-pub loop-preserved-in-Waiting : goal.loop-preserved-in-Waiting
-loop-preserved-in-Waiting g c =
-    let l = c.loop in
-    record {
-      work = c.round.ensures.work;
-      same = same_bundle_more c.args.self.now l.self c.round.new.self l.invariant.same c.round.ensures.same;
-      jobs = same_jobs_more c.args.self.now l.self c.args.work.now l.work c.round.new.work l.invariant.same l.invariant.jobs c.round.ensures.jobs;
-    }
+    same_jobs_more c.args.self.now l.self c.args.work.now l.work c.round-said.new.work l.invariant.same l.invariant.jobs c.round-said.ensures.jobs
 
 pub loop-preserved : goal.loop-preserved
 loop-preserved g c =
     let l = c.loop in
     record {
-      work = c.round.ensures.work;
-      same = same_bundle_more c.args.self.now l.self c.round.new.self l.invariant.same c.round.ensures.same;
-      jobs = same_jobs_more c.args.self.now l.self c.args.work.now l.work c.round.new.work l.invariant.same l.invariant.jobs c.round.ensures.jobs;
+      work = c.round-said.ensures.work;
+      same = same_bundle_more c.args.self.now l.self c.round-said.new.self l.invariant.same c.round-said.ensures.same;
+      jobs = same_jobs_more c.args.self.now l.self c.args.work.now l.work c.round-said.new.work l.invariant.same l.invariant.jobs c.round-said.ensures.jobs;
     }
 
-pub round-requires-clause-work : goal.round-requires-clause-work
-round-requires-clause-work g c = λ _ _. c.loop.invariant.work
+pub round-said-requires-clause-work : goal.round-said-requires-clause-work
+round-said-requires-clause-work g c = λ _ _. c.loop.invariant.work
 
 pub returns-in-Idle-clause-orders : goal.returns-in-Idle-clause-orders
-returns-in-Idle-clause-orders g c = c.round.ensures.work.orders
+returns-in-Idle-clause-orders g c = c.round-said.ensures.work.orders
 
 pub returns-in-Idle-clause-idle : goal.returns-in-Idle-clause-idle
-returns-in-Idle-clause-idle g c = c.round.ensures.idle c.in-Idle.is
+returns-in-Idle-clause-idle g c = c.round-said.ensures.idle c.in-Idle.is
