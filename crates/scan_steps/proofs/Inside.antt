@@ -1,5 +1,5 @@
 -- The accesses of a machine that scans a unit are of words of the table, and of the image.
-use Rattle.std.proofs.Common.{◌≡◌, ℕ, ◌+◌, true, refl, arith}
+use Rattle.std.proofs.Common.{◌≡◌, ◌+◌, true, refl, arith}
 use Rattle.std.proofs.lemmas.Bool.{and_parts, ltb-true}
 use Rattle.std.proofs.lemmas.Bool.Decides.{nat_tests}
 use Rattle.heap_words.specs.declared.config.Config.{Config}

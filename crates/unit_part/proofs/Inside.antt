@@ -21,7 +21,7 @@ use Rattle.update_refs.specs.Rows as updates
 use Rattle.update_refs.proofs.Inside.{updating_inside, updating_image}
 use Rattle.unit_part.specs.declared.spot.UnitSpot.{UnitSpot}
 use Rattle.unit_part.specs.declared.spot.UnitSpot.TheVariants.{Scanning, Evacuating, Updating, Ended}
-use Rattle.unit_part.specs.Rows.{touch_at, begins, scanned, evacuated, updated}
+use Rattle.unit_part.specs.Rows.{touch_at, scanned, evacuated, updated}
 use Rattle.unit_part.specs.Ready.{is_ready, AccessesAreInside, StaysReady}
 
 -- a part that goes on has not ended
