@@ -8,6 +8,7 @@
 use std::alloc::{AllocError, AllocFailed};
 
 mod command;
+mod driver;
 mod graph_text;
 mod name;
 mod order;
@@ -17,6 +18,7 @@ mod script;
 mod work;
 
 pub use command::{Command, Reply};
+pub use driver::Driver;
 pub use graph_text::GraphText;
 pub use name::Name;
 pub use order::Order;
