@@ -24,7 +24,7 @@ use Rattle.managed_queue.specs.Users.{Use, chosen, is_rest, has_ended, command_o
 use Rattle.managed_queue.proofs.Table.{command_is_next}
 
 -- where a user that has not ended goes
-abbrev onward : Use → Reply → Use
+abbrev pub onward : Use → Reply → Use
 onward u r = record {
   spot = next_spot u.spot (command_of u) r;
   plan = plan_after u.plan (answer_of (ended_at u.spot r));
@@ -33,18 +33,18 @@ onward u r = record {
 }
 
 -- what its next command says
-record Going (u : Use) (c : Command) : Type 0 where
-  on : has_ended u ≡ false
-  command : command_of u ≡ c
+pub record Going (u : Use) (c : Command) : Type 0 where
+  pub on : has_ended u ≡ false
+  pub command : command_of u ≡ c
 
-going : (u : Use) (c : Command) → next_of u ≡ Some c → Going u c
+pub going : (u : Use) (c : Command) → next_of u ≡ Some c → Going u c
 going u c is = at (has_ended u) refl is
   where
     at : (b : Bool) → has_ended u ≡ b → (if b then None else Some (command_of u)) ≡ Some c → Going u c
     at true ended never = let no_command : None ≡ Some c = never in absurd cc
     at false on here = record { on = on; command = cc }
 
-used_is : (u : Use) (r : Reply) → has_ended u ≡ false → used u r ≡ onward u r
+pub used_is : (u : Use) (r : Reply) → has_ended u ≡ false → used u r ≡ onward u r
 used_is u r on = ap (λ b. if b then u else onward u r) on
 
 not_full : (r : Reply) → r ≢ reply.Full → is_full r ≡ false
@@ -246,7 +246,7 @@ record TakesOn (s : Spot) (left : ℕ) (have : Gotten) (es : List Entry) : Type 
   all : next_of (use_after (taking s left have) es) ≡ None → length (gots_of (ended_in s es)) ≡ left
 
 -- between two operations one is left, where it has not ended
-more_left : (s : Spot) (left : ℕ) → (is_rest s && (left == 0)) ≡ false → is_rest s ≡ true → 1 ≤ left
+pub more_left : (s : Spot) (left : ℕ) → (is_rest s && (left == 0)) ≡ false → is_rest s ≡ true → 1 ≤ left
 more_left s left on rest = at left (ap (λ b. b && (left == 0)) (sym rest) ∙ on)
   where
     at : (n : ℕ) → (true && (n == 0)) ≡ false → 1 ≤ n

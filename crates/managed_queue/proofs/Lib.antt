@@ -11,3 +11,4 @@ pub mod Shares
 pub mod Driven
 pub mod Small
 pub mod Few
+pub mod Coming

@@ -1,12 +1,14 @@
-ghost use Rattle.std.specs.Prelude.{◌≡◌, ◌<◌, ◌≤◌, ◌^◌, ◌*◌, ◌+◌, IfSome};
+ghost use Rattle.std.specs.Prelude.{◌≡◌, ◌<◌, ◌≤◌, ◌^◌, ◌*◌, ◌+◌, Some, IfSome};
+ghost use Rattle.shen_graph.specs.declared.command.Command.{Command};
+ghost use Rattle.shen_graph.specs.Step.{IsNew};
 ghost use Rattle.shen_graph.specs.Valid.{IsValid};
 ghost use Rattle.managed_queue.specs.Spots.{IsNext};
-ghost use Rattle.managed_queue.specs.Users.{left_of, next_of, has_ended, used, plan_after, got_after, IsWithin, is_refused, chosen};
+ghost use Rattle.managed_queue.specs.Users.{left_of, next_of, to_come, has_ended, used, plan_after, got_after, IsWithin, is_refused, chosen};
 ghost use Rattle.managed_queue.specs.Users as users;
 
 use crate::operation::{Choice, QueueReply};
 use crate::spot::Spot;
-use shen_graph::{Command, Reply};
+use shen_graph::{Command, Driver, Reply};
 use std::marker::Model;
 
 /// What a user has left to do.
@@ -103,20 +105,15 @@ impl User {
         }
     }
 
-    /// Its next command; `None` when it has done all, or an allocation was refused.
-    pub fn next(&self) -> Option<Command>
-        ensures plan { result ≡ next_of self.now }
-        ensures table { IfSome result (λ command. IsNext self.now.spot command) }
-        ensures valid { IfSome result (λ command. IsValid command) }
+    /// How many numbers its takes got, and their sum.
+    pub fn got(&self) -> Gotten
+        ensures { result ≡ self.now.got }
     {
-        if self.has_ended() {
-            return None;
-        }
-        Some(self.spot.next(self.plan.choice()))
+        self.got
     }
 
-    /// Takes the reply to that command. One that has ended stays.
-    pub fn took(&mut self, reply: &Reply)
+    // Goes on by a reply, unless it has ended.
+    fn go_on(&mut self, reply: &Reply)
         ensures { self.new ≡ used self.old reply.now }
     {
         if self.has_ended() {
@@ -132,19 +129,45 @@ impl User {
         self.plan = plan_next(plan, got, answer);
     }
 
-    /// How many numbers its takes got, and their sum.
-    pub fn got(&self) -> Gotten
-        ensures { result ≡ self.now.got }
-    {
-        self.got
-    }
-
     // Whether it has no next command.
     fn has_ended(&self) -> bool
         ensures { result ≡ has_ended self.now }
     {
         let through = self.plan.left() == 0;
         self.refused || (is_rest(&self.spot) && through)
+    }
+}
+
+/// It goes on by the table, and no reply raises the number of allocations to come.
+impl Driver for User {
+    ghost use Rattle.managed_queue.specs.Users as users;
+
+    ghost next_of = { users.next_of };
+
+    ghost replied = { users.used };
+
+    ghost to_come = { users.to_come };
+
+    /// Its next command; `None` when it has done all, or an allocation was refused.
+    fn next(&self) -> Option<Command>
+        ensures next { result ≡ next_of self.now }
+        ensures table { IfSome result (λ command. IsNext self.now.spot command) }
+        ensures valid { IfSome result (λ command. IsValid command) }
+        ensures due { IfSome result (λ command. IsNew command → 1 ≤ to_come self.now) }
+    {
+        if self.has_ended() {
+            return None;
+        }
+        Some(self.spot.next(self.plan.choice()))
+    }
+
+    /// Takes the reply to that command. One that has ended stays.
+    fn took(&mut self, reply: &Reply)
+        ensures replied { self.new ≡ used self.old reply.now }
+        ensures falls { to_come self.new ≤ to_come self.old }
+        ensures pays { (command : Command) → next_of self.old ≡ Some command → IsNew command → to_come self.new < to_come self.old }
+    {
+        self.go_on(reply);
     }
 }
 

@@ -8,6 +8,7 @@
 use std::alloc::{AllocError, AllocFailed};
 
 mod command;
+mod driver;
 mod graph_text;
 mod history;
 mod name;
@@ -18,6 +19,7 @@ mod script;
 mod work;
 
 pub use command::{Command, Reply};
+pub use driver::Driver;
 pub use graph_text::GraphText;
 pub use history::{Entry, History};
 pub use name::Name;

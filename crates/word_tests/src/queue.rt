@@ -2,7 +2,7 @@
 ghost use Rattle.std.specs.Prelude.{◌≡◌, ◌≤◌};
 
 use managed_queue::{Put, QueueReply, Take, User};
-use shen_graph::{Command, Name, PlainGraph, Reply};
+use shen_graph::{Command, Driver, Name, PlainGraph, Reply};
 use std::test::Fail;
 
 const ANCHOR: Name = Name {

@@ -1,0 +1,263 @@
+-- What a user gives is in range, and allocations to come become fewer.
+use Rattle.std.proofs.Common.{ℕ, zero, suc, ◌≡◌, ◌+◌, ◌-◌, ◌<◌, ◌≤◌, ◌⊎◌, Bool, true, false, Option, Some, None, refl, sym, ap, subst, inl, inr, arith, lt-ltb}
+use Rattle.std.specs.Prelude.{◌==◌, ◌||◌, ◌&&◌, nat_lt, if◌then◌else◌}
+use Rattle.std.proofs.lemmas.Bool.{false≢true}
+use Rattle.shen_graph.specs.declared.command.Command.{Command}
+use Rattle.shen_graph.specs.declared.command.Reply.{Reply}
+use Rattle.shen_graph.specs.declared.command.Reply.TheVariants as reply
+use Rattle.shen_graph.specs.Step.{IsNew}
+use Rattle.shen_graph.specs.Valid.{IsValid}
+use Rattle.managed_queue.specs.declared.spot.Spot.{Spot}
+use Rattle.managed_queue.specs.declared.spot.Spot.TheVariants.{MakesAnchor, MakesFirst, SetsHead, SetsTail, Shows, Joins, Rests, Fills, Looks, Follows, Links, Helps, Swings, Turns, TookHead, TookTail, Compares, Pushes, Reads, Unlinks}
+use Rattle.managed_queue.specs.declared.operation.Choice.{Choice}
+use Rattle.managed_queue.specs.declared.operation.Choice.TheVariants as choice
+use Rattle.managed_queue.specs.declared.operation.QueueReply.{QueueReply}
+use Rattle.managed_queue.specs.declared.operation.QueueReply.TheVariants as queue_reply
+use Rattle.managed_queue.specs.declared.user.Plan.{Plan}
+use Rattle.managed_queue.specs.declared.user.Plan.TheVariants.{Puts, Takes}
+use Rattle.managed_queue.specs.Spots.{next_spot, ended_at, after_join, behind_tail, after_link, after_unlink, after_same, after_rest, on_full, on_yes}
+use Rattle.managed_queue.specs.Spots.Operation.{got, empty}
+use Rattle.managed_queue.specs.Machines.{command_at, first_command, answer_of}
+use Rattle.managed_queue.specs.Users.{Use, chosen, is_rest, left_of, has_ended, next_of, plan_after, is_refused, used, makings_ahead, puts_left, to_come}
+use Rattle.managed_queue.proofs.Driven.{going, onward, used_is, more_left}
+
+pub command_valid : (c : Choice) (s : Spot) → IsValid (command_at c s)
+command_valid c MakesAnchor = (omega arith, omega arith, omega arith)
+command_valid c MakesFirst = (omega arith, omega arith, omega arith)
+command_valid c SetsHead = (omega arith, omega arith, omega arith)
+command_valid c SetsTail = (omega arith, omega arith, omega arith)
+command_valid c Shows = (omega arith, omega arith, omega arith)
+command_valid c Joins = (omega arith, omega arith, omega arith)
+command_valid (choice.Put value) Rests = (omega arith, omega arith, omega arith)
+command_valid choice.Take Rests = (omega arith, omega arith, omega arith)
+command_valid c Fills = (omega arith, omega arith)
+command_valid c (Looks value) = (omega arith, omega arith, omega arith)
+command_valid c (Follows value) = (omega arith, omega arith, omega arith)
+command_valid c (Links value) = (omega arith, omega arith, omega arith, omega arith)
+command_valid c (Helps value) = (omega arith, omega arith, omega arith, omega arith)
+command_valid c (Swings value) = (omega arith, omega arith, omega arith, omega arith)
+command_valid c Turns = (omega arith, omega arith, omega arith)
+command_valid c TookHead = (omega arith, omega arith, omega arith)
+command_valid c TookTail = (omega arith, omega arith, omega arith)
+command_valid c (Compares nothing) = (omega arith, omega arith)
+command_valid c Pushes = (omega arith, omega arith, omega arith, omega arith)
+command_valid c Reads = (omega arith, omega arith)
+command_valid c (Unlinks value) = (omega arith, omega arith, omega arith, omega arith)
+
+pub user_valid : (u : Use) (c : Command) → next_of u ≡ Some c → IsValid c
+user_valid u c is = subst IsValid (going u c is).command (command_valid (chosen u.plan) u.spot)
+
+-- what is ahead after a reply, of the plan that is then left
+abbrev ahead : Plan → Spot → Reply → ℕ
+ahead p s r = makings_ahead (next_spot s (command_at (chosen p) s) r) (puts_left (plan_after p (answer_of (ended_at s r))))
+
+-- a plan after a reply has not more to put
+fewer_puts : (p : Plan) (a : Option QueueReply) → puts_left (plan_after p a) ≤ puts_left p
+fewer_puts (Puts next left) None = omega arith
+fewer_puts (Puts next left) (Some queue_reply.Put) = at (nat_lt 0 left)
+  where
+    at : (b : Bool) → puts_left (if b then Puts (next + 1) (left - 1) else Puts next left) ≤ left
+    at true = omega arith
+    at false = omega arith
+fewer_puts (Puts next left) (Some (queue_reply.Got value)) = omega arith
+fewer_puts (Puts next left) (Some queue_reply.Empty) = omega arith
+fewer_puts (Puts next left) (Some queue_reply.Full) = omega arith
+fewer_puts (Takes left) None = omega arith
+fewer_puts (Takes left) (Some queue_reply.Put) = omega arith
+fewer_puts (Takes left) (Some (queue_reply.Got value)) = omega arith
+fewer_puts (Takes left) (Some queue_reply.Empty) = omega arith
+fewer_puts (Takes left) (Some queue_reply.Full) = omega arith
+
+-- after a put one less
+one_less : (p : Plan) → puts_left (plan_after p (Some queue_reply.Put)) ≤ puts_left p - 1
+one_less (Puts next zero) = omega arith
+one_less (Puts next (suc n)) =
+    subst (λ (b : Bool). puts_left (if b then Puts (next + 1) (suc n - 1) else Puts next (suc n)) ≤ suc n - 1) (sym (lt-ltb 0 (suc n) (omega arith))) (omega arith)
+one_less (Takes left) = omega arith
+
+-- what is ahead where a reply decides
+
+join_ahead : (r : Reply) (x : ℕ) → makings_ahead (after_join r) x ≡ x
+join_ahead (reply.Ref n) x = refl
+join_ahead reply.Null x = refl
+join_ahead reply.Ok x = refl
+join_ahead reply.Yes x = refl
+join_ahead reply.No x = refl
+join_ahead (reply.Number n) x = refl
+join_ahead reply.Bad x = refl
+join_ahead reply.Full x = refl
+
+behind_ahead : (value : ℕ) (r : Reply) (x : ℕ) → makings_ahead (behind_tail value r) x ≡ x - 1
+behind_ahead value (reply.Ref n) x = refl
+behind_ahead value reply.Null x = refl
+behind_ahead value reply.Ok x = refl
+behind_ahead value reply.Yes x = refl
+behind_ahead value reply.No x = refl
+behind_ahead value (reply.Number n) x = refl
+behind_ahead value reply.Bad x = refl
+behind_ahead value reply.Full x = refl
+
+link_ahead : (value : ℕ) (r : Reply) (x : ℕ) → makings_ahead (after_link value r) x ≡ x - 1
+link_ahead value (reply.Ref n) x = refl
+link_ahead value reply.Null x = refl
+link_ahead value reply.Ok x = refl
+link_ahead value reply.Yes x = refl
+link_ahead value reply.No x = refl
+link_ahead value (reply.Number n) x = refl
+link_ahead value reply.Bad x = refl
+link_ahead value reply.Full x = refl
+
+unlink_ahead : (r : Reply) (x : ℕ) → makings_ahead (after_unlink r) x ≡ x
+unlink_ahead (reply.Ref n) x = refl
+unlink_ahead reply.Null x = refl
+unlink_ahead reply.Ok x = refl
+unlink_ahead reply.Yes x = refl
+unlink_ahead reply.No x = refl
+unlink_ahead (reply.Number n) x = refl
+unlink_ahead reply.Bad x = refl
+unlink_ahead reply.Full x = refl
+
+same_ahead : (nothing : Bool) (r : Reply) (x : ℕ) → makings_ahead (after_same nothing r) x ≡ x
+same_ahead true (reply.Ref n) x = refl
+same_ahead true reply.Null x = refl
+same_ahead true reply.Ok x = refl
+same_ahead true reply.Yes x = refl
+same_ahead true reply.No x = refl
+same_ahead true (reply.Number n) x = refl
+same_ahead true reply.Bad x = refl
+same_ahead true reply.Full x = refl
+same_ahead false (reply.Ref n) x = refl
+same_ahead false reply.Null x = refl
+same_ahead false reply.Ok x = refl
+same_ahead false reply.Yes x = refl
+same_ahead false reply.No x = refl
+same_ahead false (reply.Number n) x = refl
+same_ahead false reply.Bad x = refl
+same_ahead false reply.Full x = refl
+
+rest_ahead : (c : Choice) (r : Reply) (x : ℕ) → makings_ahead (after_rest (first_command c) r) x ≤ x
+rest_ahead (choice.Put value) (reply.Ref n) x = omega arith
+rest_ahead (choice.Put value) reply.Null x = omega arith
+rest_ahead (choice.Put value) reply.Ok x = omega arith
+rest_ahead (choice.Put value) reply.Yes x = omega arith
+rest_ahead (choice.Put value) reply.No x = omega arith
+rest_ahead (choice.Put value) (reply.Number n) x = omega arith
+rest_ahead (choice.Put value) reply.Bad x = omega arith
+rest_ahead (choice.Put value) reply.Full x = omega arith
+rest_ahead choice.Take r x = omega arith
+
+-- no reply raises it
+ahead_falls : (p : Plan) (s : Spot) (r : Reply) → ahead p s r ≤ makings_ahead s (puts_left p)
+ahead_falls p MakesAnchor r = let low = fewer_puts p None in omega (arith, low)
+ahead_falls p MakesFirst r = let low = fewer_puts p None in omega (arith, low)
+ahead_falls p SetsHead r = fewer_puts p None
+ahead_falls p SetsTail r = fewer_puts p None
+ahead_falls p Shows r = fewer_puts p None
+ahead_falls p Joins r = let low = fewer_puts p None in let is = join_ahead r (puts_left (plan_after p None)) in omega (arith, low, is)
+ahead_falls p Rests r =
+    let low = fewer_puts p (answer_of (on_full r)) in
+    let is = rest_ahead (chosen p) r (puts_left (plan_after p (answer_of (on_full r)))) in
+    omega (arith, low, is)
+ahead_falls p Fills r = let low = fewer_puts p None in omega (arith, low)
+ahead_falls p (Looks value) r = let low = fewer_puts p None in omega (arith, low)
+ahead_falls p (Follows value) r = let low = fewer_puts p None in let is = behind_ahead value r (puts_left (plan_after p None)) in omega (arith, low, is)
+ahead_falls p (Links value) r = let low = fewer_puts p None in let is = link_ahead value r (puts_left (plan_after p None)) in omega (arith, low, is)
+ahead_falls p (Helps value) r = let low = fewer_puts p None in omega (arith, low)
+ahead_falls p (Swings value) r = one_less p
+ahead_falls p Turns r = fewer_puts p None
+ahead_falls p TookHead r = fewer_puts p None
+ahead_falls p TookTail r = fewer_puts p None
+ahead_falls p (Compares true) r =
+    let low = fewer_puts p (answer_of (on_yes empty r)) in
+    let is = same_ahead true r (puts_left (plan_after p (answer_of (on_yes empty r)))) in
+    omega (arith, low, is)
+ahead_falls p (Compares false) r = let low = fewer_puts p None in let is = same_ahead false r (puts_left (plan_after p None)) in omega (arith, low, is)
+ahead_falls p Pushes r = fewer_puts p None
+ahead_falls p Reads r = fewer_puts p None
+ahead_falls p (Unlinks value) r =
+    let low = fewer_puts p (answer_of (on_yes (got value) r)) in
+    let is = unlink_ahead r (puts_left (plan_after p (answer_of (on_yes (got value) r)))) in
+    omega (arith, low, is)
+
+-- an allocation that is refused ends the user, and another is one less to come
+record Pays (p : Plan) (s : Spot) (r : Reply) : Type 0 where
+  some : 0 < makings_ahead s (puts_left p)
+  less : (is_refused (command_at (chosen p) s) r ≡ true) ⊎ (ahead p s r < makings_ahead s (puts_left p))
+
+put_pays : (next left : ℕ) (r : Reply) → 1 ≤ left → Pays (Puts next left) Rests r
+put_pays next left (reply.Ref n) some = record { some = some; less = inr (omega (arith, some)) }
+put_pays next left reply.Null some = record { some = some; less = inr (omega (arith, some)) }
+put_pays next left reply.Ok some = record { some = some; less = inr (omega (arith, some)) }
+put_pays next left reply.Yes some = record { some = some; less = inr (omega (arith, some)) }
+put_pays next left reply.No some = record { some = some; less = inr (omega (arith, some)) }
+put_pays next left (reply.Number n) some = record { some = some; less = inr (omega (arith, some)) }
+put_pays next left reply.Bad some = record { some = some; less = inr (omega (arith, some)) }
+put_pays next left reply.Full some = record { some = some; less = inl refl }
+
+pays_at : (p : Plan) (s : Spot) (r : Reply) → IsNew (command_at (chosen p) s) → (is_rest s ≡ true → 1 ≤ left_of p) → Pays p s r
+pays_at p MakesAnchor r new more = let low = fewer_puts p None in record { some = omega arith; less = inr (omega (arith, low)) }
+pays_at p MakesFirst r new more = let low = fewer_puts p None in record { some = omega arith; less = inr (omega (arith, low)) }
+pays_at (Puts next left) Rests r new more = put_pays next left r (more refl)
+pays_at (Takes left) Rests r new more = absurd new
+pays_at p SetsHead r new more = absurd new
+pays_at p SetsTail r new more = absurd new
+pays_at p Shows r new more = absurd new
+pays_at p Joins r new more = absurd new
+pays_at p Fills r new more = absurd new
+pays_at p (Looks value) r new more = absurd new
+pays_at p (Follows value) r new more = absurd new
+pays_at p (Links value) r new more = absurd new
+pays_at p (Helps value) r new more = absurd new
+pays_at p (Swings value) r new more = absurd new
+pays_at p Turns r new more = absurd new
+pays_at p TookHead r new more = absurd new
+pays_at p TookTail r new more = absurd new
+pays_at p (Compares nothing) r new more = absurd new
+pays_at p Pushes r new more = absurd new
+pays_at p Reads r new more = absurd new
+pays_at p (Unlinks value) r new more = absurd new
+
+-- a user that has ended makes nothing
+
+come_low : (u : Use) → to_come u ≤ makings_ahead u.spot (puts_left u.plan)
+come_low u = at (has_ended u)
+  where
+    at : (b : Bool) → (if b then 0 else makings_ahead u.spot (puts_left u.plan)) ≤ makings_ahead u.spot (puts_left u.plan)
+    at true = omega arith
+    at false = omega arith
+
+come_is : (u : Use) → has_ended u ≡ false → to_come u ≡ makings_ahead u.spot (puts_left u.plan)
+come_is u on = ap (λ b. if b then 0 else makings_ahead u.spot (puts_left u.plan)) on
+
+refused_none : (u : Use) → u.refused ≡ true → to_come u ≡ 0
+refused_none u is = ap (λ b. if b || (is_rest u.spot && (left_of u.plan == 0)) then 0 else makings_ahead u.spot (puts_left u.plan)) is
+
+pub user_falls : (u : Use) (r : Reply) → to_come (used u r) ≤ to_come u
+user_falls u r = at (has_ended u) refl
+  where
+    at : (b : Bool) → has_ended u ≡ b → to_come (used u r) ≤ to_come u
+    at true ended = let same : to_come (used u r) ≡ to_come u = ap (λ b. to_come (if b then u else onward u r)) ended in omega (arith, same)
+    at false on =
+        let goes = ap to_come (used_is u r on) in
+        let low = come_low (onward u r) in
+        let falls = ahead_falls u.plan u.spot r in
+        let is = come_is u on in
+        omega (arith, goes, low, falls, is)
+
+pub user_pays : (u : Use) (c : Command) (r : Reply) → next_of u ≡ Some c → IsNew c → to_come (used u r) < to_come u
+user_pays u c r is new =
+    let goes = going u c is in
+    let pays = pays_at u.plan u.spot r (subst IsNew (sym goes.command) new) (unfinished u goes.on) in
+    let at_once = ap to_come (used_is u r goes.on) in
+    let before = come_is u goes.on in
+    elim (pays.less) [
+      | inl refused ↦ let none = refused_none (onward u r) refused in let some = pays.some in omega (arith, at_once, before, none, some)
+      | inr less ↦ let low = come_low (onward u r) in omega (arith, at_once, before, less, low)
+    ]
+  where
+    unfinished : (u : Use) → has_ended u ≡ false → is_rest u.spot ≡ true → 1 ≤ left_of u.plan
+    unfinished u on = at u.refused on
+      where
+        at : (b : Bool) → (b || (is_rest u.spot && (left_of u.plan == 0))) ≡ false → is_rest u.spot ≡ true → 1 ≤ left_of u.plan
+        at true never rest = absurd (false≢true (sym never))
+        at false on rest = more_left u.spot (left_of u.plan) on rest
