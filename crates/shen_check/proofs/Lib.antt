@@ -4,3 +4,4 @@ pub mod Outcomes
 pub mod Taking
 pub mod Verdicts
 pub mod Texts
+pub mod Scripts

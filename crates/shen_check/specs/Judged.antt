@@ -1,8 +1,9 @@
 -- What is said of a history that somebody claims, and of a body that is to answer for it.
-use Rattle.std.specs.Prelude.{ℕ, ◌≡◌, ◌<◌, List, length, Some, slice_get, take}
+use Rattle.std.specs.Prelude.{ℕ, ◌≡◌, ◌-◌, ◌^◌, ◌<◌, All, List, length, Some, slice_get, take}
 use Rattle.heap_words.specs.declared.config.Config.{Config}
 use Rattle.shen_graph.specs.declared.command.Command.{Command}
 use Rattle.shen_graph.specs.declared.command.Reply.TheVariants as reply
+use Rattle.shen_graph.specs.Valid.{IsValid}
 use Rattle.shen_graph.specs.Graph.{Graph, opening}
 use Rattle.shen_graph.specs.Step.{IsLegal}
 use Rattle.shen_graph.specs.History.{Entry, after, after_entry, of_thread, script_of, Follows}
@@ -65,3 +66,10 @@ IsVerdict c scripts history body Yes = IsRight c scripts history body
 IsVerdict c scripts history body (NoEntry place) = IsFirstWrong c scripts history place
 IsVerdict c scripts history body (Script thread) = IsFirstLeft c scripts history thread
 IsVerdict c scripts history body Text = IsOtherText c scripts history body
+
+-- What a judge asks of a trace: a script for each of its threads, of commands in range, each with fewer commands than there are
+-- numbers for names.
+pub record CanBeJudged (c : Config) (scripts : List (List Command)) : Type 0 where
+  pub count : length scripts ≡ c.mutators
+  pub valid : All (λ script. All IsValid script) scripts
+  pub few : All (λ script. length script < 2 ^ 32 - 1) scripts

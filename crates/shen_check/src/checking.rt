@@ -1,7 +1,6 @@
 //! Judging a history.
-ghost use Rattle.std.specs.Prelude.{◌≡◌, ◌-◌, ◌^◌, ◌<◌, All, IfOk, length};
-ghost use Rattle.shen_graph.specs.Valid.{IsValid};
-ghost use Rattle.shen_check.specs.Judged.{IsVerdict};
+ghost use Rattle.std.specs.Prelude.{IfOk};
+ghost use Rattle.shen_check.specs.Judged.{CanBeJudged, IsVerdict};
 
 use crate::judge::Judge;
 use crate::verdict::Verdict;
@@ -18,9 +17,7 @@ pub fn check(
     history: &History,
     body: &[u8],
 ) -> Result<Verdict, NoMemory>
-    requires count { length trace.now.scripts ≡ trace.now.config.mutators }
-    requires valid { All (λ script. All IsValid script) trace.now.scripts }
-    requires few { All (λ script. length script < 2 ^ 32 - 1) trace.now.scripts }
+    requires { CanBeJudged trace.now.config trace.now.scripts }
     ensures { IfOk result (IsVerdict trace.now.config trace.now.scripts history.now.list body.now) }
 {
     let mut judge = Judge::open(alloc, trace)?;

@@ -10,5 +10,5 @@ mod laws;
 mod verdict;
 
 pub use checking::check;
-pub use laws::one_verdict;
+pub use laws::{one_verdict, read_traces_can_be_judged};
 pub use verdict::Verdict;
