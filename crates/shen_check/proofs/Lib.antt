@@ -1,0 +1,7 @@
+pub mod Sums
+pub mod Full
+pub mod Outcomes
+pub mod Taking
+pub mod Verdicts
+pub mod Texts
+pub mod Scripts

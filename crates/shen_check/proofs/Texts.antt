@@ -1,0 +1,124 @@
+-- The text in memory, and the one that answers for a history.
+use Rattle.std.proofs.Common.{ℕ, zero, suc, ◌≡◌, ◌+◌, ◌-◌, ◌<◌, ◌≤◌, Bool, true, false, List, [], length, get_or, take, inl, inr, map, Option, Some, ap, sym, subst, ◌∙◌, arith}
+use Rattle.std.specs.Prelude.{MatchBool, None, IsSome, Result, Ok, Err, IfOk, slice_get}
+use Rattle.std.proofs.lemmas.Bool.{cases_lt}
+use Rattle.std.proofs.lemmas.List.{get_or_past, take_all}
+use Rattle.std.proofs.lemmas.Option.{slice_get_past, slice_get-get_or}
+use Rattle.heap_words.specs.declared.config.Config.{Config}
+use Rattle.shen_graph.specs.declared.name.Name.{Name}
+use Rattle.shen_graph.specs.declared.command.Reply.TheVariants as reply
+use Rattle.shen_graph.specs.declared.command.Command.{Command}
+use Rattle.shen_graph.specs.declared.command.Command.TheVariants.{Gc}
+use Rattle.shen_graph.specs.Graph.{Graph}
+use Rattle.shen_graph.specs.GraphText.{Text, Row, row_in, root_of, names_of, IsTextOf}
+use Rattle.shen_graph.specs.History.{Entry, after, of_thread, script_of}
+use Rattle.shen_graph.specs.History as history
+use Rattle.shen_graph.specs.PlainGraph.{Plain, graph_of}
+use Rattle.shen_graph.specs.Work.{Progress, replies_of, next_of}
+use Rattle.trace_writing.specs.Answer.{IsAnswerText, answer_text}
+use Rattle.trace_writing.proofs.AnswerLemmas.{answer_text_same}
+use Rattle.churn.proofs.OneReach.{one_reach}
+use Rattle.shen_check.specs.Judged.{graph_after, HasLeft, FollowUpTo, AllFollow, IsFirstLeft}
+use Rattle.shen_check.specs.Judging.{HasJudged}
+use Rattle.shen_check.proofs.Taking.{next_of_thread}
+
+abbrev Scripts : Type 0
+Scripts = List (List Command)
+
+abbrev Jobs : Type 0
+Jobs = List (Option Progress)
+
+abbrev nothing : List Command
+nothing = []
+
+-- ---- the text
+
+told : (scripts : Scripts) (before : List Entry) (graph : Plain) (work : Jobs) → HasJudged scripts before graph work → (t : ℕ) → 1 ≤ t → t ≤ length scripts
+    → replies_of work (t - 1) ≡ history.replies_of (of_thread before t)
+told scripts before graph work h t low high =
+    let same : t - 1 + 1 ≡ t = omega (arith, low) in
+    h.replies (t - 1) (omega (arith, low, high)) ∙ ap (λ (u : ℕ). history.replies_of (of_thread before u)) same
+
+text_is : (scripts : Scripts) (before : List Entry) (graph : Plain) (work : Jobs) (text : Text) → HasJudged scripts before graph work → IsTextOf (graph_after scripts before) (length scripts) text
+    → answer_text (length text.roots) (λ t. replies_of work (t - 1)) text.rows (root_of text)
+    ≡ answer_text (length scripts) (λ t. history.replies_of (of_thread before t)) (map (row_in (graph_after scripts before)) (names_of text)) (graph_after scripts before).root
+text_is scripts before graph work text h is =
+    ap (λ (n : ℕ). answer_text n (λ t. replies_of work (t - 1)) text.rows (root_of text)) is.each
+    ∙ ap (λ (rows : List Row). answer_text (length scripts) (λ t. replies_of work (t - 1)) rows (root_of text)) is.rows
+    ∙ answer_text_same (length scripts) (λ t. replies_of work (t - 1)) (λ t. history.replies_of (of_thread before t)) (map (row_in (graph_after scripts before)) (names_of text)) (root_of text) (graph_after scripts before).root
+    (λ t low high. told scripts before graph work h t low high)
+    (λ t i low high small. is.roots t i low high)
+
+pub answered : (scripts : Scripts) (before : List Entry) (graph : Plain) (work : Jobs) (text : Text) (body out : List ℕ) (same : Bool) (n : ℕ) → HasJudged scripts before graph work → length scripts ≡ n → IsTextOf (graph_of graph) n text
+    → out ≡ answer_text (length text.roots) (λ t. replies_of work (t - 1)) text.rows (root_of text) → MatchBool same (body ≡ out) (body ≡ out → ⊥)
+    → MatchBool same (IsAnswerText (length scripts) before body) (IsAnswerText (length scripts) before body → ⊥)
+answered scripts before graph work text body out same n h count shows made compared =
+    let is : IsTextOf (graph_after scripts before) (length scripts) text = subst (λ (k : ℕ). IsTextOf (graph_after scripts before) k text) (sym count) (subst (λ (g : Graph). IsTextOf g n text) h.graph_is shows) in
+    let whole = made ∙ text_is scripts before graph work text h is in
+    by_test same is whole compared
+  where
+    by_test : (b : Bool) → IsTextOf (graph_after scripts before) (length scripts) text
+        → out ≡ answer_text (length scripts) (λ t. history.replies_of (of_thread before t)) (map (row_in (graph_after scripts before)) (names_of text)) (graph_after scripts before).root
+        → MatchBool b (body ≡ out) (body ≡ out → ⊥) → MatchBool b (IsAnswerText (length scripts) before body) (IsAnswerText (length scripts) before body → ⊥)
+    by_test true is whole e = record { names = names_of text; reach = is.reach; text = e ∙ whole }
+    by_test false is whole other = λ it.
+        let names = one_reach (graph_after scripts before) it.names (names_of text) it.reach is.reach in
+        other (it.text ∙ ap (λ (ns : List Name). answer_text (length scripts) (λ t. history.replies_of (of_thread before t)) (map (row_in (graph_after scripts before)) ns) (graph_after scripts before).root) names ∙ sym whole)
+
+-- ---- commands that are left
+
+some_left : (cs : List Command) (k : ℕ) → IsSome (slice_get cs k) → k < length cs
+some_left cs k some = elim (cases_lt k (length cs)) [ inl low ↦ low | inr past ↦ absurd (let none = subst (λ (o : Option Command). IsSome o) (slice_get_past cs k past) some in cc) ]
+
+none_left : (cs : List Command) (k : ℕ) → slice_get cs k ≡ None → k < length cs → ⊥
+none_left cs k none low = let some = slice_get-get_or cs k Gc low in let e = sym none ∙ some in cc
+
+pub is_left : (scripts : Scripts) (before : List Entry) (graph : Plain) (work : Jobs) → HasJudged scripts before graph work → (t : ℕ) → 1 ≤ t → t ≤ length scripts → IsSome (next_of work (t - 1)) → HasLeft scripts before t
+is_left scripts before graph work h t low high some =
+    some_left (script_of scripts t) (length (of_thread before t)) (subst (λ (o : Option Command). IsSome o) (next_of_thread scripts before graph work h t low high) some)
+
+pub not_left : (scripts : Scripts) (before : List Entry) (graph : Plain) (work : Jobs) → HasJudged scripts before graph work → (n : ℕ) → ((m : ℕ) → m < n → next_of work m ≡ None) → (t : ℕ) → t ≤ n → HasLeft scripts before t → ⊥
+not_left scripts before graph work h n none zero low left = omega (arith, left)
+not_left scripts before graph work h n none (suc m) low left = elim (cases_lt m (length scripts)) [
+  | inl below ↦ none_left (script_of scripts (suc m)) (length (of_thread before (suc m)))
+      (sym (next_of_thread scripts before graph work h (suc m) (omega arith) (omega (arith, below))) ∙ (let same : suc m - 1 ≡ m = omega arith in ap (next_of work) same) ∙ none m (omega (arith, low))) left
+  | inr past ↦ (let size = ap length (get_or_past scripts m nothing past) in omega (arith, left, size))
+]
+
+pub none_is_left : (scripts : Scripts) (before : List Entry) (graph : Plain) (work : Jobs) → HasJudged scripts before graph work → ((m : ℕ) → m < length scripts → next_of work m ≡ None) → (t : ℕ) → HasLeft scripts before t → ⊥
+none_is_left scripts before graph work h none t left = elim (cases_lt (length scripts) t) [
+  | inl beyond ↦ beyond_none t beyond left
+  | inr within ↦ not_left scripts before graph work h (length scripts) none t within left
+]
+  where
+    beyond_none : (u : ℕ) → length scripts < u → HasLeft scripts before u → ⊥
+    beyond_none zero past here = omega (arith, past)
+    beyond_none (suc m) past here = let size = ap length (get_or_past scripts m nothing (omega (arith, past))) in omega (arith, here, size)
+
+-- ---- the end of a history
+
+pub ended : (c : Config) (scripts : Scripts) (es : List Entry) (graph : Plain) (work : Jobs) (k : ℕ) → length es ≡ k → HasJudged scripts (take k es) graph work → FollowUpTo c scripts es k
+    → HasJudged scripts es graph work × AllFollow c scripts es
+ended c scripts es graph work k end judged follow = (
+  subst (λ (p : List Entry). HasJudged scripts p graph work) (take_all k es (omega (arith, end))) judged,
+  subst (λ (n : ℕ). FollowUpTo c scripts es n) (sym end) follow,
+)
+
+pub first_left_is : (c : Config) (scripts : Scripts) (es : List Entry) (graph : Plain) (work : Jobs) (n t : ℕ) → HasJudged scripts es graph work → AllFollow c scripts es → length scripts ≡ n
+    → (1 ≤ t) × (t ≤ n) × IsSome (next_of work (t - 1)) × ((m : ℕ) → m < t - 1 → next_of work m ≡ None) → IsFirstLeft c scripts es t
+first_left_is c scripts es graph work n t judged follow count it = record {
+  follow = follow;
+  left = is_left scripts es graph work judged t it.0 (omega (arith, it.1, count)) it.2;
+  before = λ u low. not_left scripts es graph work judged (t - 1) it.3 u (omega (arith, low));
+}
+
+pub nothing_left : (scripts : Scripts) (es : List Entry) (graph : Plain) (work : Jobs) (n : ℕ) → HasJudged scripts es graph work → length scripts ≡ n → ((m : ℕ) → m < n → next_of work m ≡ None)
+    → (t : ℕ) → HasLeft scripts es t → ⊥
+nothing_left scripts es graph work n judged count none = none_is_left scripts es graph work judged (λ m low. none m (omega (arith, low, count)))
+
+pub map_ok : {E : Type 0} (r : Result Bool E) (P Q : Bool → Type 0) → ((b : Bool) → P b → Q b) → IfOk r P → IfOk r Q
+map_ok (Ok b) P Q f p = f b p
+map_ok (Err e) P Q f p = tt
+
+pub entry_there : (es : List Entry) (k : ℕ) → k < length es → (e : Entry) × (slice_get es k ≡ Some e)
+entry_there es k low = let none : Entry = record { thread = 0; command = Gc; reply = reply.Bad } in (get_or es k none, slice_get-get_or es k none low)

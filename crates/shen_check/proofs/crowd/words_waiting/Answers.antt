@@ -1,0 +1,13 @@
+use Rattle.std.proofs.Common.{arith}
+use Rattle.shen_check.specs.Judging.{words_beside}
+use Rattle.shen_check.proofs.Sums.{sum_more}
+use Rattle.shen_check.proofs.crowd.words_waiting.Goals as goal
+
+pub loop-mutator-preserved : goal.loop-mutator-preserved
+loop-mutator-preserved c =
+    let m = c.loop-mutator.mutator in
+    let more = sum_more (words_beside c.args.work.now c.args.thread) 0 m m (omega arith) in
+    record {
+      sum = omega (arith, more, c.loop-mutator.invariant.sum, c.words_beside-words.ensures.words);
+      few = omega (arith, c.loop-mutator.invariant.few, c.words_beside-words.ensures.few);
+    }

@@ -1,0 +1,20 @@
+//! Laws of verdicts.
+ghost use Rattle.std.specs.Prelude.{ℕ, ◌≡◌, List};
+ghost use Rattle.heap_words.specs.declared.config.Config.{Config};
+ghost use Rattle.heap_words.specs.declared.schedule.Item.{Item};
+ghost use Rattle.shen_graph.specs.declared.command.Command.{Command};
+ghost use Rattle.shen_graph.specs.History.{Entry};
+ghost use Rattle.trace_grammar.specs.Grammar.{Reads};
+ghost use Rattle.shen_check.specs.Judged.{CanBeJudged, IsVerdict};
+ghost use Rattle.shen_check.specs.declared.verdict.Verdict.{Verdict};
+
+/// A law: a history and a body have one verdict at most. So each verdict is given exactly where it is the one.
+pub fn one_verdict()
+    ensures { (c : Config) (scripts : List (List Command)) (history : List Entry) (body : List ℕ) (v w : Verdict)
+        → IsVerdict c scripts history body v → IsVerdict c scripts history body w → v ≡ w }
+{}
+
+/// A law: a trace that was read can be judged.
+pub fn read_traces_can_be_judged()
+    ensures { (bytes : List ℕ) (c : Config) (scripts : List (List Command)) (items : List Item) → Reads bytes c scripts items → CanBeJudged c scripts }
+{}
